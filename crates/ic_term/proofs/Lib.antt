@@ -1,0 +1,4 @@
+pub mod ThirdOccurrence
+pub mod ConfigLemmas
+pub mod SymbolLemmas
+pub mod TreeLemmas

@@ -1,0 +1,8 @@
+use Rattle.ic_term.specs.TreeLaws.{tree_eq-Decides, pair_eq-Decides}
+use Rattle.ic_term.proofs.laws.equality_is_exact.Goals as goal
+
+pub returns-clause-terms : goal.returns-clause-terms
+returns-clause-terms c = tree_eq-Decides
+
+pub returns-clause-equations : goal.returns-clause-equations
+returns-clause-equations c = pair_eq-Decides

@@ -1,0 +1,6 @@
+pub mod Tree
+pub mod Term
+pub mod TreeLaws
+pub mod Configuration
+pub mod ConfigFault
+pub mod Symbol

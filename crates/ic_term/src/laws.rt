@@ -1,0 +1,25 @@
+//! Laws of the definitions that the contracts of this crate cite.
+
+ghost use Rattle.std.specs.Prelude.{◌≡◌, ℕ, ◌≤◌, ◌↔◌, List, None, Some, Ok};
+ghost use Rattle.std.specs.Bool.{Decides};
+ghost use Rattle.ic_term.specs.Tree.{Tree, Pair, tree_eq, pair_eq};
+ghost use Rattle.ic_term.specs.Configuration.{Configuration, IsConfiguration, IsFirstThird, occurrences, restored, third_occurrence};
+
+/// No name of a list is the first third occurrence exactly where each name stands there at most twice, and the
+/// name that is one stands there for the third time, behind names that stand there at most twice.
+pub fn third_occurrence_is_the_first()
+    ensures none { (ns : List ℕ) → (third_occurrence ns ≡ None) ↔ ((n : ℕ) → occurrences n ns ≤ 2) }
+    ensures some { (ns : List ℕ) (n : ℕ) → third_occurrence ns ≡ Some n
+        → (before : List ℕ) × ((after : List ℕ) × IsFirstThird n ns before after) }
+{}
+
+/// What `Config::restore` takes are exactly the configurations.
+pub fn restore_takes_configurations()
+    ensures { (c : Configuration) → (restored c ≡ Ok c) ↔ IsConfiguration c }
+{}
+
+/// The tests of equality tell exactly whether two terms, or two equations, are the same.
+pub fn equality_is_exact()
+    ensures terms { (t u : Tree) → Decides (tree_eq t u) (t ≡ u) }
+    ensures equations { (p q : Pair) → Decides (pair_eq p q) (p ≡ q) }
+{}

@@ -1,0 +1,19 @@
+//! The limits of a configuration and of its symbols.
+
+/// Names and agents of a configuration.
+pub const MAX_NODES: u64 = 8_192;
+
+/// Terms of an interface.
+pub const MAX_INTERFACE: usize = 64;
+
+/// The number from which fresh names are taken.
+pub const MAX_NEXT: u64 = 1 << 62;
+
+/// Symbols of a table.
+pub const MAX_SYMBOLS: usize = 64;
+
+/// Bytes of a symbol's text.
+pub const MAX_SYMBOL_TEXT: usize = 32;
+
+/// Arguments of a symbol.
+pub const MAX_ARITY: usize = 15;

@@ -1,0 +1,162 @@
+ghost use Rattle.std.specs.Prelude.{◌≡◌, ◌<◌, ◌↔◌, ◌==◌, ◌||◌, length, IsTrue, if◌then◌else◌, is_ok, option_map, slice_get, Some, []};
+ghost use Rattle.std.specs.Char.{is_ascii_uppercase, is_ascii_digit, is_ascii_alphanumeric};
+ghost use Rattle.std.specs.List.{list_all};
+ghost use Rattle.ic_term.specs.Symbol.{is_symbol_text, numbered, with_symbol, Answers, symbol_text, symbol_arity, has_arity};
+ghost use Rattle.ic_term.specs.declared.symbols.SymbolFault.TheVariants.{Memory};
+
+use crate::limits::{MAX_ARITY, MAX_SYMBOL_TEXT, MAX_SYMBOLS};
+use indexmap::IndexMap;
+use std::alloc::{AllocError, AllocFailed, Global};
+use std::marker::Model;
+
+/// Why a text has no number, in the order in which it is tried.
+#[derive(Clone, Copy, Debug, PartialEq, Eq)]
+pub enum SymbolFault {
+    /// A limit is passed.
+    Limit,
+    /// The symbol with this number has the text, and another arity.
+    Arity(u32),
+    /// A growth was refused.
+    Memory,
+}
+
+impl From<AllocError> for SymbolFault {
+    ghost from_gives = { λ _ fault. fault ≡ Memory };
+
+    fn from(_error: AllocError) -> SymbolFault {
+        SymbolFault::Memory
+    }
+}
+
+impl<T: Drop> From<AllocFailed<T>> for SymbolFault {
+    ghost from_gives = { λ _ fault. fault ≡ Memory };
+
+    fn from(_error: AllocFailed<T>) -> SymbolFault {
+        SymbolFault::Memory
+    }
+}
+
+/// Symbols with their arities, numbered in the order in which they came.
+#[derive(Debug, Drop)]
+pub struct Symbols {
+    arities: IndexMap<Vec<u8>, usize>,
+}
+
+impl Model for Symbols {
+    ghost use Rattle.std.specs.Prelude.{List, map};
+    ghost use Rattle.std.specs.Coded.{coded_list};
+    ghost use Rattle.ic_term.specs.Symbol.{Symbol, AreSymbols, coded_symbol};
+
+    ghost Value = { List Symbol };
+
+    ghost coded = { coded_list coded_symbol };
+
+    ghost view = { λ s. map (λ e. record { text = e.0.items; arity = e.1 }) s.arities.entries };
+
+    ghost invariant = { λ s. AreSymbols (map (λ e. record { text = e.0.items; arity = e.1 }) s.arities.entries) };
+}
+
+impl Symbols {
+    /// No symbols. Later calls take their memory from the allocator.
+    pub fn new(alloc: Global) -> Symbols
+        ensures { result ≡ [] }
+    {
+        Symbols {
+            arities: IndexMap::new(alloc),
+        }
+    }
+
+    pub fn len(&self) -> usize
+        ensures { result ≡ length self.now }
+    {
+        self.arities.len()
+    }
+
+    pub fn is_empty(&self) -> bool
+        ensures { IsTrue result ↔ (self.now ≡ []) }
+    {
+        self.arities.is_empty()
+    }
+
+    /// The number of the symbol with this text and arity: its old one, or the next one. Takes one look-up.
+    pub fn number(&mut self, text: &[u8], arity: usize) -> Result<u32, SymbolFault>
+        requires { IsTrue (is_symbol_text text.now) }
+        ensures number { Answers result (numbered self.old text.now arity) }
+        ensures symbols { self.new ≡ if is_ok result then with_symbol self.old text.now arity else self.old }
+    {
+        if text.len() > MAX_SYMBOL_TEXT || arity > MAX_ARITY {
+            return Err(SymbolFault::Limit);
+        }
+        if let Some((number, _, known)) = self.arities.get_full(text) {
+            return known_number(number as u32, *known, arity);
+        }
+        let number = self.arities.len();
+        if number >= MAX_SYMBOLS {
+            return Err(SymbolFault::Limit);
+        }
+        let text = Vec::from_slice(*self.arities.allocator(), text)?;
+        self.arities.insert(text, arity)?;
+        Ok(number as u32)
+    }
+
+    /// The text of the symbol with this number.
+    pub fn text(&self, sym: u32) -> &[u8]
+        requires { sym < length self.now }
+        ensures { symbol_text self.now sym ≡ Some result.now }
+    {
+        let (text, _) = self.arities.get_index(sym as usize).unwrap();
+        text
+    }
+
+    /// The arity of the symbol with this number.
+    pub fn arity(&self, sym: u32) -> usize
+        requires { sym < length self.now }
+        ensures { symbol_arity self.now sym ≡ Some result }
+    {
+        let (_, arity) = self.arities.get_index(sym as usize).unwrap();
+        *arity
+    }
+
+    /// Whether there is a symbol with this number, and this is its arity.
+    pub fn has_arity(&self, sym: u32, arity: usize) -> bool
+        ensures { result ≡ has_arity arity (slice_get self.now sym) }
+    {
+        match self.arities.get_index(sym as usize) {
+            None => false,
+            Some((_, known)) => *known == arity,
+        }
+    }
+}
+
+/// The number of a known symbol, where its arity is the one given.
+fn known_number(number: u32, known: usize, arity: usize) -> Result<u32, SymbolFault>
+    ensures { result ≡ if known == arity then Ok number else Err (SymbolFault.Arity number) }
+{
+    if known == arity {
+        Ok(number)
+    } else {
+        Err(SymbolFault::Arity(number))
+    }
+}
+
+/// Whether a text is a symbol's, of whatever length.
+pub fn is_symbol(text: &[u8]) -> bool
+    ensures { result ≡ is_symbol_text text.now }
+{
+    match text.split_first() {
+        None => false,
+        Some((first, rest)) => begins_symbol(*first) && is_alphanumeric(rest),
+    }
+}
+
+fn begins_symbol(byte: u8) -> bool
+    ensures { result ≡ (is_ascii_uppercase byte || is_ascii_digit byte) }
+{
+    byte.is_ascii_uppercase() || byte.is_ascii_digit()
+}
+
+fn is_alphanumeric(text: &[u8]) -> bool
+    ensures { result ≡ list_all is_ascii_alphanumeric text.now }
+{
+    text.iter().all(|byte| byte.is_ascii_alphanumeric())
+}
