@@ -1,0 +1,23 @@
+use Rattle.std.proofs.Common.{length, ◌∙◌}
+use Rattle.ic_disk.proofs.AgreeLemmas.{torn_once, torn_twice, agrees_settled}
+use Rattle.ic_disk.proofs.Moments.{leaves_weaker, then_runs}
+use Rattle.ic_disk.proofs.laws.write_and_mark.Goals as goal
+
+pub returns-clause-any_moment : goal.returns-clause-any_moment
+returns-clause-any_moment g c keeps =
+    let disk = g.D.Disk in
+    let old = c.args.disk.now in
+    let mid = c.write_synced.new.disk in
+    let n = length c.args.bytes.now in
+    let first = c.write_synced.ensures.any_moment keeps in
+    let second = c.write_synced-2.ensures.any_moment (c.write_synced.ensures.keeps ∙ keeps) in
+    then_runs disk.clock disk.left old mid c.write_synced-2.new.disk _ _
+    (leaves_weaker disk.clock disk.left old mid _ _ first (torn_once c.args.at n c.args.mark_at 1 (disk.image old)))
+    second
+    (torn_twice c.args.at n c.args.mark_at 1 (disk.image old) (disk.image mid) (λ file image. first.each file (g.met.D.Disk.image_is_left mid (disk.clock old) file first.later image)))
+
+pub returns-clause-settled : goal.returns-clause-settled
+returns-clause-settled g c keeps only =
+    let disk = g.D.Disk in
+    leaves_weaker disk.clock disk.left c.args.disk.now c.write_synced-2.new.disk _ _ (returns-clause-any_moment g c keeps)
+    (agrees_settled c.args.at (length c.args.bytes.now) c.args.mark_at 1 (disk.content c.args.disk.now) (disk.image c.args.disk.now) only)

@@ -1,0 +1,26 @@
+-- Which of its images the disk in memory takes at a crash. This project's choice.
+use Rattle.std.specs.Prelude.{◌≡◌, ◌⊎◌, ℕ, ◌+◌, ◌<◌, ◌≤◌, List, [], ◌∷◌, length, slice_index, map}
+use Rattle.ic_disk.specs.Images.{Range, IsOutside}
+use Rattle.ic_disk.specs.History.{State, range_of}
+use Rattle.ic_disk.specs.Writes.{fronted}
+use Rattle.ic_disk.specs.declared.mem.Choice.{Choice}
+use Rattle.ic_disk.specs.declared.mem.Choice.TheVariants.{Synced, Written, Fill, Front}
+
+-- a place in one of the ranges
+abbrev pub IsInside : List Range → ℕ → Type 0
+IsInside [] i = ⊥
+IsInside (range ∷ ranges) i = ((range.at ≤ i) × (i < range.at + range.size)) ⊎ IsInside ranges i
+
+-- the content, with this byte at each pending place and at each place past the end of what was synced
+pub record IsFilled (byte : ℕ) (s : State) (left : List ℕ) : Type 0 where
+  pub as_long : length left ≡ length s.content
+  pub kept : (i : ℕ) → i < length s.synced → IsOutside (map range_of s.pending) i → slice_index left i ≡ slice_index s.content i
+  pub pending : (i : ℕ) → i < length s.content → IsInside (map range_of s.pending) i → slice_index left i ≡ byte
+  pub past : (i : ℕ) → i < length s.content → length s.synced ≤ i → slice_index left i ≡ byte
+
+-- what the crash leaves
+abbrev pub Takes : Choice → State → List ℕ → Type 0
+Takes Synced s left = left ≡ s.synced
+Takes Written s left = left ≡ s.content
+Takes (Fill byte) s left = IsFilled byte s left
+Takes (Front n) s left = left ≡ fronted n s.pending s.synced

@@ -1,0 +1,53 @@
+-- What a crash may leave of a disk, as tests on lists of bytes. This project's choice.
+use Rattle.std.specs.Prelude.{◌≡◌, ◌⊎◌, ℕ, ◌+◌, ◌<◌, ◌≤◌, List, [], ◌∷◌, length, slice_index}
+
+-- n bytes from a place on
+pub record Range : Type 0 where
+  pub at : ℕ
+  pub size : ℕ
+
+-- a place in none of the ranges
+abbrev pub IsOutside : List Range → ℕ → Type 0
+IsOutside [] i = Unit {0}
+IsOutside (range ∷ ranges) i = ((i < range.at) ⊎ (range.at + range.size ≤ i)) × IsOutside ranges i
+
+-- no shorter than the old file, and the same in it outside the ranges; any bytes elsewhere
+pub record AgreesOutside (ranges : List Range) (old new : List ℕ) : Type 0 where
+  pub no_shorter : length old ≤ length new
+  pub same : (i : ℕ) → i < length old → IsOutside ranges i → slice_index new i ≡ slice_index old i
+
+-- the same as one of these files outside the ranges
+abbrev pub AgreesWithAny : List Range → (List ℕ → Type 0) → List ℕ → Type 0
+AgreesWithAny ranges files new = (old : List ℕ) × files old × AgreesOutside ranges old new
+
+-- n bytes from one place on, and m from another
+abbrev pub two_ranges : (at n other m : ℕ) → List Range
+two_ranges at n other m = record { at = at; size = n } ∷ record { at = other; size = m } ∷ []
+
+-- What a crash may leave where `synced` is on the disk and these ranges are pending.
+pub record IsImage (synced : List ℕ) (pending : List Range) (left : List ℕ) : Type 0 where
+  pub agrees : AgreesOutside pending synced left
+  pub settled : pending ≡ [] → left ≡ synced
+
+-- A write of n bytes at a place has torn the old file: any bytes there and past its end, the same elsewhere.
+pub record Torn (at n : ℕ) (old new : List ℕ) : Type 0 where
+  pub no_shorter : length old ≤ length new
+  pub before : (i : ℕ) → i < length old → i < at → slice_index new i ≡ slice_index old i
+  pub behind : (i : ℕ) → i < length old → at + n ≤ i → slice_index new i ≡ slice_index old i
+
+-- one of the images, torn by a write of n bytes at a place
+abbrev pub TornFrom : ℕ → ℕ → (List ℕ → Type 0) → List ℕ → Type 0
+TornFrom at n images file = (image : List ℕ) × images image × Torn at n image file
+
+-- each of the former images is one of the latter
+abbrev pub Within : (List ℕ → Type 0) → (List ℕ → Type 0) → Type 0
+Within images others = (file : List ℕ) → images file → others file
+
+-- there is no other image than this file
+pub record Only (file : List ℕ) (images : List ℕ → Type 0) : Type 0 where
+  pub no_other : (other : List ℕ) → images other → other ≡ file
+
+-- A call that failed has changed nothing, or the torn images have joined.
+abbrev pub StaysOrTears : (at n : ℕ) (content new_content : List ℕ) (images new_images : List ℕ → Type 0) → Type 0
+StaysOrTears at n content new_content images new_images =
+    ((new_content ≡ content) × Within new_images images) ⊎ Within (TornFrom at n images) new_images

@@ -1,0 +1,14 @@
+pub mod Content
+pub mod ContentLaws
+pub mod Images
+pub mod ImageLaws
+pub mod Time
+pub mod History
+pub mod HistoryLaws
+pub mod Noted
+pub mod MemDisk
+pub mod Writes
+pub mod Crash
+pub mod Fuse
+pub mod FuseDisk
+pub mod FileDisk

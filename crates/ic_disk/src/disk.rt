@@ -1,0 +1,135 @@
+// A disk as its callers see it: what reads give, and what a crash may leave.
+ghost use Rattle.std.specs.Prelude.{◌≡◌, ◌⊎◌, ◌+◌, ◌-◌, ◌^◌, ◌≤◌, ℕ, Bool, List, length, min, is_ok, IsTrue, Some, codes, IfOk, OnOk, OnErr};
+ghost use Rattle.ic_disk.specs.Content.{laid, bytes_at};
+ghost use Rattle.ic_disk.specs.Images.{Torn, TornFrom, Within, Only, StaysOrTears};
+ghost use Rattle.ic_disk.specs.Time.{Elapses, CountsFailure};
+
+use std::error::Error;
+use std::fmt;
+
+/// A call to the disk has failed. What it may have changed is said at the call.
+#[derive(Clone, Copy, Debug, PartialEq, Eq)]
+pub struct DiskFault;
+
+impl fmt::Display for DiskFault {
+    ghost output = { λ _. Some (codes "a call to the disk has failed") };
+
+    fn fmt<W: fmt::Write>(&self, f: &mut fmt::Formatter<W>) -> fmt::Result {
+        f.write_str("a call to the disk has failed")
+    }
+}
+
+impl Error for DiskFault {}
+
+/// A list of bytes that is read and written at places, and what a crash may leave of it. The
+/// clauses on content, images and time are claimed of a disk that keeps the model.
+pub trait Disk {
+    /// Whether the disk keeps the model.
+    ghost keeps: { Self → Bool };
+
+    /// What reads give.
+    ghost content: { Self → List ℕ };
+
+    /// What a crash at this moment may leave.
+    ghost image: { Self → List ℕ → Type 0 };
+
+    /// How many calls there have been, where one that changes nothing may be left out.
+    ghost clock: { Self → ℕ };
+
+    /// What a crash at some moment since that time of the clock may have left, in the midst of a
+    /// call or between two.
+    ghost left: { Self → ℕ → List ℕ → Type 0 };
+
+    /// How many calls have failed, up to 2^64 - 1.
+    ghost failures: { Self → ℕ };
+
+    /// How many bytes the disk has.
+    fn len(&mut self) -> Result<u64, DiskFault>
+        ensures keeps { keeps self.new ≡ keeps self.old }
+        ensures counted { CountsFailure result (failures self.old) (failures self.new) }
+
+        ensures length { IsTrue (keeps self.old)
+            → IfOk result (λ n. n ≡ length (content self.old)) }
+        ensures same { IsTrue (keeps self.old) → content self.new ≡ content self.old }
+        ensures images { IsTrue (keeps self.old) → Within (image self.new) (image self.old) }
+        ensures stay { IsTrue (keeps self.old) → Within (image self.old) (image self.new) }
+        ensures time { IsTrue (keeps self.old) → Elapses (clock self.old) (clock self.new)
+            (left self.old) (left self.new) (image self.old) };
+
+    /// Reads the bytes from `at` on until `into` is full. At `Err` it may hold any bytes.
+    fn read(&mut self, at: u64, into: &mut [u8]) -> Result<(), DiskFault>
+        requires { IsTrue (keeps self.old) → at + length into.old ≤ length (content self.old) }
+
+        ensures keeps { keeps self.new ≡ keeps self.old }
+        ensures counted { CountsFailure result (failures self.old) (failures self.new) }
+
+        ensures bytes { IsTrue (keeps self.old) → OnOk result
+            (into.new ≡ bytes_at at (length into.old) (content self.old)) }
+        ensures same { IsTrue (keeps self.old) → content self.new ≡ content self.old }
+        ensures images { IsTrue (keeps self.old) → Within (image self.new) (image self.old) }
+        ensures stay { IsTrue (keeps self.old) → Within (image self.old) (image self.new) }
+        ensures time { IsTrue (keeps self.old) → Elapses (clock self.old) (clock self.new)
+            (left self.old) (left self.new) (image self.old) };
+
+    /// Writes these bytes at `at`, with zeros in between where the disk was shorter. Until a sync
+    /// a crash may leave any bytes in the range and past the end.
+    fn write_at(&mut self, at: u64, bytes: &[u8]) -> Result<(), DiskFault>
+        ensures keeps { keeps self.new ≡ keeps self.old }
+        ensures counted { CountsFailure result (failures self.old) (failures self.new) }
+
+        ensures written { IsTrue (keeps self.old) → OnOk result
+            (content self.new ≡ laid at bytes.now (content self.old)) }
+        ensures torn { IsTrue (keeps self.old) → OnErr result
+            (Torn at (length bytes.now) (content self.old) (content self.new)) }
+        ensures images { IsTrue (keeps self.old) → Within (image self.new)
+            (TornFrom at (length bytes.now) (image self.old)) }
+        ensures stay { IsTrue (keeps self.old) → Within (image self.old) (image self.new) }
+        ensures reached { IsTrue (keeps self.old) → OnOk result
+            (Within (TornFrom at (length bytes.now) (image self.old)) (image self.new)) }
+        ensures failed { IsTrue (keeps self.old) → OnErr result (StaysOrTears at (length bytes.now)
+            (content self.old) (content self.new) (image self.old) (image self.new)) }
+        ensures time { IsTrue (keeps self.old) → Elapses (clock self.old) (clock self.new)
+            (left self.old) (left self.new) (TornFrom at (length bytes.now) (image self.old)) };
+
+    /// Waits until all that was written is on the disk for good.
+    fn sync(&mut self) -> Result<(), DiskFault>
+        ensures keeps { keeps self.new ≡ keeps self.old }
+        ensures counted { CountsFailure result (failures self.old) (failures self.new) }
+
+        ensures same { IsTrue (keeps self.old) → content self.new ≡ content self.old }
+        ensures durable { IsTrue (keeps self.old)
+            → OnOk result (Only (content self.old) (image self.new)) }
+        ensures images { IsTrue (keeps self.old) → Within (image self.new) (image self.old) }
+        ensures failed { IsTrue (keeps self.old) → OnErr result
+            (Within (image self.old) (image self.new) ⊎ Only (content self.old) (image self.new)) }
+        ensures time { IsTrue (keeps self.old) → Elapses (clock self.old) (clock self.new)
+            (left self.old) (left self.new) (image self.old) };
+
+    /// A crash may leave all that was written.
+    ghost content_is_image: { (disk : Self) → image disk (content disk) };
+
+    /// This moment is one of those since an earlier time.
+    ghost image_is_left: { (disk : Self) (t : ℕ) (file : List ℕ)
+        → t ≤ clock disk → image disk file → left disk t file };
+
+    /// Since this time there is no other moment.
+    ghost left_is_image: { (disk : Self) (file : List ℕ)
+        → left disk (clock disk) file → image disk file };
+}
+
+// Counts a call that failed.
+pub(crate) fn count<T, E: Drop>(outcome: Result<T, E>, failures: &mut u64) -> Result<T, DiskFault>
+    ensures ok { IfOk result (λ value. outcome ≡ Ok value) }
+    ensures variant { is_ok result ≡ is_ok outcome }
+    ensures counted { CountsFailure result failures.old failures.new }
+    ensures stays { OnOk result (failures.new ≡ failures.old) }
+    ensures rises { OnErr result (failures.new ≡ min (failures.old + 1) (2 ^ 64 - 1)) }
+{
+    match outcome {
+        Ok(value) => Ok(value),
+        Err(_) => {
+            *failures = failures.saturating_add(1);
+            Err(DiskFault)
+        }
+    }
+}

@@ -1,0 +1,235 @@
+// A disk in memory of which some call fails, as a test likes.
+ghost use Rattle.std.specs.Prelude.{◌≡◌, ◌⊎◌, ◌+◌, ◌≤◌, true, length, IfOk, OnOk, OnErr};
+ghost use Rattle.ic_disk.specs.Content.{bytes_at, laid};
+ghost use Rattle.ic_disk.specs.Fuse.{turn_of, one_call_more, Answers, AnswersRead};
+ghost use Rattle.ic_disk.specs.History.{write_of, sync, content_of, image_of, IsLeftSince, Passes};
+ghost use Rattle.ic_disk.specs.HistoryLaws as laws;
+ghost use Rattle.ic_disk.specs.Images.{Only, StaysOrTears, Torn, TornFrom, Within};
+ghost use Rattle.ic_disk.specs.Time.{CountsFailure};
+
+use crate::disk::count;
+use crate::{Disk, DiskFault, MemDisk};
+
+/// Whether the call that fails is made all the same.
+#[derive(Clone, Copy, Debug, PartialEq, Eq)]
+pub enum Blow {
+    Before,
+    After,
+}
+
+/// Whether all later calls fail too, unmade.
+#[derive(Clone, Copy, Debug, PartialEq, Eq)]
+pub enum Then {
+    Stop,
+    GoOn,
+}
+
+#[derive(Clone, Copy, Debug)]
+struct Fuse {
+    at: u64,
+    blow: Blow,
+    after: Then,
+}
+
+// What becomes of a call.
+enum Turn {
+    Make,
+    Skip,
+    MakeAndFail,
+}
+
+/// A disk in memory behind a fuse, which counts the calls of all four kinds.
+#[derive(Debug, Drop)]
+pub struct FuseDisk {
+    disk: MemDisk,
+    fuse: Fuse,
+    calls: u64,
+    failures: u64,
+}
+
+impl FuseDisk {
+    ghost use Rattle.ic_disk.specs.FuseDisk.{disk_of, fuse_of, calls_of, failures_of, next_turn, Spends};
+
+    /// Call `at`, counted from 1, fails. With 0 the fuse has blown before the first call.
+    pub fn new(disk: MemDisk, at: u64, blow: Blow, then: Then) -> FuseDisk
+        ensures disk { disk_of result ≡ disk }
+        ensures fuse { fuse_of result ≡ record { at = at; blow = blow; after = then } }
+        ensures calls { calls_of result ≡ 0 }
+        ensures failures { failures_of result ≡ 0 }
+    {
+        FuseDisk {
+            disk,
+            fuse: Fuse {
+                at,
+                blow,
+                after: then,
+            },
+            calls: 0,
+            failures: 0,
+        }
+    }
+
+    /// The disk without the fuse.
+    pub fn into_inner(self) -> MemDisk
+        ensures { result ≡ disk_of self }
+    {
+        self.disk
+    }
+
+    fn make_write(&mut self, at: u64, bytes: &[u8]) -> Result<(), DiskFault>
+        ensures fuse { Answers (next_turn self.old) (write_of at bytes.now) result
+            (disk_of self.old) (disk_of self.new) }
+        ensures spent { Spends self.old self.new }
+        ensures counted { CountsFailure result (failures_of self.old) (failures_of self.new) }
+    {
+        let outcome = match take_turn(self.fuse, &mut self.calls) {
+            Turn::Make => self.disk.write_at(at, bytes),
+            Turn::Skip => Err(DiskFault),
+            Turn::MakeAndFail => {
+                let _ = self.disk.write_at(at, bytes);
+                Err(DiskFault)
+            }
+        };
+        count(outcome, &mut self.failures)
+    }
+
+    fn make_sync(&mut self) -> Result<(), DiskFault>
+        ensures fuse { Answers (next_turn self.old) sync result
+            (disk_of self.old) (disk_of self.new) }
+        ensures spent { Spends self.old self.new }
+        ensures counted { CountsFailure result (failures_of self.old) (failures_of self.new) }
+    {
+        let outcome = match take_turn(self.fuse, &mut self.calls) {
+            Turn::Make => self.disk.sync(),
+            Turn::Skip => Err(DiskFault),
+            Turn::MakeAndFail => {
+                let _ = self.disk.sync();
+                Err(DiskFault)
+            }
+        };
+        count(outcome, &mut self.failures)
+    }
+}
+
+// Counts a call, and says what becomes of it.
+fn take_turn(fuse: Fuse, calls: &mut u64) -> Turn
+    ensures turn { result ≡ turn_of (calls.old + 1) fuse }
+    ensures counted { calls.new ≡ one_call_more calls.old }
+{
+    let before = *calls;
+    *calls = before.saturating_add(1);
+    if before >= fuse.at {
+        return match fuse.after {
+            Then::Stop => Turn::Skip,
+            Then::GoOn => Turn::Make,
+        };
+    }
+    if before + 1 < fuse.at {
+        return Turn::Make;
+    }
+    match fuse.blow {
+        Blow::Before => Turn::Skip,
+        Blow::After => Turn::MakeAndFail,
+    }
+}
+
+impl Disk for FuseDisk {
+    ghost use Rattle.ic_disk.specs.FuseDisk.{disk_of, failures_of, next_turn, Spends};
+
+    ghost keeps = { λ _. true };
+
+    ghost content = { λ f. content_of (disk_of f) };
+
+    ghost image = { λ f. image_of (disk_of f) };
+
+    ghost clock = { λ f. length (disk_of f).calls };
+
+    ghost left = { λ f. IsLeftSince (disk_of f) };
+
+    ghost failures = { failures_of };
+
+    ghost content_is_image = { λ f. laws.content_image (disk_of f) };
+
+    ghost image_is_left = { λ f. laws.image_left (disk_of f) };
+
+    ghost left_is_image = { λ f. laws.left_image (disk_of f) };
+
+    fn len(&mut self) -> Result<u64, DiskFault>
+        ensures fuse { AnswersRead (next_turn self.old) result }
+        ensures unchanged { disk_of self.new ≡ disk_of self.old }
+        ensures spent { Spends self.old self.new }
+        ensures counted { CountsFailure result (failures_of self.old) (failures_of self.new) }
+        ensures length { IfOk result (λ n. n ≡ length (content_of (disk_of self.old))) }
+    {
+        let outcome = match take_turn(self.fuse, &mut self.calls) {
+            Turn::Make => self.disk.len(),
+            Turn::Skip | Turn::MakeAndFail => Err(DiskFault),
+        };
+        count(outcome, &mut self.failures)
+    }
+
+    fn read(&mut self, at: u64, into: &mut [u8]) -> Result<(), DiskFault>
+        requires { at + length into.old ≤ length (content_of (disk_of self.old)) }
+        ensures fuse { AnswersRead (next_turn self.old) result }
+        ensures unchanged { disk_of self.new ≡ disk_of self.old }
+        ensures spent { Spends self.old self.new }
+        ensures counted { CountsFailure result (failures_of self.old) (failures_of self.new) }
+        ensures bytes { OnOk result
+            (into.new ≡ bytes_at at (length into.old) (content_of (disk_of self.old))) }
+    {
+        let outcome = match take_turn(self.fuse, &mut self.calls) {
+            Turn::Make => self.disk.read(at, into),
+            Turn::Skip => Err(DiskFault),
+            Turn::MakeAndFail => {
+                let _ = self.disk.read(at, into);
+                Err(DiskFault)
+            }
+        };
+        count(outcome, &mut self.failures)
+    }
+
+    fn write_at(&mut self, at: u64, bytes: &[u8]) -> Result<(), DiskFault>
+        ensures fuse { Answers (next_turn self.old) (write_of at bytes.now) result
+            (disk_of self.old) (disk_of self.new) }
+        ensures spent { Spends self.old self.new }
+
+        // What follows, in the words of the trait.
+        ensures counted { CountsFailure result (failures_of self.old) (failures_of self.new) }
+        ensures written { OnOk result
+            (content_of (disk_of self.new) ≡ laid at bytes.now (content_of (disk_of self.old))) }
+        ensures torn { OnErr result (Torn at (length bytes.now)
+            (content_of (disk_of self.old)) (content_of (disk_of self.new))) }
+        ensures images { Within (image_of (disk_of self.new))
+            (TornFrom at (length bytes.now) (image_of (disk_of self.old))) }
+        ensures stay { Within (image_of (disk_of self.old)) (image_of (disk_of self.new)) }
+        ensures reached { OnOk result
+            (Within (TornFrom at (length bytes.now) (image_of (disk_of self.old)))
+            (image_of (disk_of self.new))) }
+        ensures failed { OnErr result (StaysOrTears at (length bytes.now)
+            (content_of (disk_of self.old)) (content_of (disk_of self.new))
+            (image_of (disk_of self.old)) (image_of (disk_of self.new))) }
+        ensures time { Passes (disk_of self.old) (disk_of self.new)
+            (TornFrom at (length bytes.now) (image_of (disk_of self.old))) }
+    {
+        self.make_write(at, bytes)
+    }
+
+    fn sync(&mut self) -> Result<(), DiskFault>
+        ensures fuse { Answers (next_turn self.old) sync result
+            (disk_of self.old) (disk_of self.new) }
+        ensures spent { Spends self.old self.new }
+
+        // What follows, in the words of the trait.
+        ensures counted { CountsFailure result (failures_of self.old) (failures_of self.new) }
+        ensures same { content_of (disk_of self.new) ≡ content_of (disk_of self.old) }
+        ensures durable { OnOk result
+            (Only (content_of (disk_of self.old)) (image_of (disk_of self.new))) }
+        ensures images { Within (image_of (disk_of self.new)) (image_of (disk_of self.old)) }
+        ensures failed { OnErr result
+            (Within (image_of (disk_of self.old)) (image_of (disk_of self.new))
+            ⊎ Only (content_of (disk_of self.old)) (image_of (disk_of self.new))) }
+        ensures time { Passes (disk_of self.old) (disk_of self.new) (image_of (disk_of self.old)) }
+    {
+        self.make_sync()
+    }
+}
