@@ -1,11 +1,12 @@
 -- A list of symbols as the entries of the map that keeps it.
-use Rattle.std.proofs.Common.{◌≡◌, ℕ, suc, ◌||◌, ◌+◌, ◌<◌, ◌≤◌, ◌==◌, Bool, true, false, not, List, [], ◌∷◌, ◌++◌, Option, None, Some, Result, Ok, Err, length, map, option_map, slice_get, refl, ◌∙◌, ap, cond, arith, IsTrue, nat_lt, Vec, length-append}
+use Rattle.std.proofs.Common.{◌≡◌, ℕ, suc, ◌||◌, ◌&&◌, ◌+◌, ◌<◌, ◌≤◌, ◌==◌, Bool, true, false, not, List, [], ◌∷◌, ◌++◌, Option, None, Some, Result, Ok, Err, length, map, option_map, slice_get, refl, sym, ◌∙◌, ap, cond, arith, IsTrue, nat_lt, Vec, zero, drop, IfSome, add-one, length-append}
 use Rattle.std.specs.declared.alloc.Global.{Global}
 use Rattle.std.proofs.lemmas.Grind.{common_steps}
 use Rattle.std.proofs.lemmas.List.{length-map, map-append}
 use Rattle.std.proofs.lemmas.Map.Keys.{IsDistinct-push}
 use Rattle.std.proofs.lemmas.Cmp.{nat_list_eq_equiv}
 use Rattle.std.specs.List.{position, prefix_len, list_any, AllByRecursion, IsDistinct}
+use Rattle.std.specs.Cmp.Lexicographic.{pointwise}
 use Rattle.std.specs.Str.{bytes_eq}
 use Rattle.std.specs.declared.hash.FoldHasher.{FoldHasher}
 use Rattle.std.specs.declared.hash.BuildHasherDefault.{BuildHasherDefault}
@@ -113,3 +114,12 @@ pub symbols-insert : (m : IndexMap (Vec ℕ Global) ℕ Hasher) (k : Vec ℕ Glo
 symbols-insert m k text arity is absent =
     let none : get same_bytes m k ≡ None = ap (λ t. get_by (λ (key : Vec ℕ Global). bytes_eq t key.items) m) is ∙ absent in
     rw (insert_entry-new same_bytes m k arity none, map-append symbol_of m.entries ((k, arity) ∷ [])) (ap (λ t. map symbol_of m.entries ++ record { text = t; arity = arity } ∷ []) is)
+
+-- two lists from a place on: the test of the elements there, and of those behind them
+pub pointwise-drop : {X : Type 0} (e : X → X → Bool) (xs ys : List X) (i : ℕ) (r : Bool) → i < length xs → i < length ys
+    → IfSome (slice_get xs i) (λ x. IfSome (slice_get ys i) (λ y. r ≡ e x y))
+    → pointwise e (drop i xs) (drop i ys) ≡ (r && pointwise e (drop (i + 1) xs) (drop (i + 1) ys))
+pointwise-drop e [] ys i r xs_long ys_long is = absurd (omega arith)
+pointwise-drop e (x ∷ xs) [] i r xs_long ys_long is = absurd (omega arith)
+pointwise-drop e (x ∷ xs) (y ∷ ys) zero r xs_long ys_long is = ap (λ b. b && pointwise e xs ys) (sym is)
+pointwise-drop e (x ∷ xs) (y ∷ ys) (suc i) r xs_long ys_long is = rw (add-one (suc i)) (rw (add-one i) at (pointwise-drop e xs ys i r (omega arith) (omega arith) is))

@@ -4,3 +4,5 @@ pub mod TreeLaws
 pub mod Configuration
 pub mod ConfigFault
 pub mod Symbol
+pub mod TermLaws
+pub mod SymbolLaws

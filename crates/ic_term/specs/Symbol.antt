@@ -1,6 +1,7 @@
 use Rattle.std.specs.Prelude.{◌≡◌, ℕ, ◌≤◌, ◌==◌, List, [], ◌∷◌, ◌++◌, Bool, true, false, ◌&&◌, ◌||◌, Option, None, Some, Result, Ok, Err, length, map, nat_le, nat_lt, if◌then◌else◌, is_some, slice_get, IsTrue, refl}
 use Rattle.std.specs.List.{list_all, position, AllByRecursion, IsDistinct}
 use Rattle.std.specs.Str.{bytes_eq}
+use Rattle.std.specs.Cmp.Lexicographic.{pointwise}
 use Rattle.std.specs.Char.{is_ascii_uppercase, is_ascii_digit, is_ascii_alphanumeric}
 use Rattle.std.specs.Option.{option_map}
 use Rattle.std.specs.Coded.{Coded, code_by, coded×, coded_ℕ, coded_list}
@@ -89,3 +90,11 @@ is_over ss c = list_all (is_tree_over ss) c.interface && list_all (is_pair_over 
 
 abbrev pub coded_symbol : Coded Symbol
 coded_symbol = code_by (List ℕ × ℕ) (coded× (coded_list coded_ℕ) coded_ℕ) (λ s. (s.text, s.arity)) (λ p. record { text = p.0; arity = p.1 }) (λ _. refl)
+
+-- whether two symbols are the same
+abbrev pub symbol_eq : Symbol → Symbol → Bool
+symbol_eq s t = bytes_eq s.text t.text && s.arity == t.arity
+
+-- whether two lists of symbols are the same
+abbrev pub symbols_eq : List Symbol → List Symbol → Bool
+symbols_eq = pointwise symbol_eq

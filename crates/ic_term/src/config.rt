@@ -9,6 +9,7 @@ ghost use Rattle.ic_term.specs.declared.config.ConfigFault.TheVariants.{Limit, M
 use crate::limits::{MAX_INTERFACE, MAX_NEXT, MAX_NODES};
 use crate::occurrences::third_occurrence;
 use crate::term::{Equation, Term};
+use crate::terms::{append_names, copy_terms, nodes_of_terms};
 use std::alloc::{AllocError, Global};
 use std::marker::Model;
 
@@ -183,7 +184,7 @@ fn small_names(
         return Err(ConfigFault::Limit);
     }
     let mut names = Vec::new(alloc);
-    append_term_names(interface, &mut names)?;
+    append_names(interface, &mut names)?;
     append_equation_names(equations, &mut names)?;
     Ok(names)
 }
@@ -195,16 +196,6 @@ fn nodes_in(interface: &[Term], equations: &[Equation]) -> u64
     nodes_of_terms(interface).saturating_add(nodes_of_equations(equations))
 }
 
-fn nodes_of_terms(terms: &[Term]) -> u64
-    ensures { result ≡ min (sum_by nodes (map tree terms.now)) u64.MAX }
-{
-    let mut count = 0u64;
-    for term in terms {
-        count = count.saturating_add(term.nodes());
-    }
-    count
-}
-
 fn nodes_of_equations(equations: &[Equation]) -> u64
     ensures { result ≡ min (sum_by pair_nodes (map pair equations.now)) u64.MAX }
 {
@@ -213,15 +204,6 @@ fn nodes_of_equations(equations: &[Equation]) -> u64
         count = count.saturating_add(equation.nodes());
     }
     count
-}
-
-fn append_term_names(terms: &[Term], names: &mut Vec<u64>) -> Result<(), AllocError>
-    ensures { OnOk result (names.new.items ≡ names.old.items ++ flat_map names_of_term (map tree terms.now)) }
-{
-    for term in terms {
-        term.append_names(names)?;
-    }
-    Ok(())
 }
 
 fn append_equation_names(equations: &[Equation], names: &mut Vec<u64>) -> Result<(), AllocError>
@@ -248,16 +230,6 @@ fn are_below(names: &[u64], next: u64) -> bool
     ensures { result ≡ list_all (λ n. nat_lt n next) names.now }
 {
     names.iter().all(|name| *name < next)
-}
-
-fn copy_terms(alloc: Global, terms: &[Term]) -> Result<Vec<Term>, AllocError>
-    ensures { IfOk result (λ copies. map tree copies.items ≡ map tree terms.now) }
-{
-    let mut copies = Vec::with_capacity(alloc, terms.len())?;
-    for term in terms {
-        copies.push(term.copy(alloc)?)?;
-    }
-    Ok(copies)
 }
 
 fn copy_equations(alloc: Global, equations: &[Equation]) -> Result<Vec<Equation>, AllocError>

@@ -11,6 +11,7 @@ mod limits;
 mod occurrences;
 mod symbols;
 mod term;
+mod terms;
 #[cfg(test)]
 mod tests;
 
@@ -20,3 +21,4 @@ pub use limits::{MAX_ARITY, MAX_INTERFACE, MAX_NEXT, MAX_NODES, MAX_SYMBOL_TEXT,
 pub use occurrences::third_occurrence;
 pub use symbols::{SymbolFault, Symbols, is_symbol};
 pub use term::{Cell, Equation, Term};
+pub use terms::{append_names, copy_terms, nodes_of_terms};

@@ -1,7 +1,10 @@
-ghost use Rattle.std.specs.Prelude.{◌≡◌, ◌<◌, ◌↔◌, ◌==◌, ◌||◌, length, IsTrue, if◌then◌else◌, is_ok, option_map, slice_get, Some, []};
+ghost use Rattle.std.specs.Prelude.{◌≡◌, ◌<◌, ◌↔◌, ◌==◌, ◌||◌, length, IsTrue, if◌then◌else◌, is_ok, option_map, slice_get, Some, IfSome, []};
 ghost use Rattle.std.specs.Char.{is_ascii_uppercase, is_ascii_digit, is_ascii_alphanumeric};
 ghost use Rattle.std.specs.List.{list_all};
 ghost use Rattle.ic_term.specs.Symbol.{is_symbol_text, numbered, with_symbol, Answers, symbol_text, symbol_arity, has_arity};
+ghost use Rattle.std.specs.Cmp.{partial_equiv_from_equiv};
+ghost use Rattle.ic_term.specs.Symbol.{symbol_eq, symbols_eq, AreSymbols};
+ghost use Rattle.ic_term.specs.SymbolLaws.{symbols_eq-equivalence};
 ghost use Rattle.ic_term.specs.declared.symbols.SymbolFault.TheVariants.{Memory};
 
 use crate::limits::{MAX_ARITY, MAX_SYMBOL_TEXT, MAX_SYMBOLS};
@@ -67,7 +70,8 @@ impl Symbols {
     }
 
     pub fn len(&self) -> usize
-        ensures { result ≡ length self.now }
+        ensures len { result ≡ length self.now }
+        ensures sound { AreSymbols self.now }
     {
         self.arities.len()
     }
@@ -117,6 +121,15 @@ impl Symbols {
         *arity
     }
 
+    /// Whether the symbol with this number is the same in both.
+    fn has_same(&self, other: &Symbols, sym: u32) -> bool
+        requires here { sym < length self.now }
+        requires there { sym < length other.now }
+        ensures { IfSome (slice_get self.now sym) (λ s. IfSome (slice_get other.now sym) (λ t. result ≡ symbol_eq s t)) }
+    {
+        self.text(sym) == other.text(sym) && self.arity(sym) == other.arity(sym)
+    }
+
     /// Whether there is a symbol with this number, and this is its arity.
     pub fn has_arity(&self, sym: u32, arity: usize) -> bool
         ensures { result ≡ has_arity arity (slice_get self.now sym) }
@@ -126,6 +139,28 @@ impl Symbols {
             Some((_, known)) => *known == arity,
         }
     }
+}
+
+impl PartialEq for Symbols {
+    ghost eq = { symbols_eq };
+
+    ghost laws = { partial_equiv_from_equiv symbols_eq-equivalence };
+
+    fn eq(&self, other: &Symbols) -> bool {
+        if self.len() != other.len() {
+            return false;
+        }
+        for sym in 0..self.len() {
+            if !self.has_same(other, sym as u32) {
+                return false;
+            }
+        }
+        true
+    }
+}
+
+impl Eq for Symbols {
+    ghost laws = { symbols_eq-equivalence };
 }
 
 /// The number of a known symbol, where its arity is the one given.

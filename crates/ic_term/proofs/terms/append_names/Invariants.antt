@@ -2,9 +2,9 @@ use Rattle.std.proofs.Common.{◌≡◌, ◌++◌, map, drop}
 use Rattle.std.specs.List.{flat_map}
 use Rattle.ic_term.specs.Tree.{names}
 use Rattle.ic_term.specs.Term.{tree}
-use Rattle.ic_term.proofs.config.append_term_names.Given as goal
+use Rattle.ic_term.proofs.terms.append_names.Given as goal
 
 -- what is appended so far and the names of what is left are those of all
 abbrev pub invariant-loop-term : goal.invariant-loop-term
 invariant-loop-term l =
-    l.names.items ++ flat_map names (map tree (drop l.term-index l.terms)) ≡ l.fn.names.items ++ flat_map names (map tree l.terms)
+    l.list.items ++ flat_map names (map tree (drop l.term-index l.terms)) ≡ l.fn.list.items ++ flat_map names (map tree l.terms)

@@ -1,7 +1,7 @@
 use Rattle.std.proofs.Common.{◌≡◌, ◌+◌, ◌-◌, ◌^◌, ◌<◌, min, map, drop, sum_by}
 use Rattle.ic_term.specs.Tree.{nodes}
 use Rattle.ic_term.specs.Term.{tree}
-use Rattle.ic_term.proofs.config.nodes_of_terms.Given as goal
+use Rattle.ic_term.proofs.terms.nodes_of_terms.Given as goal
 
 -- what is counted so far and the nodes of what is left are those of all
 abbrev pub invariant-loop-term : goal.invariant-loop-term

@@ -1,6 +1,6 @@
 use Rattle.std.proofs.Common.{◌≡◌, map, take}
 use Rattle.ic_term.specs.Term.{tree}
-use Rattle.ic_term.proofs.config.copy_terms.Given as goal
+use Rattle.ic_term.proofs.terms.copy_terms.Given as goal
 
 -- those so far are copied
 abbrev pub invariant-loop-term : goal.invariant-loop-term

@@ -1,0 +1,6 @@
+pub mod NameLemmas
+pub mod RenamingLemmas
+pub mod NumberingLemmas
+pub mod RuleLemmas
+pub mod FitLemmas
+pub mod RuleSetLemmas

@@ -1,0 +1,40 @@
+-- Terms renamed, and names that stand twice.
+use Rattle.std.proofs.Common.{◌≡◌, ℕ, suc, ◌+◌, ◌<◌, ◌≤◌, Bool, true, false, not, List, [], ◌∷◌, ◌&&◌, None, Some, length, map, get_or, drop, unwrap_or, cond, nat_lt, refl, ap, arith, drop-cons, add-one}
+use Rattle.std.proofs.lemmas.Grind.{common_steps}
+use Rattle.std.specs.List.{list_all, position, position_or_len, prefix_len}
+use Rattle.std.specs.Cmp.Lexicographic.{pointwise}
+use Rattle.ic_term.specs.Tree.{Tree, trees_of, more_trees}
+use Rattle.ic_rules.specs.Renaming.{renamed, renamed_trees}
+
+pub renamed_trees-trees_of : (f : ℕ → ℕ) (ts : List Tree) → renamed_trees f (trees_of ts) ≡ trees_of (map (renamed f) ts)
+renamed_trees-trees_of f [] = refl
+renamed_trees-trees_of f (t ∷ ts) = ap (λ us. more_trees (renamed f t) us) (renamed_trees-trees_of f ts)
+
+prefix_len-le : {X : Type 0} (p : X → Bool) (xs : List X) → prefix_len p xs ≤ length xs
+prefix_len-le p [] = omega arith
+prefix_len-le p (x ∷ xs) = below (p x) (prefix_len p xs) (length xs) (prefix_len-le p xs)
+  where
+    below : (b : Bool) (m n : ℕ) → m ≤ n → cond b (1 + m) 0 ≤ suc n
+    below true m n h = omega arith
+    below false m n h = omega arith
+
+-- the place of an element, or the length
+pub place_or_length : {X : Type 0} (p : X → Bool) (xs : List X) → unwrap_or (position p xs) (length xs) ≡ position_or_len p xs
+place_or_length p xs = chosen (position_or_len p xs) (length xs) (prefix_len-le (λ x. not (p x)) xs)
+  where
+    chosen : (m n : ℕ) → m ≤ n → unwrap_or (cond (nat_lt m n) (Some m) None) n ≡ m
+    chosen m n h = grind (arith, common_steps)
+
+-- a test of the elements left, at the first of them
+pub list_all-here : (p : ℕ → Bool) (ns : List ℕ) (i : ℕ) → i < length ns → p (get_or ns i 0) ≡ false → list_all p (drop i ns) ≡ false
+list_all-here p ns i within fails = rw (drop-cons ns i 0, fails) refl
+
+pub list_all-more : (p : ℕ → Bool) (ns : List ℕ) (i : ℕ) → i < length ns → p (get_or ns i 0) ≡ true → list_all p (drop i ns) ≡ list_all p (drop (i + 1) ns)
+list_all-more p ns i within passes = rw (drop-cons ns i 0, passes, add-one i) refl
+
+-- a test of two lists through a function
+pub pointwise-map : {X Y : Type 0} (e : Y → Y → Bool) (f : X → Y) (xs ys : List X) → pointwise (λ x y. e (f x) (f y)) xs ys ≡ pointwise e (map f xs) (map f ys)
+pointwise-map e f [] [] = refl
+pointwise-map e f [] (y ∷ ys) = refl
+pointwise-map e f (x ∷ xs) [] = refl
+pointwise-map e f (x ∷ xs) (y ∷ ys) = ap (λ b. e (f x) (f y) && b) (pointwise-map e f xs ys)

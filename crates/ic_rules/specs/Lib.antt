@@ -1,0 +1,10 @@
+pub mod JobName
+pub mod Renaming
+pub mod Rule
+pub mod RuleFault
+pub mod RuleSet
+pub mod Written
+pub mod Places
+pub mod Arguments
+pub mod RuleLaws
+pub mod System

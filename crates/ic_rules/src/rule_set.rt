@@ -1,0 +1,253 @@
+ghost use Rattle.std.specs.Prelude.{◌≡◌, ◌≤◌, length, map, min, sum_by, None, is_some, ◌||◌, IfOk, IfErr, OnOk};
+ghost use Rattle.ic_rules.specs.Rule.{rule_nodes, numbered};
+ghost use Rattle.ic_rules.specs.RuleSet.{are_few, first_uncounted, first_repeated, first_lopsided};
+ghost use Rattle.ic_rules.specs.RuleFault.{IsTwice, IsLopsided};
+ghost use Rattle.ic_rules.specs.Written.{written};
+ghost use Rattle.ic_rules.specs.Places.{ArePlaces, pair_eq};
+ghost use Rattle.std.specs.HashMap.{get};
+ghost use Rattle.ic_rules.specs.declared.rule_set.RuleFault.TheVariants.{Memory};
+
+use crate::fit::first_unfit;
+use crate::limits::{MAX_RULE_NODES, MAX_RULES};
+use crate::renaming::{are_paired, names_of};
+use crate::rule::Rule;
+use ic_term::{Cell, Symbols, nodes_of_terms};
+use std::alloc::{AllocError, AllocFailed, Global};
+use std::collections::HashMap;
+use std::marker::Model;
+
+/// Why rules make no rule set, in the order in which it is tried. A rule is named by its place from 0.
+#[derive(Clone, Copy, Debug, PartialEq, Eq)]
+pub enum RuleFault {
+    /// There are too many rules, or too many nodes in their arguments.
+    Limit,
+    /// The symbol of the first agent that is unknown or has another arity.
+    Arity(u32),
+    /// The first rule with a name that doesn't occur exactly twice in it.
+    NameCount(u32),
+    /// The first rule whose unordered pair of symbols an earlier rule has.
+    Twice(u32),
+    /// The first rule of a symbol with itself that isn't its own swap.
+    Lopsided(u32),
+    /// A growth was refused.
+    Memory,
+}
+
+impl From<AllocError> for RuleFault {
+    ghost from_gives = { λ _ fault. fault ≡ Memory };
+
+    fn from(_error: AllocError) -> RuleFault {
+        RuleFault::Memory
+    }
+}
+
+impl<T: Drop> From<AllocFailed<T>> for RuleFault {
+    ghost from_gives = { λ _ fault. fault ≡ Memory };
+
+    fn from(_error: AllocFailed<T>) -> RuleFault {
+        RuleFault::Memory
+    }
+}
+
+/// Two symbols by number, in this order.
+#[derive(Clone, Copy, Debug, PartialEq, Eq, Hash)]
+struct SymbolPair {
+    first: u32,
+    second: u32,
+}
+
+/// Symbols and rules over them, at most one for each unordered pair of symbols.
+#[derive(Debug, Drop)]
+pub struct RuleSet {
+    symbols: Symbols,
+    rules: Vec<Rule>,
+    places: HashMap<SymbolPair, usize>,
+}
+
+impl Model for RuleSet {
+    ghost use Rattle.std.specs.Prelude.{◌≡◌, ◌&&◌, ◌==◌};
+    ghost use Rattle.std.specs.HashMap.{get};
+    ghost use Rattle.ic_rules.specs.RuleSet.{Rules, IsRuleSet, coded_rules};
+
+    ghost Value = { Rules };
+
+    ghost coded = { coded_rules };
+
+    ghost use Rattle.ic_rules.specs.Places.{ArePlaces};
+
+    ghost view = { λ s. record { symbols = s.symbols; rules = s.rules.items } };
+
+    ghost invariant = { λ s. IsRuleSet (record { symbols = s.symbols; rules = s.rules.items }) × ArePlaces s.places s.rules.items };
+}
+
+impl RuleSet {
+    ghost use Rattle.ic_rules.specs.RuleSet.{built, rule_for, IsRuleSet};
+    ghost use Rattle.ic_rules.specs.RuleFault.{Answers};
+    ghost use Rattle.ic_rules.specs.Written.{written};
+
+    /// The rule set of these rules, the names of each numbered by first occurrence.
+    pub fn build(
+        alloc: Global,
+        symbols: Symbols,
+        rules: Vec<(Cell, Cell)>,
+    ) -> Result<RuleSet, RuleFault>
+        ensures { Answers result (built symbols (map written rules.items)) }
+    {
+        if !are_few(&rules) {
+            return Err(RuleFault::Limit);
+        }
+        if let Some(sym) = first_unfit(&symbols, &rules) {
+            return Err(RuleFault::Arity(sym));
+        }
+        if let Some(place) = first_uncounted(alloc, &rules)? {
+            return Err(RuleFault::NameCount(place));
+        }
+        let places = places_of(alloc, &rules)?;
+        let rules = number_rules(alloc, &rules)?;
+        Ok(RuleSet {
+            symbols,
+            rules,
+            places,
+        })
+    }
+
+    pub fn symbols(&self) -> &Symbols
+        ensures symbols { result.now ≡ self.now.symbols }
+        ensures sound { IsRuleSet self.now }
+    {
+        &self.symbols
+    }
+
+    pub fn rules(&self) -> &[Rule]
+        ensures rules { result.now ≡ self.now.rules }
+        ensures sound { IsRuleSet self.now }
+    {
+        self.rules.as_slice()
+    }
+
+    /// The place of the rule of two symbols, and whether `a` is its right symbol only. Takes two look-ups at most.
+    pub fn find(&self, a: u32, b: u32) -> Option<(usize, bool)>
+        ensures rule { result ≡ rule_for self.now.rules a b }
+        ensures sound { IsRuleSet self.now }
+    {
+        let pair = SymbolPair {
+            first: a,
+            second: b,
+        };
+        let turned = SymbolPair {
+            first: b,
+            second: a,
+        };
+        match self.places.get(&pair) {
+            Some(place) => Some((*place, false)),
+            None => match self.places.get(&turned) {
+                Some(place) => Some((*place, true)),
+                None => None,
+            },
+        }
+    }
+}
+
+impl PartialEq for RuleSet {
+    ghost use Rattle.std.specs.Cmp.{partial_equiv_from_equiv};
+    ghost use Rattle.ic_rules.specs.RuleSet.{rules_eq};
+    ghost use Rattle.ic_rules.specs.RuleLaws.{rules_eq-equivalence};
+
+    ghost eq = { rules_eq };
+
+    ghost laws = { partial_equiv_from_equiv rules_eq-equivalence };
+
+    fn eq(&self, other: &RuleSet) -> bool {
+        self.symbols == other.symbols && self.rules == other.rules
+    }
+}
+
+impl Eq for RuleSet {
+    ghost use Rattle.ic_rules.specs.RuleLaws.{rules_eq-equivalence};
+
+    ghost laws = { rules_eq-equivalence };
+}
+
+/// Whether neither the rules nor the nodes of their arguments are too many.
+fn are_few(rules: &[(Cell, Cell)]) -> bool
+    ensures { result ≡ are_few (map written rules.now) }
+{
+    rules.len() <= MAX_RULES && argument_nodes(rules) <= MAX_RULE_NODES
+}
+
+/// How many nodes the arguments have, or 2^64 - 1 where there are more.
+fn argument_nodes(rules: &[(Cell, Cell)]) -> u64
+    ensures { result ≡ min (sum_by rule_nodes (map written rules.now)) u64.MAX }
+{
+    let mut count = 0u64;
+    for (left, right) in rules {
+        count = count
+            .saturating_add(nodes_of_terms(&left.args))
+            .saturating_add(nodes_of_terms(&right.args));
+    }
+    count
+}
+
+/// The first rule with a name that doesn't occur exactly twice.
+fn first_uncounted(alloc: Global, rules: &[(Cell, Cell)]) -> Result<Option<u32>, AllocError>
+    requires { length rules.now ≤ MAX_RULES }
+    ensures { IfOk result (λ place. place ≡ first_uncounted (map written rules.now)) }
+{
+    for (i, (left, right)) in rules.iter().enumerate() {
+        let names = names_of(alloc, &left.args, &right.args)?;
+        if !are_paired(alloc, &names)? {
+            return Ok(Some(i as u32));
+        }
+    }
+    Ok(None)
+}
+
+/// The place of each rule by its symbols, or `Twice` for the first whose unordered pair an earlier rule has.
+fn places_of(alloc: Global, rules: &[(Cell, Cell)]) -> Result<HashMap<SymbolPair, usize>, RuleFault>
+    requires { length rules.now ≤ MAX_RULES }
+    ensures places { IfOk result (λ places. ArePlaces places (map written rules.now)) }
+    ensures single { OnOk result (first_repeated (map written rules.now) ≡ None) }
+    ensures twice { IfErr result (IsTwice (map written rules.now)) }
+{
+    let mut places = HashMap::new(alloc);
+    for (i, (left, right)) in rules.iter().enumerate() {
+        let pair = SymbolPair {
+            first: left.sym,
+            second: right.sym,
+        };
+        if has_pair(&places, pair) {
+            return Err(RuleFault::Twice(i as u32));
+        }
+        places.insert(pair, i)?;
+    }
+    Ok(places)
+}
+
+/// Whether there is a place for these symbols, in this order or the other.
+fn has_pair(places: &HashMap<SymbolPair, usize>, pair: SymbolPair) -> bool
+    ensures { result ≡ (is_some (get pair_eq places.now pair) || is_some (get pair_eq places.now (record { first = pair.second; second = pair.first }))) }
+{
+    let turned = SymbolPair {
+        first: pair.second,
+        second: pair.first,
+    };
+    places.contains_key(&pair) || places.contains_key(&turned)
+}
+
+/// The rules with their names numbered, or `Lopsided` for the first of a symbol with itself that isn't its own swap.
+fn number_rules(alloc: Global, rules: &[(Cell, Cell)]) -> Result<Vec<Rule>, RuleFault>
+    requires few { length rules.now ≤ MAX_RULES }
+    requires counted { first_uncounted (map written rules.now) ≡ None }
+    ensures rules { IfOk result (λ out. out.items ≡ map numbered (map written rules.now)) }
+    ensures even { OnOk result (first_lopsided (map written rules.now) ≡ None) }
+    ensures lopsided { IfErr result (IsLopsided (map written rules.now)) }
+{
+    let mut numbered = Vec::with_capacity(alloc, rules.len())?;
+    for (i, (left, right)) in rules.iter().enumerate() {
+        match Rule::of_agents(alloc, left, right)? {
+            None => return Err(RuleFault::Lopsided(i as u32)),
+            Some(rule) => numbered.push(rule)?,
+        }
+    }
+    Ok(numbered)
+}
