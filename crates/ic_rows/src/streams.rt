@@ -1,0 +1,53 @@
+//! What the program does with a text, without the program: `settle_stream` over bytes in memory.
+
+use ic_serve::settle_stream;
+use std::alloc::Global;
+use std::process::Abort;
+use std::test::Fail;
+
+/// What settling a text writes, or the line on standard error, after its exit status.
+pub fn run_settle(alloc: Global, text: &[u8]) -> Result<(u8, Vec<u8>), Fail> {
+    let mut reader = text;
+    let mut output = Vec::new(alloc);
+    match settle_stream(alloc, &mut reader, &mut output) {
+        Ok(()) => Ok((0, output)),
+        Err(fault) => {
+            if !output.is_empty() {
+                return Err(Fail::from("a refusal wrote something"));
+            }
+            Ok((fault.status(), fault.line(alloc)?))
+        }
+    }
+}
+
+/// Asserts that a text settles to a line.
+pub fn settles(rt: &impl Abort, alloc: Global, text: &[u8], line: &[u8]) -> Result<(), Fail> {
+    let (status, output) = run_settle(alloc, text)?;
+    assert_eq!(rt; status, 0);
+    assert_eq!(rt; output.as_slice(), line);
+    Ok(())
+}
+
+/// Asserts that a text is refused with a line.
+pub fn refuses(rt: &impl Abort, alloc: Global, text: &[u8], line: &[u8]) -> Result<(), Fail> {
+    let (status, output) = run_settle(alloc, text)?;
+    assert_eq!(rt; output.as_slice(), line);
+    assert_eq!(rt; status, 1);
+    Ok(())
+}
+
+/// The front, the piece so many times, and the back.
+pub fn repeated(
+    alloc: Global,
+    front: &[u8],
+    piece: &[u8],
+    times: usize,
+    back: &[u8],
+) -> Result<Vec<u8>, Fail> {
+    let mut text = Vec::from_slice(alloc, front)?;
+    for _ in 0..times {
+        text.extend_from_slice(piece)?;
+    }
+    text.extend_from_slice(back)?;
+    Ok(text)
+}

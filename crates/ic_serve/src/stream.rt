@@ -1,0 +1,82 @@
+//! Settling what a reader gives.
+
+ghost use Rattle.std.specs.Prelude.{◌≡◌, ◌≢◌, ◌≤◌, ◌+◌, ℕ, List, IfOk, IfErr, IfSome, OnOk, OnErr, ◌⊎◌, length};
+ghost use Rattle.std.specs.Io.KnownBytes.{Appends, Keeps};
+ghost use Rattle.ic_serve.specs.Streams.{FaultOf, SettlesTo, TakesAt, TakesIt, TakesSome, TakesText, Writes};
+
+use crate::fault::StreamFault;
+use crate::settle::settle;
+use ic_text::{MAX_TEXT, print_config, read_config};
+use std::alloc::Global;
+use std::io::{ErrorKind, Read, Write};
+
+/// How many bytes are read at a time.
+const CHUNK: usize = 8_192;
+
+/// Settles the configuration that the reader gives, and writes it as a line.
+///
+/// Nothing is written before the text is read and settled. At most 262,145 bytes are read; a longer text is
+/// `TextFault::Limit`.
+pub fn settle_stream<R: Read, W: Write>(
+    alloc: Global,
+    reader: &mut R,
+    writer: &mut W,
+) -> Result<(), StreamFault>
+    ensures written { OnOk result (IfSome (R.remaining reader.old)
+        (λ text. Writes text (W.contents writer.old) (W.contents writer.new))) }
+    ensures refused { IfErr result (λ fault. IfSome (R.remaining reader.old) (λ text. FaultOf text fault)) }
+    ensures silent { IfErr result (λ fault. fault ≢ StreamFault.Write
+        → Keeps (W.contents writer.old) (W.contents writer.new)) }
+    ensures taken { OnOk result (TakesText (R.remaining reader.old) (R.remaining reader.new)) }
+    ensures taken_at_fault { IfErr result
+        (λ fault. TakesAt fault (R.remaining reader.old) (R.remaining reader.new)) }
+{
+    let text = read_text(alloc, reader)?;
+    let line = settled_line(alloc, &text)?;
+    write_line(writer, &line)
+}
+
+/// Writes a line and flushes it.
+fn write_line<W: Write>(writer: &mut W, line: &[u8]) -> Result<(), StreamFault>
+    ensures written { OnOk result (Appends (W.contents writer.old) (W.contents writer.new) line.now) }
+    ensures refused { IfErr result (λ fault. fault ≡ StreamFault.Write) }
+{
+    writer.write_all(line).map_err(|_| StreamFault::Write)?;
+    writer.flush().map_err(|_| StreamFault::Write)
+}
+
+/// The settled configuration of a text, printed, and a line feed.
+fn settled_line(alloc: Global, text: &[u8]) -> Result<Vec<u8>, StreamFault>
+    ensures line { IfOk result (λ line. SettlesTo text.now line.items) }
+    ensures refused { IfErr result (λ fault. FaultOf text.now fault) }
+    ensures sort { IfErr result (λ fault. (fault ≢ StreamFault.Write) × (fault ≢ StreamFault.Read)) }
+{
+    let (symbols, config) = read_config(alloc, text)?;
+    let settled = settle(config);
+    let mut line = print_config(alloc, &symbols, &settled)?;
+    line.push(b'\n')?;
+    Ok(line)
+}
+
+/// All that the reader has, or its first 262,145 bytes.
+fn read_text<R: Read>(alloc: Global, reader: &mut R) -> Result<Vec<u8>, StreamFault>
+    ensures text { IfOk result (λ text. TakesIt text.items (R.remaining reader.old) (R.remaining reader.new)) }
+    ensures some { OnErr result (TakesSome (R.remaining reader.old) (R.remaining reader.new)) }
+    ensures sort { IfErr result (λ fault. (fault ≡ StreamFault.Read) ⊎ (fault ≡ StreamFault.Memory)) }
+{
+    let mut text = Vec::new(alloc);
+    let mut chunk = [0u8; CHUNK];
+    for _ in 0..u64::MAX {
+        if text.len() > MAX_TEXT {
+            return Ok(text);
+        }
+        let room = CHUNK.min(MAX_TEXT + 1 - text.len());
+        match reader.read(&mut chunk[..room]) {
+            Ok(0) => return Ok(text),
+            Ok(count) => text.extend_from_slice(&chunk[..count])?,
+            Err(error) if error.kind() == ErrorKind::Interrupted => {}
+            Err(_) => return Err(StreamFault::Read),
+        }
+    }
+    Err(StreamFault::Read)
+}

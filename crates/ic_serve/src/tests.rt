@@ -1,0 +1,303 @@
+//! The worked rows of the streams and of the words, and readers and writers that fail.
+
+use crate::{StreamFault, Task, WordsFault, read_words, settle_stream};
+use ic_text::TextFault;
+use std::alloc::{AllocError, Global};
+use std::io::{self, ErrorKind, Read, Write};
+use std::test::Fail;
+
+/// Gives a text a few bytes at a time; each other read is interrupted, and one may fail.
+#[derive(Drop)]
+struct SlowReader<'a> {
+    text: &'a [u8],
+    step: usize,
+    is_interrupted: bool,
+    fails_at_end: bool,
+}
+
+impl<'a> SlowReader<'a> {
+    fn new(text: &'a [u8], step: usize) -> SlowReader<'a> {
+        SlowReader {
+            text,
+            step,
+            is_interrupted: false,
+            fails_at_end: false,
+        }
+    }
+}
+
+impl Read for SlowReader<'_> {
+    fn read(&mut self, buf: &mut [u8]) -> io::Result<usize> {
+        self.is_interrupted = !self.is_interrupted;
+        if self.is_interrupted {
+            return Err(io::Error::from(ErrorKind::Interrupted));
+        }
+        if self.fails_at_end && self.text.is_empty() {
+            return Err(io::Error::from(ErrorKind::Other));
+        }
+        let count = self.text.len().min(self.step).min(buf.len());
+        buf[..count].copy_from_slice(&self.text[..count]);
+        self.text = &self.text[count..];
+        Ok(count)
+    }
+}
+
+/// Takes a few bytes at a time, as long as it has room.
+#[derive(Drop)]
+struct SlowWriter {
+    bytes: Vec<u8>,
+    room: usize,
+    flushes: bool,
+}
+
+impl SlowWriter {
+    fn new(alloc: Global, room: usize, flushes: bool) -> SlowWriter {
+        SlowWriter {
+            bytes: Vec::new(alloc),
+            room,
+            flushes,
+        }
+    }
+}
+
+impl Write for SlowWriter {
+    fn write(&mut self, buf: &[u8]) -> io::Result<usize> {
+        if self.room == 0 {
+            return Err(io::Error::from(ErrorKind::BrokenPipe));
+        }
+        let count = self.room.min(buf.len()).min(3);
+        self.bytes.extend_from_slice(&buf[..count])?;
+        self.room -= count;
+        Ok(count)
+    }
+
+    fn flush(&mut self) -> io::Result<()> {
+        if self.flushes {
+            Ok(())
+        } else {
+            Err(io::Error::from(ErrorKind::Other))
+        }
+    }
+}
+
+/// What is written for a text.
+fn settled(alloc: Global, text: &[u8]) -> Result<Vec<u8>, StreamFault> {
+    let mut input = text;
+    let mut output = Vec::new(alloc);
+    settle_stream(alloc, &mut input, &mut output)?;
+    Ok(output)
+}
+
+/// Why a text is refused.
+fn refusal(alloc: Global, text: &[u8]) -> Option<StreamFault> {
+    settled(alloc, text).err()
+}
+
+fn words(alloc: Global, texts: &[&str]) -> Result<Vec<String>, AllocError> {
+    let mut words = Vec::new(alloc);
+    for text in texts {
+        words.push(String::from_str(alloc, text)?)?;
+    }
+    Ok(words)
+}
+
+/// A text of blanks, behind a configuration.
+fn padded(alloc: Global, length: usize) -> Result<Vec<u8>, AllocError> {
+    let mut text = b"<|>".to_vec(alloc)?;
+    for _ in 3..length {
+        text.push(b' ')?;
+    }
+    Ok(text)
+}
+
+#[test]
+fn settle_chain(rt: HostRuntime) -> Result<(), Fail> {
+    let line = settled(rt.alloc(), b"<r|r=S(s),s=Z>")?;
+    assert_eq!(rt; line.as_slice(), b"<S(Z)|>\n".as_slice());
+    Ok(())
+}
+
+#[test]
+fn settle_blank(rt: HostRuntime) -> Result<(), Fail> {
+    let line = settled(rt.alloc(), b"<|>")?;
+    assert_eq!(rt; line.as_slice(), b"<|>\n".as_slice());
+    let line = settled(rt.alloc(), b" < | > ")?;
+    assert_eq!(rt; line.as_slice(), b"<|>\n".as_slice());
+    assert_eq!(rt;
+        refusal(rt.alloc(), b""),
+        Some(StreamFault::Text(TextFault::Syntax))
+    );
+    Ok(())
+}
+
+#[test]
+fn settle_names(rt: HostRuntime) -> Result<(), Fail> {
+    let line = settled(rt.alloc(), b"<a|a=b,c=b>")?;
+    assert_eq!(rt; line.as_slice(), b"<c|>\n".as_slice());
+    let line = settled(rt.alloc(), b"<|x=y,x=y>")?;
+    assert_eq!(rt; line.as_slice(), b"<|y=y>\n".as_slice());
+    let line = settled(rt.alloc(), b"<|x=A,B(x)=C>")?;
+    assert_eq!(rt; line.as_slice(), b"<|B(A)=C>\n".as_slice());
+    Ok(())
+}
+
+#[test]
+fn self_equations(rt: HostRuntime) -> Result<(), Fail> {
+    let line = settled(rt.alloc(), b"<|x=x>")?;
+    assert_eq!(rt; line.as_slice(), b"<|x=x>\n".as_slice());
+    let line = settled(rt.alloc(), b"<|x=A(x)>")?;
+    assert_eq!(rt; line.as_slice(), b"<|x=A(x)>\n".as_slice());
+    let line = settled(rt.alloc(), b"<|x=A>")?;
+    assert_eq!(rt; line.as_slice(), b"<|x=A>\n".as_slice());
+    Ok(())
+}
+
+#[test]
+fn name_numbers(rt: HostRuntime) -> Result<(), Fail> {
+    assert_eq!(rt;
+        refusal(rt.alloc(), b"<x0|>"),
+        Some(StreamFault::Text(TextFault::Syntax))
+    );
+    let line = settled(rt.alloc(), b"<x1|>")?;
+    assert_eq!(rt; line.as_slice(), b"<x1|>\n".as_slice());
+    let line = settled(rt.alloc(), b"<v165191049|>")?;
+    assert_eq!(rt; line.as_slice(), b"<v165191049|>\n".as_slice());
+    assert_eq!(rt;
+        refusal(rt.alloc(), b"<w165191049|>"),
+        Some(StreamFault::Text(TextFault::Limit))
+    );
+    Ok(())
+}
+
+/// `<x1|x1=S(x2),..,x2000=S(x2001),x2001=Z>` settles to a tower of 2,000 S over Z.
+#[test]
+fn long_chain(rt: HostRuntime) -> Result<(), Fail> {
+    let mut text = format!(in rt.alloc(); "<x1|")?;
+    let mut line = format!(in rt.alloc(); "<")?;
+    let mut end = format!(in rt.alloc(); "Z")?;
+    for i in 1..2_001u32 {
+        let next = i + 1;
+        text.push_str(format!(in rt.alloc(); "x{i}=S(x{next}),")?.as_str())?;
+        line.push_str("S(")?;
+        end.push_str(")")?;
+    }
+    text.push_str("x2001=Z>")?;
+    end.push_str("|>\n")?;
+    line.push_str(end.as_str())?;
+    let answer = settled(rt.alloc(), text.as_bytes())?;
+    assert_eq!(rt; answer.as_slice(), line.as_bytes());
+    Ok(())
+}
+
+#[test]
+fn longest_text(rt: HostRuntime) -> Result<(), Fail> {
+    let text = padded(rt.alloc(), 262_144)?;
+    let line = settled(rt.alloc(), &text)?;
+    assert_eq!(rt; line.as_slice(), b"<|>\n".as_slice());
+    let text = padded(rt.alloc(), 262_145)?;
+    assert_eq!(rt;
+        refusal(rt.alloc(), &text),
+        Some(StreamFault::Text(TextFault::Limit))
+    );
+    Ok(())
+}
+
+#[test]
+fn reads_no_further(rt: HostRuntime) -> Result<(), Fail> {
+    let text = padded(rt.alloc(), 300_000)?;
+    let mut input = text.as_slice();
+    let mut output = Vec::new(rt.alloc());
+    let fault = settle_stream(rt.alloc(), &mut input, &mut output).err();
+    assert_eq!(rt; fault, Some(StreamFault::Text(TextFault::Limit)));
+    assert_eq!(rt; input.len(), 300_000 - 262_145);
+    assert_eq!(rt; output.len(), 0);
+    Ok(())
+}
+
+#[test]
+fn slow_streams(rt: HostRuntime) -> Result<(), Fail> {
+    let mut reader = SlowReader::new(b"<r|r=S(s),s=Z>", 2);
+    let mut writer = SlowWriter::new(rt.alloc(), 100, true);
+    settle_stream(rt.alloc(), &mut reader, &mut writer)?;
+    assert_eq!(rt; writer.bytes.as_slice(), b"<S(Z)|>\n".as_slice());
+    Ok(())
+}
+
+#[test]
+fn failing_reader(rt: HostRuntime) {
+    let mut reader = SlowReader::new(b"<r|r=S(s),s=Z>", 4);
+    reader.fails_at_end = true;
+    let mut writer = SlowWriter::new(rt.alloc(), 100, true);
+    let fault = settle_stream(rt.alloc(), &mut reader, &mut writer).err();
+    assert_eq!(rt; fault, Some(StreamFault::Read));
+    assert_eq!(rt; writer.bytes.len(), 0);
+}
+
+#[test]
+fn failing_writer(rt: HostRuntime) {
+    let mut reader = SlowReader::new(b"<r|r=S(s),s=Z>", 100);
+    let mut writer = SlowWriter::new(rt.alloc(), 5, true);
+    let fault = settle_stream(rt.alloc(), &mut reader, &mut writer).err();
+    assert_eq!(rt; fault, Some(StreamFault::Write));
+    assert_eq!(rt; writer.bytes.as_slice(), b"<S(Z)".as_slice());
+}
+
+#[test]
+fn failing_flush(rt: HostRuntime) {
+    let mut reader = SlowReader::new(b"<|>", 100);
+    let mut writer = SlowWriter::new(rt.alloc(), 100, false);
+    let fault = settle_stream(rt.alloc(), &mut reader, &mut writer).err();
+    assert_eq!(rt; fault, Some(StreamFault::Write));
+}
+
+#[test]
+fn fault_lines(rt: HostRuntime) -> Result<(), Fail> {
+    let fault = StreamFault::Text(TextFault::Name(49));
+    assert_eq!(rt;
+        fault.line(rt.alloc())?.as_slice(),
+        b"icserve: bad name x1\n".as_slice()
+    );
+    assert_eq!(rt; fault.status(), 1);
+    assert_eq!(rt;
+        StreamFault::Read.line(rt.alloc())?.as_slice(),
+        b"icserve: read\n".as_slice()
+    );
+    assert_eq!(rt; StreamFault::Read.status(), 4);
+    assert_eq!(rt;
+        StreamFault::Memory.line(rt.alloc())?.as_slice(),
+        b"icserve: memory\n".as_slice()
+    );
+    assert_eq!(rt;
+        StreamFault::Write.line(rt.alloc())?.as_slice(),
+        b"icserve: write\n".as_slice()
+    );
+    Ok(())
+}
+
+#[test]
+fn settle_word(rt: HostRuntime) -> Result<(), Fail> {
+    let words = words(rt.alloc(), &["settle"])?;
+    let task = read_words(rt.alloc(), &words);
+    assert!(rt; matches!(task, Ok(Task::Settle)));
+    Ok(())
+}
+
+#[test]
+fn refused_words(rt: HostRuntime) -> Result<(), Fail> {
+    let none = words(rt.alloc(), &[])?;
+    assert!(rt; matches!(read_words(rt.alloc(), &none), Err(WordsFault::Words(_))));
+    let unknown = words(rt.alloc(), &["unsettle"])?;
+    assert!(rt; matches!(read_words(rt.alloc(), &unknown), Err(WordsFault::Words(_))));
+    let extra = words(rt.alloc(), &["settle", "twice"])?;
+    assert!(rt; matches!(read_words(rt.alloc(), &extra), Err(WordsFault::Words(_))));
+    Ok(())
+}
+
+#[test]
+fn help_words(rt: HostRuntime) -> Result<(), Fail> {
+    let long = words(rt.alloc(), &["--help"])?;
+    assert!(rt; matches!(read_words(rt.alloc(), &long), Ok(Task::Help(_))));
+    let short = words(rt.alloc(), &["settle", "-h"])?;
+    assert!(rt; matches!(read_words(rt.alloc(), &short), Ok(Task::Help(_))));
+    Ok(())
+}

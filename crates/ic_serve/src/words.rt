@@ -1,0 +1,70 @@
+//! The words after the program's name.
+
+ghost use Rattle.std.specs.Prelude.{◌≡◌, map, IfOk, codes, [], ◌∷◌, string_bytes};
+ghost use Rattle.clap.specs.Words.{app_of, fault_of};
+ghost use Rattle.ic_serve.specs.Words.{Answers, AnswersUnless, Names, command_line};
+
+use clap::Command;
+use clap::error::ErrorKind;
+use std::alloc::{AllocError, AllocFailed, Global};
+
+/// What the words after the program's name ask for.
+#[derive(Debug, Drop)]
+pub enum Task {
+    /// Settle the configuration on standard input.
+    Settle,
+    /// Show this help.
+    Help(String),
+}
+
+/// Why the words ask for nothing.
+#[derive(Debug, Drop)]
+pub enum WordsFault {
+    /// 1: the words are refused: what is wrong with them, and the usage.
+    Words(String),
+    /// 2: a growth was refused.
+    Memory,
+}
+
+impl From<AllocError> for WordsFault {
+    ghost use Rattle.ic_serve.specs.declared.words.WordsFault.TheVariants.{Memory};
+
+    ghost from_gives = { λ _ e. e ≡ Memory };
+
+    fn from(_error: AllocError) -> WordsFault {
+        WordsFault::Memory
+    }
+}
+
+/// Reads the words after the program's name. Help is asked for by `--help` or `-h`, after the command too.
+pub fn read_words(alloc: Global, words: &[String]) -> Result<Task, WordsFault>
+    ensures answers { Answers (fault_of command_line (map string_bytes words.now)) result }
+    ensures named { IfOk result (Names (map string_bytes words.now)) }
+    ensures settle { map string_bytes words.now ≡ codes "settle" ∷ [] → AnswersUnless Task.Settle result }
+{
+    let error = match command(alloc)?.try_get_matches_from(words) {
+        Ok(_) => return Ok(Task::Settle),
+        Err(error) => error,
+    };
+    match error.kind() {
+        ErrorKind::OutOfMemory => Err(WordsFault::Memory),
+        ErrorKind::DisplayHelp => Ok(Task::Help(error.to_string(alloc)?)),
+        _ => Err(WordsFault::Words(error.to_string(alloc)?)),
+    }
+}
+
+/// The program's command line.
+fn command<'a>(alloc: Global) -> Result<Command<'a>, AllocError>
+    ensures { IfOk result (λ command. app_of command ≡ command_line) }
+{
+    let settle = Command::new(alloc, "settle").about(
+        "Settles the configuration on standard input and prints it",
+    );
+    Command::new(alloc, "icserve")
+        .bin_name("icserve")?
+        .about("A job server for the interaction calculus")
+        .no_binary_name(true)
+        .disable_help_subcommand(true)
+        .subcommand_required(true)
+        .subcommand(settle)
+}

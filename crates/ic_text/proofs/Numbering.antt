@@ -1,0 +1,208 @@
+-- Numbering words one by one, in the order of the text, gives the table of all of them.
+use Rattle.std.proofs.Common.{◌≡◌, ℕ, ◌+◌, ◌<◌, ◌≤◌, Bool, true, false, not, ◌&&◌, cond, eqb, List, [], ◌∷◌, ◌++◌, Option, None, Some, Result, Ok, Err, map, length, refl, sym, ap, ◌∙◌, arith, append_assoc, append-nil, length-append}
+use Rattle.std.specs.Prelude.{nat_le, nat_lt}
+use Rattle.std.specs.List.{list_all, slice_get}
+use Rattle.std.proofs.lemmas.Bool.{le-leb, ltb-true, ltb-false}
+use Rattle.std.proofs.lemmas.Bool.Decides.{nat_tests}
+use Rattle.ic_term.specs.Symbol.{Symbol, number_of_text, fits_limits, has_arity}
+use Rattle.ic_term.specs.declared.symbols.SymbolFault.{SymbolFault}
+use Rattle.ic_term.specs.declared.symbols.SymbolFault.TheVariants.{Limit as OverLimit, Arity as OtherArity, Memory as NoMemory}
+use Rattle.ic_term.specs.declared.limits.TheConstants.{MAX_SYMBOLS}
+use Rattle.ic_text.specs.declared.limits.TheConstants.{MAX_NAME}
+use Rattle.ic_text.specs.declared.number.Item.{Item}
+use Rattle.ic_text.specs.declared.number.Item.TheVariants.{Name, Symbol as Agent}
+use Rattle.ic_text.specs.declared.fault.TextFault.{TextFault}
+use Rattle.ic_text.specs.declared.fault.TextFault.TheVariants.{Limit, Arity, Memory}
+use Rattle.ic_text.specs.Name.{is_name, name_number}
+use Rattle.ic_text.specs.Numbered.{item_found, table_with, table_over, is_word_in_limits, is_word_over, item_in, unless_refused, numbered_words}
+use Rattle.ic_text.proofs.TableLemmas.{slice_get-append, slice_get-next, number_of_text-append, number_of_text-next, number_of_text-lt}
+
+abbrev Numbering : Type 0
+Numbering = Result (List Symbol × List Item) TextFault
+
+-- goes on with an item, or with a clash noted, or refuses
+abbrev go_on : Result Item SymbolFault → (Item → Numbering) → Numbering → Numbering
+go_on (Ok item) next clashed = next item
+go_on (Err OverLimit) next clashed = Err Limit
+go_on (Err (OtherArity n)) next clashed = clashed
+go_on (Err NoMemory) next clashed = Err Memory
+
+abbrev finish : List Symbol → Bool → List Item → Numbering
+finish table true items = Err Arity
+finish table false items = Ok (table, items)
+
+-- numbering word by word, which goes on behind a clash to find a limit
+abbrev pub go : List Symbol → Bool → List Item → List Symbol → Numbering
+go table clash items [] = finish table clash items
+go table clash items (w ∷ ws) = go_on (item_found table w) (λ item. go (table_with table w) clash (items ++ item ∷ []) ws) (go table true items ws)
+
+-- the answer over all words
+abbrev answer : List Symbol → Bool → List Item → List Symbol → Numbering
+answer table clash items ws =
+    unless_refused (list_all is_word_in_limits ws && nat_le (length (table_over table ws)) MAX_SYMBOLS)
+    (not clash && list_all (is_word_over (table_over table ws)) ws)
+    (table_over table ws, items ++ map (item_in (table_over table ws)) ws)
+
+-- a table only grows at its end
+with_word : (table : List Symbol) (w : Symbol) → (more : List Symbol) × (table_with table w ≡ table ++ more)
+with_word table w = by_name (is_name w.text) (number_of_text table w.text) refl refl
+  where
+    by_name : (b : Bool) (o : Option ℕ) → is_name w.text ≡ b → number_of_text table w.text ≡ o → (more : List Symbol) × (table_with table w ≡ table ++ more)
+    by_name true o named found = ([], rw named (sym (append-nil table)))
+    by_name false None named found = (w ∷ [], rw (named, found) refl)
+    by_name false (Some n) named found = ([], rw (named, found) (sym (append-nil table)))
+
+pub table_over-grows : (ws table : List Symbol) → (more : List Symbol) × (table_over table ws ≡ table ++ more)
+table_over-grows [] table = ([], sym (append-nil table))
+table_over-grows (w ∷ ws) table =
+    let first = with_word table w in
+    let rest = table_over-grows ws (table_with table w) in
+    (first.0 ++ rest.0, rest.1 ∙ ap (λ t. t ++ rest.0) first.1 ∙ append_assoc table first.0 rest.0)
+
+-- what one word does, and the other words behind it
+data Outcome (table : List Symbol) (w : Symbol) (ws : List Symbol) : Type 0 where
+  kept : (item : Item) → item_found table w ≡ Ok item → is_word_in_limits w ≡ true → is_word_over (table_over (table_with table w) ws) w ≡ true
+      → item_in (table_over (table_with table w) ws) w ≡ item → length (table_with table w) ≤ MAX_SYMBOLS → Outcome table w ws
+  limited : item_found table w ≡ Err OverLimit → ((is_word_in_limits w && list_all is_word_in_limits ws) && nat_le (length (table_over (table_with table w) ws)) MAX_SYMBOLS) ≡ false → Outcome table w ws
+  clashed : (n : ℕ) → item_found table w ≡ Err (OtherArity n) → is_word_in_limits w ≡ true → is_word_over (table_over (table_with table w) ws) w ≡ false
+      → table_with table w ≡ table → Outcome table w ws
+
+and_right : (a b : Bool) → b ≡ false → (a && b) ≡ false
+and_right true b e = e
+and_right false b e = refl
+
+too_many : (n : ℕ) → MAX_SYMBOLS < n → nat_le n MAX_SYMBOLS ≡ false
+too_many n above = grind (arith, nat_tests)
+
+name_outcome : (table : List Symbol) (w : Symbol) (ws : List Symbol) → length table ≤ MAX_SYMBOLS → is_name w.text ≡ true → Outcome table w ws
+name_outcome table w ws fits named = by_limit (nat_le (name_number w.text) MAX_NAME) refl
+  where
+    by_limit : (b : Bool) → nat_le (name_number w.text) MAX_NAME ≡ b → Outcome table w ws
+    by_limit true low = kept (Name (name_number w.text)) (rw (named, low) refl) (rw named low) (rw named refl) (rw named refl) (rw named fits)
+    by_limit false low = limited (rw (named, low) refl) (rw (named, low) refl)
+
+-- a symbol that stands in the whole table
+over_at : (table : List Symbol) (w : Symbol) (n : ℕ) (b : Bool) → is_name w.text ≡ false → number_of_text table w.text ≡ Some n
+    → has_arity w.arity (slice_get table n) ≡ b → is_word_over table w ≡ b
+over_at table w n b named found e = rw (named, found) e
+
+item_at : (table : List Symbol) (w : Symbol) (n : ℕ) → is_name w.text ≡ false → number_of_text table w.text ≡ Some n → item_in table w ≡ Agent n w.arity
+item_at table w n named found = rw (named, found) refl
+
+same_arity : (n : ℕ) → eqb n n ≡ true
+same_arity n = grind (arith, nat_tests)
+
+module _ (table : List Symbol) (w : Symbol) (ws : List Symbol) (fits : length table ≤ MAX_SYMBOLS) (named : is_name w.text ≡ false) (low : fits_limits w.text w.arity ≡ true) where
+  -- a symbol that isn't in the table yet
+  new_outcome : number_of_text table w.text ≡ None → Outcome table w ws
+  new_outcome found = by_room (nat_lt (length table) MAX_SYMBOLS) refl
+    where
+      grown : table_with table w ≡ table ++ w ∷ []
+      grown = rw (named, found) refl
+
+      whole : (more : List Symbol) × (table_over (table_with table w) ws ≡ table ++ w ∷ more)
+      whole =
+          let g = table_over-grows ws (table_with table w) in
+          (g.0, g.1 ∙ ap (λ t. t ++ g.0) grown ∙ append_assoc table (w ∷ []) g.0)
+
+      length_grown : length (table_with table w) ≡ length table + 1
+      length_grown = ap length grown ∙ length-append table (w ∷ [])
+
+      by_room : (b : Bool) → nat_lt (length table) MAX_SYMBOLS ≡ b → Outcome table w ws
+      by_room true room =
+          let number : number_of_text (table_over (table_with table w) ws) w.text ≡ Some (length table) = ap (λ t. number_of_text t w.text) whole.1 ∙ number_of_text-next table whole.0 w.text w.arity found in
+          let symbol : slice_get (table_over (table_with table w) ws) (length table) ≡ Some w = ap (λ t. slice_get t (length table)) whole.1 ∙ slice_get-next table w whole.0 in
+          kept (Agent (length table) w.arity) (rw (named, low, found, room) refl) (rw named low)
+          (over_at _ w (length table) true named number (ap (has_arity w.arity) symbol ∙ same_arity w.arity))
+          (item_at _ w (length table) named number)
+          (omega (arith, length_grown, ltb-true _ _ room))
+      by_room false room =
+          let long : MAX_SYMBOLS < length (table_over (table_with table w) ws) = omega (arith, ap length whole.1, length-append table (w ∷ whole.0), ltb-false _ _ room) in
+          limited (rw (named, low, found, room) refl) (and_right _ _ (too_many _ long))
+
+  -- a symbol that is in the table
+  known_outcome : (n : ℕ) → number_of_text table w.text ≡ Some n → Outcome table w ws
+  known_outcome n found = by_arity (has_arity w.arity (slice_get table n)) refl
+    where
+      kept_table : table_with table w ≡ table
+      kept_table = rw (named, found) refl
+
+      whole : (more : List Symbol) × (table_over (table_with table w) ws ≡ table ++ more)
+      whole = let g = table_over-grows ws (table_with table w) in (g.0, g.1 ∙ ap (λ t. t ++ g.0) kept_table)
+
+      number : number_of_text (table_over (table_with table w) ws) w.text ≡ Some n
+      number = ap (λ t. number_of_text t w.text) whole.1 ∙ number_of_text-append table whole.0 w.text n found
+
+      symbol : has_arity w.arity (slice_get (table_over (table_with table w) ws) n) ≡ has_arity w.arity (slice_get table n)
+      symbol = ap (λ t. has_arity w.arity (slice_get t n)) whole.1 ∙ ap (has_arity w.arity) (slice_get-append table whole.0 n (number_of_text-lt table w.text n found))
+
+      by_arity : (b : Bool) → has_arity w.arity (slice_get table n) ≡ b → Outcome table w ws
+      by_arity true same =
+          kept (Agent n w.arity) (rw (named, low, found, same) refl) (rw named low) (over_at _ w n true named number (symbol ∙ same)) (item_at _ w n named number) (rw kept_table fits)
+      by_arity false other =
+          clashed n (rw (named, low, found, other) refl) (rw named low) (over_at _ w n false named number (symbol ∙ other)) kept_table
+
+symbol_outcome : (table : List Symbol) (w : Symbol) (ws : List Symbol) → length table ≤ MAX_SYMBOLS → is_name w.text ≡ false → Outcome table w ws
+symbol_outcome table w ws fits named = by_limits (fits_limits w.text w.arity) (number_of_text table w.text) refl refl
+  where
+    by_limits : (b : Bool) (o : Option ℕ) → fits_limits w.text w.arity ≡ b → number_of_text table w.text ≡ o → Outcome table w ws
+    by_limits true None low found = new_outcome table w ws fits named low found
+    by_limits true (Some n) low found = known_outcome table w ws fits named low n found
+    by_limits false o low found = limited (rw (named, low) refl) (rw (named, low) refl)
+
+outcome : (table : List Symbol) (w : Symbol) (ws : List Symbol) → length table ≤ MAX_SYMBOLS → Outcome table w ws
+outcome table w ws fits = by_name (is_name w.text) refl
+  where
+    by_name : (b : Bool) → is_name w.text ≡ b → Outcome table w ws
+    by_name true named = name_outcome table w ws fits named
+    by_name false named = symbol_outcome table w ws fits named
+
+-- the answer goes on behind a word
+answer_kept : (a A1 B o C c : Bool) (t : List Symbol) (items : List Item) (i item : Item) (rest : List Item) → a ≡ true → o ≡ true → i ≡ item
+    → unless_refused {A = List Symbol × List Item} (A1 && B) (c && C) (t, (items ++ item ∷ []) ++ rest) ≡ unless_refused ((a && A1) && B) (c && (o && C)) (t, items ++ i ∷ rest)
+answer_kept a A1 B o C c t items i item rest is over same = rw (is, over, same, append_assoc items (item ∷ []) rest) refl
+
+-- a refusal has no value
+refusal : Bool → Numbering
+refusal in_limits = cond in_limits (Err Arity) (Err Limit)
+
+refused_before : (in_limits C : Bool) (v : List Symbol × List Item) → unless_refused in_limits (not true && C) v ≡ refusal in_limits
+unfolding refusal
+refused_before true C v = refl
+refused_before false C v = refl
+
+refused_here : (a A1 B o C c : Bool) (v : List Symbol × List Item) → a ≡ true → o ≡ false → unless_refused ((a && A1) && B) (c && (o && C)) v ≡ refusal (A1 && B)
+unfolding refusal
+refused_here a A1 B o C c v is over = rw (is, over) (by_cases c (A1 && B))
+  where
+    by_cases : (c d : Bool) → unless_refused {A = List Symbol × List Item} d (c && false) v ≡ cond d (Err Arity) (Err Limit)
+    by_cases true true = refl
+    by_cases true false = refl
+    by_cases false true = refl
+    by_cases false false = refl
+
+pub go-is : (ws table : List Symbol) (clash : Bool) (items : List Item) → length table ≤ MAX_SYMBOLS → go table clash items ws ≡ answer table clash items ws
+go-is [] table clash items fits = by_clash clash
+  where
+    by_clash : (c : Bool) → finish table c items ≡ unless_refused {A = List Symbol × List Item} (nat_le (length table) MAX_SYMBOLS) (not c && true) (table, items ++ [])
+    by_clash true = rw (le-leb (length table) MAX_SYMBOLS fits) refl
+    by_clash false = rw (le-leb (length table) MAX_SYMBOLS fits, append-nil) refl
+go-is (w ∷ ws) table clash items fits = by_outcome (outcome table w ws fits) (go-is ws)
+  where
+    by_outcome : Outcome table w ws → ((t : List Symbol) (c : Bool) (is : List Item) → length t ≤ MAX_SYMBOLS → go t c is ws ≡ answer t c is ws) → go table clash items (w ∷ ws) ≡ answer table clash items (w ∷ ws)
+    by_outcome (kept item found is over same long) next =
+        ap (λ r. go_on r (λ i. go (table_with table w) clash (items ++ i ∷ []) ws) (go table true items ws)) found
+        ∙ next (table_with table w) clash (items ++ item ∷ []) long
+        ∙ answer_kept _ _ _ _ _ _ _ items _ item _ is over same
+    by_outcome (limited found beyond) next =
+        ap (λ r. go_on r (λ i. go (table_with table w) clash (items ++ i ∷ []) ws) (go table true items ws)) found ∙ rw beyond refl
+    by_outcome (clashed n found is over same) next =
+        ap (λ r. go_on r (λ i. go (table_with table w) clash (items ++ i ∷ []) ws) (go table true items ws)) found
+        ∙ next table true items fits
+        ∙ refused_before (list_all is_word_in_limits ws && nat_le (length (table_over table ws)) MAX_SYMBOLS) (list_all (is_word_over (table_over table ws)) ws) (table_over table ws, items ++ map (item_in (table_over table ws)) ws)
+        ∙ ap (λ t. refusal (list_all is_word_in_limits ws && nat_le (length (table_over t ws)) MAX_SYMBOLS)) (sym same)
+        ∙ sym (refused_here (is_word_in_limits w) (list_all is_word_in_limits ws) (nat_le (length (table_over (table_with table w) ws)) MAX_SYMBOLS) (is_word_over (table_over (table_with table w) ws) w) (list_all (is_word_over (table_over (table_with table w) ws)) ws) (not clash) (table_over (table_with table w) ws, items ++ map (item_in (table_over (table_with table w) ws)) (w ∷ ws)) is over)
+
+-- so all words are numbered as defined
+pub go-numbered_words : (ws : List Symbol) → go [] false [] ws ≡ numbered_words ws
+go-numbered_words ws = go-is ws [] false [] (omega arith)

@@ -1,0 +1,178 @@
+-- Numbering the words of a configuration and building its terms gives its sense.
+use Rattle.std.proofs.Common.{◌≡◌, ℕ, ◌+◌, ◌≤◌, ◌^◌, Bool, true, false, ◌&&◌, cond, List, [], ◌∷◌, ◌++◌, Option, None, Some, Result, Ok, Err, length, map, refl, sym, ap, ◌∙◌, arith}
+use Rattle.std.specs.Prelude.{nat_le, nat_lt, sum_by}
+use Rattle.std.specs.List.{flat_map, list_all}
+use Rattle.std.proofs.lemmas.List.{length-map}
+use Rattle.std.proofs.lemmas.List.Sums.{sum_by-cons}
+use Rattle.std.proofs.lemmas.Bool.{false≢true, and_parts, le-leb, leb-true, lt-ltb}
+use Rattle.ic_term.specs.Symbol.{Symbol, fits_limits}
+use Rattle.ic_term.specs.Tree.{names, names_of, nodes, nodes_of, pair_names, pair_nodes}
+use Rattle.ic_term.specs.Configuration.{Configuration, configuration_names, configuration_nodes, one_above, third_occurrence, is_within, unless_third, restored}
+use Rattle.ic_term.specs.declared.config.ConfigFault.TheVariants.{Limit as TooMuch}
+use Rattle.ic_term.specs.declared.limits.TheConstants.{MAX_NODES, MAX_INTERFACE, MAX_SYMBOLS, MAX_NEXT}
+use Rattle.ic_text.specs.declared.number.Item.{Item}
+use Rattle.ic_text.specs.declared.limits.TheConstants.{MAX_NAME}
+use Rattle.ic_text.specs.declared.fault.TextFault.{TextFault}
+use Rattle.ic_text.specs.declared.fault.TextFault.TheVariants.{Syntax, Limit, Arity, NameCount, Name, Twice, Lopsided, Memory}
+use Rattle.ic_text.specs.Source.{Source, leaf, node, Sources, no_sources, more_sources, Sides, Phrase, IsPhrase, source_names, names_of_sources, source_nodes, nodes_of_sources, phrase_names, phrase_symbols, phrase_nodes}
+use Rattle.ic_text.specs.Sense.{symbols_after, symbol_table, has_its_arity, numbered_tree, numbered_trees, numbered_pair, numbered_phrase, unless_third_name, sense}
+use Rattle.ic_text.specs.declared.prefix.Node.{Node}
+use Rattle.ic_text.specs.Prefix.{phrase_prefix, node_of, nodes_of as words_of}
+use Rattle.ic_text.specs.Numbered.{table_over, is_word_in_limits, is_word_over, item_in, unless_refused, numbered_words, as_text_answer, Refuses}
+use Rattle.ic_text.specs.Built.{built_before, parted}
+use Rattle.ic_text.proofs.PrefixWords.{symbols_among-phrase, names_among-phrase, limits-words, table-words, arities-words, length-phrase_prefix}
+use Rattle.ic_text.proofs.BuiltTrees.{parted-built}
+
+flat_map-map : {A B C : Type 0} (f : B → List C) (g : A → B) (xs : List A) → flat_map f (map g xs) ≡ flat_map (λ x. f (g x)) xs
+flat_map-map f g [] = refl
+flat_map-map f g (x ∷ xs) = ap (λ l. f (g x) ++ l) (flat_map-map f g xs)
+
+sum_by-map : {A B : Type 0} (f : B → ℕ) (g : A → B) (xs : List A) → sum_by f (map g xs) ≡ sum_by (λ x. f (g x)) xs
+sum_by-map f g [] = refl
+sum_by-map f g (x ∷ xs) = sum_by-cons f (g x) (map g xs) ∙ ap (λ n. f (g x) + n) (sum_by-map f g xs) ∙ sym (sum_by-cons (λ y. f (g y)) x xs)
+
+module _ (table : List Symbol) where
+  mutual
+    names-numbered_tree : (t : Source) → names (numbered_tree table t) ≡ source_names t
+    names-numbered_tree (leaf n) = refl
+    names-numbered_tree (node text ts) = names-numbered_trees ts
+
+    names-numbered_trees : (ts : Sources) → names_of (numbered_trees table ts) ≡ names_of_sources ts
+    names-numbered_trees no_sources = refl
+    names-numbered_trees (more_sources t ts) = λ i. names-numbered_tree t i ++ names-numbered_trees ts i
+
+  mutual
+    nodes-numbered_tree : (t : Source) → nodes (numbered_tree table t) ≡ source_nodes t
+    nodes-numbered_tree (leaf n) = refl
+    nodes-numbered_tree (node text ts) = ap (λ n. 1 + n) (nodes-numbered_trees ts)
+
+    nodes-numbered_trees : (ts : Sources) → nodes_of (numbered_trees table ts) ≡ nodes_of_sources ts
+    nodes-numbered_trees no_sources = refl
+    nodes-numbered_trees (more_sources t ts) = λ i. nodes-numbered_tree t i + nodes-numbered_trees ts i
+
+  -- a configuration has the names and the nodes that are written
+  names-numbered_phrase : (p : Phrase) → configuration_names (numbered_phrase table p) ≡ phrase_names p
+  names-numbered_phrase p =
+      let first = flat_map-map names (numbered_tree table) p.interface ∙ (λ i. flat_map (λ t. names-numbered_tree t i) p.interface) in
+      let second = flat_map-map pair_names (numbered_pair table) p.equations ∙ (λ i. flat_map (λ (e : Sides). names-numbered_tree e.left i ++ names-numbered_tree e.right i) p.equations) in
+      λ i. first i ++ second i
+
+  nodes-numbered_phrase : (p : Phrase) → configuration_nodes (numbered_phrase table p) ≡ phrase_nodes p
+  nodes-numbered_phrase p =
+      let first = sum_by-map nodes (numbered_tree table) p.interface ∙ (λ i. sum_by (λ t. nodes-numbered_tree t i) p.interface) in
+      let second = sum_by-map pair_nodes (numbered_pair table) p.equations ∙ (λ i. sum_by (λ (e : Sides). nodes-numbered_tree e.left i + nodes-numbered_tree e.right i) p.equations) in
+      λ i. first i + second i
+
+-- each name is below a number from `one_above` on
+below_above : (ns : List ℕ) (k : ℕ) → one_above ns ≤ k → list_all (λ n. nat_lt n k) ns ≡ true
+below_above [] k le = refl
+below_above (n ∷ ns) k le = rw (lt-ltb n k (omega arith)) (below_above ns k (omega arith))
+
+one_above_low : (ns : List ℕ) → list_all (λ n. nat_le n MAX_NAME) ns ≡ true → one_above ns ≤ 2 ^ 32
+one_above_low [] low = omega arith
+one_above_low (n ∷ ns) low =
+    let parts = and_parts (nat_le n MAX_NAME) _ low in
+    omega (arith, leb-true n MAX_NAME parts.0, one_above_low ns parts.1)
+
+and4 : (a b c d : Bool) → a ≡ true → b ≡ true → c ≡ true → d ≡ true → (a && b && c && d) ≡ true
+and4 a b c d x y z w = rw (x, y, z, w) refl
+
+-- within the limits of a text, only a third occurrence refuses a configuration
+restored-numbered : (table : List Symbol) (p : Phrase) → nat_le (phrase_nodes p) MAX_NODES ≡ true → nat_le (length p.interface) MAX_INTERFACE ≡ true → list_all (λ n. nat_le n MAX_NAME) (phrase_names p) ≡ true
+    → restored (numbered_phrase table p) ≡ unless_third (numbered_phrase table p) (third_occurrence (phrase_names p))
+restored-numbered table p few short low =
+    let c = numbered_phrase table p in
+    let names_are : configuration_names c ≡ phrase_names p = names-numbered_phrase table p in
+    let low_names : list_all (λ n. nat_le n MAX_NAME) (configuration_names c) ≡ true = ap (list_all (λ n. nat_le n MAX_NAME)) names_are ∙ low in
+    let nodes_fit : nat_le (configuration_nodes c) MAX_NODES ≡ true = ap (λ n. nat_le n MAX_NODES) (nodes-numbered_phrase table p) ∙ few in
+    let terms_fit : nat_le (length c.interface) MAX_INTERFACE ≡ true = ap (λ n. nat_le n MAX_INTERFACE) (length-map p.interface (numbered_tree table)) ∙ short in
+    let next_fits : nat_le c.next MAX_NEXT ≡ true = le-leb c.next MAX_NEXT (omega (arith, one_above_low (configuration_names c) low_names)) in
+    let below : list_all (λ n. nat_lt n c.next) (configuration_names c) ≡ true = below_above (configuration_names c) c.next (omega arith) in
+    let within : is_within c ≡ true = and4 _ _ _ _ nodes_fit terms_fit next_fits below in
+    ap (λ b. cond b (unless_third c (third_occurrence (configuration_names c))) (Err TooMuch)) within ∙ ap (λ ns. unless_third c (third_occurrence ns)) names_are
+
+-- a configuration beside its table
+abbrev pub beside_table : List Symbol → Result Configuration TextFault → Result (List Symbol × Configuration) TextFault
+beside_table table (Ok c) = Ok (table, c)
+beside_table table (Err e) = Err e
+
+-- numbered words as a configuration with so many terms in its interface
+abbrev pub finished : ℕ → Result (List Symbol × List Item) TextFault → Result (List Symbol × Configuration) TextFault
+finished terms (Ok v) = beside_table v.0 (as_text_answer (restored (parted terms (built_before v.1 []))))
+finished terms (Err e) = Err e
+
+third_beside : (table : List Symbol) (c : Configuration) (o : Option ℕ) → unless_third_name (table, c) o ≡ beside_table table (as_text_answer (unless_third c o))
+third_beside table c None = refl
+third_beside table c (Some n) = refl
+
+module _ (p : Phrase) (is : IsPhrase p) where
+  abbrev table : List Symbol
+  table = symbol_table p
+
+  abbrev items : List Item
+  items = map (item_in table) (phrase_prefix p)
+
+  -- the limits of words and of their table
+  abbrev in_limits : Bool
+  in_limits = (list_all (λ s. fits_limits s.text s.arity) (phrase_symbols p) && list_all (λ n. nat_le n MAX_NAME) (phrase_names p)) && nat_le (length table) MAX_SYMBOLS
+
+  abbrev agree : Bool
+  agree = list_all (has_its_arity table) (phrase_symbols p)
+
+  abbrev value : Result (List Symbol × Configuration) TextFault
+  value = unless_third_name {A = List Symbol × Configuration} (table, numbered_phrase table p) (third_occurrence (phrase_names p))
+
+  numbered_words-phrase : numbered_words (phrase_prefix p) ≡ unless_refused {A = List Symbol × List Item} in_limits agree (table, items)
+  numbered_words-phrase =
+      let ws = phrase_prefix p in
+      let same_table : table_over [] ws ≡ table = table-words ws [] ∙ ap (symbols_after []) (symbols_among-phrase p is) in
+      let same_limits : list_all is_word_in_limits ws ≡ (list_all (λ s. fits_limits s.text s.arity) (phrase_symbols p) && list_all (λ n. nat_le n MAX_NAME) (phrase_names p)) =
+      limits-words ws ∙ (λ i. list_all (λ s. fits_limits s.text s.arity) (symbols_among-phrase p is i) && list_all (λ n. nat_le n MAX_NAME) (names_among-phrase p is i)) in
+      let same_arities : list_all (is_word_over table) ws ≡ agree = arities-words table ws ∙ ap (list_all (has_its_arity table)) (symbols_among-phrase p is) in
+      ap (λ t. unless_refused {A = List Symbol × List Item} (list_all is_word_in_limits ws && nat_le (length t) MAX_SYMBOLS) (list_all (is_word_over t) ws) (t, map (item_in t) ws)) same_table
+      ∙ (λ i. unless_refused {A = List Symbol × List Item} (same_limits i && nat_le (length table) MAX_SYMBOLS) (same_arities i) (table, items))
+
+  -- where neither nodes nor terms of the interface are too many, the sense is that of the words
+  pub sense-words : nat_le (phrase_nodes p) MAX_NODES ≡ true → nat_le (length p.interface) MAX_INTERFACE ≡ true → sense p ≡ finished (length p.interface) (numbered_words (phrase_prefix p))
+  sense-words few short = whole ∙ by_cases in_limits agree refl ∙ ap (finished (length p.interface)) (sym numbered_words-phrase)
+    where
+      whole : sense p ≡ cond in_limits (cond agree value (Err Arity)) (Err Limit)
+      whole = rw (few, short) (by_limits in_limits)
+        where
+          by_limits : (a : Bool) → cond ((a && true) && true) (cond agree value (Err Arity)) (Err Limit) ≡ cond a (cond agree value (Err Arity)) (Err Limit)
+          by_limits true = refl
+          by_limits false = refl
+
+      low : in_limits ≡ true → list_all (λ n. nat_le n MAX_NAME) (phrase_names p) ≡ true
+      low all = (and_parts (list_all (λ s. fits_limits s.text s.arity) (phrase_symbols p)) (list_all (λ n. nat_le n MAX_NAME) (phrase_names p)) (and_parts (list_all (λ s. fits_limits s.text s.arity) (phrase_symbols p) && list_all (λ n. nat_le n MAX_NAME) (phrase_names p)) (nat_le (length table) MAX_SYMBOLS) all).0).1
+
+      by_cases : (a o : Bool) → in_limits ≡ a → cond a (cond o value (Err Arity)) (Err Limit) ≡ finished (length p.interface) (unless_refused {A = List Symbol × List Item} a o (table, items))
+      by_cases true true all =
+          third_beside table (numbered_phrase table p) (third_occurrence (phrase_names p))
+          ∙ ap (λ r. beside_table table (as_text_answer r)) (sym (restored-numbered table p few short (low all)) ∙ ap restored (sym (parted-built table p is)))
+      by_cases true false all = refl
+      by_cases false o all = refl
+
+-- a configuration of too many nodes, or of too many terms in its interface, is beyond the limits
+pub sense-unfit : (p : Phrase) → (nat_le (phrase_nodes p) MAX_NODES && nat_le (length p.interface) MAX_INTERFACE) ≡ false → sense p ≡ Err Limit
+sense-unfit p = by_cases _ (nat_le (length p.interface) MAX_INTERFACE) (nat_le (phrase_nodes p) MAX_NODES) _
+  where
+    by_cases : (a i k : Bool) (v : Result (List Symbol × Configuration) TextFault) → (k && i) ≡ false → cond ((a && i) && k) v (Err Limit) ≡ Err Limit
+    by_cases true true true v unfit = absurd (false≢true (sym unfit))
+    by_cases true true false v unfit = refl
+    by_cases true false k v unfit = refl
+    by_cases false i k v unfit = refl
+
+-- a refusal stays where a function goes on with values alone
+pub Refuses-through : {A B : Type 0} (f : Result A TextFault → Result B TextFault) (stays : (e : TextFault) → f (Err e) ≡ Err e) (e : TextFault) (a : Result A TextFault) → Refuses e a → Refuses e (f a)
+Refuses-through f stays Syntax a is = sym (stays Syntax) ∙ ap f is
+Refuses-through f stays Limit a is = sym (stays Limit) ∙ ap f is
+Refuses-through f stays Arity a is = sym (stays Arity) ∙ ap f is
+Refuses-through f stays (NameCount i) a is = sym (stays (NameCount i)) ∙ ap f is
+Refuses-through f stays (Name n) a is = sym (stays (Name n)) ∙ ap f is
+Refuses-through f stays (Twice i) a is = sym (stays (Twice i)) ∙ ap f is
+Refuses-through f stays (Lopsided i) a is = sym (stays (Lopsided i)) ∙ ap f is
+Refuses-through f stays Memory a is = tt
+
+pub nodes_are : (ns : List Node) (p : Phrase) → words_of ns ≡ phrase_prefix p → length ns ≡ phrase_nodes p
+nodes_are ns p same = sym (length-map ns node_of) ∙ ap length same ∙ length-phrase_prefix p

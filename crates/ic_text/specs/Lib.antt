@@ -1,0 +1,11 @@
+pub mod Token
+pub mod Name
+pub mod Tokens
+pub mod Source
+pub mod Sense
+pub mod Text
+pub mod Syntax
+pub mod Prefix
+pub mod Numbered
+pub mod Terms
+pub mod Built

@@ -1,0 +1,43 @@
+//! Why a text is refused.
+
+ghost use Rattle.std.specs.Prelude.{◌≡◌};
+ghost use Rattle.ic_text.specs.declared.fault.TextFault.TheVariants.{Memory};
+
+use std::alloc::{AllocError, AllocFailed};
+
+/// Why a text is refused, in the order in which it is tried. An index counts the rules of the text from 0.
+#[derive(Clone, Copy, Debug, PartialEq, Eq)]
+pub enum TextFault {
+    /// The tokens are no phrase of the grammar.
+    Syntax,
+    /// A limit is passed.
+    Limit,
+    /// A symbol occurs with two arities.
+    Arity,
+    /// The first rule with a name that doesn't occur exactly twice in it.
+    NameCount(u32),
+    /// The first name of the configuration to occur a third time.
+    Name(u64),
+    /// The first rule whose unordered pair of symbols an earlier rule has.
+    Twice(u32),
+    /// The first rule of a symbol with itself that isn't its own swap.
+    Lopsided(u32),
+    /// A growth was refused.
+    Memory,
+}
+
+impl From<AllocError> for TextFault {
+    ghost from_gives = { λ _ e. e ≡ Memory };
+
+    fn from(_error: AllocError) -> TextFault {
+        TextFault::Memory
+    }
+}
+
+impl<T: Drop> From<AllocFailed<T>> for TextFault {
+    ghost from_gives = { λ _ e. e ≡ Memory };
+
+    fn from(_failed: AllocFailed<T>) -> TextFault {
+        TextFault::Memory
+    }
+}

@@ -1,0 +1,25 @@
+//! Reading and printing configurations of the interaction calculus.
+//!
+//! `read_config` answers what a text means, or the first refusal: its value is `sense` of the one source tree
+//! that the text spells. `print_config` writes the tokens of a configuration without blanks, and `print_fault`
+//! the line of a refusal. `laws` holds what is proved of the definitions alone.
+#![tactic(auto)]
+
+mod build;
+mod fault;
+pub mod laws;
+mod limits;
+mod name;
+mod number;
+mod prefix;
+mod print;
+mod read;
+mod syntax;
+#[cfg(test)]
+mod tests;
+mod token;
+
+pub use fault::TextFault;
+pub use limits::{MAX_NAME, MAX_TEXT};
+pub use print::{print_config, print_fault};
+pub use read::read_config;

@@ -1,0 +1,179 @@
+//! Printing a configuration, and the line of a refusal.
+
+ghost use Rattle.std.specs.Prelude.{◌≡◌, ◌+◌, ◌++◌, IfOk, OnOk, IsTrue, map};
+ghost use Rattle.std.specs.Fmt.{decimal};
+ghost use Rattle.std.specs.List.{list_all};
+ghost use Rattle.ic_term.specs.Symbol.{is_tree_over, is_pair_over, is_over};
+ghost use Rattle.ic_term.specs.Term.{tree, cell_tree, pair};
+ghost use Rattle.ic_text.specs.Name.{name_text};
+ghost use Rattle.ic_text.specs.Text.{term_text, terms_text, equation_text, equations_text};
+ghost use Rattle.ic_text.specs.Text.{printed, fault_text};
+
+use crate::fault::TextFault;
+use ic_term::{Cell, Config, Equation, Symbols, Term};
+use std::alloc::{AllocError, Global};
+
+/// Appends a number in digits.
+fn put_decimal(alloc: Global, out: &mut Vec<u8>, number: u64) -> Result<(), AllocError>
+    ensures { OnOk result (out.new.items ≡ out.old.items ++ decimal number) }
+{
+    let digits = number.to_string(alloc)?;
+    out.extend_from_slice(digits.as_bytes())?;
+    Ok(())
+}
+
+/// Appends the text of a name.
+fn put_name(alloc: Global, out: &mut Vec<u8>, name: u64) -> Result<(), AllocError>
+    ensures { OnOk result (out.new.items ≡ out.old.items ++ name_text name) }
+{
+    out.push(b'a' + (name % 26) as u8)?;
+    if name >= 26 {
+        put_decimal(alloc, out, name / 26)?;
+    }
+    Ok(())
+}
+
+/// Appends a term.
+#[cycle(put)]
+fn put_term(
+    alloc: Global,
+    symbols: &Symbols,
+    term: &Term,
+    out: &mut Vec<u8>,
+) -> Result<(), AllocError>
+    requires { IsTrue (is_tree_over symbols.now (tree term.now)) }
+    ensures { OnOk result (out.new.items ≡ out.old.items ++ term_text symbols.now (tree term.now)) }
+{
+    match term {
+        Term::Name(name) => put_name(alloc, out, *name),
+        Term::Agent(cell) => put_cell(alloc, symbols, cell, out),
+    }
+}
+
+/// Appends an agent.
+#[cycle(put)]
+fn put_cell(
+    alloc: Global,
+    symbols: &Symbols,
+    cell: &Cell,
+    out: &mut Vec<u8>,
+) -> Result<(), AllocError>
+    requires { IsTrue (is_tree_over symbols.now (cell_tree cell.now)) }
+    ensures { OnOk result (out.new.items ≡ out.old.items ++ term_text symbols.now (cell_tree cell.now)) }
+{
+    out.extend_from_slice(symbols.text(cell.sym))?;
+    let mut sign = b'(';
+    for term in &cell.args {
+        out.push(sign)?;
+        put_term(alloc, symbols, term, out)?;
+        sign = b',';
+    }
+    if !cell.args.is_empty() {
+        out.push(b')')?;
+    }
+    Ok(())
+}
+
+/// Appends the terms of an interface.
+fn put_interface(
+    alloc: Global,
+    symbols: &Symbols,
+    terms: &[Term],
+    out: &mut Vec<u8>,
+) -> Result<(), AllocError>
+    requires { IsTrue (list_all (is_tree_over symbols.now) (map tree terms.now)) }
+    ensures { OnOk result
+        (out.new.items ≡ out.old.items ++ terms_text symbols.now (map tree terms.now)) }
+{
+    for (place, term) in terms.iter().enumerate() {
+        if place > 0 {
+            out.push(b',')?;
+        }
+        put_term(alloc, symbols, term, out)?;
+    }
+    Ok(())
+}
+
+/// Appends an equation.
+fn put_equation(
+    alloc: Global,
+    symbols: &Symbols,
+    equation: &Equation,
+    out: &mut Vec<u8>,
+) -> Result<(), AllocError>
+    requires { IsTrue (is_pair_over symbols.now (pair equation.now)) }
+    ensures { OnOk result
+        (out.new.items ≡ out.old.items ++ equation_text symbols.now (pair equation.now)) }
+{
+    put_term(alloc, symbols, &equation.left, out)?;
+    out.push(b'=')?;
+    put_term(alloc, symbols, &equation.right, out)
+}
+
+/// Appends equations.
+fn put_equations(
+    alloc: Global,
+    symbols: &Symbols,
+    equations: &[Equation],
+    out: &mut Vec<u8>,
+) -> Result<(), AllocError>
+    requires { IsTrue (list_all (is_pair_over symbols.now) (map pair equations.now)) }
+    ensures { OnOk result
+        (out.new.items ≡ out.old.items ++ equations_text symbols.now (map pair equations.now)) }
+{
+    for (place, equation) in equations.iter().enumerate() {
+        if place > 0 {
+            out.push(b',')?;
+        }
+        put_equation(alloc, symbols, equation, out)?;
+    }
+    Ok(())
+}
+
+/// The text of a configuration without blanks, each name in its one spelling. Recurses on nesting, which the
+/// number of its nodes bounds.
+pub fn print_config(
+    alloc: Global,
+    symbols: &Symbols,
+    config: &Config,
+) -> Result<Vec<u8>, AllocError>
+    requires { IsTrue (is_over symbols.now config.now) }
+    ensures { IfOk result (λ text. text.items ≡ printed symbols.now config.now) }
+{
+    let mut out = Vec::new(alloc);
+    out.push(b'<')?;
+    put_interface(alloc, symbols, config.interface(), &mut out)?;
+    out.push(b'|')?;
+    put_equations(alloc, symbols, config.equations(), &mut out)?;
+    out.push(b'>')?;
+    Ok(out)
+}
+
+/// The line of a refusal, without its end.
+pub fn print_fault(alloc: Global, fault: &TextFault) -> Result<Vec<u8>, AllocError>
+    ensures { IfOk result (λ text. text.items ≡ fault_text fault.now) }
+{
+    match *fault {
+        TextFault::Syntax => Vec::from_slice(alloc, b"bad syntax"),
+        TextFault::Limit => Vec::from_slice(alloc, b"bad limit"),
+        TextFault::Arity => Vec::from_slice(alloc, b"bad arity"),
+        TextFault::NameCount(rule) => place_line(alloc, b"bad namecount ", rule),
+        TextFault::Name(name) => {
+            let mut out = Vec::from_slice(alloc, b"bad name ")?;
+            put_name(alloc, &mut out, name)?;
+            Ok(out)
+        }
+        TextFault::Twice(rule) => place_line(alloc, b"bad twice ", rule),
+        TextFault::Lopsided(rule) => place_line(alloc, b"bad lopsided ", rule),
+        TextFault::Memory => Vec::from_slice(alloc, b"bad memory"),
+    }
+}
+
+/// A text and the place of a rule, counted from 1.
+fn place_line(alloc: Global, text: &[u8], rule: u32) -> Result<Vec<u8>, AllocError>
+    ensures { IfOk result (λ line. line.items ≡ text.now ++ decimal (rule + 1)) }
+{
+    let mut line = Vec::from_slice(alloc, text)?;
+    put_decimal(alloc, &mut line, u64::from(rule) + 1)?;
+    Ok(line)
+}

@@ -1,0 +1,54 @@
+//! Reading a configuration.
+
+ghost use Rattle.std.specs.Prelude.{◌≡◌, ◌≢◌, IfOk, IfErr, IsTrue, Ok, Err};
+ghost use Rattle.ic_term.specs.Symbol.{is_over};
+ghost use Rattle.ic_text.specs.Numbered.{Gives};
+ghost use Rattle.ic_text.specs.Sense.{sense};
+ghost use Rattle.ic_text.specs.Source.{Phrase, IsPhrase, SpelledBy, phrase_words};
+ghost use Rattle.ic_text.specs.Text.{Reads};
+ghost use Rattle.ic_text.specs.Tokens.{tokens_in};
+
+use crate::build::config_of;
+use crate::fault::TextFault;
+use crate::limits::MAX_TEXT;
+use crate::number::number_words;
+use crate::prefix::prefix_of;
+use crate::syntax::is_config;
+use crate::token::{Token, tokens_of};
+use ic_term::{Config, Symbols};
+use std::alloc::Global;
+
+/// The sense of tokens that are a configuration. Every limit is tested before a term is built.
+fn sense_of(alloc: Global, tokens: &[Token]) -> Result<(Symbols, Config), TextFault>
+    requires { SpelledBy (tokens_in tokens.now) }
+    ensures sense { (p : Phrase) → IsPhrase p → tokens_in tokens.now ≡ phrase_words p →
+        Gives (λ v. v) result (sense p) }
+    ensures over { IfOk result (λ v. IsTrue (is_over v.0 v.1)) }
+{
+    let prefix = prefix_of(alloc, tokens)?;
+    if !prefix.fits() {
+        return Err(TextFault::Limit);
+    }
+    let (symbols, items) = number_words(alloc, &prefix.nodes)?;
+    let config = config_of(alloc, items, prefix.terms)?;
+    Ok((symbols, config))
+}
+
+/// The configuration that a text means, with its symbols numbered by first occurrence and `next` one above its
+/// greatest name, or the first refusal. Takes n log n steps, and doesn't recurse.
+pub fn read_config(alloc: Global, text: &[u8]) -> Result<(Symbols, Config), TextFault>
+    ensures read { IfOk result (λ v. Reads text.now (Ok v)) }
+    ensures over { IfOk result (λ v. IsTrue (is_over v.0 v.1)) }
+    ensures refused { IfErr result (λ fault. fault ≢ TextFault.Memory → Reads text.now (Err fault)) }
+{
+    if text.len() > MAX_TEXT {
+        return Err(TextFault::Limit);
+    }
+    let Some(tokens) = tokens_of(alloc, text)? else {
+        return Err(TextFault::Syntax);
+    };
+    if !is_config(&tokens) {
+        return Err(TextFault::Syntax);
+    }
+    sense_of(alloc, &tokens)
+}

@@ -1,0 +1,93 @@
+//! Tokens of a text: words, and marks that stand by themselves.
+
+ghost use Rattle.std.specs.Prelude.{◌≡◌, ◌++◌, IfOk, OnOk};
+ghost use Rattle.ic_text.specs.Token.{is_blank, is_word_byte, mark_of, word_of, tokens};
+ghost use Rattle.ic_text.specs.Tokens.{tokens_in, tokens_found};
+
+use std::alloc::{AllocError, Global};
+
+/// A byte that is a token by itself.
+#[derive(Clone, Copy, Debug, PartialEq, Eq)]
+pub(crate) enum Mark {
+    LeftBrace,
+    RightBrace,
+    Less,
+    Greater,
+    Bar,
+    Equals,
+    Comma,
+    Semicolon,
+    Open,
+    Close,
+}
+
+/// A token. A word borrows the text that it stands in.
+#[derive(Clone, Copy, Debug)]
+pub(crate) enum Token<'a> {
+    Word(&'a [u8]),
+    Mark(Mark),
+}
+
+fn is_blank(byte: u8) -> bool
+    ensures { result ≡ is_blank byte }
+{
+    byte == b' ' || byte == b'\t' || byte == b'\n' || byte == b'\r'
+}
+
+fn is_word_byte(byte: u8) -> bool
+    ensures { result ≡ is_word_byte byte }
+{
+    byte.is_ascii_alphanumeric() || byte == b'-'
+}
+
+fn mark_of(byte: u8) -> Option<Mark>
+    ensures { result ≡ mark_of byte }
+{
+    match byte {
+        b'{' => Some(Mark::LeftBrace),
+        b'}' => Some(Mark::RightBrace),
+        b'<' => Some(Mark::Less),
+        b'>' => Some(Mark::Greater),
+        b'|' => Some(Mark::Bar),
+        b'=' => Some(Mark::Equals),
+        b',' => Some(Mark::Comma),
+        b';' => Some(Mark::Semicolon),
+        b'(' => Some(Mark::Open),
+        b')' => Some(Mark::Close),
+        _ => None,
+    }
+}
+
+/// Appends the word that a run of word bytes makes, if the run has a byte.
+fn push_word<'a>(tokens: &mut Vec<Token<'a>>, run: &'a [u8]) -> Result<(), AllocError>
+    ensures { OnOk result (tokens_in tokens.new.items ≡ tokens_in tokens.old.items ++ word_of run.now) }
+{
+    if !run.is_empty() {
+        tokens.push(Token::Word(run))?;
+    }
+    Ok(())
+}
+
+/// The tokens of a text in order, or None where a byte is no part of any.
+pub(crate) fn tokens_of<'a>(
+    alloc: Global,
+    text: &'a [u8],
+) -> Result<Option<Vec<Token<'a>>>, AllocError>
+    ensures { IfOk result (λ found. tokens_found found ≡ tokens text.now) }
+{
+    let mut tokens = Vec::new(alloc);
+    let mut start = 0;
+    for (place, byte) in text.iter().enumerate() {
+        if !is_word_byte(*byte) {
+            push_word(&mut tokens, &text[start..place])?;
+            start = place + 1;
+            if let Some(mark) = mark_of(*byte) {
+                tokens.push(Token::Mark(mark))?;
+            } else if !is_blank(*byte) {
+                return Ok(None);
+            }
+        }
+    }
+    push_word(&mut tokens, &text[start..])?;
+    Ok(Some(tokens))
+}
