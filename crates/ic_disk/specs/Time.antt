@@ -1,5 +1,5 @@
 -- What crashes at the moments of a run may leave. This project's choice.
-use Rattle.std.specs.Prelude.{◌≡◌, ◌⊎◌, ℕ, ◌+◌, ◌-◌, ◌^◌, ◌≤◌, List, Result, MatchResult}
+use Rattle.std.specs.Prelude.{◌≡◌, ◌⊎◌, ℕ, ◌+◌, ◌-◌, ◌^◌, ◌<◌, ◌≤◌, List, Result, MatchResult}
 
 -- Time goes on by one call: a crash since t may have left what it might have left before, or what the midst of the call leaves.
 pub record Elapses (before now : ℕ) (past since : ℕ → List ℕ → Type 0) (midst : List ℕ → Type 0) : Type 0 where
@@ -16,7 +16,7 @@ pub record LeavesOnly {D : Type 0} (clock : D → ℕ) (left : D → ℕ → Lis
 
 -- the count of failures rises by one, or stands at its end, 2^64 - 1
 abbrev pub OneMore : ℕ → ℕ → Type 0
-OneMore old new = (new ≡ old + 1) ⊎ ((old ≡ 2 ^ 64 - 1) × (new ≡ old))
+OneMore old new = ((old < 2 ^ 64 - 1) × (new ≡ old + 1)) ⊎ ((old ≡ 2 ^ 64 - 1) × (new ≡ old))
 
 -- it rises where the call failed, and stays otherwise
 abbrev pub CountsFailure : {T E : Type 0} → Result T E → ℕ → ℕ → Type 0

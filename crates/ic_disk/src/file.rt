@@ -103,3 +103,76 @@ impl<F: Read + Write + Seek + OpenFile + Drop> Disk for FileDisk<F> {
         count(self.file.sync_all(), &mut self.failures)
     }
 }
+
+#[cfg(test)]
+mod tests {
+    use super::*;
+    use std::cell::Cell;
+    use std::fs::Metadata;
+
+    /// A file that counts its syncs, of content and length, and refuses one where it is told to.
+    #[derive(Drop)]
+    struct CountedFile<'a> {
+        syncs: &'a Cell<u32>,
+        refuses: bool,
+    }
+
+    impl Read for CountedFile<'_> {
+        fn read(&mut self, _buf: &mut [u8]) -> io::Result<usize> {
+            Ok(0)
+        }
+    }
+
+    impl Write for CountedFile<'_> {
+        fn write(&mut self, buf: &[u8]) -> io::Result<usize> {
+            Ok(buf.len())
+        }
+
+        fn flush(&mut self) -> io::Result<()> {
+            Ok(())
+        }
+    }
+
+    impl Seek for CountedFile<'_> {
+        fn seek(&mut self, _pos: SeekFrom) -> io::Result<u64> {
+            Ok(0)
+        }
+    }
+
+    impl OpenFile for CountedFile<'_> {
+        fn metadata(&self) -> io::Result<Metadata> {
+            Err(io::ErrorKind::Unsupported.into())
+        }
+
+        fn set_len(&self, _size: u64) -> io::Result<()> {
+            Ok(())
+        }
+
+        fn sync_all(&self) -> io::Result<()> {
+            if self.refuses {
+                return Err(io::ErrorKind::Other.into());
+            }
+            self.syncs.set(self.syncs.get().saturating_add(1));
+            Ok(())
+        }
+
+        fn sync_data(&self) -> io::Result<()> {
+            Ok(())
+        }
+    }
+
+    #[test]
+    fn a_sync_reaches_the_file(rt: HostRuntime) {
+        let syncs = Cell::new(0);
+        for (refuses, answer) in [(false, Ok(())), (true, Err(DiskFault))] {
+            let file = CountedFile {
+                syncs: &syncs,
+                refuses,
+            };
+            let mut disk = FileDisk { file, failures: 0 };
+            assert_eq!(rt; disk.sync(), answer);
+            assert_eq!(rt; disk.len(), Err(DiskFault));
+        }
+        assert_eq!(rt; syncs.get(), 1);
+    }
+}

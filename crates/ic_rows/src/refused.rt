@@ -41,6 +41,13 @@ fn trailing_token(rt: HostRuntime) -> Result<(), Fail> {
 }
 
 #[test]
+fn missing_comma_or_equation(rt: HostRuntime) -> Result<(), Fail> {
+    refuses(&rt, rt.alloc(), b"<A B|>", SYNTAX)?;
+    refuses(&rt, rt.alloc(), b"<x 1|>", SYNTAX)?;
+    refuses(&rt, rt.alloc(), b"<|A>", SYNTAX)
+}
+
+#[test]
 fn missing_greater(rt: HostRuntime) -> Result<(), Fail> {
     let text = repeated(rt.alloc(), b"<A", b",A", 64, b"|")?;
     refuses(&rt, rt.alloc(), &text, SYNTAX)

@@ -5,14 +5,14 @@ use Rattle.std.specs.Cmp.{unsigned_Decides}
 use Rattle.std.specs.HashMap.{HashMap, get}
 use Rattle.std.specs.declared.hash.FoldHasher.{FoldHasher}
 use Rattle.std.specs.declared.hash.BuildHasherDefault.{BuildHasherDefault}
-use Rattle.std.specs.List.{position_from, list_any, flat_map}
+use Rattle.std.specs.List.{position_from, list_any, flat_map, AllByRecursion}
 use Rattle.ic_term.specs.declared.term.Cell.{Cell}
 use Rattle.ic_rules.specs.declared.rule_set.SymbolPair.{SymbolPair}
 use Rattle.ic_term.specs.Tree.{Tree, name, agent, Trees, no_trees, more_trees, trees_of, list_of, nodes, nodes_of}
 use Rattle.ic_term.specs.Symbol.{Symbol}
 use Rattle.ic_rules.specs.declared.limits.TheConstants.{MAX_RULES, MAX_RULE_NODES}
 use Rattle.ic_rules.specs.Renaming.{renamed, renamed_trees, number_among, first_occurrences}
-use Rattle.ic_rules.specs.Rule.{Rule, stands_for, same_pair, agents, agents_of, rule_agents, rule_names, rule_nodes, numbered}
+use Rattle.ic_rules.specs.Rule.{Rule, stands_for, same_pair, agents, agents_of, rule_agents, rule_names, rule_nodes, numbered, IsRule}
 use Rattle.ic_rules.specs.RuleSet.{repeated_behind, first_repeated, first_unfit, unfit_among, are_few, IsRuleSet, IsRuleFor, rule_for, found_or, has_pair}
 use Rattle.std.proofs.lemmas.List.Sums.{sum_by-append}
 use Rattle.ic_rules.specs.Written.{written}
@@ -196,9 +196,10 @@ position-numbered : (a b j : ℕ) (rs : List Rule) → position_from (stands_for
 position-numbered a b j [] = refl
 position-numbered a b j (r ∷ rs) = ap (cond (stands_for a b r) (Some j)) (position-numbered a b (j + 1) rs)
 
-pub IsRuleSet-numbered : (ss : List Symbol) (rs : List Rule) → are_few rs ≡ true → first_unfit ss rs ≡ None → first_repeated rs ≡ None
+pub IsRuleSet-numbered : (ss : List Symbol) (rs : List Rule) → AllByRecursion IsRule (map numbered rs) → are_few rs ≡ true → first_unfit ss rs ≡ None → first_repeated rs ≡ None
     → IsRuleSet (record { symbols = ss; rules = map numbered rs })
-IsRuleSet-numbered ss rs few fitting single = record {
+IsRuleSet-numbered ss rs each few fitting single = record {
+  each = each;
   few = (λ i. nat_le (length-map rs numbered i) MAX_RULES && nat_le (sum_rule_nodes-numbered rs i) MAX_RULE_NODES) ∙ few;
   fitting = ap (unfit_among ss) (agents-numbered rs) ∙ fitting;
   single = repeated-numbered [] rs ∙ single;

@@ -1,11 +1,11 @@
 use Rattle.std.specs.Prelude.{◌≡◌, ℕ, List, [], ◌∷◌, ◌++◌, Bool, true, false, ◌&&◌, not, Option, None, Some, Result, Ok, Err, length, map, sum_by, nat_le, slice_get, if◌then◌else◌, refl}
-use Rattle.std.specs.List.{flat_map, list_any, position_from}
+use Rattle.std.specs.List.{flat_map, list_any, position_from, AllByRecursion}
 use Rattle.std.specs.Prelude.{◌<◌, ◌||◌, IfSome}
 use Rattle.std.specs.Coded.{Coded, code_by, coded×, coded_list}
 use Rattle.ic_term.specs.Symbol.{Symbol, has_arity, symbols_eq, coded_symbol}
 use Rattle.std.specs.Cmp.Lexicographic.{pointwise}
 use Rattle.ic_rules.specs.Renaming.{are_paired}
-use Rattle.ic_rules.specs.Rule.{Rule, rule_names, rule_nodes, rule_agents, numbered, is_lopsided, stands_for, same_pair, rule_eq, coded_rule}
+use Rattle.ic_rules.specs.Rule.{Rule, rule_names, rule_nodes, rule_agents, numbered, is_lopsided, stands_for, same_pair, rule_eq, IsRule, coded_rule}
 use Rattle.ic_rules.specs.declared.limits.TheConstants.{MAX_RULES, MAX_RULE_NODES}
 use Rattle.ic_rules.specs.declared.rule_set.RuleFault.{RuleFault}
 use Rattle.ic_rules.specs.declared.rule_set.RuleFault.TheVariants.{Limit, Arity, NameCount, Twice, Lopsided}
@@ -59,9 +59,10 @@ built ss rs =
     (unless (first_lopsided rs) Lopsided (Ok (record { symbols = ss; rules = map numbered rs })))))
     else Err Limit
 
--- What each rule set keeps, beside what each rule keeps: at most one rule per unordered pair of symbols (Lafont
+-- What each rule set keeps: that its rules are rules, at most one per unordered pair of symbols (Lafont
 -- 1990), and arities and limits.
 pub record IsRuleSet (rs : Rules) : Type 0 where
+  pub each : AllByRecursion IsRule rs.rules
   pub few : are_few rs.rules ≡ true
   pub fitting : first_unfit rs.symbols rs.rules ≡ None
   pub single : first_repeated rs.rules ≡ None

@@ -7,7 +7,7 @@ ghost use Rattle.ic_term.specs.Configuration.{occurrences};
 ghost use Rattle.ic_term.specs.Term.{tree, cell_tree};
 ghost use Rattle.ic_rules.specs.Renaming.{renamed, first_occurrences, number_among, are_paired};
 
-use ic_term::{Cell, Term, append_names};
+use ic_term::{Cell, Term, names_of_terms};
 use indexmap::IndexSet;
 use std::alloc::{AllocError, Global};
 use std::collections::BTreeMap;
@@ -16,9 +16,8 @@ use std::collections::BTreeMap;
 pub(crate) fn names_of(alloc: Global, left: &[Term], right: &[Term]) -> Result<Vec<u64>, AllocError>
     ensures { IfOk result (λ list. list.items ≡ flat_map names (map tree left.now) ++ flat_map names (map tree right.now)) }
 {
-    let mut list = Vec::new(alloc);
-    append_names(left, &mut list)?;
-    append_names(right, &mut list)?;
+    let mut list = names_of_terms(alloc, left)?;
+    list.extend_from_slice(&names_of_terms(alloc, right)?)?;
     Ok(list)
 }
 

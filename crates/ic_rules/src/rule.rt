@@ -84,6 +84,7 @@ impl Rule {
     ) -> Result<Option<Rule>, AllocError>
         requires { are_paired (rule_names (written (left.now, right.now))) ≡ true }
         ensures lopsided { IfOk result (λ rule. IsNone rule ↔ IsTrue (is_lopsided (numbered (written (left.now, right.now))))) }
+        ensures sound { IfOk result (λ rule. IfSome rule IsRule) }
         ensures rule { IfOk result (λ rule. IfSome rule (λ rule. rule ≡ numbered (written (left.now, right.now)))) }
     {
         let arguments = number(alloc, &left.args, &right.args)?;
@@ -110,11 +111,11 @@ impl PartialEq for Rule {
     ghost laws = { partial_equiv_from_equiv rule_eq-equivalence };
 
     fn eq(&self, other: &Rule) -> bool {
-        self.left == other.left
-            && self.right == other.right
+        other.left == self.left
+            && other.right == self.right
             && same_terms(&self.left_args, &other.left_args)
             && same_terms(&self.right_args, &other.right_args)
-            && self.names == other.names
+            && other.names == self.names
     }
 }
 

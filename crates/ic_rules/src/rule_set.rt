@@ -1,5 +1,6 @@
 ghost use Rattle.std.specs.Prelude.{◌≡◌, ◌≤◌, length, map, min, sum_by, None, is_some, ◌||◌, IfOk, IfErr, OnOk};
-ghost use Rattle.ic_rules.specs.Rule.{rule_nodes, numbered};
+ghost use Rattle.std.specs.List.{AllByRecursion};
+ghost use Rattle.ic_rules.specs.Rule.{rule_nodes, numbered, IsRule};
 ghost use Rattle.ic_rules.specs.RuleSet.{are_few, first_uncounted, first_repeated, first_lopsided};
 ghost use Rattle.ic_rules.specs.RuleFault.{IsTwice, IsLopsided};
 ghost use Rattle.ic_rules.specs.Written.{written};
@@ -239,6 +240,7 @@ fn number_rules(alloc: Global, rules: &[(Cell, Cell)]) -> Result<Vec<Rule>, Rule
     requires few { length rules.now ≤ MAX_RULES }
     requires counted { first_uncounted (map written rules.now) ≡ None }
     ensures rules { IfOk result (λ out. out.items ≡ map numbered (map written rules.now)) }
+    ensures each { IfOk result (λ out. AllByRecursion IsRule out.items) }
     ensures even { OnOk result (first_lopsided (map written rules.now) ≡ None) }
     ensures lopsided { IfErr result (IsLopsided (map written rules.now)) }
 {

@@ -55,10 +55,9 @@ impl Term {
         }
     }
 
-    /// Appends the names of the term in the order of the text, each as often as it occurs. At an `Err` a part may
-    /// have been appended.
+    /// Appends the names of the term in the order of the text, each as often as it occurs.
     #[cycle(names)]
-    pub fn append_names(&self, list: &mut Vec<u64>) -> Result<(), AllocError>
+    pub(crate) fn append_names(&self, list: &mut Vec<u64>) -> Result<(), AllocError>
         ensures { OnOk result (list.new.items ≡ list.old.items ++ names (tree self.now)) }
     {
         match self {
@@ -99,10 +98,9 @@ impl Cell {
         })
     }
 
-    /// Appends the names of the agent in the order of the text, each as often as it occurs. At an `Err` a part may
-    /// have been appended.
+    /// Appends the names of the agent in the order of the text, each as often as it occurs.
     #[cycle(names)]
-    pub fn append_names(&self, list: &mut Vec<u64>) -> Result<(), AllocError>
+    pub(crate) fn append_names(&self, list: &mut Vec<u64>) -> Result<(), AllocError>
         ensures { OnOk result (list.new.items ≡ list.old.items ++ names (cell_tree self.now)) }
     {
         for term in &self.args {
@@ -130,9 +128,8 @@ impl Equation {
         })
     }
 
-    /// Appends the names of the equation, the left term's first, each as often as it occurs. At an `Err` a part may
-    /// have been appended.
-    pub fn append_names(&self, list: &mut Vec<u64>) -> Result<(), AllocError>
+    /// Appends the names of the equation, the left term's first, each as often as it occurs.
+    pub(crate) fn append_names(&self, list: &mut Vec<u64>) -> Result<(), AllocError>
         ensures { OnOk result (list.new.items ≡ list.old.items ++ pair_names (pair self.now)) }
     {
         self.left.append_names(list)?;

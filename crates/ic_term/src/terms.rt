@@ -19,9 +19,17 @@ pub fn nodes_of_terms(terms: &[Term]) -> u64
     count
 }
 
-/// Appends the names of the terms in the order of the text, each as often as it occurs. At an `Err` a part may have
-/// been appended.
-pub fn append_names(terms: &[Term], list: &mut Vec<u64>) -> Result<(), AllocError>
+/// The names of the terms in the order of the text, each as often as it occurs.
+pub fn names_of_terms(alloc: Global, terms: &[Term]) -> Result<Vec<u64>, AllocError>
+    ensures { IfOk result (λ list. list.items ≡ flat_map names (map tree terms.now)) }
+{
+    let mut list = Vec::new(alloc);
+    append_names(terms, &mut list)?;
+    Ok(list)
+}
+
+/// Appends the names of the terms.
+pub(crate) fn append_names(terms: &[Term], list: &mut Vec<u64>) -> Result<(), AllocError>
     ensures { OnOk result (list.new.items ≡ list.old.items ++ flat_map names (map tree terms.now)) }
 {
     for term in terms {

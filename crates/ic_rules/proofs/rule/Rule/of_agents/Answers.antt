@@ -18,3 +18,6 @@ invariant_of-result c =
     (c.in_ok-arguments.ensures.right ∙ (λ i. map (renamed (number_among (firsts_of (ls i) (rs i)))) (map tree (rs i))))
     (c.in_ok-arguments.ensures.names ∙ (λ i. length (firsts_of (ls i) (rs i))))
     (sym (lopsided_test r) ∙ sym c.in_ok-is_lopsided.ensures ∙ c.if-branch.false)
+
+pub returns-clause-sound : goal.returns-clause-sound
+returns-clause-sound c = invariant_of-result c

@@ -1,5 +1,6 @@
 use Rattle.std.proofs.Common.{◌≡◌, true, None, List, map, ap, sym, ◌∙◌, subst}
-use Rattle.ic_rules.specs.Rule.{Rule, numbered}
+use Rattle.std.specs.List.{AllByRecursion}
+use Rattle.ic_rules.specs.Rule.{Rule, IsRule, numbered}
 use Rattle.ic_rules.specs.RuleSet.{are_few, first_unfit, first_repeated, IsRuleSet}
 use Rattle.ic_rules.specs.Written.{written}
 use Rattle.ic_rules.specs.Places.{ArePlaces}
@@ -16,4 +17,4 @@ invariant_of-result c =
     let places : ArePlaces c.in_ok-places.places ws = subst (λ rs. ArePlaces c.in_ok-places.places (map written rs)) c.deref-4.ensures.value c.in_ok-places.ensures.places in
     let rules : map numbered ws ≡ c.in_ok-rules.rules.items = ap (λ rs. map numbered (map written rs)) (sym c.deref-5.ensures.value) ∙ sym c.in_ok-rules.ensures.rules in
     subst (λ (rs : List Rule). IsRuleSet (record { symbols = ss; rules = rs }) × ArePlaces c.in_ok-places.places rs) rules
-    (IsRuleSet-numbered ss ws few fitting single, ArePlaces-numbered c.in_ok-places.places ws places)
+    (IsRuleSet-numbered ss ws (subst (AllByRecursion IsRule) (sym rules) c.in_ok-rules.ensures.each) few fitting single, ArePlaces-numbered c.in_ok-places.places ws places)
