@@ -1,4 +1,4 @@
-//! The worked rows of the product, as tests over its streams, and the texts of the folder `examples`.
+//! Worked examples, as tests over the streams of the program, and the texts of the folder `examples`.
 //!
 //! Expected values come from the definitions, computed by hand, never from the program.
 #![tactic(auto)]

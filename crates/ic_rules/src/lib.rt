@@ -1,3 +1,8 @@
+//! Rules of the interaction calculus, rule sets, systems and jobs' names.
+//!
+//! `RuleSet::build` answers the rule set of a list of rules, or the first refusal, and `find` is the one rule of a pair
+//! of symbols. A `System` is a rule set with a configuration over its symbols. `laws` holds what is proved of the
+//! definitions alone.
 #![tactic(auto)]
 
 mod fit;

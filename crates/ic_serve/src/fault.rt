@@ -6,7 +6,7 @@ ghost use Rattle.ic_serve.specs.Faults.{status_of, fault_line};
 use ic_text::{TextFault, print_fault};
 use std::alloc::{AllocError, AllocFailed, Global};
 
-/// Why a stream isn't answered.
+/// Why a stream isn't answered, each with its lasting number; `status` gives the program's exit status.
 #[derive(Clone, Copy, Debug, PartialEq, Eq)]
 pub enum StreamFault {
     /// 1: the input can't be read.

@@ -15,8 +15,8 @@ const CHUNK: usize = 8_192;
 
 /// Settles the configuration that the reader gives, and writes it as a line.
 ///
-/// Nothing is written before the text is read and settled. At most 262,145 bytes are read; a longer text is
-/// `TextFault::Limit`.
+/// Nothing is written before the text is read and settled. A text of more than 262,144 bytes is `TextFault::Limit`, and
+/// at most 262,145 bytes are read.
 pub fn settle_stream<R: Read, W: Write>(
     alloc: Global,
     reader: &mut R,

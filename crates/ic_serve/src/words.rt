@@ -17,7 +17,7 @@ pub enum Task {
     Help(String),
 }
 
-/// Why the words ask for nothing.
+/// Why the words ask for nothing, each with its lasting number.
 #[derive(Debug, Drop)]
 pub enum WordsFault {
     /// 1: the words are refused: what is wrong with them, and the usage.

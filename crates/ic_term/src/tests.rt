@@ -1,6 +1,6 @@
 use crate::{
     Cell, Config, ConfigFault, Equation, MAX_ARITY, MAX_INTERFACE, MAX_SYMBOLS, SymbolFault,
-    Symbols, Term, is_symbol, over, third_occurrence,
+    Symbols, Term, copy_terms, is_symbol, names_of_terms, nodes_of_terms, over, third_occurrence,
 };
 use std::alloc::{AllocError, Global};
 use std::test::Fail;
@@ -143,4 +143,27 @@ fn symbol_texts(rt: HostRuntime) {
     ] {
         assert!(rt; !is_symbol(text));
     }
+}
+
+#[test]
+fn copies_of_parts(rt: HostRuntime) -> Result<(), Fail> {
+    let alloc = rt.alloc();
+    let config = chain(alloc)?;
+    let Some(first) = config.equations().first() else {
+        return Err(Fail::new("no equation"));
+    };
+    let copy = first.copy(alloc)?;
+    assert!(rt; copy == *first);
+    assert_eq!(rt; copy.nodes(), 3);
+    let Term::Agent(cell) = &first.right else {
+        return Err(Fail::new("no agent"));
+    };
+    let copy = cell.copy(alloc)?;
+    assert!(rt; copy == **cell);
+    assert_eq!(rt; copy.nodes(), 2);
+    let terms = copy_terms(alloc, &cell.args)?;
+    assert!(rt; terms == cell.args);
+    assert_eq!(rt; nodes_of_terms(&terms), 1);
+    assert_eq!(rt; names_of_terms(alloc, &terms)?.as_slice(), [S].as_slice());
+    Ok(())
 }

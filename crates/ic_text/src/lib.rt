@@ -1,6 +1,6 @@
 //! Reading and printing configurations of the interaction calculus.
 //!
-//! `read_config` answers what a text means, or the first refusal: its value is `sense` of the one source tree
+//! `read_config` answers what a text means, or the first refusal: its value is `sense` of the one phrase
 //! that the text spells. `print_config` writes the tokens of a configuration without blanks, and `print_fault`
 //! the line of a refusal. `laws` holds what is proved of the definitions alone.
 #![tactic(auto)]
