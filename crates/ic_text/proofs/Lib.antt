@@ -14,5 +14,6 @@ pub mod Over
 pub mod Sensing
 pub mod PrintLemmas
 pub mod OneReading
+pub mod ReadBack
 pub mod WrittenTokens
 pub mod KeptBytes

@@ -124,11 +124,11 @@ none_is_some : (ts : List Token) → None ≡ Some ts → ⊥
 none_is_some ts e = cc
 
 -- whether a text spells a configuration
-data Spelling (text : List ℕ) : Type 0 where
+pub data Spelling (text : List ℕ) : Type 0 where
   spelled : (p : Phrase) → Spells text p → Spelling text
   malformed : ((p : Phrase) → Spells text p → ⊥) → Spelling text
 
-spelling : (text : List ℕ) → Spelling text
+pub spelling : (text : List ℕ) → Spelling text
 spelling text = by_tokens (tokens text) refl
   where
     by_check : (ts : List Token) → tokens text ≡ Some ts → (b : Bool) → accepts (at Begin After 0) ts ≡ b → Spelling text

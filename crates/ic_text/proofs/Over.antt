@@ -53,16 +53,28 @@ abbrev value_or : List Symbol × Configuration → Result (List Symbol × Config
 value_or d (Ok v) = v
 value_or d (Err e) = d
 
--- a sense has a table over which its configuration is
-pub sense-over : (p : Phrase) (v : List Symbol × Configuration) → sense p ≡ Ok v → IsTrue (is_over v.0 v.1)
-sense-over p v = by_cases (is_in_limits p) (list_all (has_its_arity (symbol_table p)) (phrase_symbols p)) (third_occurrence (phrase_names p)) refl
+-- what a phrase is where it has a sense
+pub record HasSense (p : Phrase) (v : List Symbol × Configuration) : Type 0 where
+  pub agree : list_all (has_its_arity (symbol_table p)) (phrase_symbols p) ≡ true
+  pub table : symbol_table p ≡ v.0
+  pub config : numbered_phrase (symbol_table p) p ≡ v.1
+
+pub has_sense : (p : Phrase) (v : List Symbol × Configuration) → sense p ≡ Ok v → HasSense p v
+has_sense p v = by_cases (is_in_limits p) (list_all (has_its_arity (symbol_table p)) (phrase_symbols p)) (third_occurrence (phrase_names p)) refl
   where
     by_cases : (a b : Bool) (o : Option ℕ) → list_all (has_its_arity (symbol_table p)) (phrase_symbols p) ≡ b
-        → cond a (cond b (unless_third_name {A = List Symbol × Configuration} (symbol_table p, numbered_phrase (symbol_table p) p) o) (Err Arity)) (Err Limit) ≡ Ok v → IsTrue (is_over v.0 v.1)
+        → cond a (cond b (unless_third_name {A = List Symbol × Configuration} (symbol_table p, numbered_phrase (symbol_table p) p) o) (Err Arity)) (Err Limit) ≡ Ok v → HasSense p v
     by_cases false b o agree e = cc
     by_cases true false o agree e = cc
     by_cases true true (Some n) agree e = cc
-    by_cases true true None agree e =
-        let table_is : symbol_table p ≡ v.0 = ap (λ r. (value_or (symbol_table p, numbered_phrase (symbol_table p) p) r).0) e in
-        let config_is : numbered_phrase (symbol_table p) p ≡ v.1 = ap (λ r. (value_or (symbol_table p, numbered_phrase (symbol_table p) p) r).1) e in
-        (λ i. is_over (sym table_is i) (sym config_is i)) ∙ over-numbered_phrase (symbol_table p) p agree
+    by_cases true true None agree e = record {
+      agree = agree;
+      table = ap (λ r. (value_or (symbol_table p, numbered_phrase (symbol_table p) p) r).0) e;
+      config = ap (λ r. (value_or (symbol_table p, numbered_phrase (symbol_table p) p) r).1) e;
+    }
+
+-- a sense has a table over which its configuration is
+pub sense-over : (p : Phrase) (v : List Symbol × Configuration) → sense p ≡ Ok v → IsTrue (is_over v.0 v.1)
+sense-over p v e =
+    let s = has_sense p v e in
+    (λ i. is_over (sym s.table i) (sym s.config i)) ∙ over-numbered_phrase (symbol_table p) p s.agree

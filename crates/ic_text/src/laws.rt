@@ -1,6 +1,6 @@
 //! What is proved of the definitions alone: each law is the contract of a function that does nothing.
 
-ghost use Rattle.std.specs.Prelude.{◌≡◌, ℕ, List, Result, Some, not};
+ghost use Rattle.std.specs.Prelude.{◌≡◌, ◌≤◌, ℕ, List, Result, Ok, Some, length, not};
 ghost use Rattle.std.specs.List.{filter};
 ghost use Rattle.ic_term.specs.Configuration.{Configuration};
 ghost use Rattle.ic_term.specs.Symbol.{Symbol};
@@ -28,4 +28,12 @@ pub fn tokens_keep_bytes()
 pub fn printed_spells()
     ensures { (table : List Symbol) (c : Configuration) → IsPhrase (phrase_of table c) →
         Spells (printed table c) (phrase_of table c) }
+{}
+
+/// What is printed of a configuration that was read is read as the same symbols and configuration, and is no longer.
+pub fn read_back_law()
+    ensures same { (text : List ℕ) (table : List Symbol) (c : Configuration) → Reads text (Ok (table, c)) →
+        Reads (printed table c) (Ok (table, c)) }
+    ensures no_longer { (text : List ℕ) (table : List Symbol) (c : Configuration) → Reads text (Ok (table, c)) →
+        length (printed table c) ≤ length text }
 {}
