@@ -11,3 +11,5 @@ mod refused;
 mod settled;
 #[cfg(test)]
 mod streams;
+#[cfg(test)]
+mod systems;

@@ -4,3 +4,5 @@ pub mod NumberingLemmas
 pub mod RuleLemmas
 pub mod FitLemmas
 pub mod RuleSetLemmas
+pub mod FirstPlaces
+pub mod TakenRules

@@ -72,7 +72,7 @@ seen_stays n seen (k ∷ ns) there = elim (list_any (λ m. k == m) seen) as (λ 
   | false ↦ seen_stays n (seen ++ k ∷ []) ns (rw (list_any-append (λ m. n == m) seen (k ∷ []), there) refl)
 ]
 
-self_eq : (n : ℕ) → (n == n) ≡ true
+pub self_eq : (n : ℕ) → (n == n) ≡ true
 self_eq n = (unsigned_Decides n n).1 refl
 
 -- so is each name of the list
@@ -116,7 +116,7 @@ range-one : (a n : ℕ) → map (λ k. 1 + k) (range_with_len a n) ≡ range_wit
 range-one a zero = refl
 range-one a (suc n) = rw (range-one (a + 1) n) (ap (λ k. k ∷ range_with_len (a + 1 + 1) n) (omega arith))
 
-none_distinct : IsDistinct nat_eq []
+pub none_distinct : IsDistinct nat_eq []
 unfolding IsDistinct
 none_distinct = tt
 

@@ -8,3 +8,4 @@ pub mod Places
 pub mod Arguments
 pub mod RuleLaws
 pub mod System
+pub mod FirstRepeated

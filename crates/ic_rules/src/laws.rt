@@ -1,11 +1,13 @@
 //! Laws of the definitions that the contracts of this crate cite.
 
-ghost use Rattle.std.specs.Prelude.{◌≡◌, ℕ, ◌==◌, List, Bool, None, Some, ◌∷◌, ◌++◌, true, false, slice_get, length, map, IsTrue};
+ghost use Rattle.std.specs.Prelude.{◌≡◌, ◌↔◌, ℕ, ◌==◌, List, [], Bool, None, Some, Ok, ◌∷◌, ◌++◌, true, false, slice_get, length, map, IsTrue};
 ghost use Rattle.std.specs.Bool.{Decides};
 ghost use Rattle.std.specs.List.{list_any, range_with_len};
 ghost use Rattle.ic_rules.specs.Renaming.{first_occurrences, number_among, are_paired};
 ghost use Rattle.ic_rules.specs.Rule.{Rule, rule_eq};
-ghost use Rattle.ic_rules.specs.RuleSet.{Rules, rules_eq, rule_for, IsRuleFor, first_repeated, has_pair};
+ghost use Rattle.ic_rules.specs.RuleSet.{Rules, rules_eq, rule_for, IsRuleFor, IsRuleSet, built, first_repeated, has_pair};
+ghost use Rattle.ic_rules.specs.FirstRepeated.{IsFirstRepeated};
+ghost use Rattle.ic_rules.specs.declared.limits.TheConstants.{MAX_RULES, MAX_RULE_NODES};
 
 /// The rule that `find` answers has the pair of symbols, turned round or not; where it answers none, no rule has the
 /// pair; and in a rule set no other rule has it.
@@ -14,6 +16,25 @@ pub fn find_is_the_one_rule()
     ensures none { (rs : List Rule) (a b : ℕ) → rule_for rs a b ≡ None → list_any (has_pair a b) rs ≡ false }
     ensures single { (before after : List Rule) (r : Rule) → first_repeated (before ++ r ∷ after) ≡ None
         → list_any (has_pair r.left r.right) before ≡ false }
+{}
+
+/// The limits of rule sets.
+pub fn limits_are()
+    ensures rules { MAX_RULES ≡ 256 }
+    ensures nodes { MAX_RULE_NODES ≡ 2048 }
+{}
+
+/// What `RuleSet::build` takes as they are, are exactly the rule sets; and the rule for which it answers `Twice` has a pair
+/// that an earlier one has, and none before it has such a pair.
+pub fn build_takes_rule_sets()
+    ensures taken { (rs : Rules) → (built rs.symbols rs.rules ≡ Ok rs) ↔ IsRuleSet rs }
+    ensures twice { (rs : List Rule) (i : ℕ) → first_repeated rs ≡ Some i → IsFirstRepeated [] rs i }
+{}
+
+/// A name that stands nowhere before has as its number how many different names stand before it.
+pub fn names_are_numbered_by_first_occurrence()
+    ensures { (before after : List ℕ) (n : ℕ) → list_any (λ m. n == m) before ≡ false
+        → number_among (first_occurrences (before ++ n ∷ after)) n ≡ length (first_occurrences before) }
 {}
 
 /// Numbering the names of a list by first occurrence gives 0, 1, .. in the order of their first occurrences, and keeps

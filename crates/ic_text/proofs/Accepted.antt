@@ -6,11 +6,12 @@ use Rattle.ic_text.specs.declared.token.Mark.{Mark}
 use Rattle.ic_text.specs.declared.token.Mark.TheVariants.{LeftBrace, RightBrace, Less, Greater, Bar, Equals, Comma, Semicolon, Open, Close}
 use Rattle.ic_text.specs.declared.syntax.Part.{Part}
 use Rattle.ic_text.specs.declared.syntax.Spot.{Spot}
-use Rattle.ic_text.specs.declared.syntax.Spot.TheVariants.{First, Due, Symbol, After}
+use Rattle.ic_text.specs.declared.syntax.Spot.TheVariants.{First, Due, FirstAgent, DueAgent, Symbol, After}
 use Rattle.ic_text.specs.declared.syntax.State.{State}
 use Rattle.ic_text.specs.Token.{Token, word, mark}
 use Rattle.ic_text.specs.Name.{name_text}
 use Rattle.ic_text.specs.Source.{Source, leaf, node, Sources, no_sources, more_sources, IsSource, AreSources, words, argument_words, further_words}
+use Rattle.ic_text.specs.SystemSource.{AgentPhrase, agent_source}
 use Rattle.ic_text.specs.Syntax.{word_spot, either_step, step, accepts}
 use Rattle.ic_text.proofs.NameLemmas.{is_name-name_text, isnt_name-symbol}
 
@@ -22,8 +23,19 @@ at p s d = Some (record { part = p; spot = s; depth = d })
 abbrev pub TakesTerm : Spot → Type 0
 TakesTerm First = Unit {0}
 TakesTerm Due = Unit {0}
+TakesTerm FirstAgent = ⊥
+TakesTerm DueAgent = ⊥
 TakesTerm Symbol = ⊥
 TakesTerm After = ⊥
+
+-- an agent may begin here
+abbrev pub TakesAgent : Spot → Type 0
+TakesAgent First = ⊥
+TakesAgent Due = ⊥
+TakesAgent FirstAgent = Unit {0}
+TakesAgent DueAgent = Unit {0}
+TakesAgent Symbol = ⊥
+TakesAgent After = ⊥
 
 -- no parenthesis opens here
 abbrev pub IsClosed : List Token → Type 0
@@ -59,6 +71,8 @@ further_is_closed (more_sources t ts) r = tt
 word_step : (p : Part) (s : Spot) (d : ℕ) (text : List ℕ) (next : Spot) → TakesTerm s → word_spot text ≡ Some next → step (record { part = p; spot = s; depth = d }) (word text) ≡ at p next d
 word_step p First d text next takes is = rw is refl
 word_step p Due d text next takes is = rw is refl
+word_step p FirstAgent d text next takes is = absurd takes
+word_step p DueAgent d text next takes is = absurd takes
 word_step p Symbol d text next takes is = absurd takes
 word_step p After d text next takes is = absurd takes
 
@@ -67,6 +81,15 @@ name_spot n = rw (is_name-name_text n) refl
 
 symbol_spot : (text : List ℕ) → IsTrue (is_symbol_text text) → word_spot text ≡ Some Symbol
 symbol_spot text is = rw (isnt_name-symbol text is, is) refl
+
+agent_step : (p : Part) (s : Spot) (text : List ℕ) → TakesAgent s → IsTrue (is_symbol_text text)
+    → step (record { part = p; spot = s; depth = 0 }) (word text) ≡ at p Symbol 0
+agent_step p First text takes is = absurd takes
+agent_step p Due text takes is = absurd takes
+agent_step p FirstAgent text takes is = rw is refl
+agent_step p DueAgent text takes is = rw is refl
+agent_step p Symbol text takes is = absurd takes
+agent_step p After text takes is = absurd takes
 
 pub inside : (d : ℕ) → eqb (d + 1) 0 ≡ false
 inside d = grind (arith, nat_tests)
@@ -98,3 +121,11 @@ mutual
       ∙ ap (accepts (at p Due (d + 1))) (append_assoc (words t) (further_words ts) r)
       ∙ accepts-words t p Due (d + 1) (further_words ts ++ r) are.0 tt (further_is_closed ts r)
       ∙ accepts-further ts p d r are.1
+
+-- so does an agent, from where one may begin
+pub accepts-agent_words : (a : AgentPhrase) (p : Part) (s : Spot) (r : List Token)
+    → IsSource (agent_source a) → TakesAgent s → IsClosed r
+    → accepts (at p s 0) (words (agent_source a) ++ r) ≡ accepts (at p After 0) r
+accepts-agent_words a p s r is takes closed =
+    ap (λ o. accepts o (argument_words a.arguments ++ r)) (agent_step p s a.text takes is.0)
+    ∙ accepts-arguments a.arguments p 0 r is.1 closed

@@ -1,13 +1,19 @@
 -- Terms taken from the end of a list, and words put in front of them.
-use Rattle.std.proofs.Common.{◌≡◌, ℕ, zero, suc, ◌+◌, List, [], ◌∷◌, ◌++◌, Option, None, Some, reverse, take, drop, length, refl, sym, ap, ◌∙◌, append-nil, arith}
+use Rattle.std.proofs.Common.{◌≡◌, ℕ, zero, suc, ◌+◌, List, [], ◌∷◌, ◌++◌, Option, None, Some, reverse, map, take, drop, length, refl, sym, ap, ◌∙◌, append-nil, arith}
 use Rattle.std.specs.Option.{option_to_list}
-use Rattle.std.proofs.lemmas.List.{reverse-append, map-append}
+use Rattle.std.specs.List.{flat_map}
+use Rattle.std.proofs.lemmas.List.{reverse-append, reverse-reverse, map-append}
 use Rattle.ic_term.specs.declared.term.Term.{Term}
-use Rattle.ic_term.specs.Tree.{Tree}
-use Rattle.ic_term.specs.Term.{tree}
+use Rattle.ic_term.specs.declared.term.Cell.{Cell, out-Cell}
+use Rattle.ic_term.specs.Tree.{Tree, agent, trees_of, list_of, names}
+use Rattle.ic_term.specs.Term.{tree, cell_tree}
+use Rattle.ic_term.specs.TermLaws.{cell_tree-out}
+use Rattle.ic_rules.specs.Renaming.{first_occurrences}
+use Rattle.ic_rules.specs.Written.{written}
 use Rattle.ic_text.specs.declared.number.Item.{Item}
-use Rattle.ic_text.specs.Built.{with_item, built_before}
+use Rattle.ic_text.specs.Built.{with_item, built_before, rule_in}
 use Rattle.ic_text.specs.Terms.{trees, upright}
+use Rattle.ic_text.proofs.Scanning.{map-reverse}
 
 -- the last term of a list comes first
 pub upright-append : (ts : List Term) (t : Term) → upright (ts ++ t ∷ []) ≡ tree t ∷ upright ts
@@ -47,3 +53,25 @@ built_before-append (j ∷ is) i ts = ap (with_item j) (built_before-append is i
 pub empty-length : (ts : List Term) → length ts ≡ 0 → ts ≡ []
 empty-length [] none = refl
 empty-length (t ∷ ts) none = absurd (omega arith)
+
+list_of-trees_of : (ts : List Tree) → list_of (trees_of ts) ≡ ts
+list_of-trees_of [] = refl
+list_of-trees_of (t ∷ ts) = ap (λ us. t ∷ us) (list_of-trees_of ts)
+
+-- two agents as a rule, by what they hold
+pub written-agents : (l r : Cell) → written (l, r) ∷ [] ≡ rule_in (cell_tree l) (cell_tree r)
+written-agents l r =
+    let left = sym (list_of-trees_of (map tree (out-Cell l).args.items)) in
+    let right = sym (list_of-trees_of (map tree (out-Cell r).args.items)) in
+    let plain : written (l, r) ∷ [] ≡ rule_in (agent (out-Cell l).sym (trees_of (map tree (out-Cell l).args.items))) (agent (out-Cell r).sym (trees_of (map tree (out-Cell r).args.items))) = λ i. record {
+      left = (out-Cell l).sym;
+      right = (out-Cell r).sym;
+      left_args = left i;
+      right_args = right i;
+      names = length (first_occurrences (flat_map names (left i) ++ flat_map names (right i)));
+    } ∷ [] in
+    plain ∙ (λ i. rule_in (sym (cell_tree-out l) i) (sym (cell_tree-out r) i))
+
+-- terms turned round stand upright
+pub upright-reverse : (ts : List Term) → upright (reverse ts) ≡ trees ts
+upright-reverse ts = ap reverse (map-reverse tree ts) ∙ reverse-reverse (trees ts)

@@ -13,13 +13,13 @@ use Rattle.ic_text.specs.Built.{with_item, built_before, pairs_of, parted}
 use Rattle.ic_text.proofs.NameLemmas.{is_name-name_text, name_number-name_text, isnt_name-symbol}
 use Rattle.ic_text.proofs.Grammar.{AreSides}
 
-trees_of-list_of : (ts : Trees) → trees_of (list_of ts) ≡ ts
+pub trees_of-list_of : (ts : Trees) → trees_of (list_of ts) ≡ ts
 trees_of-list_of no_trees = refl
 trees_of-list_of (more_trees t ts) = ap (more_trees t) (trees_of-list_of ts)
 
 module _ (table : List Symbol) where
   -- the terms of words over a table
-  abbrev built : List Symbol → List Tree → List Tree
+  abbrev pub built : List Symbol → List Tree → List Tree
   built ws ts = built_before (map (item_in table) ws) ts
 
   built-append : (vs ws : List Symbol) (ts : List Tree) → built (vs ++ ws) ts ≡ built vs (built ws ts)
@@ -53,7 +53,7 @@ module _ (table : List Symbol) where
       built-append (prefix u) (flat_map prefix us) ts ∙ built-prefix u (built (flat_map prefix us) ts) are.0 ∙ ap (λ l. numbered_tree table u ∷ l) (built-interface us ts are.1)
 
   -- the sides of equations, one behind the other
-  abbrev sides_trees : List Sides → List Tree
+  abbrev pub sides_trees : List Sides → List Tree
   sides_trees [] = []
   sides_trees (e ∷ es) = numbered_tree table e.left ∷ numbered_tree table e.right ∷ sides_trees es
 
@@ -70,14 +70,19 @@ module _ (table : List Symbol) where
   pairs_of-sides_trees [] = refl
   pairs_of-sides_trees (e ∷ es) = ap (λ l. numbered_pair table e ∷ l) (pairs_of-sides_trees es)
 
-  -- so the configuration that is built is the one that is written
-  pub parted-built : (p : Phrase) → IsPhrase p → parted (length p.interface) (built (phrase_prefix p) []) ≡ numbered_phrase table p
-  parted-built p is =
-      let all : built (phrase_prefix p) [] ≡ map (numbered_tree table) p.interface ++ sides_trees p.equations =
+  -- the terms that are built are those that are written
+  pub built-phrase : (p : Phrase) → IsPhrase p → built (phrase_prefix p) [] ≡ map (numbered_tree table) p.interface ++ sides_trees p.equations
+  built-phrase p is =
       built-append (flat_map prefix p.interface) (flat_map (λ (e : Sides). prefix e.left ++ prefix e.right) p.equations) []
-      ∙ built-interface p.interface _ is.interface ∙ ap (λ l. map (numbered_tree table) p.interface ++ l) (built-equations p.equations is.equations) in
+      ∙ built-interface p.interface _ is.interface ∙ ap (λ l. map (numbered_tree table) p.interface ++ l) (built-equations p.equations is.equations)
+
+  pub parted-trees : (p : Phrase) → parted (length p.interface) (map (numbered_tree table) p.interface ++ sides_trees p.equations) ≡ numbered_phrase table p
+  parted-trees p =
       let size = length-map p.interface (numbered_tree table) in
-      ap (parted (length p.interface)) all
-      ∙ ap (λ l. configured l (pairs_of (drop (length p.interface) (map (numbered_tree table) p.interface ++ sides_trees p.equations)))) (take_at (map (numbered_tree table) p.interface) (sides_trees p.equations) (length p.interface) size)
+      ap (λ l. configured l (pairs_of (drop (length p.interface) (map (numbered_tree table) p.interface ++ sides_trees p.equations)))) (take_at (map (numbered_tree table) p.interface) (sides_trees p.equations) (length p.interface) size)
       ∙ ap (λ l. configured (map (numbered_tree table) p.interface) (pairs_of l)) (drop_at (map (numbered_tree table) p.interface) (sides_trees p.equations) (length p.interface) size)
       ∙ ap (configured (map (numbered_tree table) p.interface)) (pairs_of-sides_trees p.equations)
+
+  -- so the configuration that is built is the one that is written
+  pub parted-built : (p : Phrase) → IsPhrase p → parted (length p.interface) (built (phrase_prefix p) []) ≡ numbered_phrase table p
+  parted-built p is = ap (parted (length p.interface)) (built-phrase p is) ∙ parted-trees p

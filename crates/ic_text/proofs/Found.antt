@@ -5,7 +5,7 @@ use Rattle.ic_term.specs.Symbol.{is_symbol_text}
 use Rattle.ic_text.specs.declared.token.Mark.{Mark}
 use Rattle.ic_text.specs.declared.token.Mark.TheVariants.{Comma, Open, Close}
 use Rattle.ic_text.specs.declared.syntax.Part.{Part}
-use Rattle.ic_text.specs.declared.syntax.Part.TheVariants.{Begin, Interface, Left, Right, End}
+use Rattle.ic_text.specs.declared.syntax.Part.TheVariants.{Start, RuleLeft, Turn, RuleRight, Begin, Interface, Left, Right, End}
 use Rattle.ic_text.specs.declared.syntax.Spot.{Spot}
 use Rattle.ic_text.specs.declared.syntax.Spot.TheVariants.{Due, Symbol, After}
 use Rattle.ic_text.specs.declared.syntax.State.{State}
@@ -18,13 +18,21 @@ use Rattle.ic_text.proofs.Accepted.{at, symbol_is_term, inside, comma_step, clos
 
 -- a part that terms stand in
 abbrev pub IsInner : Part → Type 0
+IsInner Start = ⊥
+IsInner RuleLeft = Unit {0}
+IsInner Turn = ⊥
+IsInner RuleRight = Unit {0}
 IsInner Begin = ⊥
 IsInner Interface = Unit {0}
 IsInner Left = Unit {0}
 IsInner Right = Unit {0}
 IsInner End = ⊥
 
-goes_on : (p : Part) (s : Spot) (d : ℕ) → IsInner p → accepts (at p s d) [] ≡ true → ⊥
+pub goes_on : (p : Part) (s : Spot) (d : ℕ) → IsInner p → accepts (at p s d) [] ≡ true → ⊥
+goes_on Start s d inner ends = absurd inner
+goes_on RuleLeft s d inner ends = false≢true ends
+goes_on Turn s d inner ends = absurd inner
+goes_on RuleRight s d inner ends = false≢true ends
 goes_on Begin s d inner ends = absurd inner
 goes_on Interface s d inner ends = false≢true ends
 goes_on Left s d inner ends = false≢true ends
@@ -40,12 +48,12 @@ pub record TermFound (p : Part) (d : ℕ) (ts : List Token) : Type 0 where
   pub goes : accepts (at p After d) rest ≡ true
 
 -- the tokens begin with what follows a symbol
-record ArgumentsFound (p : Part) (d : ℕ) (ts : List Token) : Type 0 where
-  terms : Sources
-  are : AreSources terms
-  rest : List Token
-  spelled : ts ≡ argument_words terms ++ rest
-  goes : accepts (at p After d) rest ≡ true
+pub record ArgumentsFound (p : Part) (d : ℕ) (ts : List Token) : Type 0 where
+  pub terms : Sources
+  pub are : AreSources terms
+  pub rest : List Token
+  pub spelled : ts ≡ argument_words terms ++ rest
+  pub goes : accepts (at p After d) rest ≡ true
 
 -- the tokens begin with what follows an argument
 record FurtherFound (p : Part) (d : ℕ) (ts : List Token) : Type 0 where
@@ -132,3 +140,7 @@ below (suc n) = record { term = term_from n (below n); further = further_from n 
 
 pub term_due : (ts : List Token) (p : Part) → IsInner p → accepts (at p Due 0) ts ≡ true → TermFound p 0 ts
 term_due ts p inner goes = (below (length ts)).term ts (omega arith) p 0 inner goes
+
+-- the arguments of a symbol outside all parentheses
+pub arguments_due : (ts : List Token) (p : Part) → IsInner p → accepts (at p Symbol 0) ts ≡ true → ArgumentsFound p 0 ts
+arguments_due ts p inner goes = arguments_from (length ts) (below (length ts)) ts (omega arith) p 0 inner goes

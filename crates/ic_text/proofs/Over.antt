@@ -13,7 +13,7 @@ use Rattle.ic_text.specs.Sense.{symbol_table, has_its_arity, is_in_limits, numbe
 use Rattle.ic_text.proofs.BuiltTrees.{length-numbered_trees}
 
 module _ (table : List Symbol) where
-  found_has : (arity : ℕ) (o : Option ℕ) → has_arity arity (option_and_then (slice_get table) o) ≡ true → has_arity arity (slice_get table (unwrap_or o 0)) ≡ true
+  pub found_has : (arity : ℕ) (o : Option ℕ) → has_arity arity (option_and_then (slice_get table) o) ≡ true → has_arity arity (slice_get table (unwrap_or o 0)) ≡ true
   found_has arity None has = absurd (false≢true has)
   found_has arity (Some n) has = has
 
@@ -44,7 +44,7 @@ module _ (table : List Symbol) where
       let sides = and_parts _ _ (sym (list_all-append (has_its_arity table) (source_symbols e.left) (source_symbols e.right)) ∙ parts.0) in
       and_from _ _ (and_from _ _ (over-numbered_tree e.left sides.0) (over-numbered_tree e.right sides.1)) (over-equations es parts.1)
 
-  over-numbered_phrase : (p : Phrase) → list_all (has_its_arity table) (phrase_symbols p) ≡ true → is_over table (numbered_phrase table p) ≡ true
+  pub over-numbered_phrase : (p : Phrase) → list_all (has_its_arity table) (phrase_symbols p) ≡ true → is_over table (numbered_phrase table p) ≡ true
   over-numbered_phrase p agree =
       let parts = and_parts _ _ (sym (list_all-append (has_its_arity table) (flat_map source_symbols p.interface) (flat_map (λ (x : Sides). source_symbols x.left ++ source_symbols x.right) p.equations)) ∙ agree) in
       and_from _ _ (over-interface p.interface parts.0) (over-equations p.equations parts.1)

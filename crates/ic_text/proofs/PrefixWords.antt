@@ -118,7 +118,7 @@ arities-words table (w ∷ ws) = by_name (is_name w.text) (arities-words table w
 
 -- as many words as nodes
 mutual
-  length-prefix : (t : Source) → length (prefix t) ≡ source_nodes t
+  pub length-prefix : (t : Source) → length (prefix t) ≡ source_nodes t
   length-prefix (leaf n) = refl
   length-prefix (node text ts) = omega (arith, length-prefix_of_sources ts)
 

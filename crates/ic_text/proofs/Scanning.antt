@@ -12,11 +12,11 @@ use Rattle.ic_text.proofs.Accepted.{IsClosed, further_is_closed}
 use Rattle.ic_text.proofs.Grammar.{behind_commas, behind_is_closed}
 
 -- what is scanned, as one record
-abbrev made : List Symbol → List ℕ → ℕ → ℕ → Scanned
+abbrev pub made : List Symbol → List ℕ → ℕ → ℕ → Scanned
 made ns cs a k = record { nodes = ns; counts = cs; arity = a; terms = k }
 
 -- words in front of what was scanned
-abbrev with_term : List Symbol → Scanned → Scanned
+abbrev pub with_term : List Symbol → Scanned → Scanned
 with_term ns s = made (ns ++ s.nodes) s.counts 0 (term_more s.counts s.terms)
 
 no_list_opens : (ts : List Token) → IsClosed ts → (scan ts).arity ≡ 0
@@ -26,7 +26,7 @@ no_list_opens (mark Open ∷ ts) closed = absurd closed
 no_list_opens (mark m ∷ ts) closed = refl
 
 mutual
-  scan-words : (t : Source) (r : List Token) → IsClosed r → scan (words t ++ r) ≡ with_term (prefix t) (scan r)
+  pub scan-words : (t : Source) (r : List Token) → IsClosed r → scan (words t ++ r) ≡ with_term (prefix t) (scan r)
   scan-words (leaf n) r closed = ap (λ a. made (record { text = name_text n; arity = a } ∷ (scan r).nodes) (scan r).counts 0 (term_more (scan r).counts (scan r).terms)) (no_list_opens r closed)
   scan-words (node text ts) r closed = ap (scan_step (word text)) (scan-arguments ts r closed)
 

@@ -27,7 +27,7 @@ flat_map-map : {A B C : Type 0} (f : B → List C) (g : A → B) (xs : List A) �
 flat_map-map f g [] = refl
 flat_map-map f g (x ∷ xs) = ap (λ l. f (g x) ++ l) (flat_map-map f g xs)
 
-sum_by-map : {A B : Type 0} (f : B → ℕ) (g : A → B) (xs : List A) → sum_by f (map g xs) ≡ sum_by (λ x. f (g x)) xs
+pub sum_by-map : {A B : Type 0} (f : B → ℕ) (g : A → B) (xs : List A) → sum_by f (map g xs) ≡ sum_by (λ x. f (g x)) xs
 sum_by-map f g [] = refl
 sum_by-map f g (x ∷ xs) = sum_by-cons f (g x) (map g xs) ∙ ap (λ n. f (g x) + n) (sum_by-map f g xs) ∙ sym (sum_by-cons (λ y. f (g y)) x xs)
 
@@ -37,7 +37,7 @@ module _ (table : List Symbol) where
     names-numbered_tree (leaf n) = refl
     names-numbered_tree (node text ts) = names-numbered_trees ts
 
-    names-numbered_trees : (ts : Sources) → names_of (numbered_trees table ts) ≡ names_of_sources ts
+    pub names-numbered_trees : (ts : Sources) → names_of (numbered_trees table ts) ≡ names_of_sources ts
     names-numbered_trees no_sources = refl
     names-numbered_trees (more_sources t ts) = λ i. names-numbered_tree t i ++ names-numbered_trees ts i
 
@@ -46,7 +46,7 @@ module _ (table : List Symbol) where
     nodes-numbered_tree (leaf n) = refl
     nodes-numbered_tree (node text ts) = ap (λ n. 1 + n) (nodes-numbered_trees ts)
 
-    nodes-numbered_trees : (ts : Sources) → nodes_of (numbered_trees table ts) ≡ nodes_of_sources ts
+    pub nodes-numbered_trees : (ts : Sources) → nodes_of (numbered_trees table ts) ≡ nodes_of_sources ts
     nodes-numbered_trees no_sources = refl
     nodes-numbered_trees (more_sources t ts) = λ i. nodes-numbered_tree t i + nodes-numbered_trees ts i
 
@@ -78,7 +78,7 @@ and4 : (a b c d : Bool) → a ≡ true → b ≡ true → c ≡ true → d ≡ t
 and4 a b c d x y z w = rw (x, y, z, w) refl
 
 -- within the limits of a text, only a third occurrence refuses a configuration
-restored-numbered : (table : List Symbol) (p : Phrase) → nat_le (phrase_nodes p) MAX_NODES ≡ true → nat_le (length p.interface) MAX_INTERFACE ≡ true → list_all (λ n. nat_le n MAX_NAME) (phrase_names p) ≡ true
+pub restored-numbered : (table : List Symbol) (p : Phrase) → nat_le (phrase_nodes p) MAX_NODES ≡ true → nat_le (length p.interface) MAX_INTERFACE ≡ true → list_all (λ n. nat_le n MAX_NAME) (phrase_names p) ≡ true
     → restored (numbered_phrase table p) ≡ unless_third (numbered_phrase table p) (third_occurrence (phrase_names p))
 restored-numbered table p few short low =
     let c = numbered_phrase table p in
@@ -106,23 +106,23 @@ third_beside table c None = refl
 third_beside table c (Some n) = refl
 
 module _ (p : Phrase) (is : IsPhrase p) where
-  abbrev table : List Symbol
+  abbrev pub table : List Symbol
   table = symbol_table p
 
-  abbrev items : List Item
+  abbrev pub items : List Item
   items = map (item_in table) (phrase_prefix p)
 
   -- the limits of words and of their table
-  abbrev in_limits : Bool
+  abbrev pub in_limits : Bool
   in_limits = (list_all (λ s. fits_limits s.text s.arity) (phrase_symbols p) && list_all (λ n. nat_le n MAX_NAME) (phrase_names p)) && nat_le (length table) MAX_SYMBOLS
 
-  abbrev agree : Bool
+  abbrev pub agree : Bool
   agree = list_all (has_its_arity table) (phrase_symbols p)
 
   abbrev value : Result (List Symbol × Configuration) TextFault
   value = unless_third_name {A = List Symbol × Configuration} (table, numbered_phrase table p) (third_occurrence (phrase_names p))
 
-  numbered_words-phrase : numbered_words (phrase_prefix p) ≡ unless_refused {A = List Symbol × List Item} in_limits agree (table, items)
+  pub numbered_words-phrase : numbered_words (phrase_prefix p) ≡ unless_refused {A = List Symbol × List Item} in_limits agree (table, items)
   numbered_words-phrase =
       let ws = phrase_prefix p in
       let same_table : table_over [] ws ≡ table = table-words ws [] ∙ ap (symbols_after []) (symbols_among-phrase p is) in

@@ -17,7 +17,7 @@ zero-lt n = grind (arith, nat_tests)
 
 module _ {X : Type 0} (p : X → Bool) where
   -- the first place in a list, by its first element
-  position-cons : (x : X) (xs : List X) → position p (x ∷ xs) ≡ cond (p x) (Some 0) (option_map (λ k. 1 + k) (position p xs))
+  pub position-cons : (x : X) (xs : List X) → position p (x ∷ xs) ≡ cond (p x) (Some 0) (option_map (λ k. 1 + k) (position p xs))
   position-cons x xs = by_test (p x)
     where
       by_place : (k : ℕ) (b : Bool) → cond b (Some (1 + k)) None ≡ option_map (λ k. 1 + k) (cond b (Some k) None)

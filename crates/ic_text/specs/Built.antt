@@ -1,7 +1,17 @@
--- The terms of a configuration, made of its words in prefix notation from the last to the first.
-use Rattle.std.specs.Prelude.{ℕ, List, [], ◌∷◌, take, drop}
-use Rattle.ic_term.specs.Tree.{Tree, name, agent, trees_of, Pair}
+-- The terms of a configuration, made of its words in prefix notation from the last to the first, and those of rules.
+use Rattle.std.specs.Prelude.{ℕ, List, [], ◌∷◌, ◌++◌, Result, Ok, Err, length, take, drop, if◌then◌else◌}
+use Rattle.std.specs.List.{flat_map}
+use Rattle.ic_term.specs.Tree.{Tree, name, agent, trees_of, list_of, names, Pair}
+use Rattle.ic_term.specs.Symbol.{is_over}
 use Rattle.ic_term.specs.Configuration.{Configuration, configured}
+use Rattle.ic_rules.specs.Renaming.{first_occurrences}
+use Rattle.ic_rules.specs.Rule.{Rule}
+use Rattle.ic_rules.specs.RuleSet.{Rules}
+use Rattle.ic_rules.specs.System.{SystemParts}
+use Rattle.ic_rules.specs.declared.rule_set.RuleFault.{RuleFault}
+use Rattle.ic_rules.specs.declared.rule_set.RuleFault.TheVariants.{Limit as TooMany, Arity as OtherArity, NameCount as Uncounted, Twice as Repeated, Lopsided as Uneven, Memory as NoRoom}
+use Rattle.ic_text.specs.declared.fault.TextFault.{TextFault}
+use Rattle.ic_text.specs.declared.fault.TextFault.TheVariants.{Limit, Arity, NameCount, Twice, Lopsided, Memory}
 use Rattle.ic_text.specs.declared.number.Item.{Item}
 use Rattle.ic_text.specs.declared.number.Item.TheVariants.{Name, Symbol}
 
@@ -24,3 +34,37 @@ pairs_of (t ∷ u ∷ ts) = record { left = t; right = u } ∷ pairs_of ts
 -- the configuration with so many terms of the interface before the sides of its equations
 abbrev pub parted : ℕ → List Tree → Configuration
 parted terms ts = configured (take terms ts) (pairs_of (drop terms ts))
+
+-- a rule of two agents, its names as they are written; a term that is no agent makes none
+abbrev pub rule_in : Tree → Tree → List Rule
+rule_in (name n) u = []
+rule_in (agent a ts) (name n) = []
+rule_in (agent a ts) (agent b us) = record {
+  left = a;
+  right = b;
+  left_args = list_of ts;
+  right_args = list_of us;
+  names = length (first_occurrences (flat_map names (list_of ts) ++ flat_map names (list_of us)));
+} ∷ []
+
+-- the rules of agents two by two
+abbrev pub rules_in : List Tree → List Rule
+rules_in [] = []
+rules_in (t ∷ []) = []
+rules_in (t ∷ u ∷ ts) = rule_in t u ++ rules_in ts
+
+-- a refusal, but that of the configuration comes before it
+abbrev pub behind_config : Result Configuration TextFault → TextFault → Result SystemParts TextFault
+behind_config (Ok c) fault = Err fault
+behind_config (Err e) fault = Err e
+
+-- the system of rules and a configuration, or the first refusal of both
+abbrev pub joined : Result Rules RuleFault → Result Configuration TextFault → Result SystemParts TextFault
+joined (Err TooMany) c = Err Limit
+joined (Err (OtherArity n)) c = Err Arity
+joined (Err (Uncounted i)) c = Err (NameCount i)
+joined (Err (Repeated i)) c = behind_config c (Twice i)
+joined (Err (Uneven i)) c = behind_config c (Lopsided i)
+joined (Err NoRoom) c = Err Memory
+joined (Ok rs) (Err e) = Err e
+joined (Ok rs) (Ok c) = if is_over rs.symbols c then Ok (record { rules = rs; config = c }) else Err Arity

@@ -2,8 +2,12 @@ pub mod Token
 pub mod Name
 pub mod Tokens
 pub mod Source
+pub mod SystemSource
+pub mod Braces
 pub mod Sense
+pub mod SystemSense
 pub mod Text
+pub mod SystemText
 pub mod Syntax
 pub mod Prefix
 pub mod Numbered

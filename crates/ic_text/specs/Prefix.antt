@@ -10,6 +10,7 @@ use Rattle.ic_text.specs.declared.prefix.Scan.{Scan}
 use Rattle.ic_text.specs.Token.{Token, word, mark}
 use Rattle.ic_text.specs.Name.{name_text}
 use Rattle.ic_text.specs.Source.{Source, leaf, node, Sources, no_sources, more_sources, Phrase, count_of}
+use Rattle.ic_text.specs.SystemSource.{RulePhrase, agent_source}
 
 abbrev mutual
   pub prefix : Source → List Symbol
@@ -22,6 +23,10 @@ abbrev mutual
 
 abbrev pub phrase_prefix : Phrase → List Symbol
 phrase_prefix p = flat_map prefix p.interface ++ flat_map (λ e. prefix e.left ++ prefix e.right) p.equations
+
+-- the words of rules, those of the agent on the left before those of the agent on the right
+abbrev pub rules_prefix : List RulePhrase → List Symbol
+rules_prefix rs = flat_map (λ r. prefix (agent_source r.left) ++ prefix (agent_source r.right)) rs
 
 -- What is known of tokens that were scanned from their end: the words, the arguments so far of each list that
 -- is open, those of the list that just opened, and the terms outside all parentheses before a `|`.

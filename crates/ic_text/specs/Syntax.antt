@@ -2,18 +2,22 @@
 use Rattle.std.specs.Prelude.{ℕ, ◌+◌, ◌-◌, ◌==◌, List, [], ◌∷◌, Bool, true, false, Option, None, Some, if◌then◌else◌}
 use Rattle.ic_term.specs.Symbol.{is_symbol_text}
 use Rattle.ic_text.specs.declared.token.Mark.{Mark}
-use Rattle.ic_text.specs.declared.token.Mark.TheVariants.{Less, Greater, Bar, Equals, Comma, Open, Close}
+use Rattle.ic_text.specs.declared.token.Mark.TheVariants.{LeftBrace, RightBrace, Less, Greater, Bar, Equals, Comma, Semicolon, Open, Close}
 use Rattle.ic_text.specs.declared.syntax.Part.{Part}
-use Rattle.ic_text.specs.declared.syntax.Part.TheVariants.{Begin, Interface, Left, Right, End}
+use Rattle.ic_text.specs.declared.syntax.Part.TheVariants.{Start, RuleLeft, Turn, RuleRight, Begin, Interface, Left, Right, End}
 use Rattle.ic_text.specs.declared.syntax.Spot.{Spot}
-use Rattle.ic_text.specs.declared.syntax.Spot.TheVariants.{First, Due, Symbol, After}
+use Rattle.ic_text.specs.declared.syntax.Spot.TheVariants.{First, Due, FirstAgent, DueAgent, Symbol, After}
 use Rattle.ic_text.specs.declared.syntax.State.{State}
 use Rattle.ic_text.specs.Token.{Token, word, mark}
 use Rattle.ic_text.specs.Name.{is_name}
 
--- what follows a word where a term may begin: a name ends its term, a symbol may have arguments
+-- what follows a word where an agent may begin: only a symbol begins one, and may have arguments
+abbrev pub agent_spot : List ℕ → Option Spot
+agent_spot text = if is_symbol_text text then Some Symbol else None
+
+-- what follows a word where a term may begin: a name ends its term, a symbol begins an agent
 abbrev pub word_spot : List ℕ → Option Spot
-word_spot text = if is_name text then Some After else (if is_symbol_text text then Some Symbol else None)
+word_spot text = if is_name text then Some After else agent_spot text
 
 -- what stands beside a number that stays
 abbrev pub beside : ℕ → Option Spot → Option (Spot × ℕ)
@@ -35,22 +39,30 @@ symbol_step depth m = inside_step depth m
 abbrev pub term_step : Spot → ℕ → Token → Option (Spot × ℕ)
 term_step First depth (word text) = beside depth (word_spot text)
 term_step Due depth (word text) = beside depth (word_spot text)
+term_step FirstAgent depth (word text) = beside depth (agent_spot text)
+term_step DueAgent depth (word text) = beside depth (agent_spot text)
 term_step Symbol depth (mark m) = symbol_step depth m
 term_step After depth (mark m) = inside_step depth m
 term_step _ depth _ = None
 
 -- what follows a term outside all parentheses
 abbrev pub end_step : Part → Mark → Option (Part × Spot)
+end_step Start LeftBrace = Some (RuleLeft, FirstAgent)
+end_step RuleLeft Greater = Some (Turn, After)
+end_step Turn Less = Some (RuleRight, DueAgent)
+end_step RuleRight Semicolon = Some (RuleLeft, DueAgent)
+end_step RuleRight RightBrace = Some (Begin, After)
+end_step Begin Less = Some (Interface, First)
 end_step Interface Bar = Some (Left, First)
 end_step Interface Comma = Some (Interface, Due)
 end_step Left Equals = Some (Right, Due)
 end_step Right Comma = Some (Left, Due)
 end_step Right Greater = Some (End, After)
-end_step Begin Less = Some (Interface, First)
 end_step _ _ = None
 
 -- what follows where a part may be empty
 abbrev pub empty_step : Part → Mark → Option (Part × Spot)
+empty_step RuleLeft RightBrace = Some (Begin, After)
 empty_step Interface Bar = Some (Left, First)
 empty_step Left Greater = Some (End, After)
 empty_step _ _ = None
@@ -59,6 +71,8 @@ empty_step _ _ = None
 abbrev pub part_step : Part → Spot → Mark → Option (Part × Spot)
 part_step p First m = empty_step p m
 part_step p Due m = None
+part_step p FirstAgent m = empty_step p m
+part_step p DueAgent m = None
 part_step p Symbol m = end_step p m
 part_step p After m = end_step p m
 
@@ -74,6 +88,10 @@ either_step p s depth (mark m) None = if depth == 0 then outside (part_step p s 
 
 abbrev pub step : State → Token → Option State
 step st t = either_step st.part st.spot st.depth t (term_step st.spot st.depth t)
+
+-- where the check of a part begins, in front of its first mark
+abbrev pub beginning : Part → Option State
+beginning p = Some (record { part = p; spot = After; depth = 0 })
 
 -- the tokens lead from a state to the end
 abbrev pub accepts : Option State → List Token → Bool

@@ -1,16 +1,21 @@
-//! The terms of a configuration, made of its words in prefix notation from the last to the first.
+//! The terms of a configuration, made of its words in prefix notation from the last to the first, and those of rules.
 
 ghost use Rattle.std.specs.Prelude.{◌≡◌, IfOk, OnOk, map, take, drop, []};
-ghost use Rattle.ic_term.specs.Term.{pair};
+ghost use Rattle.std.specs.Option.{option_to_list};
+ghost use Rattle.ic_term.specs.Term.{tree, pair};
 ghost use Rattle.ic_term.specs.Configuration.{restored};
-ghost use Rattle.ic_text.specs.Built.{built_before, pairs_of, parted, with_item};
+ghost use Rattle.ic_rules.specs.RuleSet.{built};
+ghost use Rattle.ic_rules.specs.Written.{written};
+ghost use Rattle.ic_text.specs.Built.{built_before, pairs_of, parted, rule_in, rules_in, joined, with_item};
 ghost use Rattle.ic_text.specs.Numbered.{Gives, as_text_answer};
 ghost use Rattle.ic_text.specs.Terms.{trees, upright};
 
 use crate::fault::TextFault;
 use crate::number::Item;
-use ic_term::{Cell, Config, ConfigFault, Equation, Term};
+use ic_rules::{RuleFault, RuleSet, System};
+use ic_term::{Cell, Config, ConfigFault, Equation, Symbols, Term};
 use std::alloc::{AllocError, Global};
+use std::sync::Arc;
 
 /// Takes so many terms, or all that there are, from the end of a list, the last one first.
 fn take_last(alloc: Global, stack: &mut Vec<Term>, count: usize) -> Result<Vec<Term>, AllocError>
@@ -65,12 +70,10 @@ fn terms_of(alloc: Global, mut items: Vec<Item>) -> Result<Vec<Term>, AllocError
     Ok(stack)
 }
 
-/// The configuration of words in prefix notation, with so many terms in its interface.
-pub(crate) fn config_of(alloc: Global, items: Vec<Item>, terms: usize) -> Result<Config, TextFault>
-    ensures { Gives (λ config. config) result
-        (as_text_answer (restored (parted terms (built_before items.items [])))) }
+/// The configuration of terms that stand from the last to the first, so many of them in its interface.
+fn configure(alloc: Global, mut stack: Vec<Term>, terms: usize) -> Result<Config, TextFault>
+    ensures { Gives (λ config. config) result (as_text_answer (restored (parted terms (upright stack.items)))) }
 {
-    let mut stack = terms_of(alloc, items)?;
     let interface = take_last(alloc, &mut stack, terms)?;
     let equations = take_pairs(alloc, stack)?;
     match Config::new(alloc, interface, equations) {
@@ -79,4 +82,90 @@ pub(crate) fn config_of(alloc: Global, items: Vec<Item>, terms: usize) -> Result
         Err(ConfigFault::Name(name)) => Err(TextFault::Name(name)),
         Err(ConfigFault::Memory) => Err(TextFault::Memory),
     }
+}
+
+/// The configuration of words in prefix notation, with so many terms in its interface.
+pub(crate) fn config_of(alloc: Global, items: Vec<Item>, terms: usize) -> Result<Config, TextFault>
+    ensures { Gives (λ config. config) result
+        (as_text_answer (restored (parted terms (built_before items.items [])))) }
+{
+    let stack = terms_of(alloc, items)?;
+    configure(alloc, stack, terms)
+}
+
+/// The rule of two terms, if both are agents.
+fn rule_of(left: Term, right: Term) -> Option<(Cell, Cell)>
+    ensures { map written (option_to_list result) ≡ rule_in (tree left) (tree right) }
+{
+    let Term::Agent(left) = left else {
+        return None;
+    };
+    let Term::Agent(right) = right else {
+        return None;
+    };
+    Some((Box::into_inner(left), Box::into_inner(right)))
+}
+
+/// The rules of agents two by two.
+fn rules_of(alloc: Global, mut agents: Vec<Term>) -> Result<Vec<(Cell, Cell)>, AllocError>
+    ensures { IfOk result (λ rules. map written rules.items ≡ rules_in (trees agents.items)) }
+{
+    agents.reverse();
+    let mut rules = Vec::new(alloc);
+    while let Some(left) = agents.pop() {
+        if let Some(right) = agents.pop()
+            && let Some(rule) = rule_of(left, right)
+        {
+            rules.push(rule)?;
+        }
+    }
+    Ok(rules)
+}
+
+/// The system of rules and a configuration, or the first refusal of both. That of a rule's names comes before that of
+/// the configuration, and those of pairs and of lopsided rules come behind it.
+fn join(
+    alloc: Global,
+    rules: Result<RuleSet, RuleFault>,
+    config: Result<Config, TextFault>,
+) -> Result<System, TextFault>
+    ensures { Gives (λ system. system) result (joined rules config) }
+{
+    match rules {
+        Ok(rules) => match System::new(Arc::new(alloc, rules)?, config?) {
+            Some(system) => Ok(system),
+            None => Err(TextFault::Arity),
+        },
+        Err(RuleFault::Limit) => Err(TextFault::Limit),
+        Err(RuleFault::Arity(_)) => Err(TextFault::Arity),
+        Err(RuleFault::NameCount(place)) => Err(TextFault::NameCount(place)),
+        Err(RuleFault::Twice(place)) => {
+            config?;
+            Err(TextFault::Twice(place))
+        }
+        Err(RuleFault::Lopsided(place)) => {
+            config?;
+            Err(TextFault::Lopsided(place))
+        }
+        Err(RuleFault::Memory) => Err(TextFault::Memory),
+    }
+}
+
+/// The system of words in prefix notation, the first of which write so many agents, the sides of rules.
+pub(crate) fn system_of(
+    alloc: Global,
+    symbols: Symbols,
+    items: Vec<Item>,
+    agents: usize,
+    terms: usize,
+) -> Result<System, TextFault>
+    ensures { Gives (λ system. system) result (joined
+        (built symbols (rules_in (take agents (built_before items.items []))))
+        (as_text_answer (restored (parted terms (drop agents (built_before items.items [])))))) }
+{
+    let mut stack = terms_of(alloc, items)?;
+    let agents = take_last(alloc, &mut stack, agents)?;
+    let rules = RuleSet::build(alloc, symbols, rules_of(alloc, agents)?);
+    let config = configure(alloc, stack, terms);
+    join(alloc, rules, config)
 }

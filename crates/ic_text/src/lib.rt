@@ -1,8 +1,8 @@
-//! Reading and printing configurations of the interaction calculus.
+//! Reading and printing configurations and systems of the interaction calculus.
 //!
-//! `read_config` answers what a text means, or the first refusal: its value is `sense` of the one phrase
-//! that the text spells. `print_config` writes the tokens of a configuration without blanks, and `print_fault`
-//! the line of a refusal. `laws` holds what is proved of the definitions alone.
+//! `read_config` answers what a text means, or the first refusal: its value is `sense` of the one phrase that the text
+//! spells. `read_system` does the same of rules and a configuration. `print_config` writes the tokens of a configuration
+//! without blanks, and `print_fault` the line of a refusal. `laws` holds what is proved of the definitions alone.
 #![tactic(auto)]
 
 mod build;
@@ -15,6 +15,7 @@ mod prefix;
 mod print;
 mod read;
 mod syntax;
+mod system;
 #[cfg(test)]
 mod tests;
 mod token;
@@ -23,3 +24,4 @@ pub use fault::TextFault;
 pub use limits::{MAX_NAME, MAX_TEXT};
 pub use print::{print_config, print_fault};
 pub use read::read_config;
+pub use system::read_system;

@@ -1,12 +1,14 @@
 //! A configuration in prefix notation, made of its tokens without a step into what they nest.
 
-ghost use Rattle.std.specs.Prelude.{◌≡◌, ◌+◌, ◌<◌, ◌^◌, ◌&&◌, IfOk, OnOk, length, nat_le};
+ghost use Rattle.std.specs.Prelude.{◌≡◌, ◌+◌, ◌-◌, ◌*◌, ◌<◌, ◌^◌, ◌&&◌, IfOk, OnOk, List, length, nat_le};
 ghost use Rattle.std.specs.List.{AllByRecursion};
 ghost use Rattle.ic_text.specs.Source.{Phrase, phrase_words};
+ghost use Rattle.ic_text.specs.SystemSource.{RulePhrase, rules_words};
 ghost use Rattle.ic_text.specs.Tokens.{token_of, tokens_in};
-ghost use Rattle.ic_text.specs.Prefix.{phrase_prefix, nodes_of, scan_step, scanned};
+ghost use Rattle.ic_text.specs.Prefix.{phrase_prefix, rules_prefix, nodes_of, scan_step, scanned};
 
 use crate::token::{Mark, Token};
+use ic_rules::{MAX_RULE_NODES, MAX_RULES};
 use ic_term::{MAX_INTERFACE, MAX_NODES};
 use std::alloc::{AllocError, Global};
 
@@ -17,7 +19,8 @@ pub(crate) struct Node<'a> {
     pub arity: usize,
 }
 
-/// The words of a configuration in the order of the text, and how many terms its interface has.
+/// The words of a configuration in the order of the text, and how many terms its interface has; or the words of rules,
+/// and how many agents are their sides.
 #[derive(Debug, Drop)]
 pub(crate) struct Prefix<'a> {
     pub nodes: Vec<Node<'a>>,
@@ -31,6 +34,15 @@ impl Prefix<'_> {
             && nat_le self.now.terms MAX_INTERFACE) }
     {
         self.nodes.len() as u64 <= MAX_NODES && self.terms <= MAX_INTERFACE
+    }
+
+    /// Whether rules of these words are neither too many nor have too many nodes in their arguments.
+    pub(crate) fn fits_rules(&self) -> bool
+        ensures { result ≡ (nat_le self.now.terms (2 * MAX_RULES)
+            && nat_le (length self.now.nodes.items - self.now.terms) MAX_RULE_NODES) }
+    {
+        self.terms <= 2 * MAX_RULES
+            && self.nodes.len().saturating_sub(self.terms) as u64 <= MAX_RULE_NODES
     }
 }
 
@@ -74,12 +86,17 @@ impl<'a> Scan<'a> {
     }
 }
 
-/// The words of a configuration with these tokens, and its number of terms. Takes one pass.
+/// The words of a configuration with these tokens, and its number of terms, or those of rules, and how many agents are
+/// their sides. Takes one pass.
 pub(crate) fn prefix_of<'a>(alloc: Global, tokens: &[Token<'a>]) -> Result<Prefix<'a>, AllocError>
     ensures nodes { IfOk result (λ found. (p : Phrase) →
         tokens_in tokens.now ≡ phrase_words p → nodes_of found.nodes.items ≡ phrase_prefix p) }
     ensures terms { IfOk result (λ found. (p : Phrase) →
         tokens_in tokens.now ≡ phrase_words p → found.terms ≡ length p.interface) }
+    ensures rules { IfOk result (λ found. (rs : List RulePhrase) →
+        tokens_in tokens.now ≡ rules_words rs → nodes_of found.nodes.items ≡ rules_prefix rs) }
+    ensures agents { IfOk result (λ found. (rs : List RulePhrase) →
+        tokens_in tokens.now ≡ rules_words rs → found.terms ≡ 2 * length rs) }
 {
     let mut scan = Scan {
         nodes: Vec::new(alloc),

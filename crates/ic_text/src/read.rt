@@ -35,7 +35,7 @@ fn sense_of(alloc: Global, tokens: &[Token]) -> Result<(Symbols, Config), TextFa
 }
 
 /// The configuration that a text means, with its symbols numbered by first occurrence and `next` one above its
-/// greatest name, or the first refusal. Takes n log n steps, and doesn't recurse.
+/// greatest name, or the first refusal. Takes n log n steps. Limits are settled before anything recurses on nesting.
 pub fn read_config(alloc: Global, text: &[u8]) -> Result<(Symbols, Config), TextFault>
     ensures read { IfOk result (λ v. Reads text.now (Ok v)) }
     ensures over { IfOk result (λ v. IsTrue (is_over v.0 v.1)) }

@@ -1,31 +1,54 @@
-//! The grammar: whether tokens are a configuration, without a stack of what is open.
+//! The grammar: whether tokens are a configuration or a system, without a stack of what is open.
 
 ghost use Rattle.std.specs.Prelude.{◌≡◌, ◌+◌, ◌<◌, ◌≤◌, ◌^◌, ◌↔◌, IsTrue, IfSome, Some};
+ghost use Rattle.ic_text.specs.Braces.{split_at_brace};
 ghost use Rattle.ic_text.specs.Source.{SpelledBy};
-ghost use Rattle.ic_text.specs.Syntax.{word_spot, term_step, part_step, step, accepts};
+ghost use Rattle.ic_text.specs.Syntax.{agent_spot, word_spot, term_step, end_step, empty_step, part_step};
+ghost use Rattle.ic_text.specs.Syntax.{step, beginning, accepts};
+ghost use Rattle.ic_text.specs.SystemSource.{SystemSpelledBy};
 ghost use Rattle.ic_text.specs.Tokens.{token_of, tokens_in};
 
 use crate::name::is_name;
 use crate::token::{Mark, Token};
 use ic_term::is_symbol;
 
-/// The part of a configuration that comes next.
+/// The part of a system or a configuration that comes next.
 #[derive(Clone, Copy, Debug, PartialEq, Eq)]
 pub(crate) enum Part {
+    /// A system, from its `{` on.
+    Start,
+    /// The left side of a rule.
+    RuleLeft,
+    /// The `<` of a rule, behind its `>`.
+    Turn,
+    /// The right side of a rule.
+    RuleRight,
+    /// A configuration, from its `<` on.
     Begin,
+    /// The interface.
     Interface,
+    /// The left side of an equation.
     Left,
+    /// The right side of an equation.
     Right,
+    /// Nothing.
     End,
 }
 
-/// What may come next within a part: a term or the end of the part, a term, what follows a symbol, or what
-/// follows a term.
+/// What may come next within a part.
 #[derive(Clone, Copy, Debug, PartialEq, Eq)]
 pub(crate) enum Spot {
+    /// A term, or the end of the part.
     First,
+    /// A term.
     Due,
+    /// An agent, or the end of the part.
+    FirstAgent,
+    /// An agent.
+    DueAgent,
+    /// What follows a symbol.
     Symbol,
+    /// What follows a term.
     After,
 }
 
@@ -37,11 +60,12 @@ pub(crate) struct State {
     depth: usize,
 }
 
-const BEGIN: State = State {
-    part: Part::Begin,
-    spot: Spot::After,
-    depth: 0,
-};
+/// What follows a word where an agent may begin.
+fn agent_spot(text: &[u8]) -> Option<Spot>
+    ensures { result ≡ agent_spot text.now }
+{
+    is_symbol(text).then_some(Spot::Symbol)
+}
 
 /// What follows a word where a term may begin.
 fn word_spot(text: &[u8]) -> Option<Spot>
@@ -49,10 +73,8 @@ fn word_spot(text: &[u8]) -> Option<Spot>
 {
     if is_name(text) {
         Some(Spot::After)
-    } else if is_symbol(text) {
-        Some(Spot::Symbol)
     } else {
-        None
+        agent_spot(text)
     }
 }
 
@@ -63,10 +85,8 @@ fn term_step(spot: Spot, depth: usize, token: &Token) -> Option<(Spot, usize)>
     ensures rises { IfSome result (λ next. next.1 ≤ depth + 1) }
 {
     match (spot, token) {
-        (Spot::First | Spot::Due, Token::Word(text)) => match word_spot(text) {
-            Some(next) => Some((next, depth)),
-            None => None,
-        },
+        (Spot::First | Spot::Due, Token::Word(text)) => Some((word_spot(text)?, depth)),
+        (Spot::FirstAgent | Spot::DueAgent, Token::Word(text)) => Some((agent_spot(text)?, depth)),
         (Spot::Symbol, Token::Mark(Mark::Open)) => Some((Spot::Due, depth + 1)),
         (Spot::Symbol | Spot::After, Token::Mark(Mark::Comma)) if depth > 0 => {
             Some((Spot::Due, depth))
@@ -78,21 +98,46 @@ fn term_step(spot: Spot, depth: usize, token: &Token) -> Option<(Spot, usize)>
     }
 }
 
+/// What follows a term outside all parentheses.
+fn end_step(part: Part, mark: Mark) -> Option<(Part, Spot)>
+    ensures { result ≡ end_step part mark }
+{
+    match (part, mark) {
+        (Part::Start, Mark::LeftBrace) => Some((Part::RuleLeft, Spot::FirstAgent)),
+        (Part::RuleLeft, Mark::Greater) => Some((Part::Turn, Spot::After)),
+        (Part::Turn, Mark::Less) => Some((Part::RuleRight, Spot::DueAgent)),
+        (Part::RuleRight, Mark::Semicolon) => Some((Part::RuleLeft, Spot::DueAgent)),
+        (Part::RuleRight, Mark::RightBrace) => Some((Part::Begin, Spot::After)),
+        (Part::Begin, Mark::Less) => Some((Part::Interface, Spot::First)),
+        (Part::Interface, Mark::Bar) => Some((Part::Left, Spot::First)),
+        (Part::Interface, Mark::Comma) => Some((Part::Interface, Spot::Due)),
+        (Part::Left, Mark::Equals) => Some((Part::Right, Spot::Due)),
+        (Part::Right, Mark::Comma) => Some((Part::Left, Spot::Due)),
+        (Part::Right, Mark::Greater) => Some((Part::End, Spot::After)),
+        _ => None,
+    }
+}
+
+/// What follows where a part may be empty.
+fn empty_step(part: Part, mark: Mark) -> Option<(Part, Spot)>
+    ensures { result ≡ empty_step part mark }
+{
+    match (part, mark) {
+        (Part::RuleLeft, Mark::RightBrace) => Some((Part::Begin, Spot::After)),
+        (Part::Interface, Mark::Bar) => Some((Part::Left, Spot::First)),
+        (Part::Left, Mark::Greater) => Some((Part::End, Spot::After)),
+        _ => None,
+    }
+}
+
 /// A mark outside all parentheses.
 fn part_step(part: Part, spot: Spot, mark: Mark) -> Option<(Part, Spot)>
     ensures { result ≡ part_step part spot mark }
 {
-    match (part, spot, mark) {
-        (_, Spot::Due, _) => None,
-        (Part::Interface, _, Mark::Bar) => Some((Part::Left, Spot::First)),
-        (Part::Left, Spot::First, Mark::Greater) => Some((Part::End, Spot::After)),
-        (_, Spot::First, _) => None,
-        (Part::Begin, _, Mark::Less) => Some((Part::Interface, Spot::First)),
-        (Part::Interface, _, Mark::Comma) => Some((Part::Interface, Spot::Due)),
-        (Part::Left, _, Mark::Equals) => Some((Part::Right, Spot::Due)),
-        (Part::Right, _, Mark::Comma) => Some((Part::Left, Spot::Due)),
-        (Part::Right, _, Mark::Greater) => Some((Part::End, Spot::After)),
-        _ => None,
+    match spot {
+        Spot::First | Spot::FirstAgent => empty_step(part, mark),
+        Spot::Due | Spot::DueAgent => None,
+        Spot::Symbol | Spot::After => end_step(part, mark),
     }
 }
 
@@ -122,11 +167,15 @@ fn step(state: State, token: &Token) -> Option<State>
     }
 }
 
-/// Whether the tokens lead from the beginning to the end. Takes one pass, and no memory.
-fn accepts(tokens: &[Token]) -> bool
-    ensures { result ≡ accepts (Some BEGIN) (tokens_in tokens.now) }
+/// Whether the tokens lead from the beginning of a part to the end. Takes one pass, and no memory.
+fn accepts(part: Part, tokens: &[Token]) -> bool
+    ensures { result ≡ accepts (beginning part) (tokens_in tokens.now) }
 {
-    let mut state = BEGIN;
+    let mut state = State {
+        part,
+        spot: Spot::After,
+        depth: 0,
+    };
     for token in tokens {
         match step(state, token) {
             Some(next) => state = next,
@@ -140,5 +189,24 @@ fn accepts(tokens: &[Token]) -> bool
 pub(crate) fn is_config(tokens: &[Token]) -> bool
     ensures { IsTrue result ↔ SpelledBy (tokens_in tokens.now) }
 {
-    accepts(tokens)
+    accepts(Part::Begin, tokens)
+}
+
+/// Whether the tokens are a system.
+pub(crate) fn is_system(tokens: &[Token]) -> bool
+    ensures { IsTrue result ↔ SystemSpelledBy (tokens_in tokens.now) }
+{
+    accepts(Part::Start, tokens)
+}
+
+/// The tokens before the first `}`, and those behind it.
+pub(crate) fn split_at_brace<'t, 'a>(tokens: &'t [Token<'a>]) -> (&'t [Token<'a>], &'t [Token<'a>])
+    ensures { (tokens_in result.0.now, tokens_in result.1.now) ≡ split_at_brace (tokens_in tokens.now) }
+{
+    for (place, token) in tokens.iter().enumerate() {
+        if let Token::Mark(Mark::RightBrace) = token {
+            return (&tokens[..place], &tokens[place + 1..]);
+        }
+    }
+    (tokens, &[])
 }

@@ -1,7 +1,5 @@
 use Rattle.std.proofs.Common.{◌≡◌, ◌≤◌, Some, drop, map}
-use Rattle.ic_text.specs.declared.syntax.Part.TheVariants.{Begin}
-use Rattle.ic_text.specs.declared.syntax.Spot.TheVariants.{After}
-use Rattle.ic_text.specs.Syntax.{accepts}
+use Rattle.ic_text.specs.Syntax.{beginning, accepts}
 use Rattle.ic_text.specs.Tokens.{token_of, tokens_in}
 use Rattle.ic_text.proofs.syntax.accepts.Given as goal
 
@@ -9,5 +7,5 @@ use Rattle.ic_text.proofs.syntax.accepts.Given as goal
 abbrev pub invariant-loop-token : goal.invariant-loop-token
 invariant-loop-token l = record {
   depth_fits : l.state.depth ≤ l.token-index;
-  same : accepts (Some l.state) (map token_of (drop l.token-index l.tokens)) ≡ accepts (Some (record { part = Begin; spot = After; depth = 0 })) (tokens_in l.tokens);
+  same : accepts (Some l.state) (map token_of (drop l.token-index l.tokens)) ≡ accepts (beginning l.fn.part) (tokens_in l.tokens);
 }

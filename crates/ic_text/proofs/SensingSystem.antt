@@ -1,0 +1,159 @@
+-- Numbering the words of a system and building its rules and its configuration gives its sense.
+use Rattle.std.proofs.Common.{◌≡◌, ℕ, ◌*◌, Bool, true, false, ◌&&◌, cond, List, [], ◌++◌, Option, None, Some, Result, Ok, Err, length, map, take, drop, refl, sym, ap, ◌∙◌, append_assoc}
+use Rattle.std.specs.Prelude.{nat_le, sum_by}
+use Rattle.std.specs.List.{flat_map, list_all}
+use Rattle.std.proofs.lemmas.List.{length-map, map-append, take_at, drop_at}
+use Rattle.std.proofs.lemmas.List.Folds.{list_all-append}
+use Rattle.std.proofs.lemmas.Bool.{false≢true, and_parts}
+use Rattle.ic_term.specs.Symbol.{Symbol, fits_limits, is_over}
+use Rattle.ic_term.specs.Tree.{Tree}
+use Rattle.ic_term.specs.Configuration.{Configuration, third_occurrence, unless_third, restored}
+use Rattle.ic_term.specs.declared.limits.TheConstants.{MAX_NODES, MAX_INTERFACE, MAX_SYMBOLS}
+use Rattle.ic_rules.specs.Rule.{numbered}
+use Rattle.ic_rules.specs.RuleSet.{Rules, first_uncounted, first_repeated, first_lopsided, unless, built as built_rules}
+use Rattle.ic_rules.specs.System.{SystemParts}
+use Rattle.ic_rules.specs.declared.limits.TheConstants.{MAX_RULES, MAX_RULE_NODES}
+use Rattle.ic_rules.specs.declared.rule_set.RuleFault.{RuleFault}
+use Rattle.ic_rules.specs.declared.rule_set.RuleFault.TheVariants.{NameCount as Uncounted, Twice as Repeated, Lopsided as Uneven}
+use Rattle.ic_text.specs.declared.limits.TheConstants.{MAX_NAME}
+use Rattle.ic_text.specs.declared.number.Item.{Item}
+use Rattle.ic_text.specs.declared.fault.TextFault.{TextFault}
+use Rattle.ic_text.specs.declared.fault.TextFault.TheVariants.{Limit, Arity, NameCount, Name, Twice, Lopsided}
+use Rattle.ic_text.specs.Source.{phrase_names, phrase_symbols, phrase_nodes}
+use Rattle.ic_text.specs.Sense.{symbols_after, has_its_arity, numbered_tree, numbered_phrase}
+use Rattle.ic_text.specs.SystemSource.{SystemPhrase, IsSystemPhrase, rule_symbols, rule_names, rule_nodes, system_symbols, system_names}
+use Rattle.ic_text.specs.SystemSense.{system_table, rules_over, system_parts, unless_found, system_sense}
+use Rattle.ic_text.specs.Prefix.{phrase_prefix}
+use Rattle.ic_text.specs.Numbered.{item_in, unless_refused, numbered_words, as_text_answer}
+use Rattle.ic_text.specs.Built.{built_before, parted, rules_in, joined}
+use Rattle.ic_text.proofs.BuiltTrees.{sides_trees, built-phrase, parted-trees}
+use Rattle.ic_text.proofs.BuiltRules.{rules_in-sides, few-rules_over, fit-rules_over}
+use Rattle.ic_text.proofs.JoinedPhrase.{sides_of_rules, joined_phrase, symbols-joined, names-joined, length-sides_of_rules, is-joined}
+use Rattle.ic_text.proofs.Over.{over-numbered_phrase}
+use Rattle.ic_text.proofs.Sensing.{numbered_words-phrase, restored-numbered}
+
+-- numbered words as a system, the first so many terms of which are the sides of rules
+abbrev pub finished_system : ℕ → ℕ → Result (List Symbol × List Item) TextFault → Result SystemParts TextFault
+finished_system agents terms (Ok v) =
+    joined (built_rules v.0 (rules_in (take agents (built_before v.1 [])))) (as_text_answer (restored (parted terms (drop agents (built_before v.1 [])))))
+finished_system agents terms (Err e) = Err e
+
+module _ (s : SystemPhrase) (is : IsSystemPhrase s) where
+  abbrev table : List Symbol
+  table = system_table s
+
+  abbrev words : List Symbol
+  words = phrase_prefix (joined_phrase s)
+
+  abbrev items : List Item
+  items = map (item_in table) words
+
+  abbrev in_limits : Bool
+  in_limits = (list_all (λ x. fits_limits x.text x.arity) (system_symbols s) && list_all (λ n. nat_le n MAX_NAME) (system_names s)) && nat_le (length table) MAX_SYMBOLS
+
+  abbrev agree : Bool
+  agree = list_all (has_its_arity table) (system_symbols s)
+
+  numbered_words-system : numbered_words words ≡ unless_refused {A = List Symbol × List Item} in_limits agree (table, items)
+  numbered_words-system = numbered_words-phrase (joined_phrase s) (is-joined s is) ∙ (λ i. over (symbols-joined s i) (names-joined s i))
+    where
+      over : List Symbol → List ℕ → Result (List Symbol × List Item) TextFault
+      over ss ns = unless_refused {A = List Symbol × List Item}
+          ((list_all (λ x. fits_limits x.text x.arity) ss && list_all (λ n. nat_le n MAX_NAME) ns) && nat_le (length (symbols_after [] ss)) MAX_SYMBOLS)
+          (list_all (has_its_arity (symbols_after [] ss)) ss) (symbols_after [] ss, map (item_in (symbols_after [] ss)) words)
+
+  -- the sides of the rules, and the terms of the configuration
+  abbrev sides : List Tree
+  sides = map (numbered_tree table) (sides_of_rules s.rules)
+
+  abbrev others : List Tree
+  others = map (numbered_tree table) s.config.interface ++ sides_trees table s.config.equations
+
+  trees-system : built_before items [] ≡ sides ++ others
+  trees-system =
+      built-phrase table (joined_phrase s) (is-joined s is)
+      ∙ ap (λ l. l ++ sides_trees table s.config.equations) (map-append (numbered_tree table) (sides_of_rules s.rules) s.config.interface)
+      ∙ append_assoc sides (map (numbered_tree table) s.config.interface) (sides_trees table s.config.equations)
+
+  size : length sides ≡ 2 * length s.rules
+  size = length-map (sides_of_rules s.rules) (numbered_tree table) ∙ length-sides_of_rules s.rules
+
+  rules-built : rules_in (take (2 * length s.rules) (built_before items [])) ≡ rules_over s
+  rules-built = ap (λ l. rules_in (take (2 * length s.rules) l)) trees-system ∙ ap rules_in (take_at sides others (2 * length s.rules) size) ∙ rules_in-sides table s.rules
+
+  config-built : parted (length s.config.interface) (drop (2 * length s.rules) (built_before items [])) ≡ numbered_phrase table s.config
+  config-built =
+      ap (λ l. parted (length s.config.interface) (drop (2 * length s.rules) l)) trees-system
+      ∙ ap (parted (length s.config.interface)) (drop_at sides others (2 * length s.rules) size)
+      ∙ parted-trees table s.config
+
+  abbrev config : Configuration
+  config = numbered_phrase table s.config
+
+  -- the rule set, or its first refusal behind limits and arities
+  abbrev rules_or : Option ℕ → Option ℕ → Option ℕ → Result Rules RuleFault
+  rules_or counted repeated uneven = unless counted Uncounted (unless repeated Repeated (unless uneven Uneven (Ok (record { symbols = table; rules = map numbered (rules_over s) }))))
+
+  -- the system, or its first refusal behind limits and arities
+  abbrev system_or : Option ℕ → Option ℕ → Option ℕ → Option ℕ → Result SystemParts TextFault
+  system_or counted third repeated uneven = unless_found counted NameCount (unless_found third Name (unless_found repeated Twice (unless_found uneven Lopsided (Ok (system_parts s)))))
+
+  abbrev value : Result SystemParts TextFault
+  value = system_or (first_uncounted (rules_over s)) (third_occurrence (phrase_names s.config)) (first_repeated (rules_over s)) (first_lopsided (rules_over s))
+
+  joined-is : is_over table config ≡ true → (counted third repeated uneven : Option ℕ) → system_or counted third repeated uneven ≡ joined (rules_or counted repeated uneven) (as_text_answer (unless_third config third))
+  joined-is over (Some i) third repeated uneven = refl
+  joined-is over None (Some n) (Some i) uneven = refl
+  joined-is over None (Some n) None (Some i) = refl
+  joined-is over None (Some n) None None = refl
+  joined-is over None None (Some i) uneven = refl
+  joined-is over None None None (Some i) = refl
+  joined-is over None None None None = rw over refl
+
+  rules-are : nat_le (length s.rules) MAX_RULES ≡ true → nat_le (sum_by rule_nodes s.rules) MAX_RULE_NODES ≡ true → agree ≡ true
+      → built_rules table (rules_over s) ≡ rules_or (first_uncounted (rules_over s)) (first_repeated (rules_over s)) (first_lopsided (rules_over s))
+  rules-are few small agreed =
+      let parts = and_parts _ _ (sym (list_all-append (has_its_arity table) (flat_map rule_symbols s.rules) (phrase_symbols s.config)) ∙ agreed) in
+      let limits : (nat_le (length s.rules) MAX_RULES && nat_le (sum_by rule_nodes s.rules) MAX_RULE_NODES) ≡ true = rw (few, small) refl in
+      rw (few-rules_over table s.rules ∙ limits, fit-rules_over table s.rules parts.0) refl
+
+  -- where neither rules, their nodes, terms of the interface nor nodes are too many, the sense is that of the words
+  pub sense-system : nat_le (length s.rules) MAX_RULES ≡ true → nat_le (sum_by rule_nodes s.rules) MAX_RULE_NODES ≡ true → nat_le (length s.config.interface) MAX_INTERFACE ≡ true → nat_le (phrase_nodes s.config) MAX_NODES ≡ true
+      → system_sense s ≡ finished_system (2 * length s.rules) (length s.config.interface) (numbered_words words)
+  sense-system few small short low = whole ∙ by_cases in_limits agree refl refl ∙ ap (finished_system (2 * length s.rules) (length s.config.interface)) (sym numbered_words-system)
+    where
+      whole : system_sense s ≡ cond in_limits (cond agree value (Err Arity)) (Err Limit)
+      whole = rw (few, small, short, low) (by_limits in_limits)
+        where
+          by_limits : (a : Bool) → cond ((((a && true) && true) && true) && true) (cond agree value (Err Arity)) (Err Limit) ≡ cond a (cond agree value (Err Arity)) (Err Limit)
+          by_limits true = refl
+          by_limits false = refl
+
+      low_names : in_limits ≡ true → list_all (λ n. nat_le n MAX_NAME) (phrase_names s.config) ≡ true
+      low_names all =
+          let names = (and_parts (list_all (λ x. fits_limits x.text x.arity) (system_symbols s)) (list_all (λ n. nat_le n MAX_NAME) (system_names s)) (and_parts (list_all (λ x. fits_limits x.text x.arity) (system_symbols s) && list_all (λ n. nat_le n MAX_NAME) (system_names s)) (nat_le (length table) MAX_SYMBOLS) all).0).1 in
+          (and_parts (list_all (λ n. nat_le n MAX_NAME) (flat_map rule_names s.rules)) (list_all (λ n. nat_le n MAX_NAME) (phrase_names s.config)) (sym (list_all-append (λ n. nat_le n MAX_NAME) (flat_map rule_names s.rules) (phrase_names s.config)) ∙ names)).1
+
+      over : agree ≡ true → is_over table config ≡ true
+      over agreed = over-numbered_phrase table s.config (and_parts (list_all (has_its_arity table) (flat_map rule_symbols s.rules)) (list_all (has_its_arity table) (phrase_symbols s.config)) (sym (list_all-append (has_its_arity table) (flat_map rule_symbols s.rules) (phrase_symbols s.config)) ∙ agreed)).1
+
+      by_cases : (a o : Bool) → in_limits ≡ a → agree ≡ o → cond a (cond o value (Err Arity)) (Err Limit) ≡ finished_system (2 * length s.rules) (length s.config.interface) (unless_refused {A = List Symbol × List Item} a o (table, items))
+      by_cases true true all agreed =
+          let rules = ap (built_rules table) rules-built ∙ rules-are few small agreed in
+          let restored_is = ap restored config-built ∙ restored-numbered table s.config low short (low_names all) in
+          joined-is (over agreed) (first_uncounted (rules_over s)) (third_occurrence (phrase_names s.config)) (first_repeated (rules_over s)) (first_lopsided (rules_over s))
+          ∙ (λ i. joined (sym rules i) (as_text_answer (sym restored_is i)))
+      by_cases true false all agreed = refl
+      by_cases false o all agreed = refl
+
+-- a system with too many rules, nodes of their arguments, terms of the interface or nodes is beyond the limits
+pub system-unfit : (s : SystemPhrase) → ((nat_le (length s.rules) MAX_RULES && nat_le (sum_by rule_nodes s.rules) MAX_RULE_NODES) && (nat_le (phrase_nodes s.config) MAX_NODES && nat_le (length s.config.interface) MAX_INTERFACE)) ≡ false → system_sense s ≡ Err Limit
+system-unfit s = by_cases _ (nat_le (length s.rules) MAX_RULES) (nat_le (sum_by rule_nodes s.rules) MAX_RULE_NODES) (nat_le (length s.config.interface) MAX_INTERFACE) (nat_le (phrase_nodes s.config) MAX_NODES) _
+  where
+    by_cases : (a r m i k : Bool) (v : Result SystemParts TextFault) → ((r && m) && (k && i)) ≡ false → cond ((((a && r) && m) && i) && k) v (Err Limit) ≡ Err Limit
+    by_cases true true true true true v unfit = absurd (false≢true (sym unfit))
+    by_cases true true true true false v unfit = refl
+    by_cases true true true false k v unfit = refl
+    by_cases true true false i k v unfit = refl
+    by_cases true false m i k v unfit = refl
+    by_cases false r m i k v unfit = refl

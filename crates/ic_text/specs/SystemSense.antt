@@ -1,0 +1,73 @@
+use Rattle.std.specs.Prelude.{ℕ, List, [], Bool, ◌&&◌, Option, None, Some, Result, Ok, Err, length, map, sum_by, nat_le, if◌then◌else◌}
+use Rattle.std.specs.List.{list_all}
+use Rattle.ic_term.specs.Tree.{list_of}
+use Rattle.ic_term.specs.Symbol.{Symbol, fits_limits}
+use Rattle.ic_term.specs.Configuration.{third_occurrence}
+use Rattle.ic_term.specs.declared.limits.TheConstants.{MAX_NODES, MAX_INTERFACE, MAX_SYMBOLS}
+use Rattle.ic_rules.specs.Renaming.{first_occurrences}
+use Rattle.ic_rules.specs.Rule.{Rule, numbered}
+use Rattle.ic_rules.specs.RuleSet.{first_uncounted, first_repeated, first_lopsided}
+use Rattle.ic_rules.specs.System.{SystemParts}
+use Rattle.ic_rules.specs.declared.limits.TheConstants.{MAX_RULES, MAX_RULE_NODES}
+use Rattle.ic_text.specs.declared.limits.TheConstants.{MAX_NAME}
+use Rattle.ic_text.specs.declared.fault.TextFault.{TextFault}
+use Rattle.ic_text.specs.declared.fault.TextFault.TheVariants.{Limit, Arity, NameCount, Name, Twice, Lopsided}
+use Rattle.ic_text.specs.Source.{phrase_names, phrase_nodes}
+use Rattle.ic_text.specs.Sense.{symbols_after, has_its_arity, number_in_table, numbered_trees, numbered_phrase}
+use Rattle.ic_text.specs.SystemSource.{RulePhrase, SystemPhrase, system_symbols, rule_names, system_names, rule_nodes}
+
+-- the symbols of a system, numbered by first occurrence (this project's choice)
+abbrev pub system_table : SystemPhrase → List Symbol
+system_table s = symbols_after [] (system_symbols s)
+
+-- no limit is passed (the limits are this project's choice)
+abbrev pub is_system_in_limits : SystemPhrase → Bool
+is_system_in_limits s =
+    list_all (λ s. fits_limits s.text s.arity) (system_symbols s)
+    && list_all (λ n. nat_le n MAX_NAME) (system_names s)
+    && nat_le (length (system_table s)) MAX_SYMBOLS
+    && nat_le (length s.rules) MAX_RULES
+    && nat_le (sum_by rule_nodes s.rules) MAX_RULE_NODES
+    && nat_le (length s.config.interface) MAX_INTERFACE
+    && nat_le (phrase_nodes s.config) MAX_NODES
+
+-- the rule that is written, over the symbols of a table, its names as they are written
+abbrev pub rule_over : List Symbol → RulePhrase → Rule
+rule_over table r = record {
+  left = number_in_table table r.left.text;
+  right = number_in_table table r.right.text;
+  left_args = list_of (numbered_trees table r.left.arguments);
+  right_args = list_of (numbered_trees table r.right.arguments);
+  names = length (first_occurrences (rule_names r));
+}
+
+-- all rules that are written
+abbrev pub rules_over : SystemPhrase → List Rule
+rules_over s = map (rule_over (system_table s)) s.rules
+
+-- the rules with their names numbered, and the configuration that is written
+abbrev pub system_parts : SystemPhrase → SystemParts
+system_parts s = record {
+  rules = record { symbols = system_table s; rules = map numbered (rules_over s) };
+  config = numbered_phrase (system_table s) s.config;
+}
+
+-- an answer where nothing is found, or the refusal of what is found
+abbrev pub unless_found : Option ℕ → (ℕ → TextFault) → Result SystemParts TextFault → Result SystemParts TextFault
+unless_found None fault answer = answer
+unless_found (Some n) fault answer = Err (fault n)
+
+-- What a system that is written means, or the first refusal: a limit that is passed, a symbol with two arities, the
+-- first rule with a name that doesn't occur exactly twice in it, the first third occurrence of a name in the
+-- configuration, the first rule whose pair of symbols an earlier one has, the first lopsided rule (the order is this
+-- project's choice).
+abbrev pub system_sense : SystemPhrase → Result SystemParts TextFault
+system_sense s =
+    if is_system_in_limits s then
+    (if list_all (has_its_arity (system_table s)) (system_symbols s) then
+    unless_found (first_uncounted (rules_over s)) NameCount
+    (unless_found (third_occurrence (phrase_names s.config)) Name
+    (unless_found (first_repeated (rules_over s)) Twice
+    (unless_found (first_lopsided (rules_over s)) Lopsided (Ok (system_parts s)))))
+    else Err Arity)
+    else Err Limit

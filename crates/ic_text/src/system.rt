@@ -1,0 +1,54 @@
+//! Reading a system.
+
+ghost use Rattle.std.specs.Prelude.{◌≡◌, ◌≢◌, IfOk, IfErr, Ok, Err};
+ghost use Rattle.ic_text.specs.Numbered.{Gives};
+ghost use Rattle.ic_text.specs.SystemSense.{system_sense};
+ghost use Rattle.ic_text.specs.SystemSource.{SystemPhrase, IsSystemPhrase, SystemSpelledBy, system_words};
+ghost use Rattle.ic_text.specs.SystemText.{ReadsSystem};
+ghost use Rattle.ic_text.specs.Tokens.{tokens_in};
+
+use crate::build::system_of;
+use crate::fault::TextFault;
+use crate::limits::MAX_TEXT;
+use crate::number::number_words;
+use crate::prefix::prefix_of;
+use crate::syntax::{is_system, split_at_brace};
+use crate::token::{Token, tokens_of};
+use ic_rules::System;
+use std::alloc::Global;
+
+/// The sense of tokens that are a system. Every limit is tested before a term is built.
+fn sense_of(alloc: Global, tokens: &[Token]) -> Result<System, TextFault>
+    requires { SystemSpelledBy (tokens_in tokens.now) }
+    ensures { (s : SystemPhrase) → IsSystemPhrase s → tokens_in tokens.now ≡ system_words s →
+        Gives (λ system. system) result (system_sense s) }
+{
+    let (rules, config) = split_at_brace(&tokens[1..]);
+    let mut rules = prefix_of(alloc, rules)?;
+    let mut config = prefix_of(alloc, config)?;
+    if !rules.fits_rules() || !config.fits() {
+        return Err(TextFault::Limit);
+    }
+    rules.nodes.append(&mut config.nodes)?;
+    let (symbols, items) = number_words(alloc, &rules.nodes)?;
+    system_of(alloc, symbols, items, rules.terms, config.terms)
+}
+
+/// The system that a text means, with its symbols numbered by first occurrence, rules first, the names of each rule
+/// numbered by first occurrence, and `next` one above the greatest name of the configuration, or the first refusal.
+/// Takes n log n steps. Limits are settled before anything recurses on nesting.
+pub fn read_system(alloc: Global, text: &[u8]) -> Result<System, TextFault>
+    ensures read { IfOk result (λ system. ReadsSystem text.now (Ok system)) }
+    ensures refused { IfErr result (λ fault. fault ≢ TextFault.Memory → ReadsSystem text.now (Err fault)) }
+{
+    if text.len() > MAX_TEXT {
+        return Err(TextFault::Limit);
+    }
+    let Some(tokens) = tokens_of(alloc, text)? else {
+        return Err(TextFault::Syntax);
+    };
+    if !is_system(&tokens) {
+        return Err(TextFault::Syntax);
+    }
+    sense_of(alloc, &tokens)
+}
