@@ -4,11 +4,17 @@
 #![tactic(auto)]
 
 #[cfg(test)]
+mod deep;
+#[cfg(test)]
 mod examples;
 #[cfg(test)]
 mod refused;
 #[cfg(test)]
+mod rounds;
+#[cfg(test)]
 mod settled;
+#[cfg(test)]
+mod slow;
 #[cfg(test)]
 mod streams;
 #[cfg(test)]

@@ -1,6 +1,6 @@
-//! What the program does with a text, without the program: `settle_stream` over bytes in memory.
+//! What the program does with a text, without the program: its streams over bytes in memory.
 
-use ic_serve::settle_stream;
+use ic_serve::{StreamFault, once_stream, settle_stream};
 use std::alloc::Global;
 use std::process::Abort;
 use std::test::Fail;
@@ -9,7 +9,24 @@ use std::test::Fail;
 pub fn run_settle(alloc: Global, text: &[u8]) -> Result<(u8, Vec<u8>), Fail> {
     let mut reader = text;
     let mut output = Vec::new(alloc);
-    match settle_stream(alloc, &mut reader, &mut output) {
+    let answer = settle_stream(alloc, &mut reader, &mut output);
+    status_and_line(alloc, answer, output)
+}
+
+/// What one round of a text writes, or the line on standard error, after its exit status.
+fn run_once(alloc: Global, text: &[u8]) -> Result<(u8, Vec<u8>), Fail> {
+    let mut reader = text;
+    let mut output = Vec::new(alloc);
+    let answer = once_stream(alloc, &mut reader, &mut output);
+    status_and_line(alloc, answer, output)
+}
+
+fn status_and_line(
+    alloc: Global,
+    answer: Result<(), StreamFault>,
+    output: Vec<u8>,
+) -> Result<(u8, Vec<u8>), Fail> {
+    match answer {
         Ok(()) => Ok((0, output)),
         Err(fault) => {
             if !output.is_empty() {
@@ -18,6 +35,20 @@ pub fn run_settle(alloc: Global, text: &[u8]) -> Result<(u8, Vec<u8>), Fail> {
             Ok((fault.status(), fault.line(alloc)?))
         }
     }
+}
+
+/// Asserts the exit status and the line of one round of a text.
+pub fn once(
+    rt: &impl Abort,
+    alloc: Global,
+    text: &[u8],
+    status: u8,
+    line: &[u8],
+) -> Result<(), Fail> {
+    let (found, output) = run_once(alloc, text)?;
+    assert_eq!(rt; output.as_slice(), line);
+    assert_eq!(rt; found, status);
+    Ok(())
 }
 
 /// Asserts that a text settles to a line.

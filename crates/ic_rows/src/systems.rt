@@ -31,7 +31,7 @@ fn answer(alloc: Global, text: &[u8]) -> Result<Vec<u8>, Fail> {
 }
 
 /// Asserts that each text has this answer.
-pub fn answers(rt: &impl Abort, alloc: Global, rows: &[(&str, &str)]) -> Result<(), Fail> {
+fn answers(rt: &impl Abort, alloc: Global, rows: &[(&str, &str)]) -> Result<(), Fail> {
     for (text, line) in rows {
         let found = answer(alloc, text.as_bytes())?;
         assert_eq!(rt; found.as_slice(), line.as_bytes(), "{text}");

@@ -1,11 +1,3 @@
-pub mod Placed
-pub mod TermLaws
-pub mod Substitution
-pub mod Whole
-pub mod Middle
-pub mod Kept
-pub mod FirstChoice
-pub mod Settles
 pub mod Reading
 pub mod WordsLaws
 pub mod WordsExact

@@ -11,7 +11,7 @@ use Rattle.clap.specs.Simple.{filled, with_index, filled_from, help_rule}
 use Rattle.clap.specs.Kinds.{or_else}
 use Rattle.clap.specs.Faults.{bundle_fault, bundle_step_fault, entered_fault, flag_word_fault, flags_fault, level_fault, long_fault, short_fault, step_fault, turn_fault, walk_fault}
 use Rattle.clap.proofs.OnLiterals.{clap_on_literals}
-use Rattle.ic_serve.specs.Words.{command_line, NamesSettle}
+use Rattle.ic_serve.specs.Words.{command_line, NamesCommand}
 
 both_empty : (a b : Kinds) → or_else a b ≡ [] → (a ≡ []) × (b ≡ [])
 both_empty [] b e = (refl, e)
@@ -93,7 +93,7 @@ dashes = 45 ∷ 45 ∷ []
 -- the commands below a level
 abbrev names_below : Bool → Names
 names_below true = []
-names_below false = (codes "settle", []) ∷ []
+names_below false = (codes "settle", []) ∷ (codes "once", []) ∷ []
 
 behind_dashes : (base : Shape) (leaf : Bool) (u : Text)
     → turn_fault (level base leaf) (names_below leaf) (walked rules (names_below leaf) (walk_from nothing_held) dashes) u ≡ [] → ⊥
@@ -123,27 +123,39 @@ level_words base leaf (v ∷ vs) none e =
 abbrev top : Shape
 top = (built command_line).top
 
-abbrev below : Shape
-below = unwrap_or (slice_get (built command_line).subs 0) top
+abbrev below : ℕ → Shape
+below k = unwrap_or (slice_get (built command_line).subs k) top
 
--- behind the name of the command each word is one of its own
-stopped_with : (words more : List Text)
-    → (fold (walked rules (names_below false)) (record (walk_from nothing_held) { stopped = Some (codes "settle", words) }) more).stopped
-    ≡ Some (codes "settle", words ++ more)
+-- behind the name of a command each word is one of its own
+stopped_with : (name : Text) (words more : List Text)
+    → (fold (walked rules (names_below false)) (record (walk_from nothing_held) { stopped = Some (name, words) }) more).stopped
+    ≡ Some (name, words ++ more)
 unfolding walked
-stopped_with words [] = ap (λ l. Some (codes "settle", l)) (sym (append-nil words))
-stopped_with words (v ∷ vs) = stopped_with (words ++ v ∷ []) vs ∙ ap (λ l. Some (codes "settle", l)) (append_assoc words (v ∷ []) vs)
+stopped_with name words [] = ap (λ l. Some (name, l)) (sym (append-nil words))
+stopped_with name words (v ∷ vs) = stopped_with name (words ++ v ∷ []) vs ∙ ap (λ l. Some (name, l)) (append_assoc words (v ∷ []) vs)
 
 settle_stops : (words : List Text) → (walk rules (names_below false) nothing_held (codes "settle" ∷ words)).stopped ≡ Some (codes "settle", words)
 unfolding walked
-settle_stops words = stopped_with [] words
+settle_stops words = stopped_with (codes "settle") [] words
+
+once_stops : (words : List Text) → (walk rules (names_below false) nothing_held (codes "once" ∷ words)).stopped ≡ Some (codes "once", words)
+unfolding walked
+once_stops words = stopped_with (codes "once") [] words
+
+-- words without a mistake have none at the level of their command
+level_free : (words : List Text) → fault_of command_line words ≡ []
+    → entered_fault (built command_line) (walk rules (names_below false) nothing_held words).stopped ≡ []
+level_free words e = (both_empty _ _ (both_empty _ _ e).1).0
 
 after_settle : (words : List Text) → fault_of command_line (codes "settle" ∷ words) ≡ [] → (words ≡ []) ⊎ (words ≡ dashes ∷ [])
 after_settle words e =
-    let stop = (walk rules (names_below false) nothing_held (codes "settle" ∷ words)).stopped in
-    let entered : entered_fault (built command_line) stop ≡ [] = (both_empty _ _ (both_empty _ _ e).1).0 in
-    let level_free : level_fault (level below true) [] nothing_held words false [] ≡ [] = ap (entered_fault (built command_line)) (sym (settle_stops words)) ∙ entered in
-    level_words below true words (λ v vs is. refl) (both_empty _ _ level_free).0
+    let free : level_fault (below 0) [] nothing_held words false [] ≡ [] = ap (entered_fault (built command_line)) (sym (settle_stops words)) ∙ level_free _ e in
+    level_words (below 0) true words (λ v vs is. refl) (both_empty _ _ free).0
+
+after_once : (words : List Text) → fault_of command_line (codes "once" ∷ words) ≡ [] → (words ≡ []) ⊎ (words ≡ dashes ∷ [])
+after_once words e =
+    let free : level_fault (below 1) [] nothing_held words false [] ≡ [] = ap (entered_fault (built command_line)) (sym (once_stops words)) ∙ level_free _ e in
+    level_words (below 1) true words (λ v vs is. refl) (both_empty _ _ free).0
 
 dashes_alone : fault_of command_line (dashes ∷ []) ≡ [] → ⊥
 unfolding clap_on_literals
@@ -153,26 +165,37 @@ none_alone : fault_of command_line [] ≡ [] → ⊥
 unfolding clap_on_literals
 none_alone e = cc
 
-another_word : (v : Text) (vs : List Text) → bytes_eq (codes "settle") v ≡ false → fault_of command_line (v ∷ vs) ≡ [] → ⊥
-another_word v vs other e =
-    let met : subcommand_met (names_below false) idle v ≡ None = rw other refl in
+another_word : (v : Text) (vs : List Text) → bytes_eq (codes "settle") v ≡ false → bytes_eq (codes "once") v ≡ false
+    → fault_of command_line (v ∷ vs) ≡ [] → ⊥
+another_word v vs no_settle no_once e =
+    let met : subcommand_met (names_below false) idle v ≡ None = rw (no_settle, no_once) refl in
     let none : (w : Text) (ws : List Text) → v ∷ vs ≡ w ∷ ws → subcommand_met (names_below false) idle w ≡ None = λ w ws is. (let same : v ≡ w = cc in rw (← same) met) in
     elim (level_words top false (v ∷ vs) none (both_empty _ _ e).0) [
       | inl empty ↦ cc
       | inr alone ↦ dashes_alone (ap (fault_of command_line) (sym alone) ∙ e)
     ]
 
-settle_first : (v : Text) (vs : List Text) (named : Bool) → bytes_eq (codes "settle") v ≡ named → fault_of command_line (v ∷ vs) ≡ []
-    → NamesSettle (v ∷ vs)
-settle_first v vs true is e =
-    let same : v ≡ codes "settle" = sym ((bytes_eq-Decides (codes "settle") v).0 is) in
-    elim (after_settle vs (ap (λ w. fault_of command_line (w ∷ vs)) (sym same) ∙ e)) [
+-- the first word is a command, and what is behind it is nothing or `--`
+named_first : (name v : Text) (vs : List Text) → bytes_eq name v ≡ true
+    → ((ws : List Text) → fault_of command_line (name ∷ ws) ≡ [] → (ws ≡ []) ⊎ (ws ≡ dashes ∷ []))
+    → fault_of command_line (v ∷ vs) ≡ [] → NamesCommand name (v ∷ vs)
+named_first name v vs is after e =
+    let same : v ≡ name = sym ((bytes_eq-Decides name v).0 is) in
+    elim (after vs (ap (λ w. fault_of command_line (w ∷ vs)) (sym same) ∙ e)) [
       | inl alone ↦ inl (rw (same, alone) refl)
       | inr dashed ↦ inr (rw (same, dashed) refl)
     ]
-settle_first v vs false is e = absurd (another_word v vs is e)
 
--- the parser finds no mistake in the word `settle` alone
-pub settle_only : (words : List Text) → fault_of command_line words ≡ [] → NamesSettle words
-settle_only [] e = absurd (none_alone e)
-settle_only (v ∷ vs) e = settle_first v vs (bytes_eq (codes "settle") v) refl e
+abbrev pub OneCommand : List Text → Type 0
+OneCommand words = NamesCommand (codes "settle") words ⊎ NamesCommand (codes "once") words
+
+first_named : (v : Text) (vs : List Text) (settle once : Bool) → bytes_eq (codes "settle") v ≡ settle → bytes_eq (codes "once") v ≡ once
+    → fault_of command_line (v ∷ vs) ≡ [] → OneCommand (v ∷ vs)
+first_named v vs true once is _ e = inl (named_first (codes "settle") v vs is after_settle e)
+first_named v vs false true _ is e = inr (named_first (codes "once") v vs is after_once e)
+first_named v vs false false no_settle no_once e = absurd (another_word v vs no_settle no_once e)
+
+-- words without a mistake name one of the commands
+pub one_command : (words : List Text) → fault_of command_line words ≡ [] → OneCommand words
+one_command [] e = absurd (none_alone e)
+one_command (v ∷ vs) e = first_named v vs (bytes_eq (codes "settle") v) (bytes_eq (codes "once") v) refl refl e

@@ -3,6 +3,7 @@
 ghost use Rattle.std.specs.Prelude.{◌≡◌, IfOk};
 ghost use Rattle.ic_serve.specs.Faults.{status_of, fault_line};
 
+use ic_round::RoundFault;
 use ic_text::{TextFault, print_fault};
 use std::alloc::{AllocError, AllocFailed, Global};
 
@@ -13,6 +14,8 @@ pub enum StreamFault {
     Read,
     /// 2: the text is refused. A `TextFault::Memory` is answered as `Memory`.
     Text(TextFault),
+    /// 3: the round isn't made. A `RoundFault::Memory` is answered as `Memory`.
+    Round(RoundFault),
     /// 4: a growth was refused.
     Memory,
     /// 5: the output can't be written.
@@ -25,7 +28,7 @@ impl StreamFault {
         ensures { result ≡ status_of self }
     {
         match self {
-            StreamFault::Text(_) => 1,
+            StreamFault::Text(_) | StreamFault::Round(_) => 1,
             StreamFault::Read | StreamFault::Memory | StreamFault::Write => 4,
         }
     }
@@ -38,7 +41,11 @@ impl StreamFault {
         match self {
             StreamFault::Read => line.extend_from_slice(b"read")?,
             StreamFault::Text(fault) => line.extend_from_slice(&print_fault(alloc, &fault)?)?,
-            StreamFault::Memory => line.extend_from_slice(b"memory")?,
+            StreamFault::Round(RoundFault::Overgrown) => line.extend_from_slice(b"overgrown")?,
+            StreamFault::Round(RoundFault::NamesOut) => line.extend_from_slice(b"names out")?,
+            StreamFault::Round(RoundFault::Memory) | StreamFault::Memory => {
+                line.extend_from_slice(b"memory")?
+            }
             StreamFault::Write => line.extend_from_slice(b"write")?,
         }
         line.push(b'\n')?;
@@ -55,6 +62,19 @@ impl From<TextFault> for StreamFault {
         match fault {
             TextFault::Memory => StreamFault::Memory,
             refused => StreamFault::Text(refused),
+        }
+    }
+}
+
+impl From<RoundFault> for StreamFault {
+    ghost use Rattle.ic_serve.specs.Faults.{fault_of_round};
+
+    ghost from_gives = { λ fault e. e ≡ fault_of_round fault };
+
+    fn from(fault: RoundFault) -> StreamFault {
+        match fault {
+            RoundFault::Memory => StreamFault::Memory,
+            refused => StreamFault::Round(refused),
         }
     }
 }

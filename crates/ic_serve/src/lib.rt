@@ -1,17 +1,16 @@
 //! What the program `icserve` does, but for its own input and output.
 //!
-//! `settle_stream` settles the configuration that a reader gives and writes it to a writer; its refusals are a
-//! `StreamFault`, which has the program's exit status and its line for standard error. `read_words` reads the words
-//! after the program's name.
+//! `settle_stream` settles the configuration that a reader gives and writes it to a writer, and `once_stream` makes one
+//! round of a system; their refusals are a `StreamFault`, which has the program's exit status and its line for standard
+//! error. `read_words` reads the words after the program's name.
 #![tactic(auto)]
 
 mod fault;
-mod settle;
 mod stream;
 mod words;
 
 pub use fault::StreamFault;
-pub use stream::settle_stream;
+pub use stream::{once_stream, settle_stream};
 pub use words::{Task, WordsFault, read_words};
 
 #[cfg(test)]

@@ -1,6 +1,7 @@
 //! The worked rows of the streams and of the words, and readers and writers that fail.
 
-use crate::{StreamFault, Task, WordsFault, read_words, settle_stream};
+use crate::{StreamFault, Task, WordsFault, once_stream, read_words, settle_stream};
+use ic_round::RoundFault;
 use ic_text::TextFault;
 use std::alloc::{AllocError, Global};
 use std::io::{self, ErrorKind, Read, Write};
@@ -93,6 +94,39 @@ fn refusal(alloc: Global, text: &[u8]) -> Option<StreamFault> {
     settled(alloc, text).err()
 }
 
+/// The sum 1 + 1 as a system.
+const SUM: &[u8] = b"{Add(x,x)><Z;Add(S(x),y)><S(Add(x,y))} <r|Add(r,S(Z))=S(Z)>";
+
+/// Its line after one round.
+const SUM_AFTER: &[u8] = b"<S(s)|Z=Add(s,S(Z))>\n";
+
+/// What is written for a text after one round.
+fn rounded(alloc: Global, text: &[u8]) -> Result<Vec<u8>, StreamFault> {
+    let mut input = text;
+    let mut output = Vec::new(alloc);
+    once_stream(alloc, &mut input, &mut output)?;
+    Ok(output)
+}
+
+/// Why no round is made of a text.
+fn round_refusal(alloc: Global, text: &[u8]) -> Option<StreamFault> {
+    rounded(alloc, text).err()
+}
+
+/// A system with a tower of so many `C` and five more nodes, to which a round adds one.
+fn tower(alloc: Global, height: usize) -> Result<Vec<u8>, AllocError> {
+    let mut text = b"{A><B(C(C(D)))} <|A=B(P),".to_vec(alloc)?;
+    for _ in 0..height {
+        text.extend_from_slice(b"C(")?;
+    }
+    text.push(b'D')?;
+    for _ in 0..height {
+        text.push(b')')?;
+    }
+    text.extend_from_slice(b"=Q>")?;
+    Ok(text)
+}
+
 fn words(alloc: Global, texts: &[&str]) -> Result<Vec<String>, AllocError> {
     let mut words = Vec::new(alloc);
     for text in texts {
@@ -131,28 +165,6 @@ fn settle_blank(rt: HostRuntime) -> Result<(), Fail> {
 }
 
 #[test]
-fn settle_names(rt: HostRuntime) -> Result<(), Fail> {
-    let line = settled(rt.alloc(), b"<a|a=b,c=b>")?;
-    assert_eq!(rt; line.as_slice(), b"<c|>\n".as_slice());
-    let line = settled(rt.alloc(), b"<|x=y,x=y>")?;
-    assert_eq!(rt; line.as_slice(), b"<|y=y>\n".as_slice());
-    let line = settled(rt.alloc(), b"<|x=A,B(x)=C>")?;
-    assert_eq!(rt; line.as_slice(), b"<|B(A)=C>\n".as_slice());
-    Ok(())
-}
-
-#[test]
-fn self_equations(rt: HostRuntime) -> Result<(), Fail> {
-    let line = settled(rt.alloc(), b"<|x=x>")?;
-    assert_eq!(rt; line.as_slice(), b"<|x=x>\n".as_slice());
-    let line = settled(rt.alloc(), b"<|x=A(x)>")?;
-    assert_eq!(rt; line.as_slice(), b"<|x=A(x)>\n".as_slice());
-    let line = settled(rt.alloc(), b"<|x=A>")?;
-    assert_eq!(rt; line.as_slice(), b"<|x=A>\n".as_slice());
-    Ok(())
-}
-
-#[test]
 fn name_numbers(rt: HostRuntime) -> Result<(), Fail> {
     assert_eq!(rt;
         refusal(rt.alloc(), b"<x0|>"),
@@ -166,26 +178,6 @@ fn name_numbers(rt: HostRuntime) -> Result<(), Fail> {
         refusal(rt.alloc(), b"<w165191049|>"),
         Some(StreamFault::Text(TextFault::Limit))
     );
-    Ok(())
-}
-
-/// `<x1|x1=S(x2),..,x2000=S(x2001),x2001=Z>` settles to a tower of 2,000 S over Z.
-#[test]
-fn long_chain(rt: HostRuntime) -> Result<(), Fail> {
-    let mut text = format!(in rt.alloc(); "<x1|")?;
-    let mut line = format!(in rt.alloc(); "<")?;
-    let mut end = format!(in rt.alloc(); "Z")?;
-    for i in 1..2_001u32 {
-        let next = i + 1;
-        text.push_str(format!(in rt.alloc(); "x{i}=S(x{next}),")?.as_str())?;
-        line.push_str("S(")?;
-        end.push_str(")")?;
-    }
-    text.push_str("x2001=Z>")?;
-    end.push_str("|>\n")?;
-    line.push_str(end.as_str())?;
-    let answer = settled(rt.alloc(), text.as_bytes())?;
-    assert_eq!(rt; answer.as_slice(), line.as_bytes());
     Ok(())
 }
 
@@ -215,11 +207,45 @@ fn reads_no_further(rt: HostRuntime) -> Result<(), Fail> {
 }
 
 #[test]
+fn once_sum(rt: HostRuntime) -> Result<(), Fail> {
+    let line = rounded(rt.alloc(), SUM)?;
+    assert_eq!(rt; line.as_slice(), SUM_AFTER);
+    Ok(())
+}
+
+#[test]
+fn once_refused_texts(rt: HostRuntime) {
+    assert_eq!(rt;
+        round_refusal(rt.alloc(), b"<|>"),
+        Some(StreamFault::Text(TextFault::Syntax))
+    );
+    assert_eq!(rt;
+        round_refusal(rt.alloc(), b"{A(x)><B} <|>"),
+        Some(StreamFault::Text(TextFault::NameCount(0)))
+    );
+}
+
+/// A configuration of 8,192 nodes grows to 8,193, and one of 8,191 to 8,192.
+#[test]
+fn once_overgrown(rt: HostRuntime) -> Result<(), Fail> {
+    let fault = StreamFault::Round(RoundFault::Overgrown);
+    let text = tower(rt.alloc(), 8_187)?;
+    assert_eq!(rt; round_refusal(rt.alloc(), &text), Some(fault));
+    let text = tower(rt.alloc(), 8_186)?;
+    assert_eq!(rt; round_refusal(rt.alloc(), &text), None);
+    Ok(())
+}
+
+#[test]
 fn slow_streams(rt: HostRuntime) -> Result<(), Fail> {
     let mut reader = SlowReader::new(b"<r|r=S(s),s=Z>", 2);
     let mut writer = SlowWriter::new(rt.alloc(), 100, true);
     settle_stream(rt.alloc(), &mut reader, &mut writer)?;
     assert_eq!(rt; writer.bytes.as_slice(), b"<S(Z)|>\n".as_slice());
+    let mut reader = SlowReader::new(SUM, 2);
+    let mut writer = SlowWriter::new(rt.alloc(), 100, true);
+    once_stream(rt.alloc(), &mut reader, &mut writer)?;
+    assert_eq!(rt; writer.bytes.as_slice(), SUM_AFTER);
     Ok(())
 }
 
@@ -234,6 +260,16 @@ fn failing_reader(rt: HostRuntime) {
 }
 
 #[test]
+fn once_failing_reader(rt: HostRuntime) {
+    let mut reader = SlowReader::new(SUM, 4);
+    reader.fails_at_end = true;
+    let mut writer = SlowWriter::new(rt.alloc(), 100, true);
+    let fault = once_stream(rt.alloc(), &mut reader, &mut writer).err();
+    assert_eq!(rt; fault, Some(StreamFault::Read));
+    assert_eq!(rt; writer.bytes.len(), 0);
+}
+
+#[test]
 fn failing_writer(rt: HostRuntime) {
     let line = b"<S(Z)|>\n";
     for room in 0..line.len() {
@@ -242,6 +278,17 @@ fn failing_writer(rt: HostRuntime) {
         let fault = settle_stream(rt.alloc(), &mut reader, &mut writer).err();
         assert_eq!(rt; fault, Some(StreamFault::Write));
         assert_eq!(rt; writer.bytes.as_slice(), &line[..room]);
+    }
+}
+
+#[test]
+fn once_failing_writer(rt: HostRuntime) {
+    for room in 0..SUM_AFTER.len() {
+        let mut reader = SlowReader::new(SUM, 100);
+        let mut writer = SlowWriter::new(rt.alloc(), room, true);
+        let fault = once_stream(rt.alloc(), &mut reader, &mut writer).err();
+        assert_eq!(rt; fault, Some(StreamFault::Write));
+        assert_eq!(rt; writer.bytes.as_slice(), &SUM_AFTER[..room]);
     }
 }
 
@@ -278,10 +325,36 @@ fn fault_lines(rt: HostRuntime) -> Result<(), Fail> {
 }
 
 #[test]
+fn round_fault_lines(rt: HostRuntime) -> Result<(), Fail> {
+    let fault = StreamFault::Round(RoundFault::Overgrown);
+    assert_eq!(rt;
+        fault.line(rt.alloc())?.as_slice(),
+        b"icserve: overgrown\n".as_slice()
+    );
+    assert_eq!(rt; fault.status(), 1);
+    let fault = StreamFault::Round(RoundFault::NamesOut);
+    assert_eq!(rt;
+        fault.line(rt.alloc())?.as_slice(),
+        b"icserve: names out\n".as_slice()
+    );
+    assert_eq!(rt; fault.status(), 1);
+    Ok(())
+}
+
+#[test]
 fn settle_word(rt: HostRuntime) -> Result<(), Fail> {
     let words = words(rt.alloc(), &["settle"])?;
     let task = read_words(rt.alloc(), &words);
     assert!(rt; matches!(task, Ok(Task::Settle)));
+    Ok(())
+}
+
+#[test]
+fn once_word(rt: HostRuntime) -> Result<(), Fail> {
+    let alone = words(rt.alloc(), &["once"])?;
+    assert!(rt; matches!(read_words(rt.alloc(), &alone), Ok(Task::Once)));
+    let dashed = words(rt.alloc(), &["once", "--"])?;
+    assert!(rt; matches!(read_words(rt.alloc(), &dashed), Ok(Task::Once)));
     Ok(())
 }
 
@@ -300,21 +373,26 @@ fn refused_words(rt: HostRuntime) -> Result<(), Fail> {
     assert!(rt; is_refused(rt.alloc(), &["unsettle"], "unsettle")?);
     assert!(rt; is_refused(rt.alloc(), &["settle", "twice"], "twice")?);
     assert!(rt; is_refused(rt.alloc(), &["settle", "--loud"], "--loud")?);
+    assert!(rt; is_refused(rt.alloc(), &["once", "twice"], "twice")?);
+    assert!(rt; is_refused(rt.alloc(), &["once", "settle"], "settle")?);
+    assert!(rt; is_refused(rt.alloc(), &["settle", "once"], "once")?);
     Ok(())
 }
 
-/// Whether the words ask for help, and the help names `settle`.
-fn is_helped(alloc: Global, texts: &[&str]) -> Result<bool, AllocError> {
+/// Whether the words ask for help, and the help holds this text.
+fn is_helped(alloc: Global, texts: &[&str], part: &str) -> Result<bool, AllocError> {
     let words = words(alloc, texts)?;
     match read_words(alloc, &words) {
-        Ok(Task::Help(text)) => Ok(text.contains("settle")),
+        Ok(Task::Help(text)) => Ok(text.contains(part)),
         _ => Ok(false),
     }
 }
 
 #[test]
 fn help_words(rt: HostRuntime) -> Result<(), Fail> {
-    assert!(rt; is_helped(rt.alloc(), &["--help"])?);
-    assert!(rt; is_helped(rt.alloc(), &["settle", "-h"])?);
+    assert!(rt; is_helped(rt.alloc(), &["--help"], "Settles the configuration")?);
+    assert!(rt; is_helped(rt.alloc(), &["--help"], "Makes one round of the system")?);
+    assert!(rt; is_helped(rt.alloc(), &["settle", "-h"], "settle")?);
+    assert!(rt; is_helped(rt.alloc(), &["once", "-h"], "once")?);
     Ok(())
 }

@@ -13,6 +13,8 @@ use std::alloc::{AllocError, AllocFailed, Global};
 pub enum Task {
     /// Settle the configuration on standard input.
     Settle,
+    /// Make one round of the system on standard input.
+    Once,
     /// Show this help.
     Help(String),
 }
@@ -36,20 +38,24 @@ impl From<AllocError> for WordsFault {
     }
 }
 
-/// Reads the words after the program's name. Help is asked for by `--help` or `-h`, after the command too.
+/// Reads the words after the program's name. Help is asked for by `--help` or `-h`, after a command too.
 pub fn read_words(alloc: Global, words: &[String]) -> Result<Task, WordsFault>
     ensures answers { Answers (fault_of command_line (map string_bytes words.now)) result }
     ensures named { IfOk result (Names (map string_bytes words.now)) }
     ensures settle { map string_bytes words.now ≡ codes "settle" ∷ [] → AnswersUnless Task.Settle result }
+    ensures once { map string_bytes words.now ≡ codes "once" ∷ [] → AnswersUnless Task.Once result }
 {
-    let error = match command(alloc)?.try_get_matches_from(words) {
-        Ok(_) => return Ok(Task::Settle),
-        Err(error) => error,
-    };
-    match error.kind() {
-        ErrorKind::OutOfMemory => Err(WordsFault::Memory),
-        ErrorKind::DisplayHelp => Ok(Task::Help(error.to_string(alloc)?)),
-        _ => Err(WordsFault::Words(error.to_string(alloc)?)),
+    match command(alloc)?.try_get_matches_from(words) {
+        Ok(matches) => match matches.subcommand_name() {
+            Some("settle") => Ok(Task::Settle),
+            Some("once") => Ok(Task::Once),
+            _ => unreachable!(),
+        },
+        Err(error) => match error.kind() {
+            ErrorKind::OutOfMemory => Err(WordsFault::Memory),
+            ErrorKind::DisplayHelp => Ok(Task::Help(error.to_string(alloc)?)),
+            _ => Err(WordsFault::Words(error.to_string(alloc)?)),
+        },
     }
 }
 
@@ -60,11 +66,15 @@ fn command<'a>(alloc: Global) -> Result<Command<'a>, AllocError>
     let settle = Command::new(alloc, "settle").about(
         "Settles the configuration on standard input and prints it",
     );
+    let once = Command::new(alloc, "once").about(
+        "Makes one round of the system on standard input and prints the configuration",
+    );
     Command::new(alloc, "icserve")
         .bin_name("icserve")?
         .about("A job server for the interaction calculus")
         .no_binary_name(true)
         .disable_help_subcommand(true)
         .subcommand_required(true)
-        .subcommand(settle)
+        .subcommand(settle)?
+        .subcommand(once)
 }

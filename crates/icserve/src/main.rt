@@ -1,15 +1,17 @@
 //! The program `icserve`: a job server for the interaction calculus.
 #![tactic(auto)]
 
-use ic_serve::{StreamFault, Task, WordsFault, read_words, settle_stream};
+use ic_serve::{StreamFault, Task, WordsFault, once_stream, read_words, settle_stream};
 use std::env;
 use std::io::{self, ErrorKind, Write};
 use std::process::ExitCode;
 
 fn main(rt: HostRuntime) -> ExitCode {
     match task(&rt) {
-        Ok(Task::Settle) => settle(&rt),
-        Ok(Task::Help(text)) => show(&rt, text.as_str()),
+        Ok(task) => match run(&rt, task) {
+            Ok(()) => ExitCode::SUCCESS,
+            Err(fault) => refuse(&rt, fault),
+        },
         Err(WordsFault::Words(text)) => {
             let _ = eprint!(rt; "{text}");
             ExitCode::from(2)
@@ -32,21 +34,23 @@ fn task(rt: &HostRuntime) -> Result<Task, WordsFault> {
     read_words(alloc, &words)
 }
 
-/// Settles standard input.
-fn settle(rt: &HostRuntime) -> ExitCode {
-    match settle_stream(rt.alloc(), &mut rt.reader(), &mut io::writer(rt)) {
-        Ok(()) => ExitCode::SUCCESS,
-        Err(fault) => refuse(rt, fault),
+/// Does a task on standard input and output.
+fn run(rt: &HostRuntime, task: Task) -> Result<(), StreamFault> {
+    let mut input = rt.reader();
+    let mut output = io::writer(rt);
+    match task {
+        Task::Settle => settle_stream(rt.alloc(), &mut input, &mut output),
+        Task::Once => once_stream(rt.alloc(), &mut input, &mut output),
+        Task::Help(text) => show(&mut output, text.as_str()),
     }
 }
 
-/// Writes a text to standard output.
-fn show(rt: &HostRuntime, text: &str) -> ExitCode {
-    let mut output = io::writer(rt);
-    if output.write_all(text.as_bytes()).is_err() || output.flush().is_err() {
-        return refuse(rt, StreamFault::Write);
-    }
-    ExitCode::SUCCESS
+/// Writes a text.
+fn show<W: Write>(output: &mut W, text: &str) -> Result<(), StreamFault> {
+    output
+        .write_all(text.as_bytes())
+        .map_err(|_| StreamFault::Write)?;
+    output.flush().map_err(|_| StreamFault::Write)
 }
 
 /// Writes the line of a fault to standard error.

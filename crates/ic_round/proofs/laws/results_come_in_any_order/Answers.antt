@@ -1,0 +1,5 @@
+use Rattle.ic_round.proofs.AnyOrder.{any_order}
+use Rattle.ic_round.proofs.laws.results_come_in_any_order.Goals as goal
+
+pub returns : goal.returns
+returns c = any_order

@@ -1,0 +1,57 @@
+//! Terms of the greatest depth, in a thread with the standard's stack.
+
+use ic_round::round;
+use ic_term::over;
+use ic_text::{print_config, read_system};
+use std::alloc::{AllocError, Global};
+use std::test::Fail;
+use std::thread;
+
+/// A text with 8,188 nested C round one D between its front and its back.
+fn nested(alloc: Global, front: &[u8], back: &[u8]) -> Result<Vec<u8>, AllocError> {
+    let mut text = Vec::from_slice(alloc, front)?;
+    for _ in 0..8_188 {
+        text.extend_from_slice(b"C(")?;
+    }
+    text.push(b'D')?;
+    for _ in 0..8_188 {
+        text.push(b')')?;
+    }
+    text.extend_from_slice(back)?;
+    Ok(text)
+}
+
+/// Whether `A(T)`, 8,190 nested agents, is read, copied, compared, fired, settled and printed as it should be: the round
+/// of `{A(x)><B(x)} <|A(T)=B(P)>` is `<|P=T>`.
+fn goes_deep(alloc: Global) -> Result<bool, AllocError> {
+    let text = nested(alloc, b"{A(x)><B(x)}<|A(", b")=B(P)>")?;
+    let Ok(system) = read_system(alloc, &text) else {
+        return Ok(false);
+    };
+    let (rules, config) = system.into_parts();
+    let copy = config.copy(alloc)?;
+    let same = copy.equations() == config.equations();
+    if !over(rules.symbols(), &config) {
+        return Ok(false);
+    }
+    let Ok(after) = round(alloc, &rules, config) else {
+        return Ok(false);
+    };
+    if !over(rules.symbols(), &after) {
+        return Ok(false);
+    }
+    let line = print_config(alloc, rules.symbols(), &after)?;
+    let expected = nested(alloc, b"<|P=", b">")?;
+    Ok(same && line.as_slice() == expected.as_slice())
+}
+
+#[test]
+fn deep_terms(rt: HostRuntime) -> Result<(), Fail> {
+    let alloc = rt.alloc();
+    let Ok(child) = thread::spawn(&rt, move || goes_deep(alloc)) else {
+        return Err(Fail::from("no thread"));
+    };
+    let deep = child.join(&rt)?;
+    assert!(rt; deep);
+    Ok(())
+}
