@@ -1,6 +1,5 @@
 pub mod Words
 pub mod Placed
-pub mod TermLaws
 pub mod Substitution
 pub mod Whole
 pub mod Middle

@@ -1,7 +1,7 @@
 use Rattle.std.proofs.Common.{◌≡◌, ◌≤◌, ◌∙◌, ap, map, length, arith}
 use Rattle.std.proofs.lemmas.List.{take_all, drop_all, with_items_is}
 use Rattle.ic_term.specs.declared.term.Term.TheVariants.{outs-Agent}
-use Rattle.ic_round.proofs.TermLaws.{tree-agent, cell_tree-out, cell_tree-roll}
+use Rattle.ic_term.specs.TermLaws.{tree-Agent, cell_tree-out, cell_tree-roll}
 use Rattle.ic_term.specs.Term.{tree}
 use Rattle.ic_round.specs.Placing.{held_tree}
 use Rattle.ic_round.proofs.Placed.{placed-agent}
@@ -12,7 +12,7 @@ pub put-returns-in-Agent : goal.put-returns-in-Agent
 put-returns-in-Agent t c =
     let now : c.deref_mut.result.now ≡ c.in-Agent.cell.value = c.deref_mut.ensures.value ∙ ap (λ b. b.value) c.in-Agent.cell-is in
     let ensured = rw now at c.put_in_cell.ensures in
-    rw (c.in-Agent.is, outs-Agent, tree-agent c.in-Agent.cell, tree-agent) ensured
+    rw (c.in-Agent.is, outs-Agent, tree-Agent c.in-Agent.cell, tree-Agent) ensured
 
 -- src/settling.rt:73:1
 pub put_in_cell-returns : goal.put_in_cell-returns
