@@ -7,12 +7,12 @@ use Rattle.std.specs.List.{flat_map}
 use Rattle.std.specs.Option.{option_map_or}
 use Rattle.ic_term.specs.Tree.{Tree, name, agent, Trees, no_trees, more_trees, trees_of, list_of, nodes, nodes_of, Pair, pair_nodes}
 use Rattle.ic_term.specs.Symbol.{Symbol, has_arity, is_tree_over, are_trees_over, is_pair_over}
-use Rattle.ic_term.proofs.TreeLemmas.{list_of-trees_of}
+use Rattle.ic_term.specs.TreeLaws.{list_of-trees_of}
 use Rattle.ic_rules.specs.Renaming.{renamed, renamed_trees}
 use Rattle.ic_rules.specs.Rule.{Rule, rule_nodes, rule_agents, agents}
 use Rattle.ic_rules.specs.RuleSet.{unfit_among, first_unfit, rule_for, stands_turned}
-use Rattle.ic_rules.proofs.FitLemmas.{or_else, unfit_among-append}
-use Rattle.ic_rules.proofs.RuleSetLemmas.{rule_for-found}
+use Rattle.ic_rules.specs.FitLaws.{or_else, unfit_among-append}
+use Rattle.ic_rules.specs.FindLaws.{rule_for-found}
 use Rattle.ic_round.specs.Instance.{inst}
 use Rattle.ic_round.specs.Firing.{Active, oriented, rule_of_sides, active_pair, arguments, against, products, products_by, count_of, names_taken, fired_pair, fired_from, next_behind}
 use Rattle.ic_round.specs.Works.{is_agent_of}

@@ -7,7 +7,7 @@ use Rattle.std.proofs.lemmas.List.Sums.{sum_by-cons}
 use Rattle.ic_term.specs.Configuration.{occurrences}
 use Rattle.ic_rules.specs.Renaming.{are_paired, first_occurrences}
 use Rattle.ic_rules.specs.Rule.{Rule, IsRule, rule_names}
-use Rattle.ic_rules.proofs.NumberingLemmas.{each_among, Among}
+use Rattle.ic_rules.specs.NumberingLaws.{each_among, Among}
 use Rattle.ic_round.specs.Settling.{occurs}
 use Rattle.ic_round.proofs.Substitution.{occurrences_none}
 

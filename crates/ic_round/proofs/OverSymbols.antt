@@ -9,7 +9,7 @@ use Rattle.ic_term.specs.Configuration.{Configuration}
 use Rattle.ic_rules.specs.Renaming.{renamed, renamed_trees}
 use Rattle.ic_rules.specs.Rule.{Rule, agents, agents_of}
 use Rattle.ic_rules.specs.RuleSet.{unfit_among, first_unfit}
-use Rattle.ic_rules.proofs.FitLemmas.{unfit_among-append}
+use Rattle.ic_rules.specs.FitLaws.{unfit_among-append}
 use Rattle.ic_round.specs.Instance.{inst}
 use Rattle.ic_round.specs.Firing.{Active, active_pair, arguments, against, products, products_by, names_taken, fired_pair, fired_from, fired}
 use Rattle.ic_round.proofs.Substitution.{and_parts, and_both}

@@ -12,7 +12,7 @@ use Rattle.ic_term.specs.declared.limits.TheConstants.{MAX_NEXT}
 use Rattle.ic_term.specs.Tree.{Tree, name, agent, Trees, no_trees, more_trees, names, names_of, Pair}
 use Rattle.ic_term.specs.Term.{tree, cell_tree, pair}
 use Rattle.ic_term.specs.TermLaws.{cell_tree-out}
-use Rattle.ic_term.proofs.TreeLemmas.{list_of-trees_of}
+use Rattle.ic_term.specs.TreeLaws.{list_of-trees_of}
 use Rattle.ic_rules.specs.Renaming.{renamed, renamed_trees}
 use Rattle.ic_rules.specs.Rule.{Rule, IsRule, rule_names}
 use Rattle.ic_round.specs.Instance.{inst}

@@ -1,6 +1,6 @@
--- Names numbered by first occurrence: the numbers are 0, 1, .. in the order of their first occurrences, and a name
--- stands as often as its number.
-use Rattle.std.proofs.Common.{◌≡◌, ℕ, zero, suc, ◌+◌, ◌==◌, Bool, true, false, List, [], ◌∷◌, ◌++◌, length, map, get_or, nat_eq, cond, refl, sym, ap, ◌∙◌, arith, one-add, subst}
+-- Lemmas, which no clause is read by: names numbered by first occurrence have 0, 1, .. in the order of their first
+-- occurrences, a name stands as often as its number, and a rule that is numbered already stays as it is.
+use Rattle.std.proofs.Common.{◌≡◌, ◌↔◌, ℕ, zero, suc, ◌+◌, ◌==◌, ◌||◌, Bool, true, false, List, [], ◌∷◌, ◌++◌, length, map, get_or, nat_eq, cond, refl, sym, ap, ◌∙◌, arith, one-add, subst}
 use Rattle.std.proofs.lemmas.List.{map-append}
 use Rattle.std.proofs.lemmas.List.Folds.{list_any-append}
 use Rattle.std.proofs.lemmas.List.Sums.{sum_by-append}
@@ -10,6 +10,8 @@ use Rattle.std.specs.List.{list_any, list_all, AllByRecursion, IsDistinct, range
 use Rattle.ic_term.specs.Configuration.{occurrences}
 use Rattle.ic_term.specs.Tree.{Tree, name, agent, Trees, no_trees, more_trees, names, names_of}
 use Rattle.ic_rules.specs.Renaming.{renamed, renamed_trees, first_behind, first_occurrences, number_among, are_paired}
+use Rattle.ic_rules.specs.RenamingLaws.{flat_names-renamed}
+use Rattle.ic_rules.specs.Rule.{Rule, rule_names, numbered, IsNumbered}
 
 eq_true : (a b : ℕ) → (a == b) ≡ true → a ≡ b
 eq_true a b = (unsigned_Decides a b).0
@@ -164,17 +166,83 @@ paired_numbered firsts all (n ∷ ns) ua un =
 pub are_paired-numbered : (ns : List ℕ) → are_paired (map (number_among (first_occurrences ns)) ns) ≡ are_paired ns
 are_paired-numbered ns = paired_numbered (first_occurrences ns) ns ns (each_undone ns) (each_undone ns)
 
--- the names of renamed terms are the renamed names
+-- a function that leaves a list as it is leaves its members
+abbrev Fixes : (ℕ → ℕ) → List ℕ → Type 0
+Fixes f ns = AllByRecursion (λ n. f n ≡ n) ns
+
+head_or : ℕ → List ℕ → ℕ
+head_or d [] = d
+head_or d (n ∷ ns) = n
+
+rest_of : List ℕ → List ℕ
+rest_of [] = []
+rest_of (n ∷ ns) = ns
+
+fixed_member : (f : ℕ → ℕ) (xs : List ℕ) (m : ℕ) → map f xs ≡ xs → list_any (λ k. m == k) xs ≡ true → f m ≡ m
+unfolding head_or rest_of
+fixed_member f [] m same there = cc
+fixed_member f (x ∷ xs) m same there = by_test (m == x) refl there (fixed_member f xs m (ap rest_of same))
+  where
+    by_test : (b : Bool) → (m == x) ≡ b → (b || list_any (λ k. m == k) xs) ≡ true → (list_any (λ k. m == k) xs ≡ true → f m ≡ m) → f m ≡ m
+    by_test true e there below = let is = (unsigned_Decides m x).0 e in ap f is ∙ ap (head_or 0) same ∙ sym is
+    by_test false e there below = below there
+
+fixed_members : (f : ℕ → ℕ) (xs ms : List ℕ) → map f xs ≡ xs → Among xs ms → Fixes f ms
+fixed_members f xs [] same all = tt
+fixed_members f xs (m ∷ ms) same all = (fixed_member f xs m same all.0, fixed_members f xs ms same all.1)
+
+fixes-append : (f : ℕ → ℕ) (ms ns : List ℕ) → Fixes f (ms ++ ns) → Fixes f ms × Fixes f ns
+fixes-append f [] ns all = (tt, all)
+fixes-append f (m ∷ ms) ns all = let rest = fixes-append f ms ns all.1 in ((all.0, rest.0), rest.1)
+
 mutual
-  pub names-renamed : (f : ℕ → ℕ) (t : Tree) → names (renamed f t) ≡ map f (names t)
-  names-renamed f (name n) = refl
-  names-renamed f (agent s ts) = names_of-renamed f ts
+  renamed-fixed : (f : ℕ → ℕ) (t : Tree) → Fixes f (names t) → renamed f t ≡ t
+  renamed-fixed f (name n) all = ap name all.0
+  renamed-fixed f (agent s ts) all = ap (agent s) (renamed_trees-fixed f ts all)
 
-  pub names_of-renamed : (f : ℕ → ℕ) (ts : Trees) → names_of (renamed_trees f ts) ≡ map f (names_of ts)
-  names_of-renamed f no_trees = refl
-  names_of-renamed f (more_trees t ts) =
-      rw (names-renamed f t, names_of-renamed f ts) (sym (map-append f (names t) (names_of ts)))
+  renamed_trees-fixed : (f : ℕ → ℕ) (ts : Trees) → Fixes f (names_of ts) → renamed_trees f ts ≡ ts
+  renamed_trees-fixed f no_trees all = refl
+  renamed_trees-fixed f (more_trees t ts) all =
+      let parts = fixes-append f (names t) (names_of ts) all in
+      λ i. more_trees (renamed-fixed f t parts.0 i) (renamed_trees-fixed f ts parts.1 i)
 
-pub flat_names-renamed : (f : ℕ → ℕ) (ts : List Tree) → flat_map names (map (renamed f) ts) ≡ map f (flat_map names ts)
-flat_names-renamed f [] = refl
-flat_names-renamed f (t ∷ ts) = rw (names-renamed f t, flat_names-renamed f ts) (sym (map-append f (names t) (flat_map names ts)))
+terms-fixed : (f : ℕ → ℕ) (ts : List Tree) → Fixes f (flat_map names ts) → map (renamed f) ts ≡ ts
+terms-fixed f [] all = refl
+terms-fixed f (t ∷ ts) all =
+    let parts = fixes-append f (names t) (flat_map names ts) all in
+    λ i. renamed-fixed f t parts.0 i ∷ terms-fixed f ts parts.1 i
+
+pub length-range : (a n : ℕ) → length (range_with_len a n) ≡ n
+length-range a zero = refl
+length-range a (suc n) = omega (arith, length-range (a + 1) n)
+
+-- a rule that is numbered already stays as it is
+pub numbered-same : (r : Rule) → IsNumbered r → numbered r ≡ r
+numbered-same r in_order =
+    let firsts = first_occurrences (rule_names r) in
+    let count : length firsts ≡ r.names = ap length in_order ∙ length-range 0 r.names in
+    let numbers = numbers-distinct firsts (first_behind-distinct [] (rule_names r) none_distinct) in
+    let same : map (number_among firsts) firsts ≡ firsts = numbers ∙ ap (range_with_len 0) count ∙ sym in_order in
+    let all = fixed_members (number_among firsts) firsts (rule_names r) same (each_among [] (rule_names r)) in
+    let fixed = fixes-append (number_among firsts) (flat_map names r.left_args) (flat_map names r.right_args) all in
+    let left = terms-fixed (number_among firsts) r.left_args fixed.0 in
+    let right = terms-fixed (number_among firsts) r.right_args fixed.1 in
+    λ i. record { left = r.left; right = r.right; left_args = left i; right_args = right i; names = count i }
+
+-- so do rules
+pub map-numbered-same : (rs : List Rule) → AllByRecursion IsNumbered rs → map numbered rs ≡ rs
+map-numbered-same [] all = refl
+map-numbered-same (r ∷ rs) all = λ i. numbered-same r all.0 i ∷ map-numbered-same rs all.1 i
+
+rule_names-numbered : (r : Rule) → rule_names (numbered r) ≡ map (number_among (first_occurrences (rule_names r))) (rule_names r)
+rule_names-numbered r =
+    let f : ℕ → ℕ = number_among (first_occurrences (rule_names r)) in
+    (λ i. flat_names-renamed f r.left_args i ++ flat_names-renamed f r.right_args i) ∙ sym (map-append f (flat_map names r.left_args) (flat_map names r.right_args))
+
+-- a numbered rule is numbered
+pub numbered-IsNumbered : (r : Rule) → IsNumbered (numbered r)
+numbered-IsNumbered r = ap first_occurrences (rule_names-numbered r) ∙ first_occurrences-numbered (rule_names r)
+
+-- a rule stays as it is exactly where it is numbered already
+pub numbered-exactly : (r : Rule) → (numbered r ≡ r) ↔ IsNumbered r
+numbered-exactly r = ((λ same. subst IsNumbered same (numbered-IsNumbered r)), numbered-same r)
