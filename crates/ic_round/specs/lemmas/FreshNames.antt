@@ -8,8 +8,8 @@ use Rattle.ic_term.specs.Configuration.{occurrences}
 use Rattle.ic_rules.specs.Renaming.{are_paired, first_occurrences}
 use Rattle.ic_rules.specs.Rule.{Rule, IsRule, rule_names}
 use Rattle.ic_rules.specs.NumberingLaws.{each_among, Among}
-use Rattle.ic_round.specs.Settling.{occurs}
-use Rattle.ic_round.proofs.Substitution.{occurrences_none}
+use Rattle.ic_settle.specs.Settling.{occurs}
+use Rattle.ic_settle.specs.SubstitutionLaws.{occurrences_none}
 
 pub occurrences-cons : (n m : ℕ) (ms : List ℕ) → occurrences n (m ∷ ms) ≡ cond (m == n) 1 0 + occurrences n ms
 occurrences-cons n m ms = sum_by-cons _ m ms

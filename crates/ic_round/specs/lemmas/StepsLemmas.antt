@@ -1,15 +1,17 @@
--- A round is joined to its input by a chain of steps.
-use Rattle.std.proofs.Common.{◌≡◌, ℕ, ◌+◌, ◌==◌, ◌||◌, List, [], ◌∷◌, ◌++◌, Bool, true, false, Option, None, Some, length, refl, sym, ◌∙◌, append_assoc, append-nil, arith, ◌⊎◌, inl, inr, subst}
+-- Lemmas: a round is joined to its input by a chain of steps.
+use Rattle.std.proofs.Common.{◌≡◌, ℕ, zero, suc, ◌+◌, List, [], ◌∷◌, ◌++◌, Bool, true, false, Option, None, Some, length, refl, sym, ◌∙◌, append_assoc, append-nil, arith, ◌⊎◌, inl, inr, subst}
 use Rattle.std.proofs.lemmas.List.Folds.{list_any-append}
 use Rattle.std.specs.List.{flat_map}
 use Rattle.std.specs.Option.{option_map_or}
 use Rattle.ic_term.specs.Tree.{Tree, Pair, names, pair_names}
 use Rattle.ic_term.specs.Configuration.{Configuration}
 use Rattle.ic_rules.specs.Rule.{Rule}
-use Rattle.ic_round.specs.Settling.{occurs}
-use Rattle.ic_round.specs.NameSteps.{NameStep, NameSteps, no_step, one_more}
+use Rattle.ic_settle.specs.Settling.{Choice, first_choice, applied, settled_in, settled}
 use Rattle.ic_round.specs.Firing.{Active, active_pair, products_by, count_of, names_taken, fired_pair, fired_from, next_behind, fired}
 use Rattle.ic_round.specs.Steps.{Step, interaction, indirection, collect, Steps, no_steps, then_step}
+use Rattle.ic_round.specs.Rounds.{round}
+use Rattle.ic_round.specs.lemmas.NameStepLemmas.{name_step}
+use Rattle.ic_round.specs.lemmas.SettledLemmas.{choice_step}
 
 -- a configuration on its way: these equations are done, those aren't
 abbrev way : List Tree → List Pair → List Pair → ℕ → Configuration
@@ -56,42 +58,20 @@ fired_reached rs c =
     let P : List Pair → Type 0 = λ es. Steps rs c (record { interface = c.interface; equations = es; next = (fired rs c).next }) in
     subst P (append-nil (fired_from rs c.next c.equations)) all
 
-either : (a b : Bool) → (a || b) ≡ true → (a ≡ true) ⊎ (b ≡ true)
-either true b e = inl refl
-either false b e = inr e
+-- ---- settling
 
--- a step of settling is a step
-pub name_step : (rs : List Rule) (c d : Configuration) → NameStep c d → Step rs c d
-name_step rs c d s =
-    let elsewhere = sym (list_any-append (λ n. n == s.bound.name) (flat_map names c.interface) (flat_map pair_names (s.before ++ s.after))) ∙ s.outside in
-    elim (either (occurs s.bound.name (flat_map names c.interface)) (occurs s.bound.name (flat_map pair_names (s.before ++ s.after))) elsewhere) [
-      | inl h ↦ collect c d (length s.before) (record {
-        before = s.before;
-        equation = s.equation;
-        after = s.after;
-        bound = s.bound;
-        stands = record { counted = refl; parts = s.place };
-        side = s.side;
-        elsewhere = h;
-        result = s.result;
-      })
-      | inr h ↦ indirection c d (length s.before) (record {
-        before = s.before;
-        equation = s.equation;
-        after = s.after;
-        bound = s.bound;
-        stands = record { counted = refl; parts = s.place };
-        side = s.side;
-        elsewhere = h;
-        result = s.result;
-      })
-    ]
+settled_in-reached : (rs : List Rule) (n : ℕ) (c d : Configuration) → Steps rs c d → Steps rs c (settled_in n d)
+settled_in-reached rs zero c d steps = steps
+settled_in-reached rs (suc n) c d steps = at (first_choice d.interface [] d.equations) refl (λ e more. settled_in-reached rs n c e more)
+  where
+    at : (found : Option Choice) → first_choice d.interface [] d.equations ≡ found
+        → ((e : Configuration) → Steps rs c e → Steps rs c (settled_in n e)) → Steps rs c (settled_in (suc n) d)
+    at None e rest = rw e steps
+    at (Some choice) e rest = rw e (rest (applied d choice) (then_step c d _ steps (name_step rs d _ (choice_step d choice e))))
 
-pub then_settled : (rs : List Rule) (c d e : Configuration) → Steps rs c d → NameSteps d e → Steps rs c e
-then_settled rs c d d' steps (no_step x) = steps
-then_settled rs c d e steps (one_more x y z more step) = then_step c y z (then_settled rs c d y steps more) (name_step rs y z step)
+pub settled_reached : (rs : List Rule) (c d : Configuration) → Steps rs c d → Steps rs c (settled d)
+settled_reached rs c d steps = settled_in-reached rs (length d.equations) c d steps
 
-pub round_reached : (rs : List Rule) (c d e : Configuration) → d ≡ fired rs c → NameSteps d e → Steps rs c e
-round_reached rs c d e is settling =
-    let P : Configuration → Type 0 = λ f. NameSteps f e in
-    then_settled rs c (fired rs c) e (fired_reached rs c) (subst P is settling)
+-- a round is reached by finitely many steps
+pub round_reached : (rs : List Rule) (c : Configuration) → Steps rs c (round rs c)
+round_reached rs c = settled_reached rs c (fired rs c) (fired_reached rs c)

@@ -15,7 +15,7 @@ use Rattle.ic_round.specs.Works.{PlainFired, result_of, work_at, works_from}
 use Rattle.ic_round.specs.Gathering.{gap_at, gapped, gaps_from, results_for, products_for, filled_from, filled, is_lost, is_strange, gathered}
 use Rattle.ic_round.specs.declared.gather_fault.GatherFault.{GatherFault}
 use Rattle.ic_round.specs.declared.gather_fault.GatherFault.TheVariants.{Lost, Stranger}
-use Rattle.ic_round.proofs.FreshNames.{apart_false}
+use Rattle.ic_round.specs.lemmas.FreshNames.{apart_false}
 
 -- ---- each element, by recursion and by place
 

@@ -11,9 +11,9 @@ use Rattle.ic_rules.specs.Rule.{Rule, IsRule, rule_names}
 use Rattle.ic_rules.specs.RenamingLaws.{flat_names-renamed}
 use Rattle.ic_round.specs.Instance.{inst}
 use Rattle.ic_round.specs.Firing.{Active, oriented, rule_of_sides, active_pair, arguments, against, products, products_by, count_of, names_taken, fired_pair, fired_from, next_behind, fired}
-use Rattle.ic_round.proofs.SoundRules.{HasSoundRule}
-use Rattle.ic_round.proofs.Substitution.{occurrences-append, All-append, All-front, All-back}
-use Rattle.ic_round.proofs.FreshNames.{absent_below, absent_above, from_base, below_top, rule_below, rule_twice, copy_twice}
+use Rattle.ic_round.specs.lemmas.SoundRules.{HasSoundRule}
+use Rattle.ic_settle.specs.SubstitutionLaws.{occurrences-append, All-append, All-front, All-back}
+use Rattle.ic_round.specs.lemmas.FreshNames.{absent_below, absent_above, from_base, below_top, rule_below, rule_twice, copy_twice}
 
 pub All-mono : (P Q : ℕ → Type 0) → ((n : ℕ) → P n → Q n) → (ns : List ℕ) → AllByRecursion P ns → AllByRecursion Q ns
 All-mono P Q f [] all = tt

@@ -12,9 +12,9 @@ use Rattle.ic_rules.specs.RuleSet.{unfit_among, first_unfit}
 use Rattle.ic_rules.specs.FitLaws.{unfit_among-append}
 use Rattle.ic_round.specs.Instance.{inst}
 use Rattle.ic_round.specs.Firing.{Active, active_pair, arguments, against, products, products_by, names_taken, fired_pair, fired_from, fired}
-use Rattle.ic_round.proofs.Substitution.{and_parts, and_both}
-use Rattle.ic_round.proofs.FiredNames.{SidesOf, active_sides_of}
-use Rattle.ic_round.proofs.ActiveRules.{or_none, rule_agents_fit, first_fits}
+use Rattle.ic_settle.specs.SubstitutionLaws.{and_parts, and_both}
+use Rattle.ic_round.specs.lemmas.FiredNames.{SidesOf, active_sides_of}
+use Rattle.ic_round.specs.lemmas.ActiveRules.{or_none, rule_agents_fit, first_fits}
 
 rest_fits : (ss : List Symbol) (s n : ℕ) (rest : List (ℕ × ℕ)) (b : Bool) → has_arity n (slice_get ss s) ≡ b → unfit_among ss ((s, n) ∷ rest) ≡ None → unfit_among ss rest ≡ None
 rest_fits ss s n rest true e none = rw e at none

@@ -8,8 +8,8 @@ use Rattle.ic_rules.specs.Rule.{Rule, IsRule}
 use Rattle.ic_rules.specs.RuleSet.{first_unfit}
 use Rattle.ic_round.specs.Firing.{Active, oriented, rule_of_sides, active_pair}
 use Rattle.ic_round.specs.Works.{is_agent_of}
-use Rattle.ic_round.proofs.Substitution.{and_parts}
-use Rattle.ic_round.proofs.ActiveRules.{oriented_rule, sides_fit}
+use Rattle.ic_settle.specs.SubstitutionLaws.{and_parts}
+use Rattle.ic_round.specs.lemmas.ActiveRules.{oriented_rule, sides_fit}
 
 -- A rule keeps what each rule keeps, and the sides of an active equation have its symbols and arities.
 pub record SuitsRule (a : Active) (r : Rule) : Type 0 where

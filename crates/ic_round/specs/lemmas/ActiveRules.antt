@@ -17,7 +17,7 @@ use Rattle.ic_round.specs.Instance.{inst}
 use Rattle.ic_round.specs.Firing.{Active, oriented, rule_of_sides, active_pair, arguments, against, products, products_by, count_of, names_taken, fired_pair, fired_from, next_behind}
 use Rattle.ic_round.specs.Works.{is_agent_of}
 use Rattle.ic_round.specs.Sizes.{fired_nodes}
-use Rattle.ic_round.proofs.Substitution.{and_parts, and_both}
+use Rattle.ic_settle.specs.SubstitutionLaws.{and_parts, and_both}
 
 -- ---- arities
 
