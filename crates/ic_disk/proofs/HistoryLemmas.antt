@@ -9,7 +9,7 @@ use Rattle.ic_disk.specs.History.{Write, Call, write, sync, History, State, begu
 use Rattle.ic_disk.specs.HistoryLaws.{state-with_call, state_at_end, write_reached, content_image}
 use Rattle.ic_disk.specs.ImageLaws.{image_settled, torn_laid, torn_same, within_torn}
 use Rattle.ic_disk.proofs.ImageLemmas.{image_torn}
-use Rattle.ic_disk.proofs.Moments.{elapses_none}
+use Rattle.ic_disk.specs.Moments.{elapses_none}
 
 -- with the write's range pending as well there are the torn images and no others
 pub write_images : (w : Write) (s : State) → Within (IsImageIn (after (write w) s)) (TornFrom w.at (length w.bytes) (IsImageIn s))
@@ -26,6 +26,7 @@ pub elapses_call : (call : Call) (h : History) (midst : List ℕ → Type 0) →
     → Elapses (length h.calls) (length (with_call call h).calls) (IsLeftSince h) (IsLeftSince (with_call call h)) midst
 elapses_call call h midst within = record {
   later = omega (arith, length-append h.calls (call ∷ []));
+  one_call = omega (arith, length-append h.calls (call ∷ []));
   nothing_else = λ t file come left. ⊎_elim
       (λ past. inl (left.0, left.1, omega arith, subst (λ (s : State). IsImageIn s file) (state_at-with_call left.0 call h (omega arith)) left.3))
       (λ present. inr (within file (subst (λ (s : State). IsImageIn s file) (state_at_end left.0 (with_call call h) (omega (arith, length-append h.calls (call ∷ []))) ∙ state-with_call call h) left.3)))

@@ -5,4 +5,3 @@ pub mod FuseLemmas
 pub mod HistoryLemmas
 pub mod ImageLemmas
 pub mod KeepsLemmas
-pub mod Moments

@@ -1,5 +1,6 @@
 -- What a crash may leave of a disk, as tests on lists of bytes. This project's choice.
 use Rattle.std.specs.Prelude.{◌≡◌, ◌⊎◌, ℕ, ◌+◌, ◌<◌, ◌≤◌, List, [], ◌∷◌, length, slice_index}
+use Rattle.ic_disk.specs.Content.{laid}
 
 -- n bytes from a place on
 pub record Range : Type 0 where
@@ -38,6 +39,11 @@ pub record Torn (at n : ℕ) (old new : List ℕ) : Type 0 where
 -- one of the images, torn by a write of n bytes at a place
 abbrev pub TornFrom : ℕ → ℕ → (List ℕ → Type 0) → List ℕ → Type 0
 TornFrom at n images file = (image : List ℕ) × images image × Torn at n image file
+
+-- one of the images torn by a write of these bytes, or the content with the bytes laid over it torn by a second write, of m bytes
+abbrev pub TornInTurn : (at : ℕ) (bytes : List ℕ) (other m : ℕ) → (content : List ℕ) → (List ℕ → Type 0) → List ℕ → Type 0
+TornInTurn at bytes other m content images file =
+    TornFrom at (length bytes) images file ⊎ Torn other m (laid at bytes content) file
 
 -- each of the former images is one of the latter
 abbrev pub Within : (List ℕ → Type 0) → (List ℕ → Type 0) → Type 0

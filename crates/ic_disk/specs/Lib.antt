@@ -3,6 +3,7 @@ pub mod ContentLaws
 pub mod Images
 pub mod ImageLaws
 pub mod Time
+pub mod Moments
 pub mod History
 pub mod HistoryLaws
 pub mod Noted
