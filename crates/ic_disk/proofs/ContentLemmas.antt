@@ -5,7 +5,7 @@ use Rattle.std.proofs.lemmas.List.{ext_get_or, take-append-le, length-replicate}
 use Rattle.std.specs.Prelude.{replicate}
 use borrow.Rule.Slice.PartMut.{put_mid, Post-is}
 use Rattle.ic_disk.specs.Content.{filled_to, laid}
-use Rattle.ic_disk.specs.ContentLaws.{length-filled_to, filled_to-at, length-laid, laid-before, laid-inside, laid-behind}
+use Rattle.ic_disk.specs.lemmas.ContentLaws.{length-filled_to, filled_to-at, length-laid, laid-before, laid-inside, laid-behind}
 
 -- over bytes that are there already
 pub put_mid-laid : (at : ℕ) (bytes file : List ℕ) → at + length bytes ≤ length file → put_mid at (at + length bytes - at) file bytes ≡ laid at bytes file

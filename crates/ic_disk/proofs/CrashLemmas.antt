@@ -4,13 +4,15 @@ use Rattle.std.specs.Prelude.{replicate}
 use Rattle.std.proofs.lemmas.Bool.{cases_lt}
 use Rattle.std.proofs.lemmas.List.{take_min, ext_get_or, get_or-replicate, length-replicate}
 use Rattle.ic_disk.specs.Content.{laid}
-use Rattle.ic_disk.specs.ContentLaws.{length-laid, laid-before, laid-inside, laid-behind}
+use Rattle.ic_disk.specs.lemmas.ContentLaws.{length-laid, laid-before, laid-inside, laid-behind}
 use Rattle.ic_disk.specs.Images.{Range, IsOutside, AgreesOutside}
-use Rattle.ic_disk.specs.History.{Write, Call, write, sync, History, State, begun, after, replay, state, content_of, image_of, range_of, IsImageIn}
-use Rattle.ic_disk.specs.HistoryLaws.{content_image}
-use Rattle.ic_disk.specs.Writes.{writes_of, laid_all, filled_all, filled_past, after_bytes, fronted, EndWithin}
+use Rattle.ic_disk.specs.Model.{Write, Call, write, sync, State, begun, after, range_of, IsImageIn}
+use Rattle.ic_disk.specs.History.{History, replay, state, content_of, image_of}
+use Rattle.ic_disk.specs.lemmas.HistoryLaws.{content_image}
+use Rattle.ic_disk.specs.Crash.{after_bytes, fronted}
+use Rattle.ic_disk.specs.inner.Writes.{writes_of, laid_all, filled_all, filled_past, EndWithin}
 use Rattle.ic_disk.specs.Crash.{IsInside, IsFilled, Takes}
-use Rattle.ic_disk.specs.MemDisk.{Keeps}
+use Rattle.ic_disk.specs.inner.MemDisk.{Keeps}
 use Rattle.ic_disk.specs.declared.mem.Choice.{Choice}
 use Rattle.ic_disk.specs.declared.mem.Choice.TheVariants.{Synced, Written, Fill, Front}
 
@@ -219,3 +221,24 @@ module _ (h : History) (content : List ℕ) (n k : ℕ) (keeps : Keeps h content
 -- what a choice takes, by its parts
 pub takes_by : (choice choice' : Choice) (h h' : History) (left left' : List ℕ) → choice ≡ choice' → h' ≡ h → left ≡ left' → Takes choice' (state h') left' → Takes choice (state h) left
 takes_by choice choice' h h' left left' same_choice same_history same_left takes = rw (same_choice, ← same_history, same_left) takes
+
+-- two files that are filled so are the same
+filled_alike : (byte : ℕ) (s : State) (left other : List ℕ) → IsFilled byte s left → IsFilled byte s other → left ≡ other
+filled_alike byte s left other one two = ext_get_or 0 left other (one.as_long ∙ sym two.as_long) each
+  where
+    each : (i : ℕ) → i < length left → get_or left i 0 ≡ get_or other i 0
+    each i inside =
+        let within : i < length s.content = omega (arith, inside, one.as_long) in
+        ⊎_elim
+        (λ synced. ⊎_elim
+        (λ is_in. one.pending i within is_in ∙ sym (two.pending i within is_in))
+        (λ outside. one.kept i synced outside ∙ sym (two.kept i synced outside))
+        (inside_or_outside (map range_of s.pending) i))
+        (λ behind. one.past i within behind ∙ sym (two.past i within behind))
+        (cases_lt i (length s.synced))
+
+pub takes_one : (choice : Choice) (s : State) (left other : List ℕ) → Takes choice s left → Takes choice s other → left ≡ other
+takes_one Synced s left other one two = one ∙ sym two
+takes_one Written s left other one two = one ∙ sym two
+takes_one (Fill byte) s left other one two = filled_alike byte s left other one two
+takes_one (Front n) s left other one two = one ∙ sym two

@@ -1,7 +1,8 @@
 -- What the answer of a disk with a fuse says of the disk behind it.
 use Rattle.std.proofs.Common.{refl, ◌≡◌, ◌⊎◌, inl, inr, ⊎_elim, Result, Ok, Err, OnOk, OnErr}
 use Rattle.std.specs.Prelude.{IsErr, is_ok}
-use Rattle.ic_disk.specs.History.{Call, History, with_call}
+use Rattle.ic_disk.specs.Model.{Call}
+use Rattle.ic_disk.specs.History.{History, with_call}
 use Rattle.ic_disk.specs.Fuse.{Answers}
 use Rattle.ic_disk.specs.declared.fuse.Turn.{Turn}
 use Rattle.ic_disk.specs.declared.fuse.Turn.TheVariants.{Make, Skip, MakeAndFail}

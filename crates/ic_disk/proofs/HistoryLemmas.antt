@@ -5,11 +5,12 @@ use Rattle.std.proofs.lemmas.List.{take-append-le, map_push}
 use Rattle.ic_disk.specs.Content.{laid}
 use Rattle.ic_disk.specs.Images.{Range, IsImage, StaysOrTears, Torn, TornFrom, Within, Only}
 use Rattle.ic_disk.specs.Time.{Elapses}
-use Rattle.ic_disk.specs.History.{Write, Call, write, sync, History, State, begun, after, replay, state, state_at, content_of, range_of, IsImageIn, image_of, IsLeftSince, with_call, with_failure}
-use Rattle.ic_disk.specs.HistoryLaws.{state-with_call, state_at_end, write_reached, content_image}
-use Rattle.ic_disk.specs.ImageLaws.{image_settled, torn_laid, torn_same, within_torn}
+use Rattle.ic_disk.specs.Model.{Write, Call, write, sync, State, begun, after, range_of, IsImageIn}
+use Rattle.ic_disk.specs.History.{History, replay, state, state_at, content_of, image_of, IsLeftSince, with_call, with_failure}
+use Rattle.ic_disk.specs.lemmas.HistoryLaws.{state-with_call, state_at_end, write_reached, content_image}
+use Rattle.ic_disk.specs.lemmas.ImageLaws.{image_settled, torn_laid, torn_same, within_torn}
 use Rattle.ic_disk.proofs.ImageLemmas.{image_torn}
-use Rattle.ic_disk.proofs.Moments.{elapses_none}
+use Rattle.ic_disk.specs.lemmas.Moments.{elapses_none}
 
 -- with the write's range pending as well there are the torn images and no others
 pub write_images : (w : Write) (s : State) → Within (IsImageIn (after (write w) s)) (TornFrom w.at (length w.bytes) (IsImageIn s))
@@ -26,6 +27,7 @@ pub elapses_call : (call : Call) (h : History) (midst : List ℕ → Type 0) →
     → Elapses (length h.calls) (length (with_call call h).calls) (IsLeftSince h) (IsLeftSince (with_call call h)) midst
 elapses_call call h midst within = record {
   later = omega (arith, length-append h.calls (call ∷ []));
+  one_call = omega (arith, length-append h.calls (call ∷ []));
   nothing_else = λ t file come left. ⊎_elim
       (λ past. inl (left.0, left.1, omega arith, subst (λ (s : State). IsImageIn s file) (state_at-with_call left.0 call h (omega arith)) left.3))
       (λ present. inr (within file (subst (λ (s : State). IsImageIn s file) (state_at_end left.0 (with_call call h) (omega (arith, length-append h.calls (call ∷ []))) ∙ state-with_call call h) left.3)))

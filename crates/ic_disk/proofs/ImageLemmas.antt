@@ -7,7 +7,7 @@ use Rattle.std.proofs.lemmas.Bool.Decides.{nat_tests}
 use Rattle.std.proofs.lemmas.List.{ext_get_or}
 use Rattle.std.proofs.lemmas.List.FromFn.{get_or-map-range_with_len, length-map-range_with_len}
 use Rattle.ic_disk.specs.Images.{Range, IsOutside, IsImage, Torn, TornFrom, Within}
-use Rattle.ic_disk.specs.ImageLaws.{IsOutside-append}
+use Rattle.ic_disk.specs.lemmas.ImageLaws.{IsOutside-append}
 
 -- whether a place is in the range
 is_in : Range → ℕ → Bool

@@ -2,9 +2,10 @@
 use Rattle.std.proofs.Common.{◌≡◌, ℕ, List, [], ◌∷◌, ◌++◌, length, map, sym, ◌∙◌, ap, arith, length-append}
 use Rattle.std.proofs.lemmas.List.{take_all, take-append-le, drop-append-le, drop_all, map_push}
 use Rattle.ic_disk.specs.Content.{laid}
-use Rattle.ic_disk.specs.History.{Write, Call, write, sync, History, State, begun, replay, state, with_call}
-use Rattle.ic_disk.specs.HistoryLaws.{state-with_call}
-use Rattle.ic_disk.specs.MemDisk.{Keeps}
+use Rattle.ic_disk.specs.Model.{Write, Call, write, sync, State, begun}
+use Rattle.ic_disk.specs.History.{History, replay, state, with_call}
+use Rattle.ic_disk.specs.lemmas.HistoryLaws.{state-with_call}
+use Rattle.ic_disk.specs.inner.MemDisk.{Keeps}
 
 pub keeps_write : (w : Write) (h : History) (content : List ℕ) (n k : ℕ) → Keeps h content n k → Keeps (with_call (write w) h) (laid w.at w.bytes content) n k
 keeps_write w h content n k keeps =

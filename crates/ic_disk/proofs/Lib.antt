@@ -1,8 +1,9 @@
 pub mod AgreeLemmas
 pub mod ContentLemmas
+pub mod CountLemmas
 pub mod CrashLemmas
 pub mod FuseLemmas
 pub mod HistoryLemmas
 pub mod ImageLemmas
 pub mod KeepsLemmas
-pub mod Moments
+pub mod ModelLemmas

@@ -1,8 +1,8 @@
 -- Which of its images the disk in memory takes at a crash. This project's choice.
-use Rattle.std.specs.Prelude.{◌≡◌, ◌⊎◌, ℕ, ◌+◌, ◌<◌, ◌≤◌, List, [], ◌∷◌, length, slice_index, map}
+use Rattle.std.specs.Prelude.{◌≡◌, ◌⊎◌, ℕ, ◌+◌, ◌-◌, ◌<◌, ◌≤◌, List, [], ◌∷◌, length, slice_index, map, take}
+use Rattle.ic_disk.specs.Content.{laid}
 use Rattle.ic_disk.specs.Images.{Range, IsOutside}
-use Rattle.ic_disk.specs.History.{State, range_of}
-use Rattle.ic_disk.specs.Writes.{fronted}
+use Rattle.ic_disk.specs.Model.{Write, State, range_of}
 use Rattle.ic_disk.specs.declared.mem.Choice.{Choice}
 use Rattle.ic_disk.specs.declared.mem.Choice.TheVariants.{Synced, Written, Fill, Front}
 
@@ -17,6 +17,16 @@ pub record IsFilled (byte : ℕ) (s : State) (left : List ℕ) : Type 0 where
   pub kept : (i : ℕ) → i < length s.synced → IsOutside (map range_of s.pending) i → slice_index left i ≡ slice_index s.content i
   pub pending : (i : ℕ) → i < length s.content → IsInside (map range_of s.pending) i → slice_index left i ≡ byte
   pub past : (i : ℕ) → i < length s.content → length s.synced ≤ i → slice_index left i ≡ byte
+
+-- the file after these bytes were written to it, or no write was begun where there are none
+abbrev pub after_bytes : ℕ → List ℕ → List ℕ → List ℕ
+after_bytes at [] file = file
+after_bytes at (byte ∷ bytes) file = laid at (byte ∷ bytes) file
+
+-- the file with the first n bytes of all these writes, in order, laid over it
+abbrev pub fronted : ℕ → List Write → List ℕ → List ℕ
+fronted n [] file = file
+fronted n (w ∷ ws) file = fronted (n - length w.bytes) ws (after_bytes w.at (take n w.bytes) file)
 
 -- what the crash leaves
 abbrev pub Takes : Choice → State → List ℕ → Type 0

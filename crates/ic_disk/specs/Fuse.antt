@@ -1,6 +1,7 @@
 -- Which calls of the disk with a fuse fail, and what they leave. This project's choice.
 use Rattle.std.specs.Prelude.{◌≡◌, ◌⊎◌, ◌==◌, ◌+◌, ◌-◌, ◌^◌, ℕ, min, nat_lt, if◌then◌else◌, Result, IsOk, IsErr, OnOk, OnErr}
-use Rattle.ic_disk.specs.History.{Call, History, with_call, with_failure}
+use Rattle.ic_disk.specs.Model.{Call}
+use Rattle.ic_disk.specs.History.{History, with_call, with_failure}
 use Rattle.ic_disk.specs.declared.fuse.Blow.{Blow}
 use Rattle.ic_disk.specs.declared.fuse.Blow.TheVariants.{Before, After}
 use Rattle.ic_disk.specs.declared.fuse.Then.{Then}

@@ -1,5 +1,6 @@
 -- What a crash may leave of a disk, as tests on lists of bytes. This project's choice.
-use Rattle.std.specs.Prelude.{◌≡◌, ◌⊎◌, ℕ, ◌+◌, ◌<◌, ◌≤◌, List, [], ◌∷◌, length, slice_index}
+use Rattle.std.specs.Prelude.{◌≡◌, ◌≢◌, ◌⊎◌, ℕ, ◌+◌, ◌<◌, ◌≤◌, List, [], ◌∷◌, length, slice_index}
+use Rattle.ic_disk.specs.Content.{laid, bytes_at}
 
 -- n bytes from a place on
 pub record Range : Type 0 where
@@ -20,6 +21,10 @@ pub record AgreesOutside (ranges : List Range) (old new : List ℕ) : Type 0 whe
 abbrev pub AgreesWithAny : List Range → (List ℕ → Type 0) → List ℕ → Type 0
 AgreesWithAny ranges files new = (old : List ℕ) × files old × AgreesOutside ranges old new
 
+-- n bytes from one place on
+abbrev pub one_range : (at n : ℕ) → List Range
+one_range at n = record { at = at; size = n } ∷ []
+
 -- n bytes from one place on, and m from another
 abbrev pub two_ranges : (at n other m : ℕ) → List Range
 two_ranges at n other m = record { at = at; size = n } ∷ record { at = other; size = m } ∷ []
@@ -38,6 +43,22 @@ pub record Torn (at n : ℕ) (old new : List ℕ) : Type 0 where
 -- one of the images, torn by a write of n bytes at a place
 abbrev pub TornFrom : ℕ → ℕ → (List ℕ → Type 0) → List ℕ → Type 0
 TornFrom at n images file = (image : List ℕ) × images image × Torn at n image file
+
+-- One of the images torn by a write of these bytes, or the content with the bytes laid over it, torn by a second write, of
+-- m bytes.
+abbrev pub TornInTurn : (at : ℕ) (bytes : List ℕ) (other m : ℕ) → (content : List ℕ) → (List ℕ → Type 0) → List ℕ → Type 0
+TornInTurn at bytes other m content images file =
+    TornFrom at (length bytes) images file ⊎ Torn other m (laid at bytes content) file
+
+-- each of the images has this place, with another byte there
+abbrev pub IsUnmarked : (at mark : ℕ) → (List ℕ → Type 0) → Type 0
+IsUnmarked at mark images =
+    (file : List ℕ) → images file → (at < length file) × (slice_index file at ≢ mark)
+
+-- a file with the mark has all of these bytes
+abbrev pub WholeIfMarked : (at : ℕ) (bytes : List ℕ) (mark_at mark : ℕ) (file : List ℕ) → Type 0
+WholeIfMarked at bytes mark_at mark file =
+    slice_index file mark_at ≡ mark → bytes_at at (length bytes) file ≡ bytes
 
 -- each of the former images is one of the latter
 abbrev pub Within : (List ℕ → Type 0) → (List ℕ → Type 0) → Type 0

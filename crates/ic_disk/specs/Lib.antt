@@ -1,14 +1,11 @@
 pub mod Content
-pub mod ContentLaws
 pub mod Images
-pub mod ImageLaws
 pub mod Time
+pub mod Model
 pub mod History
-pub mod HistoryLaws
-pub mod Noted
-pub mod MemDisk
-pub mod Writes
 pub mod Crash
 pub mod Fuse
 pub mod FuseDisk
 pub mod FileDisk
+pub mod lemmas
+pub mod inner

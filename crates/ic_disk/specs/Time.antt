@@ -4,6 +4,7 @@ use Rattle.std.specs.Prelude.{◌≡◌, ◌⊎◌, ℕ, ◌+◌, ◌-◌, ◌^�
 -- Time goes on by one call: a crash since t may have left what it might have left before, or what the midst of the call leaves.
 pub record Elapses (before now : ℕ) (past since : ℕ → List ℕ → Type 0) (midst : List ℕ → Type 0) : Type 0 where
   pub later : before ≤ now
+  pub one_call : now ≤ before + 1
   pub nothing_else : (t : ℕ) (file : List ℕ) → t ≤ before → since t file → past t file ⊎ midst file
   pub keeps : (t : ℕ) (file : List ℕ) → t ≤ before → past t file → since t file
 

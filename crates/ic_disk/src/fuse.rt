@@ -2,8 +2,9 @@
 ghost use Rattle.std.specs.Prelude.{◌≡◌, ◌⊎◌, ◌+◌, ◌≤◌, true, length, IfOk, OnOk, OnErr};
 ghost use Rattle.ic_disk.specs.Content.{bytes_at, laid};
 ghost use Rattle.ic_disk.specs.Fuse.{turn_of, one_call_more, Answers, AnswersRead};
-ghost use Rattle.ic_disk.specs.History.{write_of, sync, content_of, image_of, IsLeftSince, Passes};
-ghost use Rattle.ic_disk.specs.HistoryLaws as laws;
+ghost use Rattle.ic_disk.specs.Model.{write_of, sync};
+ghost use Rattle.ic_disk.specs.History.{content_of, image_of, IsLeftSince, Passes};
+ghost use Rattle.ic_disk.specs.lemmas.HistoryLaws as laws;
 ghost use Rattle.ic_disk.specs.Images.{Only, StaysOrTears, Torn, TornFrom, Within};
 ghost use Rattle.ic_disk.specs.Time.{CountsFailure};
 

@@ -1,8 +1,12 @@
-// What any disk that keeps the model is good for, proved from the clauses of its calls alone.
-ghost use Rattle.std.specs.Prelude.{◌≡◌, ◌+◌, [], ◌∷◌, List, ℕ, length, IsTrue, OnOk};
+//! What any disk that keeps the model is good for, proved from the clauses of its calls alone, and laws of the
+//! definitions that those cite.
+ghost use Rattle.std.specs.Prelude.{◌≡◌, ◌⊎◌, ◌+◌, ◌-◌, ◌^◌, ◌<◌, ◌≤◌, ◌↔◌, [], ◌∷◌, List, ℕ, length, IsTrue, OnOk, OnErr};
 ghost use Rattle.ic_disk.specs.Content.{laid};
-ghost use Rattle.ic_disk.specs.Images.{AgreesOutside, AgreesWithAny, Only, TornFrom, two_ranges};
+ghost use Rattle.ic_disk.specs.Crash.{Takes};
+ghost use Rattle.ic_disk.specs.Images.{AgreesOutside, AgreesWithAny, IsUnmarked, Only, Torn, TornFrom, TornInTurn, WholeIfMarked, one_range, two_ranges};
+ghost use Rattle.ic_disk.specs.Model.{IsImageIn, IsInState, State, after, after_failed, begun, sync, write_of};
 ghost use Rattle.ic_disk.specs.Time.{CountsFailure, LeavesOnly};
+ghost use Rattle.ic_disk.specs.declared.mem.Choice.{Choice};
 
 use crate::{Disk, DiskFault};
 
@@ -19,6 +23,9 @@ pub fn write_synced<D: Disk>(disk: &mut D, at: u64, bytes: &[u8]) -> Result<(), 
     // A crash at any moment leaves an image from before, torn by the write.
     ensures any_moment { IsTrue (D.keeps disk.old) → LeavesOnly D.clock D.left disk.old disk.new
         (TornFrom at (length bytes.now) (D.image disk.old)) }
+
+    // It makes at most two calls.
+    ensures calls { IsTrue (D.keeps disk.old) → D.clock disk.new ≤ D.clock disk.old + 2 }
 {
     disk.write_at(at, bytes)?;
     disk.sync()
@@ -49,7 +56,112 @@ pub fn write_and_mark<D: Disk>(
     ensures settled { IsTrue (D.keeps disk.old) → Only (D.content disk.old) (D.image disk.old)
         → LeavesOnly D.clock D.left disk.old disk.new
         (AgreesOutside (two_ranges at (length bytes.now) mark_at 1) (D.content disk.old)) }
+
+    // The mark isn't begun before the bytes are there to stay: a crash leaves an image from before
+    // torn by the write of the bytes, or the content with all of them, torn where the mark is.
+    ensures ordered { IsTrue (D.keeps disk.old) → LeavesOnly D.clock D.left disk.old disk.new
+        (TornInTurn at bytes.now mark_at 1 (D.content disk.old) (D.image disk.old)) }
+
+    // So where no image from before has the mark, one that has it has all the bytes.
+    ensures whole { IsTrue (D.keeps disk.old)
+        → (mark_at < at) ⊎ (at + length bytes.now ≤ mark_at)
+        → IsUnmarked mark_at mark (D.image disk.old)
+        → LeavesOnly D.clock D.left disk.old disk.new
+            (WholeIfMarked at bytes.now mark_at mark) }
+
+    // It makes at most four calls.
+    ensures calls { IsTrue (D.keeps disk.old) → D.clock disk.new ≤ D.clock disk.old + 4 }
 {
     write_synced(disk, at, bytes)?;
     write_synced(disk, mark_at, &[mark])
 }
+
+/// A disk whose content is the only image is as one that begins with it.
+pub fn settled_disk_begins<D: Disk>(disk: &D)
+    ensures { Only (D.content disk.now) (D.image disk.now)
+        → IsInState D.content D.image disk.now (begun (D.content disk.now)) }
+{
+    let _ = disk;
+}
+
+/// Writes, as `write_at` does: what that does to the state of the written model.
+pub fn write_as_modelled<D: Disk>(disk: &mut D, at: u64, bytes: &[u8]) -> Result<(), DiskFault>
+    ensures ok { (s : State) → IsTrue (D.keeps disk.old) → IsInState D.content D.image disk.old s
+        → OnOk result (IsInState D.content D.image disk.new (after (write_of at bytes.now) s)) }
+
+    // At Err nothing has changed, or the range is pending and the content torn there.
+    ensures err { (s : State) → IsTrue (D.keeps disk.old) → IsInState D.content D.image disk.old s
+        → OnErr result (IsInState D.content D.image disk.new s
+            ⊎ IsInState D.content D.image disk.new
+                (after_failed (record { at = at; bytes = bytes.now }) (D.content disk.new) s)) }
+    ensures torn { (s : State) → IsTrue (D.keeps disk.old) → IsInState D.content D.image disk.old s
+        → OnErr result (Torn at (length bytes.now) s.content (D.content disk.new)) }
+
+    // A crash in the midst of it may leave all that it may leave before and after it, and nothing
+    // but what it leaves with the range pending.
+    ensures reached { IsTrue (D.keeps disk.old) → (file : List ℕ)
+        → D.image disk.old file ⊎ D.image disk.new file → D.left disk.new (D.clock disk.old) file }
+    ensures midst { (s : State) → IsTrue (D.keeps disk.old) → IsInState D.content D.image disk.old s
+        → (file : List ℕ) → D.left disk.new (D.clock disk.old) file
+        → IsImageIn (after (write_of at bytes.now) s) file }
+
+    // Where all was synced, an image is whatever agrees with what was there outside the range.
+    ensures settled { IsTrue (D.keeps disk.old) → Only (D.content disk.old) (D.image disk.old)
+        → OnOk result ((file : List ℕ) → D.image disk.new file
+            ↔ AgreesOutside (one_range at (length bytes.now)) (D.content disk.old) file) }
+{
+    disk.write_at(at, bytes)
+}
+
+/// Syncs, as `sync` does: what that does to the state of the written model.
+pub fn sync_as_modelled<D: Disk>(disk: &mut D) -> Result<(), DiskFault>
+    ensures ok { (s : State) → IsTrue (D.keeps disk.old) → IsInState D.content D.image disk.old s
+        → OnOk result (IsInState D.content D.image disk.new (after sync s)) }
+    ensures err { (s : State) → IsTrue (D.keeps disk.old) → IsInState D.content D.image disk.old s
+        → OnErr result (IsInState D.content D.image disk.new s
+            ⊎ IsInState D.content D.image disk.new (after sync s)) }
+    ensures reached { IsTrue (D.keeps disk.old) → (file : List ℕ)
+        → D.image disk.old file ⊎ D.image disk.new file → D.left disk.new (D.clock disk.old) file }
+    ensures midst { (s : State) → IsTrue (D.keeps disk.old) → IsInState D.content D.image disk.old s
+        → (file : List ℕ) → D.left disk.new (D.clock disk.old) file → IsImageIn s file }
+{
+    disk.sync()
+}
+
+/// Asks for the length, as `len` does, which changes nothing in the written model.
+pub fn len_as_modelled<D: Disk>(disk: &mut D) -> Result<u64, DiskFault>
+    ensures same { (s : State) → IsTrue (D.keeps disk.old) → IsInState D.content D.image disk.old s
+        → IsInState D.content D.image disk.new s }
+    ensures midst { (s : State) → IsTrue (D.keeps disk.old) → IsInState D.content D.image disk.old s
+        → (file : List ℕ) → D.left disk.new (D.clock disk.old) file → IsImageIn s file }
+{
+    disk.len()
+}
+
+/// Reads, as `read` does, which changes nothing in the written model.
+pub fn read_as_modelled<D: Disk>(disk: &mut D, at: u64, into: &mut [u8]) -> Result<(), DiskFault>
+    requires { IsTrue (D.keeps disk.old) → at + length into.old ≤ length (D.content disk.old) }
+    ensures same { (s : State) → IsTrue (D.keeps disk.old) → IsInState D.content D.image disk.old s
+        → IsInState D.content D.image disk.new s }
+    ensures midst { (s : State) → IsTrue (D.keeps disk.old) → IsInState D.content D.image disk.old s
+        → (file : List ℕ) → D.left disk.new (D.clock disk.old) file → IsImageIn s file }
+{
+    disk.read(at, into)
+}
+
+/// The count of failures rises by one where a call failed, until it stands at its end.
+pub fn failures_rise<T, E>(answer: &Result<T, E>)
+    ensures stays { (old new : ℕ) → CountsFailure answer.now old new
+        → OnOk answer.now (new ≡ old) }
+    ensures rises { (old new : ℕ) → CountsFailure answer.now old new → old < 2 ^ 64 - 1
+        → OnErr answer.now (new ≡ old + 1) }
+    ensures ends { (new : ℕ) → CountsFailure answer.now (2 ^ 64 - 1) new → new ≡ 2 ^ 64 - 1 }
+{
+    let _ = answer;
+}
+
+/// In each state of the model a choice at a crash takes one list of bytes.
+pub fn choice_takes_one()
+    ensures { (choice : Choice) (s : State) (left other : List ℕ)
+        → Takes choice s left → Takes choice s other → left ≡ other }
+{}

@@ -1,12 +1,13 @@
 // A disk in memory, which keeps the model, and may be crashed as a test likes.
 ghost use Rattle.std.specs.Prelude.{◌≡◌, ◌⊎◌, ◌≤◌, ◌++◌, ◌∷◌, [], List, ℕ, map, take, ◌+◌, ◌-◌, ◌^◌, min, length, is_ok, IsOk, OnOk, OnErr, IfOk, true};
 ghost use Rattle.ic_disk.specs.Content.{bytes_at, laid};
-ghost use Rattle.ic_disk.specs.History.{write_of, sync, fresh, content_of, with_call, with_failure, state, image_of, IsLeftSince, Passes};
+ghost use Rattle.ic_disk.specs.Model.{write_of, sync};
+ghost use Rattle.ic_disk.specs.History.{fresh, content_of, with_call, with_failure, state, image_of, IsLeftSince, Passes};
 ghost use Rattle.ic_disk.specs.Images.{Only, StaysOrTears, Torn, TornFrom, Within};
 ghost use Rattle.ic_disk.specs.Time.{CountsFailure};
-ghost use Rattle.ic_disk.specs.HistoryLaws as laws;
-ghost use Rattle.ic_disk.specs.Noted.{call_of, first_of};
-ghost use Rattle.ic_disk.specs.Writes.{EndWithin, filled_all, filled_past, writes_of};
+ghost use Rattle.ic_disk.specs.lemmas.HistoryLaws as laws;
+ghost use Rattle.ic_disk.specs.inner.Noted.{call_of, first_of};
+ghost use Rattle.ic_disk.specs.inner.Writes.{EndWithin, filled_all, filled_past, writes_of};
 
 use crate::bytes::{fill_range, lay};
 use crate::disk::count;
@@ -45,7 +46,7 @@ impl Model for MemDisk {
 
     ghost Value = { History };
 
-    ghost use Rattle.ic_disk.specs.MemDisk.{history, IsKept};
+    ghost use Rattle.ic_disk.specs.inner.MemDisk.{history, IsKept};
 
     ghost view = { history };
 
@@ -63,7 +64,7 @@ impl MemDisk {
     }
 
     /// A disk with these bytes, all of them synced.
-    #[tactic(auto, using(crate::specs::ImageLaws::image_settled))]
+    #[tactic(auto, using(crate::specs::lemmas::ImageLaws::image_settled))]
     pub fn from_bytes(bytes: Vec<u8>) -> MemDisk
         ensures value { result ≡ fresh bytes.items }
         ensures settled { Only bytes.items (image_of result) }

@@ -1,7 +1,8 @@
 // The calls that a disk in memory notes, and making their writes once more.
 ghost use Rattle.std.specs.Prelude.{◌≡◌, ◌-◌, map, take, length, IfOk, OnOk};
-ghost use Rattle.ic_disk.specs.Noted.{call_of};
-ghost use Rattle.ic_disk.specs.Writes.{EndWithin, after_bytes, filled_all, fronted, laid_all, writes_of};
+ghost use Rattle.ic_disk.specs.inner.Noted.{call_of};
+ghost use Rattle.ic_disk.specs.Crash.{after_bytes, fronted};
+ghost use Rattle.ic_disk.specs.inner.Writes.{EndWithin, filled_all, laid_all, writes_of};
 
 use crate::bytes::{fill_range, lay};
 use std::alloc::AllocError;

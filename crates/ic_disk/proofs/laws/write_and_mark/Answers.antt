@@ -1,6 +1,8 @@
-use Rattle.std.proofs.Common.{length, ◌∙◌}
+use Rattle.std.proofs.Common.{inl, inr, ℕ, List, length, ◌∙◌, subst}
+use Rattle.ic_disk.specs.Images.{Torn}
+use Rattle.ic_disk.specs.lemmas.Marks.{whole_in_turn}
 use Rattle.ic_disk.proofs.AgreeLemmas.{torn_once, torn_twice, agrees_settled}
-use Rattle.ic_disk.proofs.Moments.{leaves_weaker, then_runs}
+use Rattle.ic_disk.specs.lemmas.Moments.{leaves_weaker, then_runs}
 use Rattle.ic_disk.proofs.laws.write_and_mark.Goals as goal
 
 pub returns-clause-any_moment : goal.returns-clause-any_moment
@@ -21,3 +23,20 @@ returns-clause-settled g c keeps only =
     let disk = g.D.Disk in
     leaves_weaker disk.clock disk.left c.args.disk.now c.write_synced-2.new.disk _ _ (returns-clause-any_moment g c keeps)
     (agrees_settled c.args.at (length c.args.bytes.now) c.args.mark_at 1 (disk.content c.args.disk.now) (disk.image c.args.disk.now) only)
+
+pub returns-clause-ordered : goal.returns-clause-ordered
+returns-clause-ordered g c keeps =
+    let disk = g.D.Disk in
+    let old = c.args.disk.now in
+    let mid = c.write_synced.new.disk in
+    let only = c.in_ok-write_synced.ensures.durable keeps in
+    then_runs disk.clock disk.left old mid c.write_synced-2.new.disk _ _
+    (leaves_weaker disk.clock disk.left old mid _ _ (c.write_synced.ensures.any_moment keeps) (λ file torn. inl torn))
+    (c.write_synced-2.ensures.any_moment (c.write_synced.ensures.keeps ∙ keeps))
+    (λ file torn. inr (subst (λ (image : List ℕ). Torn c.args.mark_at 1 image file) (only.no_other torn.0 torn.1) torn.2))
+
+pub returns-clause-whole : goal.returns-clause-whole
+returns-clause-whole g c keeps apart unmarked =
+    let disk = g.D.Disk in
+    leaves_weaker disk.clock disk.left c.args.disk.now c.write_synced-2.new.disk _ _ (returns-clause-ordered g c keeps)
+    (whole_in_turn c.args.at c.args.bytes.now c.args.mark_at c.args.mark (disk.content c.args.disk.now) (disk.image c.args.disk.now) apart unmarked)

@@ -1,6 +1,6 @@
 use Rattle.std.proofs.Common.{◌≡◌, map, drop, length}
-use Rattle.ic_disk.specs.Noted.{call_of}
-use Rattle.ic_disk.specs.Writes.{EndWithin, filled_all, writes_of}
+use Rattle.ic_disk.specs.inner.Noted.{call_of}
+use Rattle.ic_disk.specs.inner.Writes.{EndWithin, filled_all, writes_of}
 use Rattle.ic_disk.proofs.noted.fill_all.Given as goal
 
 -- what is left of the writes gives what all of them give, and each of those ends within the content

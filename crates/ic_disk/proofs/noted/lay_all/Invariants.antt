@@ -1,6 +1,6 @@
 use Rattle.std.proofs.Common.{◌≡◌, map, drop}
-use Rattle.ic_disk.specs.Noted.{call_of}
-use Rattle.ic_disk.specs.Writes.{laid_all, writes_of}
+use Rattle.ic_disk.specs.inner.Noted.{call_of}
+use Rattle.ic_disk.specs.inner.Writes.{laid_all, writes_of}
 use Rattle.ic_disk.proofs.noted.lay_all.Given as goal
 
 -- what is left of the writes, laid over the content as it is, gives what all of them give

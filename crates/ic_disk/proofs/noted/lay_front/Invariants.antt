@@ -1,6 +1,7 @@
 use Rattle.std.proofs.Common.{◌≡◌, map, drop}
-use Rattle.ic_disk.specs.Noted.{call_of}
-use Rattle.ic_disk.specs.Writes.{fronted, writes_of}
+use Rattle.ic_disk.specs.inner.Noted.{call_of}
+use Rattle.ic_disk.specs.Crash.{fronted}
+use Rattle.ic_disk.specs.inner.Writes.{writes_of}
 use Rattle.ic_disk.proofs.noted.lay_front.Given as goal
 
 -- what is left of the bytes and the writes gives what all of them give

@@ -1,6 +1,7 @@
 use Rattle.std.proofs.Common.{◌≡◌, ◌⊎◌, OnOk, OnErr, is_ok, refl, sym, ap, subst, ◌∙◌, arith}
 use Rattle.std.proofs.lemmas.Grind.{common_steps}
-use Rattle.ic_disk.specs.History.{History, Write, write, with_call, with_failure}
+use Rattle.ic_disk.specs.Model.{Write, write}
+use Rattle.ic_disk.specs.History.{History, with_call, with_failure}
 use Rattle.ic_disk.specs.FuseDisk.{disk_of}
 use Rattle.ic_disk.proofs.FuseLemmas.{answers_by, either, err_same, on_ok_same, on_err_same}
 use Rattle.ic_disk.proofs.fuse.FuseDisk.make_write.Goals as goal

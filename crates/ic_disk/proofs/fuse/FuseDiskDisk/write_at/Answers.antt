@@ -1,4 +1,4 @@
-use Rattle.ic_disk.specs.History.{Write, write}
+use Rattle.ic_disk.specs.Model.{Write, write}
 use Rattle.ic_disk.specs.FuseDisk.{disk_of, next_turn}
 use Rattle.ic_disk.proofs.FuseLemmas.{answers_ok, answers_err}
 use Rattle.ic_disk.proofs.HistoryLemmas as lemmas

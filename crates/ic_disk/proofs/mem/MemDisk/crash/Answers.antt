@@ -1,9 +1,10 @@
 use Rattle.std.proofs.Common.{◌≡◌, map, length, take, drop, ap, sym, ◌∙◌, arith}
 use Rattle.std.proofs.lemmas.List.{take-map, drop-map, with_items_is}
 use Rattle.ic_disk.specs.History.{content_of}
-use Rattle.ic_disk.specs.MemDisk.{history}
-use Rattle.ic_disk.specs.Noted.{call_of}
-use Rattle.ic_disk.specs.Writes.{filled_all, filled_past, fronted, laid_all, writes_of}
+use Rattle.ic_disk.specs.inner.MemDisk.{history}
+use Rattle.ic_disk.specs.inner.Noted.{call_of}
+use Rattle.ic_disk.specs.Crash.{fronted}
+use Rattle.ic_disk.specs.inner.Writes.{filled_all, filled_past, laid_all, writes_of}
 use Rattle.ic_disk.proofs.CrashLemmas.{takes_by, takes_image, synced_made, front_made, fill_made, ends_made, short_made}
 use Rattle.ic_disk.proofs.mem.MemDisk.crash.Goals as goal
 use Rattle.ic_disk.proofs.mem.MemDisk.crash.Goals.{in-Written, in-Fill, in-Synced+in_ok-lay_all-in-Synced, in-Front+in_ok-lay_all-in-Front+in_ok-lay_front-in-Front}

@@ -1,8 +1,9 @@
 use Rattle.std.proofs.Common.{◌∷◌, [], map, refl, ap, ◌∙◌, arith, length-append}
 use Rattle.std.proofs.lemmas.List.{map_push, length-map}
-use Rattle.ic_disk.specs.History.{sync, with_call}
-use Rattle.ic_disk.specs.MemDisk.{history}
-use Rattle.ic_disk.specs.Noted.{call_of}
+use Rattle.ic_disk.specs.Model.{sync}
+use Rattle.ic_disk.specs.History.{with_call}
+use Rattle.ic_disk.specs.inner.MemDisk.{history}
+use Rattle.ic_disk.specs.inner.Noted.{call_of}
 use Rattle.ic_disk.proofs.KeepsLemmas.{keeps_sync, keeps_same}
 use Rattle.ic_disk.specs.declared.noted.Noted.TheVariants.{Sync}
 use Rattle.ic_disk.proofs.mem.MemDisk.try_sync.Goals as goal

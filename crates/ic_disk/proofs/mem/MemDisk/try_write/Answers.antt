@@ -1,8 +1,9 @@
 use Rattle.std.proofs.Common.{[], ◌∷◌, ◌++◌, map, refl, ap, ◌∙◌}
 use Rattle.std.proofs.lemmas.List.{map_push}
-use Rattle.ic_disk.specs.History.{Write, write, with_call}
-use Rattle.ic_disk.specs.MemDisk.{history}
-use Rattle.ic_disk.specs.Noted.{call_of}
+use Rattle.ic_disk.specs.Model.{Write, write}
+use Rattle.ic_disk.specs.History.{with_call}
+use Rattle.ic_disk.specs.inner.MemDisk.{history}
+use Rattle.ic_disk.specs.inner.Noted.{call_of}
 use Rattle.ic_disk.specs.declared.noted.Noted.TheVariants.{Write as Noted_write}
 use Rattle.ic_disk.proofs.KeepsLemmas.{keeps_write, keeps_same}
 use Rattle.ic_disk.proofs.mem.MemDisk.try_write.Goals as goal

@@ -1,4 +1,4 @@
-use Rattle.ic_disk.specs.History.{sync}
+use Rattle.ic_disk.specs.Model.{sync}
 use Rattle.ic_disk.proofs.HistoryLemmas as lemmas
 use Rattle.ic_disk.proofs.mem.MemDiskDisk.sync.Goals as goal
 

@@ -1,4 +1,4 @@
-use Rattle.ic_disk.specs.History.{Write, write}
+use Rattle.ic_disk.specs.Model.{Write, write}
 use Rattle.ic_disk.proofs.HistoryLemmas as lemmas
 use Rattle.ic_disk.proofs.mem.MemDiskDisk.write_at.Goals as goal
 

@@ -1,7 +1,8 @@
 -- What the fields of the disk in memory stand for.
 use Rattle.std.specs.Prelude.{◌≡◌, ℕ, ◌≤◌, List, length, map, take, drop}
-use Rattle.ic_disk.specs.Noted.{call_of, first_of}
-use Rattle.ic_disk.specs.History.{write, History, begun, replay, state}
+use Rattle.ic_disk.specs.inner.Noted.{call_of, first_of}
+use Rattle.ic_disk.specs.Model.{write, begun}
+use Rattle.ic_disk.specs.History.{History, replay, state}
 use Rattle.ic_disk.specs.declared.mem.MemDisk.TheInside.{Inside}
 
 -- the history that the fields stand for

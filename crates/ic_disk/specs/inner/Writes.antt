@@ -1,7 +1,7 @@
 -- What the disk in memory makes of its writes one after another.
-use Rattle.std.specs.Prelude.{ℕ, ◌+◌, ◌-◌, ◌≤◌, List, [], ◌∷◌, length, replicate, take}
+use Rattle.std.specs.Prelude.{ℕ, ◌+◌, ◌-◌, ◌≤◌, List, [], ◌∷◌, length, replicate}
 use Rattle.ic_disk.specs.Content.{laid}
-use Rattle.ic_disk.specs.History.{Write, Call, write, sync}
+use Rattle.ic_disk.specs.Model.{Write, Call, write, sync}
 
 -- the writes among these calls
 abbrev pub writes_of : List Call → List Write
@@ -22,16 +22,6 @@ filled_all byte (w ∷ ws) file = filled_all byte ws (laid w.at (replicate (leng
 -- the file with this byte in each place from n on
 abbrev pub filled_past : ℕ → ℕ → List ℕ → List ℕ
 filled_past byte n file = laid n (replicate (length file - n) byte) file
-
--- the file after these bytes were written to it, or no write was begun where there are none
-abbrev pub after_bytes : ℕ → List ℕ → List ℕ → List ℕ
-after_bytes at [] file = file
-after_bytes at (byte ∷ bytes) file = laid at (byte ∷ bytes) file
-
--- the file with the first n bytes of all these writes, in order, laid over it
-abbrev pub fronted : ℕ → List Write → List ℕ → List ℕ
-fronted n [] file = file
-fronted n (w ∷ ws) file = fronted (n - length w.bytes) ws (after_bytes w.at (take n w.bytes) file)
 
 -- each write ends within this length
 abbrev pub EndWithin : ℕ → List Write → Type 0

@@ -1,10 +1,10 @@
--- How a run of calls goes on, and what crashes leave of it.
+-- Lemmas: how a run of calls begins, goes on, is joined to another and weakened, and what crashes leave of it.
 use Rattle.std.proofs.Common.{inl, inr, ⊎_elim, ℕ, List, arith}
 use Rattle.ic_disk.specs.Time.{Elapses, LeavesOnly}
 
 -- a call that goes by at no time
 pub elapses_none : (clock : ℕ) (past : ℕ → List ℕ → Type 0) (midst : List ℕ → Type 0) → Elapses clock clock past past midst
-elapses_none clock past midst = record { later = omega arith; nothing_else = λ t c le left. inl left; keeps = λ t c le left. left }
+elapses_none clock past midst = record { later = omega arith; one_call = omega arith; nothing_else = λ t c le left. inl left; keeps = λ t c le left. left }
 
 module _ {D : Type 0} (clock : D → ℕ) (left : D → ℕ → List ℕ → Type 0) where
   -- before the first call

@@ -3,8 +3,9 @@ use Rattle.std.proofs.Common.{◌≡◌, ℕ, ◌≤◌, List, [], ◌∷◌, �
 use Rattle.std.proofs.lemmas.List.{take_all, map_push}
 use Rattle.ic_disk.specs.Content.{laid}
 use Rattle.ic_disk.specs.Images.{Range, IsImage, TornFrom, Within}
-use Rattle.ic_disk.specs.History.{Write, Call, write, sync, History, State, begun, after, replay, state, state_at, content_of, range_of, IsImageIn, IsLeftSince, with_call}
-use Rattle.ic_disk.specs.ImageLaws.{torn_laid, torn_image, settled_image}
+use Rattle.ic_disk.specs.Model.{Write, Call, write, sync, State, begun, after, range_of, IsImageIn}
+use Rattle.ic_disk.specs.History.{History, replay, state, state_at, content_of, IsLeftSince, with_call}
+use Rattle.ic_disk.specs.lemmas.ImageLaws.{torn_laid, torn_image, settled_image}
 
 pub replay-append : (xs ys : List Call) (s : State) → replay (xs ++ ys) s ≡ replay ys (replay xs s)
 replay-append [] ys s = refl

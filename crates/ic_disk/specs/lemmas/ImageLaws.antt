@@ -2,7 +2,7 @@
 use Rattle.std.proofs.Common.{◌≡◌, ⊎_elim, ℕ, ◌<◌, List, [], ◌∷◌, ◌++◌, length, get_or, refl, ◌∙◌, arith}
 use Rattle.ic_disk.specs.Content.{laid}
 use Rattle.ic_disk.specs.Images.{Range, IsOutside, IsImage, Torn, TornFrom, Within, Only}
-use Rattle.ic_disk.specs.ContentLaws.{length-laid, laid-before, laid-behind}
+use Rattle.ic_disk.specs.lemmas.ContentLaws.{length-laid, laid-before, laid-behind}
 
 pub torn_same : (at n : ℕ) (file : List ℕ) → Torn at n file file
 torn_same at n file = record { no_shorter = omega arith; before = λ i lt below. refl; behind = λ i lt above. refl }

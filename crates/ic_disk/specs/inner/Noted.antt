@@ -1,7 +1,7 @@
 -- What the disk in memory keeps of its past.
 use Rattle.std.specs.Prelude.{ℕ, List, Option, Some, None, Vec}
 use Rattle.std.specs.declared.alloc.Global.{Global}
-use Rattle.ic_disk.specs.History.{Call, write, sync}
+use Rattle.ic_disk.specs.Model.{Call, write, sync}
 use Rattle.ic_disk.specs.declared.noted.Noted.{Noted}
 use Rattle.ic_disk.specs.declared.noted.Noted.TheVariants.{Write, Sync}
 
