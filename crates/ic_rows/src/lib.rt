@@ -8,6 +8,8 @@ mod deep;
 #[cfg(test)]
 mod examples;
 #[cfg(test)]
+mod reading;
+#[cfg(test)]
 mod refused;
 #[cfg(test)]
 mod rounds;

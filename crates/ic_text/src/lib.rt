@@ -16,8 +16,6 @@ mod print;
 mod read;
 mod syntax;
 mod system;
-#[cfg(test)]
-mod tests;
 mod token;
 
 pub use fault::TextFault;
