@@ -8,6 +8,10 @@ mod deep;
 #[cfg(test)]
 mod examples;
 #[cfg(test)]
+mod failing_streams;
+#[cfg(test)]
+mod program_words;
+#[cfg(test)]
 mod reading;
 #[cfg(test)]
 mod refused;
@@ -17,6 +21,8 @@ mod rounds;
 mod settled;
 #[cfg(test)]
 mod slow;
+#[cfg(test)]
+mod stream_faults;
 #[cfg(test)]
 mod streams;
 #[cfg(test)]

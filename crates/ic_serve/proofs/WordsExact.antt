@@ -7,7 +7,7 @@ use Rattle.std.specs.Prelude.{encode_utf8}
 use Rattle.clap.specs.Lexer.{long_of, short_of}
 use Rattle.clap.specs.Words.{Kinds, Rule, Shape, Text, built, fault_of}
 use Rattle.clap.specs.Walk.{Held, Names, idle, nothing_held, subcommand_met, walk, walk_from, walked, short_or_plain, long_or_other, value, trailing, Step, plain, after_flag, bundle_step, short_word, has_long, has_short, bundle_met}
-use Rattle.clap.specs.Simple.{filled, with_index, filled_from, help_rule}
+use Rattle.clap.specs.Simple.{filled, with_index, filled_from, help_rule, version_rule}
 use Rattle.clap.specs.Kinds.{or_else}
 use Rattle.clap.specs.Faults.{bundle_fault, bundle_step_fault, entered_fault, flag_word_fault, flags_fault, level_fault, long_fault, short_fault, step_fault, turn_fault, walk_fault}
 use Rattle.clap.proofs.OnLiterals.{clap_on_literals}
@@ -17,65 +17,87 @@ both_empty : (a b : Kinds) → or_else a b ≡ [] → (a ≡ []) × (b ≡ [])
 both_empty [] b e = (refl, e)
 both_empty (k ∷ ks) b e = cc
 
--- a level of the command line whose one argument is help
-abbrev rules : List Rule
-rules = filled_from 1 (help_rule ∷ [])
+-- what asks for help, and for the version
+abbrev help : Rule
+help = with_index 1 (filled help_rule)
+
+abbrev version : Rule
+version = with_index 1 (filled version_rule)
+
+-- the arguments of a level: help, and at the top the version
+abbrev rules : Bool → List Rule
+rules true = help ∷ []
+rules false = help ∷ version ∷ []
 
 abbrev level : Shape → Bool → Shape
-level base leaf = record base { rules = rules; is_leaf = leaf }
+level base leaf = record base { rules = rules leaf; is_leaf = leaf }
 
 stray_none : (leaf : Bool) (base : Shape) (h : Held) → step_fault (level base leaf) 1 h value ≡ [] → ⊥
 stray_none true base h e = cc
 stray_none false base h e = cc
 
--- the one argument of a level
-abbrev help : Rule
-help = with_index 1 (filled help_rule)
+-- the argument of a level that an option is, by two tests
+abbrev met : Bool → Bool → Bool → Option Rule
+met true is_help is_version = cond is_help (Some help) None
+met false is_help is_version = cond is_help (Some help) (cond is_version (Some version) None)
 
--- a short option is help, or unknown
-short_refused : (again : Bool) (is_help : Bool) (rest : Text) (next : Held → Kinds)
-    → short_fault rules again (cond is_help (Some help) None) rest nothing_held next ≡ [] → ⊥
-short_refused again true rest next e = cc
-short_refused again false rest next e = cc
+-- a short option is one of these, or unknown
+short_refused : (leaf again is_help is_version : Bool) (rest : Text) (next : Held → Kinds)
+    → short_fault (rules leaf) again (met leaf is_help is_version) rest nothing_held next ≡ [] → ⊥
+short_refused true again true v rest next e = cc
+short_refused true again false v rest next e = cc
+short_refused false again true v rest next e = cc
+short_refused false again false true rest next e = cc
+short_refused false again false false rest next e = cc
 
-long_refused : (again : Bool) (is_help : Bool) (text : Option Text)
-    → long_fault rules again (cond is_help (Some help) None) text nothing_held ≡ [] → ⊥
-long_refused again true None e = cc
-long_refused again true (Some v) e = cc
-long_refused again false text e = cc
+long_refused : (leaf again is_help is_version : Bool) (text : Option Text)
+    → long_fault (rules leaf) again (met leaf is_help is_version) text nothing_held ≡ [] → ⊥
+long_refused true again true v None e = cc
+long_refused true again true v (Some t) e = cc
+long_refused true again false v text e = cc
+long_refused false again true v None e = cc
+long_refused false again true v (Some t) e = cc
+long_refused false again false true None e = cc
+long_refused false again false true (Some t) e = cc
+long_refused false again false false text e = cc
 
 -- what a word is held to be, behind the fault that it may have itself
 abbrev taken : Shape → Kinds → Held × Step → Kinds
 taken s fault met = or_else fault (step_fault s 1 met.0 met.1)
 
 flag_refused : (base : Shape) (leaf again : Bool) (v flags : Text) (k : ℕ) (first : Option ℕ)
-    → taken (level base leaf) (bundle_step_fault rules again first flags 0 nothing_held (flags_fault rules again k))
-    (after_flag rules idle v (bundle_step rules first flags 0 plain nothing_held (bundle_met rules k)).0 (bundle_step rules first flags 0 plain nothing_held (bundle_met rules k)).1) ≡ []
+    → taken (level base leaf) (bundle_step_fault (rules leaf) again first flags 0 nothing_held (flags_fault (rules leaf) again k))
+    (after_flag (rules leaf) idle v (bundle_step (rules leaf) first flags 0 plain nothing_held (bundle_met (rules leaf) k)).0 (bundle_step (rules leaf) first flags 0 plain nothing_held (bundle_met (rules leaf) k)).1) ≡ []
     → ⊥
 flag_refused base leaf again v flags k None e = stray_none leaf base nothing_held e
-flag_refused base leaf again v flags k (Some x) e =
+flag_refused base true again v flags k (Some x) e =
     let rest = drop (length (encode_utf8 x)) flags in
-    short_refused again (has_short help x) rest (flags_fault rules again k rest 0) (both_empty _ _ e).0
+    short_refused true again (has_short help x) false rest (flags_fault (rules true) again k rest 0) (both_empty _ _ e).0
+flag_refused base false again v flags k (Some x) e =
+    let rest = drop (length (encode_utf8 x)) flags in
+    short_refused false again (has_short help x) (has_short version x) rest (flags_fault (rules false) again k rest 0) (both_empty _ _ e).0
 
 bundle_refused : (base : Shape) (leaf again : Bool) (v flags : Text)
-    → taken (level base leaf) (bundle_fault rules again flags nothing_held) (short_word rules idle v flags nothing_held) ≡ [] → ⊥
+    → taken (level base leaf) (bundle_fault (rules leaf) again flags nothing_held) (short_word (rules leaf) idle v flags nothing_held) ≡ [] → ⊥
 unfolding flags_fault bundle_met
 bundle_refused base leaf again v [] e = stray_none leaf base nothing_held e
 bundle_refused base leaf again v (f ∷ fs) e = flag_refused base leaf again v (f ∷ fs) (length fs) (slice_get (chars (f ∷ fs)) 0) e
 
 dash_refused : (base : Shape) (leaf again : Bool) (v : Text) (short : Option Text)
-    → taken (level base leaf) (option_map_or (λ flags. bundle_fault rules again flags nothing_held) short []) (short_or_plain rules idle v short nothing_held) ≡ [] → ⊥
+    → taken (level base leaf) (option_map_or (λ flags. bundle_fault (rules leaf) again flags nothing_held) short []) (short_or_plain (rules leaf) idle v short nothing_held) ≡ [] → ⊥
 dash_refused base leaf again v None e = stray_none leaf base nothing_held e
 dash_refused base leaf again v (Some flags) e = bundle_refused base leaf again v flags e
 
 plain_refused : (base : Shape) (leaf again : Bool) (v : Text) (long : Option (Text × Option Text))
-    → taken (level base leaf) (flag_word_fault rules again long v nothing_held) (long_or_other rules idle v long nothing_held) ≡ [] → ⊥
+    → taken (level base leaf) (flag_word_fault (rules leaf) again long v nothing_held) (long_or_other (rules leaf) idle v long nothing_held) ≡ [] → ⊥
 plain_refused base leaf again v None e = dash_refused base leaf again v (short_of v) e
-plain_refused base leaf again v (Some p) e = long_refused again (has_long help p.0) p.1 (both_empty _ _ e).0
+plain_refused base true again v (Some p) e = long_refused true again (has_long help p.0) false p.1 (both_empty _ _ e).0
+plain_refused base false again v (Some p) e =
+    long_refused false again (has_long help p.0) (has_long version p.0) p.1 (both_empty _ _ e).0
 
 only_dashes : (base : Shape) (leaf again : Bool) (v : Text) (dashes : Bool)
-    → taken (level base leaf) (cond dashes [] (flag_word_fault rules again (long_of v) v nothing_held))
-    (cond dashes (nothing_held, trailing 1) (long_or_other rules idle v (long_of v) nothing_held)) ≡ []
+    → taken (level base leaf) (cond dashes [] (flag_word_fault (rules leaf) again (long_of v) v nothing_held))
+    (cond dashes (nothing_held, trailing 1) (long_or_other (rules leaf) idle v (long_of v) nothing_held)) ≡ []
     → dashes ≡ true
 only_dashes base leaf again v true e = refl
 only_dashes base leaf again v false e = absurd (plain_refused base leaf again v (long_of v) e)
@@ -96,13 +118,13 @@ names_below true = []
 names_below false = (codes "settle", []) ∷ (codes "once", []) ∷ []
 
 behind_dashes : (base : Shape) (leaf : Bool) (u : Text)
-    → turn_fault (level base leaf) (names_below leaf) (walked rules (names_below leaf) (walk_from nothing_held) dashes) u ≡ [] → ⊥
+    → turn_fault (level base leaf) (names_below leaf) (walked (rules leaf) (names_below leaf) (walk_from nothing_held) dashes) u ≡ [] → ⊥
 unfolding walked
 behind_dashes base true u e = stray_none true base nothing_held e
 behind_dashes base false u e = stray_none false base nothing_held e
 
 nothing_behind : (base : Shape) (leaf : Bool) (vs : List Text)
-    → walk_fault (level base leaf) (names_below leaf) (walked rules (names_below leaf) (walk_from nothing_held) dashes) vs ≡ [] → vs ≡ []
+    → walk_fault (level base leaf) (names_below leaf) (walked (rules leaf) (names_below leaf) (walk_from nothing_held) dashes) vs ≡ [] → vs ≡ []
 unfolding walk_fault
 nothing_behind base leaf [] e = refl
 nothing_behind base leaf (u ∷ us) e = absurd (behind_dashes base leaf u (both_empty _ _ e).0)
@@ -128,23 +150,23 @@ below k = unwrap_or (slice_get (built command_line).subs k) top
 
 -- behind the name of a command each word is one of its own
 stopped_with : (name : Text) (words more : List Text)
-    → (fold (walked rules (names_below false)) (record (walk_from nothing_held) { stopped = Some (name, words) }) more).stopped
+    → (fold (walked (rules false) (names_below false)) (record (walk_from nothing_held) { stopped = Some (name, words) }) more).stopped
     ≡ Some (name, words ++ more)
 unfolding walked
 stopped_with name words [] = ap (λ l. Some (name, l)) (sym (append-nil words))
 stopped_with name words (v ∷ vs) = stopped_with name (words ++ v ∷ []) vs ∙ ap (λ l. Some (name, l)) (append_assoc words (v ∷ []) vs)
 
-settle_stops : (words : List Text) → (walk rules (names_below false) nothing_held (codes "settle" ∷ words)).stopped ≡ Some (codes "settle", words)
+settle_stops : (words : List Text) → (walk (rules false) (names_below false) nothing_held (codes "settle" ∷ words)).stopped ≡ Some (codes "settle", words)
 unfolding walked
 settle_stops words = stopped_with (codes "settle") [] words
 
-once_stops : (words : List Text) → (walk rules (names_below false) nothing_held (codes "once" ∷ words)).stopped ≡ Some (codes "once", words)
+once_stops : (words : List Text) → (walk (rules false) (names_below false) nothing_held (codes "once" ∷ words)).stopped ≡ Some (codes "once", words)
 unfolding walked
 once_stops words = stopped_with (codes "once") [] words
 
 -- words without a mistake have none at the level of their command
 level_free : (words : List Text) → fault_of command_line words ≡ []
-    → entered_fault (built command_line) (walk rules (names_below false) nothing_held words).stopped ≡ []
+    → entered_fault (built command_line) (walk (rules false) (names_below false) nothing_held words).stopped ≡ []
 level_free words e = (both_empty _ _ (both_empty _ _ e).1).0
 
 after_settle : (words : List Text) → fault_of command_line (codes "settle" ∷ words) ≡ [] → (words ≡ []) ⊎ (words ≡ dashes ∷ [])

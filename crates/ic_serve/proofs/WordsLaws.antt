@@ -6,7 +6,7 @@ use Rattle.clap.specs.Words.{App, HasKind, HasMatchesOf, IsAmong, Kinds, fault_o
 use Rattle.clap.specs.Walk.{Row, Text}
 use Rattle.clap.specs.declared.error.Error.{Error}
 use Rattle.clap.specs.declared.error.ErrorKind.{ErrorKind}
-use Rattle.clap.specs.declared.error.ErrorKind.TheVariants.{OutOfMemory}
+use Rattle.clap.specs.declared.error.ErrorKind.TheVariants.{DisplayHelp, DisplayVersion, OutOfMemory}
 use Rattle.clap.specs.declared.parser.matches.ArgMatches.{ArgMatches}
 use Rattle.clap.proofs.OnLiterals.{clap_on_literals}
 use Rattle.ic_serve.specs.Words.{NamesCommand, command_line}
@@ -24,6 +24,15 @@ settle_taken = refl
 pub once_taken : fault_of command_line (codes "once" ∷ []) ≡ []
 unfolding clap_on_literals
 once_taken = refl
+
+-- what asks for help, and for the version, is that alone
+pub help_asked : fault_of command_line (codes "--help" ∷ []) ≡ DisplayHelp ∷ []
+unfolding clap_on_literals
+help_asked = refl
+
+pub version_asked : fault_of command_line (codes "--version" ∷ []) ≡ DisplayVersion ∷ []
+unfolding clap_on_literals
+version_asked = refl
 
 among_kinds : (k : ErrorKind) (kinds : Kinds) (e : Error) → HasKind kinds e → kind_of e ≡ k → k ≢ OutOfMemory → IsAmong k kinds
 among_kinds k kinds e has is other = elim has [
@@ -46,6 +55,19 @@ none_made app words is fails = ap (λ a. fault_of a words) (sym is) ∙ fails (a
 -- words without a mistake have no error
 pub taken_alone : (words alone : List Text) (k : ErrorKind) → fault_of command_line alone ≡ [] → words ≡ alone → IsAmong k (fault_of command_line words) → ⊥
 taken_alone words alone k taken is among = rw (is, taken) at among
+
+-- words of which one thing alone is wrong have an error of that kind
+pub asked_alone : (words alone : List Text) (k other : ErrorKind) → fault_of command_line alone ≡ k ∷ [] → words ≡ alone
+    → IsAmong other (fault_of command_line words) → other ≡ k
+asked_alone words alone k other asked is among = elim (rw (is, asked) at among) [
+  | inl same ↦ same
+  | inr none ↦ absurd none
+]
+
+-- and so aren't taken
+pub asked_not_taken : (words alone : List Text) (k : ErrorKind) → fault_of command_line alone ≡ k ∷ [] → words ≡ alone
+    → fault_of command_line words ≡ [] → ⊥
+asked_not_taken words alone k asked is taken = let e : k ∷ [] ≡ [] = sym asked ∙ ap (fault_of command_line) (sym is) ∙ taken in cc
 
 -- ---- the command that is met
 

@@ -18,7 +18,8 @@ abbrev pub fault_of_round : RoundFault → StreamFault
 fault_of_round round.Memory = Memory
 fault_of_round fault = Round fault
 
--- The exit status of the program: 1 for a refused text or round, 4 for all else (this project's choice).
+-- The exit status of the program: 1 for a refused text or round, 4 for all else (this project's
+-- choice).
 abbrev pub status_of : StreamFault → ℕ
 status_of (Text fault) = 1
 status_of (Round fault) = 1

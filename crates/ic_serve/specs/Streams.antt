@@ -1,5 +1,6 @@
 -- What a stream is answered (this project's choice).
-use Rattle.std.specs.Prelude.{◌≡◌, ◌≢◌, ◌≤◌, ◌+◌, ℕ, List, [], ◌∷◌, ◌++◌, true, Option, Result, Ok, Err, length}
+use Rattle.std.specs.Prelude.{◌≡◌, ◌≢◌, ◌≤◌, ◌+◌, ℕ, List, [], ◌∷◌, ◌++◌, true, length}
+use Rattle.std.specs.Prelude.{Option, Result, Ok, Err}
 use Rattle.std.specs.Io.KnownBytes.{Appends, Consumes, IsAtEnd}
 use Rattle.ic_term.specs.Symbol.{Symbol}
 use Rattle.ic_term.specs.Configuration.{Configuration}
@@ -32,11 +33,15 @@ pub record RoundsTo (input line : List ℕ) : Type 0 where
   pub fits : fits system.rules.rules system.config ≡ true
   pub prints : line ≡ line_of system.rules.symbols (round system.rules.rules system.config)
 
+-- the configuration of a system after one round, or why it isn't made
+abbrev pub round_of : SystemParts → Result Configuration RoundFault
+round_of s = unless_unfit s.rules.rules s.config (round s.rules.rules s.config)
+
 -- a text is read as a system whose round is refused with this fault
 pub record IsUnfit (input : List ℕ) (fault : RoundFault) : Type 0 where
   pub system : SystemParts
   pub reads : ReadsSystem input (Ok system)
-  pub refused : unless_unfit system.rules.rules system.config (round system.rules.rules system.config) ≡ Err fault
+  pub refused : round_of system ≡ Err fault
 
 -- what a stream answers to a text: a line or a refusal
 abbrev pub Answering : Type 1
@@ -68,7 +73,8 @@ FaultOf Answers input fault = Answers input (Err fault)
 
 -- these bytes are taken, which are all there are or one more than a text may have
 abbrev pub TakesIt : List ℕ → Option (List ℕ) → Option (List ℕ) → Type 0
-TakesIt input old new = Consumes old new input × (length input ≤ MAX_TEXT + 1) × (length input ≤ MAX_TEXT → IsAtEnd new)
+TakesIt input old new = Consumes old new input × (length input ≤ MAX_TEXT + 1)
+    × (length input ≤ MAX_TEXT → IsAtEnd new)
 
 abbrev pub TakesText : Option (List ℕ) → Option (List ℕ) → Type 0
 TakesText old new = (input : List ℕ) × TakesIt input old new

@@ -12,6 +12,3 @@ mod words;
 pub use fault::StreamFault;
 pub use stream::{once_stream, settle_stream};
 pub use words::{Task, WordsFault, read_words};
-
-#[cfg(test)]
-mod tests;

@@ -27,7 +27,8 @@ pub fn settle_stream<R: Read, W: Write>(
 ) -> Result<(), StreamFault>
     ensures written { OnOk result (IfSome (R.remaining reader.old)
         (λ text. Writes Settles text (W.contents writer.old) (W.contents writer.new))) }
-    ensures refused { IfErr result (λ fault. IfSome (R.remaining reader.old) (λ text. FaultOf Settles text fault)) }
+    ensures refused { IfErr result
+        (λ fault. IfSome (R.remaining reader.old) (λ text. FaultOf Settles text fault)) }
     ensures silent { IfErr result (λ fault. fault ≢ StreamFault.Write
         → Keeps (W.contents writer.old) (W.contents writer.new)) }
     ensures taken { OnOk result (TakesText (R.remaining reader.old) (R.remaining reader.new)) }
@@ -49,7 +50,8 @@ pub fn once_stream<R: Read, W: Write>(
 ) -> Result<(), StreamFault>
     ensures written { OnOk result (IfSome (R.remaining reader.old)
         (λ text. Writes Rounds text (W.contents writer.old) (W.contents writer.new))) }
-    ensures refused { IfErr result (λ fault. IfSome (R.remaining reader.old) (λ text. FaultOf Rounds text fault)) }
+    ensures refused { IfErr result
+        (λ fault. IfSome (R.remaining reader.old) (λ text. FaultOf Rounds text fault)) }
     ensures silent { IfErr result (λ fault. fault ≢ StreamFault.Write
         → Keeps (W.contents writer.old) (W.contents writer.new)) }
     ensures taken { OnOk result (TakesText (R.remaining reader.old) (R.remaining reader.new)) }
@@ -63,9 +65,11 @@ pub fn once_stream<R: Read, W: Write>(
 
 /// All that the reader has, or its first 262,145 bytes.
 fn read_text<R: Read>(alloc: Global, reader: &mut R) -> Result<Vec<u8>, StreamFault>
-    ensures text { IfOk result (λ text. TakesIt text.items (R.remaining reader.old) (R.remaining reader.new)) }
+    ensures text { IfOk result
+        (λ text. TakesIt text.items (R.remaining reader.old) (R.remaining reader.new)) }
     ensures some { OnErr result (TakesSome (R.remaining reader.old) (R.remaining reader.new)) }
-    ensures sort { IfErr result (λ fault. (fault ≡ StreamFault.Read) ⊎ (fault ≡ StreamFault.Memory)) }
+    ensures sort { IfErr result
+        (λ fault. (fault ≡ StreamFault.Read) ⊎ (fault ≡ StreamFault.Memory)) }
 {
     let mut text = Vec::new(alloc);
     let mut chunk = [0u8; CHUNK];
@@ -88,7 +92,8 @@ fn read_text<R: Read>(alloc: Global, reader: &mut R) -> Result<Vec<u8>, StreamFa
 fn settled_line(alloc: Global, text: &[u8]) -> Result<Vec<u8>, StreamFault>
     ensures line { IfOk result (λ line. Settles text.now (Ok line.items)) }
     ensures refused { IfErr result (λ fault. FaultOf Settles text.now fault) }
-    ensures sort { IfErr result (λ fault. (fault ≢ StreamFault.Write) × (fault ≢ StreamFault.Read)) }
+    ensures sort { IfErr result
+        (λ fault. (fault ≢ StreamFault.Write) × (fault ≢ StreamFault.Read)) }
 {
     let (symbols, config) = read_config(alloc, text)?;
     let settled = settle(config);
@@ -99,7 +104,8 @@ fn settled_line(alloc: Global, text: &[u8]) -> Result<Vec<u8>, StreamFault>
 fn once_line(alloc: Global, text: &[u8]) -> Result<Vec<u8>, StreamFault>
     ensures line { IfOk result (λ line. Rounds text.now (Ok line.items)) }
     ensures refused { IfErr result (λ fault. FaultOf Rounds text.now fault) }
-    ensures sort { IfErr result (λ fault. (fault ≢ StreamFault.Write) × (fault ≢ StreamFault.Read)) }
+    ensures sort { IfErr result
+        (λ fault. (fault ≢ StreamFault.Write) × (fault ≢ StreamFault.Read)) }
 {
     let (rules, config) = read_system(alloc, text)?.into_parts();
     let after = round(alloc, &rules, config)?;
@@ -118,7 +124,8 @@ fn config_line(alloc: Global, symbols: &Symbols, config: &Config) -> Result<Vec<
 
 /// Writes a line and flushes it.
 fn write_line<W: Write>(writer: &mut W, line: &[u8]) -> Result<(), StreamFault>
-    ensures written { OnOk result (Appends (W.contents writer.old) (W.contents writer.new) line.now) }
+    ensures written { OnOk result
+        (Appends (W.contents writer.old) (W.contents writer.new) line.now) }
     ensures refused { IfErr result (λ fault. fault ≡ StreamFault.Write) }
 {
     writer.write_all(line).map_err(|_| StreamFault::Write)?;

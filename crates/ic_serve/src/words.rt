@@ -2,11 +2,15 @@
 
 ghost use Rattle.std.specs.Prelude.{◌≡◌, map, IfOk, codes, [], ◌∷◌, string_bytes};
 ghost use Rattle.clap.specs.Words.{app_of, fault_of};
-ghost use Rattle.ic_serve.specs.Words.{Answers, AnswersUnless, Names, command_line};
+ghost use Rattle.ic_serve.specs.Words.{AnswersWords, GivesHelp, GivesTask, GivesVersion, Names};
+ghost use Rattle.ic_serve.specs.Words.{command_line};
 
 use clap::Command;
 use clap::error::ErrorKind;
 use std::alloc::{AllocError, AllocFailed, Global};
+
+/// The version of the program.
+const VERSION: &str = "0.1.0";
 
 /// What the words after the program's name ask for.
 #[derive(Debug, Drop)]
@@ -17,6 +21,8 @@ pub enum Task {
     Once,
     /// Show this help.
     Help(String),
+    /// Show this line, which tells the version.
+    Version(String),
 }
 
 /// Why the words ask for nothing, each with its lasting number.
@@ -38,12 +44,16 @@ impl From<AllocError> for WordsFault {
     }
 }
 
-/// Reads the words after the program's name. Help is asked for by `--help` or `-h`, after a command too.
+/// Reads the words after the program's name. Help is asked for by `--help` or `-h`, after a command too, and the version
+/// by `--version` or `-V`.
 pub fn read_words(alloc: Global, words: &[String]) -> Result<Task, WordsFault>
-    ensures answers { Answers (fault_of command_line (map string_bytes words.now)) result }
+    ensures answers { AnswersWords (fault_of command_line (map string_bytes words.now)) result }
     ensures named { IfOk result (Names (map string_bytes words.now)) }
-    ensures settle { map string_bytes words.now ≡ codes "settle" ∷ [] → AnswersUnless Task.Settle result }
-    ensures once { map string_bytes words.now ≡ codes "once" ∷ [] → AnswersUnless Task.Once result }
+    ensures settle { map string_bytes words.now ≡ codes "settle" ∷ []
+        → GivesTask Task.Settle result }
+    ensures once { map string_bytes words.now ≡ codes "once" ∷ [] → GivesTask Task.Once result }
+    ensures help { map string_bytes words.now ≡ codes "--help" ∷ [] → GivesHelp result }
+    ensures version { map string_bytes words.now ≡ codes "--version" ∷ [] → GivesVersion result }
 {
     match command(alloc)?.try_get_matches_from(words) {
         Ok(matches) => match matches.subcommand_name() {
@@ -54,6 +64,9 @@ pub fn read_words(alloc: Global, words: &[String]) -> Result<Task, WordsFault>
         Err(error) => match error.kind() {
             ErrorKind::OutOfMemory => Err(WordsFault::Memory),
             ErrorKind::DisplayHelp => Ok(Task::Help(error.to_string(alloc)?)),
+            ErrorKind::DisplayVersion => Ok(Task::Version(format!(in alloc;
+                "icserve {VERSION}\n"
+            )?)),
             _ => Err(WordsFault::Words(error.to_string(alloc)?)),
         },
     }
@@ -72,6 +85,7 @@ fn command<'a>(alloc: Global) -> Result<Command<'a>, AllocError>
     Command::new(alloc, "icserve")
         .bin_name("icserve")?
         .about("A job server for the interaction calculus")
+        .version(VERSION)
         .no_binary_name(true)
         .disable_help_subcommand(true)
         .subcommand_required(true)

@@ -41,7 +41,7 @@ fn run(rt: &HostRuntime, task: Task) -> Result<(), StreamFault> {
     match task {
         Task::Settle => settle_stream(rt.alloc(), &mut input, &mut output),
         Task::Once => once_stream(rt.alloc(), &mut input, &mut output),
-        Task::Help(text) => show(&mut output, text.as_str()),
+        Task::Help(text) | Task::Version(text) => show(&mut output, text.as_str()),
     }
 }
 
