@@ -1,3 +1,4 @@
+-- To be believed: what a text of a configuration is read as, and how a configuration is printed.
 use Rattle.std.specs.Prelude.{◌≡◌, ℕ, ◌+◌, ◌<◌, ◌≤◌, List, [], ◌++◌, Option, None, Some, Result, Err, length, map, slice_get, codes}
 use Rattle.std.specs.List.{flat_map}
 use Rattle.std.specs.Fmt.{decimal}
@@ -9,7 +10,7 @@ use Rattle.ic_text.specs.declared.fault.TextFault.{TextFault}
 use Rattle.ic_text.specs.declared.fault.TextFault.TheVariants.{Syntax, Limit, Arity, NameCount, Name, Twice, Lopsided, Memory}
 use Rattle.ic_text.specs.Token.{Token, tokens, token_text}
 use Rattle.ic_text.specs.Name.{name_text}
-use Rattle.ic_text.specs.Source.{Source, leaf, node, Sources, no_sources, more_sources, Sides, Phrase, IsPhrase, phrase_words, words, sides_words, separated}
+use Rattle.ic_text.specs.Source.{Source, leaf, node, Sources, no_sources, more_sources, Sides, Phrase, IsPhrase, phrase_words}
 use Rattle.ic_text.specs.Sense.{sense}
 
 -- a text spells what is written there: its tokens are those of the phrase
@@ -17,9 +18,10 @@ pub record Spells (text : List ℕ) (p : Phrase) : Type 0 where
   pub phrase : IsPhrase p
   pub tokens : tokens text ≡ Some (phrase_words p)
 
--- What a text is read as: a limit where the text is too long, else the sense of what it spells, else no
--- phrase (this project's choice).
-pub record Reads (text : List ℕ) (answer : Result (List Symbol × Configuration) TextFault) : Type 0 where
+-- What a text is read as: a limit where the text is too long, else the sense of what it spells, else
+-- no phrase (this project's choice).
+pub record Reads (text : List ℕ) (answer : Result (List Symbol × Configuration) TextFault)
+    : Type 0 where
   pub long : MAX_TEXT < length text → answer ≡ Err Limit
   pub spelled : length text ≤ MAX_TEXT → (p : Phrase) → Spells text p → answer ≡ sense p
   pub malformed : length text ≤ MAX_TEXT → ((p : Phrase) → Spells text p → ⊥) → answer ≡ Err Syntax
@@ -44,32 +46,22 @@ sides_of table e = record { left = source_of table e.left; right = source_of tab
 
 -- a configuration as it is written
 abbrev pub phrase_of : List Symbol → Configuration → Phrase
-phrase_of table c = record { interface = map (source_of table) c.interface; equations = map (sides_of table) c.equations }
+phrase_of table c = record {
+  interface = map (source_of table) c.interface;
+  equations = map (sides_of table) c.equations;
+}
 
 -- the tokens of a configuration, each name in its one spelling
 abbrev pub configuration_words : List Symbol → Configuration → List Token
 configuration_words table c = phrase_words (phrase_of table c)
 
 -- tokens without blanks between them
-abbrev pub written : List Token → List ℕ
-written ts = flat_map token_text ts
-
--- the texts of a term and of an equation, and of several of them with commas between
-abbrev pub term_text : List Symbol → Tree → List ℕ
-term_text table t = written (words (source_of table t))
-
-abbrev pub terms_text : List Symbol → List Tree → List ℕ
-terms_text table ts = written (separated (map words (map (source_of table) ts)))
-
-abbrev pub equation_text : List Symbol → Pair → List ℕ
-equation_text table e = written (sides_words (sides_of table e))
-
-abbrev pub equations_text : List Symbol → List Pair → List ℕ
-equations_text table es = written (separated (map sides_words (map (sides_of table) es)))
+abbrev pub text_of : List Token → List ℕ
+text_of ts = flat_map token_text ts
 
 -- the text of a configuration: its tokens without blanks (this project's choice)
 abbrev pub printed : List Symbol → Configuration → List ℕ
-printed table c = written (configuration_words table c)
+printed table c = text_of (configuration_words table c)
 
 -- The line of a refusal. A rule's place is counted from 1 (this project's choice).
 abbrev pub fault_text : TextFault → List ℕ
