@@ -31,3 +31,4 @@ pub mod ByteKinds
 pub mod InTextOrder
 pub mod NextAbove
 pub mod NameTexts
+pub mod ReadOnce

@@ -9,22 +9,23 @@ use Rattle.ic_rules.specs.System.{SystemParts}
 use Rattle.ic_text.specs.declared.limits.TheConstants.{MAX_TEXT}
 use Rattle.ic_text.specs.declared.fault.TextFault.{TextFault}
 use Rattle.ic_text.specs.declared.fault.TextFault.TheVariants.{Limit, Arity, NameCount, Name, Twice, Lopsided}
-use Rattle.ic_text.specs.Source.{phrase_names}
-use Rattle.ic_text.specs.SystemSource.{SystemPhrase, system_symbols}
-use Rattle.ic_text.specs.Sense.{has_its_arity, numbered_phrase}
+use Rattle.ic_text.specs.Source.{IsPhrase, phrase_words, phrase_names}
+use Rattle.ic_text.specs.SystemSource.{SystemPhrase, IsSystemPhrase, system_words, system_symbols}
+use Rattle.ic_text.specs.Sense.{has_its_arity, numbered_phrase, sense}
 use Rattle.ic_text.specs.SystemSense.{system_table, is_system_in_limits, rules_over, system_parts, unless_found, system_sense}
 use Rattle.ic_text.specs.Text.{Reads}
 use Rattle.ic_text.specs.SystemText.{ReadsSystem}
 use Rattle.ic_text.proofs.Over.{has_sense}
-use Rattle.ic_text.proofs.ReadBack.{meant}
-use Rattle.ic_text.proofs.OneSystem.{SystemSpelling, spelled, malformed, system_spelling}
+use Rattle.ic_text.proofs.OneReading.{told}
+use Rattle.ic_text.proofs.OneSystem.{told_systems}
+use Rattle.ic_text.proofs.ReadOnce.{meant}
 
 abbrev IsNext : Configuration → Type 0
 IsNext c = c.next ≡ one_above (configuration_names c)
 
 pub next_of_reading : (text : List ℕ) (table : List Symbol) (c : Configuration) → Reads text (Ok (table, c)) → IsNext c
 next_of_reading text table c reads =
-    let m = meant text (table, c) reads in
+    let m = meant IsPhrase phrase_words told sense text (table, c) reads in
     subst IsNext (has_sense m.phrase (table, c) m.means).config refl
 
 abbrev parts_or : SystemParts → Result SystemParts TextFault → SystemParts
@@ -48,14 +49,6 @@ config_of_sense s v =
     by_cases true true None None None None e = ap (λ r. (parts_or (system_parts s) r).config) e
 
 pub next_of_system : (text : List ℕ) (v : SystemParts) → ReadsSystem text (Ok v) → IsNext v.config
-next_of_system text v reads = ⊎_elim by_long by_short (cases_lt MAX_TEXT (length text))
-  where
-    by_long : MAX_TEXT < length text → IsNext v.config
-    by_long long = let e = reads.long long in cc
-
-    by_short : length text ≤ MAX_TEXT → IsNext v.config
-    by_short short = by_spelling (system_spelling text)
-      where
-        by_spelling : SystemSpelling text → IsNext v.config
-        by_spelling (spelled s spells) = subst IsNext (config_of_sense s v (sym (reads.spelled short s spells))) refl
-        by_spelling (malformed none) = let e = reads.malformed short none in cc
+next_of_system text v reads =
+    let m = meant IsSystemPhrase system_words told_systems system_sense text v reads in
+    subst IsNext (config_of_sense m.phrase v m.means) refl

@@ -5,6 +5,7 @@ pub mod Source
 pub mod SystemSource
 pub mod Sense
 pub mod SystemSense
+pub mod Reading
 pub mod Text
 pub mod SystemText
 pub mod Inner

@@ -1,30 +1,25 @@
 -- To be believed: what a text of a configuration is read as, and how a configuration is printed.
-use Rattle.std.specs.Prelude.{◌≡◌, ℕ, ◌+◌, ◌<◌, ◌≤◌, List, [], ◌++◌, Option, None, Some, Result, Err, length, map, slice_get, codes}
+use Rattle.std.specs.Prelude.{ℕ, ◌+◌, List, [], ◌++◌, Option, None, Some, Result, map, slice_get, codes}
 use Rattle.std.specs.List.{flat_map}
 use Rattle.std.specs.Fmt.{decimal}
 use Rattle.ic_term.specs.Tree.{Tree, name, agent, Trees, no_trees, more_trees, Pair}
 use Rattle.ic_term.specs.Symbol.{Symbol}
 use Rattle.ic_term.specs.Configuration.{Configuration}
-use Rattle.ic_text.specs.declared.limits.TheConstants.{MAX_TEXT}
 use Rattle.ic_text.specs.declared.fault.TextFault.{TextFault}
 use Rattle.ic_text.specs.declared.fault.TextFault.TheVariants.{Syntax, Limit, Arity, NameCount, Name, Twice, Lopsided, Memory}
-use Rattle.ic_text.specs.Token.{Token, tokens, token_text}
+use Rattle.ic_text.specs.Token.{Token, token_text}
 use Rattle.ic_text.specs.Name.{name_text}
 use Rattle.ic_text.specs.Source.{Source, leaf, node, Sources, no_sources, more_sources, Sides, Phrase, IsPhrase, phrase_words}
 use Rattle.ic_text.specs.Sense.{sense}
+use Rattle.ic_text.specs.Reading.{IsSpelling, IsReading}
 
--- a text spells what is written there: its tokens are those of the phrase
-pub record Spells (text : List ℕ) (p : Phrase) : Type 0 where
-  pub phrase : IsPhrase p
-  pub tokens : tokens text ≡ Some (phrase_words p)
+-- a text spells a configuration
+abbrev pub Spells : List ℕ → Phrase → Type 0
+Spells text p = IsSpelling IsPhrase phrase_words text p
 
--- What a text is read as: a limit where the text is too long, else the sense of what it spells, else
--- no phrase (this project's choice).
-pub record Reads (text : List ℕ) (answer : Result (List Symbol × Configuration) TextFault)
-    : Type 0 where
-  pub long : MAX_TEXT < length text → answer ≡ Err Limit
-  pub spelled : length text ≤ MAX_TEXT → (p : Phrase) → Spells text p → answer ≡ sense p
-  pub malformed : length text ≤ MAX_TEXT → ((p : Phrase) → Spells text p → ⊥) → answer ≡ Err Syntax
+-- what a text of a configuration is read as
+abbrev pub Reads : List ℕ → Result (List Symbol × Configuration) TextFault → Type 0
+Reads text answer = IsReading Spells sense text answer
 
 -- the text of the symbol with a number
 abbrev pub text_or_none : Option Symbol → List ℕ
