@@ -7,9 +7,9 @@ use Rattle.ic_term.specs.Tree.{Tree, name, agent, Trees, no_trees, more_trees, l
 use Rattle.ic_term.specs.Configuration.{configured}
 use Rattle.ic_text.specs.Source.{Source, leaf, node, Sources, no_sources, more_sources, Sides, Phrase, IsSource, AreSources, IsPhrase, count_of}
 use Rattle.ic_text.specs.Sense.{number_in_table, numbered_tree, numbered_trees, numbered_pair, numbered_phrase}
-use Rattle.ic_text.specs.Prefix.{prefix, prefix_of_sources, phrase_prefix}
-use Rattle.ic_text.specs.Numbered.{item_in}
-use Rattle.ic_text.specs.Built.{with_item, built_before, pairs_of, parted}
+use Rattle.ic_text.specs.Inner.Prefix.{prefix, prefix_of_sources, phrase_prefix}
+use Rattle.ic_text.specs.Inner.Numbered.{item_in}
+use Rattle.ic_text.specs.Inner.Built.{with_item, built_before, pairs_of, configuration_from}
 use Rattle.ic_text.proofs.NameLemmas.{is_name-name_text, name_number-name_text, isnt_name-symbol}
 use Rattle.ic_text.proofs.Grammar.{AreSides}
 
@@ -76,13 +76,13 @@ module _ (table : List Symbol) where
       built-append (flat_map prefix p.interface) (flat_map (λ (e : Sides). prefix e.left ++ prefix e.right) p.equations) []
       ∙ built-interface p.interface _ is.interface ∙ ap (λ l. map (numbered_tree table) p.interface ++ l) (built-equations p.equations is.equations)
 
-  pub parted-trees : (p : Phrase) → parted (length p.interface) (map (numbered_tree table) p.interface ++ sides_trees p.equations) ≡ numbered_phrase table p
-  parted-trees p =
+  pub configuration_from-trees : (p : Phrase) → configuration_from (length p.interface) (map (numbered_tree table) p.interface ++ sides_trees p.equations) ≡ numbered_phrase table p
+  configuration_from-trees p =
       let size = length-map p.interface (numbered_tree table) in
       ap (λ l. configured l (pairs_of (drop (length p.interface) (map (numbered_tree table) p.interface ++ sides_trees p.equations)))) (take_at (map (numbered_tree table) p.interface) (sides_trees p.equations) (length p.interface) size)
       ∙ ap (λ l. configured (map (numbered_tree table) p.interface) (pairs_of l)) (drop_at (map (numbered_tree table) p.interface) (sides_trees p.equations) (length p.interface) size)
       ∙ ap (configured (map (numbered_tree table) p.interface)) (pairs_of-sides_trees p.equations)
 
   -- so the configuration that is built is the one that is written
-  pub parted-built : (p : Phrase) → IsPhrase p → parted (length p.interface) (built (phrase_prefix p) []) ≡ numbered_phrase table p
-  parted-built p is = ap (parted (length p.interface)) (built-phrase p is) ∙ parted-trees p
+  pub configuration_from-built : (p : Phrase) → IsPhrase p → configuration_from (length p.interface) (built (phrase_prefix p) []) ≡ numbered_phrase table p
+  configuration_from-built p is = ap (configuration_from (length p.interface)) (built-phrase p is) ∙ configuration_from-trees p

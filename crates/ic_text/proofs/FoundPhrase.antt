@@ -8,8 +8,9 @@ use Rattle.ic_text.specs.declared.syntax.Part.TheVariants.{Begin, Interface, Lef
 use Rattle.ic_text.specs.declared.syntax.Spot.{Spot}
 use Rattle.ic_text.specs.declared.syntax.Spot.TheVariants.{First, Due, After}
 use Rattle.ic_text.specs.Token.{Token, word, mark}
-use Rattle.ic_text.specs.Source.{Source, Sides, IsSource, words, sides_words, separated, SpelledBy}
-use Rattle.ic_text.specs.Syntax.{word_spot, beside, either_step, accepts}
+use Rattle.ic_text.specs.Source.{Source, Sides, IsSource, words, sides_words, separated}
+use Rattle.ic_text.specs.Inner.Spelled.{SpelledBy}
+use Rattle.ic_text.specs.Inner.Syntax.{word_spot, beside, either_step, accepts}
 use Rattle.ic_text.proofs.Accepted.{at}
 use Rattle.ic_text.proofs.Grammar.{behind_commas, AreSides, accepts-phrase_words}
 use Rattle.ic_text.proofs.Found.{TermFound, term_due, rest_is_less}
@@ -31,7 +32,7 @@ record InterfaceFound (front : List (List Token) → List Token) (ts : List Toke
   goes : accepts (at Left First 0) rest ≡ true
 
 -- a term of the interface and those after it
-interface_more : (ts : List Token) (t : TermFound Interface 0 ts) → InterfaceFound behind_commas t.rest → InterfaceFound separated ts
+interface_more : (ts : List Token) (t : TermFound Interface 0 ts) → InterfaceFound behind_commas t.rest → InterfaceFound (separated Comma) ts
 interface_more ts t others = record {
   terms = t.term ∷ others.terms;
   are = (t.is, others.are);
@@ -56,7 +57,7 @@ interface_rest (suc n) (mark Comma ∷ ts) le goes =
     behind_from_separated ts t (interface_rest n t.rest (rest_is_less ts t.rest n (words t.term) t.spelled (omega arith)) t.goes)
 interface_rest n (mark m ∷ ts) le goes = absurd (false≢true goes)
 
-interface_found : (ts : List Token) → accepts (at Interface First 0) ts ≡ true → InterfaceFound separated ts
+interface_found : (ts : List Token) → accepts (at Interface First 0) ts ≡ true → InterfaceFound (separated Comma) ts
 interface_found [] goes = absurd (false≢true goes)
 interface_found (word text ∷ ts) goes =
     let t = term_due (word text ∷ ts) Interface tt (sym (first_is_due Interface text ts) ∙ goes) in
@@ -97,7 +98,7 @@ record EquationsFound (front : List (List Token) → List Token) (ts : List Toke
   are : AreSides equations
   spelled : ts ≡ front (map sides_words equations) ++ mark Greater ∷ []
 
-equations_more : (ts : List Token) (e : EquationFound ts) → EquationsFound behind_commas e.rest → EquationsFound separated ts
+equations_more : (ts : List Token) (e : EquationFound ts) → EquationsFound behind_commas e.rest → EquationsFound (separated Comma) ts
 equations_more ts e others = record {
   equations = e.sides ∷ others.equations;
   are = (e.are, others.are);
@@ -129,12 +130,12 @@ equations_rest (suc n) (mark Comma ∷ ts) le goes =
     equations_behind ts e (equations_rest n e.rest (rest_is_less ts e.rest n (sides_words e.sides) e.spelled (omega arith)) e.goes)
 equations_rest n (mark m ∷ ts) le goes = absurd (false≢true goes)
 
-equations_found : (ts : List Token) → accepts (at Left First 0) ts ≡ true → EquationsFound separated ts
+equations_found : (ts : List Token) → accepts (at Left First 0) ts ≡ true → EquationsFound (separated Comma) ts
 equations_found [] goes = absurd (false≢true goes)
 equations_found (word text ∷ ts) goes =
     let e = equation_due (word text ∷ ts) (sym (first_is_due Left text ts) ∙ goes) in
     equations_more (word text ∷ ts) e (equations_rest (length e.rest) e.rest (omega arith) e.goes)
-equations_found (mark Greater ∷ ts) goes = end_found separated refl ts goes
+equations_found (mark Greater ∷ ts) goes = end_found (separated Comma) refl ts goes
 equations_found (mark m ∷ ts) goes = absurd (false≢true goes)
 
 -- what is accepted is a configuration
@@ -146,7 +147,7 @@ SpelledBy-accepts (mark Less ∷ ts) goes =
     let e = equations_found i.rest i.goes in (
       record { interface = i.terms; equations = e.equations },
       record { interface = i.are; equations = e.are },
-      ap (λ r. mark Less ∷ r) (i.spelled ∙ ap (λ r. separated (map words i.terms) ++ mark Bar ∷ r) e.spelled),
+      ap (λ r. mark Less ∷ r) (i.spelled ∙ ap (λ r. separated Comma (map words i.terms) ++ mark Bar ∷ r) e.spelled),
     )
 SpelledBy-accepts (mark m ∷ ts) goes = absurd (false≢true goes)
 

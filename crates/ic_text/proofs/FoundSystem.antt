@@ -8,9 +8,10 @@ use Rattle.ic_text.specs.declared.syntax.Part.{Part}
 use Rattle.ic_text.specs.declared.syntax.Part.TheVariants.{Start, RuleLeft, Turn, RuleRight, Begin}
 use Rattle.ic_text.specs.declared.syntax.Spot.TheVariants.{FirstAgent, DueAgent, Symbol, After}
 use Rattle.ic_text.specs.Token.{Token, word, mark}
-use Rattle.ic_text.specs.Source.{IsSource, words}
-use Rattle.ic_text.specs.Syntax.{beside, either_step, accepts}
-use Rattle.ic_text.specs.SystemSource.{AgentPhrase, RulePhrase, IsRulePhrase, agent_source, rule_words, rules_words, parted, SystemSpelledBy}
+use Rattle.ic_text.specs.Source.{IsSource, words, separated}
+use Rattle.ic_text.specs.Inner.Syntax.{beside, either_step, accepts}
+use Rattle.ic_text.specs.SystemSource.{AgentPhrase, RulePhrase, IsRulePhrase, agent_source, rule_words, rules_words}
+use Rattle.ic_text.specs.Inner.Spelled.{SystemSpelledBy}
 use Rattle.ic_text.proofs.Accepted.{at}
 use Rattle.ic_text.proofs.Found.{IsInner, goes_on, arguments_due, rest_is_less}
 use Rattle.ic_text.proofs.FoundPhrase.{SpelledBy-accepts}
@@ -94,7 +95,7 @@ record RulesFound (front : List (List Token) → List Token) (ts : List Token) :
   goes : accepts (at Begin After 0) rest ≡ true
 
 -- a rule and those after it
-rules_more : (ts : List Token) (found : RuleFound ts) → RulesFound behind_semicolons found.rest → RulesFound parted ts
+rules_more : (ts : List Token) (found : RuleFound ts) → RulesFound behind_semicolons found.rest → RulesFound (separated Semicolon) ts
 rules_more ts found others =
     let behind = behind_semicolons (map rule_words others.rules) in
     record {
@@ -108,10 +109,10 @@ rules_more ts found others =
       goes = others.goes;
     }
 
-behind_from_parted : (ts : List Token) (found : RuleFound ts)
+behind_from_separated : (ts : List Token) (found : RuleFound ts)
     → RulesFound behind_semicolons found.rest → RulesFound behind_semicolons (mark Semicolon ∷ ts)
 unfolding rules_more
-behind_from_parted ts found others =
+behind_from_separated ts found others =
     let all = rules_more ts found others in
     record {
       rules = all.rules;
@@ -130,10 +131,10 @@ rules_rest zero (mark Semicolon ∷ ts) le goes = absurd (omega arith)
 rules_rest (suc n) (mark Semicolon ∷ ts) le goes =
     let found = rule_due ts goes in
     let less = rest_is_less ts found.rest n (rule_words found.rule) found.spelled (omega arith) in
-    behind_from_parted ts found (rules_rest n found.rest less found.goes)
+    behind_from_separated ts found (rules_rest n found.rest less found.goes)
 rules_rest n (mark m ∷ ts) le goes = absurd (false≢true goes)
 
-rules_found : (ts : List Token) → accepts (at RuleLeft FirstAgent 0) ts ≡ true → RulesFound parted ts
+rules_found : (ts : List Token) → accepts (at RuleLeft FirstAgent 0) ts ≡ true → RulesFound (separated Semicolon) ts
 rules_found [] goes = absurd (false≢true goes)
 rules_found (word text ∷ ts) goes =
     let found = rule_due (word text ∷ ts) goes in

@@ -7,7 +7,7 @@ use Rattle.ic_text.specs.declared.syntax.Spot.{Spot}
 use Rattle.ic_text.specs.declared.syntax.Spot.TheVariants.{First, Due, After}
 use Rattle.ic_text.specs.Token.{Token, mark}
 use Rattle.ic_text.specs.Source.{Source, Sides, Phrase, IsSource, IsPhrase, words, sides_words, separated, phrase_words}
-use Rattle.ic_text.specs.Syntax.{accepts}
+use Rattle.ic_text.specs.Inner.Syntax.{accepts}
 use Rattle.ic_text.proofs.Accepted.{at, TakesTerm, IsClosed, accepts-words}
 
 -- lists of tokens, each behind a `,`
@@ -31,7 +31,7 @@ interface_rest (t ∷ ts) r are closed =
     ∙ interface_rest ts r are.1 closed
 
 interface_words : (ts : List Source) (r : List Token) → AllByRecursion IsSource ts
-    → accepts (at Interface First 0) (separated (map words ts) ++ mark Bar ∷ r) ≡ accepts (at Left First 0) r
+    → accepts (at Interface First 0) (separated Comma (map words ts) ++ mark Bar ∷ r) ≡ accepts (at Left First 0) r
 interface_words [] r are = refl
 interface_words (t ∷ ts) r are =
     ap (accepts (at Interface First 0)) (append_assoc (words t) (behind_commas (map words ts)) (mark Bar ∷ r))
@@ -54,7 +54,7 @@ equations_rest (e ∷ es) r are closed =
     ∙ equation_words e Due (behind_commas (map sides_words es) ++ r) are.0 tt (behind_is_closed (map sides_words es) r closed)
     ∙ equations_rest es r are.1 closed
 
-equations_words : (es : List Sides) → AreSides es → accepts (at Left First 0) (separated (map sides_words es) ++ mark Greater ∷ []) ≡ true
+equations_words : (es : List Sides) → AreSides es → accepts (at Left First 0) (separated Comma (map sides_words es) ++ mark Greater ∷ []) ≡ true
 equations_words [] are = refl
 equations_words (e ∷ es) are =
     ap (accepts (at Left First 0)) (append_assoc (sides_words e) (behind_commas (map sides_words es)) (mark Greater ∷ []))
@@ -63,4 +63,4 @@ equations_words (e ∷ es) are =
 
 pub accepts-phrase_words : (p : Phrase) → IsPhrase p → accepts (at Begin After 0) (phrase_words p) ≡ true
 accepts-phrase_words p is =
-    interface_words p.interface (separated (map sides_words p.equations) ++ mark Greater ∷ []) is.interface ∙ equations_words p.equations is.equations
+    interface_words p.interface (separated Comma (map sides_words p.equations) ++ mark Greater ∷ []) is.interface ∙ equations_words p.equations is.equations

@@ -7,14 +7,14 @@ use Rattle.std.proofs.lemmas.List.Concat.{flat_map-append}
 use Rattle.ic_text.specs.declared.token.Mark.{Mark}
 use Rattle.ic_text.specs.declared.token.Mark.TheVariants.{LeftBrace, RightBrace, Less, Greater, Bar, Equals, Comma, Semicolon, Open, Close}
 use Rattle.ic_text.specs.Token.{Token, mark, is_blank, is_word_byte, mark_byte, mark_of, word_of, before, followed, tokens_at, tokens_behind, tokens, token_text}
-use Rattle.ic_text.specs.Text.{written}
+use Rattle.ic_text.specs.Text.{text_of}
 
 abbrev kept : List ℕ → List ℕ
 kept bytes = filter (λ b. not (is_blank b)) bytes
 
-written-word_of : (run : List ℕ) → written (word_of run) ≡ run
-written-word_of [] = refl
-written-word_of (b ∷ bs) = append-nil (b ∷ bs)
+text_of-word_of : (run : List ℕ) → text_of (word_of run) ≡ run
+text_of-word_of [] = refl
+text_of-word_of (b ∷ bs) = append-nil (b ∷ bs)
 
 word_isnt_blank : (b : ℕ) → is_word_byte b ≡ true → is_blank b ≡ false
 word_isnt_blank b is = grind (arith, nat_tests)
@@ -51,34 +51,34 @@ kept-more b bs isnt = rw isnt refl
 some-before : (front us ts : List Token) → before front (Some us) ≡ Some ts → ts ≡ front ++ us
 some-before front us ts e = cc
 
-kept-behind : (bs run : List ℕ) (ts : List Token) → tokens_behind run bs ≡ Some ts → written ts ≡ run ++ kept bs
-kept-behind [] run ts e = let same : ts ≡ word_of run = cc in ap written same ∙ written-word_of run ∙ sym (append-nil run)
+kept-behind : (bs run : List ℕ) (ts : List Token) → tokens_behind run bs ≡ Some ts → text_of ts ≡ run ++ kept bs
+kept-behind [] run ts e = let same : ts ≡ word_of run = cc in ap text_of same ∙ text_of-word_of run ∙ sym (append-nil run)
 kept-behind (b ∷ bs) run ts all = by_word (is_word_byte b) refl (kept-behind bs) all
   where
     -- a byte that ends the run
-    ended : (o : Option Mark) (rest : Option (List Token)) → mark_of b ≡ o → ((us : List Token) → rest ≡ Some us → written us ≡ kept bs)
-        → before (word_of run) (followed (tokens_at b o) rest) ≡ Some ts → written ts ≡ run ++ kept (b ∷ bs)
+    ended : (o : Option Mark) (rest : Option (List Token)) → mark_of b ≡ o → ((us : List Token) → rest ≡ Some us → text_of us ≡ kept bs)
+        → before (word_of run) (followed (tokens_at b o) rest) ≡ Some ts → text_of ts ≡ run ++ kept (b ∷ bs)
     ended (Some m) None is next e = cc
     ended (Some m) (Some us) is next e =
         let byte : b ≡ mark_byte m = byte_of_mark b m is in
         let isnt : is_blank b ≡ false = ap is_blank byte ∙ mark_isnt_blank m in
         let here : mark_byte m ∷ kept bs ≡ kept (b ∷ bs) = ap (λ x. x ∷ kept bs) (sym byte) ∙ sym (kept-more b bs isnt) in
-        ap written (some-before (word_of run) (mark m ∷ us) ts e) ∙ flat_map-append token_text (word_of run) (mark m ∷ us)
-        ∙ (λ i. written-word_of run i ++ mark_byte m ∷ next us refl i) ∙ ap (λ l. run ++ l) here
+        ap text_of (some-before (word_of run) (mark m ∷ us) ts e) ∙ flat_map-append token_text (word_of run) (mark m ∷ us)
+        ∙ (λ i. text_of-word_of run i ++ mark_byte m ∷ next us refl i) ∙ ap (λ l. run ++ l) here
     ended None rest is next e = by_blank (is_blank b) refl rest next e
       where
-        by_blank : (t : Bool) → is_blank b ≡ t → (r : Option (List Token)) → ((us : List Token) → r ≡ Some us → written us ≡ kept bs)
-            → before (word_of run) (followed (cond t (Some []) None) r) ≡ Some ts → written ts ≡ run ++ kept (b ∷ bs)
+        by_blank : (t : Bool) → is_blank b ≡ t → (r : Option (List Token)) → ((us : List Token) → r ≡ Some us → text_of us ≡ kept bs)
+            → before (word_of run) (followed (cond t (Some []) None) r) ≡ Some ts → text_of ts ≡ run ++ kept (b ∷ bs)
         by_blank true blank None next e = cc
         by_blank true blank (Some us) next e =
-            ap written (some-before (word_of run) us ts e) ∙ flat_map-append token_text (word_of run) us
-            ∙ (λ i. written-word_of run i ++ next us refl i) ∙ rw blank refl
+            ap text_of (some-before (word_of run) us ts e) ∙ flat_map-append token_text (word_of run) us
+            ∙ (λ i. text_of-word_of run i ++ next us refl i) ∙ rw blank refl
         by_blank false blank r next e = cc
 
-    by_word : (t : Bool) → is_word_byte b ≡ t → ((r : List ℕ) (us : List Token) → tokens_behind r bs ≡ Some us → written us ≡ r ++ kept bs) → tokens_behind run (b ∷ bs) ≡ Some ts → written ts ≡ run ++ kept (b ∷ bs)
+    by_word : (t : Bool) → is_word_byte b ≡ t → ((r : List ℕ) (us : List Token) → tokens_behind r bs ≡ Some us → text_of us ≡ r ++ kept bs) → tokens_behind run (b ∷ bs) ≡ Some ts → text_of ts ≡ run ++ kept (b ∷ bs)
     by_word true is next e =
         next (run ++ b ∷ []) ts (rw is at e) ∙ append_assoc run (b ∷ []) (kept bs) ∙ ap (λ l. run ++ l) (sym (kept-more b bs (word_isnt_blank b is)))
     by_word false isnt next e = ended (mark_of b) (tokens_behind [] bs) refl (next []) (rw isnt at e)
 
-pub written-tokens : (text : List ℕ) (ts : List Token) → tokens text ≡ Some ts → written ts ≡ filter (λ b. not (is_blank b)) text
-written-tokens text ts e = kept-behind text [] ts e
+pub text_of-tokens : (text : List ℕ) (ts : List Token) → tokens text ≡ Some ts → text_of ts ≡ filter (λ b. not (is_blank b)) text
+text_of-tokens text ts e = kept-behind text [] ts e

@@ -27,3 +27,8 @@ pub mod WrittenTokens
 pub mod KeptBytes
 pub mod WordRuns
 pub mod SymbolOrder
+pub mod ByteKinds
+pub mod InTextOrder
+pub mod NextAbove
+pub mod NameTexts
+pub mod ReadOnce

@@ -14,14 +14,15 @@ use Rattle.ic_text.specs.Token.{Token, tokens}
 use Rattle.ic_text.specs.Name.{is_name, name_number}
 use Rattle.ic_text.specs.Source.{Source, leaf, node, Sources, no_sources, more_sources, Sides, Phrase, IsSource, AreSources, IsPhrase, phrase_words, count_of}
 use Rattle.ic_text.specs.Sense.{sense}
-use Rattle.ic_text.specs.Syntax.{accepts}
-use Rattle.ic_text.specs.Prefix.{Scanned, prefix, prefix_of_sources, phrase_prefix, scan}
+use Rattle.ic_text.specs.Inner.Syntax.{accepts}
+use Rattle.ic_text.specs.Inner.Prefix.{Scanned, prefix, prefix_of_sources, phrase_prefix, scan}
 use Rattle.ic_text.specs.Text.{Spells, Reads}
 use Rattle.ic_text.proofs.NameLemmas.{is_name-name_text, name_number-name_text, isnt_name-symbol}
 use Rattle.ic_text.proofs.Accepted.{at}
 use Rattle.ic_text.proofs.Grammar.{AreSides}
 use Rattle.ic_text.proofs.FoundPhrase.{SpelledBy-accepts, accepts-SpelledBy}
 use Rattle.ic_text.proofs.Scanning.{scan-phrase_words}
+use Rattle.ic_text.proofs.ReadOnce.{IsTold}
 
 -- the arguments of a symbol as a list, and back
 abbrev sources_in : Sources → List Source
@@ -113,56 +114,10 @@ unscanned-phrase_words p is =
 pub phrase_words-injective : (p q : Phrase) → IsPhrase p → IsPhrase q → phrase_words p ≡ phrase_words q → p ≡ q
 phrase_words-injective p q is_p is_q same = sym (unscanned-phrase_words p is_p) ∙ ap (λ ts. unscanned (scan ts)) same ∙ unscanned-phrase_words q is_q
 
-some-injective : (ts us : List Token) → Some ts ≡ Some us → ts ≡ us
-some-injective ts us e = cc
-
-pub one_source : (text : List ℕ) (p q : Phrase) → Spells text p → Spells text q → p ≡ q
-one_source text p q spells_p spells_q =
-    phrase_words-injective p q spells_p.phrase spells_q.phrase (some-injective _ _ (sym spells_p.tokens ∙ spells_q.tokens))
-
-none_is_some : (ts : List Token) → None ≡ Some ts → ⊥
-none_is_some ts e = cc
-
--- whether a text spells a configuration
-pub data Spelling (text : List ℕ) : Type 0 where
-  spelled : (p : Phrase) → Spells text p → Spelling text
-  malformed : ((p : Phrase) → Spells text p → ⊥) → Spelling text
-
-pub spelling : (text : List ℕ) → Spelling text
-spelling text = by_tokens (tokens text) refl
-  where
-    by_check : (ts : List Token) → tokens text ≡ Some ts → (b : Bool) → accepts (at Begin After 0) ts ≡ b → Spelling text
-    by_check ts e true yes_is =
-        let s = SpelledBy-accepts ts yes_is in
-        spelled s.0 (record { phrase = s.1; tokens = e ∙ ap Some s.2 })
-    by_check ts e false no_is = malformed (λ p spells. false≢true (sym no_is ∙ accepts-SpelledBy ts (p, spells.phrase, some-injective _ _ (sym e ∙ spells.tokens))))
-
-    by_tokens : (o : Option (List Token)) → tokens text ≡ o → Spelling text
-    by_tokens None e = malformed (λ p spells. none_is_some (phrase_words p) (sym e ∙ spells.tokens))
-    by_tokens (Some ts) e = by_check ts e (accepts (at Begin After 0) ts) refl
-
-pub one_answer : (text : List ℕ) (a b : Result (List Symbol × Configuration) TextFault) → Reads text a → Reads text b → a ≡ b
-one_answer text a b reads_a reads_b = ⊎_elim by_short by_long (cases_lt MAX_TEXT (length text))
-  where
-    by_short : MAX_TEXT < length text → a ≡ b
-    by_short long = reads_a.long long ∙ sym (reads_b.long long)
-
-    by_long : length text ≤ MAX_TEXT → a ≡ b
-    by_long short = by_spelling (spelling text)
-      where
-        by_spelling : Spelling text → a ≡ b
-        by_spelling (spelled p spells) = reads_a.spelled short p spells ∙ sym (reads_b.spelled short p spells)
-        by_spelling (malformed none) = reads_a.malformed short none ∙ sym (reads_b.malformed short none)
-
-pub some_answer : (text : List ℕ) → (a : Result (List Symbol × Configuration) TextFault) × Reads text a
-some_answer text = ⊎_elim too_long fits (cases_lt MAX_TEXT (length text))
-  where
-    too_long : MAX_TEXT < length text → (a : Result (List Symbol × Configuration) TextFault) × Reads text a
-    too_long long = (Err Limit, record { long = λ _. refl; spelled = λ short. absurd (omega arith); malformed = λ short. absurd (omega arith) })
-
-    fits : length text ≤ MAX_TEXT → (a : Result (List Symbol × Configuration) TextFault) × Reads text a
-    fits short = by_spelling (spelling text)
-      where
-        by_spelling : Spelling text → (a : Result (List Symbol × Configuration) TextFault) × Reads text a
-        by_spelling (spelled p spells) = (sense p, record { long = λ long. absurd (omega arith); spelled = λ _ q other. ap sense (one_source text p q spells other); malformed = λ _ none. absurd (none p spells) })
-        by_spelling (malformed none) = (Err Syntax, record { long = λ long. absurd (omega arith); spelled = λ _ p spells. absurd (none p spells); malformed = λ _ _. refl })
+pub told : IsTold IsPhrase phrase_words
+told = record {
+  test = accepts (at Begin After 0);
+  found = SpelledBy-accepts;
+  only = accepts-SpelledBy;
+  injective = phrase_words-injective;
+}

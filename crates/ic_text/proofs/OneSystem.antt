@@ -11,16 +11,17 @@ use Rattle.ic_text.specs.declared.fault.TextFault.{TextFault}
 use Rattle.ic_text.specs.declared.fault.TextFault.TheVariants.{Syntax, Limit}
 use Rattle.ic_text.specs.Token.{Token, word, mark, tokens}
 use Rattle.ic_text.specs.Source.{Source, leaf, node, Sources, no_sources, more_sources, Sides, Phrase, IsPhrase, words, argument_words, further_words, sides_words, separated, phrase_words}
-use Rattle.ic_text.specs.Syntax.{accepts}
+use Rattle.ic_text.specs.Inner.Syntax.{accepts}
 use Rattle.ic_text.specs.SystemSource.{AgentPhrase, RulePhrase, SystemPhrase, IsRulePhrase, IsSystemPhrase, agent_source, rule_words, rules_words, system_words}
 use Rattle.ic_text.specs.SystemSense.{system_sense}
 use Rattle.ic_text.specs.SystemText.{SpellsSystem, ReadsSystem}
-use Rattle.ic_text.specs.Braces.{split_at_brace}
+use Rattle.ic_text.specs.Inner.Braces.{split_at_brace}
 use Rattle.ic_text.proofs.Accepted.{at}
 use Rattle.ic_text.proofs.Grammar.{behind_commas, AreSides}
 use Rattle.ic_text.proofs.GrammarSystem.{behind_semicolons, split-rules_words}
 use Rattle.ic_text.proofs.FoundSystem.{SystemSpelledBy-accepts, accepts-SystemSpelledBy}
 use Rattle.ic_text.proofs.OneReading.{phrase_words-injective}
+use Rattle.ic_text.proofs.ReadOnce.{IsTold}
 
 -- the tokens of rules as those of equations: `><` as `=`, `;` as `,`
 abbrev as_equations : List Token → List Token
@@ -91,7 +92,7 @@ equations-behind (rule ∷ rs) =
     ap (λ x. mark Comma ∷ x) (first ∙ ap (λ x. sides_words (rule_sides rule) ++ x) (equations-behind rs))
 
 equations-rules_words : (rs : List RulePhrase)
-    → as_equations (rules_words rs) ≡ separated (map sides_words (map rule_sides rs))
+    → as_equations (rules_words rs) ≡ separated Comma (map sides_words (map rule_sides rs))
 equations-rules_words [] = refl
 equations-rules_words (rule ∷ rs) =
     let first = equations-rule_words rule (behind_semicolons (map rule_words rs)) in
@@ -138,81 +139,10 @@ system_words-injective s t is_s is_t same =
     let same_config = phrase_words-injective s.config t.config is_s.config is_t.config same_config_words in
     λ i. record { rules = same_rules i; config = same_config i }
 
-some-injective : (ts us : List Token) → Some ts ≡ Some us → ts ≡ us
-some-injective ts us e = cc
-
-pub one_system_source : (text : List ℕ) (s t : SystemPhrase) → SpellsSystem text s → SpellsSystem text t → s ≡ t
-one_system_source text s t spells_s spells_t =
-    let same = some-injective _ _ (sym spells_s.tokens ∙ spells_t.tokens) in
-    system_words-injective s t spells_s.phrase spells_t.phrase same
-
-none_is_some : (ts : List Token) → None ≡ Some ts → ⊥
-none_is_some ts e = cc
-
--- whether a text spells a system
-pub data SystemSpelling (text : List ℕ) : Type 0 where
-  spelled : (s : SystemPhrase) → SpellsSystem text s → SystemSpelling text
-  malformed : ((s : SystemPhrase) → SpellsSystem text s → ⊥) → SystemSpelling text
-
-pub system_spelling : (text : List ℕ) → SystemSpelling text
-system_spelling text = by_tokens (tokens text) refl
-  where
-    by_check : (ts : List Token) → tokens text ≡ Some ts → (b : Bool) → accepts (at Start After 0) ts ≡ b
-        → SystemSpelling text
-    by_check ts e true yes_is =
-        let s = SystemSpelledBy-accepts ts yes_is in
-        spelled s.0 (record { phrase = s.1; tokens = e ∙ ap Some s.2 })
-    by_check ts e false no_is = malformed none
-      where
-        none : (s : SystemPhrase) → SpellsSystem text s → ⊥
-        none s spells =
-            let same = some-injective _ _ (sym e ∙ spells.tokens) in
-            false≢true (sym no_is ∙ accepts-SystemSpelledBy ts (s, spells.phrase, same))
-
-    by_tokens : (o : Option (List Token)) → tokens text ≡ o → SystemSpelling text
-    by_tokens None e = malformed (λ s spells. none_is_some (system_words s) (sym e ∙ spells.tokens))
-    by_tokens (Some ts) e = by_check ts e (accepts (at Start After 0) ts) refl
-
-pub one_system_answer : (text : List ℕ) (a b : Result SystemParts TextFault)
-    → ReadsSystem text a → ReadsSystem text b → a ≡ b
-one_system_answer text a b reads_a reads_b = ⊎_elim by_short by_long (cases_lt MAX_TEXT (length text))
-  where
-    by_short : MAX_TEXT < length text → a ≡ b
-    by_short long = reads_a.long long ∙ sym (reads_b.long long)
-
-    by_long : length text ≤ MAX_TEXT → a ≡ b
-    by_long short = by_spelling (system_spelling text)
-      where
-        by_spelling : SystemSpelling text → a ≡ b
-        by_spelling (spelled s spells) = reads_a.spelled short s spells ∙ sym (reads_b.spelled short s spells)
-        by_spelling (malformed none) = reads_a.malformed short none ∙ sym (reads_b.malformed short none)
-
-pub some_system_answer : (text : List ℕ) → (a : Result SystemParts TextFault) × ReadsSystem text a
-some_system_answer text = ⊎_elim too_long fits (cases_lt MAX_TEXT (length text))
-  where
-    too_long : MAX_TEXT < length text → (a : Result SystemParts TextFault) × ReadsSystem text a
-    too_long long = (
-      Err Limit,
-      record { long = λ _. refl; spelled = λ short. absurd (omega arith); malformed = λ short. absurd (omega arith) },
-    )
-
-    fits : length text ≤ MAX_TEXT → (a : Result SystemParts TextFault) × ReadsSystem text a
-    fits short = by_spelling (system_spelling text)
-      where
-        by_spelling : SystemSpelling text → (a : Result SystemParts TextFault) × ReadsSystem text a
-        by_spelling (spelled s spells) = (
-          system_sense s,
-          record {
-            long = λ long. absurd (omega arith);
-            spelled = λ _ t other. ap system_sense (one_system_source text s t spells other);
-            malformed = λ _ none. absurd (none s spells);
-          },
-        )
-        by_spelling (malformed none) = (
-          Err Syntax,
-          record {
-            long = λ long. absurd (omega arith);
-            spelled = λ _ s spells. absurd (none s spells);
-            malformed = λ _ _. refl;
-          },
-        )
+pub told_systems : IsTold IsSystemPhrase system_words
+told_systems = record {
+  test = accepts (at Start After 0);
+  found = SystemSpelledBy-accepts;
+  only = accepts-SystemSpelledBy;
+  injective = system_words-injective;
+}

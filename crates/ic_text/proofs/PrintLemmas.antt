@@ -10,6 +10,7 @@ use Rattle.ic_term.specs.Symbol.{Symbol, has_arity, is_tree_over, are_trees_over
 use Rattle.ic_term.specs.Term.{tree, cell_tree, term_step, cell_step}
 use Rattle.ic_term.specs.declared.term.Cell.{Cell, out-Cell, fold_out-Cell}
 use Rattle.ic_term.specs.Tree.{Tree, agent, Trees, list_of, trees_of}
+use Rattle.ic_text.specs.declared.token.Mark.TheVariants.{Comma}
 use Rattle.ic_text.specs.Token.{Token}
 use Rattle.ic_text.specs.Name.{name_text}
 use Rattle.ic_text.specs.Source.{Sources, argument_words, further_words, separated}
@@ -39,7 +40,7 @@ sign_at (suc n) = 44
 
 -- what is left of lists with commas between them from a place on
 abbrev pub separated_from : ℕ → List (List Token) → List Token
-separated_from zero tss = separated tss
+separated_from zero tss = separated Comma tss
 separated_from (suc n) tss = behind_commas tss
 
 -- an agent with its arguments as a list

@@ -14,11 +14,12 @@ use Rattle.ic_text.specs.declared.limits.TheConstants.{MAX_TEXT}
 use Rattle.ic_text.specs.Token.{is_blank}
 use Rattle.ic_text.specs.Source.{Source, leaf, node, Sources, no_sources, more_sources, Sides, Phrase, IsPhrase, source_symbols, symbols_of_sources, phrase_symbols, phrase_words, count_of}
 use Rattle.ic_text.specs.Sense.{symbol_table, has_its_arity, number_in_table, numbered_tree, numbered_trees, numbered_pair, numbered_phrase, sense}
-use Rattle.ic_text.specs.Text.{Spells, Reads, text_or_none, source_of, sources_of, sides_of, phrase_of, printed, written}
-use Rattle.ic_text.proofs.KeptBytes.{written-tokens}
+use Rattle.ic_text.specs.Text.{Spells, Reads, text_or_none, source_of, sources_of, sides_of, phrase_of, printed, text_of}
+use Rattle.ic_text.proofs.KeptBytes.{text_of-tokens}
 use Rattle.ic_text.proofs.Over.{has_sense}
 use Rattle.ic_text.proofs.WrittenTokens.{tokens-phrase_words}
-use Rattle.ic_text.proofs.OneReading.{one_source, Spelling, spelling, spelled, malformed}
+use Rattle.ic_text.proofs.OneReading.{told}
+use Rattle.ic_text.proofs.ReadOnce.{one_phrase, meant}
 
 text-get_or : (ss : List Symbol) (n : ℕ) → get_or (texts ss) n [] ≡ text_or_none (slice_get ss n)
 text-get_or [] zero = refl
@@ -77,37 +78,17 @@ sense_back p v e =
     let s = has_sense p v e in
     (λ i. phrase_of (sym s.table i) (sym s.config i)) ∙ phrase_back (symbol_table p) p s.agree
 
--- what a text that is read spells
-record Meant (text : List ℕ) (v : List Symbol × Configuration) : Type 0 where
-  short : length text ≤ MAX_TEXT
-  phrase : Phrase
-  spells : Spells text phrase
-  means : sense phrase ≡ Ok v
-
-meant : (text : List ℕ) (v : List Symbol × Configuration) → Reads text (Ok v) → Meant text v
-meant text v reads = ⊎_elim by_long by_short (cases_lt MAX_TEXT (length text))
-  where
-    by_long : MAX_TEXT < length text → Meant text v
-    by_long long = let e = reads.long long in cc
-
-    by_short : length text ≤ MAX_TEXT → Meant text v
-    by_short short = by_spelling (spelling text)
-      where
-        by_spelling : Spelling text → Meant text v
-        by_spelling (spelled p spells) = record { short = short; phrase = p; spells = spells; means = sym (reads.spelled short p spells) }
-        by_spelling (malformed none) = let e = reads.malformed short none in cc
-
 pub read_back : (text : List ℕ) (table : List Symbol) (c : Configuration) → Reads text (Ok (table, c)) → Reads (printed table c) (Ok (table, c)) × (length (printed table c) ≤ length text)
 read_back text table c reads =
-    let m = meant text (table, c) reads in
+    let m = meant IsPhrase phrase_words told sense text (table, c) reads in
     let back : phrase_of table c ≡ m.phrase = sense_back m.phrase (table, c) m.means in
     let is : IsPhrase (phrase_of table c) = subst IsPhrase (sym back) m.spells.phrase in
     let spells : Spells (printed table c) (phrase_of table c) = record { phrase = is; tokens = tokens-phrase_words (phrase_of table c) is } in
-    let bytes : printed table c ≡ filter (λ b. not (is_blank b)) text = ap (λ q. written (phrase_words q)) back ∙ written-tokens text (phrase_words m.phrase) m.spells.tokens in
+    let bytes : printed table c ≡ filter (λ b. not (is_blank b)) text = ap (λ q. text_of (phrase_words q)) back ∙ text_of-tokens text (phrase_words m.phrase) m.spells.tokens in
     let no_longer : length (printed table c) ≤ length text = omega (arith, ap length bytes, length-filter (λ b. not (is_blank b)) text, count_by-le-length (λ b. not (is_blank b)) text) in (
       record {
         long = λ long. absurd (omega (arith, m.short));
-        spelled = λ _ q other. sym m.means ∙ ap sense (sym back) ∙ ap sense (one_source (printed table c) (phrase_of table c) q spells other);
+        spelled = λ _ q other. sym m.means ∙ ap sense (sym back) ∙ ap sense (one_phrase IsPhrase phrase_words told (printed table c) (phrase_of table c) q spells other);
         malformed = λ _ none. absurd (none (phrase_of table c) spells);
       },
       no_longer,

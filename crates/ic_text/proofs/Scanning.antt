@@ -7,7 +7,7 @@ use Rattle.ic_text.specs.declared.token.Mark.TheVariants.{Less, Greater, Bar, Eq
 use Rattle.ic_text.specs.Token.{Token, word, mark}
 use Rattle.ic_text.specs.Name.{name_text}
 use Rattle.ic_text.specs.Source.{Source, leaf, node, Sources, no_sources, more_sources, Sides, Phrase, words, argument_words, further_words, sides_words, separated, phrase_words, count_of}
-use Rattle.ic_text.specs.Prefix.{prefix, prefix_of_sources, phrase_prefix, Scanned, term_more, tail_of, one_more, scan, scan_step}
+use Rattle.ic_text.specs.Inner.Prefix.{prefix, prefix_of_sources, phrase_prefix, Scanned, term_more, tail_of, one_more, scan, scan_step}
 use Rattle.ic_text.proofs.Accepted.{IsClosed, further_is_closed}
 use Rattle.ic_text.proofs.Grammar.{behind_commas, behind_is_closed}
 
@@ -58,7 +58,7 @@ interface_behind (t ∷ ts) r ns rest =
     ∙ ap (made (flat_map prefix (t ∷ ts) ++ ns) [] 0) more
 
 interface_scan : (ts : List Source) (r : List Token) (ns : List Symbol) → scan (mark Bar ∷ r) ≡ made ns [] 0 0
-    → scan (separated (map words ts) ++ mark Bar ∷ r) ≡ made (flat_map prefix ts ++ ns) [] 0 (length ts)
+    → scan (separated Comma (map words ts) ++ mark Bar ∷ r) ≡ made (flat_map prefix ts ++ ns) [] 0 (length ts)
 interface_scan [] r ns rest = rest
 interface_scan (t ∷ ts) r ns rest =
     let more : length ts + 1 ≡ length (t ∷ ts) = omega arith in
@@ -92,7 +92,7 @@ equations_behind (e ∷ es) =
           ∙ ap (scan_step (mark Comma)) (equation_scan e r (equations_prefix es) others.0 (behind_is_closed (map sides_words es) (mark Greater ∷ []) tt) others.1),
     )
 
-equations_scan : (es : List Sides) → (k : ℕ) × (scan (separated (map sides_words es) ++ mark Greater ∷ []) ≡ made (equations_prefix es) [] 0 k)
+equations_scan : (es : List Sides) → (k : ℕ) × (scan (separated Comma (map sides_words es) ++ mark Greater ∷ []) ≡ made (equations_prefix es) [] 0 k)
 equations_scan [] = (0, refl)
 equations_scan (e ∷ es) =
     let others = equations_behind es in
@@ -106,7 +106,7 @@ equations_scan (e ∷ es) =
 pub scan-phrase_words : (p : Phrase) → scan (phrase_words p) ≡ made (phrase_prefix p) [] 0 (length p.interface)
 scan-phrase_words p =
     let e = equations_scan p.equations in
-    let r = separated (map sides_words p.equations) ++ mark Greater ∷ [] in
+    let r = separated Comma (map sides_words p.equations) ++ mark Greater ∷ [] in
     ap (scan_step (mark Less)) (interface_scan p.interface r (equations_prefix p.equations) (ap (scan_step (mark Bar)) e.1))
 
 -- no count exceeds the number of tokens

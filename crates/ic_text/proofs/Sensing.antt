@@ -17,11 +17,11 @@ use Rattle.ic_text.specs.declared.fault.TextFault.TheVariants.{Syntax, Limit, Ar
 use Rattle.ic_text.specs.Source.{Source, leaf, node, Sources, no_sources, more_sources, Sides, Phrase, IsPhrase, source_names, names_of_sources, source_nodes, nodes_of_sources, phrase_names, phrase_symbols, phrase_nodes}
 use Rattle.ic_text.specs.Sense.{symbols_after, symbol_table, has_its_arity, numbered_tree, numbered_trees, numbered_pair, numbered_phrase, unless_third_name, sense}
 use Rattle.ic_text.specs.declared.prefix.Node.{Node}
-use Rattle.ic_text.specs.Prefix.{phrase_prefix, node_of, nodes_of as words_of}
-use Rattle.ic_text.specs.Numbered.{table_over, is_word_in_limits, is_word_over, item_in, unless_refused, numbered_words, as_text_answer, Refuses}
-use Rattle.ic_text.specs.Built.{built_before, parted}
+use Rattle.ic_text.specs.Inner.Prefix.{phrase_prefix, node_of, nodes_of as words_of}
+use Rattle.ic_text.specs.Inner.Numbered.{table_over, is_word_in_limits, is_word_over, item_in, unless_refused, numbered_words, as_text_answer, Refuses}
+use Rattle.ic_text.specs.Inner.Built.{built_before, configuration_from}
 use Rattle.ic_text.proofs.PrefixWords.{symbols_among-phrase, names_among-phrase, limits-words, table-words, arities-words, length-phrase_prefix}
-use Rattle.ic_text.proofs.BuiltTrees.{parted-built}
+use Rattle.ic_text.proofs.BuiltTrees.{configuration_from-built}
 
 flat_map-map : {A B C : Type 0} (f : B → List C) (g : A → B) (xs : List A) → flat_map f (map g xs) ≡ flat_map (λ x. f (g x)) xs
 flat_map-map f g [] = refl
@@ -98,7 +98,7 @@ beside_table table (Err e) = Err e
 
 -- numbered words as a configuration with so many terms in its interface
 abbrev pub finished : ℕ → Result (List Symbol × List Item) TextFault → Result (List Symbol × Configuration) TextFault
-finished terms (Ok v) = beside_table v.0 (as_text_answer (restored (parted terms (built_before v.1 []))))
+finished terms (Ok v) = beside_table v.0 (as_text_answer (restored (configuration_from terms (built_before v.1 []))))
 finished terms (Err e) = Err e
 
 third_beside : (table : List Symbol) (c : Configuration) (o : Option ℕ) → unless_third_name (table, c) o ≡ beside_table table (as_text_answer (unless_third c o))
@@ -149,7 +149,7 @@ module _ (p : Phrase) (is : IsPhrase p) where
       by_cases : (a o : Bool) → in_limits ≡ a → cond a (cond o value (Err Arity)) (Err Limit) ≡ finished (length p.interface) (unless_refused {A = List Symbol × List Item} a o (table, items))
       by_cases true true all =
           third_beside table (numbered_phrase table p) (third_occurrence (phrase_names p))
-          ∙ ap (λ r. beside_table table (as_text_answer r)) (sym (restored-numbered table p few short (low all)) ∙ ap restored (sym (parted-built table p is)))
+          ∙ ap (λ r. beside_table table (as_text_answer r)) (sym (restored-numbered table p few short (low all)) ∙ ap restored (sym (configuration_from-built table p is)))
       by_cases true false all = refl
       by_cases false o all = refl
 

@@ -23,10 +23,10 @@ use Rattle.ic_text.specs.Source.{phrase_names, phrase_symbols, phrase_nodes}
 use Rattle.ic_text.specs.Sense.{symbols_after, has_its_arity, numbered_tree, numbered_phrase}
 use Rattle.ic_text.specs.SystemSource.{SystemPhrase, IsSystemPhrase, rule_symbols, rule_names, rule_nodes, system_symbols, system_names}
 use Rattle.ic_text.specs.SystemSense.{system_table, rules_over, system_parts, unless_found, system_sense}
-use Rattle.ic_text.specs.Prefix.{phrase_prefix}
-use Rattle.ic_text.specs.Numbered.{item_in, unless_refused, numbered_words, as_text_answer}
-use Rattle.ic_text.specs.Built.{built_before, parted, rules_in, joined}
-use Rattle.ic_text.proofs.BuiltTrees.{sides_trees, built-phrase, parted-trees}
+use Rattle.ic_text.specs.Inner.Prefix.{phrase_prefix}
+use Rattle.ic_text.specs.Inner.Numbered.{item_in, unless_refused, numbered_words, as_text_answer}
+use Rattle.ic_text.specs.Inner.Built.{built_before, configuration_from, rules_in, joined}
+use Rattle.ic_text.proofs.BuiltTrees.{sides_trees, built-phrase, configuration_from-trees}
 use Rattle.ic_text.proofs.BuiltRules.{rules_in-sides, few-rules_over, fit-rules_over}
 use Rattle.ic_text.proofs.JoinedPhrase.{sides_of_rules, joined_phrase, symbols-joined, names-joined, length-sides_of_rules, is-joined}
 use Rattle.ic_text.proofs.Over.{over-numbered_phrase}
@@ -35,7 +35,7 @@ use Rattle.ic_text.proofs.Sensing.{numbered_words-phrase, restored-numbered}
 -- numbered words as a system, the first so many terms of which are the sides of rules
 abbrev pub finished_system : ℕ → ℕ → Result (List Symbol × List Item) TextFault → Result SystemParts TextFault
 finished_system agents terms (Ok v) =
-    joined (built_rules v.0 (rules_in (take agents (built_before v.1 [])))) (as_text_answer (restored (parted terms (drop agents (built_before v.1 [])))))
+    joined (built_rules v.0 (rules_in (take agents (built_before v.1 [])))) (as_text_answer (restored (configuration_from terms (drop agents (built_before v.1 [])))))
 finished_system agents terms (Err e) = Err e
 
 module _ (s : SystemPhrase) (is : IsSystemPhrase s) where
@@ -81,11 +81,11 @@ module _ (s : SystemPhrase) (is : IsSystemPhrase s) where
   rules-built : rules_in (take (2 * length s.rules) (built_before items [])) ≡ rules_over s
   rules-built = ap (λ l. rules_in (take (2 * length s.rules) l)) trees-system ∙ ap rules_in (take_at sides others (2 * length s.rules) size) ∙ rules_in-sides table s.rules
 
-  config-built : parted (length s.config.interface) (drop (2 * length s.rules) (built_before items [])) ≡ numbered_phrase table s.config
+  config-built : configuration_from (length s.config.interface) (drop (2 * length s.rules) (built_before items [])) ≡ numbered_phrase table s.config
   config-built =
-      ap (λ l. parted (length s.config.interface) (drop (2 * length s.rules) l)) trees-system
-      ∙ ap (parted (length s.config.interface)) (drop_at sides others (2 * length s.rules) size)
-      ∙ parted-trees table s.config
+      ap (λ l. configuration_from (length s.config.interface) (drop (2 * length s.rules) l)) trees-system
+      ∙ ap (configuration_from (length s.config.interface)) (drop_at sides others (2 * length s.rules) size)
+      ∙ configuration_from-trees table s.config
 
   abbrev config : Configuration
   config = numbered_phrase table s.config

@@ -64,7 +64,7 @@ texts_after text (s ∷ ss) seen =
     ∙ ap (λ b. b || has_text text ss) (texts_with text seen s)
     ∙ or_assoc (has_text text seen) (bytes_eq text s.text) (has_text text ss)
 
-symbols_after-append : (xs ys seen : List Symbol) → symbols_after seen (xs ++ ys) ≡ symbols_after (symbols_after seen xs) ys
+pub symbols_after-append : (xs ys seen : List Symbol) → symbols_after seen (xs ++ ys) ≡ symbols_after (symbols_after seen xs) ys
 symbols_after-append [] ys seen = refl
 symbols_after-append (x ∷ xs) ys seen = symbols_after-append xs ys (with_symbol seen x.text x.arity)
 

@@ -12,7 +12,7 @@ use Rattle.ic_text.specs.declared.token.Mark.TheVariants.{LeftBrace, RightBrace,
 use Rattle.ic_text.specs.Token.{Token, word, mark, is_word_byte, mark_byte, word_of, before, tokens_behind, tokens}
 use Rattle.ic_text.specs.Name.{name_text}
 use Rattle.ic_text.specs.Source.{Source, leaf, node, Sources, no_sources, more_sources, Sides, Phrase, IsSource, AreSources, IsPhrase, words, argument_words, further_words, sides_words, separated, phrase_words}
-use Rattle.ic_text.specs.Text.{written}
+use Rattle.ic_text.specs.Text.{text_of}
 use Rattle.ic_text.proofs.Grammar.{behind_commas}
 
 -- word bytes join the run before them
@@ -52,14 +52,14 @@ AreApart [] = Unit {0}
 AreApart (word w ∷ ts) = IsWordText w × IsMarked ts × AreApart ts
 AreApart (mark m ∷ ts) = AreApart ts
 
-tokens-written : (ts : List Token) → AreApart ts → tokens_behind [] (written ts) ≡ Some ts
-tokens-written [] apart = refl
-tokens-written (mark m ∷ ts) apart = mark_ends m (written ts) [] ∙ ap (λ o. before [] (before (mark m ∷ []) o)) (tokens-written ts apart)
-tokens-written (word w ∷ []) apart = run_on w [] [] apart.0.bytes ∙ ap Some apart.0.one
-tokens-written (word w ∷ word v ∷ ts) apart = absurd apart.1
-tokens-written (word w ∷ mark m ∷ ts) apart =
-    run_on w (mark_byte m ∷ written ts) [] apart.0.bytes ∙ mark_ends m (written ts) w
-    ∙ ap (λ o. before (word_of w) (before (mark m ∷ []) o)) (tokens-written ts apart.2)
+tokens-text_of : (ts : List Token) → AreApart ts → tokens_behind [] (text_of ts) ≡ Some ts
+tokens-text_of [] apart = refl
+tokens-text_of (mark m ∷ ts) apart = mark_ends m (text_of ts) [] ∙ ap (λ o. before [] (before (mark m ∷ []) o)) (tokens-text_of ts apart)
+tokens-text_of (word w ∷ []) apart = run_on w [] [] apart.0.bytes ∙ ap Some apart.0.one
+tokens-text_of (word w ∷ word v ∷ ts) apart = absurd apart.1
+tokens-text_of (word w ∷ mark m ∷ ts) apart =
+    run_on w (mark_byte m ∷ text_of ts) [] apart.0.bytes ∙ mark_ends m (text_of ts) w
+    ∙ ap (λ o. before (word_of w) (before (mark m ∷ []) o)) (tokens-text_of ts apart.2)
     ∙ ap (λ l. Some (l ++ mark m ∷ ts)) apart.0.one
 
 -- names and symbols are words
@@ -125,7 +125,7 @@ module _ {A : Type 0} (P : A → Type 0) (f : A → List Token) (each : (x : A) 
   apart-behind (x ∷ xs) r are marked apart =
       subst AreApart (sym (append_assoc (f x) (behind_commas (map f xs)) r)) (each x (behind_commas (map f xs) ++ r) are.0 (behind_marked xs r marked) (apart-behind xs r are.1 marked apart))
 
-  apart-separated : (xs : List A) (r : List Token) → AllByRecursion P xs → IsMarked r → AreApart r → AreApart (separated (map f xs) ++ r)
+  apart-separated : (xs : List A) (r : List Token) → AllByRecursion P xs → IsMarked r → AreApart r → AreApart (separated Comma (map f xs) ++ r)
   apart-separated [] r are marked apart = apart
   apart-separated (x ∷ xs) r are marked apart =
       subst AreApart (sym (append_assoc (f x) (behind_commas (map f xs)) r)) (each x (behind_commas (map f xs) ++ r) are.0 (behind_marked xs r marked) (apart-behind xs r are.1 marked apart))
@@ -136,9 +136,9 @@ apart-sides e r are marked apart =
 
 apart-phrase_words : (p : Phrase) → IsPhrase p → AreApart (phrase_words p)
 apart-phrase_words p is =
-    let r = separated (map sides_words p.equations) ++ mark Greater ∷ [] in
+    let r = separated Comma (map sides_words p.equations) ++ mark Greater ∷ [] in
     let equations : AreApart r = apart-separated (λ (e : Sides). IsSource e.left × IsSource e.right) sides_words apart-sides p.equations (mark Greater ∷ []) is.equations tt tt in
     apart-separated IsSource words apart-words p.interface (mark Bar ∷ r) is.interface tt equations
 
-pub tokens-phrase_words : (p : Phrase) → IsPhrase p → tokens (written (phrase_words p)) ≡ Some (phrase_words p)
-tokens-phrase_words p is = tokens-written (phrase_words p) (apart-phrase_words p is)
+pub tokens-phrase_words : (p : Phrase) → IsPhrase p → tokens (text_of (phrase_words p)) ≡ Some (phrase_words p)
+tokens-phrase_words p is = tokens-text_of (phrase_words p) (apart-phrase_words p is)

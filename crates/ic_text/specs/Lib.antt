@@ -1,15 +1,11 @@
+-- What a reader of the public contracts must believe, and `Inner`, which is for private functions.
 pub mod Token
 pub mod Name
-pub mod Tokens
 pub mod Source
 pub mod SystemSource
-pub mod Braces
 pub mod Sense
 pub mod SystemSense
+pub mod Reading
 pub mod Text
 pub mod SystemText
-pub mod Syntax
-pub mod Prefix
-pub mod Numbered
-pub mod Terms
-pub mod Built
+pub mod Inner

@@ -1,12 +1,14 @@
-use Rattle.std.specs.Prelude.{◌≡◌, ℕ, ◌+◌, List, [], ◌∷◌, ◌++◌, IsTrue, map, sum_by}
+-- To be believed: a configuration as it is written.
+use Rattle.std.specs.Prelude.{ℕ, ◌+◌, List, [], ◌∷◌, ◌++◌, IsTrue, map, sum_by}
 use Rattle.std.specs.List.{flat_map, AllByRecursion}
 use Rattle.ic_term.specs.Symbol.{Symbol, is_symbol_text}
+use Rattle.ic_text.specs.declared.token.Mark.{Mark}
 use Rattle.ic_text.specs.declared.token.Mark.TheVariants.{Less, Greater, Bar, Equals, Comma, Open, Close}
 use Rattle.ic_text.specs.Token.{Token, word, mark}
 use Rattle.ic_text.specs.Name.{name_text}
 
--- A term as it is written: a name by its number, or a symbol by its text with its arguments in order
--- (Fernández and Mackie 1999, section 2; that names have numbers is this project's choice).
+-- A term as it is written: a name by its number, or a symbol by its text with its arguments in
+-- order (Fernández and Mackie 1999, section 2; that names have numbers is this project's choice).
 mutual
   pub data Source : Type 0 where
     leaf : ℕ → Source
@@ -59,19 +61,16 @@ abbrev mutual
 abbrev pub sides_words : Sides → List Token
 sides_words e = words e.left ++ mark Equals ∷ words e.right
 
--- lists of tokens with `,` between them
-abbrev pub separated : List (List Token) → List Token
-separated [] = []
-separated (ts ∷ tss) = ts ++ flat_map (λ us. mark Comma ∷ us) tss
+-- lists of tokens with a mark between them
+abbrev pub separated : Mark → List (List Token) → List Token
+separated m [] = []
+separated m (ts ∷ tss) = ts ++ flat_map (λ us. mark m ∷ us) tss
 
 -- the tokens of a configuration
 abbrev pub phrase_words : Phrase → List Token
 phrase_words p =
-    mark Less ∷ (separated (map words p.interface) ++ mark Bar ∷ (separated (map sides_words p.equations) ++ mark Greater ∷ []))
-
--- some configuration has these tokens
-abbrev pub SpelledBy : List Token → Type 0
-SpelledBy ts = (p : Phrase) × IsPhrase p × (ts ≡ phrase_words p)
+    mark Less ∷ (separated Comma (map words p.interface)
+    ++ mark Bar ∷ (separated Comma (map sides_words p.equations) ++ mark Greater ∷ []))
 
 -- how many terms a list of arguments has
 abbrev pub count_of : Sources → ℕ
@@ -92,7 +91,8 @@ abbrev mutual
 abbrev mutual
   pub source_symbols : Source → List Symbol
   source_symbols (leaf n) = []
-  source_symbols (node text ts) = record { text = text; arity = count_of ts } ∷ symbols_of_sources ts
+  source_symbols (node text ts) =
+      record { text = text; arity = count_of ts } ∷ symbols_of_sources ts
 
   pub symbols_of_sources : Sources → List Symbol
   symbols_of_sources no_sources = []
@@ -110,10 +110,16 @@ abbrev mutual
 
 -- all of them over a configuration, the interface first
 abbrev pub phrase_names : Phrase → List ℕ
-phrase_names p = flat_map source_names p.interface ++ flat_map (λ e. source_names e.left ++ source_names e.right) p.equations
+phrase_names p =
+    flat_map source_names p.interface
+    ++ flat_map (λ e. source_names e.left ++ source_names e.right) p.equations
 
 abbrev pub phrase_symbols : Phrase → List Symbol
-phrase_symbols p = flat_map source_symbols p.interface ++ flat_map (λ e. source_symbols e.left ++ source_symbols e.right) p.equations
+phrase_symbols p =
+    flat_map source_symbols p.interface
+    ++ flat_map (λ e. source_symbols e.left ++ source_symbols e.right) p.equations
 
 abbrev pub phrase_nodes : Phrase → ℕ
-phrase_nodes p = sum_by source_nodes p.interface + sum_by (λ e. source_nodes e.left + source_nodes e.right) p.equations
+phrase_nodes p =
+    sum_by source_nodes p.interface
+    + sum_by (λ e. source_nodes e.left + source_nodes e.right) p.equations

@@ -1,3 +1,4 @@
+-- To be believed: what a system that is written means.
 use Rattle.std.specs.Prelude.{ℕ, List, [], Bool, ◌&&◌, Option, None, Some, Result, Ok, Err, length, map, sum_by, nat_le, if◌then◌else◌}
 use Rattle.std.specs.List.{list_all}
 use Rattle.ic_term.specs.Tree.{list_of}
@@ -53,14 +54,15 @@ system_parts s = record {
 }
 
 -- an answer where nothing is found, or the refusal of what is found
-abbrev pub unless_found : Option ℕ → (ℕ → TextFault) → Result SystemParts TextFault → Result SystemParts TextFault
+abbrev pub unless_found : Option ℕ → (ℕ → TextFault) → Result SystemParts TextFault
+    → Result SystemParts TextFault
 unless_found None fault answer = answer
 unless_found (Some n) fault answer = Err (fault n)
 
--- What a system that is written means, or the first refusal: a limit that is passed, a symbol with two arities, the
--- first rule with a name that doesn't occur exactly twice in it, the first third occurrence of a name in the
--- configuration, the first rule whose pair of symbols an earlier one has, the first lopsided rule (the order is this
--- project's choice).
+-- What a system that is written means, or the first refusal: a limit that is passed, a symbol with
+-- two arities, the first rule with a name that doesn't occur exactly twice in it, the first third
+-- occurrence of a name in the configuration, the first rule whose pair of symbols an earlier one
+-- has, the first lopsided rule (the order is this project's choice).
 abbrev pub system_sense : SystemPhrase → Result SystemParts TextFault
 system_sense s =
     if is_system_in_limits s then

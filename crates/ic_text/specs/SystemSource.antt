@@ -1,10 +1,11 @@
--- A system as it is written: rules, and a configuration (Lafont 1990; Fernández and Mackie 1999, section 2).
-use Rattle.std.specs.Prelude.{◌≡◌, ℕ, ◌+◌, List, [], ◌∷◌, ◌++◌, map}
+-- To be believed: a system as it is written, rules and a configuration (Lafont 1990; Fernández
+-- and Mackie 1999, section 2).
+use Rattle.std.specs.Prelude.{ℕ, ◌+◌, List, [], ◌∷◌, ◌++◌, map}
 use Rattle.std.specs.List.{flat_map, AllByRecursion}
 use Rattle.ic_term.specs.Symbol.{Symbol}
 use Rattle.ic_text.specs.declared.token.Mark.TheVariants.{LeftBrace, RightBrace, Less, Greater, Semicolon}
 use Rattle.ic_text.specs.Token.{Token, mark}
-use Rattle.ic_text.specs.Source.{Source, node, Sources, Phrase, IsSource, IsPhrase, words, phrase_words, source_symbols, phrase_symbols, names_of_sources, phrase_names, nodes_of_sources}
+use Rattle.ic_text.specs.Source.{Source, node, Sources, Phrase, IsSource, IsPhrase, words, phrase_words, separated, source_symbols, phrase_symbols, names_of_sources, phrase_names, nodes_of_sources}
 
 -- an agent: the text of its symbol, and its arguments in order
 pub record AgentPhrase : Type 0 where
@@ -34,24 +35,16 @@ pub record IsSystemPhrase (s : SystemPhrase) : Type 0 where
 
 -- the tokens of a rule
 abbrev pub rule_words : RulePhrase → List Token
-rule_words r = words (agent_source r.left) ++ mark Greater ∷ mark Less ∷ words (agent_source r.right)
-
--- lists of tokens with `;` between them
-abbrev pub parted : List (List Token) → List Token
-parted [] = []
-parted (ts ∷ tss) = ts ++ flat_map (λ us. mark Semicolon ∷ us) tss
+rule_words r =
+    words (agent_source r.left) ++ mark Greater ∷ mark Less ∷ words (agent_source r.right)
 
 -- the tokens of rules
 abbrev pub rules_words : List RulePhrase → List Token
-rules_words rs = parted (map rule_words rs)
+rules_words rs = separated Semicolon (map rule_words rs)
 
 -- the tokens of a system
 abbrev pub system_words : SystemPhrase → List Token
 system_words s = mark LeftBrace ∷ (rules_words s.rules ++ mark RightBrace ∷ phrase_words s.config)
-
--- some system has these tokens
-abbrev pub SystemSpelledBy : List Token → Type 0
-SystemSpelledBy ts = (s : SystemPhrase) × IsSystemPhrase s × (ts ≡ system_words s)
 
 -- the symbols of a rule in the order of the text, each with its number of arguments there
 abbrev pub rule_symbols : RulePhrase → List Symbol

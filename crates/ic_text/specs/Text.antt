@@ -1,28 +1,25 @@
-use Rattle.std.specs.Prelude.{◌≡◌, ℕ, ◌+◌, ◌<◌, ◌≤◌, List, [], ◌++◌, Option, None, Some, Result, Err, length, map, slice_get, codes}
+-- To be believed: what a text of a configuration is read as, and how a configuration is printed.
+use Rattle.std.specs.Prelude.{ℕ, ◌+◌, List, [], ◌++◌, Option, None, Some, Result, map, slice_get, codes}
 use Rattle.std.specs.List.{flat_map}
 use Rattle.std.specs.Fmt.{decimal}
 use Rattle.ic_term.specs.Tree.{Tree, name, agent, Trees, no_trees, more_trees, Pair}
 use Rattle.ic_term.specs.Symbol.{Symbol}
 use Rattle.ic_term.specs.Configuration.{Configuration}
-use Rattle.ic_text.specs.declared.limits.TheConstants.{MAX_TEXT}
 use Rattle.ic_text.specs.declared.fault.TextFault.{TextFault}
 use Rattle.ic_text.specs.declared.fault.TextFault.TheVariants.{Syntax, Limit, Arity, NameCount, Name, Twice, Lopsided, Memory}
-use Rattle.ic_text.specs.Token.{Token, tokens, token_text}
+use Rattle.ic_text.specs.Token.{Token, token_text}
 use Rattle.ic_text.specs.Name.{name_text}
-use Rattle.ic_text.specs.Source.{Source, leaf, node, Sources, no_sources, more_sources, Sides, Phrase, IsPhrase, phrase_words, words, sides_words, separated}
+use Rattle.ic_text.specs.Source.{Source, leaf, node, Sources, no_sources, more_sources, Sides, Phrase, IsPhrase, phrase_words}
 use Rattle.ic_text.specs.Sense.{sense}
+use Rattle.ic_text.specs.Reading.{IsSpelling, IsReading}
 
--- a text spells what is written there: its tokens are those of the phrase
-pub record Spells (text : List ℕ) (p : Phrase) : Type 0 where
-  pub phrase : IsPhrase p
-  pub tokens : tokens text ≡ Some (phrase_words p)
+-- a text spells a configuration
+abbrev pub Spells : List ℕ → Phrase → Type 0
+Spells text p = IsSpelling IsPhrase phrase_words text p
 
--- What a text is read as: a limit where the text is too long, else the sense of what it spells, else no
--- phrase (this project's choice).
-pub record Reads (text : List ℕ) (answer : Result (List Symbol × Configuration) TextFault) : Type 0 where
-  pub long : MAX_TEXT < length text → answer ≡ Err Limit
-  pub spelled : length text ≤ MAX_TEXT → (p : Phrase) → Spells text p → answer ≡ sense p
-  pub malformed : length text ≤ MAX_TEXT → ((p : Phrase) → Spells text p → ⊥) → answer ≡ Err Syntax
+-- what a text of a configuration is read as
+abbrev pub Reads : List ℕ → Result (List Symbol × Configuration) TextFault → Type 0
+Reads text answer = IsReading Spells sense text answer
 
 -- the text of the symbol with a number
 abbrev pub text_or_none : Option Symbol → List ℕ
@@ -44,32 +41,22 @@ sides_of table e = record { left = source_of table e.left; right = source_of tab
 
 -- a configuration as it is written
 abbrev pub phrase_of : List Symbol → Configuration → Phrase
-phrase_of table c = record { interface = map (source_of table) c.interface; equations = map (sides_of table) c.equations }
+phrase_of table c = record {
+  interface = map (source_of table) c.interface;
+  equations = map (sides_of table) c.equations;
+}
 
 -- the tokens of a configuration, each name in its one spelling
 abbrev pub configuration_words : List Symbol → Configuration → List Token
 configuration_words table c = phrase_words (phrase_of table c)
 
 -- tokens without blanks between them
-abbrev pub written : List Token → List ℕ
-written ts = flat_map token_text ts
-
--- the texts of a term and of an equation, and of several of them with commas between
-abbrev pub term_text : List Symbol → Tree → List ℕ
-term_text table t = written (words (source_of table t))
-
-abbrev pub terms_text : List Symbol → List Tree → List ℕ
-terms_text table ts = written (separated (map words (map (source_of table) ts)))
-
-abbrev pub equation_text : List Symbol → Pair → List ℕ
-equation_text table e = written (sides_words (sides_of table e))
-
-abbrev pub equations_text : List Symbol → List Pair → List ℕ
-equations_text table es = written (separated (map sides_words (map (sides_of table) es)))
+abbrev pub text_of : List Token → List ℕ
+text_of ts = flat_map token_text ts
 
 -- the text of a configuration: its tokens without blanks (this project's choice)
 abbrev pub printed : List Symbol → Configuration → List ℕ
-printed table c = written (configuration_words table c)
+printed table c = text_of (configuration_words table c)
 
 -- The line of a refusal. A rule's place is counted from 1 (this project's choice).
 abbrev pub fault_text : TextFault → List ℕ

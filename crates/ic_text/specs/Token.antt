@@ -1,3 +1,4 @@
+-- To be believed: what the tokens of a text are.
 use Rattle.std.specs.Prelude.{ℕ, ◌==◌, List, [], ◌∷◌, ◌++◌, Bool, ◌||◌, Option, None, Some, if◌then◌else◌}
 use Rattle.std.specs.Char.{is_ascii_alphanumeric}
 use Rattle.ic_text.specs.declared.token.Mark.{Mark}
@@ -53,7 +54,8 @@ abbrev pub before : List Token → Option (List Token) → Option (List Token)
 before front None = None
 before front (Some ts) = Some (front ++ ts)
 
--- the tokens at a byte that is no word byte: a mark is one, a blank none, and any other byte spoils the text
+-- the tokens at a byte that is no word byte: a mark is one, a blank none, and any other byte spoils
+-- the text
 abbrev pub tokens_at : ℕ → Option Mark → Option (List Token)
 tokens_at b (Some m) = Some (mark m ∷ [])
 tokens_at b None = if is_blank b then Some [] else None
@@ -63,16 +65,24 @@ abbrev pub followed : Option (List Token) → Option (List Token) → Option (Li
 followed None rest = None
 followed (Some ts) rest = before ts rest
 
--- The tokens of a text that stands behind a run of word bytes. A word is a longest run (this project's choice).
+-- The tokens of a text that stands behind a run of word bytes. A word is a longest run (this
+-- project's choice).
 abbrev pub tokens_behind : List ℕ → List ℕ → Option (List Token)
 tokens_behind run [] = Some (word_of run)
 tokens_behind run (b ∷ bs) =
     if is_word_byte b then tokens_behind (run ++ b ∷ []) bs
     else before (word_of run) (followed (tokens_at b (mark_of b)) (tokens_behind [] bs))
 
--- the tokens of a text without its blanks, or none where another byte stands (this project's choice)
+-- the tokens of a text without its blanks, or none where another byte stands (this project's
+-- choice)
 abbrev pub tokens : List ℕ → Option (List Token)
 tokens bytes = tokens_behind [] bytes
+
+-- the words among tokens, in order
+abbrev pub words_among : List Token → List (List ℕ)
+words_among [] = []
+words_among (word w ∷ ts) = w ∷ words_among ts
+words_among (mark m ∷ ts) = words_among ts
 
 -- a token as it stands in a text
 abbrev pub token_text : Token → List ℕ

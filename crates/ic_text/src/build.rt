@@ -6,9 +6,9 @@ ghost use Rattle.ic_term.specs.Term.{tree, pair};
 ghost use Rattle.ic_term.specs.Configuration.{restored};
 ghost use Rattle.ic_rules.specs.RuleSet.{built};
 ghost use Rattle.ic_rules.specs.Written.{written};
-ghost use Rattle.ic_text.specs.Built.{built_before, pairs_of, parted, rule_in, rules_in, joined, with_item};
-ghost use Rattle.ic_text.specs.Numbered.{Gives, as_text_answer};
-ghost use Rattle.ic_text.specs.Terms.{trees, upright};
+ghost use Rattle.ic_text.specs.Inner.Built.{built_before, pairs_of, configuration_from, rule_in, rules_in, joined, with_item};
+ghost use Rattle.ic_text.specs.Inner.Numbered.{Gives, as_text_answer};
+ghost use Rattle.ic_text.specs.Inner.Terms.{trees, upright};
 
 use crate::fault::TextFault;
 use crate::number::Item;
@@ -19,7 +19,8 @@ use std::sync::Arc;
 
 /// Takes so many terms, or all that there are, from the end of a list, the last one first.
 fn take_last(alloc: Global, stack: &mut Vec<Term>, count: usize) -> Result<Vec<Term>, AllocError>
-    ensures taken { IfOk result (λ terms. trees terms.items ≡ take count (upright stack.old.items)) }
+    ensures taken { IfOk result
+        (λ terms. trees terms.items ≡ take count (upright stack.old.items)) }
     ensures left { OnOk result (upright stack.new.items ≡ drop count (upright stack.old.items)) }
 {
     let mut terms = Vec::new(alloc);
@@ -72,7 +73,8 @@ fn terms_of(alloc: Global, mut items: Vec<Item>) -> Result<Vec<Term>, AllocError
 
 /// The configuration of terms that stand from the last to the first, so many of them in its interface.
 fn configure(alloc: Global, mut stack: Vec<Term>, terms: usize) -> Result<Config, TextFault>
-    ensures { Gives (λ config. config) result (as_text_answer (restored (parted terms (upright stack.items)))) }
+    ensures { Gives (λ config. config) result
+        (as_text_answer (restored (configuration_from terms (upright stack.items)))) }
 {
     let interface = take_last(alloc, &mut stack, terms)?;
     let equations = take_pairs(alloc, stack)?;
@@ -87,7 +89,7 @@ fn configure(alloc: Global, mut stack: Vec<Term>, terms: usize) -> Result<Config
 /// The configuration of words in prefix notation, with so many terms in its interface.
 pub(crate) fn config_of(alloc: Global, items: Vec<Item>, terms: usize) -> Result<Config, TextFault>
     ensures { Gives (λ config. config) result
-        (as_text_answer (restored (parted terms (built_before items.items [])))) }
+        (as_text_answer (restored (configuration_from terms (built_before items.items [])))) }
 {
     let stack = terms_of(alloc, items)?;
     configure(alloc, stack, terms)
@@ -161,7 +163,8 @@ pub(crate) fn system_of(
 ) -> Result<System, TextFault>
     ensures { Gives (λ system. system) result (joined
         (built symbols (rules_in (take agents (built_before items.items []))))
-        (as_text_answer (restored (parted terms (drop agents (built_before items.items [])))))) }
+        (as_text_answer (restored
+        (configuration_from terms (drop agents (built_before items.items [])))))) }
 {
     let mut stack = terms_of(alloc, items)?;
     let agents = take_last(alloc, &mut stack, agents)?;

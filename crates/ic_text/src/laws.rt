@@ -1,17 +1,23 @@
 //! What is proved of the definitions alone: each law is the contract of a function that does nothing.
 
-ghost use Rattle.std.specs.Prelude.{◌≡◌, ◌≤◌, ℕ, List, [], ◌∷◌, ◌++◌, Result, Ok, Some, true, false, length, not, slice_get};
-ghost use Rattle.std.specs.List.{filter, list_any, list_all};
+ghost use Rattle.std.specs.Prelude.{◌≡◌, ◌≢◌, ◌↔◌, ◌<◌, ◌≤◌, ◌+◌, ◌*◌, ◌^◌, ℕ, List, [], ◌∷◌, ◌++◌, Result, Ok, Some, None, true, false, length, map, codes, not, slice_get, IsTrue};
+ghost use Rattle.std.specs.List.{filter, flat_map, list_any, list_all, AllByRecursion};
 ghost use Rattle.std.specs.Str.{bytes_eq};
+ghost use Rattle.std.specs.Char.{is_ascii_alphanumeric};
+ghost use Rattle.std.specs.Fmt.{decimal};
 ghost use Rattle.ic_rules.specs.System.{SystemParts};
-ghost use Rattle.ic_term.specs.Configuration.{Configuration};
-ghost use Rattle.ic_term.specs.Symbol.{Symbol};
-ghost use Rattle.ic_text.specs.Source.{Phrase, IsPhrase};
-ghost use Rattle.ic_text.specs.SystemSource.{SystemPhrase};
+ghost use Rattle.ic_term.specs.Configuration.{Configuration, configuration_names, one_above};
+ghost use Rattle.ic_term.specs.Symbol.{Symbol, texts};
+ghost use Rattle.ic_text.specs.Name.{is_name, name_number, name_text};
+ghost use Rattle.ic_text.specs.Source.{Phrase, IsPhrase, phrase_words, phrase_symbols, phrase_names, source_symbols};
+ghost use Rattle.ic_text.specs.SystemSource.{SystemPhrase, IsSystemPhrase, system_words, system_symbols, rule_symbols};
+ghost use Rattle.ic_text.specs.SystemSense.{system_table};
 ghost use Rattle.ic_text.specs.SystemText.{SpellsSystem, ReadsSystem};
-ghost use Rattle.ic_text.specs.Text.{Spells, Reads, phrase_of, printed, written};
+ghost use Rattle.ic_text.specs.Text.{Spells, Reads, phrase_of, printed, text_of};
 ghost use Rattle.ic_text.specs.Sense.{symbols_after};
-ghost use Rattle.ic_text.specs.Token.{Token, word, is_blank, is_word_byte, mark_of, tokens_at, followed, tokens};
+ghost use Rattle.ic_text.specs.Token.{Token, word, mark, is_blank, is_word_byte, mark_byte, mark_of, tokens_at, followed, tokens, words_among};
+ghost use Rattle.ic_text.specs.declared.token.Mark.{Mark};
+ghost use Rattle.ic_text.specs.declared.token.Mark.TheVariants.{LeftBrace, RightBrace, Less, Greater, Bar, Equals, Comma, Semicolon, Open, Close};
 ghost use Rattle.ic_text.specs.declared.limits.TheConstants.{MAX_TEXT, MAX_NAME};
 ghost use Rattle.ic_text.specs.declared.fault.TextFault.{TextFault};
 
@@ -26,7 +32,8 @@ pub fn one_reading()
 
 /// A text spells at most one system, and it is read in just one way.
 pub fn one_system_reading()
-    ensures source { (text : List ℕ) (s t : SystemPhrase) → SpellsSystem text s → SpellsSystem text t → s ≡ t }
+    ensures source { (text : List ℕ) (s t : SystemPhrase) →
+        SpellsSystem text s → SpellsSystem text t → s ≡ t }
     ensures answer { (text : List ℕ) (a b : Result SystemParts TextFault) →
         ReadsSystem text a → ReadsSystem text b → a ≡ b }
     ensures total { (text : List ℕ) → (a : Result SystemParts TextFault) × ReadsSystem text a }
@@ -41,23 +48,79 @@ pub fn limits_are()
 /// A symbol whose text none before has gets the next number, with the arity that it has there; one whose text another
 /// before has adds nothing.
 pub fn symbols_are_numbered_by_first_occurrence()
-    ensures first { (before after : List Symbol) (s : Symbol) → list_any (λ x. bytes_eq s.text x.text) before ≡ false →
-        slice_get (symbols_after [] (before ++ s ∷ after)) (length (symbols_after [] before)) ≡ Some s }
-    ensures later { (before : List Symbol) (s : Symbol) → list_any (λ x. bytes_eq s.text x.text) before ≡ true →
+    ensures first { (before after : List Symbol) (s : Symbol) →
+        list_any (λ x. bytes_eq s.text x.text) before ≡ false →
+        slice_get (symbols_after [] (before ++ s ∷ after)) (length (symbols_after [] before))
+        ≡ Some s }
+    ensures later { (before : List Symbol) (s : Symbol) →
+        list_any (λ x. bytes_eq s.text x.text) before ≡ true →
         symbols_after [] (before ++ s ∷ []) ≡ symbols_after [] before }
 {}
 
 /// A word is a longest run of word bytes: such bytes alone are one word, and any other byte parts the text.
 pub fn words_are_longest_runs()
-    ensures run { (b : ℕ) (bs : List ℕ) → list_all is_word_byte (b ∷ bs) ≡ true → tokens (b ∷ bs) ≡ Some (word (b ∷ bs) ∷ []) }
+    ensures run { (b : ℕ) (bs : List ℕ) → list_all is_word_byte (b ∷ bs) ≡ true →
+        tokens (b ∷ bs) ≡ Some (word (b ∷ bs) ∷ []) }
     ensures parted { (a b : List ℕ) (c : ℕ) → is_word_byte c ≡ false →
         tokens (a ++ c ∷ b) ≡ followed (tokens a) (followed (tokens_at c (mark_of c)) (tokens b)) }
+{}
+
+/// Space, tab, line feed and carriage return are dropped, each of `{ } < > | = , ; ( )` is a mark, and a byte that is
+/// none of these, nor a letter, a digit or `-`, spoils the text.
+pub fn bytes_are_blanks_marks_or_of_words()
+    ensures blanks { (a b : List ℕ) →
+        AllByRecursion (λ c. tokens (a ++ c ∷ b) ≡ followed (tokens a) (tokens b))
+        (32 ∷ 9 ∷ 10 ∷ 13 ∷ []) }
+    ensures marks { (a b : List ℕ) (m : Mark) →
+        tokens (a ++ mark_byte m ∷ b)
+        ≡ followed (tokens a) (followed (Some (mark m ∷ [])) (tokens b)) }
+    ensures mark_bytes { map mark_byte (LeftBrace ∷ RightBrace ∷ Less ∷ Greater ∷ Bar ∷ Equals ∷ Comma ∷ Semicolon
+        ∷ Open ∷ Close ∷ []) ≡ codes "{}<>|=,;()" }
+    ensures others { (a b : List ℕ) (c : ℕ) → is_ascii_alphanumeric c ≡ false →
+        AllByRecursion (λ x. c ≢ x) (32 ∷ 9 ∷ 10 ∷ 13 ∷ codes "-{}<>|=,;()") →
+        tokens (a ++ c ∷ b) ≡ None }
+{}
+
+/// The text of a name is a letter, and digits where its number is 26 or more. A word is a name exactly where it is such
+/// a text, and each of the two gives the other.
+pub fn names_are_their_texts()
+    ensures letter { (l : ℕ) → l < 26 → name_text l ≡ (97 + l) ∷ [] }
+    ensures digits { (k l : ℕ) → 0 < k → k < 2 ^ 64 → l < 26 →
+        name_text (26 * k + l) ≡ (97 + l) ∷ decimal k }
+    ensures word { (w : List ℕ) → IsTrue (is_name w) ↔ ((n : ℕ) × (w ≡ name_text n)) }
+    ensures number { (n : ℕ) → name_number (name_text n) ≡ n }
+    ensures text { (w : List ℕ) → IsTrue (is_name w) → name_text (name_number w) ≡ w }
+{}
+
+/// Symbols and names stand in the order of the text: the symbols are the words that are no names. So a system's symbols
+/// are numbered rules first, then interface, then equations.
+pub fn symbols_and_names_stand_as_in_the_text()
+    ensures parts { (s : SystemPhrase) → system_table s ≡
+        symbols_after
+        (symbols_after (symbols_after [] (flat_map rule_symbols s.rules))
+        (flat_map source_symbols s.config.interface))
+        (flat_map (λ e. source_symbols e.left ++ source_symbols e.right) s.config.equations) }
+    ensures system { (s : SystemPhrase) → IsSystemPhrase s →
+        texts (system_symbols s)
+        ≡ filter (λ w. not (is_name w)) (words_among (system_words s)) }
+    ensures config { (p : Phrase) → IsPhrase p →
+        texts (phrase_symbols p) ≡ filter (λ w. not (is_name w)) (words_among (phrase_words p)) }
+    ensures names { (p : Phrase) → IsPhrase p →
+        phrase_names p ≡ map name_number (filter is_name (words_among (phrase_words p))) }
+{}
+
+/// `next` of a configuration that was read is one above its greatest name, or 0 where it has none.
+pub fn next_is_one_above_the_names()
+    ensures config { (text : List ℕ) (table : List Symbol) (c : Configuration) →
+        Reads text (Ok (table, c)) → c.next ≡ one_above (configuration_names c) }
+    ensures system { (text : List ℕ) (v : SystemParts) →
+        ReadsSystem text (Ok v) → v.config.next ≡ one_above (configuration_names v.config) }
 {}
 
 /// The tokens of a text are its bytes in order, but for the blanks.
 pub fn tokens_keep_bytes()
     ensures { (text : List ℕ) (ts : List Token) → tokens text ≡ Some ts →
-        written ts ≡ filter (λ b. not (is_blank b)) text }
+        text_of ts ≡ filter (λ b. not (is_blank b)) text }
 {}
 
 /// A configuration whose symbols have texts of symbols is spelled by what is printed of it.
@@ -68,8 +131,8 @@ pub fn printed_spells()
 
 /// What is printed of a configuration that was read is read as the same symbols and configuration, and is no longer.
 pub fn read_back_law()
-    ensures same { (text : List ℕ) (table : List Symbol) (c : Configuration) → Reads text (Ok (table, c)) →
-        Reads (printed table c) (Ok (table, c)) }
-    ensures no_longer { (text : List ℕ) (table : List Symbol) (c : Configuration) → Reads text (Ok (table, c)) →
-        length (printed table c) ≤ length text }
+    ensures same { (text : List ℕ) (table : List Symbol) (c : Configuration) →
+        Reads text (Ok (table, c)) → Reads (printed table c) (Ok (table, c)) }
+    ensures no_longer { (text : List ℕ) (table : List Symbol) (c : Configuration) →
+        Reads text (Ok (table, c)) → length (printed table c) ≤ length text }
 {}

@@ -4,8 +4,8 @@ ghost use Rattle.std.specs.Prelude.{◌≡◌, ◌+◌, ◌-◌, ◌*◌, ◌<�
 ghost use Rattle.std.specs.List.{AllByRecursion};
 ghost use Rattle.ic_text.specs.Source.{Phrase, phrase_words};
 ghost use Rattle.ic_text.specs.SystemSource.{RulePhrase, rules_words};
-ghost use Rattle.ic_text.specs.Tokens.{token_of, tokens_in};
-ghost use Rattle.ic_text.specs.Prefix.{phrase_prefix, rules_prefix, nodes_of, scan_step, scanned};
+ghost use Rattle.ic_text.specs.Inner.Tokens.{token_of, tokens_in};
+ghost use Rattle.ic_text.specs.Inner.Prefix.{phrase_prefix, rules_prefix, nodes_of, scan_step, scanned};
 
 use crate::token::{Mark, Token};
 use ic_rules::{MAX_RULE_NODES, MAX_RULES};
@@ -61,7 +61,8 @@ impl<'a> Scan<'a> {
     fn take(&mut self, token: &Token<'a>) -> Result<(), AllocError>
         requires counts { AllByRecursion (λ count. count + 1 < 2 ^ 64) (scanned self.old).counts }
         requires terms { self.old.terms + 1 < 2 ^ 64 }
-        ensures { OnOk result (scanned self.new ≡ scan_step (token_of token.now) (scanned self.old)) }
+        ensures { OnOk result
+            (scanned self.new ≡ scan_step (token_of token.now) (scanned self.old)) }
     {
         let arity = self.arity;
         self.arity = 0;

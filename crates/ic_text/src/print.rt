@@ -6,7 +6,7 @@ ghost use Rattle.std.specs.List.{list_all};
 ghost use Rattle.ic_term.specs.Symbol.{is_tree_over, is_pair_over, is_over};
 ghost use Rattle.ic_term.specs.Term.{tree, cell_tree, pair};
 ghost use Rattle.ic_text.specs.Name.{name_text};
-ghost use Rattle.ic_text.specs.Text.{term_text, terms_text, equation_text, equations_text};
+ghost use Rattle.ic_text.specs.Inner.Printing.{term_text, terms_text, equation_text, equations_text};
 ghost use Rattle.ic_text.specs.Text.{printed, fault_text};
 
 use crate::fault::TextFault;
@@ -59,7 +59,8 @@ fn put_cell(
     out: &mut Vec<u8>,
 ) -> Result<(), AllocError>
     requires { IsTrue (is_tree_over symbols.now (cell_tree cell.now)) }
-    ensures { OnOk result (out.new.items ≡ out.old.items ++ term_text symbols.now (cell_tree cell.now)) }
+    ensures { OnOk result
+        (out.new.items ≡ out.old.items ++ term_text symbols.now (cell_tree cell.now)) }
 {
     out.extend_from_slice(symbols.text(cell.sym))?;
     let mut sign = b'(';

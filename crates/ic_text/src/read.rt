@@ -2,11 +2,12 @@
 
 ghost use Rattle.std.specs.Prelude.{◌≡◌, ◌≢◌, IfOk, IfErr, IsTrue, Ok, Err};
 ghost use Rattle.ic_term.specs.Symbol.{is_over};
-ghost use Rattle.ic_text.specs.Numbered.{Gives};
+ghost use Rattle.ic_text.specs.Inner.Numbered.{Gives};
 ghost use Rattle.ic_text.specs.Sense.{sense};
-ghost use Rattle.ic_text.specs.Source.{Phrase, IsPhrase, SpelledBy, phrase_words};
+ghost use Rattle.ic_text.specs.Source.{Phrase, IsPhrase, phrase_words};
+ghost use Rattle.ic_text.specs.Inner.Spelled.{SpelledBy};
 ghost use Rattle.ic_text.specs.Text.{Reads};
-ghost use Rattle.ic_text.specs.Tokens.{tokens_in};
+ghost use Rattle.ic_text.specs.Inner.Tokens.{tokens_in};
 
 use crate::build::config_of;
 use crate::fault::TextFault;
@@ -39,7 +40,8 @@ fn sense_of(alloc: Global, tokens: &[Token]) -> Result<(Symbols, Config), TextFa
 pub fn read_config(alloc: Global, text: &[u8]) -> Result<(Symbols, Config), TextFault>
     ensures read { IfOk result (λ v. Reads text.now (Ok v)) }
     ensures over { IfOk result (λ v. IsTrue (is_over v.0 v.1)) }
-    ensures refused { IfErr result (λ fault. fault ≢ TextFault.Memory → Reads text.now (Err fault)) }
+    ensures refused { IfErr result
+        (λ fault. fault ≢ TextFault.Memory → Reads text.now (Err fault)) }
 {
     if text.len() > MAX_TEXT {
         return Err(TextFault::Limit);

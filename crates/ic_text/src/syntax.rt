@@ -1,12 +1,11 @@
 //! The grammar: whether tokens are a configuration or a system, without a stack of what is open.
 
 ghost use Rattle.std.specs.Prelude.{◌≡◌, ◌+◌, ◌<◌, ◌≤◌, ◌^◌, ◌↔◌, IsTrue, IfSome, Some};
-ghost use Rattle.ic_text.specs.Braces.{split_at_brace};
-ghost use Rattle.ic_text.specs.Source.{SpelledBy};
-ghost use Rattle.ic_text.specs.Syntax.{agent_spot, word_spot, term_step, end_step, empty_step, part_step};
-ghost use Rattle.ic_text.specs.Syntax.{step, beginning, accepts};
-ghost use Rattle.ic_text.specs.SystemSource.{SystemSpelledBy};
-ghost use Rattle.ic_text.specs.Tokens.{token_of, tokens_in};
+ghost use Rattle.ic_text.specs.Inner.Braces.{split_at_brace};
+ghost use Rattle.ic_text.specs.Inner.Spelled.{SpelledBy, SystemSpelledBy};
+ghost use Rattle.ic_text.specs.Inner.Syntax.{agent_spot, word_spot, term_step, end_step, empty_step, part_step};
+ghost use Rattle.ic_text.specs.Inner.Syntax.{step, beginning, accepts};
+ghost use Rattle.ic_text.specs.Inner.Tokens.{token_of, tokens_in};
 
 use crate::name::is_name;
 use crate::token::{Mark, Token};
@@ -201,7 +200,8 @@ pub(crate) fn is_system(tokens: &[Token]) -> bool
 
 /// The tokens before the first `}`, and those behind it.
 pub(crate) fn split_at_brace<'t, 'a>(tokens: &'t [Token<'a>]) -> (&'t [Token<'a>], &'t [Token<'a>])
-    ensures { (tokens_in result.0.now, tokens_in result.1.now) ≡ split_at_brace (tokens_in tokens.now) }
+    ensures { (tokens_in result.0.now, tokens_in result.1.now)
+        ≡ split_at_brace (tokens_in tokens.now) }
 {
     for (place, token) in tokens.iter().enumerate() {
         if let Token::Mark(Mark::RightBrace) = token {

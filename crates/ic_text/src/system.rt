@@ -1,11 +1,12 @@
 //! Reading a system.
 
 ghost use Rattle.std.specs.Prelude.{◌≡◌, ◌≢◌, IfOk, IfErr, Ok, Err};
-ghost use Rattle.ic_text.specs.Numbered.{Gives};
+ghost use Rattle.ic_text.specs.Inner.Numbered.{Gives};
 ghost use Rattle.ic_text.specs.SystemSense.{system_sense};
-ghost use Rattle.ic_text.specs.SystemSource.{SystemPhrase, IsSystemPhrase, SystemSpelledBy, system_words};
+ghost use Rattle.ic_text.specs.SystemSource.{SystemPhrase, IsSystemPhrase, system_words};
+ghost use Rattle.ic_text.specs.Inner.Spelled.{SystemSpelledBy};
 ghost use Rattle.ic_text.specs.SystemText.{ReadsSystem};
-ghost use Rattle.ic_text.specs.Tokens.{tokens_in};
+ghost use Rattle.ic_text.specs.Inner.Tokens.{tokens_in};
 
 use crate::build::system_of;
 use crate::fault::TextFault;
@@ -39,7 +40,8 @@ fn sense_of(alloc: Global, tokens: &[Token]) -> Result<System, TextFault>
 /// Takes n log n steps. Limits are settled before anything recurses on nesting.
 pub fn read_system(alloc: Global, text: &[u8]) -> Result<System, TextFault>
     ensures read { IfOk result (λ system. ReadsSystem text.now (Ok system)) }
-    ensures refused { IfErr result (λ fault. fault ≢ TextFault.Memory → ReadsSystem text.now (Err fault)) }
+    ensures refused { IfErr result
+        (λ fault. fault ≢ TextFault.Memory → ReadsSystem text.now (Err fault)) }
 {
     if text.len() > MAX_TEXT {
         return Err(TextFault::Limit);

@@ -2,7 +2,7 @@
 
 ghost use Rattle.std.specs.Prelude.{◌≡◌, ◌++◌, IfOk, OnOk};
 ghost use Rattle.ic_text.specs.Token.{is_blank, is_word_byte, mark_of, word_of, tokens};
-ghost use Rattle.ic_text.specs.Tokens.{tokens_in, tokens_found};
+ghost use Rattle.ic_text.specs.Inner.Tokens.{tokens_in, tokens_found};
 
 use std::alloc::{AllocError, Global};
 
@@ -60,7 +60,8 @@ fn mark_of(byte: u8) -> Option<Mark>
 
 /// Appends the word that a run of word bytes makes, if the run has a byte.
 fn push_word<'a>(tokens: &mut Vec<Token<'a>>, run: &'a [u8]) -> Result<(), AllocError>
-    ensures { OnOk result (tokens_in tokens.new.items ≡ tokens_in tokens.old.items ++ word_of run.now) }
+    ensures { OnOk result
+        (tokens_in tokens.new.items ≡ tokens_in tokens.old.items ++ word_of run.now) }
 {
     if !run.is_empty() {
         tokens.push(Token::Word(run))?;

@@ -1,5 +1,12 @@
-use Rattle.ic_text.proofs.OneReading.{one_source, one_answer, some_answer}
+use Rattle.ic_text.specs.Source.{IsPhrase, phrase_words}
+use Rattle.ic_text.specs.Sense.{sense}
+use Rattle.ic_text.proofs.ReadOnce.{one_phrase, one_answer, some_answer}
+use Rattle.ic_text.proofs.OneReading.{told}
 use Rattle.ic_text.proofs.laws.one_reading.Goals as goal
 
 pub returns : goal.returns
-returns c = record { source = one_source; answer = one_answer; total = some_answer }
+returns c = record {
+  source = one_phrase IsPhrase phrase_words told;
+  answer = one_answer IsPhrase phrase_words told sense;
+  total = some_answer IsPhrase phrase_words told sense;
+}

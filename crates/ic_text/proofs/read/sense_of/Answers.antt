@@ -6,10 +6,10 @@ use Rattle.ic_term.specs.declared.limits.TheConstants.{MAX_NODES, MAX_INTERFACE}
 use Rattle.ic_term.specs.Configuration.{restored}
 use Rattle.ic_text.specs.Source.{Phrase, IsPhrase, phrase_words, phrase_nodes}
 use Rattle.ic_text.specs.Sense.{sense}
-use Rattle.ic_text.specs.Tokens.{tokens_in}
-use Rattle.ic_text.specs.Prefix.{nodes_of, phrase_prefix}
-use Rattle.ic_text.specs.Numbered.{numbered_words, as_text_answer}
-use Rattle.ic_text.specs.Built.{built_before, parted}
+use Rattle.ic_text.specs.Inner.Tokens.{tokens_in}
+use Rattle.ic_text.specs.Inner.Prefix.{nodes_of, phrase_prefix}
+use Rattle.ic_text.specs.Inner.Numbered.{numbered_words, as_text_answer}
+use Rattle.ic_text.specs.Inner.Built.{built_before, configuration_from}
 use Rattle.ic_text.proofs.PrefixWords.{words-phrase_prefix}
 use Rattle.ic_text.proofs.Sensing.{nodes_are, sense-unfit, sense-words, finished, beside_table, Refuses-through}
 use Rattle.ic_text.proofs.Over.{sense-over}
@@ -58,7 +58,7 @@ returns-in_err-config-clause-sense c = λ p is spelled.
 ok_is_sense : (c : After-drop-prefix-2) (p : Phrase) → sense p ≡ finished c.in_ok-prefix.prefix.terms (numbered_words (nodes_of c.deref.result.now)) → Ok (c.in_ok-symbols.symbols, c.in_ok-config.config) ≡ sense p
 ok_is_sense c p sense_is =
     let number : Ok (c.in_ok-symbols.symbols, c.in_ok-symbols.items.items) ≡ numbered_words (nodes_of c.deref.result.now) = c.in_ok-symbols.ensures in
-    let config : Ok c.in_ok-config.config ≡ as_text_answer (restored (parted c.in_ok-prefix.prefix.terms (built_before c.in_ok-symbols.items.items _))) = c.in_ok-config.ensures in
+    let config : Ok c.in_ok-config.config ≡ as_text_answer (restored (configuration_from c.in_ok-prefix.prefix.terms (built_before c.in_ok-symbols.items.items _))) = c.in_ok-config.ensures in
     ap (beside_table c.in_ok-symbols.symbols) config ∙ ap (finished c.in_ok-prefix.prefix.terms) number ∙ sym sense_is
 
 pub returns-clause-sense : goal.returns-clause-sense

@@ -1,6 +1,6 @@
 use Rattle.std.proofs.Common.{◌≡◌, ◌≤◌, Some, drop, map}
-use Rattle.ic_text.specs.Syntax.{beginning, accepts}
-use Rattle.ic_text.specs.Tokens.{token_of, tokens_in}
+use Rattle.ic_text.specs.Inner.Syntax.{beginning, accepts}
+use Rattle.ic_text.specs.Inner.Tokens.{token_of, tokens_in}
 use Rattle.ic_text.proofs.syntax.accepts.Given as goal
 
 -- what is left is accepted from here just where the whole is from the beginning

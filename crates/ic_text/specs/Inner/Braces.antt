@@ -1,4 +1,4 @@
--- Where the rules of a system end.
+-- For private functions: where the rules of a system end.
 use Rattle.std.specs.Prelude.{List, [], ◌∷◌}
 use Rattle.ic_text.specs.declared.token.Mark.TheVariants.{RightBrace}
 use Rattle.ic_text.specs.Token.{Token, mark}

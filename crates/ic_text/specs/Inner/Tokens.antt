@@ -1,4 +1,4 @@
--- What the reader's tokens are: those of specs/Token, with words that lie in the text.
+-- For private functions: what the reader's tokens are, words of which lie in the text.
 use Rattle.std.specs.Prelude.{List, Option, None, Some, Vec, map}
 use Rattle.ic_text.specs.declared.token.Token.{Token as Read}
 use Rattle.ic_text.specs.declared.token.Token.TheVariants.{Word, Mark as Sign}

@@ -1,3 +1,4 @@
+-- For private functions: terms as plain data.
 use Rattle.std.specs.Prelude.{List, map, reverse}
 use Rattle.ic_term.specs.declared.term.Term.{Term}
 use Rattle.ic_term.specs.Tree.{Tree}

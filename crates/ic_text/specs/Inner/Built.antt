@@ -1,4 +1,4 @@
--- The terms of a configuration, made of its words in prefix notation from the last to the first, and those of rules.
+-- For private functions: terms made of their words in prefix notation, the last word first.
 use Rattle.std.specs.Prelude.{ℕ, List, [], ◌∷◌, ◌++◌, Result, Ok, Err, length, take, drop, if◌then◌else◌}
 use Rattle.std.specs.List.{flat_map}
 use Rattle.ic_term.specs.Tree.{Tree, name, agent, trees_of, list_of, names, Pair}
@@ -32,8 +32,8 @@ pairs_of (t ∷ []) = []
 pairs_of (t ∷ u ∷ ts) = record { left = t; right = u } ∷ pairs_of ts
 
 -- the configuration with so many terms of the interface before the sides of its equations
-abbrev pub parted : ℕ → List Tree → Configuration
-parted terms ts = configured (take terms ts) (pairs_of (drop terms ts))
+abbrev pub configuration_from : ℕ → List Tree → Configuration
+configuration_from terms ts = configured (take terms ts) (pairs_of (drop terms ts))
 
 -- a rule of two agents, its names as they are written; a term that is no agent makes none
 abbrev pub rule_in : Tree → Tree → List Rule
@@ -59,7 +59,8 @@ behind_config (Ok c) fault = Err fault
 behind_config (Err e) fault = Err e
 
 -- the system of rules and a configuration, or the first refusal of both
-abbrev pub joined : Result Rules RuleFault → Result Configuration TextFault → Result SystemParts TextFault
+abbrev pub joined : Result Rules RuleFault → Result Configuration TextFault
+    → Result SystemParts TextFault
 joined (Err TooMany) c = Err Limit
 joined (Err (OtherArity n)) c = Err Arity
 joined (Err (Uncounted i)) c = Err (NameCount i)
@@ -67,4 +68,5 @@ joined (Err (Repeated i)) c = behind_config c (Twice i)
 joined (Err (Uneven i)) c = behind_config c (Lopsided i)
 joined (Err NoRoom) c = Err Memory
 joined (Ok rs) (Err e) = Err e
-joined (Ok rs) (Ok c) = if is_over rs.symbols c then Ok (record { rules = rs; config = c }) else Err Arity
+joined (Ok rs) (Ok c) =
+    if is_over rs.symbols c then Ok (record { rules = rs; config = c }) else Err Arity

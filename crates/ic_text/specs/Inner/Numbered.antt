@@ -1,4 +1,4 @@
--- A configuration in prefix notation with its symbols as numbers.
+-- For private functions: a configuration in prefix notation with its symbols as numbers.
 use Rattle.std.specs.Prelude.{◌≡◌, ℕ, List, [], ◌∷◌, Bool, true, ◌&&◌, ◌||◌, IsTrue, Result, Ok, Err, length, map, nat_le, if◌then◌else◌}
 use Rattle.std.specs.List.{list_all}
 use Rattle.ic_term.specs.Symbol.{Symbol, is_symbol_text, fits_limits, numbered, with_symbol}
@@ -28,7 +28,8 @@ agent_item arity (Err e) = Err e
 -- a word as an item, where it comes behind the symbols of a table
 abbrev pub item_found : List Symbol → Symbol → Result Item SymbolFault
 item_found table w =
-    if is_name w.text then (if nat_le (name_number w.text) MAX_NAME then Ok (Name (name_number w.text)) else Err OverLimit)
+    if is_name w.text
+    then (if nat_le (name_number w.text) MAX_NAME then Ok (Name (name_number w.text)) else Err OverLimit)
     else agent_item w.arity (numbered table w.text w.arity)
 
 -- the table behind a word, and behind a list of words
@@ -41,7 +42,8 @@ table_over table (w ∷ ws) = table_over (table_with table w) ws
 
 -- a word within the limits of one word
 abbrev pub is_word_in_limits : Symbol → Bool
-is_word_in_limits w = if is_name w.text then nat_le (name_number w.text) MAX_NAME else fits_limits w.text w.arity
+is_word_in_limits w =
+    if is_name w.text then nat_le (name_number w.text) MAX_NAME else fits_limits w.text w.arity
 
 -- a word is a name, or has the arity that the table has for it
 abbrev pub is_word_over : List Symbol → Symbol → Bool
@@ -49,11 +51,14 @@ is_word_over table w = if is_name w.text then true else has_its_arity table w
 
 -- a word as an item over a whole table
 abbrev pub item_in : List Symbol → Symbol → Item
-item_in table w = if is_name w.text then Name (name_number w.text) else Agent (number_in_table table w.text) w.arity
+item_in table w =
+    if is_name w.text then Name (name_number w.text)
+    else Agent (number_in_table table w.text) w.arity
 
 -- a value, or the first of two refusals
 abbrev pub unless_refused : {A : Type 0} → Bool → Bool → A → Result A TextFault
-unless_refused in_limits over v = if in_limits then (if over then Ok v else Err Arity) else Err Limit
+unless_refused in_limits over v =
+    if in_limits then (if over then Ok v else Err Arity) else Err Limit
 
 -- the words of a configuration as items, with their table of symbols
 abbrev pub numbered_words : List Symbol → Result (List Symbol × List Item) TextFault

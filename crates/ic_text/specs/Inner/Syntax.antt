@@ -1,4 +1,5 @@
--- The check of syntax: what may come next, token by token. `depth` counts the parentheses that are open.
+-- For private functions: the check of syntax, token by token. `depth` counts the parentheses that
+-- are open.
 use Rattle.std.specs.Prelude.{ℕ, ◌+◌, ◌-◌, ◌==◌, List, [], ◌∷◌, Bool, true, false, Option, None, Some, if◌then◌else◌}
 use Rattle.ic_term.specs.Symbol.{is_symbol_text}
 use Rattle.ic_text.specs.declared.token.Mark.{Mark}

@@ -1,0 +1,11 @@
+-- For private functions: how a text is read, step by step. No public clause needs what stands here.
+pub mod Tokens
+pub mod Bounds
+pub mod Spelled
+pub mod Syntax
+pub mod Braces
+pub mod Prefix
+pub mod Numbered
+pub mod Terms
+pub mod Built
+pub mod Printing
