@@ -7,7 +7,7 @@ use Rattle.std.specs.Prelude.{encode_utf8}
 use Rattle.clap.specs.Lexer.{long_of, short_of}
 use Rattle.clap.specs.Words.{Kinds, Rule, Shape, Text, built, fault_of}
 use Rattle.clap.specs.Walk.{Held, Names, idle, nothing_held, subcommand_met, walk, walk_from, walked, short_or_plain, long_or_other, value, trailing, Step, plain, after_flag, bundle_step, short_word, has_long, has_short, bundle_met}
-use Rattle.clap.specs.Simple.{filled, with_index, filled_from, help_rule, version_rule}
+use Rattle.clap.specs.Simple.{filled, with_index, help_rule, version_rule}
 use Rattle.clap.specs.Kinds.{or_else}
 use Rattle.clap.specs.Faults.{bundle_fault, bundle_step_fault, entered_fault, flag_word_fault, flags_fault, level_fault, long_fault, short_fault, step_fault, turn_fault, walk_fault}
 use Rattle.clap.proofs.OnLiterals.{clap_on_literals}
@@ -37,13 +37,13 @@ stray_none true base h e = cc
 stray_none false base h e = cc
 
 -- the argument of a level that an option is, by two tests
-abbrev met : Bool → Bool → Bool → Option Rule
-met true is_help is_version = cond is_help (Some help) None
-met false is_help is_version = cond is_help (Some help) (cond is_version (Some version) None)
+abbrev argument_of : Bool → Bool → Bool → Option Rule
+argument_of true is_help is_version = cond is_help (Some help) None
+argument_of false is_help is_version = cond is_help (Some help) (cond is_version (Some version) None)
 
 -- a short option is one of these, or unknown
 short_refused : (leaf again is_help is_version : Bool) (rest : Text) (next : Held → Kinds)
-    → short_fault (rules leaf) again (met leaf is_help is_version) rest nothing_held next ≡ [] → ⊥
+    → short_fault (rules leaf) again (argument_of leaf is_help is_version) rest nothing_held next ≡ [] → ⊥
 short_refused true again true v rest next e = cc
 short_refused true again false v rest next e = cc
 short_refused false again true v rest next e = cc
@@ -51,7 +51,7 @@ short_refused false again false true rest next e = cc
 short_refused false again false false rest next e = cc
 
 long_refused : (leaf again is_help is_version : Bool) (text : Option Text)
-    → long_fault (rules leaf) again (met leaf is_help is_version) text nothing_held ≡ [] → ⊥
+    → long_fault (rules leaf) again (argument_of leaf is_help is_version) text nothing_held ≡ [] → ⊥
 long_refused true again true v None e = cc
 long_refused true again true v (Some t) e = cc
 long_refused true again false v text e = cc
@@ -62,11 +62,11 @@ long_refused false again false true (Some t) e = cc
 long_refused false again false false text e = cc
 
 -- what a word is held to be, behind the fault that it may have itself
-abbrev taken : Shape → Kinds → Held × Step → Kinds
-taken s fault met = or_else fault (step_fault s 1 met.0 met.1)
+abbrev word_kinds : Shape → Kinds → Held × Step → Kinds
+word_kinds s fault met = or_else fault (step_fault s 1 met.0 met.1)
 
 flag_refused : (base : Shape) (leaf again : Bool) (v flags : Text) (k : ℕ) (first : Option ℕ)
-    → taken (level base leaf) (bundle_step_fault (rules leaf) again first flags 0 nothing_held (flags_fault (rules leaf) again k))
+    → word_kinds (level base leaf) (bundle_step_fault (rules leaf) again first flags 0 nothing_held (flags_fault (rules leaf) again k))
     (after_flag (rules leaf) idle v (bundle_step (rules leaf) first flags 0 plain nothing_held (bundle_met (rules leaf) k)).0 (bundle_step (rules leaf) first flags 0 plain nothing_held (bundle_met (rules leaf) k)).1) ≡ []
     → ⊥
 flag_refused base leaf again v flags k None e = stray_none leaf base nothing_held e
@@ -78,25 +78,25 @@ flag_refused base false again v flags k (Some x) e =
     short_refused false again (has_short help x) (has_short version x) rest (flags_fault (rules false) again k rest 0) (both_empty _ _ e).0
 
 bundle_refused : (base : Shape) (leaf again : Bool) (v flags : Text)
-    → taken (level base leaf) (bundle_fault (rules leaf) again flags nothing_held) (short_word (rules leaf) idle v flags nothing_held) ≡ [] → ⊥
+    → word_kinds (level base leaf) (bundle_fault (rules leaf) again flags nothing_held) (short_word (rules leaf) idle v flags nothing_held) ≡ [] → ⊥
 unfolding flags_fault bundle_met
 bundle_refused base leaf again v [] e = stray_none leaf base nothing_held e
 bundle_refused base leaf again v (f ∷ fs) e = flag_refused base leaf again v (f ∷ fs) (length fs) (slice_get (chars (f ∷ fs)) 0) e
 
 dash_refused : (base : Shape) (leaf again : Bool) (v : Text) (short : Option Text)
-    → taken (level base leaf) (option_map_or (λ flags. bundle_fault (rules leaf) again flags nothing_held) short []) (short_or_plain (rules leaf) idle v short nothing_held) ≡ [] → ⊥
+    → word_kinds (level base leaf) (option_map_or (λ flags. bundle_fault (rules leaf) again flags nothing_held) short []) (short_or_plain (rules leaf) idle v short nothing_held) ≡ [] → ⊥
 dash_refused base leaf again v None e = stray_none leaf base nothing_held e
 dash_refused base leaf again v (Some flags) e = bundle_refused base leaf again v flags e
 
 plain_refused : (base : Shape) (leaf again : Bool) (v : Text) (long : Option (Text × Option Text))
-    → taken (level base leaf) (flag_word_fault (rules leaf) again long v nothing_held) (long_or_other (rules leaf) idle v long nothing_held) ≡ [] → ⊥
+    → word_kinds (level base leaf) (flag_word_fault (rules leaf) again long v nothing_held) (long_or_other (rules leaf) idle v long nothing_held) ≡ [] → ⊥
 plain_refused base leaf again v None e = dash_refused base leaf again v (short_of v) e
 plain_refused base true again v (Some p) e = long_refused true again (has_long help p.0) false p.1 (both_empty _ _ e).0
 plain_refused base false again v (Some p) e =
     long_refused false again (has_long help p.0) (has_long version p.0) p.1 (both_empty _ _ e).0
 
 only_dashes : (base : Shape) (leaf again : Bool) (v : Text) (dashes : Bool)
-    → taken (level base leaf) (cond dashes [] (flag_word_fault (rules leaf) again (long_of v) v nothing_held))
+    → word_kinds (level base leaf) (cond dashes [] (flag_word_fault (rules leaf) again (long_of v) v nothing_held))
     (cond dashes (nothing_held, trailing 1) (long_or_other (rules leaf) idle v (long_of v) nothing_held)) ≡ []
     → dashes ≡ true
 only_dashes base leaf again v true e = refl
