@@ -12,6 +12,8 @@ mod refused;
 #[cfg(test)]
 mod rounds;
 #[cfg(test)]
+mod rule_sets;
+#[cfg(test)]
 mod settled;
 #[cfg(test)]
 mod slow;
@@ -19,3 +21,5 @@ mod slow;
 mod streams;
 #[cfg(test)]
 mod systems;
+#[cfg(test)]
+mod terms;
