@@ -18,6 +18,8 @@ mod refused;
 #[cfg(test)]
 mod rounds;
 #[cfg(test)]
+mod rule_sets;
+#[cfg(test)]
 mod settled;
 #[cfg(test)]
 mod slow;
@@ -27,3 +29,5 @@ mod stream_faults;
 mod streams;
 #[cfg(test)]
 mod systems;
+#[cfg(test)]
+mod terms;

@@ -6,3 +6,5 @@ pub mod RuleSetLemmas
 pub mod FirstPlaces
 pub mod TakenRules
 pub mod CountedUp
+pub mod Mirrors
+pub mod Refused

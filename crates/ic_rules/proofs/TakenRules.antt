@@ -37,14 +37,14 @@ takes rs is =
     let lopsided : first_lopsided rs.rules ≡ None = ap (position_from is_lopsided 0) same ∙ none_found is_lopsided 0 rs.rules (even rs.rules is.each) in
     rw (is.few, is.fitting, uncounted, is.single, lopsided) (λ i. Ok (record { symbols = rs.symbols; rules = same i }))
 
-none-cons : (p : Rule → Bool) (j : ℕ) (r : Rule) (rs : List Rule) → position_from p j (r ∷ rs) ≡ None → (p r ≡ false) × (position_from p (j + 1) rs ≡ None)
+pub none-cons : (p : Rule → Bool) (j : ℕ) (r : Rule) (rs : List Rule) → position_from p j (r ∷ rs) ≡ None → (p r ≡ false) × (position_from p (j + 1) rs ≡ None)
 none-cons p j r rs none = by_test (p r) refl none
   where
     by_test : (b : Bool) → p r ≡ b → cond b (Some j) (position_from p (j + 1) rs) ≡ None → (p r ≡ false) × (position_from p (j + 1) rs ≡ None)
     by_test true e n = cc
     by_test false e n = (e, n)
 
-not_false : (b : Bool) → not b ≡ false → b ≡ true
+pub not_false : (b : Bool) → not b ≡ false → b ≡ true
 not_false true e = refl
 not_false false e = cc
 

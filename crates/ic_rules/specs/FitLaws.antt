@@ -1,5 +1,6 @@
 -- Lemmas, which no clause is read by: where no agent of rules is unfit, each rule is over the symbols.
 use Rattle.std.proofs.Common.{◌≡◌, ◌↔◌, ℕ, zero, suc, Bool, true, false, ◌&&◌, IsTrue, List, [], ◌∷◌, ◌++◌, Option, None, Some, cond, slice_get, length, unwrap_or, refl, sym, ap, ◌∙◌, subst}
+use Rattle.std.proofs.lemmas.Bool.{and_parts}
 use Rattle.std.specs.List.{flat_map, list_all, AllByRecursion}
 use Rattle.ic_term.specs.Symbol.{Symbol, has_arity, is_tree_over, are_trees_over}
 use Rattle.ic_term.specs.Tree.{Tree, name, agent, Trees, no_trees, more_trees, trees_of, list_of}
@@ -47,10 +48,6 @@ none_of_first ss s n xs none = by (has_arity n (slice_get ss s)) (unfit_among ss
 first_none : (ss : List Symbol) (s n : ℕ) (xs : List (ℕ × ℕ)) → has_arity n (slice_get ss s) ≡ true → unfit_among ss xs ≡ None → unfit_among ss ((s, n) ∷ xs) ≡ None
 first_none ss s n xs fits none = unless_true (has_arity n (slice_get ss s)) s (unfit_among ss xs) fits ∙ none
 
-parts_true : (a b : Bool) → (a && b) ≡ true → (a ≡ true) × (b ≡ true)
-parts_true true b e = (refl, e)
-parts_true false b e = cc
-
 both_true : (a b : Bool) → a ≡ true → b ≡ true → (a && b) ≡ true
 both_true a b ea eb = rw (ea, eb) refl
 
@@ -73,13 +70,13 @@ mutual
   none_in_tree : (ss : List Symbol) (t : Tree) → is_tree_over ss t ≡ true → unfit_among ss (agents t) ≡ None
   none_in_tree ss (name n) over = refl
   none_in_tree ss (agent s ts) over =
-      let parts = parts_true (has_arity (length (list_of ts)) (slice_get ss s)) (are_trees_over ss ts) over in
+      let parts = and_parts (has_arity (length (list_of ts)) (slice_get ss s)) (are_trees_over ss ts) over in
       first_none ss s (length (list_of ts)) (agents_of ts) parts.0 (none_in_trees ss ts parts.1)
 
   none_in_trees : (ss : List Symbol) (ts : Trees) → are_trees_over ss ts ≡ true → unfit_among ss (agents_of ts) ≡ None
   none_in_trees ss no_trees over = refl
   none_in_trees ss (more_trees t ts) over =
-      let parts = parts_true (is_tree_over ss t) (are_trees_over ss ts) over in
+      let parts = and_parts (is_tree_over ss t) (are_trees_over ss ts) over in
       both_none ss (agents t) (agents_of ts) (none_in_tree ss t parts.0) (none_in_trees ss ts parts.1)
 
 pub are_trees_over-trees_of : (ss : List Symbol) (ts : List Tree) → are_trees_over ss (trees_of ts) ≡ list_all (is_tree_over ss) ts
@@ -94,9 +91,9 @@ is_agent_over ss s ts = λ i. has_arity (length (list_of-trees_of ts i)) (slice_
 pub is_rule_over : (ss : List Symbol) (r : Rule) → unfit_among ss (rule_agents r) ≡ None → IsRuleOver ss r
 is_rule_over ss r none =
     let parts = none_of_two ss (agents (agent r.left (trees_of r.left_args))) (agents (agent r.right (trees_of r.right_args))) none in
-    let left = parts_true (has_arity (length r.left_args) (slice_get ss r.left)) (list_all (is_tree_over ss) r.left_args)
+    let left = and_parts (has_arity (length r.left_args) (slice_get ss r.left)) (list_all (is_tree_over ss) r.left_args)
     (sym (is_agent_over ss r.left r.left_args) ∙ tree_over ss (agent r.left (trees_of r.left_args)) parts.0) in
-    let right = parts_true (has_arity (length r.right_args) (slice_get ss r.right)) (list_all (is_tree_over ss) r.right_args)
+    let right = and_parts (has_arity (length r.right_args) (slice_get ss r.right)) (list_all (is_tree_over ss) r.right_args)
     (sym (is_agent_over ss r.right r.right_args) ∙ tree_over ss (agent r.right (trees_of r.right_args)) parts.1) in
     record { left = left.0; right = right.0; left_args = left.1; right_args = right.1 }
 

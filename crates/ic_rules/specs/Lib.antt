@@ -13,3 +13,5 @@ pub mod FitLaws
 pub mod FindLaws
 pub mod System
 pub mod FirstRepeated
+pub mod Mirror
+pub mod Refusals

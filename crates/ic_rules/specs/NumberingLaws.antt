@@ -24,38 +24,37 @@ same_test a b c d to back = tests (a == b) (c == d) (λ e. (unsigned_Decides c d
     tests false true to back = back refl
     tests false false to back = refl
 
--- the name with a number undoes the numbering of these names
-abbrev pub Undone : List ℕ → List ℕ → Type 0
-Undone firsts ns = AllByRecursion (λ n. get_or firsts (number_among firsts n) 0 ≡ n) ns
+-- a second function undoes a renaming of these names
+abbrev pub Undone : (ℕ → ℕ) → (ℕ → ℕ) → List ℕ → Type 0
+Undone f back ns = AllByRecursion (λ n. back (f n) ≡ n) ns
 
-undone-append : (firsts ms ns : List ℕ) → Undone firsts ms → Undone firsts ns → Undone firsts (ms ++ ns)
-undone-append firsts [] ns h k = k
-undone-append firsts (m ∷ ms) ns h k = (h.0, undone-append firsts ms ns h.1 k)
+pub undone-append : (f back : ℕ → ℕ) (ms ns : List ℕ) → Undone f back ms → Undone f back ns → Undone f back (ms ++ ns)
+undone-append f back [] ns h k = k
+undone-append f back (m ∷ ms) ns h k = (h.0, undone-append f back ms ns h.1 k)
 
--- numbers of two names are equal where the names are
-numbers_apart : (firsts : List ℕ) (a b : ℕ) → get_or firsts (number_among firsts a) 0 ≡ a → get_or firsts (number_among firsts b) 0 ≡ b
-    → (number_among firsts a == number_among firsts b) ≡ (a == b)
-numbers_apart firsts a b ua ub =
-    same_test (number_among firsts a) (number_among firsts b) a b (λ e. sym ua ∙ ap (λ n. get_or firsts n 0) e ∙ ub) (ap (number_among firsts))
+-- renamed names are equal where the names are
+renamed_apart : (f back : ℕ → ℕ) (a b : ℕ) → back (f a) ≡ a → back (f b) ≡ b → (f a == f b) ≡ (a == b)
+renamed_apart f back a b ua ub = same_test (f a) (f b) a b (λ e. sym ua ∙ ap back e ∙ ub) (ap f)
 
-list_any-numbers : (firsts : List ℕ) (a : ℕ) (seen : List ℕ) → get_or firsts (number_among firsts a) 0 ≡ a → Undone firsts seen
-    → list_any (λ m. number_among firsts a == m) (map (number_among firsts) seen) ≡ list_any (λ m. a == m) seen
-list_any-numbers firsts a [] ua us = refl
-list_any-numbers firsts a (s ∷ seen) ua us =
-    rw (numbers_apart firsts a s ua us.0, list_any-numbers firsts a seen ua us.1) refl
+list_any-renamed : (f back : ℕ → ℕ) (a : ℕ) (seen : List ℕ) → back (f a) ≡ a → Undone f back seen → list_any (λ m. f a == m) (map f seen) ≡ list_any (λ m. a == m) seen
+list_any-renamed f back a [] ua us = refl
+list_any-renamed f back a (s ∷ seen) ua us = rw (renamed_apart f back a s ua us.0, list_any-renamed f back a seen ua us.1) refl
 
--- numbering and taking first occurrences commute
-pub first_behind-map : (firsts seen ns : List ℕ) → Undone firsts seen → Undone firsts ns
-    → first_behind (map (number_among firsts) seen) (map (number_among firsts) ns) ≡ map (number_among firsts) (first_behind seen ns)
-first_behind-map firsts seen [] us un = refl
-first_behind-map firsts seen (n ∷ ns) us un =
-    let f : ℕ → ℕ = number_among firsts in
-    let stays = first_behind-map firsts seen ns us un.1 in
+-- renaming and taking first occurrences commute
+pub first_behind-map : (f back : ℕ → ℕ) (seen ns : List ℕ) → Undone f back seen → Undone f back ns → first_behind (map f seen) (map f ns) ≡ map f (first_behind seen ns)
+first_behind-map f back seen [] us un = refl
+first_behind-map f back seen (n ∷ ns) us un =
+    let stays = first_behind-map f back seen ns us un.1 in
     let moved = ap (λ ms. first_behind ms (map f ns)) (sym (map-append f seen (n ∷ [])))
-    ∙ first_behind-map firsts (seen ++ n ∷ []) ns (undone-append firsts seen (n ∷ []) us (un.0, tt)) un.1 in
-    rw (list_any-numbers firsts n seen un.0 us)
+    ∙ first_behind-map f back (seen ++ n ∷ []) ns (undone-append f back seen (n ∷ []) us (un.0, tt)) un.1 in
+    rw (list_any-renamed f back n seen un.0 us)
     (elim (list_any (λ m. n == m) seen) as (λ b. cond b (first_behind (map f seen) (map f ns)) (first_behind (map f seen ++ f n ∷ []) (map f ns))
     ≡ map f (cond b (first_behind seen ns) (first_behind (seen ++ n ∷ []) ns))) [ true ↦ stays | false ↦ moved ])
+
+-- a name has the number that its new name has among the new names
+pub number_among-map : (f back : ℕ → ℕ) (firsts : List ℕ) (n : ℕ) → Undone f back firsts → back (f n) ≡ n → number_among (map f firsts) (f n) ≡ number_among firsts n
+number_among-map f back [] n us un = refl
+number_among-map f back (m ∷ ms) n us un = rw (renamed_apart f back n m un us.0, number_among-map f back ms n us.1 un) refl
 
 -- the number of a name that is there leads to it
 undone_at : (firsts : List ℕ) (n : ℕ) → list_any (λ m. n == m) firsts ≡ true → get_or firsts (number_among firsts n) 0 ≡ n
@@ -129,45 +128,47 @@ numbers-distinct [] d = refl
 numbers-distinct (n ∷ ns) d =
     rw (self_eq n, shift n ns ns d.0, numbers-distinct ns d.1, range-one 0 (length ns)) refl
 
--- each name of a list stands among its first occurrences
-pub each_undone : (ns : List ℕ) → Undone (first_occurrences ns) ns
+-- the name at a place of a list
+abbrev pub name_at : List ℕ → ℕ → ℕ
+name_at firsts k = get_or firsts k 0
+
+-- the name at a number's place undoes the numbering
+pub each_undone : (ns : List ℕ) → Undone (number_among (first_occurrences ns)) (name_at (first_occurrences ns)) ns
 each_undone ns = undone_each (first_occurrences ns) ns (each_among [] ns)
   where
-    undone_each : (firsts ms : List ℕ) → Among firsts ms → Undone firsts ms
+    undone_each : (firsts ms : List ℕ) → Among firsts ms → Undone (number_among firsts) (name_at firsts) ms
     undone_each firsts [] a = tt
     undone_each firsts (m ∷ ms) a = (undone_at firsts m a.0, undone_each firsts ms a.1)
 
 -- numbered names have the numbers as their first occurrences
 pub first_occurrences-numbered : (ns : List ℕ) → first_occurrences (map (number_among (first_occurrences ns)) ns) ≡ range_with_len 0 (length (first_occurrences ns))
 first_occurrences-numbered ns =
-    first_behind-map (first_occurrences ns) [] ns tt (each_undone ns)
+    first_behind-map (number_among (first_occurrences ns)) (name_at (first_occurrences ns)) [] ns tt (each_undone ns)
     ∙ numbers-distinct (first_occurrences ns) (first_behind-distinct [] ns none_distinct)
 
 occurrences-cons : (q n : ℕ) (ns : List ℕ) → occurrences q (n ∷ ns) ≡ cond (n == q) 1 0 + occurrences q ns
 occurrences-cons q n ns = sum_by-append (λ m. cond (m == q) 1 0) (n ∷ []) ns ∙ ap (λ k. k + occurrences q ns) (omega arith)
 
--- a name stands in a list as often as its number among the numbers
-pub occurrences-numbered : (firsts : List ℕ) (a : ℕ) (ns : List ℕ) → get_or firsts (number_among firsts a) 0 ≡ a → Undone firsts ns
-    → occurrences (number_among firsts a) (map (number_among firsts) ns) ≡ occurrences a ns
-occurrences-numbered firsts a [] ua un = refl
-occurrences-numbered firsts a (n ∷ ns) ua un =
-    occurrences-cons (number_among firsts a) (number_among firsts n) (map (number_among firsts) ns)
-    ∙ ap (λ b. cond b 1 0 + occurrences (number_among firsts a) (map (number_among firsts) ns)) (numbers_apart firsts n a un.0 ua)
-    ∙ ap (λ k. cond (n == a) 1 0 + k) (occurrences-numbered firsts a ns ua un.1)
+-- a name stands in a list as often as its new name among the new names
+pub occurrences-renamed : (f back : ℕ → ℕ) (a : ℕ) (ns : List ℕ) → back (f a) ≡ a → Undone f back ns → occurrences (f a) (map f ns) ≡ occurrences a ns
+occurrences-renamed f back a [] ua un = refl
+occurrences-renamed f back a (n ∷ ns) ua un =
+    occurrences-cons (f a) (f n) (map f ns)
+    ∙ ap (λ b. cond b 1 0 + occurrences (f a) (map f ns)) (renamed_apart f back n a un.0 ua)
+    ∙ ap (λ k. cond (n == a) 1 0 + k) (occurrences-renamed f back a ns ua un.1)
     ∙ sym (occurrences-cons a n ns)
 
-pub paired_numbered : (firsts all ns : List ℕ) → Undone firsts all → Undone firsts ns
-    → list_all (λ n. occurrences n (map (number_among firsts) all) == 2) (map (number_among firsts) ns) ≡ list_all (λ n. occurrences n all == 2) ns
-paired_numbered firsts all [] ua un = refl
-paired_numbered firsts all (n ∷ ns) ua un =
-    rw (occurrences-numbered firsts n all un.0 ua, paired_numbered firsts all ns ua un.1) refl
+paired_renamed : (f back : ℕ → ℕ) (all ns : List ℕ) → Undone f back all → Undone f back ns
+    → list_all (λ n. occurrences n (map f all) == 2) (map f ns) ≡ list_all (λ n. occurrences n all == 2) ns
+paired_renamed f back all [] ua un = refl
+paired_renamed f back all (n ∷ ns) ua un = rw (occurrences-renamed f back n all un.0 ua, paired_renamed f back all ns ua un.1) refl
 
 -- numbering keeps that each name stands exactly twice
 pub are_paired-numbered : (ns : List ℕ) → are_paired (map (number_among (first_occurrences ns)) ns) ≡ are_paired ns
-are_paired-numbered ns = paired_numbered (first_occurrences ns) ns ns (each_undone ns) (each_undone ns)
+are_paired-numbered ns = paired_renamed (number_among (first_occurrences ns)) (name_at (first_occurrences ns)) ns ns (each_undone ns) (each_undone ns)
 
 -- a function that leaves a list as it is leaves its members
-abbrev Fixes : (ℕ → ℕ) → List ℕ → Type 0
+abbrev pub Fixes : (ℕ → ℕ) → List ℕ → Type 0
 Fixes f ns = AllByRecursion (λ n. f n ≡ n) ns
 
 head_or : ℕ → List ℕ → ℕ
@@ -187,11 +188,11 @@ fixed_member f (x ∷ xs) m same there = by_test (m == x) refl there (fixed_memb
     by_test true e there below = let is = (unsigned_Decides m x).0 e in ap f is ∙ ap (head_or 0) same ∙ sym is
     by_test false e there below = below there
 
-fixed_members : (f : ℕ → ℕ) (xs ms : List ℕ) → map f xs ≡ xs → Among xs ms → Fixes f ms
+pub fixed_members : (f : ℕ → ℕ) (xs ms : List ℕ) → map f xs ≡ xs → Among xs ms → Fixes f ms
 fixed_members f xs [] same all = tt
 fixed_members f xs (m ∷ ms) same all = (fixed_member f xs m same all.0, fixed_members f xs ms same all.1)
 
-fixes-append : (f : ℕ → ℕ) (ms ns : List ℕ) → Fixes f (ms ++ ns) → Fixes f ms × Fixes f ns
+pub fixes-append : (f : ℕ → ℕ) (ms ns : List ℕ) → Fixes f (ms ++ ns) → Fixes f ms × Fixes f ns
 fixes-append f [] ns all = (tt, all)
 fixes-append f (m ∷ ms) ns all = let rest = fixes-append f ms ns all.1 in ((all.0, rest.0), rest.1)
 
@@ -206,7 +207,7 @@ mutual
       let parts = fixes-append f (names t) (names_of ts) all in
       λ i. more_trees (renamed-fixed f t parts.0 i) (renamed_trees-fixed f ts parts.1 i)
 
-terms-fixed : (f : ℕ → ℕ) (ts : List Tree) → Fixes f (flat_map names ts) → map (renamed f) ts ≡ ts
+pub terms-fixed : (f : ℕ → ℕ) (ts : List Tree) → Fixes f (flat_map names ts) → map (renamed f) ts ≡ ts
 terms-fixed f [] all = refl
 terms-fixed f (t ∷ ts) all =
     let parts = fixes-append f (names t) (flat_map names ts) all in

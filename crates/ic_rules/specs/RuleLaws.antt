@@ -2,6 +2,7 @@
 use Rattle.std.specs.Prelude.{◌≡◌, ◌==◌, Bool, true, false, ◌&&◌, refl}
 use Rattle.std.specs.Bool.{Decides}
 use Rattle.std.specs.Cmp.{IsEquivalence, decided, unsigned_Decides}
+use Rattle.std.proofs.lemmas.Bool.{and_parts}
 use Rattle.std.proofs.Common.{sym, ◌∙◌, ap}
 use Rattle.std.specs.Cmp.Lexicographic.{pointwise, pointwise_decides}
 use Rattle.ic_term.specs.Tree.{tree_eq}
@@ -10,10 +11,6 @@ use Rattle.ic_term.specs.Symbol.{symbols_eq}
 use Rattle.ic_term.specs.SymbolLaws.{symbols_eq-Decides}
 use Rattle.ic_rules.specs.Rule.{Rule, rule_eq}
 use Rattle.ic_rules.specs.RuleSet.{Rules, rules_eq}
-
-and_parts : (a b : Bool) → (a && b) ≡ true → (a ≡ true) × (b ≡ true)
-and_parts true b e = (refl, e)
-and_parts false b e = cc
 
 both : (a b : Bool) → a ≡ true → b ≡ true → (a && b) ≡ true
 both a b ea eb = rw (ea, eb) refl

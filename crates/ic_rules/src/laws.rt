@@ -1,11 +1,13 @@
 //! Laws of the definitions that the contracts of this crate cite.
 
-ghost use Rattle.std.specs.Prelude.{◌≡◌, ◌↔◌, ℕ, ◌==◌, List, [], Bool, None, Some, Ok, ◌∷◌, ◌++◌, true, false, slice_get, length, map, IsTrue};
-ghost use Rattle.std.specs.Bool.{Decides};
+ghost use Rattle.std.specs.Prelude.{◌≡◌, ◌↔◌, ℕ, ◌==◌, List, [], Bool, None, Some, Ok, Err, ◌∷◌, ◌++◌, true, false, slice_get, length, map, IsTrue};
 ghost use Rattle.std.specs.List.{list_any, range_with_len, AllByRecursion};
 ghost use Rattle.ic_term.specs.Symbol.{Symbol};
 ghost use Rattle.ic_rules.specs.Renaming.{first_occurrences, number_among, are_paired};
-ghost use Rattle.ic_rules.specs.Rule.{Rule, rule_eq, numbered, IsNumbered};
+ghost use Rattle.ic_rules.specs.Rule.{Rule, rule_eq, numbered, is_lopsided, IsNumbered};
+ghost use Rattle.ic_rules.specs.Mirror.{IsOwnMirror};
+ghost use Rattle.ic_rules.specs.Refusals.{IsRefusal, IsTaken};
+ghost use Rattle.ic_rules.specs.declared.rule_set.RuleFault.{RuleFault};
 ghost use Rattle.ic_rules.specs.RuleSet.{Rules, rules_eq, rule_for, first_unfit, IsRuleFor, IsRuleSet, IsRuleOver, built, first_repeated, has_pair};
 ghost use Rattle.ic_rules.specs.FirstRepeated.{IsFirstRepeated};
 ghost use Rattle.ic_rules.specs.declared.limits.TheConstants.{MAX_RULES, MAX_RULE_NODES};
@@ -38,6 +40,23 @@ pub fn names_are_numbered_by_first_occurrence()
         → number_among (first_occurrences (before ++ n ∷ after)) n ≡ length (first_occurrences before) }
 {}
 
+/// A rule of a symbol with itself is taken exactly where exchanging its sides and renaming its names one-to-one gives
+/// the rule back; a rule of two symbols is never lopsided.
+pub fn level_rules_are_their_own_mirrors()
+    ensures same { (r : Rule) → r.left ≡ r.right
+        → (is_lopsided (numbered r) ≡ false) ↔ IsOwnMirror r }
+    ensures two { (r : Rule) → (r.left ≡ r.right → ⊥) → is_lopsided (numbered r) ≡ false }
+{}
+
+/// `RuleSet::build` refuses rules for the first of their faults in the order of `RuleFault`, and takes them where there
+/// is none.
+pub fn refusals_come_in_order()
+    ensures refused { (ss : List Symbol) (rs : List Rule) (fault : RuleFault)
+        → built ss rs ≡ Err fault → IsRefusal ss rs fault }
+    ensures taken { (ss : List Symbol) (rs : List Rule) (set : Rules)
+        → built ss rs ≡ Ok set → IsTaken ss rs set }
+{}
+
 /// Where no agent of rules is unfit, the symbols of each are known and each agent has as many arguments as its arity,
 /// and only there.
 pub fn rules_fit_where_each_is_over_the_symbols()
@@ -49,8 +68,8 @@ pub fn rules_fit_where_each_is_over_the_symbols()
 /// written exactly where each of them is such a one.
 pub fn numbered_rules_stay()
     ensures rule { (r : Rule) → (numbered r ≡ r) ↔ IsNumbered r }
-    ensures rules { (ss : List Symbol) (rs : List Rule) (built_set : Rules)
-        → built ss rs ≡ Ok built_set → (built_set.rules ≡ rs) ↔ AllByRecursion IsNumbered rs }
+    ensures rules { (ss : List Symbol) (rs : List Rule) (set : Rules)
+        → built ss rs ≡ Ok set → (set.rules ≡ rs) ↔ AllByRecursion IsNumbered rs }
 {}
 
 /// Numbering the names of a list by first occurrence gives 0, 1, .. in the order of their first occurrences, and keeps
@@ -62,6 +81,6 @@ pub fn numbering_counts_up()
 
 /// The tests of equality tell exactly whether two rules, or two rule sets, are the same.
 pub fn equality_is_exact()
-    ensures rules { (r s : Rule) → Decides (rule_eq r s) (r ≡ s) }
-    ensures rule_sets { (r s : Rules) → Decides (rules_eq r s) (r ≡ s) }
+    ensures rules { (r s : Rule) → IsTrue (rule_eq r s) ↔ (r ≡ s) }
+    ensures rule_sets { (r s : Rules) → IsTrue (rules_eq r s) ↔ (r ≡ s) }
 {}

@@ -13,8 +13,6 @@ mod renaming;
 mod rule;
 mod rule_set;
 mod system;
-#[cfg(test)]
-mod tests;
 
 pub use job_name::{JobName, MAX_JOB_NAME};
 pub use limits::{MAX_RULE_NODES, MAX_RULES};

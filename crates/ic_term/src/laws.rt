@@ -1,10 +1,11 @@
 //! Laws of the definitions that the contracts of this crate cite.
 
-ghost use Rattle.std.specs.Prelude.{◌≡◌, ℕ, ◌≤◌, ◌^◌, ◌↔◌, List, None, Some, Ok};
-ghost use Rattle.std.specs.Bool.{Decides};
+ghost use Rattle.std.specs.Prelude.{◌≡◌, ℕ, ◌+◌, ◌<◌, ◌≤◌, ◌==◌, ◌^◌, ◌↔◌, List, [], ◌∷◌, ◌++◌, length, None, Some, Ok, IsTrue};
+ghost use Rattle.std.specs.List.{list_any, AllByRecursion};
 ghost use Rattle.ic_term.specs.Tree.{Tree, Pair, tree_eq, pair_eq};
 ghost use Rattle.ic_term.specs.declared.limits.TheConstants.{MAX_NODES, MAX_INTERFACE, MAX_NEXT, MAX_SYMBOLS, MAX_SYMBOL_TEXT, MAX_ARITY};
-ghost use Rattle.ic_term.specs.Configuration.{Configuration, IsConfiguration, IsFirstThird, occurrences, restored, third_occurrence};
+ghost use Rattle.ic_term.specs.Configuration.{Configuration, IsConfiguration, IsFirstThird, occurrences, one_above, restored, third_occurrence};
+ghost use Rattle.ic_term.specs.Symbol.{Symbol, AreSymbols, is_symbol_text, numbered, with_symbol, symbols_eq};
 
 /// The limits of configurations and of symbols.
 pub fn limits_are()
@@ -29,8 +30,30 @@ pub fn restore_takes_configurations()
     ensures { (c : Configuration) → (restored c ≡ Ok c) ↔ IsConfiguration c }
 {}
 
-/// The tests of equality tell exactly whether two terms, or two equations, are the same.
+/// The `next` of a new configuration: it is above every name, and it is 0 without names, else one above some name.
+pub fn next_is_one_above_the_greatest_name()
+    ensures above { (ns : List ℕ) → AllByRecursion (λ n. n < one_above ns) ns }
+    ensures none { one_above [] ≡ 0 }
+    ensures some { (n : ℕ) (ns : List ℕ)
+        → IsTrue (list_any (λ m. m + 1 == one_above (n ∷ ns)) (n ∷ ns)) }
+{}
+
+/// What `Symbols::number` makes is what lists of symbols keep: a text that gets a number keeps it, and each such list is
+/// made by numbering its texts one after the other.
+pub fn numbering_makes_exactly_such_symbols()
+    ensures kept { (ss : List Symbol) (text : List ℕ) (arity n : ℕ) → AreSymbols ss
+        → IsTrue (is_symbol_text text) → numbered ss text arity ≡ Ok n
+        → AreSymbols (with_symbol ss text arity) }
+    ensures earlier { (ss : List Symbol) (s : Symbol) → AreSymbols (ss ++ s ∷ []) → AreSymbols ss }
+    ensures last { (ss : List Symbol) (s : Symbol) → AreSymbols (ss ++ s ∷ [])
+        → numbered ss s.text s.arity ≡ Ok (length ss) }
+    ensures made { (ss : List Symbol) (s : Symbol) → AreSymbols (ss ++ s ∷ [])
+        → with_symbol ss s.text s.arity ≡ ss ++ s ∷ [] }
+{}
+
+/// The tests of equality tell exactly whether two terms, two equations, or two lists of symbols are the same.
 pub fn equality_is_exact()
-    ensures terms { (t u : Tree) → Decides (tree_eq t u) (t ≡ u) }
-    ensures equations { (p q : Pair) → Decides (pair_eq p q) (p ≡ q) }
+    ensures terms { (t u : Tree) → IsTrue (tree_eq t u) ↔ (t ≡ u) }
+    ensures equations { (p q : Pair) → IsTrue (pair_eq p q) ↔ (p ≡ q) }
+    ensures symbols { (ss ts : List Symbol) → IsTrue (symbols_eq ss ts) ↔ (ss ≡ ts) }
 {}

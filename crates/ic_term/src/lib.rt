@@ -12,8 +12,6 @@ mod occurrences;
 mod symbols;
 mod term;
 mod terms;
-#[cfg(test)]
-mod tests;
 
 pub use arities::over;
 pub use config::{Config, ConfigFault};
