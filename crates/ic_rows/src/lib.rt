@@ -10,6 +10,8 @@ mod examples;
 #[cfg(test)]
 mod refused;
 #[cfg(test)]
+mod round_refusals;
+#[cfg(test)]
 mod rounds;
 #[cfg(test)]
 mod settled;
