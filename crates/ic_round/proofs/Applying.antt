@@ -12,7 +12,7 @@ use Rattle.ic_term.specs.Configuration.{Configuration, IsConfiguration, names_in
 use Rattle.ic_settle.specs.Settling.{subst, subst_pair}
 use Rattle.ic_settle.specs.Sides.{other_side, bound_by}
 use Rattle.ic_round.specs.SingleSteps.{others}
-use Rattle.ic_round.specs.Replacing.{Applies, applied_at}
+use Rattle.ic_round.specs.inner.Replacing.{Applies, applied_at}
 use Rattle.ic_settle.specs.declared.applicability.Applicable.{Applicable}
 use Rattle.ic_settle.specs.StepLaws.{once_outside, configuration_kept, over_kept}
 use Rattle.ic_round.proofs.ListLemmas.{map_remove}

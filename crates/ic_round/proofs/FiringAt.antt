@@ -9,7 +9,7 @@ use Rattle.ic_term.specs.Term.{pair}
 use Rattle.ic_term.specs.Tree.{Pair}
 use Rattle.ic_rules.specs.Rule.{Rule}
 use Rattle.ic_round.specs.Firing.{Active, active_pair, products_by, fired_pair}
-use Rattle.ic_round.specs.Replacing.{fired_at}
+use Rattle.ic_round.specs.inner.Replacing.{fired_at}
 
 -- the first equation from a place on is the one at the place
 pub first_from : (es : List Equation) (i : ℕ) (e : Equation) → i < length es → e ≡ get_or (drop i es) 0 e → e ≡ get_or es i e

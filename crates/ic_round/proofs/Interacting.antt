@@ -13,12 +13,12 @@ use Rattle.ic_term.specs.declared.limits.TheConstants.{MAX_NODES, MAX_NEXT}
 use Rattle.ic_rules.specs.Rule.{Rule}
 use Rattle.ic_rules.specs.RuleSet.{Rules, IsRuleSet}
 use Rattle.ic_round.specs.Firing.{Active, rule_of_sides, active_pair, products_by, count_of, names_taken, fired_pair}
-use Rattle.ic_round.specs.Sizes.{fired_nodes}
+use Rattle.ic_round.specs.inner.Sizes.{fired_nodes}
 use Rattle.ic_round.specs.Steps.{Interaction}
 use Rattle.ic_round.specs.Works.{suits, work_at}
 use Rattle.ic_round.specs.SingleSteps.{interacted_by, interacted, is_within}
 use Rattle.ic_round.specs.StepAnswers.{stepped_within}
-use Rattle.ic_round.specs.Replacing.{fired_at}
+use Rattle.ic_round.specs.inner.Replacing.{fired_at}
 use Rattle.ic_round.specs.declared.steps.StepFault.TheVariants.{Limit}
 use Rattle.ic_settle.specs.SubstitutionLaws.{occurrences-append, and_parts, and_both, All-append, All-front, All-back}
 use Rattle.ic_settle.specs.MiddleLaws.{nodes-middle, occurrences-middle, All-middle, over-middle}
@@ -26,7 +26,7 @@ use Rattle.ic_round.specs.lemmas.FreshNames.{absent_above}
 use Rattle.ic_round.specs.lemmas.FiredNames.{Fires, fires, All-mono}
 use Rattle.ic_round.specs.lemmas.ActiveRules.{active_by, nodes-any_base}
 use Rattle.ic_round.specs.lemmas.SoundRules.{sound_rule}
-use Rattle.ic_round.specs.lemmas.OverSymbols.{over_pair}
+use Rattle.ic_round.specs.lemmas.OverSymbols.{over_pair, over_replaced}
 use Rattle.ic_round.proofs.Planned.{one_suits}
 use Rattle.ic_round.proofs.FiringAt.{fired_pair-active}
 use Rattle.ic_round.proofs.StandsAt.{stands}
@@ -144,13 +144,6 @@ over_there rs c place p there over =
     let split = ap (list_all (is_pair_over rs.symbols)) (sym (stands c.equations place p there).parts) in
     over-middle rs.symbols (take place c.equations) p (drop (place + 1) c.equations) (split ∙ parts.1)
 
-over_replaced : (rs : Rules) (before out after : List Pair) → list_all (is_pair_over rs.symbols) (before ++ after) ≡ true → list_all (is_pair_over rs.symbols) out ≡ true
-    → list_all (is_pair_over rs.symbols) (before ++ (out ++ after)) ≡ true
-over_replaced rs before out after all more =
-    let f = is_pair_over rs.symbols in
-    let parts = and_parts (list_all f before) (list_all f after) (sym (list_all-append f before after) ∙ all) in
-    list_all-append f before (out ++ after) ∙ and_both parts.0 (list_all-append f out after ∙ and_both more parts.1)
-
 pub can_interact : (rs : Rules) (c : Configuration) (place : ℕ) (p : Pair) (i : ℕ) (turned : Bool) → IsRuleSet rs → IsConfiguration c → is_over rs.symbols c ≡ true
     → slice_get c.equations place ≡ Some p → rule_of_sides rs.rules p.left p.right ≡ Some (i, turned) → CanInteract rs c place p
 can_interact rs c place p i turned set valid over there found =
@@ -183,7 +176,7 @@ can_interact rs c place p i turned set valid over there found =
       over =
           let parts = and_parts (list_all (is_tree_over rs.symbols) c.interface) (list_all (is_pair_over rs.symbols) c.equations) over in
           let more = ap (list_all (is_pair_over rs.symbols)) (sym pieces) ∙ over_pair rs.symbols rs.rules c.next p set.fitting overs.1 (active_pair rs.rules p) refl in
-          and_both parts.0 (over_replaced rs before out after overs.0 more);
+          and_both parts.0 (over_replaced rs.symbols before out after overs.0 more);
       suits = λ low. one_suits rs.rules place c.next p a.0 sound is (omega arith);
     }
 

@@ -2,7 +2,7 @@
 use Rattle.std.proofs.Common.{◌≡◌, ℕ, zero, suc, ◌≤◌, ◌<◌, List, [], ◌∷◌, true, false, Option, None, Some, is_none, length, map, get_or, refl, sym, ap, ◌∙◌, arith}
 use Rattle.std.proofs.Math.ListN.{set}
 use Rattle.ic_term.specs.Tree.{Pair}
-use Rattle.ic_round.specs.Slots.{slot_of, put_in}
+use Rattle.ic_round.specs.inner.Slots.{slot_of, put_in}
 use Rattle.ic_round.specs.declared.slots.Slot.{Slot}
 
 -- ---- the program's places

@@ -11,7 +11,7 @@ use Rattle.ic_term.specs.Configuration.{Configuration, IsConfiguration, configur
 use Rattle.ic_term.specs.declared.limits.TheConstants.{MAX_NODES}
 use Rattle.ic_rules.specs.RuleSet.{Rules}
 use Rattle.ic_round.specs.Firing.{names_taken, fired}
-use Rattle.ic_round.specs.Sizes.{fired_nodes}
+use Rattle.ic_round.specs.inner.Sizes.{fired_nodes}
 use Rattle.ic_round.proofs.Words.{u64_MAX}
 use Rattle.ic_round.proofs.ListLemmas.{drop_at}
 use Rattle.ic_settle.specs.SubstitutionLaws.{and_parts}

@@ -8,10 +8,12 @@ use Rattle.ic_round.specs.Rounds.{round, unless_unfit}
 use Rattle.ic_round.specs.Works.{PlainFired}
 use Rattle.ic_round.specs.Gathering.{Gapped, gathered}
 
--- The results fill the gaps; what comes of it is a configuration, and settled it is the round, which is what is
--- answered.
-pub record Completes (rs : List Rule) (c : Configuration) (rest : Gapped) (fs : List PlainFired) : Type 0 where
+-- The results fill the gaps; what comes of it is a configuration, and settled it is the round,
+-- which is what is answered.
+pub record Completes (rs : List Rule) (c : Configuration) (rest : Gapped)
+    (fs : List PlainFired) : Type 0 where
   pub gathers : gathered rest fs ≡ Ok (fired rs c)
   pub valid : (d : Configuration) → gathered rest fs ≡ Ok d → IsConfiguration d
   pub settles : (d : Configuration) → Ok d ≡ gathered rest fs → settled d ≡ round rs c
-  pub answer : (d : Configuration) → Ok d ≡ gathered rest fs → Ok (settled d) ≡ unless_unfit rs c (round rs c)
+  pub answer : (d : Configuration) → Ok d ≡ gathered rest fs
+      → Ok (settled d) ≡ unless_unfit rs c (round rs c)

@@ -7,8 +7,8 @@ use Rattle.ic_rules.specs.Rule.{Rule}
 use Rattle.ic_rules.specs.RuleSet.{rule_for}
 use Rattle.ic_round.specs.Instance.{inst}
 
--- An active equation: the place of its rule among the rules, and its sides, turned so that the left symbol is the
--- rule's left symbol.
+-- An active equation: the place of its rule among the rules, and its sides, turned so that the left
+-- symbol is the rule's left symbol.
 pub record Active : Type 0 where
   pub rule : ℕ
   pub left : Tree
@@ -19,7 +19,8 @@ oriented t u None = None
 oriented t u (Some (i, false)) = Some (record { rule = i; left = t; right = u })
 oriented t u (Some (i, true)) = Some (record { rule = i; left = u; right = t })
 
--- the rule of two sides, if both are agents and have one (Lafont 1990): its place, and whether they are turned round
+-- the rule of two sides, if both are agents and have one (Lafont 1990): its place, and whether they
+-- are turned round
 abbrev pub rule_of_sides : List Rule → Tree → Tree → Option (ℕ × Bool)
 rule_of_sides rs (name n) u = None
 rule_of_sides rs (agent a ts) (name n) = None
@@ -33,7 +34,8 @@ abbrev pub arguments : Tree → List Tree
 arguments (name n) = []
 arguments (agent s ts) = list_of ts
 
--- each argument of an agent against the rule's one, the argument on the left (this project's choice)
+-- each argument of an agent against the rule's one, the argument on the left (this project's
+-- choice)
 abbrev pub against : List Tree → List Tree → List Pair
 against (a ∷ ts) (t ∷ us) = record { left = a; right = t } ∷ against ts us
 against [] us = []
@@ -42,11 +44,13 @@ against (a ∷ ts) [] = []
 -- `A(a1,..,an)=B(b1,..,bm)` becomes `a1=t1,..,an=tn,b1=u1,..,bm=um` by a copy of the rule
 -- `A(t1,..,tn)><B(u1,..,um)` (Lafont 1990; Fernández and Mackie 1999, interaction).
 abbrev pub products : Rule → Tree → Tree → List Pair
-products copy left right = against (arguments left) copy.left_args ++ against (arguments right) copy.right_args
+products copy left right =
+    against (arguments left) copy.left_args ++ against (arguments right) copy.right_args
 
 -- the products with the rule at a place, whose names begin at a base
 abbrev pub products_by : List Rule → ℕ → Active → List Pair
-products_by rs base a = option_map_or (λ r. products (inst r base) a.left a.right) (slice_get rs a.rule) []
+products_by rs base a =
+    option_map_or (λ r. products (inst r base) a.left a.right) (slice_get rs a.rule) []
 
 -- how many names a rule has
 abbrev pub count_of : List Rule → ℕ → ℕ
@@ -60,8 +64,8 @@ names_taken rs p = option_map_or (λ a. count_of rs a.rule) (active_pair rs p) 0
 abbrev pub fired_pair : List Rule → ℕ → Pair → List Pair
 fired_pair rs base p = option_map_or (products_by rs base) (active_pair rs p) (p ∷ [])
 
--- The equations with each active one fired: its products stand in its place, and the names of the next one begin behind
--- its own (this project's choice).
+-- The equations with each active one fired: its products stand in its place, and the names of the
+-- next one begin behind its own (this project's choice).
 abbrev pub fired_from : List Rule → ℕ → List Pair → List Pair
 fired_from rs base [] = []
 fired_from rs base (p ∷ ps) = fired_pair rs base p ++ fired_from rs (base + names_taken rs p) ps
@@ -83,7 +87,8 @@ fired rs c = record {
 abbrev pub active_from : List Rule → ℕ → List Pair → List ℕ
 active_from rs i [] = []
 active_from rs i (p ∷ ps) =
-    option_map_or (λ a. i ∷ active_from rs (i + 1) ps) (active_pair rs p) (active_from rs (i + 1) ps)
+    option_map_or (λ a. i ∷ active_from rs (i + 1) ps) (active_pair rs p)
+    (active_from rs (i + 1) ps)
 
 abbrev pub active : List Rule → Configuration → List ℕ
 active rs c = active_from rs 0 c.equations

@@ -12,7 +12,8 @@ use Rattle.ic_round.specs.Works.{PlainFired}
 use Rattle.ic_round.specs.declared.gather_fault.GatherFault.{GatherFault}
 use Rattle.ic_round.specs.declared.gather_fault.GatherFault.TheVariants.{Lost, Stranger, Memory}
 
--- A configuration whose equations have a gap at each awaited place. `next` is the fired configuration's.
+-- A configuration whose equations have a gap at each awaited place. `next` is the fired
+-- configuration's.
 pub record Gapped : Type 0 where
   pub interface : List Tree
   pub equations : List (Option Pair)
@@ -24,7 +25,11 @@ gap_at rs p = option_map_or (λ a. None) (active_pair rs p) (Some p)
 
 -- a configuration with its active equations taken out
 abbrev pub gapped : List Rule → Configuration → Gapped
-gapped rs c = record { interface = c.interface; equations = map (gap_at rs) c.equations; next = (fired rs c).next }
+gapped rs c = record {
+  interface = c.interface;
+  equations = map (gap_at rs) c.equations;
+  next = (fired rs c).next;
+}
 
 -- the places of the gaps of a list, the first of which stands at this place
 abbrev pub gaps_from : ℕ → List (Option Pair) → List ℕ
@@ -47,7 +52,11 @@ filled_from i (Some p ∷ es) fs = p ∷ filled_from (i + 1) es fs
 filled_from i (None ∷ es) fs = products_for i fs ++ filled_from (i + 1) es fs
 
 abbrev pub filled : Gapped → List PlainFired → Configuration
-filled rest fs = record { interface = rest.interface; equations = filled_from 0 rest.equations fs; next = rest.next }
+filled rest fs = record {
+  interface = rest.interface;
+  equations = filled_from 0 rest.equations fs;
+  next = rest.next;
+}
 
 -- an awaited place has no result
 abbrev pub is_lost : List ℕ → List PlainFired → Bool
@@ -55,7 +64,9 @@ is_lost gaps fs = list_any (λ i. results_for i fs == 0) gaps
 
 -- a result is for a place that isn't awaited, or for one that has another result
 abbrev pub is_strange : List ℕ → List PlainFired → Bool
-is_strange gaps fs = list_any (λ f. not (list_any (λ i. f.place == i) gaps) || nat_lt 1 (results_for f.place fs)) fs
+is_strange gaps fs =
+    list_any (λ f. not (list_any (λ i. f.place == i) gaps) || nat_lt 1 (results_for f.place fs))
+    fs
 
 -- the configuration with its gaps filled, or the first refusal in the order of `GatherFault`
 abbrev pub gathered : Gapped → List PlainFired → Result Configuration GatherFault

@@ -5,8 +5,8 @@ use Rattle.ic_rules.specs.Rule.{Rule}
 use Rattle.ic_round.specs.Works.{PlainWork, works_from}
 use Rattle.ic_round.specs.WorkViews.{work_of}
 use Rattle.ic_round.specs.Gathering.{Gapped, gapped}
-use Rattle.ic_round.specs.declared.separation.Plan.{Plan}
-use Rattle.ic_round.specs.declared.growth.RoundFault.{RoundFault}
+use Rattle.ic_round.specs.declared.plans.Plan.{Plan}
+use Rattle.ic_round.specs.declared.round_fault.RoundFault.{RoundFault}
 
 -- works, and a configuration with a gap for each
 pub record PlainPlan : Type 0 where

@@ -1,5 +1,5 @@
--- A test of quiet configurations, which definitions can branch on. It holds exactly where `IsQuiet` does
--- (`laws::quiet_is_no_step`).
+-- A test of quiet configurations, which definitions can branch on. It holds exactly where `IsQuiet`
+-- does (`laws::quiet_is_no_step`).
 use Rattle.std.specs.Prelude.{List, Bool, ◌&&◌, is_none}
 use Rattle.std.specs.List.{list_all}
 use Rattle.ic_term.specs.Configuration.{Configuration}

@@ -1,6 +1,6 @@
 use Rattle.std.specs.Prelude.{◌≡◌, Result, Ok, Err}
-use Rattle.ic_round.specs.declared.growth.RoundFault.{RoundFault}
-use Rattle.ic_round.specs.declared.growth.RoundFault.TheVariants.{Overgrown, NamesOut, Memory}
+use Rattle.ic_round.specs.declared.round_fault.RoundFault.{RoundFault}
+use Rattle.ic_round.specs.declared.round_fault.RoundFault.TheVariants.{Overgrown, NamesOut, Memory}
 
 -- The result is this answer, unless a growth was refused.
 abbrev pub Answers : {T : Type 0} → Result T RoundFault → Result T RoundFault → Type 0

@@ -6,8 +6,8 @@ use Rattle.ic_rules.specs.Rule.{Rule}
 use Rattle.ic_round.specs.Firing.{fired}
 use Rattle.ic_settle.specs.Settling.{settled}
 use Rattle.ic_round.specs.Steps.{Step}
-use Rattle.ic_round.specs.declared.growth.RoundFault.{RoundFault}
-use Rattle.ic_round.specs.declared.growth.RoundFault.TheVariants.{Overgrown, NamesOut}
+use Rattle.ic_round.specs.declared.round_fault.RoundFault.{RoundFault}
+use Rattle.ic_round.specs.declared.round_fault.RoundFault.TheVariants.{Overgrown, NamesOut}
 
 -- A round fires every equation that is active at its start, and then settles.
 abbrev pub round : List Rule → Configuration → Configuration
@@ -27,7 +27,9 @@ fits rs c = is_small rs c && has_names rs c
 
 -- the value, or the first refusal of a round
 abbrev pub unless_unfit : {T : Type 0} → List Rule → Configuration → T → Result T RoundFault
-unless_unfit rs c value = if is_small rs c then (if has_names rs c then Ok value else Err NamesOut) else Err Overgrown
+unless_unfit rs c value =
+    if is_small rs c then (if has_names rs c then Ok value else Err NamesOut)
+    else Err Overgrown
 
 -- the configuration after so many rounds
 abbrev pub iterate : List Rule → ℕ → Configuration → Configuration

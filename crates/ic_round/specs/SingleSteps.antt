@@ -1,4 +1,5 @@
--- The single steps as functions: what a step at a place of the list of equations gives, if there is one.
+-- The single steps as functions: what a step at a place of the list of equations gives, if there is
+-- one.
 use Rattle.std.specs.Prelude.{ℕ, ◌+◌, ◌&&◌, List, ◌++◌, Bool, Option, take, drop, slice_get, nat_le, option_and_then}
 use Rattle.std.specs.List.{flat_map}
 use Rattle.std.specs.Option.{option_map}
@@ -20,7 +21,8 @@ interacted_by rs c place a = record {
 -- interaction at a place (Fernández and Mackie 1999)
 abbrev pub interacted : List Rule → Configuration → ℕ → Option Configuration
 interacted rs c place =
-    option_map (interacted_by rs c place) (option_and_then (active_pair rs) (slice_get c.equations place))
+    option_map (interacted_by rs c place)
+    (option_and_then (active_pair rs) (slice_get c.equations place))
 
 -- the equations without the one at a place
 abbrev pub others : Configuration → ℕ → List Pair
@@ -30,8 +32,8 @@ others c place = take place c.equations ++ drop (place + 1) c.equations
 abbrev pub bound_at : Configuration → ℕ → Binding → Configuration
 bound_at c place b = subst_in b.name b.term (record c { equations = others c place })
 
--- Indirection at a place (Fernández and Mackie 1999). Where both sides would do, the left name is used (this project's
--- choice).
+-- Indirection at a place (Fernández and Mackie 1999). Where both sides would do, the left name is
+-- used (this project's choice).
 abbrev pub indirected : Configuration → ℕ → Option Configuration
 indirected c place =
     option_map (bound_at c place)
@@ -40,7 +42,8 @@ indirected c place =
 -- collect at a place, in the same way
 abbrev pub collected : Configuration → ℕ → Option Configuration
 collected c place =
-    option_map (bound_at c place) (option_and_then (binding (flat_map names c.interface)) (slice_get c.equations place))
+    option_map (bound_at c place)
+    (option_and_then (binding (flat_map names c.interface)) (slice_get c.equations place))
 
 -- the nodes and `next` of a configuration are within the limits
 abbrev pub is_within : Configuration → Bool

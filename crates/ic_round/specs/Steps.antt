@@ -9,7 +9,8 @@ use Rattle.ic_settle.specs.NameSteps.{Binds}
 use Rattle.ic_round.specs.Firing.{Active, active_pair, products_by, count_of}
 
 -- An equation stands at a place, with these before it and those after it.
-pub record StandsAt (es : List Pair) (place : ℕ) (before : List Pair) (p : Pair) (after : List Pair) : Type 0 where
+pub record StandsAt (es : List Pair) (place : ℕ) (before : List Pair) (p : Pair)
+    (after : List Pair) : Type 0 where
   pub counted : length before ≡ place
   pub parts : es ≡ before ++ p ∷ after
 
@@ -27,8 +28,8 @@ pub record Interaction (rs : List Rule) (c d : Configuration) (place : ℕ) : Ty
     next = c.next + count_of rs active.rule;
   }
 
--- Indirection: an equation of which one side is a name that occurs in another equation is removed, and its other side
--- put for that name.
+-- Indirection: an equation of which one side is a name that occurs in another equation is removed,
+-- and its other side put for that name.
 pub record Indirection (c d : Configuration) (place : ℕ) : Type 0 where
   pub before : List Pair
   pub equation : Pair

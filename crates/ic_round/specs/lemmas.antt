@@ -1,5 +1,5 @@
--- Lemmas on the definitions of specs/, for proofs of this crate and of those above. They are proved, so nothing in
--- them is to be believed.
+-- Lemmas on the definitions of specs/, for proofs of this crate and of those above. They are
+-- proved, so nothing in them is to be believed.
 pub mod NameStepLemmas
 pub mod FreshNames
 pub mod ActiveRules
@@ -11,3 +11,5 @@ pub mod SettledLemmas
 pub mod QuietLemmas
 pub mod RoundLemmas
 pub mod StepsLemmas
+pub mod ChainLemmas
+pub mod ActivityLemmas

@@ -10,9 +10,11 @@ use crate::work::Fired;
 use ic_term::Config;
 use std::alloc::Global;
 
-/// The configuration that a rest is once each awaited place has its products. The results may come in any order.
+/// The configuration that a rest is once each awaited place has its products. The results may come
+/// in any order.
 pub fn gather(alloc: Global, rest: Rest, results: Vec<Fired>) -> Result<Config, GatherFault>
-    requires { (config : Configuration) → gathered rest (map fired_of results.items) ≡ Ok config → IsConfiguration config }
+    requires { (config : Configuration)
+        → gathered rest (map fired_of results.items) ≡ Ok config → IsConfiguration config }
     ensures { Answers result (gathered rest (map fired_of results.items)) }
 {
     let (interface, equations, next) = rest.into_parts();

@@ -6,31 +6,10 @@ ghost use Rattle.ic_term.specs.Symbol.{is_over, is_pair_over};
 ghost use Rattle.ic_term.specs.Configuration.{configuration_nodes};
 ghost use Rattle.ic_rules.specs.RuleSet.{IsRuleSet};
 ghost use Rattle.ic_round.specs.Firing.{rule_of_sides, names_taken, fired};
-ghost use Rattle.ic_round.specs.Sizes.{fired_nodes};
-ghost use Rattle.ic_round.specs.declared.growth.RoundFault.TheVariants.{Memory};
+ghost use Rattle.ic_round.specs.inner.Sizes.{fired_nodes};
 
 use ic_rules::RuleSet;
 use ic_term::{Config, Equation, Term, nodes_of_terms};
-use std::alloc::AllocError;
-
-/// Why a round isn't made, in the order in which it is tried.
-#[derive(Clone, Copy, Debug, PartialEq, Eq)]
-pub enum RoundFault {
-    /// The fired configuration has more than 8,192 nodes.
-    Overgrown,
-    /// The names of the fired configuration pass 2^62.
-    NamesOut,
-    /// A growth was refused.
-    Memory,
-}
-
-impl From<AllocError> for RoundFault {
-    ghost from_gives = { λ _ fault. fault ≡ Memory };
-
-    fn from(_error: AllocError) -> RoundFault {
-        RoundFault::Memory
-    }
-}
 
 /// Nodes and names, each at most 2^64 - 1, which stands for all above.
 #[derive(Clone, Copy, Debug)]
@@ -41,7 +20,8 @@ pub(crate) struct Size {
 
 /// The place of the rule of an equation's sides, and whether they are turned round in it.
 pub(crate) fn rule_of(rules: &RuleSet, equation: &Equation) -> Option<(usize, bool)>
-    ensures rule { result ≡ rule_of_sides rules.now.rules (tree equation.now.left) (tree equation.now.right) }
+    ensures rule { result
+        ≡ rule_of_sides rules.now.rules (tree equation.now.left) (tree equation.now.right) }
     ensures sound { IfSome result (λ _. IsRuleSet rules.now) }
 {
     match (&equation.left, &equation.right) {
@@ -73,11 +53,12 @@ pub(crate) fn fired_size_of(rules: &RuleSet, equation: &Equation) -> Size
     }
 }
 
-/// The nodes of a configuration once its active equations have fired, and its `next` then. Takes time linear in the
-/// nodes and in those of the rules that fire.
+/// The nodes of a configuration once its active equations have fired, and its `next` then. Takes
+/// time linear in the nodes and in those of the rules that fire.
 pub(crate) fn fired_size(rules: &RuleSet, config: &Config) -> Size
     requires { IsTrue (is_over rules.now.symbols config.now) }
-    ensures nodes { result.nodes ≡ min (configuration_nodes (fired rules.now.rules config.now)) u64.MAX }
+    ensures nodes { result.nodes
+        ≡ min (configuration_nodes (fired rules.now.rules config.now)) u64.MAX }
     ensures names { result.names ≡ min (fired rules.now.rules config.now).next u64.MAX }
 {
     let mut nodes = nodes_of_terms(config.interface());

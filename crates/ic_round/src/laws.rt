@@ -1,25 +1,32 @@
 //! Laws of the definitions that the contracts of this crate cite.
 
-ghost use Rattle.std.specs.Prelude.{◌≡◌, ◌↔◌, ℕ, ◌<◌, ◌≤◌, List, Ok, map, IsPermutation, IsTrue};
-ghost use Rattle.std.specs.List.{AllByRecursion};
+ghost use Rattle.std.specs.Prelude.{◌≡◌, ◌↔◌, ℕ, ◌<◌, ◌≤◌, Bool, List, None, Some, Ok, is_some, map, IsPermutation, IsTrue};
+ghost use Rattle.std.specs.List.{AllByRecursion, list_any};
+ghost use Rattle.ic_term.specs.Tree.{Tree, name, agent, Trees};
 ghost use Rattle.ic_term.specs.Symbol.{Symbol, is_over};
 ghost use Rattle.ic_term.specs.Configuration.{Configuration, IsConfiguration, configuration_names, occurrences};
 ghost use Rattle.ic_rules.specs.Rule.{Rule};
-ghost use Rattle.ic_rules.specs.RuleSet.{Rules, IsRuleSet};
+ghost use Rattle.ic_rules.specs.RuleSet.{Rules, IsRuleSet, has_pair};
 ghost use Rattle.ic_settle.specs.Settling.{settled};
 ghost use Rattle.ic_round.specs.Completing.{Completes};
-ghost use Rattle.ic_round.specs.Firing.{fired};
+ghost use Rattle.ic_round.specs.Firing.{Active, active_pair, fired};
 ghost use Rattle.ic_round.specs.Gathering.{gapped, gathered};
 ghost use Rattle.ic_round.specs.Plans.{PlainPlan, planned};
 ghost use Rattle.ic_round.specs.Quiet.{is_quiet};
-ghost use Rattle.ic_round.specs.Rounds.{round, fits, unless_unfit, IsQuiet};
+ghost use Rattle.ic_round.specs.Rounds.{round, iterate, fits, unless_unfit, IsQuiet};
+ghost use Rattle.ic_round.specs.Steps.{Step, Steps};
+ghost use Rattle.ic_round.specs.Turning.{IsTurnedRight};
 ghost use Rattle.ic_round.specs.Works.{PlainFired, result_of, works_from};
 
-/// In a configuration whose active equations have fired, each name is below `next` and occurs at most twice.
+/// In a configuration whose active equations have fired, each name is below `next` and occurs at
+/// most twice.
 pub fn firing_keeps_names()
-    ensures below { (rs : Rules) (c : Configuration) → IsRuleSet rs → IsTrue (is_over rs.symbols c) → IsConfiguration c
-        → AllByRecursion (λ n. n < (fired rs.rules c).next) (configuration_names (fired rs.rules c)) }
-    ensures twice { (rs : Rules) (c : Configuration) → IsRuleSet rs → IsTrue (is_over rs.symbols c) → IsConfiguration c
+    ensures below { (rs : Rules) (c : Configuration)
+        → IsRuleSet rs → IsTrue (is_over rs.symbols c) → IsConfiguration c
+        → AllByRecursion (λ n. n < (fired rs.rules c).next)
+        (configuration_names (fired rs.rules c)) }
+    ensures twice { (rs : Rules) (c : Configuration)
+        → IsRuleSet rs → IsTrue (is_over rs.symbols c) → IsConfiguration c
         → (n : ℕ) → occurrences n (configuration_names (fired rs.rules c)) ≤ 2 }
 {}
 
@@ -58,4 +65,38 @@ pub fn a_plan_leads_to_the_round()
     ensures { (rs : List Rule) (c : Configuration) (plan : PlainPlan) (fs : List PlainFired)
         → Ok plan ≡ unless_unfit rs c (planned rs c) → IsConfiguration (fired rs c)
         → IsPermutation (map (result_of rs) plan.works) fs → Completes rs c plan.rest fs }
+{}
+
+/// A chain of steps never lowers `next` and stays over the symbols; and chains are only what single
+/// steps make: they are in each relation that one step more doesn't leave.
+pub fn chains_are_steps()
+    ensures next { (rs : List Rule) (c d : Configuration) → Steps rs c d → c.next ≤ d.next }
+    ensures over { (rs : Rules) (c d : Configuration) → IsRuleSet rs
+        → IsTrue (is_over rs.symbols c) → Steps rs.rules c d → IsTrue (is_over rs.symbols d) }
+    ensures least { (rs : List Rule) (relates : Configuration → Configuration → Bool)
+        → ((c : Configuration) → IsTrue (relates c c))
+        → ((c d e : Configuration) → IsTrue (relates c d) → Step rs d e → IsTrue (relates c e))
+        → (c d : Configuration) → Steps rs c d → IsTrue (relates c d) }
+{}
+
+/// A round is a chain of steps, and so is each number of rounds, which begins with none.
+pub fn rounds_are_steps()
+    ensures round { (rs : List Rule) (c : Configuration) → Steps rs c (round rs c) }
+    ensures none { (rs : List Rule) (c : Configuration) → iterate rs 0 c ≡ c }
+    ensures iterate { (rs : List Rule) (n : ℕ) (c : Configuration) → Steps rs c (iterate rs n c) }
+{}
+
+/// An equation of two agents is active exactly where the rules hold one of its two symbols, and one
+/// with a name as a side never is. It is turned round only where the rule doesn't stand as it does.
+pub fn active_equations_have_a_rule()
+    ensures agents { (rs : List Rule) (a b : ℕ) (ts us : Trees)
+        → is_some (active_pair rs (record { left = agent a ts; right = agent b us }))
+        ≡ list_any (has_pair a b) rs }
+    ensures left_name { (rs : List Rule) (n : ℕ) (t : Tree)
+        → active_pair rs (record { left = name n; right = t }) ≡ None }
+    ensures right_name { (rs : List Rule) (t : Tree) (n : ℕ)
+        → active_pair rs (record { left = t; right = name n }) ≡ None }
+    ensures turned { (rs : List Rule) (a b : ℕ) (ts us : Trees) (found : Active)
+        → active_pair rs (record { left = agent a ts; right = agent b us }) ≡ Some found
+        → IsTurnedRight rs a b ts us found }
 {}

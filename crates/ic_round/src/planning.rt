@@ -10,20 +10,25 @@ ghost use Rattle.ic_round.specs.Plans.{planned, shown};
 ghost use Rattle.ic_round.specs.Rounds.{unless_unfit};
 ghost use Rattle.ic_round.specs.RoundAnswers.{Answers};
 
-use crate::growth::{RoundFault, fired_size};
+use crate::growth::fired_size;
+use crate::plans::Plan;
 use crate::rest::Rest;
-use crate::separation::{Plan, separate};
+use crate::round_fault::RoundFault;
+use crate::separation::separate;
 use ic_rules::RuleSet;
 use ic_term::{Config, MAX_NEXT, MAX_NODES};
 use std::alloc::Global;
 
-/// The works of a round of the configuration, and what is left of it. The cells of active equations are moved into
-/// their works.
+/// The works of a round of the configuration, and what is left of it. The cells of active equations
+/// are moved into their works.
 pub fn plan(alloc: Global, rules: &RuleSet, config: Config) -> Result<Plan, RoundFault>
     requires { IsTrue (is_over rules.now.symbols config) }
-    ensures plan { Answers (shown result) (unless_unfit rules.now.rules config (planned rules.now.rules config)) }
-    ensures places { IfOk result (λ plan. map (λ w. w.place) plan.works.items ≡ active rules.now.rules config) }
-    ensures bases { IfOk result (λ plan. map (λ w. w.base) plan.works.items ≡ bases rules.now.rules config) }
+    ensures plan { Answers (shown result)
+        (unless_unfit rules.now.rules config (planned rules.now.rules config)) }
+    ensures places { IfOk result (λ plan.
+        map (λ w. w.place) plan.works.items ≡ active rules.now.rules config) }
+    ensures bases { IfOk result (λ plan.
+        map (λ w. w.base) plan.works.items ≡ bases rules.now.rules config) }
     ensures suit { IfOk result (λ plan.
         AllByRecursion (λ w. IsTrue (suits rules.now.rules w)) (map work_of plan.works.items)) }
     ensures fired { OnOk result (IsConfiguration (fired rules.now.rules config)) }

@@ -18,15 +18,22 @@ impl Model for Rest {
 
     ghost coded = { coded_gapped };
 
-    ghost view = { λ r. record { interface = map tree r.interface.items; equations = map (option_map pair) r.equations.items; next = r.next } };
+    ghost view = { λ r. record {
+        interface = map tree r.interface.items;
+        equations = map (option_map pair) r.equations.items;
+        next = r.next } };
 }
 
 impl Rest {
     ghost use Rattle.std.specs.Prelude.{◌≡◌, map, option_map};
     ghost use Rattle.ic_term.specs.Term.{tree, pair};
 
-    pub(crate) fn new(interface: Vec<Term>, equations: Vec<Option<Equation>>, next: u64) -> Rest
-        ensures { result ≡ record { interface = map tree interface.items; equations = map (option_map pair) equations.items; next = next } }
+    /// A rest of these parts, as a decoder makes it.
+    pub fn new(interface: Vec<Term>, equations: Vec<Option<Equation>>, next: u64) -> Rest
+        ensures { result ≡ record {
+            interface = map tree interface.items;
+            equations = map (option_map pair) equations.items;
+            next = next } }
     {
         Rest {
             interface,

@@ -1,34 +1,53 @@
-ghost use Rattle.std.specs.Prelude.{◌≡◌, map, IsTrue, IfOk};
+ghost use Rattle.std.specs.Prelude.{◌≡◌, ℕ, ◌+◌, map, IsTrue, IfOk};
 ghost use Rattle.std.specs.List.{AllByRecursion};
 ghost use Rattle.ic_term.specs.Symbol.{is_over};
-ghost use Rattle.ic_round.specs.Rounds.{fits, unless_unfit};
+ghost use Rattle.ic_term.specs.Configuration.{Configuration};
+ghost use Rattle.ic_round.specs.Steps.{Steps};
+ghost use Rattle.ic_round.specs.Rounds.{round, iterate, unless_unfit};
+ghost use Rattle.ic_round.specs.RoundAnswers.{Answers};
 ghost use Rattle.ic_round.specs.Works.{suits, result_of};
 ghost use Rattle.ic_round.specs.WorkViews.{work_of, fired_of};
 
+use crate::gather_fault::GatherFault;
+use crate::gathering::gather;
 use crate::firing::fire;
-use crate::growth::fired_size;
+use crate::planning::plan;
+use crate::round_fault::RoundFault;
+use crate::settle;
 use crate::work::{Fired, Work};
 use ic_rules::RuleSet;
-use ic_term::{Config, MAX_NEXT, MAX_NODES};
+use ic_term::Config;
 use std::alloc::{AllocError, Global};
 
-/// Whether the configuration stays within the limits when all its active equations fire.
-pub fn fits(rules: &RuleSet, config: &Config) -> bool
-    requires { IsTrue (is_over rules.now.symbols config.now) }
-    ensures { result ≡ fits rules.now.rules config.now }
+/// The configuration after one round, made by the calling thread alone.
+pub fn round(alloc: Global, rules: &RuleSet, config: Config) -> Result<Config, RoundFault>
+    requires { IsTrue (is_over rules.now.symbols config) }
+    ensures round { Answers result
+        (unless_unfit rules.now.rules config (round rules.now.rules config)) }
+    ensures reached { IfOk result (λ after. Steps rules.now.rules config after) }
+    ensures over { IfOk result (λ after. IsTrue (is_over rules.now.symbols after)) }
+    ensures counted { IfOk result (λ after. (start : Configuration) (n : ℕ)
+        → config ≡ iterate rules.now.rules n start
+        → after ≡ iterate rules.now.rules (n + 1) start) }
 {
-    let size = fired_size(rules, config);
-    size.nodes <= MAX_NODES && size.names <= MAX_NEXT
+    let plan = plan(alloc, rules, config)?;
+    let results = fire_all(alloc, rules, plan.works)?;
+    match gather(alloc, plan.rest, results) {
+        Ok(fired) => Ok(settle(fired)),
+        Err(GatherFault::Memory) => Err(RoundFault::Memory),
+        Err(_) => unreachable!(),
+    }
 }
 
 /// The results of works, in their order.
-pub(crate) fn fire_all(
+fn fire_all(
     alloc: Global,
     rules: &RuleSet,
     works: Vec<Work>,
 ) -> Result<Vec<Fired>, AllocError>
     requires { AllByRecursion (λ w. IsTrue (suits rules.now.rules w)) (map work_of works.items) }
-    ensures { IfOk result (λ results. map fired_of results.items ≡ map (result_of rules.now.rules) (map work_of works.items)) }
+    ensures { IfOk result (λ results. map fired_of results.items
+        ≡ map (result_of rules.now.rules) (map work_of works.items)) }
 {
     let mut results = Vec::with_capacity(alloc, works.len())?;
     for work in works {

@@ -6,23 +6,15 @@ ghost use Rattle.ic_round.specs.Firing.{next_behind};
 ghost use Rattle.ic_round.specs.Works.{works_from};
 ghost use Rattle.ic_round.specs.WorkViews.{work_of};
 ghost use Rattle.ic_round.specs.Gathering.{gap_at};
-ghost use Rattle.ic_round.specs.Orienting.{IsOriented};
+ghost use Rattle.ic_round.specs.inner.Orienting.{IsOriented};
 
-use crate::rest::Rest;
 use crate::work::Work;
 use ic_rules::RuleSet;
 use ic_term::{Cell, Equation, Term};
 use std::alloc::{AllocError, Global};
 
-/// The works of a round, in the order of their places, and what is left of the configuration.
-#[derive(Debug, Drop)]
-pub struct Plan {
-    pub works: Vec<Work>,
-    pub rest: Rest,
-}
-
-/// An equation: active, with the place of its rule and its sides turned so that the left symbol is the rule's left
-/// symbol, or not active.
+/// An equation: active, with the place of its rule and its sides turned so that the left symbol is
+/// the rule's left symbol, or not active.
 #[derive(Debug, Drop)]
 pub(crate) enum Oriented {
     Active {
@@ -54,7 +46,8 @@ pub(crate) fn orient(rules: &RuleSet, equation: Equation) -> Oriented
     }
 }
 
-/// The works of a list of equations, the equations with a gap for each work, and the next number behind their names.
+/// The works of a list of equations, the equations with a gap for each work, and the next number
+/// behind their names.
 #[derive(Drop)]
 pub(crate) struct Separated {
     pub works: Vec<Work>,
@@ -70,9 +63,12 @@ pub(crate) fn separate(
     next: u64,
 ) -> Result<Separated, AllocError>
     requires { next_behind rules.now.rules next (map pair equations.items) ≤ MAX_NEXT }
-    ensures works { IfOk result (λ s. map work_of s.works.items ≡ works_from rules.now.rules 0 next (map pair equations.items)) }
-    ensures equations { IfOk result (λ s. map (option_map pair) s.equations.items ≡ map (gap_at rules.now.rules) (map pair equations.items)) }
-    ensures next { IfOk result (λ s. s.next ≡ next_behind rules.now.rules next (map pair equations.items)) }
+    ensures works { IfOk result (λ s. map work_of s.works.items
+        ≡ works_from rules.now.rules 0 next (map pair equations.items)) }
+    ensures equations { IfOk result (λ s. map (option_map pair) s.equations.items
+        ≡ map (gap_at rules.now.rules) (map pair equations.items)) }
+    ensures next { IfOk result (λ s. s.next
+        ≡ next_behind rules.now.rules next (map pair equations.items)) }
     ensures sound { IsRuleSet rules.now }
 {
     let known = rules.rules();

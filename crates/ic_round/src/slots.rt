@@ -1,6 +1,6 @@
 ghost use Rattle.std.specs.Prelude.{◌≡◌, ◌++◌, [], map, option_map, IfOk, is_none};
 ghost use Rattle.ic_term.specs.Term.{pair};
-ghost use Rattle.ic_round.specs.Slots.{slot_of, slots_from, put_in, joined};
+ghost use Rattle.ic_round.specs.inner.Slots.{slot_of, slots_from, put_in, joined};
 
 use ic_term::Equation;
 use std::alloc::{AllocError, Global};
@@ -14,7 +14,7 @@ pub(crate) enum Slot {
 }
 
 impl Slot {
-    ghost use Rattle.ic_round.specs.Slots.{slot_of};
+    ghost use Rattle.ic_round.specs.inner.Slots.{slot_of};
 
     fn is_awaited(&self) -> bool
         ensures { result ≡ is_none (slot_of self.now) }
@@ -31,7 +31,8 @@ pub(crate) fn slots_of(
     alloc: Global,
     equations: Vec<Option<Equation>>,
 ) -> Result<Vec<Slot>, AllocError>
-    ensures { IfOk result (λ slots. map slot_of slots.items ≡ slots_from 0 (map (option_map pair) equations.items) []) }
+    ensures { IfOk result (λ slots. map slot_of slots.items
+        ≡ slots_from 0 (map (option_map pair) equations.items) []) }
 {
     let mut slots = Vec::with_capacity(alloc, equations.len())?;
     for equation in equations {
@@ -43,9 +44,11 @@ pub(crate) fn slots_of(
     Ok(slots)
 }
 
-/// Puts products in their place, and tells whether it awaits them. Otherwise the place stays as it is.
+/// Puts products in their place, and tells whether it awaits them. Otherwise the place stays as it
+/// is.
 pub(crate) fn put(slots: &mut [Slot], place: u64, products: Vec<Equation>) -> bool
-    ensures { put_in place (map pair products.items) (map slot_of slots.old) ≡ (map slot_of slots.new, result) }
+    ensures { put_in place (map pair products.items) (map slot_of slots.old)
+        ≡ (map slot_of slots.new, result) }
 {
     let place = place as usize;
     if place >= slots.len() {
@@ -60,7 +63,8 @@ pub(crate) fn put(slots: &mut [Slot], place: u64, products: Vec<Equation>) -> bo
 
 /// What stands in all places, in their order, if none is awaited.
 pub(crate) fn join(alloc: Global, slots: Vec<Slot>) -> Result<Option<Vec<Equation>>, AllocError>
-    ensures { IfOk result (λ all. option_map (λ es. map pair es.items) all ≡ joined (map slot_of slots.items)) }
+    ensures { IfOk result (λ all. option_map (λ es. map pair es.items) all
+        ≡ joined (map slot_of slots.items)) }
 {
     let mut equations = Vec::new(alloc);
     for slot in slots {

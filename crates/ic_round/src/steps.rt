@@ -7,7 +7,7 @@ ghost use Rattle.ic_round.specs.Firing.{fired_pair};
 ghost use Rattle.ic_round.specs.Steps.{Interaction, Indirection, Collect};
 ghost use Rattle.ic_round.specs.SingleSteps.{interacted, indirected, collected};
 ghost use Rattle.ic_round.specs.StepAnswers.{Answers, Outgrows, stepped, stepped_within};
-ghost use Rattle.ic_round.specs.Replacing.{fired_at, IsReady, Applies, applied_at};
+ghost use Rattle.ic_round.specs.inner.Replacing.{fired_at, IsReady, Applies, applied_at};
 ghost use Rattle.ic_round.specs.declared.steps.StepFault.TheVariants.{NotThere, Limit, Memory};
 
 use crate::firing::fire;
@@ -24,7 +24,8 @@ use std::alloc::{AllocError, Global};
 pub enum StepFault {
     /// There is no such step at the place.
     NotThere,
-    /// After an interaction the configuration has more than 8,192 nodes, or its `next` is above 2^62.
+    /// After an interaction the configuration has more than 8,192 nodes, or its `next` is above
+    /// 2^62.
     Limit,
     /// A growth was refused.
     Memory,
@@ -79,8 +80,10 @@ fn fire_at(
     base: u64,
 ) -> Result<Vec<Equation>, AllocError>
     requires there { place < length equations.items }
-    requires ready { IfSome (slice_get (map pair equations.items) place) (IsReady rules.now.rules base place) }
-    ensures { IfOk result (λ all. map pair all.items ≡ fired_at rules.now.rules base (map pair equations.items) place) }
+    requires ready { IfSome (slice_get (map pair equations.items) place)
+        (IsReady rules.now.rules base place) }
+    ensures { IfOk result (λ all. map pair all.items
+        ≡ fired_at rules.now.rules base (map pair equations.items) place) }
 {
     let mut after = equations.split_off(place)?;
     let mut products = products_of(alloc, rules, after.remove(0), place, base)?;
@@ -89,7 +92,8 @@ fn fire_at(
     Ok(equations)
 }
 
-/// The products of an active equation, their fresh names from the base on, or else the equation itself.
+/// The products of an active equation, their fresh names from the base on, or else the equation
+/// itself.
 fn products_of(
     alloc: Global,
     rules: &RuleSet,
@@ -98,7 +102,8 @@ fn products_of(
     base: u64,
 ) -> Result<Vec<Equation>, AllocError>
     requires { IsReady rules.now.rules base place (pair equation) }
-    ensures { IfOk result (λ all. map pair all.items ≡ fired_pair rules.now.rules base (pair equation)) }
+    ensures { IfOk result (λ all. map pair all.items
+        ≡ fired_pair rules.now.rules base (pair equation)) }
 {
     match orient(rules, equation) {
         Oriented::Active { rule, left, right } => {
@@ -115,11 +120,13 @@ fn products_of(
     }
 }
 
-/// The configuration after an indirection at a place. Where both sides would do, the left name is used.
+/// The configuration after an indirection at a place. Where both sides would do, the left name is
+/// used.
 pub fn indirect_at(alloc: Global, config: &Config, place: usize) -> Result<Config, StepFault>
     ensures exact { Answers result (stepped (indirected config.now place)) }
     ensures step { IfOk result (λ after. Indirection config.now after place) }
-    ensures not_there { result ≡ Err NotThere → (after : Configuration) → ¬ Indirection config.now after place }
+    ensures not_there { result ≡ Err NotThere
+        → (after : Configuration) → ¬ Indirection config.now after place }
     ensures over { IfOk result (λ after. (symbols : List Symbol)
         → IsTrue (is_over symbols config.now) → IsTrue (is_over symbols after)) }
 {
@@ -137,7 +144,8 @@ pub fn indirect_at(alloc: Global, config: &Config, place: usize) -> Result<Confi
 pub fn collect_at(alloc: Global, config: &Config, place: usize) -> Result<Config, StepFault>
     ensures exact { Answers result (stepped (collected config.now place)) }
     ensures step { IfOk result (λ after. Collect config.now after place) }
-    ensures not_there { result ≡ Err NotThere → (after : Configuration) → ¬ Collect config.now after place }
+    ensures not_there { result ≡ Err NotThere
+        → (after : Configuration) → ¬ Collect config.now after place }
     ensures over { IfOk result (λ after. (symbols : List Symbol)
         → IsTrue (is_over symbols config.now) → IsTrue (is_over symbols after)) }
 {
@@ -150,12 +158,14 @@ pub fn collect_at(alloc: Global, config: &Config, place: usize) -> Result<Config
     }
 }
 
-/// The configuration without the equation at a place, its other side put for the name of its applicable side.
+/// The configuration without the equation at a place, its other side put for the name of its
+/// applicable side.
 fn apply_at(config: Config, place: usize, applicable: Applicable) -> Config
     requires { Applies config place applicable }
     ensures step { (p : Pair) → slice_get config.equations place ≡ Some p
         → result ≡ applied_at config place applicable p }
-    ensures over { (symbols : List Symbol) → IsTrue (is_over symbols config) → IsTrue (is_over symbols result) }
+    ensures over { (symbols : List Symbol)
+        → IsTrue (is_over symbols config) → IsTrue (is_over symbols result) }
 {
     let (mut interface, mut equations, next) = config.into_parts();
     let equation = equations.remove(place);

@@ -8,8 +8,9 @@ use ic_rules::{Rule, RuleSet};
 use ic_term::{Cell, Equation, MAX_NEXT, Term};
 use std::alloc::{AllocError, Global};
 
-/// The firing of one active equation: its place in the list of equations, the place of its rule in the rule set, the
-/// base of its fresh names, and its sides, turned so that the left symbol is the rule's left symbol.
+/// The firing of one active equation: its place in the list of equations, the place of its rule in
+/// the rule set, the base of its fresh names, and its sides, turned so that the left symbol is the
+/// rule's left symbol.
 #[derive(Debug, Drop)]
 pub struct Work {
     pub place: u64,
@@ -30,7 +31,8 @@ impl Work {
     ghost use Rattle.ic_round.specs.Works.{suits};
     ghost use Rattle.ic_round.specs.WorkViews.{work_of};
 
-    /// Whether the rule is there, the sides have its symbols and arities, and the fresh names stay within the limit.
+    /// Whether the rule is there, the sides have its symbols and arities, and the fresh names stay
+    /// within the limit.
     pub fn suits(&self, rules: &RuleSet) -> bool
         ensures { result ≡ suits rules.now.rules (work_of self.now) }
     {
@@ -60,7 +62,8 @@ pub(crate) fn append_products(
     products: &mut Vec<Equation>,
 ) -> Result<(), AllocError>
     ensures { OnOk result (map pair products.new.items ≡ map pair products.old.items
-        ++ against (map tree arguments.items) (map (renamed (λ k. min (base + k) u64.MAX)) (map tree terms.now))) }
+        ++ against (map tree arguments.items)
+        (map (renamed (λ k. min (base + k) u64.MAX)) (map tree terms.now))) }
 {
     let mut arguments = arguments.into_iter();
     for term in terms {
@@ -78,7 +81,8 @@ pub(crate) fn append_products(
 /// A copy of the term with its names made higher by the base.
 #[cycle(raise)]
 fn raised_term(alloc: Global, term: &Term, base: u64) -> Result<Term, AllocError>
-    ensures { IfOk result (λ copy. tree copy ≡ renamed (λ k. min (base + k) u64.MAX) (tree term.now)) }
+    ensures { IfOk result (λ copy. tree copy
+        ≡ renamed (λ k. min (base + k) u64.MAX) (tree term.now)) }
 {
     match term {
         Term::Name(name) => Ok(Term::Name(base.saturating_add(*name))),
@@ -91,7 +95,8 @@ fn raised_term(alloc: Global, term: &Term, base: u64) -> Result<Term, AllocError
 
 #[cycle(raise)]
 fn raised_cell(alloc: Global, cell: &Cell, base: u64) -> Result<Cell, AllocError>
-    ensures { IfOk result (λ copy. cell_tree copy ≡ renamed (λ k. min (base + k) u64.MAX) (cell_tree cell.now)) }
+    ensures { IfOk result (λ copy. cell_tree copy
+        ≡ renamed (λ k. min (base + k) u64.MAX) (cell_tree cell.now)) }
 {
     let mut args = Vec::with_capacity(alloc, cell.args.len())?;
     for term in &cell.args {

@@ -16,6 +16,8 @@ mod reading;
 #[cfg(test)]
 mod refused;
 #[cfg(test)]
+mod round_refusals;
+#[cfg(test)]
 mod rounds;
 #[cfg(test)]
 mod rule_sets;

@@ -3,8 +3,8 @@ use Rattle.std.specs.Prelude.{ℕ, List, [], ◌∷◌, ◌++◌, codes}
 use Rattle.ic_text.specs.Text.{fault_text}
 use Rattle.ic_text.specs.declared.fault.TextFault.{TextFault}
 use Rattle.ic_text.specs.declared.fault.TextFault.TheVariants as text
-use Rattle.ic_round.specs.declared.growth.RoundFault.{RoundFault}
-use Rattle.ic_round.specs.declared.growth.RoundFault.TheVariants as round
+use Rattle.ic_round.specs.declared.round_fault.RoundFault.{RoundFault}
+use Rattle.ic_round.specs.declared.round_fault.RoundFault.TheVariants as round
 use Rattle.ic_serve.specs.declared.fault.StreamFault.{StreamFault}
 use Rattle.ic_serve.specs.declared.fault.StreamFault.TheVariants.{Read, Text, Round, Memory, Write}
 

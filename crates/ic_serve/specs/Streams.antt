@@ -11,7 +11,7 @@ use Rattle.ic_text.specs.declared.limits.TheConstants.{MAX_TEXT}
 use Rattle.ic_text.specs.declared.fault.TextFault.TheVariants as text
 use Rattle.ic_round.specs.Settling.{settled}
 use Rattle.ic_round.specs.Rounds.{round, fits, unless_unfit}
-use Rattle.ic_round.specs.declared.growth.RoundFault.{RoundFault}
+use Rattle.ic_round.specs.declared.round_fault.RoundFault.{RoundFault}
 use Rattle.ic_serve.specs.declared.fault.StreamFault.{StreamFault}
 use Rattle.ic_serve.specs.declared.fault.StreamFault.TheVariants.{Read, Text, Round, Memory, Write}
 

@@ -1,4 +1,5 @@
--- The rule of an active equation has its symbols and arities, so firing it changes the nodes by those of the rule.
+-- The rule of an active equation has its symbols and arities, so firing it changes the nodes by
+-- those of the rule.
 use Rattle.std.proofs.Common.{◌≡◌, ℕ, zero, suc, ◌+◌, ◌≤◌, ◌<◌, ◌==◌, List, [], ◌∷◌, Bool, true, false, Option, None, Some, slice_get, length, map, sum_by, refl, sym, ap, ◌∙◌, arith, IfSome, subst as transport}
 use Rattle.std.proofs.lemmas.List.{length-map}
 use Rattle.std.proofs.lemmas.List.Sums.{sum_by-append, sum_by-cons}
@@ -16,7 +17,7 @@ use Rattle.ic_rules.specs.FindLaws.{rule_for-found}
 use Rattle.ic_round.specs.Instance.{inst}
 use Rattle.ic_round.specs.Firing.{Active, oriented, rule_of_sides, active_pair, arguments, against, products, products_by, count_of, names_taken, fired_pair, fired_from, next_behind}
 use Rattle.ic_round.specs.Works.{is_agent_of}
-use Rattle.ic_round.specs.Sizes.{fired_nodes}
+use Rattle.ic_round.specs.inner.Sizes.{fired_nodes}
 use Rattle.ic_settle.specs.SubstitutionLaws.{and_parts, and_both}
 
 -- ---- arities

@@ -220,7 +220,8 @@ ok_parts true strange e d h = cc
 ok_parts false true e d h = cc
 ok_parts false false e d h = (refl, cc)
 
--- where results of the works, whichever they are, fill all gaps, they fill them to the fired configuration
+-- where results of the works, whichever they are, fill all gaps, they fill them to the fired
+-- configuration
 pub any_results : (rs : List Rule) (c : Configuration) (fs : List PlainFired) (d : Configuration) → All (Contains (map (result_of rs) (works_from rs 0 c.next c.equations))) fs
     → gathered (gapped rs c) fs ≡ Ok d → d ≡ fired rs c
 any_results rs c fs d known full =

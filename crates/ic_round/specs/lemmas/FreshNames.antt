@@ -1,4 +1,5 @@
--- Lists of names: those of a rule's copy occur at most twice, from its base on and below its base and name count.
+-- Lists of names: those of a rule's copy occur at most twice, from its base on and below its base
+-- and name count.
 use Rattle.std.proofs.Common.{◌≡◌, ℕ, zero, suc, ◌&&◌, ◌+◌, ◌-◌, ◌≤◌, ◌<◌, ◌==◌, List, [], ◌∷◌, Bool, true, false, ◌||◌, cond, map, refl, sym, ap, ◌∙◌, arith, inl, inr, subst}
 use Rattle.std.proofs.lemmas.Bool.{cases_lt}
 use Rattle.std.specs.Cmp.{unsigned_Decides}

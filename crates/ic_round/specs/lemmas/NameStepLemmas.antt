@@ -7,7 +7,7 @@ use Rattle.ic_term.specs.Configuration.{Configuration}
 use Rattle.ic_rules.specs.Rule.{Rule}
 use Rattle.ic_settle.specs.Settling.{occurs}
 use Rattle.ic_settle.specs.NameSteps.{NameStep}
-use Rattle.ic_round.specs.Steps.{Step, indirection, collect}
+use Rattle.ic_round.specs.Steps.{Step, indirection, collect, Indirection, Collect}
 
 pub in_either : (x : ℕ) (ms ns : List ℕ) → occurs x ns ≡ true → occurs x (ms ++ ns) ≡ true
 in_either x ms ns e = list_any-append (λ n. n == x) ms ns ∙ ap (λ b. occurs x ms || b) e ∙ or_true (occurs x ms)
@@ -49,3 +49,28 @@ name_step rs c d s =
         result = s.result;
       })
     ]
+
+-- and the other way round
+pub indirection_step : (c d : Configuration) (place : ℕ) → Indirection c d place → NameStep c d
+indirection_step c d place i = record {
+  before = i.before;
+  equation = i.equation;
+  after = i.after;
+  bound = i.bound;
+  place = i.stands.parts;
+  side = i.side;
+  outside = in_either i.bound.name (flat_map names c.interface) (flat_map pair_names (i.before ++ i.after)) i.elsewhere;
+  result = i.result;
+}
+
+pub collect_step : (c d : Configuration) (place : ℕ) → Collect c d place → NameStep c d
+collect_step c d place i = record {
+  before = i.before;
+  equation = i.equation;
+  after = i.after;
+  bound = i.bound;
+  place = i.stands.parts;
+  side = i.side;
+  outside = in_first i.bound.name (flat_map names c.interface) (flat_map pair_names (i.before ++ i.after)) i.elsewhere;
+  result = i.result;
+}

@@ -1,5 +1,5 @@
 -- A fired configuration stays over the symbols of its rules.
-use Rattle.std.proofs.Common.{◌≡◌, ℕ, suc, ◌+◌, ◌&&◌, List, [], ◌∷◌, Bool, true, false, Option, None, Some, slice_get, length, map, refl, sym, ap, ◌∙◌, inl, inr}
+use Rattle.std.proofs.Common.{◌≡◌, ℕ, suc, ◌+◌, ◌&&◌, ◌++◌, List, [], ◌∷◌, Bool, true, false, Option, None, Some, slice_get, length, map, refl, sym, ap, ◌∙◌, inl, inr}
 use Rattle.std.proofs.lemmas.List.Folds.{list_all-append}
 use Rattle.std.specs.List.{list_all}
 use Rattle.std.specs.Option.{option_map_or}
@@ -115,3 +115,11 @@ pub fired_over : (ss : List Symbol) (rs : List Rule) (c : Configuration) → fir
 fired_over ss rs c none over =
     let both = and_parts (list_all (is_tree_over ss) c.interface) (list_all (is_pair_over ss) c.equations) over in
     and_both both.0 (over_fired ss rs c.next c.equations none both.1)
+
+-- equations in the place of one
+pub over_replaced : (ss : List Symbol) (before out after : List Pair) → list_all (is_pair_over ss) (before ++ after) ≡ true
+    → list_all (is_pair_over ss) out ≡ true → list_all (is_pair_over ss) (before ++ (out ++ after)) ≡ true
+over_replaced ss before out after all more =
+    let f = is_pair_over ss in
+    let parts = and_parts (list_all f before) (list_all f after) (sym (list_all-append f before after) ∙ all) in
+    list_all-append f before (out ++ after) ∙ and_both parts.0 (list_all-append f out after ∙ and_both more parts.1)

@@ -1,4 +1,5 @@
--- Lemmas: a round keeps configurations over their symbols, and is what the results of a plan's works lead to.
+-- Lemmas: a round keeps configurations over their symbols, and is what the results of a plan's
+-- works lead to.
 use Rattle.std.proofs.Common.{◌≡◌, ◌≤◌, ◌&&◌, ℕ, List, Bool, true, false, Result, Ok, Err, map, nat_le, cond, refl, sym, ap, ◌∙◌, arith, subst}
 use Rattle.std.proofs.lemmas.Grind.{common_steps}
 use Rattle.std.specs.List.{AllByRecursion, list_all}
@@ -16,8 +17,8 @@ use Rattle.ic_round.specs.Gathering.{Gapped, gathered}
 use Rattle.ic_round.specs.Plans.{PlainPlan, planned}
 use Rattle.ic_round.specs.Completing.{Completes}
 use Rattle.ic_round.specs.declared.gather_fault.GatherFault.{GatherFault}
-use Rattle.ic_round.specs.declared.growth.RoundFault.{RoundFault}
-use Rattle.ic_round.specs.declared.growth.RoundFault.TheVariants.{Overgrown, NamesOut}
+use Rattle.ic_round.specs.declared.round_fault.RoundFault.{RoundFault}
+use Rattle.ic_round.specs.declared.round_fault.RoundFault.TheVariants.{Overgrown, NamesOut}
 use Rattle.ic_settle.specs.SubstitutionLaws.{and_parts, and_both}
 use Rattle.ic_round.specs.lemmas.SoundRules.{HasSoundRule, sound_rules}
 use Rattle.ic_round.specs.lemmas.FiredNames.{fired_below, fired_twice}

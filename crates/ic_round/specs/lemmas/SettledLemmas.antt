@@ -8,7 +8,8 @@ use Rattle.ic_settle.specs.NameSteps.{Binds, NameStep}
 use Rattle.ic_settle.specs.ChoiceLaws.{binding_binds}
 use Rattle.ic_settle.specs.StepLaws.{configuration_kept, over_kept}
 
--- The equation of a choice stands between those before and those after, and binds what is to be put.
+-- The equation of a choice stands between those before and those after, and binds what is to be
+-- put.
 pub record IsChoice (ts : List Tree) (es : List Pair) (choice : Choice) : Type 0 where
   pub equation : Pair
   pub place : es ≡ choice.before ++ equation ∷ choice.after

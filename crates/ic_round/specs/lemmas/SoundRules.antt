@@ -11,7 +11,8 @@ use Rattle.ic_round.specs.Works.{is_agent_of}
 use Rattle.ic_settle.specs.SubstitutionLaws.{and_parts}
 use Rattle.ic_round.specs.lemmas.ActiveRules.{oriented_rule, sides_fit}
 
--- A rule keeps what each rule keeps, and the sides of an active equation have its symbols and arities.
+-- A rule keeps what each rule keeps, and the sides of an active equation have its symbols and
+-- arities.
 pub record SuitsRule (a : Active) (r : Rule) : Type 0 where
   pub is_rule : IsRule r
   pub left : is_agent_of r.left (length r.left_args) a.left ≡ true

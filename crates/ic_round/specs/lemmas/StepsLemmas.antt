@@ -9,7 +9,7 @@ use Rattle.ic_rules.specs.Rule.{Rule}
 use Rattle.ic_settle.specs.Settling.{Choice, first_choice, applied, settled_in, settled}
 use Rattle.ic_round.specs.Firing.{Active, active_pair, products_by, count_of, names_taken, fired_pair, fired_from, next_behind, fired}
 use Rattle.ic_round.specs.Steps.{Step, interaction, indirection, collect, Steps, no_steps, then_step}
-use Rattle.ic_round.specs.Rounds.{round}
+use Rattle.ic_round.specs.Rounds.{round, iterate}
 use Rattle.ic_round.specs.lemmas.NameStepLemmas.{name_step}
 use Rattle.ic_round.specs.lemmas.SettledLemmas.{choice_step}
 
@@ -75,3 +75,14 @@ settled_reached rs c d steps = settled_in-reached rs (length d.equations) c d st
 -- a round is reached by finitely many steps
 pub round_reached : (rs : List Rule) (c : Configuration) → Steps rs c (round rs c)
 round_reached rs c = settled_reached rs c (fired rs c) (fired_reached rs c)
+
+one_round_more : (rs : List Rule) (c d : Configuration) → Steps rs c d → Steps rs c (round rs d)
+one_round_more rs c d steps = joined rs c d (round rs d) steps (round_reached rs d)
+  where
+    joined : (rs : List Rule) (c d e : Configuration) → Steps rs c d → Steps rs d e → Steps rs c e
+    joined rs c d e steps (no_steps x) = steps
+    joined rs c d e steps (then_step x y z more step) = then_step c y z (joined rs c d y steps more) step
+
+pub iterate_reached : (rs : List Rule) (n : ℕ) (c : Configuration) → Steps rs c (iterate rs n c)
+iterate_reached rs zero c = no_steps c
+iterate_reached rs (suc n) c = one_round_more rs c (iterate rs n c) (iterate_reached rs n c)

@@ -1,7 +1,7 @@
 use Rattle.std.proofs.Common.{◌≡◌, map, length}
 use Rattle.std.specs.Vec.Iter.{into_iter_items, into_iter_len}
 use Rattle.ic_round.specs.WorkViews.{fired_of}
-use Rattle.ic_round.specs.Slots.{slot_of}
+use Rattle.ic_round.specs.inner.Slots.{slot_of}
 use Rattle.ic_round.proofs.Gathers.{Gathers}
 use Rattle.ic_round.proofs.gathering.gather.Given as goal
 

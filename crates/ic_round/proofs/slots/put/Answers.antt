@@ -1,7 +1,7 @@
 use Rattle.std.proofs.Common.{map, is_none, refl, arith, ap, sym, ◌∙◌}
 use Rattle.std.proofs.lemmas.List.{length-map}
 use Rattle.ic_term.specs.Term.{pair}
-use Rattle.ic_round.specs.Slots.{slot_of}
+use Rattle.ic_round.specs.inner.Slots.{slot_of}
 use Rattle.ic_round.specs.declared.slots.Slot.TheVariants.{Filled}
 use Rattle.ic_round.proofs.Putting.{put-awaited, put-taken, put-past}
 use Rattle.ic_round.proofs.slots.put.Goals as goal

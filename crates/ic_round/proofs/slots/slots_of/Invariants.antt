@@ -1,7 +1,7 @@
 use Rattle.std.proofs.Common.{◌≡◌, ◌++◌, [], map, option_map, length}
 use Rattle.std.specs.Vec.Iter.{into_iter_items, into_iter_len}
 use Rattle.ic_term.specs.Term.{pair}
-use Rattle.ic_round.specs.Slots.{slot_of, slots_from}
+use Rattle.ic_round.specs.inner.Slots.{slot_of, slots_from}
 use Rattle.ic_round.proofs.slots.slots_of.Given as goal
 
 -- the places so far, and those of the equations left

@@ -4,7 +4,7 @@ use Rattle.std.proofs.lemmas.Option.{same_Some}
 use Rattle.ic_term.specs.Term.{pair}
 use Rattle.ic_term.specs.Configuration.{Configuration, IsConfiguration}
 use Rattle.ic_term.specs.Symbol.{is_over}
-use Rattle.ic_round.specs.Replacing.{applied_at}
+use Rattle.ic_round.specs.inner.Replacing.{applied_at}
 use Rattle.ic_round.proofs.Applying.{applies-once, applies-kept, applies-over, removed-others, applied-made}
 use Rattle.ic_round.proofs.steps.apply_at.Goals as goal
 use Rattle.ic_round.proofs.steps.apply_at.Goals.{After-from_parts}

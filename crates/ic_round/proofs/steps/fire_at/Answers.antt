@@ -2,7 +2,7 @@ use Rattle.std.proofs.Common.{◌≡◌, ◌+◌, ◌++◌, Some, IfSome, map, t
 use Rattle.std.proofs.lemmas.List.{map-append}
 use Rattle.std.specs.List.{remove}
 use Rattle.ic_term.specs.Term.{pair}
-use Rattle.ic_round.specs.Replacing.{IsReady}
+use Rattle.ic_round.specs.inner.Replacing.{IsReady}
 use Rattle.ic_round.proofs.FiringAt.{first_there, rest_from, fired_at-made}
 use Rattle.ic_round.proofs.steps.fire_at.Goals as goal
 

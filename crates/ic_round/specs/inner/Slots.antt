@@ -1,4 +1,5 @@
--- The places of a list of equations while results come in: taken, with what stands there, or awaited.
+-- For private functions. The places of a list of equations while results come in: taken, with what
+-- stands there, or awaited.
 use Rattle.std.specs.Prelude.{ℕ, zero, suc, ◌+◌, ◌==◌, List, [], ◌∷◌, ◌++◌, Bool, true, false, Option, None, Some, find, map}
 use Rattle.std.specs.Option.{option_map}
 use Rattle.ic_term.specs.Tree.{Pair}
@@ -17,7 +18,8 @@ slot_of (Filled es) = Some (map pair es.items)
 abbrev pub slots_from : ℕ → List (Option Pair) → List PlainFired → List (Option (List Pair))
 slots_from i [] fs = []
 slots_from i (Some p ∷ es) fs = Some (p ∷ []) ∷ slots_from (i + 1) es fs
-slots_from i (None ∷ es) fs = option_map (λ f. f.products) (find (λ f. f.place == i) fs) ∷ slots_from (i + 1) es fs
+slots_from i (None ∷ es) fs =
+    option_map (λ f. f.products) (find (λ f. f.place == i) fs) ∷ slots_from (i + 1) es fs
 
 -- products put in a place, if it is awaited, and whether it is
 abbrev pub put_in : ℕ → List Pair → List (Option (List Pair)) → List (Option (List Pair)) × Bool

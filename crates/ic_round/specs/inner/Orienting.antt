@@ -1,4 +1,4 @@
--- An equation that was turned to suit its rule.
+-- For private functions. An equation that was turned to suit its rule.
 use Rattle.std.specs.Prelude.{◌≡◌, List, None, Some}
 use Rattle.ic_term.specs.Tree.{Pair}
 use Rattle.ic_term.specs.Term.{cell_tree, pair}
@@ -9,5 +9,6 @@ use Rattle.ic_round.specs.declared.separation.Oriented.TheVariants.{Active, Iner
 
 abbrev pub IsOriented : List Rule → Pair → Oriented → Type 0
 IsOriented rs p (Active i left right) =
-    active_pair rs p ≡ Some (record { rule = i; left = cell_tree left.value; right = cell_tree right.value })
+    active_pair rs p
+    ≡ Some (record { rule = i; left = cell_tree left.value; right = cell_tree right.value })
 IsOriented rs p (Inert e) = (active_pair rs p ≡ None) × (pair e ≡ p)

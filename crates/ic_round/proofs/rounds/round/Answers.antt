@@ -1,4 +1,4 @@
-use Rattle.std.proofs.Common.{◌≡◌, List, Ok, true, map, ap, sym, ◌∙◌, subst}
+use Rattle.std.proofs.Common.{◌≡◌, List, Ok, true, map, ap, sym, ◌∙◌, add-one, subst}
 use Rattle.std.proofs.lemmas.List.Sorted.{IsPermutation-refl}
 use Rattle.std.specs.List.Sorted.{IsPermutation}
 use Rattle.ic_term.specs.Symbol.{is_over}
@@ -6,15 +6,15 @@ use Rattle.ic_term.specs.Configuration.{Configuration}
 use Rattle.ic_settle.specs.Settling.{settled}
 use Rattle.ic_round.specs.Works.{PlainFired, result_of}
 use Rattle.ic_round.specs.WorkViews.{work_of, fired_of}
-use Rattle.ic_round.specs.Rounds.{round}
+use Rattle.ic_round.specs.Rounds.{round, iterate}
 use Rattle.ic_round.specs.Steps.{Steps}
 use Rattle.ic_round.specs.Completing.{Completes}
 use Rattle.ic_round.specs.lemmas.RoundLemmas.{plan_completes}
 use Rattle.ic_round.specs.lemmas.SettledLemmas.{settled_over}
 use Rattle.ic_round.specs.Firing.{fired}
 use Rattle.ic_round.specs.lemmas.StepsLemmas.{round_reached}
-use Rattle.ic_round.proofs.whole_round.round.Goals as goal
-use Rattle.ic_round.proofs.whole_round.round.Goals.{After-settle_slowly}
+use Rattle.ic_round.proofs.rounds.round.Goals as goal
+use Rattle.ic_round.proofs.rounds.round.Goals.{After-settle_slowly}
 
 in_order : (all : List PlainFired) (fs : List PlainFired) → fs ≡ all → IsPermutation all fs
 in_order all fs e = let P : List PlainFired → Type 0 = λ l. IsPermutation all l in subst P (sym e) (IsPermutation-refl all)
@@ -43,3 +43,8 @@ pub gather-requires : goal.gather-requires
 gather-requires c =
     (plan_completes c.args.rules.now.rules c.args.config _ (map fired_of c.in_ok-results.results.items) c.in_ok-plan.ensures.plan c.in_ok-plan.ensures.fired
     (in_order _ _ c.in_ok-results.ensures)).valid
+
+pub returns-in-Ok-clause-counted : goal.returns-in-Ok-clause-counted
+returns-in-Ok-clause-counted c start n e =
+    let rs = c.args.rules.now.rules in
+    is_round c ∙ ap (round rs) e ∙ ap (λ k. iterate rs k start) (sym (add-one n))

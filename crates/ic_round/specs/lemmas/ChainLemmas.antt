@@ -1,0 +1,54 @@
+-- Lemmas, which no clause is read by: what each chain of steps keeps.
+use Rattle.std.proofs.Common.{◌≡◌, ◌≤◌, ◌+◌, ◌++◌, ◌∷◌, ℕ, List, Bool, true, Some, refl, sym, ap, ◌∙◌, arith}
+use Rattle.std.specs.List.{list_all}
+use Rattle.ic_term.specs.Tree.{Pair}
+use Rattle.ic_term.specs.Symbol.{is_over, is_tree_over, is_pair_over}
+use Rattle.ic_term.specs.Configuration.{Configuration}
+use Rattle.ic_rules.specs.Rule.{Rule}
+use Rattle.ic_rules.specs.RuleSet.{Rules, IsRuleSet}
+use Rattle.ic_settle.specs.SubstitutionLaws.{and_parts, and_both}
+use Rattle.ic_settle.specs.MiddleLaws.{over-middle}
+use Rattle.ic_round.specs.Firing.{products_by}
+use Rattle.ic_round.specs.Steps.{Interaction, Step, interaction, indirection, collect, Steps, no_steps, then_step}
+use Rattle.ic_round.specs.lemmas.NameStepLemmas.{indirection_step, collect_step}
+use Rattle.ic_round.specs.lemmas.SettledLemmas.{name_step-over}
+use Rattle.ic_round.specs.lemmas.OverSymbols.{over_pair, over_replaced}
+
+step-next : (rs : List Rule) (c d : Configuration) → Step rs c d → c.next ≤ d.next
+step-next rs c d (interaction x y place i) = let same = ap (λ (e : Configuration). e.next) i.result in omega arith
+step-next rs c d (indirection x y place i) = let same = ap (λ (e : Configuration). e.next) i.result in omega arith
+step-next rs c d (collect x y place i) = let same = ap (λ (e : Configuration). e.next) i.result in omega arith
+
+interaction-over : (rs : Rules) (c d : Configuration) (place : ℕ) → IsRuleSet rs → is_over rs.symbols c ≡ true → Interaction rs.rules c d place
+    → is_over rs.symbols d ≡ true
+interaction-over rs c d place set over i =
+    let ss = rs.symbols in
+    let parts = and_parts (list_all (is_tree_over ss) c.interface) (list_all (is_pair_over ss) c.equations) over in
+    let split = ap (list_all (is_pair_over ss)) (sym i.stands.parts) ∙ parts.1 in
+    let both = over-middle ss i.before i.equation i.after split in
+    let more = over_pair ss rs.rules c.next i.equation set.fitting both.1 (Some i.active) i.has_rule in
+    ap (is_over ss) i.result ∙ and_both parts.0 (over_replaced ss i.before (products_by rs.rules c.next i.active) i.after both.0 more)
+
+step-over : (rs : Rules) (c d : Configuration) → IsRuleSet rs → is_over rs.symbols c ≡ true → Step rs.rules c d → is_over rs.symbols d ≡ true
+step-over rs c d set over (interaction x y place i) = interaction-over rs c d place set over i
+step-over rs c d set over (indirection x y place i) = name_step-over rs.symbols c d (indirection_step c d place i) over
+step-over rs c d set over (collect x y place i) = name_step-over rs.symbols c d (collect_step c d place i) over
+
+pub steps-next : (rs : List Rule) (c d : Configuration) → Steps rs c d → c.next ≤ d.next
+steps-next rs c d (no_steps x) = omega arith
+steps-next rs c d (then_step x e y steps step) =
+    let before = steps-next rs c e steps in
+    let after = step-next rs e d step in
+    omega arith
+
+pub steps-over : (rs : Rules) (c d : Configuration) → IsRuleSet rs → is_over rs.symbols c ≡ true → Steps rs.rules c d → is_over rs.symbols d ≡ true
+steps-over rs c d set over (no_steps x) = over
+steps-over rs c d set over (then_step x e y steps step) = step-over rs e d set (steps-over rs c e set over steps) step
+
+-- a chain is in each relation that each configuration has to itself, and that one step more doesn't
+-- leave
+pub steps_least : (rs : List Rule) (relates : Configuration → Configuration → Bool) → ((c : Configuration) → relates c c ≡ true)
+    → ((c d e : Configuration) → relates c d ≡ true → Step rs d e → relates c e ≡ true)
+    → (c d : Configuration) → Steps rs c d → relates c d ≡ true
+steps_least rs relates stays goes c d (no_steps x) = stays c
+steps_least rs relates stays goes c d (then_step x e y steps step) = goes c e d (steps_least rs relates stays goes c e steps) step

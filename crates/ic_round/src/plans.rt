@@ -1,0 +1,9 @@
+use crate::rest::Rest;
+use crate::work::Work;
+
+/// The works of a round, in the order of their places, and what is left of the configuration.
+#[derive(Debug, Drop)]
+pub struct Plan {
+    pub works: Vec<Work>,
+    pub rest: Rest,
+}
