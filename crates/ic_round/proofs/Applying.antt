@@ -9,13 +9,13 @@ use Rattle.ic_term.specs.Term.{tree, pair}
 use Rattle.ic_term.specs.Tree.{Tree, Pair}
 use Rattle.ic_term.specs.Symbol.{Symbol, is_over}
 use Rattle.ic_term.specs.Configuration.{Configuration, IsConfiguration, names_in, occurrences}
-use Rattle.ic_round.specs.Settling.{subst, subst_pair}
-use Rattle.ic_round.specs.Sides.{other_side, bound_by}
+use Rattle.ic_settle.specs.Settling.{subst, subst_pair}
+use Rattle.ic_settle.specs.Sides.{other_side, bound_by}
 use Rattle.ic_round.specs.SingleSteps.{others}
 use Rattle.ic_round.specs.Replacing.{Applies, applied_at}
-use Rattle.ic_round.specs.declared.settling.Applicable.{Applicable}
-use Rattle.ic_round.proofs.Kept.{once_outside, configuration_kept, over_kept}
-use Rattle.ic_round.proofs.Settles.{map_remove}
+use Rattle.ic_settle.specs.declared.applicability.Applicable.{Applicable}
+use Rattle.ic_settle.specs.StepLaws.{once_outside, configuration_kept, over_kept}
+use Rattle.ic_round.proofs.ListLemmas.{map_remove}
 use Rattle.ic_round.proofs.StandsAt.{stands}
 
 -- the configuration, written with the equation in its place

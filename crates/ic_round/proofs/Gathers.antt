@@ -15,8 +15,8 @@ use Rattle.ic_round.specs.declared.work.Fired.{Fired}
 use Rattle.ic_round.specs.declared.gather_fault.GatherFault.TheVariants.{Lost, Stranger}
 use Rattle.ic_term.specs.Configuration.{Configuration}
 use Rattle.ic_round.specs.Slots.{slots_from, put_in, joined}
-use Rattle.ic_round.proofs.AnyOrder.{results-cons}
-use Rattle.ic_round.proofs.FreshNames.{apart_false}
+use Rattle.ic_round.specs.lemmas.AnyOrder.{results-cons}
+use Rattle.ic_round.specs.lemmas.FreshNames.{apart_false}
 
 -- ---- one more result
 

@@ -20,13 +20,13 @@ use Rattle.ic_round.specs.SingleSteps.{interacted_by, interacted, is_within}
 use Rattle.ic_round.specs.StepAnswers.{stepped_within}
 use Rattle.ic_round.specs.Replacing.{fired_at}
 use Rattle.ic_round.specs.declared.steps.StepFault.TheVariants.{Limit}
-use Rattle.ic_round.proofs.Substitution.{occurrences-append, and_parts, and_both, All-append, All-front, All-back}
-use Rattle.ic_round.proofs.Middle.{nodes-middle, occurrences-middle, All-middle, over-middle}
-use Rattle.ic_round.proofs.FreshNames.{absent_above}
-use Rattle.ic_round.proofs.FiredNames.{Fires, fires, All-mono}
-use Rattle.ic_round.proofs.ActiveRules.{active_by, nodes-any_base}
-use Rattle.ic_round.proofs.SoundRules.{sound_rule}
-use Rattle.ic_round.proofs.OverSymbols.{over_pair}
+use Rattle.ic_settle.specs.SubstitutionLaws.{occurrences-append, and_parts, and_both, All-append, All-front, All-back}
+use Rattle.ic_settle.specs.MiddleLaws.{nodes-middle, occurrences-middle, All-middle, over-middle}
+use Rattle.ic_round.specs.lemmas.FreshNames.{absent_above}
+use Rattle.ic_round.specs.lemmas.FiredNames.{Fires, fires, All-mono}
+use Rattle.ic_round.specs.lemmas.ActiveRules.{active_by, nodes-any_base}
+use Rattle.ic_round.specs.lemmas.SoundRules.{sound_rule}
+use Rattle.ic_round.specs.lemmas.OverSymbols.{over_pair}
 use Rattle.ic_round.proofs.Planned.{one_suits}
 use Rattle.ic_round.proofs.FiringAt.{fired_pair-active}
 use Rattle.ic_round.proofs.StandsAt.{stands}

@@ -9,14 +9,19 @@ use Rattle.ic_term.specs.Term.{pair}
 use Rattle.ic_term.specs.Tree.{Tree, Pair, names}
 use Rattle.ic_term.specs.Configuration.{Configuration, names_in}
 use Rattle.ic_rules.specs.Rule.{Rule}
-use Rattle.ic_round.specs.Settling.{Binding, binding, occurs}
-use Rattle.ic_round.specs.NameSteps.{Binds}
+use Rattle.ic_settle.specs.Settling.{Binding, binding, occurs}
+use Rattle.ic_settle.specs.NameSteps.{Binds}
 use Rattle.ic_round.specs.Firing.{Active, active_pair}
 use Rattle.ic_round.specs.Steps.{StandsAt, interaction, indirection, collect}
+use Rattle.std.specs.Prelude.{◌↔◌}
+use Rattle.std.specs.Bool.{one_answer}
 use Rattle.ic_round.specs.Rounds.{IsQuiet}
-use Rattle.ic_round.proofs.FirstChoice.{NoneApplicable, binding_binds, binding_some, none_more, none_at}
+use Rattle.ic_round.specs.Quiet.{is_quiet}
+use Rattle.ic_round.specs.lemmas.QuietLemmas.{quiet_is_no_step}
+use Rattle.ic_settle.specs.ChoiceLaws.{binding_binds, binding_some}
+use Rattle.ic_settle.specs.ChoiceLaws.{NoneApplicable, none_more, none_at}
 use Rattle.ic_round.proofs.ListLemmas.{drop_at}
-use Rattle.ic_round.proofs.Chains.{name_step}
+use Rattle.ic_round.specs.lemmas.NameStepLemmas.{name_step, in_either, in_first}
 
 -- the equations before are neither active nor have an applicable side
 pub record Passed (rs : List Rule) (ts : List Tree) (before after : List Pair) : Type 0 where
@@ -45,16 +50,6 @@ passed-more rs ts es i e within here inert free s =
     let all = inert_more rs (map pair (take i es)) (pair e) s.inert inert in
     let Q : List Pair → Type 0 = λ before. Passed rs ts before (map pair (drop (i + 1) es)) in
     subst Q (sym longer) (record { none = none; inert = all })
-
-pub in_either : (x : ℕ) (ms ns : List ℕ) → occurs x ns ≡ true → occurs x (ms ++ ns) ≡ true
-in_either x ms ns e = list_any-append (λ n. n == x) ms ns ∙ ap (λ b. occurs x ms || b) e ∙ or_true (occurs x ms)
-  where
-    or_true : (b : Bool) → (b || true) ≡ true
-    or_true true = refl
-    or_true false = refl
-
-pub in_first : (x : ℕ) (ms ns : List ℕ) → occurs x ms ≡ true → occurs x (ms ++ ns) ≡ true
-in_first x ms ns e = list_any-append (λ n. n == x) ms ns ∙ ap (λ b. b || occurs x ns) e
 
 no_binding : (rs : List Rule) (c : Configuration) (place : ℕ) (before : List Pair) (p : Pair) (after : List Pair) (b : Binding) → Passed rs c.interface c.equations []
     → StandsAt c.equations place before p after → Binds p b → occurs b.name (names_in c.interface (before ++ after)) ≡ true → ⊥
@@ -122,3 +117,7 @@ bound_not_quiet rs c ts es i e b same_terms same within here is quiet =
       outside = outside;
       result = refl;
     }))
+
+-- what tells whether no step is possible is the test
+pub same_test : (rs : List Rule) (c : Configuration) (b : Bool) → (b ≡ true) ↔ IsQuiet rs c → b ≡ is_quiet rs c
+same_test rs c b told = one_answer b (is_quiet rs c) told (quiet_is_no_step rs c)

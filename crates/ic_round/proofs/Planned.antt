@@ -10,12 +10,12 @@ use Rattle.ic_term.specs.declared.limits.TheConstants.{MAX_NODES, MAX_NEXT}
 use Rattle.ic_rules.specs.Rule.{Rule}
 use Rattle.ic_round.specs.Firing.{Active, active_pair, count_of, names_taken, next_behind, fired, active_from, bases_from}
 use Rattle.ic_round.specs.Works.{PlainWork, work_at, works_from, suits, suits_rule, is_agent_of}
-use Rattle.ic_round.proofs.SoundRules.{HasSoundRule}
+use Rattle.ic_round.specs.lemmas.SoundRules.{HasSoundRule}
 use Rattle.ic_round.specs.declared.work.Work.{Work}
 use Rattle.ic_round.specs.WorkViews.{work_of}
-use Rattle.ic_round.proofs.Substitution.{and_both}
+use Rattle.ic_settle.specs.SubstitutionLaws.{and_both}
 use Rattle.ic_round.proofs.Separating.{active_within}
-use Rattle.ic_round.proofs.FiredNames.{next_grows, fired_below, fired_twice}
+use Rattle.ic_round.specs.lemmas.FiredNames.{next_grows, fired_below, fired_twice}
 
 -- the places of the works are those of the active equations
 pub works-places : (rs : List Rule) (i base : ℕ) (ps : List Pair) → map (λ (w : PlainWork). w.place) (works_from rs i base ps) ≡ active_from rs i ps
@@ -81,18 +81,6 @@ works_suit rs i base (p ∷ ps) sound small =
     at (Some a) e grows rest =
         let taken : names_taken rs p ≡ count_of rs a.rule = ap (λ o. option_map_or (λ b. count_of rs b.rule) o 0) e in
         (one_suits rs i base p a sound.0 e (omega arith), rest)
-
--- ---- the fired configuration is one
-
-pub fired_is : (rs : List Rule) (c : Configuration) → AllByRecursion (HasSoundRule rs) c.equations → IsConfiguration c
-    → configuration_nodes (fired rs c) ≤ MAX_NODES → (fired rs c).next ≤ MAX_NEXT → IsConfiguration (fired rs c)
-fired_is rs c sound is small low = record {
-  nodes = small;
-  interface = is.interface;
-  next = low;
-  below = fired_below rs c sound is;
-  twice = fired_twice rs c sound is;
-}
 
 -- ---- over the program's works
 

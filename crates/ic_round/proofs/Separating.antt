@@ -6,8 +6,8 @@ use Rattle.ic_rules.specs.Rule.{Rule}
 use Rattle.ic_round.specs.Firing.{Active, oriented, rule_of_sides, active_pair, count_of, names_taken, next_behind}
 use Rattle.ic_round.specs.Works.{PlainWork, work_at, works_from}
 use Rattle.ic_round.specs.Gathering.{gap_at}
-use Rattle.ic_round.proofs.FiredNames.{next_grows}
-use Rattle.ic_round.proofs.ActiveRules.{rule_within}
+use Rattle.ic_round.specs.lemmas.FiredNames.{next_grows}
+use Rattle.ic_round.specs.lemmas.ActiveRules.{rule_within}
 
 -- an active equation's rule is there
 oriented_found : (t u : Tree) (found : Option (ℕ × Bool)) (a : Active) → oriented t u found ≡ Some a → (turned : Bool) × (found ≡ Some (a.rule, turned))

@@ -1,7 +1,5 @@
-pub mod Settling
-pub mod Placing
-pub mod Sides
-pub mod NameSteps
+pub use Rattle.ic_settle.specs.Settling
+pub use Rattle.ic_settle.specs.NameSteps
 pub mod Instance
 pub mod Firing
 pub mod Steps
@@ -17,3 +15,6 @@ pub mod Plans
 pub mod SingleSteps
 pub mod StepAnswers
 pub mod Replacing
+pub mod Quiet
+pub mod Completing
+pub mod lemmas

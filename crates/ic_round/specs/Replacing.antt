@@ -4,13 +4,13 @@ use Rattle.std.specs.Option.{option_map_or}
 use Rattle.ic_term.specs.Tree.{Pair}
 use Rattle.ic_term.specs.Configuration.{Configuration, names_in}
 use Rattle.ic_rules.specs.Rule.{Rule}
-use Rattle.ic_round.specs.Settling.{occurs}
-use Rattle.ic_round.specs.NameSteps.{Binds}
+use Rattle.ic_settle.specs.Settling.{occurs}
+use Rattle.ic_settle.specs.NameSteps.{Binds}
 use Rattle.ic_round.specs.Firing.{Active, active_pair, fired_pair}
 use Rattle.ic_round.specs.Works.{suits, work_at}
-use Rattle.ic_round.specs.Sides.{bound_by}
+use Rattle.ic_settle.specs.Sides.{bound_by}
 use Rattle.ic_round.specs.SingleSteps.{others, bound_at}
-use Rattle.ic_round.specs.declared.settling.Applicable.{Applicable}
+use Rattle.ic_settle.specs.declared.applicability.Applicable.{Applicable}
 
 -- the equations with the one at a place fired, if it is active
 abbrev pub fired_at : List Rule → ℕ → List Pair → ℕ → List Pair

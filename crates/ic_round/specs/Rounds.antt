@@ -4,7 +4,7 @@ use Rattle.ic_term.specs.Configuration.{Configuration, configuration_nodes}
 use Rattle.ic_term.specs.declared.limits.TheConstants.{MAX_NODES, MAX_NEXT}
 use Rattle.ic_rules.specs.Rule.{Rule}
 use Rattle.ic_round.specs.Firing.{fired}
-use Rattle.ic_round.specs.Settling.{settled}
+use Rattle.ic_settle.specs.Settling.{settled}
 use Rattle.ic_round.specs.Steps.{Step}
 use Rattle.ic_round.specs.declared.growth.RoundFault.{RoundFault}
 use Rattle.ic_round.specs.declared.growth.RoundFault.TheVariants.{Overgrown, NamesOut}

@@ -6,7 +6,7 @@ use Rattle.ic_term.specs.Tree.{Pair, names, pair_names}
 use Rattle.ic_term.specs.Configuration.{Configuration, configuration_nodes}
 use Rattle.ic_term.specs.declared.limits.TheConstants.{MAX_NODES, MAX_NEXT}
 use Rattle.ic_rules.specs.Rule.{Rule}
-use Rattle.ic_round.specs.Settling.{Binding, binding, subst_in}
+use Rattle.ic_settle.specs.Settling.{Binding, binding, subst_in}
 use Rattle.ic_round.specs.Firing.{Active, active_pair, products_by, count_of}
 
 -- an active equation at a place replaced by its products, whose names begin at `next`

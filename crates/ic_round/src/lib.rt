@@ -17,7 +17,6 @@ mod quietness;
 mod rest;
 mod rounds;
 mod separation;
-mod settling;
 mod slots;
 mod steps;
 #[cfg(test)]
@@ -34,7 +33,7 @@ pub use quietness::quiet;
 pub use rest::Rest;
 pub use rounds::fits;
 pub use separation::Plan;
-pub use settling::settle;
+pub use ic_settle::laws::settle_slowly as settle;
 pub use steps::{StepFault, collect_at, indirect_at, interact_at};
 pub use whole_round::round;
 pub use work::{Fired, Work};

@@ -1,15 +1,17 @@
 ghost use Rattle.std.specs.Prelude.{◌≡◌, ◌↔◌, IsTrue};
+ghost use Rattle.ic_round.specs.Quiet.{is_quiet};
 ghost use Rattle.ic_round.specs.Rounds.{IsQuiet};
 
 use crate::growth::rule_of;
-use crate::settling::applicable_side;
+use ic_settle::applicable_side;
 use ic_rules::RuleSet;
 use ic_term::Config;
 
 /// Whether no interaction, indirection or collect is possible. Takes time in proportion to the
 /// equations times the nodes at most.
 pub fn quiet(rules: &RuleSet, config: &Config) -> bool
-    ensures { IsTrue result ↔ IsQuiet rules.now.rules config.now }
+    ensures test { result ≡ is_quiet rules.now.rules config.now }
+    ensures no_step { IsTrue result ↔ IsQuiet rules.now.rules config.now }
 {
     let interface = config.interface();
     let equations = config.equations();

@@ -9,7 +9,7 @@ use crate::gathering::gather;
 use crate::growth::RoundFault;
 use crate::planning::plan;
 use crate::rounds::fire_all;
-use crate::settling::settle;
+use crate::settle;
 use ic_rules::RuleSet;
 use ic_term::Config;
 use std::alloc::Global;

@@ -7,7 +7,7 @@ use Rattle.ic_rules.specs.Renaming.{first_behind, first_occurrences, number_amon
 use Rattle.ic_rules.specs.Rule.{Rule, same_pair}
 use Rattle.ic_rules.specs.RuleSet.{repeated_behind, first_repeated}
 use Rattle.ic_rules.specs.FirstRepeated.{IsFirstRepeated}
-use Rattle.ic_rules.proofs.NumberingLemmas.{self_eq}
+use Rattle.ic_rules.specs.NumberingLaws.{self_eq}
 
 -- whether a name is there
 abbrev is_in : ℕ → List ℕ → Bool
@@ -21,7 +21,7 @@ or_assoc : (a b c : Bool) → ((a || b) || c) ≡ (a || (b || c))
 or_assoc true b c = refl
 or_assoc false b c = refl
 
-first_behind-append : (xs ys seen : List ℕ) → first_behind seen (xs ++ ys) ≡ first_behind (first_behind seen xs) ys
+pub first_behind-append : (xs ys seen : List ℕ) → first_behind seen (xs ++ ys) ≡ first_behind (first_behind seen xs) ys
 first_behind-append [] ys seen = refl
 first_behind-append (x ∷ xs) ys seen = by_test (is_in x seen) (first_behind-append xs ys seen) (first_behind-append xs ys (seen ++ x ∷ []))
   where
@@ -31,7 +31,7 @@ first_behind-append (x ∷ xs) ys seen = by_test (is_in x seen) (first_behind-ap
     by_test true old new = old
     by_test false old new = new
 
-grows : (ns seen : List ℕ) → (more : List ℕ) × (first_behind seen ns ≡ seen ++ more)
+pub grows : (ns seen : List ℕ) → (more : List ℕ) × (first_behind seen ns ≡ seen ++ more)
 grows [] seen = ([], sym (append-nil seen))
 grows (n ∷ ns) seen = by_test (is_in n seen) (grows ns seen) (grows ns (seen ++ n ∷ []))
   where

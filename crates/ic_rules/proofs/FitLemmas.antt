@@ -1,8 +1,9 @@
--- The first agent that doesn't fit, in a list that is made of two.
+-- The agents of a rule as it is written, and the first of them that doesn't fit.
 use Rattle.std.proofs.Common.{◌≡◌, ℕ, List, [], ◌∷◌, ◌++◌, Option, None, Some, true, false, cond, slice_get, refl, sym, ap, ◌∙◌, length, map, drop, get_or, suc, ◌+◌, ◌<◌, drop-cons, add-one}
 use Rattle.std.proofs.lemmas.List.{length-map}
 use Rattle.ic_term.specs.Symbol.{Symbol, has_arity}
-use Rattle.ic_term.specs.Tree.{Tree, trees_of, list_of}
+use Rattle.ic_term.specs.Tree.{trees_of}
+use Rattle.ic_term.specs.TreeLaws.{list_of-trees_of}
 use Rattle.ic_term.specs.Term.{tree, cell_tree}
 use Rattle.ic_term.specs.TermLaws.{cell_tree-out}
 use Rattle.ic_term.specs.declared.term.Cell.{Cell, out-Cell}
@@ -11,21 +12,7 @@ use Rattle.ic_term.specs.declared.term.Term.{Term}
 use Rattle.ic_rules.specs.Rule.{agents, agents_of, rule_agents}
 use Rattle.ic_rules.specs.Written.{written}
 use Rattle.ic_rules.specs.RuleSet.{unfit_among}
-
-abbrev pub or_else : Option ℕ → Option ℕ → Option ℕ
-or_else None other = other
-or_else (Some n) other = Some n
-
-pub unfit_among-append : (ss : List Symbol) (xs bs : List (ℕ × ℕ)) → unfit_among ss (xs ++ bs) ≡ or_else (unfit_among ss xs) (unfit_among ss bs)
-unfit_among-append ss [] bs = refl
-unfit_among-append ss (a ∷ cs) bs = elim (has_arity a.1 (slice_get ss a.0)) as (λ b. cond b (unfit_among ss (cs ++ bs)) (Some a.0) ≡ or_else (cond b (unfit_among ss cs) (Some a.0)) (unfit_among ss bs)) [
-  | true ↦ unfit_among-append ss cs bs
-  | false ↦ refl
-]
-
-list_of-trees_of : (ts : List Tree) → list_of (trees_of ts) ≡ ts
-list_of-trees_of [] = refl
-list_of-trees_of (t ∷ ts) = ap (λ us. t ∷ us) (list_of-trees_of ts)
+use Rattle.ic_rules.specs.FitLaws.{or_else, unfit_among-append}
 
 -- the agents of an agent: itself, and those of its arguments
 pub agents-cell : (cell : Cell) → agents (cell_tree cell) ≡ ((out-Cell cell).sym, length (out-Cell cell).args.items) ∷ agents_of (trees_of (map tree (out-Cell cell).args.items))

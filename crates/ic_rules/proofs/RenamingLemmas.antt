@@ -1,14 +1,8 @@
--- Terms renamed, and names that stand twice.
+-- Places of elements, and tests of the elements left.
 use Rattle.std.proofs.Common.{◌≡◌, ℕ, suc, ◌+◌, ◌<◌, ◌≤◌, Bool, true, false, not, List, [], ◌∷◌, ◌&&◌, None, Some, length, map, get_or, drop, unwrap_or, cond, nat_lt, refl, ap, arith, drop-cons, add-one}
 use Rattle.std.proofs.lemmas.Grind.{common_steps}
 use Rattle.std.specs.List.{list_all, position, position_or_len, prefix_len}
 use Rattle.std.specs.Cmp.Lexicographic.{pointwise}
-use Rattle.ic_term.specs.Tree.{Tree, trees_of, more_trees}
-use Rattle.ic_rules.specs.Renaming.{renamed, renamed_trees}
-
-pub renamed_trees-trees_of : (f : ℕ → ℕ) (ts : List Tree) → renamed_trees f (trees_of ts) ≡ trees_of (map (renamed f) ts)
-renamed_trees-trees_of f [] = refl
-renamed_trees-trees_of f (t ∷ ts) = ap (λ us. more_trees (renamed f t) us) (renamed_trees-trees_of f ts)
 
 prefix_len-le : {X : Type 0} (p : X → Bool) (xs : List X) → prefix_len p xs ≤ length xs
 prefix_len-le p [] = omega arith

@@ -1,81 +1,17 @@
 -- `built` takes exactly the rule sets.
-use Rattle.std.proofs.Common.{◌≡◌, ℕ, zero, suc, ◌+◌, ◌==◌, Bool, true, false, not, ◌||◌, cond, List, [], ◌∷◌, ◌++◌, Option, None, Some, Result, Ok, Err, length, map, refl, sym, ap, ◌∙◌, arith, subst}
+use Rattle.std.proofs.Common.{◌≡◌, ◌↔◌, ℕ, zero, suc, ◌+◌, ◌==◌, Bool, true, false, not, ◌||◌, cond, List, [], ◌∷◌, ◌++◌, Option, None, Some, Result, Ok, Err, length, map, refl, sym, ap, ◌∙◌, arith, subst}
 use Rattle.std.specs.Cmp.{unsigned_Decides}
 use Rattle.std.specs.List.{list_any, position_from, flat_map, range_with_len, AllByRecursion}
 use Rattle.ic_term.specs.Tree.{Tree, name, agent, Trees, no_trees, more_trees, names, names_of}
+use Rattle.ic_term.specs.Symbol.{Symbol}
 use Rattle.ic_rules.specs.Renaming.{renamed, renamed_trees, first_occurrences, number_among, are_paired}
-use Rattle.ic_rules.specs.Rule.{Rule, IsRule, rule_names, numbered, is_lopsided}
+use Rattle.ic_rules.specs.Rule.{Rule, IsRule, IsNumbered, rule_names, numbered, is_lopsided}
 use Rattle.ic_rules.specs.RuleSet.{Rules, IsRuleSet, are_few, first_unfit, first_uncounted, first_repeated, first_lopsided, unless, built}
 use Rattle.ic_rules.specs.declared.rule_set.RuleFault.{RuleFault}
 use Rattle.ic_rules.specs.declared.rule_set.RuleFault.TheVariants.{Limit, Arity, NameCount, Twice, Lopsided}
-use Rattle.ic_rules.proofs.NumberingLemmas.{Among, each_among, first_behind-distinct, none_distinct, numbers-distinct}
+use Rattle.ic_rules.specs.NumberingLaws.{map-numbered-same, numbered-IsNumbered}
 use Rattle.ic_rules.proofs.RuleLemmas.{numbered_is_rule}
 use Rattle.ic_rules.proofs.RuleSetLemmas.{IsRuleSet-numbered}
-
--- a function that leaves a list as it is leaves its members
-abbrev Fixes : (ℕ → ℕ) → List ℕ → Type 0
-Fixes f ns = AllByRecursion (λ n. f n ≡ n) ns
-
-head_or : ℕ → List ℕ → ℕ
-head_or d [] = d
-head_or d (n ∷ ns) = n
-
-rest_of : List ℕ → List ℕ
-rest_of [] = []
-rest_of (n ∷ ns) = ns
-
-fixed_member : (f : ℕ → ℕ) (xs : List ℕ) (m : ℕ) → map f xs ≡ xs → list_any (λ k. m == k) xs ≡ true → f m ≡ m
-unfolding head_or rest_of
-fixed_member f [] m same there = cc
-fixed_member f (x ∷ xs) m same there = by_test (m == x) refl there (fixed_member f xs m (ap rest_of same))
-  where
-    by_test : (b : Bool) → (m == x) ≡ b → (b || list_any (λ k. m == k) xs) ≡ true → (list_any (λ k. m == k) xs ≡ true → f m ≡ m) → f m ≡ m
-    by_test true e there below = let is = (unsigned_Decides m x).0 e in ap f is ∙ ap (head_or 0) same ∙ sym is
-    by_test false e there below = below there
-
-fixed_members : (f : ℕ → ℕ) (xs ms : List ℕ) → map f xs ≡ xs → Among xs ms → Fixes f ms
-fixed_members f xs [] same all = tt
-fixed_members f xs (m ∷ ms) same all = (fixed_member f xs m same all.0, fixed_members f xs ms same all.1)
-
-fixes-append : (f : ℕ → ℕ) (ms ns : List ℕ) → Fixes f (ms ++ ns) → Fixes f ms × Fixes f ns
-fixes-append f [] ns all = (tt, all)
-fixes-append f (m ∷ ms) ns all = let rest = fixes-append f ms ns all.1 in ((all.0, rest.0), rest.1)
-
-mutual
-  renamed-fixed : (f : ℕ → ℕ) (t : Tree) → Fixes f (names t) → renamed f t ≡ t
-  renamed-fixed f (name n) all = ap name all.0
-  renamed-fixed f (agent s ts) all = ap (agent s) (renamed_trees-fixed f ts all)
-
-  renamed_trees-fixed : (f : ℕ → ℕ) (ts : Trees) → Fixes f (names_of ts) → renamed_trees f ts ≡ ts
-  renamed_trees-fixed f no_trees all = refl
-  renamed_trees-fixed f (more_trees t ts) all =
-      let parts = fixes-append f (names t) (names_of ts) all in
-      λ i. more_trees (renamed-fixed f t parts.0 i) (renamed_trees-fixed f ts parts.1 i)
-
-terms-fixed : (f : ℕ → ℕ) (ts : List Tree) → Fixes f (flat_map names ts) → map (renamed f) ts ≡ ts
-terms-fixed f [] all = refl
-terms-fixed f (t ∷ ts) all =
-    let parts = fixes-append f (names t) (flat_map names ts) all in
-    λ i. renamed-fixed f t parts.0 i ∷ terms-fixed f ts parts.1 i
-
-length-range : (a n : ℕ) → length (range_with_len a n) ≡ n
-length-range a zero = refl
-length-range a (suc n) = omega (arith, length-range (a + 1) n)
-
--- the names of a rule are numbered already
-numbered-rule : (r : Rule) → IsRule r → numbered r ≡ r
-numbered-rule r is =
-    let firsts = first_occurrences (rule_names r) in
-    let count : length firsts ≡ r.names = ap length is.in_order ∙ length-range 0 r.names in
-    let same : map (number_among firsts) firsts ≡ firsts = numbers-distinct firsts (first_behind-distinct [] (rule_names r) none_distinct) ∙ ap (range_with_len 0) count ∙ sym is.in_order in
-    let fixed = fixes-append (number_among firsts) (flat_map names r.left_args) (flat_map names r.right_args) (fixed_members (number_among firsts) firsts (rule_names r) same (each_among [] (rule_names r))) in
-    let left = terms-fixed (number_among firsts) r.left_args fixed.0 in
-    let right = terms-fixed (number_among firsts) r.right_args fixed.1 in
-    λ i. record { left = r.left; right = r.right; left_args = left i; right_args = right i; names = count i }
-
-numbered-rules : (rs : List Rule) → AllByRecursion IsRule rs → map numbered rs ≡ rs
-numbered-rules [] all = refl
-numbered-rules (r ∷ rs) all = λ i. numbered-rule r all.0 i ∷ numbered-rules rs all.1 i
 
 -- none of rules that pass a test is found by its opposite
 none_found : (p : Rule → Bool) (j : ℕ) (rs : List Rule) → AllByRecursion (λ r. p r ≡ false) rs → position_from p j rs ≡ None
@@ -86,13 +22,17 @@ counted : (rs : List Rule) → AllByRecursion IsRule rs → AllByRecursion (λ r
 counted [] all = tt
 counted (r ∷ rs) all = (ap not all.0.paired, counted rs all.1)
 
+in_order : (rs : List Rule) → AllByRecursion IsRule rs → AllByRecursion IsNumbered rs
+in_order [] all = tt
+in_order (r ∷ rs) all = (all.0.in_order, in_order rs all.1)
+
 even : (rs : List Rule) → AllByRecursion IsRule rs → AllByRecursion (λ r. is_lopsided r ≡ false) rs
 even [] all = tt
 even (r ∷ rs) all = (all.0.even, even rs all.1)
 
 pub takes : (rs : Rules) → IsRuleSet rs → built rs.symbols rs.rules ≡ Ok rs
 takes rs is =
-    let same = numbered-rules rs.rules is.each in
+    let same = map-numbered-same rs.rules (in_order rs.rules is.each) in
     let uncounted : first_uncounted rs.rules ≡ None = none_found _ 0 rs.rules (counted rs.rules is.each) in
     let lopsided : first_lopsided rs.rules ≡ None = ap (position_from is_lopsided 0) same ∙ none_found is_lopsided 0 rs.rules (even rs.rules is.each) in
     rw (is.few, is.fitting, uncounted, is.single, lopsided) (λ i. Ok (record { symbols = rs.symbols; rules = same i }))
@@ -119,20 +59,51 @@ abbrev rules_or : Rules → Result Rules RuleFault → Rules
 rules_or d (Ok rs) = rs
 rules_or d (Err e) = d
 
-pub taken : (rs : Rules) → built rs.symbols rs.rules ≡ Ok rs → IsRuleSet rs
-taken rs is = by_cases (are_few rs.rules) (first_unfit rs.symbols rs.rules) (first_uncounted rs.rules) (first_repeated rs.rules) (first_lopsided rs.rules) refl refl refl refl refl is
+-- what `built` found of rules that it takes
+pub record Tests (ss : List Symbol) (rs : List Rule) (v : Rules) : Type 0 where
+  pub made : record { symbols = ss; rules = map numbered rs } ≡ v
+  pub few : are_few rs ≡ true
+  pub fitting : first_unfit ss rs ≡ None
+  pub counted : first_uncounted rs ≡ None
+  pub single : first_repeated rs ≡ None
+  pub even : first_lopsided rs ≡ None
+
+pub tests_of : (ss : List Symbol) (rs : List Rule) (v : Rules) → built ss rs ≡ Ok v → Tests ss rs v
+tests_of ss rs v is = by_cases (are_few rs) (first_unfit ss rs) (first_uncounted rs) (first_repeated rs) (first_lopsided rs) refl refl refl refl refl is
   where
     made : Rules
-    made = record { symbols = rs.symbols; rules = map numbered rs.rules }
+    made = record { symbols = ss; rules = map numbered rs }
 
-    by_cases : (few : Bool) (unfit uncounted repeated lopsided : Option ℕ) → are_few rs.rules ≡ few → first_unfit rs.symbols rs.rules ≡ unfit → first_uncounted rs.rules ≡ uncounted
-        → first_repeated rs.rules ≡ repeated → first_lopsided rs.rules ≡ lopsided
-        → cond few (unless unfit Arity (unless uncounted NameCount (unless repeated Twice (unless lopsided Lopsided (Ok made))))) (Err Limit) ≡ Ok rs → IsRuleSet rs
-    by_cases true None None None None f u c r l e =
-        let same : made ≡ rs = ap (rules_or made) e in
-        subst IsRuleSet same (IsRuleSet-numbered rs.symbols rs.rules (each_rule rs.rules 0 c l) f u r)
+    by_cases : (few : Bool) (unfit uncounted repeated lopsided : Option ℕ) → are_few rs ≡ few → first_unfit ss rs ≡ unfit → first_uncounted rs ≡ uncounted
+        → first_repeated rs ≡ repeated → first_lopsided rs ≡ lopsided
+        → cond few (unless unfit Arity (unless uncounted NameCount (unless repeated Twice (unless lopsided Lopsided (Ok made))))) (Err Limit) ≡ Ok v → Tests ss rs v
+    by_cases true None None None None f u c r l e = record { made = ap (rules_or made) e; few = f; fitting = u; counted = c; single = r; even = l }
     by_cases true (Some n) c r l ef eu ec er el e = cc
     by_cases true None (Some n) r l ef eu ec er el e = cc
     by_cases true None None (Some n) l ef eu ec er el e = cc
     by_cases true None None None (Some n) ef eu ec er el e = cc
     by_cases false u c r l ef eu ec er el e = cc
+
+pub taken : (rs : Rules) → built rs.symbols rs.rules ≡ Ok rs → IsRuleSet rs
+taken rs is =
+    let tests = tests_of rs.symbols rs.rules rs is in
+    subst IsRuleSet tests.made (IsRuleSet-numbered rs.symbols rs.rules (each_rule rs.rules 0 tests.counted tests.even) tests.few tests.fitting tests.single)
+
+-- the first of rules and the others, kept by numbering
+pub each_numbered : (rs : List Rule) → map numbered rs ≡ rs → AllByRecursion IsNumbered rs
+each_numbered [] same = tt
+each_numbered (r ∷ rs) same = (subst IsNumbered (ap (first_rule r) same) (numbered-IsNumbered r), each_numbered rs (ap other_rules same))
+  where
+    first_rule : Rule → List Rule → Rule
+    first_rule d [] = d
+    first_rule d (q ∷ qs) = q
+
+    other_rules : List Rule → List Rule
+    other_rules [] = []
+    other_rules (q ∷ qs) = qs
+
+-- rules are left as they are written exactly where each is numbered
+pub left_as_written : (ss : List Symbol) (rs : List Rule) (v : Rules) → built ss rs ≡ Ok v → (v.rules ≡ rs) ↔ AllByRecursion IsNumbered rs
+left_as_written ss rs v is =
+    let made : map numbered rs ≡ v.rules = ap (λ (w : Rules). w.rules) (tests_of ss rs v is).made in
+    ((λ same. each_numbered rs (made ∙ same)), (λ all. sym made ∙ map-numbered-same rs all))

@@ -7,5 +7,9 @@ pub mod Written
 pub mod Places
 pub mod Arguments
 pub mod RuleLaws
+pub mod RenamingLaws
+pub mod NumberingLaws
+pub mod FitLaws
+pub mod FindLaws
 pub mod System
 pub mod FirstRepeated

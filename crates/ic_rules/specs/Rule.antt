@@ -46,11 +46,15 @@ rule_eq r s = r.left == s.left && r.right == s.right && pointwise tree_eq r.left
 abbrev pub is_lopsided : Rule → Bool
 is_lopsided r = r.left == r.right && not (rule_eq r (numbered (swapped r)))
 
+-- the names of a rule are 0, 1, .. by first occurrence, left arguments first, and `names` counts them
+abbrev pub IsNumbered : Rule → Type 0
+IsNumbered r = first_occurrences (rule_names r) ≡ range_with_len 0 r.names
+
 -- What each rule keeps. Each of its names occurs exactly twice (Lafont 1990); they are numbered by first occurrence,
 -- and a rule of a symbol with itself is its own swap (this project's choice).
 pub record IsRule (r : Rule) : Type 0 where
   pub paired : IsTrue (are_paired (rule_names r))
-  pub in_order : first_occurrences (rule_names r) ≡ range_with_len 0 r.names
+  pub in_order : IsNumbered r
   pub even : is_lopsided r ≡ false
 
 -- the rule is of this pair of symbols, as they stand

@@ -1,4 +1,4 @@
--- Laws of rules and rule sets: the tests of equality are equality.
+-- Lemmas, which no clause is read by: the tests of equality of rules and rule sets are equality.
 use Rattle.std.specs.Prelude.{◌≡◌, ◌==◌, Bool, true, false, ◌&&◌, refl}
 use Rattle.std.specs.Bool.{Decides}
 use Rattle.std.specs.Cmp.{IsEquivalence, decided, unsigned_Decides}

@@ -1,8 +1,8 @@
 use Rattle.std.specs.Prelude.{◌≡◌, ℕ, List, [], ◌∷◌, ◌++◌, Bool, true, false, ◌&&◌, not, Option, None, Some, Result, Ok, Err, length, map, sum_by, nat_le, slice_get, if◌then◌else◌, refl}
-use Rattle.std.specs.List.{flat_map, list_any, position_from, AllByRecursion}
-use Rattle.std.specs.Prelude.{◌<◌, ◌||◌, IfSome}
+use Rattle.std.specs.List.{flat_map, list_all, list_any, position_from, AllByRecursion}
+use Rattle.std.specs.Prelude.{◌<◌, ◌||◌, IfSome, IsTrue}
 use Rattle.std.specs.Coded.{Coded, code_by, coded×, coded_list}
-use Rattle.ic_term.specs.Symbol.{Symbol, has_arity, symbols_eq, coded_symbol}
+use Rattle.ic_term.specs.Symbol.{Symbol, has_arity, is_tree_over, symbols_eq, coded_symbol}
 use Rattle.std.specs.Cmp.Lexicographic.{pointwise}
 use Rattle.ic_rules.specs.Renaming.{are_paired}
 use Rattle.ic_rules.specs.Rule.{Rule, rule_names, rule_nodes, rule_agents, numbered, is_lopsided, stands_for, same_pair, rule_eq, IsRule, coded_rule}
@@ -27,6 +27,13 @@ unfit_among ss (a ∷ bs) = if has_arity a.1 (slice_get ss a.0) then unfit_among
 -- the symbol of the first agent of the rules that is unknown or has another arity
 abbrev pub first_unfit : List Symbol → List Rule → Option ℕ
 first_unfit ss rs = unfit_among ss (flat_map rule_agents rs)
+
+-- the symbols of a rule are known, and each agent has as many arguments as its arity
+pub record IsRuleOver (ss : List Symbol) (r : Rule) : Type 0 where
+  pub left : IsTrue (has_arity (length r.left_args) (slice_get ss r.left))
+  pub right : IsTrue (has_arity (length r.right_args) (slice_get ss r.right))
+  pub left_args : IsTrue (list_all (is_tree_over ss) r.left_args)
+  pub right_args : IsTrue (list_all (is_tree_over ss) r.right_args)
 
 -- the first rule with a name that doesn't occur exactly twice
 abbrev pub first_uncounted : List Rule → Option ℕ

@@ -2,10 +2,11 @@
 
 ghost use Rattle.std.specs.Prelude.{◌≡◌, ◌↔◌, ℕ, ◌==◌, List, [], Bool, None, Some, Ok, ◌∷◌, ◌++◌, true, false, slice_get, length, map, IsTrue};
 ghost use Rattle.std.specs.Bool.{Decides};
-ghost use Rattle.std.specs.List.{list_any, range_with_len};
+ghost use Rattle.std.specs.List.{list_any, range_with_len, AllByRecursion};
+ghost use Rattle.ic_term.specs.Symbol.{Symbol};
 ghost use Rattle.ic_rules.specs.Renaming.{first_occurrences, number_among, are_paired};
-ghost use Rattle.ic_rules.specs.Rule.{Rule, rule_eq};
-ghost use Rattle.ic_rules.specs.RuleSet.{Rules, rules_eq, rule_for, IsRuleFor, IsRuleSet, built, first_repeated, has_pair};
+ghost use Rattle.ic_rules.specs.Rule.{Rule, rule_eq, numbered, IsNumbered};
+ghost use Rattle.ic_rules.specs.RuleSet.{Rules, rules_eq, rule_for, first_unfit, IsRuleFor, IsRuleSet, IsRuleOver, built, first_repeated, has_pair};
 ghost use Rattle.ic_rules.specs.FirstRepeated.{IsFirstRepeated};
 ghost use Rattle.ic_rules.specs.declared.limits.TheConstants.{MAX_RULES, MAX_RULE_NODES};
 
@@ -35,6 +36,21 @@ pub fn build_takes_rule_sets()
 pub fn names_are_numbered_by_first_occurrence()
     ensures { (before after : List ℕ) (n : ℕ) → list_any (λ m. n == m) before ≡ false
         → number_among (first_occurrences (before ++ n ∷ after)) n ≡ length (first_occurrences before) }
+{}
+
+/// Where no agent of rules is unfit, the symbols of each are known and each agent has as many arguments as its arity,
+/// and only there.
+pub fn rules_fit_where_each_is_over_the_symbols()
+    ensures { (ss : List Symbol) (rs : List Rule)
+        → (first_unfit ss rs ≡ None) ↔ AllByRecursion (IsRuleOver ss) rs }
+{}
+
+/// Numbering keeps exactly the rules whose names are 0, 1, .. already; so `RuleSet::build` leaves rules as they are
+/// written exactly where each of them is such a one.
+pub fn numbered_rules_stay()
+    ensures rule { (r : Rule) → (numbered r ≡ r) ↔ IsNumbered r }
+    ensures rules { (ss : List Symbol) (rs : List Rule) (built_set : Rules)
+        → built ss rs ≡ Ok built_set → (built_set.rules ≡ rs) ↔ AllByRecursion IsNumbered rs }
 {}
 
 /// Numbering the names of a list by first occurrence gives 0, 1, .. in the order of their first occurrences, and keeps

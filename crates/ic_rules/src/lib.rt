@@ -18,6 +18,7 @@ mod tests;
 
 pub use job_name::{JobName, MAX_JOB_NAME};
 pub use limits::{MAX_RULE_NODES, MAX_RULES};
+pub use renaming::has_numbered_names;
 pub use rule::Rule;
 pub use rule_set::{RuleFault, RuleSet};
 pub use system::System;

@@ -1,11 +1,13 @@
-ghost use Rattle.std.specs.Prelude.{◌≡◌, ◌++◌, ℕ, map, unwrap_or, IfOk, OnOk};
-ghost use Rattle.std.specs.List.{flat_map};
+ghost use Rattle.std.specs.Prelude.{◌≡◌, ◌↔◌, ◌++◌, ℕ, map, length, unwrap_or, IfOk, OnOk, IsTrue};
+ghost use Rattle.std.specs.List.{flat_map, range_with_len};
 ghost use Rattle.std.specs.Ordering.{nat_cmp};
 ghost use Rattle.std.specs.BTreeMap.{get};
 ghost use Rattle.ic_term.specs.Tree.{names};
 ghost use Rattle.ic_term.specs.Configuration.{occurrences};
 ghost use Rattle.ic_term.specs.Term.{tree, cell_tree};
 ghost use Rattle.ic_rules.specs.Renaming.{renamed, first_occurrences, number_among, are_paired};
+ghost use Rattle.ic_rules.specs.Rule.{IsNumbered};
+ghost use Rattle.ic_rules.specs.Written.{written};
 
 use ic_term::{Cell, Term, names_of_terms};
 use indexmap::IndexSet;
@@ -19,6 +21,31 @@ pub(crate) fn names_of(alloc: Global, left: &[Term], right: &[Term]) -> Result<V
     let mut list = names_of_terms(alloc, left)?;
     list.extend_from_slice(&names_of_terms(alloc, right)?)?;
     Ok(list)
+}
+
+/// Whether the names of two agents are 0, 1, .. by first occurrence, the left one's first. `RuleSet::build` keeps
+/// the names of such agents as they are, and of no others.
+pub fn has_numbered_names(alloc: Global, left: &Cell, right: &Cell) -> Result<bool, AllocError>
+    ensures { IfOk result (λ yes. IsTrue yes ↔ IsNumbered (written (left.now, right.now))) }
+{
+    let names = names_of(alloc, &left.args, &right.args)?;
+    Ok(are_counted_up(&names))
+}
+
+/// Whether the names of a list are 0, 1, .. by first occurrence.
+fn are_counted_up(names: &[u64]) -> bool
+    ensures { IsTrue result ↔ (first_occurrences names.now ≡ range_with_len 0 (length (first_occurrences names.now))) }
+{
+    let mut next = 0u64;
+    for name in names {
+        if *name > next {
+            return false;
+        }
+        if *name == next {
+            next += 1;
+        }
+    }
+    true
 }
 
 /// The names of a list in the order in which they first occur.

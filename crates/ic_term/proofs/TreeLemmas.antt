@@ -1,14 +1,11 @@
 -- The arguments of an agent as a list.
 use Rattle.std.proofs.Common.{◌≡◌, ◌≢◌, suc, Bool, true, false, ◌==◌, List, [], ◌∷◌, ◌&&◌, length, map, slice_get, refl, sym, ap, ◌∙◌}
 use Rattle.std.proofs.lemmas.List.{length-map}
-use Rattle.ic_term.specs.Tree.{Tree, trees_of, list_of, tree_eq, trees_eq}
+use Rattle.ic_term.specs.Tree.{Tree, trees_of, tree_eq, trees_eq}
+use Rattle.ic_term.specs.TreeLaws.{list_of-trees_of}
 use Rattle.ic_term.specs.Term.{tree, cell_tree, term_step, cell_step}
 use Rattle.ic_term.specs.Symbol.{Symbol, has_arity, is_tree_over, are_trees_over}
 use Rattle.ic_term.specs.declared.term.Cell.{Cell, out-Cell, fold_out-Cell}
-
-pub list_of-trees_of : (ts : List Tree) → list_of (trees_of ts) ≡ ts
-list_of-trees_of [] = refl
-list_of-trees_of (t ∷ ts) = ap (λ us. t ∷ us) (list_of-trees_of ts)
 
 -- an agent is over symbols if its symbol has as many arguments as it, and these are over them
 pub is_tree_over-cell : (ss : List Symbol) (cell : Cell) → is_tree_over ss (cell_tree cell)

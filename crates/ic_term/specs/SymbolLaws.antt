@@ -1,4 +1,4 @@
--- Laws of symbols: the test of equality is equality.
+-- Lemmas, which no clause is read by: the test of equality of symbols is equality.
 use Rattle.std.specs.Prelude.{◌≡◌, ℕ, ◌==◌, List, Bool, true, false, ◌&&◌, refl}
 use Rattle.std.specs.Bool.{Decides}
 use Rattle.std.specs.Str.{bytes_eq}

@@ -1,4 +1,5 @@
--- The equations of `tree` and `cell_tree`, for proofs about what makes terms or takes them apart.
+-- Lemmas, which no clause is read by: the equations of `tree` and `cell_tree`, for proofs about what makes terms or
+-- takes them apart.
 use Rattle.std.specs.Prelude.{◌≡◌, ℕ, Box, map}
 use Rattle.std.proofs.Common.{sym, ◌∙◌, ap}
 use Rattle.std.specs.declared.alloc.Global.{Global}

@@ -1,11 +1,12 @@
--- Laws of terms as plain data: how they are stored, and that the test of equality is equality.
-use Rattle.std.specs.Prelude.{◌≡◌, ◌==◌, Bool, true, false, ◌&&◌, refl}
+-- Lemmas, which no clause is read by: how terms as plain data are stored, their arguments as lists, and that the
+-- test of equality is equality.
+use Rattle.std.specs.Prelude.{◌≡◌, ◌==◌, List, [], ◌∷◌, Bool, true, false, ◌&&◌, refl}
 use Rattle.std.specs.Bool.{Decides}
 use Rattle.std.specs.Cmp.{IsEquivalence, decided, unsigned_Decides}
 use Rattle.std.specs.Coded.{Coded, code_by, coded×}
 use Rattle.std.proofs.Common.{sym, ◌∙◌, ap}
 use base.Stored.{Gv, gnil, gnum, gcons}
-use Rattle.ic_term.specs.Tree.{Tree, name, agent, Trees, no_trees, more_trees, Pair, tree_eq, trees_eq, pair_eq}
+use Rattle.ic_term.specs.Tree.{Tree, name, agent, Trees, no_trees, more_trees, list_of, trees_of, Pair, tree_eq, trees_eq, pair_eq}
 
 abbrev mutual
   tree_code : Tree → Gv
@@ -40,6 +41,11 @@ coded_tree = record { code = tree_code; inj = tree_code-injective }
 
 abbrev pub coded_pair : Coded Pair
 coded_pair = code_by (Tree × Tree) (coded× coded_tree coded_tree) (λ p. (p.left, p.right)) (λ p. record { left = p.0; right = p.1 }) (λ _. refl)
+
+-- a list as the arguments of an agent, and as a list again
+pub list_of-trees_of : (ts : List Tree) → list_of (trees_of ts) ≡ ts
+list_of-trees_of [] = refl
+list_of-trees_of (t ∷ ts) = ap (λ us. t ∷ us) (list_of-trees_of ts)
 
 and_parts : (a b : Bool) → (a && b) ≡ true → (a ≡ true) × (b ≡ true)
 and_parts true b e = (refl, e)

@@ -8,11 +8,12 @@ use Rattle.ic_round.specs.Firing.{fired, next_behind}
 use Rattle.ic_round.specs.Gathering.{Gapped, gathered, gapped, gap_at}
 use Rattle.ic_round.specs.Works.{PlainWork, suits, result_of, works_from}
 use Rattle.ic_round.specs.WorkViews.{work_of}
-use Rattle.ic_round.proofs.Substitution.{and_parts}
-use Rattle.ic_round.proofs.SoundRules.{HasSoundRule, sound_rules}
-use Rattle.ic_round.proofs.OverSymbols.{fired_over}
-use Rattle.ic_round.proofs.AnyOrder.{any_order, any_results}
-use Rattle.ic_round.proofs.Planned.{works-places, works-bases, works_suit, fired_is, places_of_works, bases_of_works}
+use Rattle.ic_settle.specs.SubstitutionLaws.{and_parts}
+use Rattle.ic_round.specs.lemmas.SoundRules.{HasSoundRule, sound_rules}
+use Rattle.ic_round.specs.lemmas.OverSymbols.{fired_over}
+use Rattle.ic_round.specs.lemmas.AnyOrder.{any_order, any_results}
+use Rattle.ic_round.proofs.Planned.{works-places, works-bases, works_suit, places_of_works, bases_of_works}
+use Rattle.ic_round.specs.lemmas.RoundLemmas.{fired_is}
 use Rattle.ic_round.proofs.planning.plan.Goals as goal
 use Rattle.ic_round.proofs.planning.plan.Goals.{After-new}
 

@@ -3,14 +3,14 @@ use Rattle.std.specs.List.{flat_map}
 use Rattle.ic_term.specs.Term.{tree, pair}
 use Rattle.ic_term.specs.Tree.{names, pair_names}
 use Rattle.ic_term.specs.Configuration.{Configuration}
-use Rattle.ic_round.specs.Settling.{binding}
-use Rattle.ic_round.specs.Sides.{bound_by}
+use Rattle.ic_settle.specs.Settling.{binding}
+use Rattle.ic_settle.specs.Sides.{bound_by}
 use Rattle.ic_round.specs.Steps.{Collect}
 use Rattle.ic_round.specs.SingleSteps.{others, bound_at}
 use Rattle.ic_round.specs.StepAnswers.{stepped}
 use Rattle.ic_round.proofs.Applying.{pair_at, applies_copy}
-use Rattle.ic_round.proofs.FirstChoice.{binding_binds}
-use Rattle.ic_round.proofs.NoSteps.{in_first}
+use Rattle.ic_settle.specs.ChoiceLaws.{binding_binds}
+use Rattle.ic_round.specs.lemmas.NameStepLemmas.{in_first}
 use Rattle.ic_round.proofs.StepLemmas.{collected-at, collected-unbound, no_collect}
 use Rattle.ic_round.proofs.steps.collect_at.Goals as goal
 

@@ -3,15 +3,15 @@ use Rattle.std.specs.List.{flat_map}
 use Rattle.ic_term.specs.Term.{pair}
 use Rattle.ic_term.specs.Tree.{names, pair_names}
 use Rattle.ic_term.specs.Configuration.{Configuration}
-use Rattle.ic_round.specs.Settling.{binding}
-use Rattle.ic_round.specs.Sides.{bound_by}
+use Rattle.ic_settle.specs.Settling.{binding}
+use Rattle.ic_settle.specs.Sides.{bound_by}
 use Rattle.ic_round.specs.Steps.{Indirection}
 use Rattle.ic_round.specs.SingleSteps.{others, bound_at}
 use Rattle.ic_round.specs.StepAnswers.{stepped}
 use Rattle.ic_round.proofs.Applying.{pair_at, applies_copy, others_of}
-use Rattle.ic_round.proofs.FirstChoice.{binding_binds}
-use Rattle.ic_round.proofs.Settles.{take_rest}
-use Rattle.ic_round.proofs.NoSteps.{in_either}
+use Rattle.ic_settle.specs.ChoiceLaws.{binding_binds}
+use Rattle.ic_round.proofs.ListLemmas.{take_rest}
+use Rattle.ic_round.specs.lemmas.NameStepLemmas.{in_either}
 use Rattle.ic_round.proofs.StepLemmas.{indirected-at, indirected-unbound, no_indirection}
 use Rattle.ic_round.proofs.steps.indirect_at.Goals as goal
 

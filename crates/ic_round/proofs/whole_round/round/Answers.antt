@@ -1,40 +1,45 @@
-use Rattle.std.proofs.Common.{◌≡◌, List, Result, Ok, true, map, ap, sym, ◌∙◌, subst}
-use Rattle.ic_term.specs.Symbol.{Symbol, is_over}
-use Rattle.ic_round.specs.Firing.{fired}
+use Rattle.std.proofs.Common.{◌≡◌, List, Ok, true, map, ap, sym, ◌∙◌, subst}
 use Rattle.std.proofs.lemmas.List.Sorted.{IsPermutation-refl}
 use Rattle.std.specs.List.Sorted.{IsPermutation}
-use Rattle.ic_term.specs.Configuration.{Configuration, IsConfiguration}
-use Rattle.ic_round.specs.Works.{PlainFired}
-use Rattle.ic_round.specs.WorkViews.{fired_of}
-use Rattle.ic_round.specs.declared.gather_fault.GatherFault.{GatherFault}
-use Rattle.ic_round.proofs.Chains.{round_reached}
+use Rattle.ic_term.specs.Symbol.{is_over}
+use Rattle.ic_term.specs.Configuration.{Configuration}
+use Rattle.ic_settle.specs.Settling.{settled}
+use Rattle.ic_round.specs.Works.{PlainFired, result_of}
+use Rattle.ic_round.specs.WorkViews.{work_of, fired_of}
+use Rattle.ic_round.specs.Rounds.{round}
+use Rattle.ic_round.specs.Steps.{Steps}
+use Rattle.ic_round.specs.Completing.{Completes}
+use Rattle.ic_round.specs.lemmas.RoundLemmas.{plan_completes}
+use Rattle.ic_round.specs.lemmas.SettledLemmas.{settled_over}
+use Rattle.ic_round.specs.Firing.{fired}
+use Rattle.ic_round.specs.lemmas.StepsLemmas.{round_reached}
 use Rattle.ic_round.proofs.whole_round.round.Goals as goal
-
-over_same : (ss : List Symbol) (c d : Configuration) → d ≡ c → is_over ss c ≡ true → is_over ss d ≡ true
-over_same ss c d e h = ap (is_over ss) e ∙ h
-
-same_ok : (r : Result Configuration GatherFault) (a b : Configuration) → r ≡ Ok a → r ≡ Ok b → a ≡ b
-same_ok r a b e f = let both = sym e ∙ f in cc
+use Rattle.ic_round.proofs.whole_round.round.Goals.{After-settle_slowly}
 
 in_order : (all : List PlainFired) (fs : List PlainFired) → fs ≡ all → IsPermutation all fs
 in_order all fs e = let P : List PlainFired → Type 0 = λ l. IsPermutation all l in subst P (sym e) (IsPermutation-refl all)
 
-pub gather-requires : goal.gather-requires
-gather-requires c config e =
-    let full = c.in_ok-plan.ensures.any_order (map fired_of c.in_ok-results.results.items) (in_order _ _ c.in_ok-results.ensures) in
-    let same = same_ok _ _ _ full e in
-    let P : Configuration → Type 0 = IsConfiguration in
-    subst P same c.in_ok-plan.ensures.fired
+is_round : (c : After-settle_slowly) → c.settle_slowly.result ≡ round c.args.rules.now.rules c.args.config
+is_round c =
+    let all = plan_completes c.args.rules.now.rules c.args.config _ _ c.in_ok-plan.ensures.plan c.in_ok-plan.ensures.fired (in_order _ _ c.in_ok-results.ensures) in
+    c.settle_slowly.ensures.settled ∙ all.settles c.in-Ok.fired c.in-Ok.ensures
+
+pub returns-in-Ok-clause-round : goal.returns-in-Ok-clause-round
+returns-in-Ok-clause-round c =
+    let all = plan_completes c.args.rules.now.rules c.args.config _ _ c.in_ok-plan.ensures.plan c.in_ok-plan.ensures.fired (in_order _ _ c.in_ok-results.ensures) in
+    ap (λ (d : Configuration). Ok d) c.settle_slowly.ensures.settled ∙ all.answer c.in-Ok.fired c.in-Ok.ensures
 
 pub returns-in-Ok-clause-reached : goal.returns-in-Ok-clause-reached
 returns-in-Ok-clause-reached c =
-    let full = c.in_ok-plan.ensures.any_order (map fired_of c.in_ok-results.results.items) (in_order _ _ c.in_ok-results.ensures) in
-    let same = same_ok _ _ _ (sym c.in-Ok.ensures) full in
-    round_reached c.args.rules.now.rules c.args.config c.in-Ok.fired c.settle.result same c.settle.ensures.reached
+    let P : Configuration → Type 0 = Steps c.args.rules.now.rules c.args.config in
+    subst P (sym (is_round c)) (round_reached c.args.rules.now.rules c.args.config)
 
 pub returns-in-Ok-clause-over : goal.returns-in-Ok-clause-over
 returns-in-Ok-clause-over c =
-    let full = c.in_ok-plan.ensures.any_order (map fired_of c.in_ok-results.results.items) (in_order _ _ c.in_ok-results.ensures) in
-    let same = same_ok _ _ _ (sym c.in-Ok.ensures) full in
     let rs = c.args.rules.now in
-    c.settle.ensures.over rs.symbols (over_same rs.symbols (fired rs.rules c.args.config) c.in-Ok.fired same c.in_ok-plan.ensures.over)
+    ap (is_over rs.symbols) (is_round c) ∙ settled_over rs.symbols (fired rs.rules c.args.config) c.in_ok-plan.ensures.over
+
+pub gather-requires : goal.gather-requires
+gather-requires c =
+    (plan_completes c.args.rules.now.rules c.args.config _ (map fired_of c.in_ok-results.results.items) c.in_ok-plan.ensures.plan c.in_ok-plan.ensures.fired
+    (in_order _ _ c.in_ok-results.ensures)).valid

@@ -4,7 +4,7 @@ use Rattle.ic_term.specs.TermLaws.{cell_tree-roll, cell_tree-out}
 use Rattle.ic_term.specs.Tree.{agent, trees_of}
 use Rattle.ic_term.specs.Term.{tree}
 use Rattle.ic_rules.specs.Renaming.{renamed}
-use Rattle.ic_rules.proofs.RenamingLemmas.{renamed_trees-trees_of}
+use Rattle.ic_rules.specs.RenamingLaws.{renamed_trees-trees_of}
 use Rattle.ic_round.proofs.Words.{u64_MAX}
 use Rattle.ic_round.proofs.work.+raise.Goals as goal
 

@@ -4,7 +4,8 @@ use Rattle.ic_term.specs.Term.{tree}
 use Rattle.ic_term.specs.Symbol.{has_arity}
 use Rattle.ic_rules.specs.Rule.{agents, agents_of}
 use Rattle.ic_rules.specs.RuleSet.{unfit_among}
-use Rattle.ic_rules.proofs.FitLemmas.{agents-cell, unfit_among-arguments, or_else}
+use Rattle.ic_rules.specs.FitLaws.{or_else}
+use Rattle.ic_rules.proofs.FitLemmas.{agents-cell, unfit_among-arguments}
 use Rattle.ic_rules.proofs.fit.+unfit.Goals as goal
 
 pub unfit_in_cell-returns-then-not-has_arity : goal.unfit_in_cell-returns-then-not-has_arity

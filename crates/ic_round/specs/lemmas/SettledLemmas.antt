@@ -1,0 +1,93 @@
+-- Lemmas: a settled configuration is one, and stays over its symbols.
+use Rattle.std.proofs.Common.{◌≡◌, ℕ, zero, suc, List, [], ◌∷◌, ◌++◌, true, Option, None, Some, refl, sym, ap, ◌∙◌, append_assoc, append-nil, subst as transport}
+use Rattle.ic_term.specs.Tree.{Tree, Pair}
+use Rattle.ic_term.specs.Symbol.{Symbol, is_over}
+use Rattle.ic_term.specs.Configuration.{Configuration, IsConfiguration, names_in}
+use Rattle.ic_settle.specs.Settling.{Binding, Choice, binding, choice_or, first_choice, applied, settling_step, settled_in, settled, occurs, subst_in}
+use Rattle.ic_settle.specs.NameSteps.{Binds, NameStep}
+use Rattle.ic_settle.specs.ChoiceLaws.{binding_binds}
+use Rattle.ic_settle.specs.StepLaws.{configuration_kept, over_kept}
+
+-- The equation of a choice stands between those before and those after, and binds what is to be put.
+pub record IsChoice (ts : List Tree) (es : List Pair) (choice : Choice) : Type 0 where
+  pub equation : Pair
+  pub place : es ≡ choice.before ++ equation ∷ choice.after
+  pub binds : binding (names_in ts (choice.before ++ choice.after)) equation ≡ Some choice.bound
+
+choice_at : (ts : List Tree) (before : List Pair) (p : Pair) (after : List Pair) (choice : Choice) (here : Option Binding)
+    → binding (names_in ts (before ++ after)) p ≡ here
+    → choice_or before after here (first_choice ts (before ++ p ∷ []) after) ≡ Some choice
+    → (first_choice ts (before ++ p ∷ []) after ≡ Some choice → IsChoice ts ((before ++ p ∷ []) ++ after) choice)
+    → IsChoice ts (before ++ p ∷ after) choice
+choice_at ts before p after choice (Some b) bound e later =
+    let same : record { before = before; after = after; bound = b } ≡ choice = cc in
+    let P : Choice → Type 0 = λ d. IsChoice ts (before ++ p ∷ after) d in
+    transport P same (record { equation = p; place = refl; binds = bound })
+choice_at ts before p after choice None bound e later =
+    let P : List Pair → Type 0 = λ es. IsChoice ts es choice in
+    transport P (append_assoc before (p ∷ []) after) (later e)
+
+pub is_choice : (ts : List Tree) (before es : List Pair) (choice : Choice) → first_choice ts before es ≡ Some choice
+    → IsChoice ts (before ++ es) choice
+is_choice ts before [] choice e = cc
+is_choice ts before (p ∷ after) choice e =
+    choice_at ts before p after choice (binding (names_in ts (before ++ after)) p) refl e (λ f. is_choice ts (before ++ p ∷ []) after choice f)
+
+-- a choice is a step of the calculus
+pub choice_step : (c : Configuration) (choice : Choice) → first_choice c.interface [] c.equations ≡ Some choice
+    → NameStep c (applied c choice)
+choice_step c choice e =
+    let is = is_choice c.interface [] c.equations choice e in
+    let bound = binding_binds (names_in c.interface (choice.before ++ choice.after)) is.equation choice.bound is.binds in
+    record {
+      before = choice.before;
+      equation = is.equation;
+      after = choice.after;
+      bound = choice.bound;
+      place = is.place;
+      side = bound.0;
+      outside = bound.1;
+      result = refl;
+    }
+
+-- ---- what such a step keeps
+
+shape : (c d : Configuration) → (s : NameStep c d) → c ≡ record c { equations = s.before ++ s.equation ∷ s.after }
+shape c d s = ap (λ es. record c { equations = es }) s.place
+
+pub name_step-valid : (c d : Configuration) → NameStep c d → IsConfiguration c → IsConfiguration d
+name_step-valid c d s valid =
+    let P : Configuration → Type 0 = IsConfiguration in
+    transport P (sym s.result)
+    (configuration_kept c.interface s.before s.equation s.after c.next s.bound s.side s.outside (transport P (shape c d s) valid))
+
+pub name_step-over : (ss : List Symbol) (c d : Configuration) → NameStep c d → is_over ss c ≡ true → is_over ss d ≡ true
+name_step-over ss c d s over =
+    ap (is_over ss) s.result
+    ∙ over_kept ss c.interface s.before s.equation s.after c.next s.bound s.side (ap (is_over ss) (sym (shape c d s)) ∙ over)
+
+-- ---- settling
+
+settled_in-valid : (n : ℕ) (c : Configuration) → IsConfiguration c → IsConfiguration (settled_in n c)
+settled_in-valid zero c valid = valid
+settled_in-valid (suc n) c valid = at (first_choice c.interface [] c.equations) refl (λ d v. settled_in-valid n d v)
+  where
+    at : (found : Option Choice) → first_choice c.interface [] c.equations ≡ found
+        → ((d : Configuration) → IsConfiguration d → IsConfiguration (settled_in n d)) → IsConfiguration (settled_in (suc n) c)
+    at None e rest = rw e valid
+    at (Some choice) e rest = rw e (rest (applied c choice) (name_step-valid c (applied c choice) (choice_step c choice e) valid))
+
+settled_in-over : (ss : List Symbol) (n : ℕ) (c : Configuration) → is_over ss c ≡ true → is_over ss (settled_in n c) ≡ true
+settled_in-over ss zero c over = over
+settled_in-over ss (suc n) c over = at (first_choice c.interface [] c.equations) refl (λ d o. settled_in-over ss n d o)
+  where
+    at : (found : Option Choice) → first_choice c.interface [] c.equations ≡ found
+        → ((d : Configuration) → is_over ss d ≡ true → is_over ss (settled_in n d) ≡ true) → is_over ss (settled_in (suc n) c) ≡ true
+    at None e rest = rw e over
+    at (Some choice) e rest = rw e (rest (applied c choice) (name_step-over ss c (applied c choice) (choice_step c choice e) over))
+
+pub settled_is : (c : Configuration) → IsConfiguration c → IsConfiguration (settled c)
+settled_is c valid = settled_in-valid _ c valid
+
+pub settled_over : (ss : List Symbol) (c : Configuration) → is_over ss c ≡ true → is_over ss (settled c) ≡ true
+settled_over ss c over = settled_in-over ss _ c over

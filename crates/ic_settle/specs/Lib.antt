@@ -1,0 +1,9 @@
+pub mod Settling
+pub mod NameSteps
+pub mod Placing
+pub mod Sides
+pub mod SubstitutionLaws
+pub mod WholeLaws
+pub mod MiddleLaws
+pub mod StepLaws
+pub mod ChoiceLaws
