@@ -2,3 +2,4 @@ pub mod ThirdOccurrence
 pub mod ConfigLemmas
 pub mod SymbolLemmas
 pub mod TreeLemmas
+pub mod EqualityLemmas

@@ -4,6 +4,7 @@ ghost use Rattle.std.specs.Prelude.{◌≡◌, ℕ, ◌≤◌, ◌^◌, ◌↔�
 ghost use Rattle.std.specs.Bool.{Decides};
 ghost use Rattle.ic_term.specs.Tree.{Tree, Pair, tree_eq, pair_eq};
 ghost use Rattle.ic_term.specs.declared.limits.TheConstants.{MAX_NODES, MAX_INTERFACE, MAX_NEXT, MAX_SYMBOLS, MAX_SYMBOL_TEXT, MAX_ARITY};
+ghost use Rattle.ic_term.specs.ConfigurationEq.{configuration_eq};
 ghost use Rattle.ic_term.specs.Configuration.{Configuration, IsConfiguration, IsFirstThird, occurrences, restored, third_occurrence};
 
 /// The limits of configurations and of symbols.
@@ -29,8 +30,9 @@ pub fn restore_takes_configurations()
     ensures { (c : Configuration) → (restored c ≡ Ok c) ↔ IsConfiguration c }
 {}
 
-/// The tests of equality tell exactly whether two terms, or two equations, are the same.
+/// The tests of equality tell exactly whether two terms, two equations, or two configurations are the same.
 pub fn equality_is_exact()
     ensures terms { (t u : Tree) → Decides (tree_eq t u) (t ≡ u) }
     ensures equations { (p q : Pair) → Decides (pair_eq p q) (p ≡ q) }
+    ensures configurations { (c d : Configuration) → Decides (configuration_eq c d) (c ≡ d) }
 {}

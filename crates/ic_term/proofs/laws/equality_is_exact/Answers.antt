@@ -1,3 +1,4 @@
+use Rattle.ic_term.specs.ConfigurationEq.{configuration_eq-Decides}
 use Rattle.ic_term.specs.TreeLaws.{tree_eq-Decides, pair_eq-Decides}
 use Rattle.ic_term.proofs.laws.equality_is_exact.Goals as goal
 
@@ -6,3 +7,6 @@ returns-clause-terms c = tree_eq-Decides
 
 pub returns-clause-equations : goal.returns-clause-equations
 returns-clause-equations c = pair_eq-Decides
+
+pub returns-clause-configurations : goal.returns-clause-configurations
+returns-clause-configurations c = configuration_eq-Decides
