@@ -4,3 +4,4 @@ pub mod SymbolLemmas
 pub mod TreeLemmas
 pub mod Greatest
 pub mod SymbolsMade
+pub mod EqualityLemmas

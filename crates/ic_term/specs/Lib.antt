@@ -6,3 +6,4 @@ pub mod ConfigFault
 pub mod Symbol
 pub mod TermLaws
 pub mod SymbolLaws
+pub mod ConfigurationEq

@@ -4,6 +4,7 @@ ghost use Rattle.std.specs.Prelude.{◌≡◌, ℕ, ◌+◌, ◌<◌, ◌≤◌,
 ghost use Rattle.std.specs.List.{list_any, AllByRecursion};
 ghost use Rattle.ic_term.specs.Tree.{Tree, Pair, tree_eq, pair_eq};
 ghost use Rattle.ic_term.specs.declared.limits.TheConstants.{MAX_NODES, MAX_INTERFACE, MAX_NEXT, MAX_SYMBOLS, MAX_SYMBOL_TEXT, MAX_ARITY};
+ghost use Rattle.ic_term.specs.ConfigurationEq.{configuration_eq};
 ghost use Rattle.ic_term.specs.Configuration.{Configuration, IsConfiguration, IsFirstThird, occurrences, one_above, restored, third_occurrence};
 ghost use Rattle.ic_term.specs.Symbol.{Symbol, AreSymbols, is_symbol_text, numbered, with_symbol, symbols_eq};
 
@@ -51,9 +52,11 @@ pub fn numbering_makes_exactly_such_symbols()
         → with_symbol ss s.text s.arity ≡ ss ++ s ∷ [] }
 {}
 
-/// The tests of equality tell exactly whether two terms, two equations, or two lists of symbols are the same.
+/// The tests of equality tell exactly whether two terms, two equations, two configurations, or two
+/// lists of symbols are the same.
 pub fn equality_is_exact()
     ensures terms { (t u : Tree) → IsTrue (tree_eq t u) ↔ (t ≡ u) }
     ensures equations { (p q : Pair) → IsTrue (pair_eq p q) ↔ (p ≡ q) }
     ensures symbols { (ss ts : List Symbol) → IsTrue (symbols_eq ss ts) ↔ (ss ≡ ts) }
+    ensures configurations { (c d : Configuration) → IsTrue (configuration_eq c d) ↔ (c ≡ d) }
 {}

@@ -6,6 +6,7 @@
 
 mod arities;
 mod config;
+mod equality;
 pub mod laws;
 mod limits;
 mod occurrences;

@@ -1,3 +1,4 @@
+use Rattle.ic_term.specs.ConfigurationEq.{configuration_eq-Decides}
 use Rattle.ic_term.specs.TreeLaws.{tree_eq-Decides, pair_eq-Decides}
 use Rattle.ic_term.specs.SymbolLaws.{symbols_eq-Decides}
 use Rattle.ic_term.proofs.laws.equality_is_exact.Goals as goal
@@ -10,3 +11,6 @@ returns-clause-equations c = pair_eq-Decides
 
 pub returns-clause-symbols : goal.returns-clause-symbols
 returns-clause-symbols c = symbols_eq-Decides
+
+pub returns-clause-configurations : goal.returns-clause-configurations
+returns-clause-configurations c = configuration_eq-Decides

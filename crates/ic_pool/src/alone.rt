@@ -1,0 +1,23 @@
+ghost use Rattle.ic_pool.specs.Played.{played};
+ghost use Rattle.ic_pool.specs.PoolFault.{Answers};
+
+use crate::fault::PoolFault;
+use crate::flight::Flight;
+use crate::limits::MAX_ROUNDS;
+use crate::played::Played;
+use ic_round::round;
+use std::alloc::Global;
+
+/// The round of a flight, made by the calling thread alone. Its faults are tried in the order `RoundsOut`, `Overgrown`,
+/// `NamesOut`; `Memory` comes where a growth is refused.
+pub fn play_alone(alloc: Global, flight: &Flight) -> Result<Played, PoolFault>
+    ensures { Answers result (played flight.now) }
+{
+    if flight.rounds() == MAX_ROUNDS {
+        return Err(PoolFault::RoundsOut);
+    }
+    let after = round(alloc, flight.rules(), flight.config().copy(alloc)?)?;
+    let before = flight.config().copy(alloc)?;
+    let rules = flight.rules().clone()?;
+    Ok(Played::new(flight.name(), rules, before, after, flight.rounds()))
+}

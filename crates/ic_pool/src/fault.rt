@@ -1,0 +1,49 @@
+ghost use Rattle.std.specs.Prelude.{◌≡◌};
+ghost use Rattle.ic_pool.specs.declared.fault.PoolFault.TheVariants.{Memory};
+
+use ic_round::RoundFault;
+use std::alloc::AllocError;
+
+/// Why a flight isn't played. The numbers are lasting. The checks come in this order: `NoWorkers`, `RoundsOut`,
+/// `Overgrown`, `NamesOut`, then the others.
+#[derive(Clone, Copy, Debug, PartialEq, Eq)]
+pub enum PoolFault {
+    /// The number of workers is 0.
+    NoWorkers = 1,
+    /// The fired configuration has more than 8,192 nodes.
+    Overgrown = 2,
+    /// The names of the fired configuration pass 2^62.
+    NamesOut = 3,
+    /// A thread could not be started.
+    NoThread = 4,
+    /// A growth was refused.
+    Memory = 5,
+    /// A work has no result.
+    Lost = 6,
+    /// A result is for no work of the round, or for one that has another result.
+    Stranger = 7,
+    /// The job has made 2^62 rounds.
+    RoundsOut = 8,
+}
+
+impl From<AllocError> for PoolFault {
+    ghost from_gives = { λ _ fault. fault ≡ Memory };
+
+    fn from(_error: AllocError) -> PoolFault {
+        PoolFault::Memory
+    }
+}
+
+impl From<RoundFault> for PoolFault {
+    ghost use Rattle.ic_pool.specs.PoolFault.{pool_fault};
+
+    ghost from_gives = { λ f fault. fault ≡ pool_fault f };
+
+    fn from(fault: RoundFault) -> PoolFault {
+        match fault {
+            RoundFault::Overgrown => PoolFault::Overgrown,
+            RoundFault::NamesOut => PoolFault::NamesOut,
+            RoundFault::Memory => PoolFault::Memory,
+        }
+    }
+}

@@ -1,0 +1,101 @@
+ghost use Rattle.std.specs.Prelude.{◌≡◌, IsTrue};
+ghost use Rattle.std.specs.Arc.{arc_value};
+
+use crate::limits::MAX_ROUNDS;
+use ic_round::fits;
+use ic_rules::{JobName, RuleSet};
+use ic_term::Config;
+use std::marker::Model;
+use std::sync::Arc;
+
+/// A round that is to be made: a job's place in its table, its name, a copy of its configuration with its rules, and
+/// how many rounds it has made.
+#[derive(Debug, Drop)]
+pub struct Flight {
+    place: usize,
+    name: JobName,
+    rules: Arc<RuleSet>,
+    config: Config,
+    rounds: u64,
+}
+
+impl Model for Flight {
+    ghost use Rattle.std.specs.Arc.{arc_value};
+    ghost use Rattle.ic_pool.specs.Flight.{FlightParts, IsFlight, coded_flight};
+
+    ghost Value = { FlightParts };
+
+    ghost coded = { coded_flight };
+
+    ghost view = { λ f. record { place = f.place; name = f.name; rules = arc_value f.rules; config = f.config; rounds = f.rounds } };
+
+    ghost invariant = { λ f. IsFlight (record { place = f.place; name = f.name; rules = arc_value f.rules; config = f.config; rounds = f.rounds }) };
+}
+
+impl Flight {
+    ghost use Rattle.ic_pool.specs.Flight.{IsFlight, is_blocked};
+
+    pub fn new(
+        place: usize,
+        name: JobName,
+        rules: Arc<RuleSet>,
+        config: Config,
+        rounds: u64,
+    ) -> Flight
+        requires { IsFlight (record { place = place; name = name; rules = arc_value rules; config = config; rounds = rounds }) }
+        ensures { result ≡ record { place = place; name = name; rules = arc_value rules; config = config; rounds = rounds } }
+    {
+        Flight {
+            place,
+            name,
+            rules,
+            config,
+            rounds,
+        }
+    }
+
+    /// The job's place in its table when the flight was taken.
+    pub fn place(&self) -> usize
+        ensures place { result ≡ self.now.place }
+        ensures sound { IsFlight self.now }
+    {
+        self.place
+    }
+
+    pub fn name(&self) -> JobName
+        ensures name { result ≡ self.now.name }
+        ensures sound { IsFlight self.now }
+    {
+        self.name
+    }
+
+    pub fn rules(&self) -> &Arc<RuleSet>
+        ensures rules { arc_value result.now ≡ self.now.rules }
+        ensures sound { IsFlight self.now }
+    {
+        &self.rules
+    }
+
+    pub fn config(&self) -> &Config
+        ensures config { result.now ≡ self.now.config }
+        ensures sound { IsFlight self.now }
+    {
+        &self.config
+    }
+
+    /// How many rounds the job has made.
+    pub fn rounds(&self) -> u64
+        ensures rounds { result ≡ self.now.rounds }
+        ensures sound { IsFlight self.now }
+    {
+        self.rounds
+    }
+
+    /// Whether the configuration doesn't fit, or the job has made 2^62 rounds: no round can be made.
+    pub fn blocked(&self) -> bool
+        ensures blocked { result ≡ is_blocked self.now }
+        ensures sound { IsFlight self.now }
+    {
+        !fits(&self.rules, &self.config) || self.rounds == MAX_ROUNDS
+    }
+}

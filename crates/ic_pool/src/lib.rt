@@ -1,0 +1,19 @@
+//! Rounds of jobs: what is to be played, and what was played.
+//!
+//! A `Flight` is a copy of a job that is due. `play_alone` makes its round in the calling thread and answers a `Played`,
+//! whose type says that `after` is the round of `before`. Neither holds its job's table, so other events may come
+//! between.
+#![tactic(auto)]
+
+mod alone;
+mod fault;
+mod flight;
+pub mod laws;
+mod limits;
+mod played;
+
+pub use alone::play_alone;
+pub use fault::PoolFault;
+pub use flight::Flight;
+pub use limits::MAX_ROUNDS;
+pub use played::Played;

@@ -1,0 +1,100 @@
+ghost use Rattle.std.specs.Prelude.{◌≡◌};
+ghost use Rattle.std.specs.Arc.{arc_value};
+
+use ic_rules::{JobName, RuleSet};
+use ic_term::Config;
+use std::marker::Model;
+use std::sync::Arc;
+
+/// A round that was made: a job's name and rules, its configuration before and after, and how many rounds it had made
+/// before. `after` is the round of `before`.
+#[derive(Debug, Drop)]
+pub struct Played {
+    name: JobName,
+    rules: Arc<RuleSet>,
+    before: Config,
+    after: Config,
+    rounds: u64,
+}
+
+impl Model for Played {
+    ghost use Rattle.std.specs.Arc.{arc_value};
+    ghost use Rattle.ic_pool.specs.Played.{PlayedParts, IsPlayed, coded_played};
+
+    ghost Value = { PlayedParts };
+
+    ghost coded = { coded_played };
+
+    ghost view = { λ p. record { name = p.name; rules = arc_value p.rules; before = p.before; after = p.after; rounds = p.rounds } };
+
+    ghost invariant = { λ p. IsPlayed (record { name = p.name; rules = arc_value p.rules; before = p.before; after = p.after; rounds = p.rounds }) };
+}
+
+impl Played {
+    ghost use Rattle.ic_pool.specs.Played.{IsPlayed};
+
+    pub(crate) fn new(
+        name: JobName,
+        rules: Arc<RuleSet>,
+        before: Config,
+        after: Config,
+        rounds: u64,
+    ) -> Played
+        requires { IsPlayed (record { name = name; rules = arc_value rules; before = before; after = after; rounds = rounds }) }
+        ensures { result ≡ record { name = name; rules = arc_value rules; before = before; after = after; rounds = rounds } }
+    {
+        Played {
+            name,
+            rules,
+            before,
+            after,
+            rounds,
+        }
+    }
+
+    pub fn name(&self) -> JobName
+        ensures name { result ≡ self.now.name }
+        ensures sound { IsPlayed self.now }
+    {
+        self.name
+    }
+
+    pub fn rules(&self) -> &Arc<RuleSet>
+        ensures rules { arc_value result.now ≡ self.now.rules }
+        ensures sound { IsPlayed self.now }
+    {
+        &self.rules
+    }
+
+    /// The configuration before the round.
+    pub fn before(&self) -> &Config
+        ensures before { result.now ≡ self.now.before }
+        ensures sound { IsPlayed self.now }
+    {
+        &self.before
+    }
+
+    /// The configuration after the round.
+    pub fn after(&self) -> &Config
+        ensures after { result.now ≡ self.now.after }
+        ensures sound { IsPlayed self.now }
+    {
+        &self.after
+    }
+
+    /// How many rounds the job had made before this one.
+    pub fn rounds(&self) -> u64
+        ensures rounds { result ≡ self.now.rounds }
+        ensures sound { IsPlayed self.now }
+    {
+        self.rounds
+    }
+
+    /// The configuration after the round, moved out.
+    pub fn into_after(self) -> Config
+        ensures after { result ≡ self.after }
+        ensures sound { IsPlayed self }
+    {
+        self.after
+    }
+}

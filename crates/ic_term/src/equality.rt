@@ -1,0 +1,40 @@
+ghost use Rattle.std.specs.Prelude.{◌≡◌, map};
+ghost use Rattle.std.specs.Cmp.Lexicographic.{pointwise};
+ghost use Rattle.ic_term.specs.Tree.{tree_eq, pair_eq};
+ghost use Rattle.ic_term.specs.Term.{tree, pair};
+
+use crate::config::Config;
+use crate::term::{Equation, Term};
+
+impl PartialEq for Config {
+    ghost use Rattle.std.specs.Cmp.{partial_equiv_from_equiv};
+    ghost use Rattle.ic_term.specs.ConfigurationEq.{configuration_eq, configuration_eq-equivalence};
+
+    ghost eq = { configuration_eq };
+
+    ghost laws = { partial_equiv_from_equiv configuration_eq-equivalence };
+
+    fn eq(&self, other: &Config) -> bool {
+        self.next() == other.next()
+            && same_terms(self.interface(), other.interface())
+            && same_equations(self.equations(), other.equations())
+    }
+}
+
+impl Eq for Config {
+    ghost use Rattle.ic_term.specs.ConfigurationEq.{configuration_eq-equivalence};
+
+    ghost laws = { configuration_eq-equivalence };
+}
+
+fn same_terms(left: &[Term], right: &[Term]) -> bool
+    ensures { result ≡ pointwise tree_eq (map tree left.now) (map tree right.now) }
+{
+    left == right
+}
+
+fn same_equations(left: &[Equation], right: &[Equation]) -> bool
+    ensures { result ≡ pointwise pair_eq (map pair left.now) (map pair right.now) }
+{
+    left == right
+}
