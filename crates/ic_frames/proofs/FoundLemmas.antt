@@ -7,11 +7,13 @@ use Rattle.ic_frames.specs.declared.slot.Slot.{Slot}
 use Rattle.ic_frames.specs.declared.slot.Slot.TheVariants.{First, Second}
 use Rattle.ic_frames.specs.declared.found.Newest.{Newest}
 use Rattle.ic_frames.specs.declared.found.Found.{Found}
+use Rattle.ic_frames.specs.declared.faults.OpenCause.{OpenCause}
+use Rattle.ic_frames.specs.declared.faults.OpenCause.TheVariants.{Device, NoSlot, TwoAlike, Damaged, Memory}
 use Rattle.ic_frames.specs.Places.{place, other}
 use Rattle.ic_frames.specs.Fields.{number, size, body, is_open, is_whole, IsMade}
-use Rattle.ic_frames.specs.Held.{the_body, damaged, body_held}
+use Rattle.ic_frames.specs.Held.{Held, the_body, damaged, body_held}
 use Rattle.ic_frames.specs.Standing.{Stands, IsStaged, IsKept}
-use Rattle.ic_frames.specs.Opening.{IsChosen, IsFound}
+use Rattle.ic_frames.specs.Opening.{IsChosen, IsFound, IsDamage, Answers}
 use Rattle.ic_frames.proofs.FieldLemmas.{open_parts, whole_from, spoiled_from}
 use Rattle.ic_frames.proofs.HeldLemmas.{whole_held, spoiled_held}
 use Rattle.ic_frames.proofs.KeepLemmas.{of_only}
@@ -60,3 +62,10 @@ found_spoiled newest file chosen why =
     let sizes = chosen.head.size_is in
     spoiled_held newest.slot file chosen.is_newest
     (spoiled_from (place newest.slot) file (⊎_elim (λ long. inl (omega (arith, sizes, long))) (λ cut. inr (omega (arith, sizes, cut))) why))
+
+pub damage_answers : (cause : OpenCause) (held : Held) → IsDamage cause → held ≡ damaged → Answers cause held
+damage_answers Damaged held is damage = damage
+damage_answers NoSlot held is damage = absurd is
+damage_answers TwoAlike held is damage = absurd is
+damage_answers Device held is damage = tt
+damage_answers Memory held is damage = tt

@@ -1,5 +1,5 @@
--- What the bytes of a slot say: a gate of one byte, a number of eight, the length of the body in four, and the body.
--- The numbers are big endian. This project's choice.
+-- What the bytes of a slot say: a gate of one byte, a number of eight, the length of the body in
+-- four, and the body. The numbers are big endian. This project's choice.
 use Rattle.std.specs.Prelude.{ℕ, ◌+◌, ◌==◌, ◌≤◌, Bool, ◌&&◌, nat_le, List, length, slice_index}
 use Rattle.std.specs.Int.{w32, w64, from_be_bytes}
 use Rattle.ic_disk.specs.Content.{bytes_at}

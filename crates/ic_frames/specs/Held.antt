@@ -15,14 +15,17 @@ pub data Held : Type 0 where
 
 -- the body of this slot, where it is whole
 abbrev pub body_of : Slot → List ℕ → Held
-body_of slot file = if is_whole (place slot) file then the_body (body (place slot) file) else damaged
+body_of slot file =
+    if is_whole (place slot) file then the_body (body (place slot) file) else damaged
 
 -- of two open slots, the body of the one with the greater number
 abbrev pub newer_body : List ℕ → Held
 newer_body file =
     if number (place First) file == number (place Second) file
     then two_alike
-    else (if nat_lt (number (place Second) file) (number (place First) file) then body_of First file else body_of Second file)
+    else (if nat_lt (number (place Second) file) (number (place First) file)
+    then body_of First file
+    else body_of Second file)
 
 -- the body of the newest open slot
 unfoldable pub body_held : List ℕ → Held
@@ -34,7 +37,8 @@ body_held file =
 -- the slot is open, and newer than the other where that is open too
 pub record IsNewest (slot : Slot) (file : List ℕ) : Type 0 where
   pub opened : is_open (place slot) file ≡ true
-  pub newer : is_open (place (other slot)) file ≡ true → number (place (other slot)) file < number (place slot) file
+  pub newer : is_open (place (other slot)) file ≡ true
+      → number (place (other slot)) file < number (place slot) file
 
 -- no slot is open
 abbrev pub IsShut : List ℕ → Type 0
@@ -48,7 +52,8 @@ pub record HasTwoAlike (file : List ℕ) : Type 0 where
 
 -- the thirteen bytes at the beginning of each slot are the same
 abbrev pub HasSameHeads : (old new : List ℕ) → Type 0
-HasSameHeads old new = (slot : Slot) → bytes_at (place slot) 13 new ≡ bytes_at (place slot) 13 old
+HasSameHeads old new =
+    (slot : Slot) → bytes_at (place slot) 13 new ≡ bytes_at (place slot) 13 old
 
 -- a made file that holds this body
 pub record Holds (kept file : List ℕ) : Type 0 where

@@ -26,7 +26,8 @@ pub record IsChosen (newest : Newest) (file : List ℕ) : Type 0 where
   pub is_newest : IsNewest newest.slot file
   pub head : HasHead newest.slot newest.head file
   pub shut : newest.alone ≡ true → is_open (place (other newest.slot)) file ≡ false
-  pub older : newest.alone ≡ false → (is_open (place (other newest.slot)) file ≡ true) × (number (place (other newest.slot)) file < newest.head.number)
+  pub older : newest.alone ≡ false → (is_open (place (other newest.slot)) file ≡ true)
+      × (number (place (other newest.slot)) file < newest.head.number)
 
 -- what a refusal says of what is held
 abbrev pub Answers : OpenCause → Held → Type 0
@@ -68,3 +69,11 @@ IsOfCalls Memory = Unit {0}
 IsOfCalls NoSlot = ⊥
 IsOfCalls TwoAlike = ⊥
 IsOfCalls Damaged = ⊥
+
+-- a refusal of the newest slot
+abbrev pub IsDamage : OpenCause → Type 0
+IsDamage Damaged = Unit {0}
+IsDamage NoSlot = ⊥
+IsDamage TwoAlike = ⊥
+IsDamage Device = ⊥
+IsDamage Memory = ⊥

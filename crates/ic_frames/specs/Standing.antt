@@ -4,7 +4,7 @@ use Rattle.ic_frames.specs.declared.slot.Slot.{Slot}
 use Rattle.ic_frames.specs.Places.{place, other}
 use Rattle.ic_frames.specs.Fields.{gate, number, size, body, is_open, is_whole, IsMade}
 
--- The newest slot is open and whole, with this number and body. The other is closed, or it is older.
+-- The newest slot is open and whole, with this number and body. The other is closed, or older.
 pub record Stands (newest : Slot) (n : ℕ) (closed : Bool) (kept file : List ℕ) : Type 0 where
   pub opened : is_open (place newest) file ≡ true
   pub number_is : number (place newest) file ≡ n
@@ -20,9 +20,12 @@ pub record IsStaged (slot : Slot) (n : ℕ) (staged file : List ℕ) : Type 0 wh
   pub body_is : body (place slot) file ≡ staged
 
 -- what is on a disk that is kept: its content, and what a crash may leave
-pub record IsKept (content : List ℕ) (image : List ℕ → Type 0) (newest : Slot) (n : ℕ) (closed staged made : Bool) : Type 0 where
-  pub stands : (file : List ℕ) → image file → Stands newest n closed (body (place newest) content) file
-  pub staged_is : staged ≡ true → (file : List ℕ) → image file → IsStaged (other newest) (n + 1) (body (place (other newest)) content) file
+pub record IsKept (content : List ℕ) (image : List ℕ → Type 0) (newest : Slot) (n : ℕ)
+    (closed staged made : Bool) : Type 0 where
+  pub stands : (file : List ℕ) → image file
+      → Stands newest n closed (body (place newest) content) file
+  pub staged_is : staged ≡ true → (file : List ℕ) → image file
+      → IsStaged (other newest) (n + 1) (body (place (other newest)) content) file
   pub staged_in : staged ≡ true → (closed ≡ true) × (made ≡ true)
   pub all_made : made ≡ true → (file : List ℕ) → image file → IsMade file
   pub not_made : made ≡ false → (length content < 4194317) × (closed ≡ true)

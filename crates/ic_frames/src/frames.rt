@@ -96,7 +96,8 @@ impl<D: Disk> Frames<D> {
         ensures worn { IsErrOf result KeepFault.Worn
             ↔ ((is_broken self.now ≡ false) × (number_of self.now ≡ 2 ^ 64 - 1)) }
         ensures device { ¬ IsErrOf result KeepFault.Device }
-        ensures ok { OnOk result ((is_broken self.now ≡ false) × (number_of self.now < 2 ^ 64 - 1)) }
+        ensures ok { OnOk result ((is_broken self.now ≡ false)
+            × (number_of self.now < 2 ^ 64 - 1)) }
     {
         if self.broken {
             return Err(KeepFault::Broken);

@@ -1,5 +1,5 @@
 // Finding the newest body of a disk.
-ghost use Rattle.std.specs.Prelude.{◌≡◌, ◌⊎◌, ◌+◌, ◌≤◌, ◌<◌, ℕ, List, true, false, length, drop, IsTrue, IfOk, IfErr, OnOk, vec_capacity};
+ghost use Rattle.std.specs.Prelude.{◌≡◌, ◌⊎◌, ◌+◌, ◌≤◌, ◌<◌, ℕ, List, true, false, length, drop, IsTrue, IfOk, IfErr, OnOk, OnErr, vec_capacity};
 ghost use Rattle.ic_disk.specs.Content.{bytes_at};
 ghost use Rattle.ic_disk.specs.Images.{Only};
 ghost use Rattle.ic_disk.specs.Time.{CountsFailure};
@@ -7,7 +7,7 @@ ghost use Rattle.ic_frames.specs.Places.{place};
 ghost use Rattle.ic_frames.specs.Held.{body_held};
 ghost use Rattle.ic_frames.specs.Faults.{CountsOpen};
 ghost use Rattle.ic_frames.specs.Reading.{OnlyReads};
-ghost use Rattle.ic_frames.specs.Opening.{IsHeadOf, Chooses, IsFound, IsOfSlots, IsOfCalls, Answers};
+ghost use Rattle.ic_frames.specs.Opening.{IsHeadOf, Chooses, IsFound, IsOfSlots, IsOfCalls, IsDamage, Answers};
 
 use crate::found::{Found, Head, Newest};
 use crate::{HEAD, MAX_BODY, OpenCause, SECOND_AT, Slot};
@@ -86,15 +86,21 @@ fn newest_of(first: Option<Head>, second: Option<Head>) -> Result<Newest, OpenCa
     }
 }
 
-// Whether a body is no longer than it may be, and lies within a disk of this length.
-fn is_within(newest: &Newest, len: u64) -> bool
-    ensures yes { result ≡ true → (newest.now.head.size ≤ 3036421)
-        × (place newest.now.slot + 13 + newest.now.head.size ≤ len) }
-    ensures no { result ≡ false → (3036421 < newest.now.head.size)
-        ⊎ (len < place newest.now.slot + 13 + newest.now.head.size) }
+// The newest slot, where its body is no longer than it may be and lies within a disk of this
+// length. Where it isn't, the other slot isn't tried: it is older.
+fn whole_of(newest: Newest, len: u64) -> Result<Newest, OpenCause>
+    ensures same { IfOk result (λ whole. whole ≡ newest) }
+    ensures ok { IfOk result (λ whole. (whole.head.size ≤ 3036421)
+        × (place whole.slot + 13 + whole.head.size ≤ len)) }
+    ensures err { OnErr result ((3036421 < newest.head.size)
+        ⊎ (len < place newest.slot + 13 + newest.head.size)) }
+    ensures cause { IfErr result IsDamage }
 {
     let size = newest.head.size;
-    size as usize <= MAX_BODY && newest.slot.place() + HEAD as u64 + size as u64 <= len
+    if size as usize > MAX_BODY || newest.slot.place() + HEAD as u64 + size as u64 > len {
+        return Err(OpenCause::Damaged);
+    }
+    Ok(newest)
 }
 
 // A frame with the body of this slot, with room for the longest.
@@ -162,13 +168,11 @@ pub(crate) fn find<D: Disk>(alloc: Global, disk: &mut D) -> Result<Found, OpenCa
 {
     let (len, first, second) = look(disk)?;
     let newest = newest_of(first, second)?;
-    if !is_within(&newest, len) {
-        return Err(OpenCause::Damaged);
-    }
-    let frame = read_frame(alloc, disk, newest.slot, newest.head.size as usize)?;
+    let whole = whole_of(newest, len)?;
+    let frame = read_frame(alloc, disk, whole.slot, whole.head.size as usize)?;
     let made = len >= SECOND_AT + HEAD as u64;
     Ok(Found {
-        newest,
+        newest: whole,
         made,
         frame,
     })
