@@ -5,6 +5,7 @@ use Rattle.std.proofs.lemmas.List.{take-append-le, map_push}
 use Rattle.ic_disk.specs.Content.{laid}
 use Rattle.ic_disk.specs.Images.{Range, IsImage, StaysOrTears, Torn, TornFrom, Within, Only}
 use Rattle.ic_disk.specs.Time.{Elapses}
+use Rattle.ic_disk.specs.DiskCalls.{IsDiskSync, IsDiskWrite}
 use Rattle.ic_disk.specs.Model.{Write, Call, write, sync, State, begun, after, range_of, IsImageIn}
 use Rattle.ic_disk.specs.History.{History, replay, state, state_at, content_of, image_of, IsLeftSince, with_call, with_failure}
 use Rattle.ic_disk.specs.lemmas.HistoryLaws.{state-with_call, state_at_end, write_reached, content_image}
@@ -84,36 +85,48 @@ module _ (w : Write) (h : History) where
   unchanged = inl (refl, λ file image. image)
 
   -- the clauses on a write, of the answer and what it leaves
-  pub written : {T E : Type 0} (result : Result T E) (new : History) → OnOk result (new ≡ with_call (write w) h) → OnOk result (content_of new ≡ laid w.at w.bytes (content_of h))
+  written : {T E : Type 0} (result : Result T E) (new : History) → OnOk result (new ≡ with_call (write w) h) → OnOk result (content_of new ≡ laid w.at w.bytes (content_of h))
   written (Ok x) new is = ap content_of is ∙ same_content
   written (Err e) new is = tt
 
-  pub torn : {T E : Type 0} (result : Result T E) (new : History) → OnErr result (LeftByErr (write w) h new) → OnErr result (Torn w.at (length w.bytes) (content_of h) (content_of new))
+  torn : {T E : Type 0} (result : Result T E) (new : History) → OnErr result (LeftByErr (write w) h new) → OnErr result (Torn w.at (length w.bytes) (content_of h) (content_of new))
   torn (Ok x) new left = tt
   torn (Err e) new left =
       let same = torn_same w.at (length w.bytes) (content_of h) in
       let made = subst (Torn w.at (length w.bytes) (content_of h)) (sym same_content) (torn_laid w.at w.bytes (content_of h)) in
       each (write w) h new (λ (n : History). Torn w.at (length w.bytes) (content_of h) (content_of n)) same same made left
 
-  pub images_written : {T E : Type 0} (result : Result T E) (new : History) → OnOk result (new ≡ with_call (write w) h) → OnErr result (LeftByErr (write w) h new) → Within (image_of new) Torn_images
+  images_written : {T E : Type 0} (result : Result T E) (new : History) → OnOk result (new ≡ with_call (write w) h) → OnErr result (LeftByErr (write w) h new) → Within (image_of new) Torn_images
   images_written (Ok x) new is none = subst (λ (n : History). Within (image_of n) Torn_images) (sym is) image_written
   images_written (Err e) new none left = each (write w) h new (λ (n : History). Within (image_of n) Torn_images) within_before within_before image_written left
 
-  pub reached : {T E : Type 0} (result : Result T E) (new : History) → OnOk result (new ≡ with_call (write w) h) → OnOk result (Within Torn_images (image_of new))
+  reached : {T E : Type 0} (result : Result T E) (new : History) → OnOk result (new ≡ with_call (write w) h) → OnOk result (Within Torn_images (image_of new))
   reached (Ok x) new is = subst (λ (n : History). Within Torn_images (image_of n)) (sym is) reached_written
   reached (Err e) new is = tt
 
-  pub stay_written : {T E : Type 0} (result : Result T E) (new : History) → OnOk result (new ≡ with_call (write w) h) → OnErr result (LeftByErr (write w) h new) → Within (image_of h) (image_of new)
+  stay_written : {T E : Type 0} (result : Result T E) (new : History) → OnOk result (new ≡ with_call (write w) h) → OnErr result (LeftByErr (write w) h new) → Within (image_of h) (image_of new)
   stay_written (Ok x) new is none = subst (λ (n : History). Within (image_of h) (image_of n)) (sym is) stay_made
   stay_written (Err e) new none left = each (write w) h new (λ (n : History). Within (image_of h) (image_of n)) (λ file image. image) (λ file image. image) stay_made left
 
-  pub failed_written : {T E : Type 0} (result : Result T E) (new : History) → OnErr result (LeftByErr (write w) h new) → OnErr result (Failed new)
+  failed_written : {T E : Type 0} (result : Result T E) (new : History) → OnErr result (LeftByErr (write w) h new) → OnErr result (Failed new)
   failed_written (Ok x) new left = tt
   failed_written (Err e) new left = each (write w) h new Failed unchanged unchanged (inr reached_written) left
 
-  pub time_written : {T E : Type 0} (result : Result T E) (new : History) → OnOk result (new ≡ with_call (write w) h) → OnErr result (LeftByErr (write w) h new) → Passes new
+  time_written : {T E : Type 0} (result : Result T E) (new : History) → OnOk result (new ≡ with_call (write w) h) → OnErr result (LeftByErr (write w) h new) → Passes new
   time_written (Ok x) new is none = subst Passes (sym is) passes_made
   time_written (Err e) new none left = each (write w) h new Passes passes_none passes_none passes_made left
+
+  pub disk_write : {T E : Type 0} (result : Result T E) (new : History) → OnOk result (new ≡ with_call (write w) h) → OnErr result (LeftByErr (write w) h new)
+      → IsDiskWrite w.at w.bytes result h new
+  disk_write result new made left = record {
+    written = written result new made;
+    torn = torn result new left;
+    images = images_written result new made left;
+    stay = stay_written result new made left;
+    reached = reached result new made;
+    failed = failed_written result new left;
+    time = time_written result new made left;
+  }
 
 -- what follows from a sync, made or failed
 module _ (h : History) where
@@ -133,26 +146,35 @@ module _ (h : History) where
   synced_passes : Passes_synced (with_call sync h)
   synced_passes = elapses_call sync h (image_of h) (λ file image. within_synced file (subst (λ (s : State). IsImageIn s file) (sym (state-with_call sync h)) image))
 
-  pub none_passes : Passes_synced h
+  none_passes : Passes_synced h
   none_passes = elapses_none (length h.calls) (IsLeftSince h) (image_of h)
 
   -- the clauses on a sync
-  pub same_synced : {T E : Type 0} (result : Result T E) (new : History) → OnOk result (new ≡ with_call sync h) → OnErr result (LeftByErr sync h new) → content_of new ≡ content_of h
+  same_synced : {T E : Type 0} (result : Result T E) (new : History) → OnOk result (new ≡ with_call sync h) → OnErr result (LeftByErr sync h new) → content_of new ≡ content_of h
   same_synced (Ok x) new is none = ap content_of is ∙ synced_content
   same_synced (Err e) new none left = each sync h new (λ (n : History). content_of n ≡ content_of h) refl refl synced_content left
 
-  pub durable : {T E : Type 0} (result : Result T E) (new : History) → OnOk result (new ≡ with_call sync h) → OnOk result (Only (content_of h) (image_of new))
+  durable : {T E : Type 0} (result : Result T E) (new : History) → OnOk result (new ≡ with_call sync h) → OnOk result (Only (content_of h) (image_of new))
   durable (Ok x) new is = subst (λ (n : History). Only (content_of h) (image_of n)) (sym is) only_synced
   durable (Err e) new is = tt
 
-  pub images_synced : {T E : Type 0} (result : Result T E) (new : History) → OnOk result (new ≡ with_call sync h) → OnErr result (LeftByErr sync h new) → Within (image_of new) (image_of h)
+  images_synced : {T E : Type 0} (result : Result T E) (new : History) → OnOk result (new ≡ with_call sync h) → OnErr result (LeftByErr sync h new) → Within (image_of new) (image_of h)
   images_synced (Ok x) new is none = subst (λ (n : History). Within (image_of n) (image_of h)) (sym is) within_synced
   images_synced (Err e) new none left = each sync h new (λ (n : History). Within (image_of n) (image_of h)) (λ file image. image) (λ file image. image) within_synced left
 
-  pub failed_synced : {T E : Type 0} (result : Result T E) (new : History) → OnErr result (LeftByErr sync h new) → OnErr result (Within (image_of h) (image_of new) ⊎ Only (content_of h) (image_of new))
+  failed_synced : {T E : Type 0} (result : Result T E) (new : History) → OnErr result (LeftByErr sync h new) → OnErr result (Within (image_of h) (image_of new) ⊎ Only (content_of h) (image_of new))
   failed_synced (Ok x) new left = tt
   failed_synced (Err e) new left = each sync h new (λ (n : History). Within (image_of h) (image_of n) ⊎ Only (content_of h) (image_of n)) (inl (λ file image. image)) (inl (λ file image. image)) (inr only_synced) left
 
-  pub time_synced : {T E : Type 0} (result : Result T E) (new : History) → OnOk result (new ≡ with_call sync h) → OnErr result (LeftByErr sync h new) → Passes_synced new
+  time_synced : {T E : Type 0} (result : Result T E) (new : History) → OnOk result (new ≡ with_call sync h) → OnErr result (LeftByErr sync h new) → Passes_synced new
   time_synced (Ok x) new is none = subst Passes_synced (sym is) synced_passes
   time_synced (Err e) new none left = each sync h new Passes_synced none_passes none_passes synced_passes left
+
+  pub disk_sync : {T E : Type 0} (result : Result T E) (new : History) → OnOk result (new ≡ with_call sync h) → OnErr result (LeftByErr sync h new) → IsDiskSync result h new
+  disk_sync result new made left = record {
+    same = same_synced result new made left;
+    durable = durable result new made;
+    images = images_synced result new made left;
+    failed = failed_synced result new left;
+    time = time_synced result new made left;
+  }

@@ -1,4 +1,5 @@
--- Which of its images the disk in memory takes at a crash. This project's choice.
+-- Which of its images the disk in memory takes at a crash.
+-- To be read: contracts of public calls cite it. This project's choice.
 use Rattle.std.specs.Prelude.{◌≡◌, ◌⊎◌, ℕ, ◌+◌, ◌-◌, ◌<◌, ◌≤◌, List, [], ◌∷◌, length, slice_index, map, take}
 use Rattle.ic_disk.specs.Content.{laid}
 use Rattle.ic_disk.specs.Images.{Range, IsOutside}
@@ -11,11 +12,13 @@ abbrev pub IsInside : List Range → ℕ → Type 0
 IsInside [] i = ⊥
 IsInside (range ∷ ranges) i = ((range.at ≤ i) × (i < range.at + range.size)) ⊎ IsInside ranges i
 
--- the content, with this byte at each pending place and at each place past the end of what was synced
+-- the content, with this byte at each pending place and at each place past the synced end
 pub record IsFilled (byte : ℕ) (s : State) (left : List ℕ) : Type 0 where
   pub as_long : length left ≡ length s.content
-  pub kept : (i : ℕ) → i < length s.synced → IsOutside (map range_of s.pending) i → slice_index left i ≡ slice_index s.content i
-  pub pending : (i : ℕ) → i < length s.content → IsInside (map range_of s.pending) i → slice_index left i ≡ byte
+  pub kept : (i : ℕ) → i < length s.synced → IsOutside (map range_of s.pending) i
+      → slice_index left i ≡ slice_index s.content i
+  pub pending : (i : ℕ) → i < length s.content → IsInside (map range_of s.pending) i
+      → slice_index left i ≡ byte
   pub past : (i : ℕ) → i < length s.content → length s.synced ≤ i → slice_index left i ≡ byte
 
 -- the file after these bytes were written to it, or no write was begun where there are none

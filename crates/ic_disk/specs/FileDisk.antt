@@ -1,7 +1,11 @@
--- The part of a disk in a file that clauses speak of.
-use Rattle.std.specs.Prelude.{ℕ}
+-- The parts of a disk in a file that contracts of public calls speak of. To be read.
+use Rattle.std.specs.Prelude.{ℕ, Bool}
 use Rattle.ic_disk.specs.declared.file.FileDisk.{FileDisk}
 
 -- how many calls have failed
 abbrev pub failures_of : {F : Type 0} → FileDisk F → ℕ
 failures_of f = f.failures
+
+-- whether a sync has failed
+abbrev pub has_lost_sync : {F : Type 0} → FileDisk F → Bool
+has_lost_sync f = f.sync_failed

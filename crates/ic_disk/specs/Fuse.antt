@@ -1,4 +1,5 @@
--- Which calls of the disk with a fuse fail, and what they leave. This project's choice.
+-- Which calls of the disk with a fuse fail, and what they leave.
+-- To be read: contracts of public calls cite it. This project's choice.
 use Rattle.std.specs.Prelude.{◌≡◌, ◌⊎◌, ◌==◌, ◌+◌, ◌-◌, ◌^◌, ℕ, min, nat_lt, if◌then◌else◌, Result, IsOk, IsErr, OnOk, OnErr}
 use Rattle.ic_disk.specs.Model.{Call}
 use Rattle.ic_disk.specs.History.{History, with_call, with_failure}
@@ -22,7 +23,8 @@ later GoOn = Make
 
 -- what becomes of the n-th call, counted from 1
 abbrev pub turn_of : ℕ → Fuse → Turn
-turn_of n fuse = if nat_lt n fuse.at then Make else (if n == fuse.at then blown fuse.blow else later fuse.after)
+turn_of n fuse =
+    if nat_lt n fuse.at then Make else (if n == fuse.at then blown fuse.blow else later fuse.after)
 
 -- how many calls there have been after one more, up to 2^64 - 1
 abbrev pub one_call_more : ℕ → ℕ
@@ -30,9 +32,11 @@ one_call_more calls = min (calls + 1) (2 ^ 64 - 1)
 
 -- a call that changes the disk: made, not made, or made and answered Err
 abbrev pub Answers : {T E : Type 0} → Turn → Call → Result T E → History → History → Type 0
-Answers Make call result old new = OnOk result (new ≡ with_call call old) × OnErr result (new ≡ with_failure old)
+Answers Make call result old new =
+    OnOk result (new ≡ with_call call old) × OnErr result (new ≡ with_failure old)
 Answers Skip call result old new = IsErr result × (new ≡ old)
-Answers MakeAndFail call result old new = IsErr result × ((new ≡ with_call call old) ⊎ (new ≡ with_failure old))
+Answers MakeAndFail call result old new =
+    IsErr result × ((new ≡ with_call call old) ⊎ (new ≡ with_failure old))
 
 -- a call that changes nothing
 abbrev pub AnswersRead : {T E : Type 0} → Turn → Result T E → Type 0

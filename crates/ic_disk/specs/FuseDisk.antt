@@ -1,4 +1,4 @@
--- The parts of the disk with a fuse that clauses speak of.
+-- The parts of the disk with a fuse that contracts of public calls speak of. To be read.
 use Rattle.std.specs.Prelude.{◌≡◌, ◌+◌, ℕ}
 use Rattle.ic_disk.specs.History.{History}
 use Rattle.ic_disk.specs.Fuse.{turn_of, one_call_more}

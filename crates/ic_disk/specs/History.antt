@@ -1,4 +1,5 @@
--- What the disk in memory has been through, and what follows from it. This project's choice.
+-- What the disk in memory has been through, and what follows from it.
+-- To be read: contracts of public calls cite it. This project's choice.
 use Rattle.std.specs.Prelude.{◌+◌, ◌-◌, ◌^◌, ◌≤◌, ℕ, min, List, [], ◌∷◌, ◌++◌, length, take}
 use Rattle.ic_disk.specs.Model.{Call, State, begun, after, IsImageIn}
 use Rattle.ic_disk.specs.Time.{Elapses}
@@ -30,7 +31,8 @@ content_of h = (state h).content
 abbrev pub image_of : History → List ℕ → Type 0
 image_of h = IsImageIn (state h)
 
--- What a crash may have left after some number of calls, from t on. In the midst of a write its range is pending, as after it.
+-- What a crash may have left after some number of calls, from t on. In the midst of a write its
+-- range is pending, as after it.
 abbrev pub IsLeftSince : History → ℕ → List ℕ → Type 0
 IsLeftSince h t file = (k : ℕ) × (t ≤ k) × (k ≤ length h.calls) × IsImageIn (state_at k h) file
 
@@ -49,4 +51,5 @@ with_call call h = record { first = h.first; calls = h.calls ++ call ∷ []; fai
 
 -- with one failure more, up to 2^64 - 1
 abbrev pub with_failure : History → History
-with_failure h = record { first = h.first; calls = h.calls; failures = min (h.failures + 1) (2 ^ 64 - 1) }
+with_failure h =
+    record { first = h.first; calls = h.calls; failures = min (h.failures + 1) (2 ^ 64 - 1) }

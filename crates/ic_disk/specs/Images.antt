@@ -1,4 +1,5 @@
--- What a crash may leave of a disk, as tests on lists of bytes. This project's choice.
+-- What a crash may leave of a disk, as tests on lists of bytes.
+-- To be read: contracts of public calls cite it. This project's choice.
 use Rattle.std.specs.Prelude.{◌≡◌, ◌≢◌, ◌⊎◌, ℕ, ◌+◌, ◌<◌, ◌≤◌, List, [], ◌∷◌, length, slice_index}
 use Rattle.ic_disk.specs.Content.{laid, bytes_at}
 
@@ -34,7 +35,8 @@ pub record IsImage (synced : List ℕ) (pending : List Range) (left : List ℕ) 
   pub agrees : AgreesOutside pending synced left
   pub settled : pending ≡ [] → left ≡ synced
 
--- A write of n bytes at a place has torn the old file: any bytes there and past its end, the same elsewhere.
+-- A write of n bytes at a place has torn the old file: any bytes there and past its end, the same
+-- elsewhere.
 pub record Torn (at n : ℕ) (old new : List ℕ) : Type 0 where
   pub no_shorter : length old ≤ length new
   pub before : (i : ℕ) → i < length old → i < at → slice_index new i ≡ slice_index old i
@@ -44,9 +46,10 @@ pub record Torn (at n : ℕ) (old new : List ℕ) : Type 0 where
 abbrev pub TornFrom : ℕ → ℕ → (List ℕ → Type 0) → List ℕ → Type 0
 TornFrom at n images file = (image : List ℕ) × images image × Torn at n image file
 
--- One of the images torn by a write of these bytes, or the content with the bytes laid over it, torn by a second write, of
--- m bytes.
-abbrev pub TornInTurn : (at : ℕ) (bytes : List ℕ) (other m : ℕ) → (content : List ℕ) → (List ℕ → Type 0) → List ℕ → Type 0
+-- One of the images torn by a write of these bytes, or the content with them laid over it, torn by a
+-- second write, of m bytes.
+abbrev pub TornInTurn : (at : ℕ) (bytes : List ℕ) (other m : ℕ) (content : List ℕ)
+    → (List ℕ → Type 0) → List ℕ → Type 0
 TornInTurn at bytes other m content images file =
     TornFrom at (length bytes) images file ⊎ Torn other m (laid at bytes content) file
 
@@ -69,6 +72,7 @@ pub record Only (file : List ℕ) (images : List ℕ → Type 0) : Type 0 where
   pub no_other : (other : List ℕ) → images other → other ≡ file
 
 -- A call that failed has changed nothing, or the torn images have joined.
-abbrev pub StaysOrTears : (at n : ℕ) (content new_content : List ℕ) (images new_images : List ℕ → Type 0) → Type 0
+abbrev pub StaysOrTears : (at n : ℕ) (content new_content : List ℕ)
+    (images new_images : List ℕ → Type 0) → Type 0
 StaysOrTears at n content new_content images new_images =
     ((new_content ≡ content) × Within new_images images) ⊎ Within (TornFrom at n images) new_images

@@ -3,6 +3,7 @@ pub mod Images
 pub mod Time
 pub mod Model
 pub mod History
+pub mod DiskCalls
 pub mod Crash
 pub mod Fuse
 pub mod FuseDisk

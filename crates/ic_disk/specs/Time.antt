@@ -1,15 +1,19 @@
--- What crashes at the moments of a run may leave. This project's choice.
+-- What crashes at the moments of a run may leave, and how failures are counted.
+-- To be read: contracts of public calls cite it. This project's choice.
 use Rattle.std.specs.Prelude.{◌≡◌, ◌⊎◌, ℕ, ◌+◌, ◌-◌, ◌^◌, ◌<◌, ◌≤◌, List, Result, MatchResult}
 
--- Time goes on by one call: a crash since t may have left what it might have left before, or what the midst of the call leaves.
-pub record Elapses (before now : ℕ) (past since : ℕ → List ℕ → Type 0) (midst : List ℕ → Type 0) : Type 0 where
+-- Time goes on by one call at most: a crash since t may have left what it might have left before,
+-- or what the midst of the call leaves.
+pub record Elapses (before now : ℕ) (past since : ℕ → List ℕ → Type 0)
+    (midst : List ℕ → Type 0) : Type 0 where
   pub later : before ≤ now
   pub one_call : now ≤ before + 1
   pub nothing_else : (t : ℕ) (file : List ℕ) → t ≤ before → since t file → past t file ⊎ midst file
   pub keeps : (t : ℕ) (file : List ℕ) → t ≤ before → past t file → since t file
 
 -- A crash at any moment from `old` to `new` leaves a file that has P.
-pub record LeavesOnly {D : Type 0} (clock : D → ℕ) (left : D → ℕ → List ℕ → Type 0) (old new : D) (P : List ℕ → Type 0) : Type 0 where
+pub record LeavesOnly {D : Type 0} (clock : D → ℕ) (left : D → ℕ → List ℕ → Type 0)
+    (old new : D) (P : List ℕ → Type 0) : Type 0 where
   pub later : clock old ≤ clock new
   pub each : (file : List ℕ) → left new (clock old) file → P file
   -- for a run that began earlier

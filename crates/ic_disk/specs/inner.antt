@@ -1,4 +1,5 @@
--- What contracts of private functions and types cite. A reader of the public contracts needs none of it.
+-- What contracts of private functions and types cite. A reader of the public contracts needs none
+-- of it.
 pub mod Noted
 pub mod MemDisk
 pub mod Writes

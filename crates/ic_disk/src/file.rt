@@ -1,5 +1,5 @@
 // A disk in a file of the operating system, of whose bytes no clause speaks.
-ghost use Rattle.std.specs.Prelude.{◌≡◌, [], false, IfOk};
+ghost use Rattle.std.specs.Prelude.{◌≡◌, [], false, not, is_ok, IsTrue, IsErr, IfOk};
 ghost use Rattle.ic_disk.specs.Time.{CountsFailure};
 
 use crate::disk::count;
@@ -9,32 +9,75 @@ use std::io;
 use std::io::{Read, Seek, SeekFrom, Write};
 use std::rt::Files;
 
+/// A file that a disk can be in: one that other opens of it can be kept out of.
+pub trait DiskFile: Read + Write + Seek + OpenFile + Drop {
+    /// Locks the file for as long as it is open. An error where another open of it is locked.
+    fn lock_alone(&self) -> io::Result<()>;
+}
+
+impl DiskFile for File {
+    fn lock_alone(&self) -> io::Result<()> {
+        self.try_lock()?;
+        Ok(())
+    }
+}
+
 /// A disk in an open file. It makes the calls of a disk and counts those that fail, and it claims
-/// nothing of the bytes: whether it keeps the model is up to the system and the device.
+/// nothing of the bytes: whether it keeps the model is up to the system and the device. Once a sync
+/// has failed no later one is tried, and each is an `Err`: the system may have dropped what was
+/// written and still answer the next sync with success.
 #[derive(Debug, Drop)]
 pub struct FileDisk<F = File> {
     file: F,
     failures: u64,
+    sync_failed: bool,
 }
 
-impl<F: Read + Write + Seek + OpenFile + Drop> FileDisk<F> {
-    ghost use Rattle.ic_disk.specs.FileDisk.{failures_of};
+impl<F: DiskFile> FileDisk<F> {
+    ghost use Rattle.ic_disk.specs.FileDisk.{failures_of, has_lost_sync};
 
-    /// Opens the file to read and write. With `create` a file that is missing is made, and one that
-    /// is there stays as it is. A folder, or a file that may not be read and written, is an error.
+    /// Opens the file to read and write, and locks it (by an advisory lock on the whole file) for
+    /// as long as the disk lives: a second open of it is an error meanwhile, in this process too.
+    /// With `create` a file that is missing is made, one that is there stays as it is, and the
+    /// folder is synced. A folder, or a file that may not be read and written, is an error.
     pub fn open<R: Files<File = F>>(
         rt: &R,
         path: &str,
         create: bool,
     ) -> Result<FileDisk<F>, DiskFault>
-        ensures { IfOk result (λ disk. failures_of disk ≡ 0) }
+        ensures failures { IfOk result (λ disk. failures_of disk ≡ 0) }
+        ensures syncs { IfOk result (λ disk. has_lost_sync disk ≡ false) }
     {
-        let mut how = OpenOptions::new();
-        how.read(true).write(true).create(create);
-        match how.open(rt, path) {
-            Ok(file) => Ok(FileDisk { file, failures: 0 }),
+        match open_alone(rt, path, create) {
+            Ok(file) => Ok(FileDisk {
+                file,
+                failures: 0,
+                sync_failed: false,
+            }),
             Err(_) => Err(DiskFault),
         }
+    }
+}
+
+// The file, locked. What a call that was killed has made may not be in its folder for good yet, so
+// the folder is synced even where the file was there.
+fn open_alone<F: DiskFile, R: Files<File = F>>(rt: &R, path: &str, create: bool) -> io::Result<F> {
+    let mut how = OpenOptions::new();
+    how.read(true).write(true).create(create);
+    let file = how.open(rt, path)?;
+    file.lock_alone()?;
+    if create {
+        File::open(rt, folder_of(path))?.sync_all()?;
+    }
+    Ok(file)
+}
+
+// The folder in which a path's last name stands.
+fn folder_of(path: &str) -> &str {
+    match path.rsplit_once('/') {
+        Some(("", _)) => "/",
+        Some((folder, _)) => folder,
+        None => ".",
     }
 }
 
@@ -68,7 +111,22 @@ fn fill_to<F: OpenFile>(file: &F, end: u64) -> io::Result<()> {
     Ok(())
 }
 
-impl<F: Read + Write + Seek + OpenFile + Drop> Disk for FileDisk<F> {
+// Syncs the file, unless a sync has failed before.
+fn sync_once<F: OpenFile>(file: &F, failed: &mut bool) -> io::Result<()>
+    ensures refuses { IsTrue failed.old → IsErr result }
+    ensures remembers { failed.new ≡ not (is_ok result) }
+{
+    if *failed {
+        return Err(io::ErrorKind::Other.into());
+    }
+    let outcome = file.sync_all();
+    *failed = outcome.is_err();
+    outcome
+}
+
+impl<F: DiskFile> Disk for FileDisk<F> {
+    ghost use Rattle.ic_disk.specs.FileDisk.{failures_of, has_lost_sync};
+
     ghost keeps = { λ _. false };
 
     ghost content = { λ _. [] };
@@ -87,92 +145,35 @@ impl<F: Read + Write + Seek + OpenFile + Drop> Disk for FileDisk<F> {
 
     ghost left_is_image = { λ _ _ _. tt };
 
-    fn len(&mut self) -> Result<u64, DiskFault> {
+    fn len(&mut self) -> Result<u64, DiskFault>
+        ensures counted { CountsFailure result (failures_of self.old) (failures_of self.new) }
+        ensures syncs { has_lost_sync self.new ≡ has_lost_sync self.old }
+    {
         count(len_of(&self.file), &mut self.failures)
     }
 
-    fn read(&mut self, at: u64, into: &mut [u8]) -> Result<(), DiskFault> {
+    fn read(&mut self, at: u64, into: &mut [u8]) -> Result<(), DiskFault>
+        ensures counted { CountsFailure result (failures_of self.old) (failures_of self.new) }
+        ensures syncs { has_lost_sync self.new ≡ has_lost_sync self.old }
+    {
         count(read_range(&mut self.file, at, into), &mut self.failures)
     }
 
-    fn write_at(&mut self, at: u64, bytes: &[u8]) -> Result<(), DiskFault> {
+    fn write_at(&mut self, at: u64, bytes: &[u8]) -> Result<(), DiskFault>
+        ensures counted { CountsFailure result (failures_of self.old) (failures_of self.new) }
+        ensures syncs { has_lost_sync self.new ≡ has_lost_sync self.old }
+    {
         count(write_range(&mut self.file, at, bytes), &mut self.failures)
     }
 
-    fn sync(&mut self) -> Result<(), DiskFault> {
-        count(self.file.sync_all(), &mut self.failures)
-    }
-}
+    fn sync(&mut self) -> Result<(), DiskFault>
+        ensures counted { CountsFailure result (failures_of self.old) (failures_of self.new) }
 
-#[cfg(test)]
-mod tests {
-    use super::*;
-    use std::cell::Cell;
-    use std::fs::Metadata;
-
-    /// A file that counts its syncs, of content and length, and refuses one where it is told to.
-    #[derive(Drop)]
-    struct CountedFile<'a> {
-        syncs: &'a Cell<u32>,
-        refuses: bool,
-    }
-
-    impl Read for CountedFile<'_> {
-        fn read(&mut self, _buf: &mut [u8]) -> io::Result<usize> {
-            Ok(0)
-        }
-    }
-
-    impl Write for CountedFile<'_> {
-        fn write(&mut self, buf: &[u8]) -> io::Result<usize> {
-            Ok(buf.len())
-        }
-
-        fn flush(&mut self) -> io::Result<()> {
-            Ok(())
-        }
-    }
-
-    impl Seek for CountedFile<'_> {
-        fn seek(&mut self, _pos: SeekFrom) -> io::Result<u64> {
-            Ok(0)
-        }
-    }
-
-    impl OpenFile for CountedFile<'_> {
-        fn metadata(&self) -> io::Result<Metadata> {
-            Err(io::ErrorKind::Unsupported.into())
-        }
-
-        fn set_len(&self, _size: u64) -> io::Result<()> {
-            Ok(())
-        }
-
-        fn sync_all(&self) -> io::Result<()> {
-            if self.refuses {
-                return Err(io::ErrorKind::Other.into());
-            }
-            self.syncs.set(self.syncs.get().saturating_add(1));
-            Ok(())
-        }
-
-        fn sync_data(&self) -> io::Result<()> {
-            Ok(())
-        }
-    }
-
-    #[test]
-    fn a_sync_reaches_the_file(rt: HostRuntime) {
-        let syncs = Cell::new(0);
-        for (refuses, answer) in [(false, Ok(())), (true, Err(DiskFault))] {
-            let file = CountedFile {
-                syncs: &syncs,
-                refuses,
-            };
-            let mut disk = FileDisk { file, failures: 0 };
-            assert_eq!(rt; disk.sync(), answer);
-            assert_eq!(rt; disk.len(), Err(DiskFault));
-        }
-        assert_eq!(rt; syncs.get(), 1);
+        // Once one has failed, each later one does.
+        ensures refuses { IsTrue (has_lost_sync self.old) → IsErr result }
+        ensures remembers { has_lost_sync self.new ≡ not (is_ok result) }
+    {
+        let outcome = sync_once(&self.file, &mut self.sync_failed);
+        count(outcome, &mut self.failures)
     }
 }

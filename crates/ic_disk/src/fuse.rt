@@ -1,11 +1,11 @@
 // A disk in memory of which some call fails, as a test likes.
 ghost use Rattle.std.specs.Prelude.{◌≡◌, ◌⊎◌, ◌+◌, ◌≤◌, true, length, IfOk, OnOk, OnErr};
-ghost use Rattle.ic_disk.specs.Content.{bytes_at, laid};
+ghost use Rattle.ic_disk.specs.Content.{bytes_at};
+ghost use Rattle.ic_disk.specs.DiskCalls.{IsDiskSync, IsDiskWrite};
 ghost use Rattle.ic_disk.specs.Fuse.{turn_of, one_call_more, Answers, AnswersRead};
 ghost use Rattle.ic_disk.specs.Model.{write_of, sync};
-ghost use Rattle.ic_disk.specs.History.{content_of, image_of, IsLeftSince, Passes};
+ghost use Rattle.ic_disk.specs.History.{content_of, image_of, IsLeftSince};
 ghost use Rattle.ic_disk.specs.lemmas.HistoryLaws as laws;
-ghost use Rattle.ic_disk.specs.Images.{Only, StaysOrTears, Torn, TornFrom, Within};
 ghost use Rattle.ic_disk.specs.Time.{CountsFailure};
 
 use crate::disk::count;
@@ -196,21 +196,7 @@ impl Disk for FuseDisk {
 
         // What follows, in the words of the trait.
         ensures counted { CountsFailure result (failures_of self.old) (failures_of self.new) }
-        ensures written { OnOk result
-            (content_of (disk_of self.new) ≡ laid at bytes.now (content_of (disk_of self.old))) }
-        ensures torn { OnErr result (Torn at (length bytes.now)
-            (content_of (disk_of self.old)) (content_of (disk_of self.new))) }
-        ensures images { Within (image_of (disk_of self.new))
-            (TornFrom at (length bytes.now) (image_of (disk_of self.old))) }
-        ensures stay { Within (image_of (disk_of self.old)) (image_of (disk_of self.new)) }
-        ensures reached { OnOk result
-            (Within (TornFrom at (length bytes.now) (image_of (disk_of self.old)))
-            (image_of (disk_of self.new))) }
-        ensures failed { OnErr result (StaysOrTears at (length bytes.now)
-            (content_of (disk_of self.old)) (content_of (disk_of self.new))
-            (image_of (disk_of self.old)) (image_of (disk_of self.new))) }
-        ensures time { Passes (disk_of self.old) (disk_of self.new)
-            (TornFrom at (length bytes.now) (image_of (disk_of self.old))) }
+        ensures writes { IsDiskWrite at bytes.now result (disk_of self.old) (disk_of self.new) }
     {
         self.make_write(at, bytes)
     }
@@ -222,14 +208,7 @@ impl Disk for FuseDisk {
 
         // What follows, in the words of the trait.
         ensures counted { CountsFailure result (failures_of self.old) (failures_of self.new) }
-        ensures same { content_of (disk_of self.new) ≡ content_of (disk_of self.old) }
-        ensures durable { OnOk result
-            (Only (content_of (disk_of self.old)) (image_of (disk_of self.new))) }
-        ensures images { Within (image_of (disk_of self.new)) (image_of (disk_of self.old)) }
-        ensures failed { OnErr result
-            (Within (image_of (disk_of self.old)) (image_of (disk_of self.new))
-            ⊎ Only (content_of (disk_of self.old)) (image_of (disk_of self.new))) }
-        ensures time { Passes (disk_of self.old) (disk_of self.new) (image_of (disk_of self.old)) }
+        ensures syncs { IsDiskSync result (disk_of self.old) (disk_of self.new) }
     {
         self.make_sync()
     }

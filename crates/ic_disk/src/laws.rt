@@ -1,5 +1,5 @@
-//! What any disk that keeps the model is good for, proved from the clauses of its calls alone, and laws of the
-//! definitions that those cite.
+//! What any disk that keeps the model is good for, proved from the clauses of its calls alone, and
+//! laws of the definitions that those cite.
 ghost use Rattle.std.specs.Prelude.{◌≡◌, ◌⊎◌, ◌+◌, ◌-◌, ◌^◌, ◌<◌, ◌≤◌, ◌↔◌, [], ◌∷◌, List, ℕ, length, IsTrue, OnOk, OnErr};
 ghost use Rattle.ic_disk.specs.Content.{laid};
 ghost use Rattle.ic_disk.specs.Crash.{Takes};
@@ -67,7 +67,7 @@ pub fn write_and_mark<D: Disk>(
         → (mark_at < at) ⊎ (at + length bytes.now ≤ mark_at)
         → IsUnmarked mark_at mark (D.image disk.old)
         → LeavesOnly D.clock D.left disk.old disk.new
-            (WholeIfMarked at bytes.now mark_at mark) }
+        (WholeIfMarked at bytes.now mark_at mark) }
 
     // It makes at most four calls.
     ensures calls { IsTrue (D.keeps disk.old) → D.clock disk.new ≤ D.clock disk.old + 4 }
@@ -92,8 +92,8 @@ pub fn write_as_modelled<D: Disk>(disk: &mut D, at: u64, bytes: &[u8]) -> Result
     // At Err nothing has changed, or the range is pending and the content torn there.
     ensures err { (s : State) → IsTrue (D.keeps disk.old) → IsInState D.content D.image disk.old s
         → OnErr result (IsInState D.content D.image disk.new s
-            ⊎ IsInState D.content D.image disk.new
-                (after_failed (record { at = at; bytes = bytes.now }) (D.content disk.new) s)) }
+        ⊎ IsInState D.content D.image disk.new
+        (after_failed (record { at = at; bytes = bytes.now }) (D.content disk.new) s)) }
     ensures torn { (s : State) → IsTrue (D.keeps disk.old) → IsInState D.content D.image disk.old s
         → OnErr result (Torn at (length bytes.now) s.content (D.content disk.new)) }
 
@@ -108,7 +108,7 @@ pub fn write_as_modelled<D: Disk>(disk: &mut D, at: u64, bytes: &[u8]) -> Result
     // Where all was synced, an image is whatever agrees with what was there outside the range.
     ensures settled { IsTrue (D.keeps disk.old) → Only (D.content disk.old) (D.image disk.old)
         → OnOk result ((file : List ℕ) → D.image disk.new file
-            ↔ AgreesOutside (one_range at (length bytes.now)) (D.content disk.old) file) }
+        ↔ AgreesOutside (one_range at (length bytes.now)) (D.content disk.old) file) }
 {
     disk.write_at(at, bytes)
 }
@@ -119,7 +119,7 @@ pub fn sync_as_modelled<D: Disk>(disk: &mut D) -> Result<(), DiskFault>
         → OnOk result (IsInState D.content D.image disk.new (after sync s)) }
     ensures err { (s : State) → IsTrue (D.keeps disk.old) → IsInState D.content D.image disk.old s
         → OnErr result (IsInState D.content D.image disk.new s
-            ⊎ IsInState D.content D.image disk.new (after sync s)) }
+        ⊎ IsInState D.content D.image disk.new (after sync s)) }
     ensures reached { IsTrue (D.keeps disk.old) → (file : List ℕ)
         → D.image disk.old file ⊎ D.image disk.new file → D.left disk.new (D.clock disk.old) file }
     ensures midst { (s : State) → IsTrue (D.keeps disk.old) → IsInState D.content D.image disk.old s

@@ -1,9 +1,10 @@
 // A disk in memory, which keeps the model, and may be crashed as a test likes.
 ghost use Rattle.std.specs.Prelude.{◌≡◌, ◌⊎◌, ◌≤◌, ◌++◌, ◌∷◌, [], List, ℕ, map, take, ◌+◌, ◌-◌, ◌^◌, min, length, is_ok, IsOk, OnOk, OnErr, IfOk, true};
-ghost use Rattle.ic_disk.specs.Content.{bytes_at, laid};
+ghost use Rattle.ic_disk.specs.Content.{bytes_at};
+ghost use Rattle.ic_disk.specs.DiskCalls.{IsDiskSync, IsDiskWrite};
 ghost use Rattle.ic_disk.specs.Model.{write_of, sync};
-ghost use Rattle.ic_disk.specs.History.{fresh, content_of, with_call, with_failure, state, image_of, IsLeftSince, Passes};
-ghost use Rattle.ic_disk.specs.Images.{Only, StaysOrTears, Torn, TornFrom, Within};
+ghost use Rattle.ic_disk.specs.History.{fresh, content_of, with_call, with_failure, state, image_of, IsLeftSince};
+ghost use Rattle.ic_disk.specs.Images.{Only};
 ghost use Rattle.ic_disk.specs.Time.{CountsFailure};
 ghost use Rattle.ic_disk.specs.lemmas.HistoryLaws as laws;
 ghost use Rattle.ic_disk.specs.inner.Noted.{call_of, first_of};
@@ -26,9 +27,9 @@ pub enum Choice {
     Front(u64),
 }
 
-/// A disk in memory. Writes are laid over its bytes in place, and a copy of each is kept, from which
-/// what a crash may have left at any moment can be told. So a write takes time in its own bytes (the
-/// first one copies the disk), a sync none, and a crash time in all that was ever written.
+/// A disk in memory. Writes are laid over its bytes in place, and a copy of each is kept, from
+/// which what a crash may have left at any moment can be told. So a write takes time in its own
+/// bytes (the first one copies the disk), a sync none, and a crash time in all that was ever written.
 #[derive(Debug, Drop)]
 pub struct MemDisk {
     content: Vec<u8>,
@@ -245,19 +246,7 @@ impl Disk for MemDisk {
 
         // What follows, in the words of the trait.
         ensures counted { CountsFailure result self.old.failures self.new.failures }
-        ensures written { OnOk result
-            (content_of self.new ≡ laid at bytes.now (content_of self.old)) }
-        ensures torn { OnErr result
-            (Torn at (length bytes.now) (content_of self.old) (content_of self.new)) }
-        ensures images { Within (image_of self.new)
-            (TornFrom at (length bytes.now) (image_of self.old)) }
-        ensures stay { Within (image_of self.old) (image_of self.new) }
-        ensures reached { OnOk result
-            (Within (TornFrom at (length bytes.now) (image_of self.old)) (image_of self.new)) }
-        ensures failed { OnErr result (StaysOrTears at (length bytes.now)
-            (content_of self.old) (content_of self.new) (image_of self.old) (image_of self.new)) }
-        ensures time { Passes self.old self.new
-            (TornFrom at (length bytes.now) (image_of self.old)) }
+        ensures writes { IsDiskWrite at bytes.now result self.old self.new }
     {
         self.make_write(at as usize, bytes)
     }
@@ -268,12 +257,7 @@ impl Disk for MemDisk {
 
         // What follows, in the words of the trait.
         ensures counted { CountsFailure result self.old.failures self.new.failures }
-        ensures same { content_of self.new ≡ content_of self.old }
-        ensures durable { OnOk result (Only (content_of self.old) (image_of self.new)) }
-        ensures images { Within (image_of self.new) (image_of self.old) }
-        ensures failed { OnErr result (Within (image_of self.old) (image_of self.new)
-            ⊎ Only (content_of self.old) (image_of self.new)) }
-        ensures time { Passes self.old self.new (image_of self.old) }
+        ensures syncs { IsDiskSync result self.old self.new }
     {
         self.make_sync()
     }

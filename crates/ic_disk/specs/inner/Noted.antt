@@ -1,4 +1,4 @@
--- What the disk in memory keeps of its past.
+-- What the disk in memory keeps of its past. Inner: private functions cite it.
 use Rattle.std.specs.Prelude.{ℕ, List, Option, Some, None, Vec}
 use Rattle.std.specs.declared.alloc.Global.{Global}
 use Rattle.ic_disk.specs.Model.{Call, write, sync}

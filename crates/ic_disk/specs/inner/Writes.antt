@@ -1,4 +1,4 @@
--- What the disk in memory makes of its writes one after another.
+-- What the disk in memory makes of its writes one after another. Inner: private functions cite it.
 use Rattle.std.specs.Prelude.{ℕ, ◌+◌, ◌-◌, ◌≤◌, List, [], ◌∷◌, length, replicate}
 use Rattle.ic_disk.specs.Content.{laid}
 use Rattle.ic_disk.specs.Model.{Write, Call, write, sync}
@@ -17,7 +17,8 @@ laid_all (w ∷ ws) file = laid_all ws (laid w.at w.bytes file)
 -- the file with this byte in the range of each write
 abbrev pub filled_all : ℕ → List Write → List ℕ → List ℕ
 filled_all byte [] file = file
-filled_all byte (w ∷ ws) file = filled_all byte ws (laid w.at (replicate (length w.bytes) byte) file)
+filled_all byte (w ∷ ws) file =
+    filled_all byte ws (laid w.at (replicate (length w.bytes) byte) file)
 
 -- the file with this byte in each place from n on
 abbrev pub filled_past : ℕ → ℕ → List ℕ → List ℕ

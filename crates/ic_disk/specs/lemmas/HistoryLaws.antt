@@ -1,4 +1,4 @@
--- That the laws of a disk hold of a history.
+-- Lemmas: that the laws of a disk hold of a history.
 use Rattle.std.proofs.Common.{◌≡◌, ℕ, ◌≤◌, List, [], ◌∷◌, ◌++◌, length, map, refl, sym, ap, subst, arith}
 use Rattle.std.proofs.lemmas.List.{take_all, map_push}
 use Rattle.ic_disk.specs.Content.{laid}

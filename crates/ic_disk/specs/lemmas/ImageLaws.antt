@@ -1,4 +1,4 @@
--- Files that are torn, and what a crash may leave while ranges are pending.
+-- Lemmas: files that are torn, and what a crash may leave while ranges are pending.
 use Rattle.std.proofs.Common.{◌≡◌, ⊎_elim, ℕ, ◌<◌, List, [], ◌∷◌, ◌++◌, length, get_or, refl, ◌∙◌, arith}
 use Rattle.ic_disk.specs.Content.{laid}
 use Rattle.ic_disk.specs.Images.{Range, IsOutside, IsImage, Torn, TornFrom, Within, Only}

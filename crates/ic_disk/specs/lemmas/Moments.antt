@@ -1,4 +1,4 @@
--- Lemmas: how a run of calls begins, goes on, is joined to another and weakened, and what crashes leave of it.
+-- Lemmas: how a run of calls begins, goes on, is joined to another and is weakened.
 use Rattle.std.proofs.Common.{inl, inr, ⊎_elim, ℕ, List, arith}
 use Rattle.ic_disk.specs.Time.{Elapses, LeavesOnly}
 
