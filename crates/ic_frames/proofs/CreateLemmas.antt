@@ -1,0 +1,54 @@
+-- What a disk holds after its first frame is written.
+use Rattle.std.proofs.Common.{◌≡◌, ℕ, ◌+◌, ◌-◌, ◌<◌, ◌≤◌, Bool, true, false, List, [], ◌∷◌, length, get_or, drop, refl, sym, ◌∙◌, ap, subst, arith}
+use Rattle.std.proofs.lemmas.Bool.{true≢false}
+use Rattle.ic_disk.specs.Content.{laid}
+use Rattle.ic_disk.specs.lemmas.ContentLaws.{length-laid, laid-inside, laid-behind}
+use Rattle.ic_disk.specs.Images.{Torn}
+use Rattle.ic_disk.specs.lemmas.ImageLaws.{torn_laid}
+use Rattle.ic_frames.specs.declared.slot.Slot.TheVariants.{First, Second}
+use Rattle.ic_frames.specs.Fields.{is_open, IsMade}
+use Rattle.ic_frames.specs.Held.{Holds}
+use Rattle.ic_frames.specs.Standing.{Stands, IsStaged, IsFrame}
+use Rattle.ic_frames.proofs.FieldLemmas.{shut_from, open_from, whole_parts}
+use Rattle.ic_frames.proofs.HeldLemmas.{stands_holds}
+use Rattle.ic_frames.proofs.CrashLemmas.{staged_torn}
+use Rattle.ic_frames.proofs.FrameLemmas.{length-framed, number-framed, whole-framed, body-framed}
+use Rattle.ic_frames.proofs.KeepLemmas.{laid_byte, zero_is_one}
+
+module _ (held frame zeros file : List ℕ) (is : IsFrame 1 held frame) (short : length held ≤ 3036421) (long : length zeros ≡ 13) (zero_first : get_or zeros 0 0 ≡ 0) where
+  -- the gate of the second slot
+  second_gate : get_or (laid 4194304 zeros file) 4194304 0 ≡ 0
+  second_gate = laid-inside 4194304 zeros file 4194304 (omega arith) (omega (arith, long)) ∙ zero_first
+
+  still_closed : get_or (laid 0 (1 ∷ []) (laid 0 frame (laid 4194304 zeros file))) 4194304 0 ≡ 0
+  still_closed =
+      laid-behind 0 (1 ∷ []) (laid 0 frame (laid 4194304 zeros file)) 4194304 (omega arith)
+      ∙ laid-behind 0 frame (laid 4194304 zeros file) 4194304 (omega (arith, is.long, short))
+      ∙ second_gate
+
+  is_made : IsMade (laid 0 (1 ∷ []) (laid 0 frame (laid 4194304 zeros file)))
+  is_made = omega (arith, length-laid 0 (1 ∷ []) (laid 0 frame (laid 4194304 zeros file)), length-laid 0 frame (laid 4194304 zeros file), length-laid 4194304 zeros file, long)
+
+  staged_first : IsStaged First 1 held (laid 0 frame (laid 4194304 zeros file))
+  staged_first = record {
+    number_is = number-framed 0 0 1 held frame (laid 4194304 zeros file) (omega arith) is short;
+    whole = whole-framed 0 0 1 held frame (laid 4194304 zeros file) (omega arith) is short;
+    body_is = body-framed 0 0 1 held frame (laid 4194304 zeros file) (omega arith) is short;
+  }
+
+  pub created_holds : Holds held (laid 0 (1 ∷ []) (laid 0 frame (laid 4194304 zeros file)))
+  created_holds =
+      let c2 = laid 0 frame (laid 4194304 zeros file) in
+      let c3 = laid 0 (1 ∷ []) c2 in
+      let torn : Torn 0 1 c2 c3 = torn_laid 0 (1 ∷ []) c2 in
+      let still = staged_torn First 1 held c2 c3 staged_first torn in
+      let opened : get_or c3 0 0 ≡ 1 = laid_byte 0 1 c2 in
+      let stands : Stands First 1 true held c3 = record {
+        opened = open_from 0 c3 (omega (arith, is_made)) opened;
+        number_is = still.number_is;
+        whole = still.whole;
+        body_is = still.body_is;
+        shut = λ _. shut_from 4194304 c3 (λ is_one. zero_is_one (sym still_closed ∙ is_one));
+        older = λ e. absurd (true≢false e);
+      } in
+      stands_holds First 1 true held c3 stands is_made

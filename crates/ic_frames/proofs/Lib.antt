@@ -1,0 +1,10 @@
+pub mod FieldLemmas
+pub mod HeldLemmas
+pub mod CrashLemmas
+pub mod FrameLemmas
+pub mod KeepLemmas
+pub mod ReadLemmas
+pub mod FoundLemmas
+pub mod CreateLemmas
+pub mod LawLemmas
+pub mod PhaseLemmas

@@ -1,0 +1,105 @@
+-- What the phases of a keep leave of a disk, at each moment and at the end.
+use Rattle.std.proofs.Common.{◌≡◌, ◌⊎◌, inl, inr, ⊎_elim, ℕ, ◌+◌, ◌-◌, ◌<◌, ◌≤◌, Bool, true, false, List, [], ◌∷◌, length, drop, Result, Ok, Err, OnOk, refl, sym, ◌∙◌, ap, subst, arith}
+use Rattle.ic_disk.specs.Content.{laid}
+use Rattle.ic_disk.specs.Images.{TornFrom, Within, Only}
+use Rattle.ic_disk.specs.Time.{LeavesOnly}
+use Rattle.ic_disk.specs.lemmas.Moments.{leaves_weaker, then_runs}
+use Rattle.ic_frames.specs.declared.slot.Slot.{Slot}
+use Rattle.ic_frames.specs.Places.{place, other}
+use Rattle.ic_frames.specs.Held.{the_body, body_held, Holds, HoldsEither}
+use Rattle.ic_frames.specs.Standing.{IsStaged, IsKept, IsFrame}
+use Rattle.ic_frames.proofs.KeepLemmas.{gate_leaves, gate_kept, body_leaves, not_made_leaves, body_kept, open_leaves, open_kept, open_holds}
+
+module _ {D : Type 0} (content : D → List ℕ) (image : D → List ℕ → Type 0) (clock : D → ℕ) (left : D → ℕ → List ℕ → Type 0) (old new : D) (now : image old (content old)) (newest slot : Slot) (n : ℕ) (at : slot ≡ other newest) where
+  gate_run' : (staged made : Bool) → IsKept (content old) (image old) newest n false staged made → LeavesOnly clock left old new (TornFrom (place (other newest)) 1 (image old)) → (kept : List ℕ) → Within (image old) (Holds kept) → LeavesOnly clock left old new (Holds kept)
+  gate_run' staged made is run kept holds = leaves_weaker clock left old new (TornFrom (place (other newest)) 1 (image old)) (Holds kept) run (gate_leaves (content old) (image old) newest n staged made now is kept holds)
+
+  pub gate_run : (closed staged made : Bool) → IsKept (content old) (image old) newest n closed staged made → closed ≡ false → LeavesOnly clock left old new (TornFrom (place slot) 1 (image old)) → (kept : List ℕ) → Within (image old) (Holds kept) → LeavesOnly clock left old new (Holds kept)
+  gate_run closed staged made is opened run = gate_run' staged made (subst (λ (b : Bool). IsKept (content old) (image old) newest n b staged made) opened is)
+      (subst (λ (s : Slot). LeavesOnly clock left old new (TornFrom (place s) 1 (image old))) at run)
+
+  pub gate_end : (closed staged made : Bool) → IsKept (content old) (image old) newest n closed staged made → closed ≡ false → content new ≡ laid (place slot) (0 ∷ []) (content old) → Only (laid (place slot) (0 ∷ []) (content old)) (image new)
+      → IsKept (content new) (image new) newest n true staged made
+  gate_end closed staged made is opened written only =
+      subst (λ (c : List ℕ). IsKept c (image new) newest n true staged made) (sym (written ∙ ap (λ (s : Slot). laid (place s) (0 ∷ []) (content old)) at))
+      (gate_kept (content old) (image old) newest n staged made now (subst (λ (b : Bool). IsKept (content old) (image old) newest n b staged made) opened is) (image new)
+      (subst (λ (s : Slot). Only (laid (place s) (0 ∷ []) (content old)) (image new)) at only))
+
+  pub body_run : (closed staged made : Bool) (skip : ℕ) (frame : List ℕ) → IsKept (content old) (image old) newest n closed staged made → closed ≡ true → length frame ≤ 13 + 3036421 → ((made ≡ true) × (skip ≡ 1)) ⊎ ((made ≡ false) × (skip ≡ 0))
+      → LeavesOnly clock left old new (TornFrom (place slot + skip) (length frame - skip) (image old)) → (kept : List ℕ) → Within (image old) (Holds kept) → LeavesOnly clock left old new (Holds kept)
+  body_run closed staged made skip frame is shut short which run kept holds =
+      let kept_true = subst (λ (b : Bool). IsKept (content old) (image old) newest n b staged made) shut is in
+      ⊎_elim
+      (λ full. leaves_weaker clock left old new (TornFrom (place (other newest) + 1) (length frame - 1) (image old)) (Holds kept)
+      (subst (λ (k : ℕ). LeavesOnly clock left old new (TornFrom (place (other newest) + k) (length frame - k) (image old))) full.1
+      (subst (λ (s : Slot). LeavesOnly clock left old new (TornFrom (place s + skip) (length frame - skip) (image old))) at run))
+      (body_leaves (content old) (image old) newest n staged made now kept_true (length frame - 1) kept full.0 (omega arith) holds))
+      (λ cut. absurd (not_made_leaves (content old) (image old) newest n staged made now kept_true kept cut.0 holds))
+      which
+
+  pub body_end : (closed staged made : Bool) (skip : ℕ) (held frame : List ℕ) → IsKept (content old) (image old) newest n closed staged made → closed ≡ true → IsFrame (n + 1) held frame → length held ≤ 3036421 → ((made ≡ true) × (skip ≡ 1)) ⊎ ((made ≡ false) × (skip ≡ 0))
+      → content new ≡ laid (place slot + skip) (drop skip frame) (content old) → Only (laid (place slot + skip) (drop skip frame) (content old)) (image new)
+      → IsKept (content new) (image new) newest n closed true true × Within (image new) (IsStaged (other newest) (n + 1) held)
+  body_end closed staged made skip held frame is shut is_frame short which written only =
+      let both = body_kept (content old) (image old) newest n staged made now (subst (λ (b : Bool). IsKept (content old) (image old) newest n b staged made) shut is) skip held frame (image new) is_frame short which
+      (subst (λ (s : Slot). Only (laid (place s + skip) (drop skip frame) (content old)) (image new)) at only) in (
+        subst (λ (b : Bool). IsKept (content new) (image new) newest n b true true) (sym shut)
+            (subst (λ (c : List ℕ). IsKept c (image new) newest n true true true) (sym (written ∙ ap (λ (s : Slot). laid (place s + skip) (drop skip frame) (content old)) at)) both.0),
+        both.1,
+      )
+
+  staged_kept : (closed staged made : Bool) → IsKept (content old) (image old) newest n closed staged made → staged ≡ true → IsKept (content old) (image old) newest n true true true
+  staged_kept closed staged made is staged_now =
+      subst (λ (b : Bool). IsKept (content old) (image old) newest n b true true) (is.staged_in staged_now).0
+      (subst (λ (b : Bool). IsKept (content old) (image old) newest n closed true b) (is.staged_in staged_now).1
+      (subst (λ (b : Bool). IsKept (content old) (image old) newest n closed b made) staged_now is))
+
+  pub open_run : (closed staged made : Bool) → IsKept (content old) (image old) newest n closed staged made → staged ≡ true → LeavesOnly clock left old new (TornFrom (place slot) 1 (image old))
+      → (kept next : List ℕ) → Within (image old) (Holds kept) → Within (image old) (IsStaged (other newest) (n + 1) next) → LeavesOnly clock left old new (HoldsEither kept next)
+  open_run closed staged made is staged_now run kept next holds whole = leaves_weaker clock left old new (TornFrom (place (other newest)) 1 (image old)) (HoldsEither kept next)
+      (subst (λ (s : Slot). LeavesOnly clock left old new (TornFrom (place s) 1 (image old))) at run)
+      (open_leaves (content old) (image old) newest n now (staged_kept closed staged made is staged_now) kept next holds whole)
+
+  pub open_end : (closed staged made : Bool) → IsKept (content old) (image old) newest n closed staged made → staged ≡ true → content new ≡ laid (place slot) (1 ∷ []) (content old) → Only (laid (place slot) (1 ∷ []) (content old)) (image new)
+      → IsKept (content new) (image new) slot (n + 1) false false true
+  open_end closed staged made is staged_now written only =
+      subst (λ (s : Slot). IsKept (content new) (image new) s (n + 1) false false true) (sym at)
+      (subst (λ (c : List ℕ). IsKept c (image new) (other newest) (n + 1) false false true) (sym (written ∙ ap (λ (s : Slot). laid (place s) (1 ∷ []) (content old)) at))
+      (open_kept (content old) (image old) newest n now (staged_kept closed staged made is staged_now) (image new)
+      (subst (λ (s : Slot). Only (laid (place s) (1 ∷ []) (content old)) (image new)) at only)))
+
+  pub made_now : (closed staged made : Bool) → IsKept (content old) (image old) newest n closed staged made → staged ≡ true → made ≡ true
+  made_now closed staged made is staged_now = (is.staged_in staged_now).1
+
+  pub open_whole : (closed staged made : Bool) → IsKept (content old) (image old) newest n closed staged made → staged ≡ true → Only (laid (place slot) (1 ∷ []) (content old)) (image new)
+      → (next : List ℕ) → Within (image old) (IsStaged (other newest) (n + 1) next) → Within (image new) (Holds next)
+  open_whole closed staged made is staged_now only next whole =
+      open_holds (content old) (image old) newest n now (staged_kept closed staged made is staged_now) next (image new) whole
+      (subst (λ (s : Slot). Only (laid (place s) (1 ∷ []) (content old)) (image new)) at only)
+
+module _ {D : Type 0} (image : D → List ℕ → Type 0) (clock : D → ℕ) (left : D → ℕ → List ℕ → Type 0) where
+  -- what a run leaves at any moment is there at its end
+  pub at_end : (old new : D) (P : List ℕ → Type 0) → ((file : List ℕ) → image new file → left new (clock old) file) → LeavesOnly clock left old new P → Within (image new) P
+  at_end old new P counts run file is = run.each file (counts file is)
+
+  -- a keep: two phases that leave what was kept, and one that leaves that or the next
+  pub keep_run : (old closed staged new : D) (kept next : List ℕ) → LeavesOnly clock left old closed (Holds kept) → LeavesOnly clock left closed staged (Holds kept) → LeavesOnly clock left staged new (HoldsEither kept next)
+      → LeavesOnly clock left old new (HoldsEither kept next)
+  keep_run old closed staged new kept next first second third =
+      then_runs clock left old staged new (HoldsEither kept next) (HoldsEither kept next)
+      (then_runs clock left old closed staged (HoldsEither kept next) (Holds kept)
+      (leaves_weaker clock left old closed (Holds kept) (HoldsEither kept next) first (λ file is. inl is))
+      second (λ file is. inl is))
+      third (λ file is. is)
+
+  -- a keep that ended after the first two
+  pub stop_run : (old closed staged : D) (kept next : List ℕ) → LeavesOnly clock left old closed (Holds kept) → LeavesOnly clock left closed staged (Holds kept) → LeavesOnly clock left old staged (HoldsEither kept next)
+  stop_run old closed staged kept next first second =
+      then_runs clock left old closed staged (HoldsEither kept next) (Holds kept)
+      (leaves_weaker clock left old closed (Holds kept) (HoldsEither kept next) first (λ file is. inl is))
+      second (λ file is. inl is)
+
+-- what follows from what holds at Ok
+pub on_ok : {T E : Type 0} (r : Result T E) (P Q : Type 0) → (P → Q) → OnOk r P → OnOk r Q
+on_ok (Ok value) P Q f is = f is
+on_ok (Err fault) P Q f is = tt

@@ -1,0 +1,42 @@
+use Rattle.std.proofs.Common.{sym, ◌∙◌, ◌≤◌, ◌+◌, length, drop, arith, length-drop}
+use Rattle.ic_frames.proofs.PhaseLemmas.{body_run, body_end}
+use Rattle.ic_frames.proofs.frames.Frames.write_body.Goals as goal
+
+pub returns-in_err-write_frame-clause-any_moment : goal.returns-in_err-write_frame-clause-any_moment
+returns-in_err-write_frame-clause-any_moment g c kept keeps holds =
+    let disk = g.D.Disk in
+    let old = c.args.self.now in
+    let frame = c.fill_head.new.frame in
+    let short : length frame ≤ 13 + 3036421 = omega (arith, c.requires.short, c.fill_head.auto.frame) in
+    body_run disk.content disk.image disk.clock disk.left old.disk c.write_frame.new.disk (g.met.D.Disk.content_is_image old.disk) old.newest c.other.result old.number c.other.ensures
+    old.closed old.staged old.made c.written_from-skip.result frame (old.kept keeps c.in_ok-check_usable.ensures.ok.0) c.requires.closed short c.written_from-skip.ensures.which (c.write_frame.ensures.any_moment keeps) kept holds
+
+pub invariant_of-self-2 : goal.invariant_of-self-2
+invariant_of-self-2 g c = record {
+  kept = λ keeps_new ready.
+      let disk = g.D.Disk in
+      let old = c.args.self.now in
+      let keeps = sym c.write_frame.ensures.keeps ∙ keeps_new in
+      let short : length (drop 13 c.args.frame.now) ≤ 3036421 = omega (arith, c.requires.short, length-drop 13 c.args.frame.now) in
+      (body_end disk.content disk.image disk.clock disk.left old.disk c.write_frame.new.disk (g.met.D.Disk.content_is_image old.disk) old.newest c.other.result old.number c.other.ensures
+      old.closed old.staged old.made c.written_from-skip.result (drop 13 c.args.frame.now) c.fill_head.new.frame (old.kept keeps c.in_ok-check_usable.ensures.ok.0) c.requires.closed c.fill_head.ensures short c.written_from-skip.ensures.which
+      (c.in_ok-write_frame.ensures.written keeps) (c.in_ok-write_frame.ensures.durable keeps)).0;
+}
+
+pub returns-clause-any_moment : goal.returns-clause-any_moment
+returns-clause-any_moment g c kept keeps holds =
+    let disk = g.D.Disk in
+    let old = c.args.self.now in
+    let frame = c.fill_head.new.frame in
+    let short : length frame ≤ 13 + 3036421 = omega (arith, c.requires.short, c.fill_head.auto.frame) in
+    body_run disk.content disk.image disk.clock disk.left old.disk c.write_frame.new.disk (g.met.D.Disk.content_is_image old.disk) old.newest c.other.result old.number c.other.ensures
+    old.closed old.staged old.made c.written_from-skip.result frame (old.kept keeps c.in_ok-check_usable.ensures.ok.0) c.requires.closed short c.written_from-skip.ensures.which (c.write_frame.ensures.any_moment keeps) kept holds
+
+pub returns-clause-whole : goal.returns-clause-whole
+returns-clause-whole g c keeps =
+    let disk = g.D.Disk in
+    let old = c.args.self.now in
+    let short : length (drop 13 c.args.frame.now) ≤ 3036421 = omega (arith, c.requires.short, length-drop 13 c.args.frame.now) in
+    (body_end disk.content disk.image disk.clock disk.left old.disk c.write_frame.new.disk (g.met.D.Disk.content_is_image old.disk) old.newest c.other.result old.number c.other.ensures
+    old.closed old.staged old.made c.written_from-skip.result (drop 13 c.args.frame.now) c.fill_head.new.frame (old.kept keeps c.in_ok-check_usable.ensures.ok.0) c.requires.closed c.fill_head.ensures short c.written_from-skip.ensures.which
+    (c.in_ok-write_frame.ensures.written keeps) (c.in_ok-write_frame.ensures.durable keeps)).1

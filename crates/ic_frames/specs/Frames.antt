@@ -1,0 +1,30 @@
+-- The parts of two kept frames that clauses speak of.
+use Rattle.std.specs.Prelude.{ℕ, Bool}
+use Rattle.ic_disk.specs.declared.disk.Disk.{Ghosts}
+use Rattle.ic_frames.specs.declared.slot.Slot.{Slot}
+use Rattle.ic_frames.specs.Places.{other}
+use Rattle.ic_frames.specs.declared.frames.Frames.{Frames}
+
+-- the disk that they are on
+abbrev pub disk_of : {D : Type 0} {ghosts : Ghosts D} → Frames D ghosts → D
+disk_of f = f.disk
+
+-- the slot that is written next
+abbrev pub target_of : {D : Type 0} {ghosts : Ghosts D} → Frames D ghosts → Slot
+target_of f = other f.newest
+
+-- the number of the newest slot
+abbrev pub number_of : {D : Type 0} {ghosts : Ghosts D} → Frames D ghosts → ℕ
+number_of f = f.number
+
+-- a call to the disk has failed
+abbrev pub is_broken : {D : Type 0} {ghosts : Ghosts D} → Frames D ghosts → Bool
+is_broken f = f.broken
+
+-- the slot that is written next is closed
+abbrev pub is_closed : {D : Type 0} {ghosts : Ghosts D} → Frames D ghosts → Bool
+is_closed f = f.closed
+
+-- its number and body are written behind the closed gate
+abbrev pub is_staged : {D : Type 0} {ghosts : Ghosts D} → Frames D ghosts → Bool
+is_staged f = f.staged

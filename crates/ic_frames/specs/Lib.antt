@@ -1,0 +1,9 @@
+pub mod Places
+pub mod Fields
+pub mod Held
+pub mod Standing
+pub mod Frames
+pub mod Faults
+pub mod Reading
+pub mod Opening
+pub mod Opened

@@ -1,0 +1,33 @@
+// The first body of a disk.
+ghost use Rattle.std.specs.Prelude.{◌≡◌, ◌+◌, ◌≤◌, length, drop, IsTrue, OnOk};
+ghost use Rattle.ic_disk.specs.Images.{Within};
+ghost use Rattle.ic_disk.specs.Time.{CountsFailure};
+ghost use Rattle.ic_frames.specs.Held.{Holds, body_held, the_body};
+
+use crate::frame::fill_head;
+use crate::writes::{write_frame, write_gate};
+use crate::{HEAD, SECOND_AT, Slot};
+use ic_disk::laws::write_synced;
+use ic_disk::{Disk, DiskFault};
+
+/// Writes the body of this frame as the first one of a disk, whatever the disk had. The head of the
+/// frame is filled in. After a refusal it is to be done again.
+pub fn create<D: Disk>(disk: &mut D, frame: &mut [u8]) -> Result<(), DiskFault>
+    requires head { 13 ≤ length frame.old }
+    requires short { length frame.old ≤ 13 + 3036421 }
+
+    ensures keeps { D.keeps disk.new ≡ D.keeps disk.old }
+    ensures counted { CountsFailure result (D.failures disk.old) (D.failures disk.new) }
+    ensures calls { IsTrue (D.keeps disk.old) → D.clock disk.new ≤ D.clock disk.old + 6 }
+
+    // At Ok a crash leaves that body, and so do reads.
+    ensures holds { IsTrue (D.keeps disk.old)
+        → OnOk result (Within (D.image disk.new) (Holds (drop 13 frame.old))) }
+    ensures held { IsTrue (D.keeps disk.old)
+        → OnOk result (body_held (D.content disk.new) ≡ the_body (drop 13 frame.old)) }
+{
+    fill_head(frame, 1);
+    write_synced(disk, SECOND_AT, &[0; HEAD])?;
+    write_frame(disk, Slot::First, 0, frame)?;
+    write_gate(disk, Slot::First, 1)
+}

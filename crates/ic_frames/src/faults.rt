@@ -1,0 +1,66 @@
+// Why a call was refused.
+ghost use Rattle.std.specs.Prelude.{◌≡◌};
+ghost use Rattle.ic_frames.specs.declared.faults.KeepFault.TheVariants.{Device as KeepDevice};
+ghost use Rattle.ic_frames.specs.declared.faults.OpenCause.TheVariants.{Device as OpenDevice, Memory};
+
+use ic_disk::DiskFault;
+use std::alloc::AllocError;
+use thiserror::Error;
+
+/// Why a keep, or a phase of one, was refused.
+#[derive(Clone, Copy, Debug, PartialEq, Eq, Error)]
+pub enum KeepFault {
+    #[error("an earlier call to the disk has failed")]
+    Broken,
+    #[error("the numbers of the slots are used up")]
+    Worn,
+    #[error("a call to the disk has failed")]
+    Device,
+}
+
+impl From<DiskFault> for KeepFault {
+    ghost from_gives = { λ _ e. e ≡ KeepDevice };
+
+    fn from(_: DiskFault) -> Self {
+        KeepFault::Device
+    }
+}
+
+/// Why no body was found on a disk.
+#[derive(Clone, Copy, Debug, PartialEq, Eq, Error)]
+pub enum OpenCause {
+    #[error("a call to the disk has failed")]
+    Device,
+    #[error("no slot of the disk is open")]
+    NoSlot,
+    #[error("the two slots of the disk have one number")]
+    TwoAlike,
+    #[error("the newest slot of the disk is damaged")]
+    Damaged,
+    #[error("out of memory")]
+    Memory,
+}
+
+impl From<DiskFault> for OpenCause {
+    ghost from_gives = { λ _ e. e ≡ OpenDevice };
+
+    fn from(_: DiskFault) -> Self {
+        OpenCause::Device
+    }
+}
+
+impl From<AllocError> for OpenCause {
+    ghost from_gives = { λ _ e. e ≡ Memory };
+
+    fn from(_: AllocError) -> Self {
+        OpenCause::Memory
+    }
+}
+
+/// A disk on which no body was found, and why.
+#[derive(Debug, Drop, Error)]
+#[error("{cause}")]
+pub struct OpenFault<D> {
+    pub disk: D,
+    pub cause: OpenCause,
+}

@@ -1,0 +1,307 @@
+// Two frames that are kept: a body, and the place for the next.
+ghost use Rattle.std.specs.Prelude.{◌≡◌, ◌⊎◌, ◌↔◌, ◌+◌, ◌-◌, ◌^◌, ◌<◌, ◌≤◌, ℕ, List, Bool, true, false, [], ◌∷◌, length, drop, IsTrue, OnOk, IsErr, IsErrOf, IfOk, IfErr, vec_capacity};
+ghost use Rattle.ic_disk.specs.Images.{Only, Within};
+ghost use Rattle.ic_disk.specs.Time.{LeavesOnly};
+ghost use Rattle.ic_frames.specs.Held.{Holds, HoldsEither, IsClosedIn, body_held, the_body};
+ghost use Rattle.ic_frames.specs.Standing.{IsStaged, IsKept};
+ghost use Rattle.ic_frames.specs.Faults.{CountsKeep, CountsOpen};
+ghost use Rattle.ic_frames.specs.Opening.{Answers};
+
+use crate::found::Found;
+use crate::frame::fill_head;
+use crate::opening::find;
+use crate::writes::{write_frame, write_gate};
+use crate::{KeepFault, OpenFault, Opened, Slot};
+use ic_disk::Disk;
+use std::alloc::Global;
+
+// From which byte on a frame is written: from behind its gate, or from the gate on where the disk
+// isn't made and a gate that was cut off from its head may be 1.
+fn written_from(made: bool) -> usize
+    ensures which { ((made ≡ true) × (result ≡ 1)) ⊎ ((made ≡ false) × (result ≡ 0)) }
+    ensures low { result ≤ 1 }
+{
+    if made { 1 } else { 0 }
+}
+
+/// A disk with two frames, of which the newest has the body that is kept.
+#[derive(Drop)]
+pub struct Frames<D: Disk> {
+    disk: D,
+    newest: Slot,
+    number: u64,
+    // Of the slot that is written next: whether it is closed, and whether a body is written there.
+    closed: bool,
+    staged: bool,
+    // Whether both heads lie within the disk.
+    made: bool,
+    broken: bool,
+    ghost kept: { IsTrue (D.keeps disk) → broken ≡ false
+        → IsKept (D.content disk) (D.image disk) newest number closed staged made },
+}
+
+impl<D: Disk> Frames<D> {
+    ghost use Rattle.ic_frames.specs.Frames.{disk_of, target_of, number_of, is_broken, is_closed, is_staged};
+    ghost use Rattle.ic_frames.specs.Opened.{disk_after, outcome_of};
+
+    /// Finds the newest body of a disk. It begins with a sync, and changes nothing. The frame has the
+    /// body, and room for the longest. A fault hands the disk back.
+    pub fn open(alloc: Global, mut disk: D) -> Result<Opened<D>, OpenFault<D>>
+        ensures keeps { D.keeps (disk_after result) ≡ D.keeps disk }
+        ensures counted { CountsOpen (outcome_of result)
+            (D.failures disk) (D.failures (disk_after result)) }
+
+        // It answers by what reads give.
+        ensures opened { IsTrue (D.keeps disk) → IfOk result (λ opened.
+            body_held (D.content disk) ≡ the_body (drop 13 opened.frame.items)) }
+        ensures refused { IsTrue (D.keeps disk) → IfErr result (λ fault.
+            Answers fault.cause (body_held (D.content disk))) }
+
+        ensures ready { IfOk result (λ opened. is_broken opened.frames ≡ false) }
+        ensures room { IfOk result (λ opened. 13 + 3036421 ≤ vec_capacity opened.frame) }
+        ensures head { IfOk result (λ opened. 13 ≤ length opened.frame.items) }
+
+        // A crash at any moment leaves an image from before. At Ok there is one, what reads give.
+        ensures any_moment { IsTrue (D.keeps disk)
+            → LeavesOnly D.clock D.left disk (disk_after result) (D.image disk) }
+        ensures same { IsTrue (D.keeps disk) → D.content (disk_after result) ≡ D.content disk }
+        ensures settled { IsTrue (D.keeps disk)
+            → OnOk result (Only (D.content disk) (D.image (disk_after result))) }
+    {
+        match find(alloc, &mut disk) {
+            Ok(found) => {
+                let Found {
+                    newest,
+                    made,
+                    frame,
+                } = found;
+                let frames = Frames {
+                    disk,
+                    newest: newest.slot,
+                    number: newest.head.number,
+                    closed: newest.alone,
+                    staged: false,
+                    made,
+                    broken: false,
+                };
+                Ok(Opened { frames, frame })
+            }
+            Err(cause) => Err(OpenFault { disk, cause }),
+        }
+    }
+
+    // Whether it may be written to.
+    fn check_usable(&self) -> Result<(), KeepFault>
+        ensures broken { IsErrOf result KeepFault.Broken ↔ (is_broken self.now ≡ true) }
+        ensures worn { IsErrOf result KeepFault.Worn
+            ↔ ((is_broken self.now ≡ false) × (number_of self.now ≡ 2 ^ 64 - 1)) }
+        ensures device { ¬ IsErrOf result KeepFault.Device }
+        ensures ok { OnOk result ((is_broken self.now ≡ false)
+            × (number_of self.now < 2 ^ 64 - 1)) }
+    {
+        if self.broken {
+            return Err(KeepFault::Broken);
+        }
+        if self.number == u64::MAX {
+            return Err(KeepFault::Worn);
+        }
+        Ok(())
+    }
+
+    /// Closes the gate of the slot that is written next. Where it is closed no call is made.
+    pub fn close_gate(&mut self) -> Result<(), KeepFault>
+        ensures keeps { D.keeps (disk_of self.new) ≡ D.keeps (disk_of self.old) }
+
+        // Refusals, in this order.
+        ensures broken { IsErrOf result KeepFault.Broken ↔ (is_broken self.old ≡ true) }
+        ensures worn { IsErrOf result KeepFault.Worn
+            ↔ ((is_broken self.old ≡ false) × (number_of self.old ≡ 2 ^ 64 - 1)) }
+        ensures counted { CountsKeep result
+            (D.failures (disk_of self.old)) (D.failures (disk_of self.new)) }
+        ensures breaks { IsErrOf result KeepFault.Device → is_broken self.new ≡ true }
+        ensures refused { IsErr result → is_broken self.new ≡ false
+            → disk_of self.new ≡ disk_of self.old }
+
+        ensures closed { OnOk result (is_closed self.new ≡ true) }
+        ensures ready { OnOk result (is_broken self.new ≡ false) }
+        ensures target { target_of self.new ≡ target_of self.old }
+        ensures number { number_of self.new ≡ number_of self.old }
+        ensures idle { is_closed self.old ≡ true → disk_of self.new ≡ disk_of self.old }
+        ensures calls { IsTrue (D.keeps (disk_of self.old))
+            → D.clock (disk_of self.new) ≤ D.clock (disk_of self.old) + 2 }
+
+        // A crash at any moment leaves the body that was kept, and at Ok the slot is closed.
+        ensures any_moment { (kept : List ℕ) → IsTrue (D.keeps (disk_of self.old))
+            → Within (D.image (disk_of self.old)) (Holds kept)
+            → LeavesOnly D.clock D.left (disk_of self.old) (disk_of self.new) (Holds kept) }
+        ensures shut { IsTrue (D.keeps (disk_of self.old)) → OnOk result
+            (Within (D.image (disk_of self.new)) (IsClosedIn (target_of self.old))) }
+    {
+        self.check_usable()?;
+        let closed = self.closed;
+        if closed {
+            return Ok(());
+        }
+        self.broken = true;
+        write_gate(&mut self.disk, self.newest.other(), 0)?;
+        self.closed = true;
+        self.broken = false;
+        Ok(())
+    }
+
+    /// Writes the body of this frame, and the next number, behind the closed gate. The head of the
+    /// frame is filled in. On a disk that isn't made the gate is written too, as closed.
+    pub fn write_body(&mut self, frame: &mut [u8]) -> Result<(), KeepFault>
+        requires closed { is_closed self.old ≡ true }
+        requires head { 13 ≤ length frame.old }
+        requires short { length frame.old ≤ 13 + 3036421 }
+
+        ensures keeps { D.keeps (disk_of self.new) ≡ D.keeps (disk_of self.old) }
+
+        // Refusals, in this order.
+        ensures broken { IsErrOf result KeepFault.Broken ↔ (is_broken self.old ≡ true) }
+        ensures worn { IsErrOf result KeepFault.Worn
+            ↔ ((is_broken self.old ≡ false) × (number_of self.old ≡ 2 ^ 64 - 1)) }
+        ensures counted { CountsKeep result
+            (D.failures (disk_of self.old)) (D.failures (disk_of self.new)) }
+        ensures breaks { IsErrOf result KeepFault.Device → is_broken self.new ≡ true }
+        ensures refused { IsErr result → is_broken self.new ≡ false
+            → disk_of self.new ≡ disk_of self.old }
+
+        ensures staged { OnOk result (is_staged self.new ≡ true) }
+        ensures ready { OnOk result (is_broken self.new ≡ false) }
+        ensures target { target_of self.new ≡ target_of self.old }
+        ensures number { number_of self.new ≡ number_of self.old }
+        ensures calls { IsTrue (D.keeps (disk_of self.old))
+            → D.clock (disk_of self.new) ≤ D.clock (disk_of self.old) + 2 }
+
+        // A crash at any moment leaves the body that was kept, and at Ok the next is whole behind
+        // the gate.
+        ensures any_moment { (kept : List ℕ) → IsTrue (D.keeps (disk_of self.old))
+            → Within (D.image (disk_of self.old)) (Holds kept)
+            → LeavesOnly D.clock D.left (disk_of self.old) (disk_of self.new) (Holds kept) }
+        ensures whole { IsTrue (D.keeps (disk_of self.old)) → OnOk result
+            (Within (D.image (disk_of self.new))
+            (IsStaged (target_of self.new) (number_of self.new + 1) (drop 13 frame.old))) }
+    {
+        self.check_usable()?;
+        fill_head(frame, self.number + 1);
+        let skip = written_from(self.made);
+        self.broken = true;
+        write_frame(&mut self.disk, self.newest.other(), skip, frame)?;
+        self.staged = true;
+        self.made = true;
+        self.broken = false;
+        Ok(())
+    }
+
+    /// Opens the gate of the slot whose body is written, which is then the newest.
+    pub fn open_gate(&mut self) -> Result<(), KeepFault>
+        requires { is_staged self.old ≡ true }
+
+        ensures keeps { D.keeps (disk_of self.new) ≡ D.keeps (disk_of self.old) }
+
+        // Refusals, in this order.
+        ensures broken { IsErrOf result KeepFault.Broken ↔ (is_broken self.old ≡ true) }
+        ensures worn { IsErrOf result KeepFault.Worn
+            ↔ ((is_broken self.old ≡ false) × (number_of self.old ≡ 2 ^ 64 - 1)) }
+        ensures counted { CountsKeep result
+            (D.failures (disk_of self.old)) (D.failures (disk_of self.new)) }
+        ensures breaks { IsErrOf result KeepFault.Device → is_broken self.new ≡ true }
+        ensures refused { IsErr result → is_broken self.new ≡ false
+            → disk_of self.new ≡ disk_of self.old }
+
+        ensures ready { OnOk result (is_broken self.new ≡ false) }
+        ensures number { OnOk result (number_of self.new ≡ number_of self.old + 1) }
+        ensures calls { IsTrue (D.keeps (disk_of self.old))
+            → D.clock (disk_of self.new) ≤ D.clock (disk_of self.old) + 2 }
+
+        // A crash at any moment leaves the body that was kept or the one that is staged, and at Ok
+        // the latter alone.
+        ensures any_moment { (kept next : List ℕ) → IsTrue (D.keeps (disk_of self.old))
+            → Within (D.image (disk_of self.old)) (Holds kept)
+            → Within (D.image (disk_of self.old))
+            (IsStaged (target_of self.old) (number_of self.old + 1) next)
+            → LeavesOnly D.clock D.left (disk_of self.old) (disk_of self.new)
+            (HoldsEither kept next) }
+        ensures holds { (next : List ℕ) → IsTrue (D.keeps (disk_of self.old))
+            → Within (D.image (disk_of self.old))
+            (IsStaged (target_of self.old) (number_of self.old + 1) next)
+            → OnOk result (Within (D.image (disk_of self.new)) (Holds next)) }
+    {
+        self.check_usable()?;
+        self.broken = true;
+        let target = self.newest.other();
+        write_gate(&mut self.disk, target, 1)?;
+        self.newest = target;
+        self.number += 1;
+        self.closed = false;
+        self.staged = false;
+        self.broken = false;
+        Ok(())
+    }
+
+    /// Puts the body of this frame in the place of the one that is kept. It takes no memory.
+    pub fn keep(&mut self, frame: &mut [u8]) -> Result<(), KeepFault>
+        requires head { 13 ≤ length frame.old }
+        requires short { length frame.old ≤ 13 + 3036421 }
+
+        ensures keeps { D.keeps (disk_of self.new) ≡ D.keeps (disk_of self.old) }
+
+        // Refusals, in this order.
+        ensures broken { IsErrOf result KeepFault.Broken ↔ (is_broken self.old ≡ true) }
+        ensures worn { IsErrOf result KeepFault.Worn
+            ↔ ((is_broken self.old ≡ false) × (number_of self.old ≡ 2 ^ 64 - 1)) }
+        ensures counted { CountsKeep result
+            (D.failures (disk_of self.old)) (D.failures (disk_of self.new)) }
+        ensures breaks { IsErrOf result KeepFault.Device → is_broken self.new ≡ true }
+        ensures refused { IsErr result → is_broken self.new ≡ false
+            → disk_of self.new ≡ disk_of self.old }
+
+        ensures ready { OnOk result (is_broken self.new ≡ false) }
+        ensures number { OnOk result (number_of self.new ≡ number_of self.old + 1) }
+
+        // It makes at most six calls, and four over a closed slot.
+        ensures calls { IsTrue (D.keeps (disk_of self.old))
+            → D.clock (disk_of self.new) ≤ D.clock (disk_of self.old) + 6 }
+        ensures few_calls { IsTrue (D.keeps (disk_of self.old)) → is_closed self.old ≡ true
+            → D.clock (disk_of self.new) ≤ D.clock (disk_of self.old) + 4 }
+
+        // A crash at any moment leaves the body that was kept or the next one.
+        ensures any_moment { (kept : List ℕ) → IsTrue (D.keeps (disk_of self.old))
+            → Within (D.image (disk_of self.old)) (Holds kept)
+            → LeavesOnly D.clock D.left (disk_of self.old) (disk_of self.new)
+            (HoldsEither kept (drop 13 frame.old)) }
+
+        // At Ok it leaves the next one, and so do reads.
+        ensures holds { IsTrue (D.keeps (disk_of self.old)) → OnOk result
+            (Within (D.image (disk_of self.new)) (Holds (drop 13 frame.old))) }
+        ensures held { IsTrue (D.keeps (disk_of self.old)) → OnOk result
+            (body_held (D.content (disk_of self.new)) ≡ the_body (drop 13 frame.old)) }
+    {
+        self.close_gate()?;
+        self.write_body(frame)?;
+        self.open_gate()
+    }
+
+    /// Whether a call to the disk has failed: the disk is to be opened again.
+    pub fn broken(&self) -> bool
+        ensures { result ≡ is_broken self.now }
+    {
+        self.broken
+    }
+
+    /// Whether the numbers of the slots are used up.
+    pub fn worn(&self) -> bool
+        ensures { IsTrue result ↔ (number_of self.now ≡ 2 ^ 64 - 1) }
+    {
+        self.number == u64::MAX
+    }
+
+    /// The disk.
+    pub fn close(self) -> D
+        ensures { result ≡ disk_of self }
+    {
+        self.disk
+    }
+}
