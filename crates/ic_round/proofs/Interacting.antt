@@ -1,6 +1,6 @@
 -- What is known of an interaction at a place whose equation has a rule.
 use Rattle.std.proofs.Common.{◌≡◌, ℕ, ◌+◌, ◌≤◌, ◌<◌, List, ◌∷◌, ◌++◌, Bool, true, false, cond, not, Option, None, Some, IfSome, is_some, Ok, Err, [], slice_get, take, drop, sum_by, nat_le, refl, sym, ap, ◌∙◌, arith, inl, inr, subst}
-use Rattle.std.proofs.lemmas.Bool.{cases_lt}
+use Rattle.std.proofs.lemmas.Bool.{and_parts, cases_lt}
 use Rattle.std.proofs.lemmas.Grind.{common_steps, flat_map-append}
 use Rattle.std.proofs.lemmas.List.Sums.{sum_by-append}
 use Rattle.std.proofs.lemmas.List.Folds.{list_all-append}
@@ -20,12 +20,13 @@ use Rattle.ic_round.specs.SingleSteps.{interacted_by, interacted, is_within}
 use Rattle.ic_round.specs.StepAnswers.{stepped_within}
 use Rattle.ic_round.specs.inner.Replacing.{fired_at}
 use Rattle.ic_round.specs.declared.steps.StepFault.TheVariants.{Limit}
-use Rattle.ic_settle.specs.SubstitutionLaws.{occurrences-append, and_parts, and_both, All-append, All-front, All-back}
+use Rattle.ic_settle.specs.SubstitutionLaws.{occurrences-append, and_both, All-append, All-front, All-back}
 use Rattle.ic_settle.specs.MiddleLaws.{nodes-middle, occurrences-middle, All-middle, over-middle}
 use Rattle.ic_round.specs.lemmas.FreshNames.{absent_above}
 use Rattle.ic_round.specs.lemmas.FiredNames.{Fires, fires, All-mono}
 use Rattle.ic_round.specs.lemmas.ActiveRules.{active_by, nodes-any_base}
 use Rattle.ic_round.specs.lemmas.SoundRules.{sound_rule}
+use Rattle.ic_round.specs.lemmas.NamesLemmas.{replaced_names}
 use Rattle.ic_round.specs.lemmas.OverSymbols.{over_pair, over_replaced}
 use Rattle.ic_round.proofs.Planned.{one_suits}
 use Rattle.ic_round.proofs.FiringAt.{fired_pair-active}
@@ -38,60 +39,14 @@ nodes-replaced : (ts : List Tree) (before out after : List Pair) → nodes_in ts
 nodes-replaced ts before out after =
     rw (sum_by-append pair_nodes before (out ++ after), sum_by-append pair_nodes out after, sum_by-append pair_nodes before after) (omega arith)
 
-occurrences-replaced : (n : ℕ) (ts : List Tree) (before out after : List Pair)
-    → occurrences n (names_in ts (before ++ (out ++ after))) ≡ occurrences n (names_in ts (before ++ after)) + occurrences n (flat_map pair_names out)
-occurrences-replaced n ts before out after =
-    let first = flat_map names ts in
-    let front = flat_map pair_names before in
-    let middle = flat_map pair_names out in
-    let back = flat_map pair_names after in
-    rw (flat_map-append pair_names before (out ++ after), flat_map-append pair_names out after, flat_map-append pair_names before after)
-    (omega (
-      arith,
-      occurrences-append n first (front ++ (middle ++ back)),
-      occurrences-append n front (middle ++ back),
-      occurrences-append n middle back,
-      occurrences-append n first (front ++ back),
-      occurrences-append n front back,
-    ))
-
-All-replaced : (P : ℕ → Type 0) (ts : List Tree) (before out after : List Pair) → AllByRecursion P (names_in ts (before ++ after)) → AllByRecursion P (flat_map pair_names out)
-    → AllByRecursion P (names_in ts (before ++ (out ++ after)))
-All-replaced P ts before out after all more =
-    let first = flat_map names ts in
-    let front = flat_map pair_names before in
-    let middle = flat_map pair_names out in
-    let back = flat_map pair_names after in
-    let parts : AllByRecursion P (first ++ (front ++ back)) = rw (flat_map-append pair_names before after) at all in
-    let rest = All-back P first (front ++ back) parts in
-    rw (flat_map-append pair_names before (out ++ after), flat_map-append pair_names out after)
-    (All-append P first (front ++ (middle ++ back)) (All-front P first (front ++ back) parts)
-    (All-append P front (middle ++ back) (All-front P front back rest) (All-append P middle back more (All-back P front back rest))))
-
 -- a configuration stays one
 kept : (rs : List Rule) (c : Configuration) (before : List Pair) (p : Pair) (after out : List Pair) (taken : ℕ) → Fires rs c.next p out taken
     → IsConfiguration c → c.equations ≡ before ++ p ∷ after
     → nodes_in c.interface (before ++ (out ++ after)) ≤ MAX_NODES → c.next + taken ≤ MAX_NEXT
     → IsConfiguration (record { interface = c.interface; equations = before ++ (out ++ after); next = c.next + taken })
 kept rs c before p after out taken fired valid split small low =
-    let rest = before ++ after in
-    let ts = c.interface in
-    let old_below : AllByRecursion (λ n. n < c.next) (names_in ts (before ++ p ∷ after)) = rw (← split) valid.below in
-    let below = All-middle (λ n. n < c.next) ts before p after old_below in
-    record {
-      nodes = small;
-      interface = valid.interface;
-      next = low;
-      below = All-replaced (λ n. n < c.next + taken) ts before out after (All-mono _ _ (λ n h. omega arith) _ below.0) (fired.below below.1);
-      twice = λ n.
-          let now = occurrences-replaced n ts before out after in
-          let here = occurrences-middle n ts before p after in
-          let old : occurrences n (names_in ts (before ++ p ∷ after)) ≤ 2 = rw (← split) (valid.twice n) in
-          elim (cases_lt n c.next) [
-            | inl less ↦ let few = fired.older n less in omega arith
-            | inr high ↦ let few = fired.fresh n in let none = absent_above n c.next (names_in ts (before ++ p ∷ after)) old_below high in omega arith
-          ];
-    }
+    let named = replaced_names rs c before p after out taken fired split (record { below = valid.below; twice = valid.twice }) in
+    record { nodes = small; interface = valid.interface; next = low; below = named.below; twice = named.twice }
 
 -- ---- within the limits or not
 

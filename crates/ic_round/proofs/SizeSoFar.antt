@@ -14,7 +14,7 @@ use Rattle.ic_round.specs.Firing.{names_taken, fired}
 use Rattle.ic_round.specs.inner.Sizes.{fired_nodes}
 use Rattle.ic_round.proofs.Words.{u64_MAX}
 use Rattle.ic_round.proofs.ListLemmas.{drop_at}
-use Rattle.ic_settle.specs.SubstitutionLaws.{and_parts}
+use Rattle.std.proofs.lemmas.Bool.{and_parts}
 use Rattle.ic_round.specs.lemmas.ActiveRules.{nodes-fired_from, next-sum}
 
 -- these nodes and names and those of the equations left are the size of the fired configuration

@@ -19,7 +19,8 @@ use Rattle.ic_round.specs.Instance.{inst}
 use Rattle.ic_round.specs.Firing.{arguments, against, products, products_by}
 use Rattle.ic_round.specs.Works.{PlainWork, is_agent_of, suits, suits_rule}
 use Rattle.ic_round.proofs.Words.{u64_MAX}
-use Rattle.ic_settle.specs.SubstitutionLaws.{All-front, All-back, and_parts}
+use Rattle.std.proofs.lemmas.Bool.{and_parts}
+use Rattle.ic_settle.specs.SubstitutionLaws.{All-front, All-back}
 use Rattle.ic_round.specs.lemmas.FreshNames.{rule_below}
 
 pub is_agent_of-cell : (s n : ℕ) (cell : Cell) → is_agent_of s n (cell_tree cell) ≡ ((out-Cell cell).sym == s && length (out-Cell cell).args.items == n)

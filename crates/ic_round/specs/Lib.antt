@@ -13,6 +13,7 @@ pub mod SingleSteps
 pub mod StepAnswers
 pub mod Quiet
 pub mod Turning
+pub mod Naming
 pub mod Completing
 pub mod lemmas
 pub mod inner

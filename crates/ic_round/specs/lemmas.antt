@@ -13,3 +13,4 @@ pub mod RoundLemmas
 pub mod StepsLemmas
 pub mod ChainLemmas
 pub mod ActivityLemmas
+pub mod NamesLemmas

@@ -11,6 +11,7 @@ ghost use Rattle.ic_settle.specs.Settling.{settled};
 ghost use Rattle.ic_round.specs.Completing.{Completes};
 ghost use Rattle.ic_round.specs.Firing.{Active, active_pair, fired};
 ghost use Rattle.ic_round.specs.Gathering.{gapped, gathered};
+ghost use Rattle.ic_round.specs.Naming.{HasNames};
 ghost use Rattle.ic_round.specs.Plans.{PlainPlan, planned};
 ghost use Rattle.ic_round.specs.Quiet.{is_quiet};
 ghost use Rattle.ic_round.specs.Rounds.{round, iterate, fits, unless_unfit, IsQuiet};
@@ -67,12 +68,15 @@ pub fn a_plan_leads_to_the_round()
         → IsPermutation (map (result_of rs) plan.works) fs → Completes rs c plan.rest fs }
 {}
 
-/// A chain of steps never lowers `next` and stays over the symbols; and chains are only what single
-/// steps make: they are in each relation that one step more doesn't leave.
+/// A chain of steps never lowers `next`, stays over the symbols, and keeps that each name is below
+/// `next` and occurs at most twice. And chains are only what single steps make: they are in each
+/// relation that one step more doesn't leave.
 pub fn chains_are_steps()
     ensures next { (rs : List Rule) (c d : Configuration) → Steps rs c d → c.next ≤ d.next }
     ensures over { (rs : Rules) (c d : Configuration) → IsRuleSet rs
         → IsTrue (is_over rs.symbols c) → Steps rs.rules c d → IsTrue (is_over rs.symbols d) }
+    ensures names { (rs : Rules) (c d : Configuration) → IsRuleSet rs
+        → IsTrue (is_over rs.symbols c) → HasNames c → Steps rs.rules c d → HasNames d }
     ensures least { (rs : List Rule) (relates : Configuration → Configuration → Bool)
         → ((c : Configuration) → IsTrue (relates c c))
         → ((c d e : Configuration) → IsTrue (relates c d) → Step rs d e → IsTrue (relates c e))

@@ -49,11 +49,15 @@ fn with_next(alloc: Global, config: &Config, next: u64) -> Result<Config, Fail> 
     }
 }
 
-/// `{A><B(C(C(D)))} <|A=B(P),T=Q>`, T so many nested C round one D: that number and 5 nodes, and one more once the
-/// first equation has fired.
-fn growing(alloc: Global, depth: usize) -> Result<Vec<u8>, Fail> {
-    let open = repeated(alloc, b"{A><B(C(C(D)))} <|A=B(P),", b"C(", depth, b"D")?;
-    repeated(alloc, &open, b")", depth, b"=Q>")
+/// A text of 8,192 nodes, which are 8,193 once `A=B(P)` has fired: 3, 3, and 4,093 times 2.
+fn past_the_limit(alloc: Global) -> Result<Vec<u8>, Fail> {
+    let front = b"{A><B(C(C(D)))} <|A=B(P),C(D)=Q";
+    repeated(alloc, front, b",D=Q", 4_093, b">")
+}
+
+/// A text of 8,191 nodes, which are 8,192 once `A=B(P)` has fired: 3, and 4,094 times 2.
+fn at_the_limit(alloc: Global) -> Result<Vec<u8>, Fail> {
+    repeated(alloc, b"{A><B(C(C(D)))} <|A=B(P)", b",D=Q", 4_094, b">")
 }
 
 #[test]
@@ -92,10 +96,10 @@ fn collect_not_there(rt: HostRuntime) -> Result<(), Fail> {
 #[test]
 fn interaction_passes_a_limit(rt: HostRuntime) -> Result<(), Fail> {
     let alloc = rt.alloc();
-    let (rules, config) = system(alloc, &growing(alloc, 8_187)?)?.into_parts();
+    let (rules, config) = system(alloc, &past_the_limit(alloc)?)?.into_parts();
     let fault = no_interaction(alloc, &rules, &config, 0)?;
     assert!(rt; fault == Some(StepFault::Limit));
-    let (rules, config) = system(alloc, &growing(alloc, 8_186)?)?.into_parts();
+    let (rules, config) = system(alloc, &at_the_limit(alloc)?)?.into_parts();
     let fault = no_interaction(alloc, &rules, &config, 0)?;
     assert!(rt; fault == None);
     let (rules, config) = system(alloc, b"{A(x)><B(x)} <|A(P)=B(Q)>")?.into_parts();
@@ -111,7 +115,7 @@ fn interaction_passes_a_limit(rt: HostRuntime) -> Result<(), Fail> {
 #[test]
 fn plans_and_rounds_pass_limits(rt: HostRuntime) -> Result<(), Fail> {
     let alloc = rt.alloc();
-    let (rules, config) = system(alloc, &growing(alloc, 8_187)?)?.into_parts();
+    let (rules, config) = system(alloc, &past_the_limit(alloc)?)?.into_parts();
     let faults = no_round(alloc, &rules, &config)?;
     assert!(rt; faults == (Some(RoundFault::Overgrown), Some(RoundFault::Overgrown)));
     let (rules, config) = system(alloc, b"{A(x)><B(x)} <|A(P)=B(Q)>")?.into_parts();

@@ -12,42 +12,16 @@ use Rattle.ic_term.specs.TreeLaws.{list_of-trees_of}
 use Rattle.ic_rules.specs.Renaming.{renamed, renamed_trees}
 use Rattle.ic_rules.specs.Rule.{Rule, rule_nodes, rule_agents, agents}
 use Rattle.ic_rules.specs.RuleSet.{unfit_among, first_unfit, rule_for, stands_turned}
-use Rattle.ic_rules.specs.FitLaws.{or_else, unfit_among-append}
+use Rattle.ic_rules.specs.FitLaws.{rule_over_at}
 use Rattle.ic_rules.specs.FindLaws.{rule_for-found}
 use Rattle.ic_round.specs.Instance.{inst}
 use Rattle.ic_round.specs.Firing.{Active, oriented, rule_of_sides, active_pair, arguments, against, products, products_by, count_of, names_taken, fired_pair, fired_from, next_behind}
 use Rattle.ic_round.specs.Works.{is_agent_of}
 use Rattle.ic_round.specs.inner.Sizes.{fired_nodes}
-use Rattle.ic_settle.specs.SubstitutionLaws.{and_parts, and_both}
+use Rattle.std.proofs.lemmas.Bool.{and_parts}
+use Rattle.ic_settle.specs.SubstitutionLaws.{and_both}
 
 -- ---- arities
-
-pub or_none : (o p : Option ℕ) → or_else o p ≡ None → (o ≡ None) × (p ≡ None)
-or_none None p e = (refl, e)
-or_none (Some n) p e = cc
-
-pub rule_agents_fit : (ss : List Symbol) (rs : List Rule) (i : ℕ) (r : Rule) → first_unfit ss rs ≡ None → slice_get rs i ≡ Some r → unfit_among ss (rule_agents r) ≡ None
-rule_agents_fit ss [] i r none there = cc
-rule_agents_fit ss (q ∷ rs) zero r none there =
-    let same : q ≡ r = cc in
-    ap (λ k. unfit_among ss (rule_agents k)) (sym same) ∙ (or_none _ _ (sym (unfit_among-append ss (rule_agents q) (flat_map rule_agents rs)) ∙ none)).0
-rule_agents_fit ss (q ∷ rs) (suc i) r none there =
-    rule_agents_fit ss rs i r ((or_none _ _ (sym (unfit_among-append ss (rule_agents q) (flat_map rule_agents rs)) ∙ none)).1) there
-
-pub first_fits : (ss : List Symbol) (s n : ℕ) (rest : List (ℕ × ℕ)) (b : Bool) → has_arity n (slice_get ss s) ≡ b → unfit_among ss ((s, n) ∷ rest) ≡ None → b ≡ true
-first_fits ss s n rest true e none = refl
-first_fits ss s n rest false e none = let bad = rw e at none in cc
-
--- the symbols of a rule have its arguments' number as their arities
-pub rule_arities : (ss : List Symbol) (rs : List Rule) (i : ℕ) (r : Rule) → first_unfit ss rs ≡ None → slice_get rs i ≡ Some r
-    → (has_arity (length r.left_args) (slice_get ss r.left) ≡ true) × (has_arity (length r.right_args) (slice_get ss r.right) ≡ true)
-rule_arities ss rs i r none there =
-    let both = or_none _ _ (sym (unfit_among-append ss (agents (agent r.left (trees_of r.left_args))) (agents (agent r.right (trees_of r.right_args)))) ∙ rule_agents_fit ss rs i r none there) in
-    let left = first_fits ss r.left (length (list_of (trees_of r.left_args))) _ (has_arity (length (list_of (trees_of r.left_args))) (slice_get ss r.left)) refl both.0 in
-    let right = first_fits ss r.right (length (list_of (trees_of r.right_args))) _ (has_arity (length (list_of (trees_of r.right_args))) (slice_get ss r.right)) refl both.1 in (
-      ap (λ ts. has_arity (length ts) (slice_get ss r.left)) (sym (list_of-trees_of r.left_args)) ∙ left,
-      ap (λ ts. has_arity (length ts) (slice_get ss r.right)) (sym (list_of-trees_of r.right_args)) ∙ right,
-    )
 
 one_arity : (m n : ℕ) (o : Option Symbol) → has_arity m o ≡ true → has_arity n o ≡ true → m ≡ n
 one_arity m n None e f = cc
@@ -100,7 +74,8 @@ pub sides_fit : (ss : List Symbol) (rs : List Rule) (t u : Tree) (i : ℕ) (turn
 sides_fit ss rs (name n) u i turned r none ot ou e there c f = cc
 sides_fit ss rs (agent a ts) (name n) i turned r none ot ou e there c f = cc
 sides_fit ss rs (agent a ts) (agent b us) i turned r none ot ou e there c f =
-    turned_fits ss rs a b i ts us turned r there (rule_arities ss rs i r none there) ot ou (of_pair_at rs a b i turned r e there) c f
+    let known = rule_over_at ss rs i r none there in
+    turned_fits ss rs a b i ts us turned r there (known.left, known.right) ot ou (of_pair_at rs a b i turned r e there) c f
 
 pub oriented_rule : (t u : Tree) (i : ℕ) (turned : Bool) → (c : Active) × ((oriented t u (Some (i, turned)) ≡ Some c) × (c.rule ≡ i))
 oriented_rule t u i false = (record { rule = i; left = t; right = u }, (refl, refl))

@@ -1,5 +1,6 @@
 -- Lemmas: a step that puts a term for a name is an indirection or a collect.
 use Rattle.std.proofs.Common.{◌≡◌, ◌∙◌, ◌==◌, ◌||◌, ℕ, List, ◌++◌, Bool, true, false, length, refl, sym, ap, ◌⊎◌, inl, inr}
+use Rattle.std.proofs.lemmas.Bool.{or_cases}
 use Rattle.std.proofs.lemmas.List.Folds.{list_any-append}
 use Rattle.std.specs.List.{flat_map}
 use Rattle.ic_term.specs.Tree.{names, pair_names}
@@ -19,15 +20,11 @@ in_either x ms ns e = list_any-append (λ n. n == x) ms ns ∙ ap (λ b. occurs 
 pub in_first : (x : ℕ) (ms ns : List ℕ) → occurs x ms ≡ true → occurs x (ms ++ ns) ≡ true
 in_first x ms ns e = list_any-append (λ n. n == x) ms ns ∙ ap (λ b. b || occurs x ns) e
 
-either : (a b : Bool) → (a || b) ≡ true → (a ≡ true) ⊎ (b ≡ true)
-either true b e = inl refl
-either false b e = inr e
-
 -- a step of settling is a step
 pub name_step : (rs : List Rule) (c d : Configuration) → NameStep c d → Step rs c d
 name_step rs c d s =
     let elsewhere = sym (list_any-append (λ n. n == s.bound.name) (flat_map names c.interface) (flat_map pair_names (s.before ++ s.after))) ∙ s.outside in
-    elim (either (occurs s.bound.name (flat_map names c.interface)) (occurs s.bound.name (flat_map pair_names (s.before ++ s.after))) elsewhere) [
+    elim (or_cases (occurs s.bound.name (flat_map names c.interface)) (occurs s.bound.name (flat_map pair_names (s.before ++ s.after))) elsewhere) [
       | inl h ↦ collect c d (length s.before) (record {
         before = s.before;
         equation = s.equation;

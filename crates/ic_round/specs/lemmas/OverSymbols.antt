@@ -9,30 +9,12 @@ use Rattle.ic_term.specs.Configuration.{Configuration}
 use Rattle.ic_rules.specs.Renaming.{renamed, renamed_trees}
 use Rattle.ic_rules.specs.Rule.{Rule, agents, agents_of}
 use Rattle.ic_rules.specs.RuleSet.{unfit_among, first_unfit}
-use Rattle.ic_rules.specs.FitLaws.{unfit_among-append}
+use Rattle.ic_rules.specs.FitLaws.{rule_over_at}
 use Rattle.ic_round.specs.Instance.{inst}
 use Rattle.ic_round.specs.Firing.{Active, active_pair, arguments, against, products, products_by, names_taken, fired_pair, fired_from, fired}
-use Rattle.ic_settle.specs.SubstitutionLaws.{and_parts, and_both}
+use Rattle.std.proofs.lemmas.Bool.{and_parts}
+use Rattle.ic_settle.specs.SubstitutionLaws.{and_both}
 use Rattle.ic_round.specs.lemmas.FiredNames.{SidesOf, active_sides_of}
-use Rattle.ic_round.specs.lemmas.ActiveRules.{or_none, rule_agents_fit, first_fits}
-
-rest_fits : (ss : List Symbol) (s n : ℕ) (rest : List (ℕ × ℕ)) (b : Bool) → has_arity n (slice_get ss s) ≡ b → unfit_among ss ((s, n) ∷ rest) ≡ None → unfit_among ss rest ≡ None
-rest_fits ss s n rest true e none = rw e at none
-rest_fits ss s n rest false e none = let bad = rw e at none in cc
-
--- where no agent is unfit, a term is over the symbols
-mutual
-  over_agents : (ss : List Symbol) (t : Tree) → unfit_among ss (agents t) ≡ None → is_tree_over ss t ≡ true
-  over_agents ss (name n) none = refl
-  over_agents ss (agent s ts) none =
-      and_both (first_fits ss s (length (list_of ts)) (agents_of ts) (has_arity (length (list_of ts)) (slice_get ss s)) refl none)
-      (over_agents_of ss ts (rest_fits ss s (length (list_of ts)) (agents_of ts) (has_arity (length (list_of ts)) (slice_get ss s)) refl none))
-
-  over_agents_of : (ss : List Symbol) (ts : Trees) → unfit_among ss (agents_of ts) ≡ None → are_trees_over ss ts ≡ true
-  over_agents_of ss no_trees none = refl
-  over_agents_of ss (more_trees t ts) none =
-      let both = or_none _ _ (sym (unfit_among-append ss (agents t) (agents_of ts)) ∙ none) in
-      and_both (over_agents ss t both.0) (over_agents_of ss ts both.1)
 
 same_count : (f : ℕ → ℕ) (ts : Trees) → length (list_of (renamed_trees f ts)) ≡ length (list_of ts)
 same_count f no_trees = refl
@@ -55,10 +37,6 @@ over_list : (ss : List Symbol) (ts : Trees) → list_all (is_tree_over ss) (list
 over_list ss no_trees = refl
 over_list ss (more_trees t ts) = ap (λ b. is_tree_over ss t && b) (over_list ss ts)
 
-over_trees : (ss : List Symbol) (ts : List Tree) → are_trees_over ss (trees_of ts) ≡ list_all (is_tree_over ss) ts
-over_trees ss [] = refl
-over_trees ss (t ∷ ts) = ap (λ b. is_tree_over ss t && b) (over_trees ss ts)
-
 over_arguments : (ss : List Symbol) (t : Tree) → is_tree_over ss t ≡ true → list_all (is_tree_over ss) (arguments t) ≡ true
 over_arguments ss (name n) over = refl
 over_arguments ss (agent s ts) over = over_list ss ts ∙ (and_parts (has_arity (length (list_of ts)) (slice_get ss s)) (are_trees_over ss ts) over).1
@@ -71,17 +49,6 @@ over_against ss (t ∷ ts) (u ∷ us) p q =
     let second = and_parts (is_tree_over ss u) (list_all (is_tree_over ss) us) q in
     and_both (and_both first.0 second.0) (over_against ss ts us first.1 second.1)
 
--- the arguments of a rule are over the symbols
-rule_over : (ss : List Symbol) (rs : List Rule) (i : ℕ) (r : Rule) → first_unfit ss rs ≡ None → slice_get rs i ≡ Some r
-    → (list_all (is_tree_over ss) r.left_args ≡ true) × (list_all (is_tree_over ss) r.right_args ≡ true)
-rule_over ss rs i r none there =
-    let both = or_none _ _ (sym (unfit_among-append ss (agents (agent r.left (trees_of r.left_args))) (agents (agent r.right (trees_of r.right_args)))) ∙ rule_agents_fit ss rs i r none there) in
-    let left = over_agents ss (agent r.left (trees_of r.left_args)) both.0 in
-    let right = over_agents ss (agent r.right (trees_of r.right_args)) both.1 in (
-      sym (over_trees ss r.left_args) ∙ (and_parts (has_arity (length (list_of (trees_of r.left_args))) (slice_get ss r.left)) (are_trees_over ss (trees_of r.left_args)) left).1,
-      sym (over_trees ss r.right_args) ∙ (and_parts (has_arity (length (list_of (trees_of r.right_args))) (slice_get ss r.right)) (are_trees_over ss (trees_of r.right_args)) right).1,
-    )
-
 over_sides : (ss : List Symbol) (p : Pair) (a : Active) → SidesOf p a → is_pair_over ss p ≡ true → (is_tree_over ss a.left ≡ true) × (is_tree_over ss a.right ≡ true)
 over_sides ss p a (inl (l, r)) over = let both = and_parts (is_tree_over ss p.left) (is_tree_over ss p.right) over in (ap (is_tree_over ss) l ∙ both.0, ap (is_tree_over ss) r ∙ both.1)
 over_sides ss p a (inr (l, r)) over = let both = and_parts (is_tree_over ss p.left) (is_tree_over ss p.right) over in (ap (is_tree_over ss) l ∙ both.1, ap (is_tree_over ss) r ∙ both.0)
@@ -91,10 +58,10 @@ over_products : (ss : List Symbol) (rs : List Rule) (base : ℕ) (a : Active) �
 over_products ss rs base a none left right None e = refl
 over_products ss rs base a none left right (Some r) e =
     let f : ℕ → ℕ = λ k. base + k in
-    let args = rule_over ss rs a.rule r none e in
+    let args = rule_over_at ss rs a.rule r none e in
     list_all-append (is_pair_over ss) (against (arguments a.left) (map (renamed f) r.left_args)) (against (arguments a.right) (map (renamed f) r.right_args))
-    ∙ and_both (over_against ss (arguments a.left) (map (renamed f) r.left_args) (over_arguments ss a.left left) (over_map ss f r.left_args ∙ args.0))
-    (over_against ss (arguments a.right) (map (renamed f) r.right_args) (over_arguments ss a.right right) (over_map ss f r.right_args ∙ args.1))
+    ∙ and_both (over_against ss (arguments a.left) (map (renamed f) r.left_args) (over_arguments ss a.left left) (over_map ss f r.left_args ∙ args.left_args))
+    (over_against ss (arguments a.right) (map (renamed f) r.right_args) (over_arguments ss a.right right) (over_map ss f r.right_args ∙ args.right_args))
 
 pub over_pair : (ss : List Symbol) (rs : List Rule) (base : ℕ) (p : Pair) → first_unfit ss rs ≡ None → is_pair_over ss p ≡ true
     → (found : Option Active) → active_pair rs p ≡ found → list_all (is_pair_over ss) (option_map_or (products_by rs base) found (p ∷ [])) ≡ true

@@ -11,7 +11,8 @@ use Rattle.ic_round.specs.Firing.{Active, active_pair}
 use Rattle.ic_round.specs.Steps.{Step, StandsAt, interaction, indirection, collect}
 use Rattle.ic_round.specs.Rounds.{IsQuiet}
 use Rattle.ic_round.specs.Quiet.{is_inert, is_settled, is_quiet}
-use Rattle.ic_settle.specs.SubstitutionLaws.{and_parts, and_both}
+use Rattle.std.proofs.lemmas.Bool.{and_parts}
+use Rattle.ic_settle.specs.SubstitutionLaws.{and_both}
 use Rattle.ic_settle.specs.ChoiceLaws.{binding_some}
 use Rattle.ic_round.specs.lemmas.NameStepLemmas.{name_step, in_either, in_first}
 use Rattle.ic_round.specs.lemmas.SettledLemmas.{choice_step}

@@ -19,7 +19,8 @@ use Rattle.ic_round.specs.Completing.{Completes}
 use Rattle.ic_round.specs.declared.gather_fault.GatherFault.{GatherFault}
 use Rattle.ic_round.specs.declared.round_fault.RoundFault.{RoundFault}
 use Rattle.ic_round.specs.declared.round_fault.RoundFault.TheVariants.{Overgrown, NamesOut}
-use Rattle.ic_settle.specs.SubstitutionLaws.{and_parts, and_both}
+use Rattle.std.proofs.lemmas.Bool.{and_parts}
+use Rattle.ic_settle.specs.SubstitutionLaws.{and_both}
 use Rattle.ic_round.specs.lemmas.SoundRules.{HasSoundRule, sound_rules}
 use Rattle.ic_round.specs.lemmas.FiredNames.{fired_below, fired_twice}
 use Rattle.ic_round.specs.lemmas.OverSymbols.{fired_over}

@@ -8,7 +8,7 @@ use Rattle.ic_rules.specs.Rule.{Rule, IsRule}
 use Rattle.ic_rules.specs.RuleSet.{first_unfit}
 use Rattle.ic_round.specs.Firing.{Active, oriented, rule_of_sides, active_pair}
 use Rattle.ic_round.specs.Works.{is_agent_of}
-use Rattle.ic_settle.specs.SubstitutionLaws.{and_parts}
+use Rattle.std.proofs.lemmas.Bool.{and_parts}
 use Rattle.ic_round.specs.lemmas.ActiveRules.{oriented_rule, sides_fit}
 
 -- A rule keeps what each rule keeps, and the sides of an active equation have its symbols and

@@ -3,7 +3,7 @@ use Rattle.std.specs.List.{AllByRecursion, list_all}
 use Rattle.ic_term.specs.Symbol.{is_over, is_tree_over, is_pair_over}
 use Rattle.ic_term.specs.Configuration.{Configuration}
 use Rattle.ic_rules.specs.RuleSet.{Rules, IsRuleSet}
-use Rattle.ic_settle.specs.SubstitutionLaws.{and_parts}
+use Rattle.std.proofs.lemmas.Bool.{and_parts}
 use Rattle.ic_round.specs.lemmas.SoundRules.{HasSoundRule, sound_rules}
 use Rattle.ic_round.specs.lemmas.FiredNames.{fired_below, fired_twice}
 use Rattle.ic_round.proofs.laws.firing_keeps_names.Goals as goal

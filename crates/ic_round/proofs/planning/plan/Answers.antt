@@ -8,7 +8,7 @@ use Rattle.ic_round.specs.Firing.{fired, next_behind}
 use Rattle.ic_round.specs.Gathering.{Gapped, gathered, gapped, gap_at}
 use Rattle.ic_round.specs.Works.{PlainWork, suits, result_of, works_from}
 use Rattle.ic_round.specs.WorkViews.{work_of}
-use Rattle.ic_settle.specs.SubstitutionLaws.{and_parts}
+use Rattle.std.proofs.lemmas.Bool.{and_parts}
 use Rattle.ic_round.specs.lemmas.SoundRules.{HasSoundRule, sound_rules}
 use Rattle.ic_round.specs.lemmas.OverSymbols.{fired_over}
 use Rattle.ic_round.specs.lemmas.AnyOrder.{any_order, any_results}
