@@ -237,7 +237,22 @@ fn top_numbers(rt: HostRuntime) -> Result<(), Fail> {
     Ok(())
 }
 
-/// `<r|r=S(s),S(Z)=t,Z=Add(s,t)>`, then `<S(s)|S(Z)=t,Z=Add(s,t)>`, then `<S(s)|Z=Add(s,S(Z))>`
+/// The configuration of a step that is made, whose text is this one.
+fn stepped(
+    rt: &impl Abort,
+    alloc: Global,
+    rules: &RuleSet,
+    answer: Result<Config, StepFault>,
+    line: &str,
+) -> Result<Config, Fail> {
+    let Ok(config) = answer else {
+        return Err(Fail::from("no step"));
+    };
+    let found = printed(alloc, rules, &config)?;
+    assert_eq!(rt; found.as_slice(), line.as_bytes());
+    Ok(config)
+}
+
 #[test]
 fn single_steps(rt: HostRuntime) -> Result<(), Fail> {
     let alloc = rt.alloc();
@@ -246,21 +261,12 @@ fn single_steps(rt: HostRuntime) -> Result<(), Fail> {
     if !over(rules.symbols(), &start) {
         return Err(Fail::from("not over the symbols"));
     }
-    let Ok(one) = interact_at(alloc, &rules, &start, 0) else {
-        return Err(Fail::from("no interaction"));
-    };
-    let line = printed(alloc, &rules, &one)?;
-    assert_eq!(rt; line.as_slice(), b"<r|r=S(s),S(Z)=t,Z=Add(s,t)>".as_slice());
-    let Ok(two) = collect_at(alloc, &one, 0) else {
-        return Err(Fail::from("no collect"));
-    };
-    let line = printed(alloc, &rules, &two)?;
-    assert_eq!(rt; line.as_slice(), b"<S(s)|S(Z)=t,Z=Add(s,t)>".as_slice());
-    let Ok(three) = indirect_at(alloc, &two, 0) else {
-        return Err(Fail::from("no indirection"));
-    };
-    let line = printed(alloc, &rules, &three)?;
-    assert_eq!(rt; line.as_slice(), b"<S(s)|Z=Add(s,S(Z))>".as_slice());
+    let one = interact_at(alloc, &rules, &start, 0);
+    let one = stepped(&rt, alloc, &rules, one, "<r|r=S(s),S(Z)=t,Z=Add(s,t)>")?;
+    let two = collect_at(alloc, &one, 0);
+    let two = stepped(&rt, alloc, &rules, two, "<S(s)|S(Z)=t,Z=Add(s,t)>")?;
+    let three = indirect_at(alloc, &two, 0);
+    stepped(&rt, alloc, &rules, three, "<S(s)|Z=Add(s,S(Z))>")?;
     Ok(())
 }
 

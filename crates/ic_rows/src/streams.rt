@@ -51,6 +51,21 @@ pub fn once(
     Ok(())
 }
 
+/// Asserts the exit status of settling each text, which has a name before it, and the line behind it.
+pub fn settle_each(
+    rt: &impl Abort,
+    alloc: Global,
+    status: u8,
+    rows: &[(&str, &str, &str)],
+) -> Result<(), Fail> {
+    for (name, text, line) in rows {
+        let (found, output) = run_settle(alloc, text.as_bytes())?;
+        assert_eq!(rt; output.as_slice(), line.as_bytes(), "{name}");
+        assert_eq!(rt; found, status, "{name}");
+    }
+    Ok(())
+}
+
 /// Asserts that a text settles to a line.
 pub fn settles(rt: &impl Abort, alloc: Global, text: &[u8], line: &[u8]) -> Result<(), Fail> {
     let (status, output) = run_settle(alloc, text)?;

@@ -1,7 +1,7 @@
 //! Rule sets and systems as texts: what each is read as, or the line of its refusal.
 
 use crate::streams::repeated;
-use ic_rules::System;
+use ic_rules::{RuleSet, System};
 use ic_term::over;
 use ic_text::{print_config, print_fault, read_config, read_system};
 use std::alloc::Global;
@@ -46,6 +46,13 @@ fn is_answered(rt: &impl Abort, alloc: Global, text: &[u8], line: &str) -> Resul
     Ok(())
 }
 
+/// Asserts the place of the rule of each pair of symbols, and whether it is turned.
+fn finds(rt: &impl Abort, rules: &RuleSet, rows: &[(u32, u32, Option<(usize, bool)>)]) {
+    for (left, right, place) in rows {
+        assert_eq!(rt; rules.find(*left, *right), *place);
+    }
+}
+
 #[test]
 fn add_is_numbered(rt: HostRuntime) -> Result<(), Fail> {
     let text = b"{Add(x,x)><Z;Add(S(x),y)><S(Add(x,y))} <r|Add(r,S(Z))=S(Z)>";
@@ -56,10 +63,16 @@ fn add_is_numbered(rt: HostRuntime) -> Result<(), Fail> {
     assert_eq!(rt; symbols.text(0), b"Add".as_slice());
     assert_eq!(rt; symbols.text(1), b"Z".as_slice());
     assert_eq!(rt; symbols.text(2), b"S".as_slice());
-    assert_eq!(rt; rules.find(0, 1), Some((0, false)));
-    assert_eq!(rt; rules.find(1, 0), Some((0, true)));
-    assert_eq!(rt; rules.find(2, 0), Some((1, true)));
-    assert_eq!(rt; rules.find(1, 2), None);
+    finds(
+        &rt,
+        rules,
+        &[
+            (0, 1, Some((0, false))),
+            (1, 0, Some((0, true))),
+            (2, 0, Some((1, true))),
+            (1, 2, None),
+        ],
+    );
     assert_eq!(rt; system.config().next(), 18);
     Ok(())
 }
