@@ -1,0 +1,3 @@
+pub mod LifeLemmas
+pub mod HistoryLemmas
+pub mod TableLookups

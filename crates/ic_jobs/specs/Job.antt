@@ -1,0 +1,69 @@
+-- A job of the table.
+use Rattle.std.specs.Prelude.{◌≡◌, ℕ, ◌+◌, ◌≤◌, ◌↔◌, ◌&&◌, List, Bool, IsTrue, nat_lt, if◌then◌else◌, refl}
+use Rattle.std.specs.Coded.{Coded, code_by, coded×, coded_ℕ, coded_list}
+use Rattle.ic_term.specs.Symbol.{is_over}
+use Rattle.ic_term.specs.Configuration.{Configuration, IsConfiguration, coded_configuration}
+use Rattle.ic_rules.specs.JobName.{is_job_name}
+use Rattle.ic_rules.specs.RuleSet.{Rules, IsRuleSet, coded_rules}
+use Rattle.ic_rules.specs.System.{SystemParts}
+use Rattle.ic_round.specs.Rounds.{fits, round, IsQuiet}
+use Rattle.ic_pool.specs.declared.limits.TheConstants.{MAX_ROUNDS}
+use Rattle.ic_jobs.specs.declared.state.State.{State}
+use Rattle.ic_jobs.specs.declared.state.State.TheVariants.{Running, Paused, Done, Halted}
+use Rattle.ic_jobs.specs.State.{coded_state}
+use Rattle.ic_round.specs.Quiet.{is_quiet}
+
+-- A job: its name, its rules and configuration, how many rounds it has made, and its state.
+pub record JobParts : Type 0 where
+  pub name : List ℕ
+  pub rules : Rules
+  pub config : Configuration
+  pub rounds : ℕ
+  pub state : State
+
+-- What each job keeps. It is done exactly where its configuration is quiet.
+pub record IsJob (j : JobParts) : Type 0 where
+  pub name : IsTrue (is_job_name j.name)
+  pub rules : IsRuleSet j.rules
+  pub config : IsConfiguration j.config
+  pub over : IsTrue (is_over j.rules.symbols j.config)
+  pub counted : j.rounds ≤ MAX_ROUNDS
+  pub done : (j.state ≡ Done) ↔ IsQuiet j.rules.rules j.config
+
+-- the state of a job that isn't kept from running: done where its configuration is quiet
+abbrev pub open_state : Rules → Configuration → State
+open_state rules c = if is_quiet rules.rules c then Done else Running
+
+-- a job as it begins: with a system, and no rounds made
+abbrev pub begun : List ℕ → SystemParts → JobParts
+begun name system = record {
+  name = name;
+  rules = system.rules;
+  config = system.config;
+  rounds = 0;
+  state = open_state system.rules system.config;
+}
+
+-- a further round can be made: the configuration fits, and rounds are left
+abbrev pub can_move : JobParts → Bool
+can_move j = fits j.rules.rules j.config && nat_lt j.rounds MAX_ROUNDS
+
+-- a job after one more round
+abbrev pub moved : JobParts → JobParts
+moved j = record j {
+  config = round j.rules.rules j.config;
+  rounds = j.rounds + 1;
+  state = open_state j.rules (round j.rules.rules j.config);
+}
+
+-- a job in another state
+abbrev pub in_state : State → JobParts → JobParts
+in_state s j = record j { state = s }
+
+-- a job is stored as the tuple of its fields
+abbrev pub coded_job : Coded JobParts
+coded_job =
+    code_by (List ℕ × (Rules × (Configuration × (ℕ × State))))
+    (coded× (coded_list coded_ℕ) (coded× coded_rules (coded× coded_configuration (coded× coded_ℕ coded_state))))
+    (λ j. (j.name, (j.rules, (j.config, (j.rounds, j.state)))))
+    (λ p. record { name = p.0; rules = p.1.0; config = p.1.1.0; rounds = p.1.1.1.0; state = p.1.1.1.1 }) (λ _. refl)

@@ -1,0 +1,43 @@
+-- Rounds that are due, and rounds that land.
+use Rattle.std.specs.Prelude.{◌≡◌, ℕ, ◌+◌, List, Option, Some, drop, slice_get, option_and_then}
+use Rattle.std.specs.List.{position_from}
+use Rattle.std.specs.Option.{option_map, option_or}
+use Rattle.ic_term.specs.Configuration.{Configuration}
+use Rattle.ic_rules.specs.RuleSet.{Rules}
+use Rattle.ic_pool.specs.Flight.{FlightParts}
+use Rattle.ic_jobs.specs.declared.state.State.TheVariants.{Running}
+use Rattle.ic_jobs.specs.State.{is_running}
+use Rattle.ic_jobs.specs.Job.{JobParts}
+use Rattle.ic_jobs.specs.Table.{job_named}
+
+-- a job at a place as a round that is to be made
+abbrev pub flight_of : ℕ → JobParts → FlightParts
+flight_of place j = record { place = place; name = j.name; rules = j.rules; config = j.config; rounds = j.rounds }
+
+-- the place of the first running job at this place or behind it
+abbrev pub running_from : ℕ → List JobParts → Option ℕ
+running_from place t = position_from (λ j. is_running j.state) place (drop place t)
+
+-- the place of the first running job at this place or behind it, or else of the first running job
+abbrev pub due_place : List JobParts → ℕ → Option ℕ
+due_place t after = option_or (running_from after t) (running_from 0 t)
+
+-- the flight of the job at a place
+abbrev pub flight_at : List JobParts → ℕ → Option FlightParts
+flight_at t place = option_map (flight_of place) (slice_get t place)
+
+abbrev pub due : List JobParts → ℕ → Option FlightParts
+due t after = option_and_then (flight_at t) (due_place t after)
+
+-- A job has these rules, this whole configuration and these rounds.
+pub record Agrees (j : JobParts) (rules : Rules) (config : Configuration) (rounds : ℕ) : Type 0 where
+  pub same_rules : j.rules ≡ rules
+  pub same_config : j.config ≡ config
+  pub same_rounds : j.rounds ≡ rounds
+
+-- A running job of this name has these rules, this whole configuration and these rounds.
+pub record Awaits (t : List JobParts) (name : List ℕ) (rules : Rules) (config : Configuration) (rounds : ℕ) : Type 0 where
+  pub job : JobParts
+  pub there : job_named name t ≡ Some job
+  pub running : job.state ≡ Running
+  pub agrees : Agrees job rules config rounds

@@ -1,0 +1,11 @@
+pub mod State
+pub mod Job
+pub mod JobLaws
+pub mod Table
+pub mod Shown
+pub mod Memory
+pub mod Events
+pub mod Submitted
+pub mod Landing
+pub mod History
+pub mod Life

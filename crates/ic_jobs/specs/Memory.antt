@@ -1,0 +1,33 @@
+-- What may take memory.
+use Rattle.std.specs.Prelude.{Bool, true, false}
+use Rattle.ic_jobs.specs.declared.command.Command.{Command}
+use Rattle.ic_jobs.specs.declared.command.Command.TheVariants.{Submit, Pause, Resume, Cancel, Fetch, List as list_jobs}
+use Rattle.ic_jobs.specs.declared.reply.Reply.{Reply}
+use Rattle.ic_jobs.specs.declared.reply.Reply.TheVariants.{Accepted, Okay, Shown, Listed, Refused, Moved, Halted}
+
+-- pause, resume and cancel take no memory
+abbrev pub takes_memory : Command → Bool
+takes_memory (Submit name system) = true
+takes_memory (Pause name) = false
+takes_memory (Resume name) = false
+takes_memory (Cancel name) = false
+takes_memory (Fetch name) = true
+takes_memory list_jobs = true
+
+abbrev pub is_submit : Command → Bool
+is_submit (Submit name system) = true
+is_submit (Pause name) = false
+is_submit (Resume name) = false
+is_submit (Cancel name) = false
+is_submit (Fetch name) = false
+is_submit list_jobs = false
+
+-- a reply that tells of jobs
+abbrev pub tells_jobs : Reply → Bool
+tells_jobs Accepted = false
+tells_jobs Okay = false
+tells_jobs (Shown job) = true
+tells_jobs (Listed jobs) = true
+tells_jobs (Refused refusal) = false
+tells_jobs Moved = false
+tells_jobs Halted = false

@@ -1,0 +1,45 @@
+-- The states of a job.
+use Rattle.std.specs.Prelude.{◌≡◌, ℕ, zero, suc, Bool, true, false, refl}
+use Rattle.std.specs.Coded.{Coded, code_by, coded_ℕ}
+use Rattle.ic_jobs.specs.declared.state.State.{State}
+use Rattle.ic_jobs.specs.declared.state.State.TheVariants.{Running, Paused, Done, Halted}
+
+abbrev pub is_running : State → Bool
+is_running Running = true
+is_running Paused = false
+is_running Done = false
+is_running Halted = false
+
+abbrev pub is_paused : State → Bool
+is_paused Running = false
+is_paused Paused = true
+is_paused Done = false
+is_paused Halted = false
+
+abbrev pub is_done : State → Bool
+is_done Running = false
+is_done Paused = false
+is_done Done = true
+is_done Halted = false
+
+-- a state as a number (this project's choice)
+abbrev pub state_number : State → ℕ
+state_number Running = 0
+state_number Paused = 1
+state_number Done = 2
+state_number Halted = 3
+
+abbrev pub state_numbered : ℕ → State
+state_numbered zero = Running
+state_numbered (suc zero) = Paused
+state_numbered (suc (suc zero)) = Done
+state_numbered (suc (suc (suc n))) = Halted
+
+pub state_numbered-number : (s : State) → state_numbered (state_number s) ≡ s
+state_numbered-number Running = refl
+state_numbered-number Paused = refl
+state_numbered-number Done = refl
+state_numbered-number Halted = refl
+
+abbrev pub coded_state : Coded State
+coded_state = code_by ℕ coded_ℕ state_number state_numbered state_numbered-number

@@ -1,0 +1,18 @@
+use crate::command::Command;
+use crate::reply::Reply;
+use ic_rules::JobName;
+
+/// What comes to a job table: a client's command, or a round of the job of a name.
+#[derive(Debug, Drop)]
+pub enum Event {
+    Command(Command),
+    Round(JobName),
+}
+
+/// An event of a history: who sent it (a client's number, or 0 for a round), and what it was answered.
+#[derive(Debug, Drop)]
+pub struct Entry {
+    pub who: u64,
+    pub event: Event,
+    pub reply: Reply,
+}

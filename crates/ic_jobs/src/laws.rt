@@ -1,0 +1,35 @@
+//! Laws of the definitions that the contracts of this crate cite.
+
+ghost use Rattle.std.specs.Prelude.{◌≡◌, ◌↔◌, ℕ, List, [], ◌++◌};
+ghost use Rattle.std.specs.Bool.{Decides};
+ghost use Rattle.ic_jobs.specs.declared.event.Entry.{Entry};
+ghost use Rattle.ic_jobs.specs.declared.limits.TheConstants.{MAX_JOBS};
+ghost use Rattle.ic_jobs.specs.Job.{JobParts};
+ghost use Rattle.ic_jobs.specs.JobLaws.{job_eq, table_eq};
+ghost use Rattle.ic_jobs.specs.Table.{job_named};
+ghost use Rattle.ic_jobs.specs.History.{replay, IsLegal};
+ghost use Rattle.ic_jobs.specs.Life.{life, IsAsLived};
+
+/// The limit of a job table.
+pub fn limits_are()
+    ensures { MAX_JOBS ≡ 32 }
+{}
+
+/// A history that is legal from the empty table leaves a job of a name exactly where the name's life is some rules, a
+/// configuration and a number of rounds. Then the job has these rules and rounds, and its configuration is the
+/// iterate, after so many rounds, of the one that it began with.
+pub fn life_law()
+    ensures { (name : List ℕ) (h : List Entry) → IsLegal [] h → IsAsLived (job_named name (replay [] h)) (life name h) }
+{}
+
+/// A history is legal where its first part is, and the rest is from the table that the first part leaves.
+pub fn histories_split_and_join()
+    ensures table { (t : List JobParts) (h k : List Entry) → replay t (h ++ k) ≡ replay (replay t h) k }
+    ensures legal { (t : List JobParts) (h k : List Entry) → IsLegal t (h ++ k) ↔ (IsLegal t h × IsLegal (replay t h) k) }
+{}
+
+/// The tests of equality tell exactly whether two jobs, or two tables, are the same.
+pub fn equality_is_exact()
+    ensures jobs { (j k : JobParts) → Decides (job_eq j k) (j ≡ k) }
+    ensures tables { (t u : List JobParts) → Decides (table_eq t u) (t ≡ u) }
+{}

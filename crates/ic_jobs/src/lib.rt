@@ -1,0 +1,21 @@
+//! The job table: jobs, commands and their replies, and rounds that land.
+//!
+//! A `Table` has jobs in the order in which they were submitted. `apply` takes a client's command. `due` gives a copy of
+//! a running job, to be played outside; `land` puts its round and `halt` stops it, if the job is still as it was. The
+//! definitions of events, histories and lives stand in specs/, and `laws` holds what is proved of them alone.
+#![tactic(auto)]
+
+mod command;
+mod event;
+pub mod laws;
+mod limits;
+mod reply;
+mod shown;
+mod state;
+
+pub use command::Command;
+pub use event::{Entry, Event};
+pub use limits::MAX_JOBS;
+pub use reply::{Refusal, Reply};
+pub use shown::{JobList, ShownJob};
+pub use state::State;

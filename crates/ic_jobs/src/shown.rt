@@ -1,0 +1,141 @@
+ghost use Rattle.std.specs.Prelude.{◌≡◌, IfOk, length, slice_get, Some};
+ghost use Rattle.std.specs.Arc.{arc_value};
+
+use crate::state::State;
+use ic_rules::{JobName, RuleSet};
+use ic_term::Config;
+use std::alloc::{AllocError, Global};
+use std::marker::Model;
+use std::sync::Arc;
+
+/// A job as a reply shows it: its name, state and rounds, and a copy of its configuration with its rules.
+#[derive(Debug, Drop)]
+pub struct ShownJob {
+    name: JobName,
+    state: State,
+    rounds: u64,
+    rules: Arc<RuleSet>,
+    config: Config,
+}
+
+impl Model for ShownJob {
+    ghost use Rattle.std.specs.Prelude.{IsTrue};
+    ghost use Rattle.std.specs.Arc.{arc_value};
+    ghost use Rattle.ic_term.specs.Symbol.{is_over};
+    ghost use Rattle.ic_jobs.specs.Shown.{ShownParts, coded_shown};
+
+    ghost Value = { ShownParts };
+
+    ghost coded = { coded_shown };
+
+    ghost view = { λ s. record { name = s.name; state = s.state; rounds = s.rounds; rules = arc_value s.rules; config = s.config } };
+
+    ghost invariant = { λ s. IsTrue (is_over (arc_value s.rules).symbols s.config) };
+}
+
+impl ShownJob {
+    ghost use Rattle.std.specs.Prelude.{IsTrue};
+    ghost use Rattle.ic_term.specs.Symbol.{is_over};
+
+    pub(crate) fn new(
+        name: JobName,
+        state: State,
+        rounds: u64,
+        rules: Arc<RuleSet>,
+        config: Config,
+    ) -> ShownJob
+        requires { IsTrue (is_over (arc_value rules).symbols config) }
+        ensures { result ≡ record { name = name; state = state; rounds = rounds; rules = arc_value rules; config = config } }
+    {
+        ShownJob {
+            name,
+            state,
+            rounds,
+            rules,
+            config,
+        }
+    }
+
+    pub fn name(&self) -> JobName
+        ensures { result ≡ self.now.name }
+    {
+        self.name
+    }
+
+    pub fn state(&self) -> State
+        ensures { result ≡ self.now.state }
+    {
+        self.state
+    }
+
+    /// How many rounds the job has made.
+    pub fn rounds(&self) -> u64
+        ensures { result ≡ self.now.rounds }
+    {
+        self.rounds
+    }
+
+    pub fn rules(&self) -> &Arc<RuleSet>
+        ensures { arc_value result.now ≡ self.now.rules }
+    {
+        &self.rules
+    }
+
+    pub fn config(&self) -> &Config
+        ensures config { result.now ≡ self.now.config }
+        ensures sound { IsTrue (is_over self.now.rules.symbols self.now.config) }
+    {
+        &self.config
+    }
+
+    /// A copy, equal to its source, which shares the rules.
+    pub fn copy(&self, alloc: Global) -> Result<ShownJob, AllocError>
+        ensures { IfOk result (λ copy. copy ≡ self.now) }
+    {
+        Ok(ShownJob {
+            name: self.name,
+            state: self.state,
+            rounds: self.rounds,
+            rules: self.rules.clone()?,
+            config: self.config.copy(alloc)?,
+        })
+    }
+}
+
+/// The name, state and rounds of each job of a table, in its order.
+#[derive(Debug, Drop)]
+pub struct JobList {
+    lines: Vec<(JobName, State, u64)>,
+}
+
+impl Model for JobList {
+    ghost use Rattle.std.specs.Prelude.{List, ℕ};
+    ghost use Rattle.ic_jobs.specs.declared.state.State.{State};
+
+    ghost Value = { List (List ℕ × State × ℕ) };
+
+    ghost view = { λ l. l.lines.items };
+}
+
+impl JobList {
+    pub(crate) fn new(lines: Vec<(JobName, State, u64)>) -> JobList
+        ensures { result ≡ lines.items }
+    {
+        JobList { lines }
+    }
+
+    pub fn as_slice(&self) -> &[(JobName, State, u64)]
+        ensures { result.now ≡ self.now }
+    {
+        self.lines.as_slice()
+    }
+
+    /// A copy, equal to its source.
+    pub fn copy(&self, alloc: Global) -> Result<JobList, AllocError>
+        ensures { IfOk result (λ copy. copy ≡ self.now) }
+    {
+        Ok(JobList {
+            lines: Vec::from_slice(alloc, &self.lines)?,
+        })
+    }
+}
