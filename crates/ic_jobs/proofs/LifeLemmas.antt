@@ -178,7 +178,7 @@ accepted name n s t l false apart absent h =
 submit_follows : (name n : List ℕ) (s : SystemParts) (t : List JobParts) (l : Option Life) (taken room : Bool) → is_some (job_named n t) ≡ taken
     → IsAsLived (job_named name t) l
     → let o = cond taken (outcome t (Refused Taken)) (cond room (outcome (t ++ begun n s ∷ []) Accepted) (outcome t (Refused Full))) in
-      Follows name (by_command (Submit n s)) l (job_named name o.table) o.reply
+    Follows name (by_command (Submit n s)) l (job_named name o.table) o.reply
 submit_follows name n s t l true room is h = h
 submit_follows name n s t l false true is h = accepted name n s t l (bytes_eq name n) refl is h
 submit_follows name n s t l false false is h = h
@@ -188,7 +188,7 @@ pause_follows : (name n : List ℕ) (t : List JobParts) (l : Option Life) (o : O
 pause_follows name n t l None h = h
 pause_follows name n t l (Some j) h = elim (is_running j.state)
     as (λ b. let p = cond b (outcome (with_changed n (in_state state.Paused) t) Okay) (outcome t (Refused NotRunning)) in
-      Follows name (by_command (Pause n)) l (job_named name p.table) p.reply)
+    Follows name (by_command (Pause n)) l (job_named name p.table) p.reply)
     [ true ↦ other_state name n state.Paused t l (bytes_eq name n) refl h | false ↦ h ]
 
 resume_follows : (name n : List ℕ) (t : List JobParts) (l : Option Life) (o : Option JobParts) → IsAsLived (job_named name t) l
@@ -196,7 +196,7 @@ resume_follows : (name n : List ℕ) (t : List JobParts) (l : Option Life) (o : 
 resume_follows name n t l None h = h
 resume_follows name n t l (Some j) h = elim (is_paused j.state)
     as (λ b. let p = cond b (outcome (with_changed n (in_state state.Running) t) Okay) (outcome t (Refused NotPaused)) in
-      Follows name (by_command (Resume n)) l (job_named name p.table) p.reply)
+    Follows name (by_command (Resume n)) l (job_named name p.table) p.reply)
     [ true ↦ other_state name n state.Running t l (bytes_eq name n) refl h | false ↦ h ]
 
 cancelled : (name n : List ℕ) (t : List JobParts) (l : Option Life) (b : Bool) → bytes_eq name n ≡ b
@@ -226,7 +226,7 @@ command_follows name t list_jobs l h = h
 
 round_at : (name n : List ℕ) (t : List JobParts) (j : JobParts) (r : Reply) (l : Option Life) (running can : Bool) → job_named n t ≡ Some j → IsAsLived (job_named name t) l
     → let o = cond running (Some (cond can (outcome (with_changed n moved t) Moved) (outcome (with_changed n (in_state state.Halted) t) Halted))) None in
-      option_map (λ p. p.reply) o ≡ Some r → Follows name (Round n) l (job_named name (option_map_or (λ p. p.table) o t)) r
+    option_map (λ p. p.reply) o ≡ Some r → Follows name (Round n) l (job_named name (option_map_or (λ p. p.table) o t)) r
 round_at name n t j r l true true there h e =
     let is : Moved ≡ r = cc in
     subst (λ (s : Reply). Follows name (Round n) l (job_named name (with_changed n moved t)) s) is (moved_on name n t j l (bytes_eq name n) refl there h)
@@ -237,7 +237,7 @@ round_at name n t j r l false can there h e = cc
 
 round_follows : (name n : List ℕ) (t : List JobParts) (r : Reply) (l : Option Life) (found : Option JobParts) → job_named n t ≡ found → IsAsLived (job_named name t) l
     → let o = where_running (after_round t n) found in
-      option_map (λ p. p.reply) o ≡ Some r → Follows name (Round n) l (job_named name (option_map_or (λ p. p.table) o t)) r
+    option_map (λ p. p.reply) o ≡ Some r → Follows name (Round n) l (job_named name (option_map_or (λ p. p.table) o t)) r
 round_follows name n t r l None there h e = cc
 round_follows name n t r l (Some j) there h e = round_at name n t j r l (is_running j.state) (can_move j) there h e
 

@@ -3,8 +3,8 @@ ghost use Rattle.ic_round.specs.Quiet.{is_quiet};
 ghost use Rattle.ic_round.specs.Rounds.{IsQuiet};
 
 use crate::growth::rule_of;
-use ic_settle::applicable_side;
 use ic_rules::RuleSet;
+use ic_settle::applicable_side;
 use ic_term::Config;
 
 /// Whether no interaction, indirection or collect is possible. Takes time in proportion to the

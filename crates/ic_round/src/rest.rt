@@ -19,9 +19,10 @@ impl Model for Rest {
     ghost coded = { coded_gapped };
 
     ghost view = { λ r. record {
-        interface = map tree r.interface.items;
-        equations = map (option_map pair) r.equations.items;
-        next = r.next } };
+      interface = map tree r.interface.items;
+      equations = map (option_map pair) r.equations.items;
+      next = r.next;
+    } };
 }
 
 impl Rest {
@@ -31,9 +32,10 @@ impl Rest {
     /// A rest of these parts, as a decoder makes it.
     pub fn new(interface: Vec<Term>, equations: Vec<Option<Equation>>, next: u64) -> Rest
         ensures { result ≡ record {
-            interface = map tree interface.items;
-            equations = map (option_map pair) equations.items;
-            next = next } }
+          interface = map tree interface.items;
+          equations = map (option_map pair) equations.items;
+          next = next;
+        } }
     {
         Rest {
             interface,

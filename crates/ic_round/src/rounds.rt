@@ -8,9 +8,9 @@ ghost use Rattle.ic_round.specs.RoundAnswers.{Answers};
 ghost use Rattle.ic_round.specs.Works.{suits, result_of};
 ghost use Rattle.ic_round.specs.WorkViews.{work_of, fired_of};
 
+use crate::firing::fire;
 use crate::gather_fault::GatherFault;
 use crate::gathering::gather;
-use crate::firing::fire;
 use crate::planning::plan;
 use crate::round_fault::RoundFault;
 use crate::settle;
@@ -40,11 +40,7 @@ pub fn round(alloc: Global, rules: &RuleSet, config: Config) -> Result<Config, R
 }
 
 /// The results of works, in their order.
-fn fire_all(
-    alloc: Global,
-    rules: &RuleSet,
-    works: Vec<Work>,
-) -> Result<Vec<Fired>, AllocError>
+fn fire_all(alloc: Global, rules: &RuleSet, works: Vec<Work>) -> Result<Vec<Fired>, AllocError>
     requires { AllByRecursion (λ w. IsTrue (suits rules.now.rules w)) (map work_of works.items) }
     ensures { IfOk result (λ results. map fired_of results.items
         ≡ map (result_of rules.now.rules) (map work_of works.items)) }

@@ -13,9 +13,9 @@ ghost use Rattle.ic_round.specs.declared.steps.StepFault.TheVariants.{NotThere, 
 use crate::firing::fire;
 use crate::growth::{fired_size_of, rule_of};
 use crate::separation::{Oriented, orient};
-use ic_settle::{Applicable, applicable_side, other_side, substitute};
 use crate::work::Work;
 use ic_rules::RuleSet;
+use ic_settle::{Applicable, applicable_side, other_side, substitute};
 use ic_term::{Config, Equation, MAX_NEXT, MAX_NODES};
 use std::alloc::{AllocError, Global};
 

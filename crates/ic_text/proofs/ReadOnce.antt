@@ -83,21 +83,21 @@ module _ {P : Type 0} (IsOne : P → Type 0) (words : P → List Token) (told : 
         by_short : length text ≤ MAX_TEXT → (a : Result V TextFault) × Reading text a
         by_short short = elim (spelling text) [
           | inl s ↦ (
-              sense s.0,
-              record {
-                long = λ long. absurd (omega arith);
-                spelled = λ _ q other. ap sense (one_phrase text s.0 q s.1 other);
-                malformed = λ _ none. absurd (none s.0 s.1);
-              },
-            )
+            sense s.0,
+            record {
+              long = λ long. absurd (omega arith);
+              spelled = λ _ q other. ap sense (one_phrase text s.0 q s.1 other);
+              malformed = λ _ none. absurd (none s.0 s.1);
+            },
+          )
           | inr none ↦ (
-              Err Syntax,
-              record {
-                long = λ long. absurd (omega arith);
-                spelled = λ _ p spells. absurd (none p spells);
-                malformed = λ _ _. refl;
-              },
-            )
+            Err Syntax,
+            record {
+              long = λ long. absurd (omega arith);
+              spelled = λ _ p spells. absurd (none p spells);
+              malformed = λ _ _. refl;
+            },
+          )
         ]
 
     pub meant : (text : List ℕ) (v : V) → Reading text (Ok v) → IsMeant IsOne words sense text v

@@ -61,6 +61,7 @@ no_step rs c quiet d step = at (and_parts (is_inert rs c) (is_settled c) quiet) 
   where
     unbound : is_settled c ≡ true → first_choice c.interface [] c.equations ≡ None
     unbound settled = no_choice_of (first_choice c.interface [] c.equations) c refl settled
+
     at : (is_inert rs c ≡ true) × (is_settled c ≡ true) → Step rs c d → ⊥
     at (inert, settled) (interaction x y place i) =
         let P : List Pair → Type 0 = λ es. list_all (λ q. is_none (active_pair rs q)) es ≡ true in

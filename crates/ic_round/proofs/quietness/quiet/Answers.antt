@@ -57,8 +57,8 @@ loop-place-preserved c =
 pub returns : goal.returns
 returns c =
     let told : (true ≡ true) ↔ IsQuiet c.args.rules.now.rules c.args.config.now = (
-  (λ e. quiet-list c.args.rules.now.rules c.args.config.now (map tree c.interface-interface.result.now) c.equations-equations.result.now c.loop-place.place
-      c.interface-interface.ensures.terms c.equations-equations.ensures.equations c.loop-place-test.false c.loop-place.invariant),
-  (λ quiet. refl),
+      (λ e. quiet-list c.args.rules.now.rules c.args.config.now (map tree c.interface-interface.result.now) c.equations-equations.result.now c.loop-place.place
+          c.interface-interface.ensures.terms c.equations-equations.ensures.equations c.loop-place-test.false c.loop-place.invariant),
+      (λ quiet. refl),
     ) in
     record { test = same_test c.args.rules.now.rules c.args.config.now true told; no_step = told }
