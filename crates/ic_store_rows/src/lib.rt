@@ -1,0 +1,13 @@
+//! Worked examples, as tests over the disk.
+//!
+//! Expected values come from the definitions, computed by hand, never from the program.
+#![tactic(auto)]
+
+#[cfg(test)]
+mod crashes;
+#[cfg(test)]
+mod files;
+#[cfg(test)]
+mod fuses;
+#[cfg(test)]
+mod slow_files;

@@ -1,0 +1,152 @@
+//! A runtime for tests, whose files take and give one byte at a time, and whose syncs fail when
+//! they are told to.
+
+use ic_disk::DiskFile;
+use std::alloc::Allocator;
+use std::cell::Cell;
+use std::fs::{File, Metadata, OpenFile, OpenOptions};
+use std::io;
+use std::io::{Read, Seek, SeekFrom, Write};
+use std::rt::Files;
+
+/// What has come of the files of a runtime, and whether they refuse to sync.
+#[derive(Drop)]
+pub struct Log<'a> {
+    pub folder: &'a str,
+    pub folders_opened: Cell<u32>,
+    pub syncs: Cell<u32>,
+    pub refuses: Cell<bool>,
+}
+
+impl<'a> Log<'a> {
+    /// Nothing has come of them yet; the folder to be looked for is this one.
+    pub fn new(folder: &'a str) -> Log<'a> {
+        Log {
+            folder,
+            folders_opened: Cell::new(0),
+            syncs: Cell::new(0),
+            refuses: Cell::new(false),
+        }
+    }
+}
+
+/// Each path is the one file at `path`, but for the folder, which is `/tmp`.
+#[derive(Drop)]
+pub struct SlowFiles<'a, R> {
+    pub rt: &'a R,
+    pub path: &'a str,
+    pub log: &'a Log<'a>,
+}
+
+#[derive(Drop)]
+pub struct SlowFile<'a> {
+    file: File,
+    log: &'a Log<'a>,
+}
+
+impl Read for SlowFile<'_> {
+    fn read(&mut self, buf: &mut [u8]) -> io::Result<usize> {
+        let n = buf.len().min(1);
+        self.file.read(&mut buf[..n])
+    }
+}
+
+impl Write for SlowFile<'_> {
+    fn write(&mut self, buf: &[u8]) -> io::Result<usize> {
+        let n = buf.len().min(1);
+        self.file.write(&buf[..n])
+    }
+
+    fn flush(&mut self) -> io::Result<()> {
+        self.file.flush()
+    }
+}
+
+impl Seek for SlowFile<'_> {
+    fn seek(&mut self, to: SeekFrom) -> io::Result<u64> {
+        self.file.seek(to)
+    }
+}
+
+impl OpenFile for SlowFile<'_> {
+    fn metadata(&self) -> io::Result<Metadata> {
+        self.file.metadata()
+    }
+
+    fn set_len(&self, size: u64) -> io::Result<()> {
+        self.file.set_len(size)
+    }
+
+    fn sync_all(&self) -> io::Result<()> {
+        if self.log.refuses.get() {
+            return Err(io::ErrorKind::Other.into());
+        }
+        self.log.syncs.set(self.log.syncs.get().saturating_add(1));
+        self.file.sync_all()
+    }
+
+    fn sync_data(&self) -> io::Result<()> {
+        self.file.sync_data()
+    }
+}
+
+impl DiskFile for SlowFile<'_> {
+    fn lock_alone(&self) -> io::Result<()> {
+        self.file.lock_alone()
+    }
+}
+
+impl<'a, R: Files<File = File>> Files for SlowFiles<'a, R> {
+    type File = SlowFile<'a>;
+
+    type Dir = R::Dir;
+
+    fn open_file(&self, how: &OpenOptions, path: &str) -> io::Result<SlowFile<'a>> {
+        let is_folder = path == self.log.folder;
+        if is_folder {
+            let opened = self.log.folders_opened.get();
+            self.log.folders_opened.set(opened.saturating_add(1));
+        }
+        let path = if is_folder { "/tmp" } else { self.path };
+        Ok(SlowFile {
+            file: self.rt.open_file(how, path)?,
+            log: self.log,
+        })
+    }
+
+    fn open_dir(&self, path: &str) -> io::Result<R::Dir> {
+        self.rt.open_dir(path)
+    }
+
+    fn metadata(&self, path: &str) -> io::Result<Metadata> {
+        self.rt.metadata(path)
+    }
+
+    fn symlink_metadata(&self, path: &str) -> io::Result<Metadata> {
+        self.rt.symlink_metadata(path)
+    }
+
+    fn copy(&self, from: &str, to: &str) -> io::Result<u64> {
+        self.rt.copy(from, to)
+    }
+
+    fn rename(&self, from: &str, to: &str) -> io::Result<()> {
+        self.rt.rename(from, to)
+    }
+
+    fn remove_file(&self, path: &str) -> io::Result<()> {
+        self.rt.remove_file(path)
+    }
+
+    fn create_dir(&self, path: &str) -> io::Result<()> {
+        self.rt.create_dir(path)
+    }
+
+    fn remove_dir(&self, path: &str) -> io::Result<()> {
+        self.rt.remove_dir(path)
+    }
+
+    fn remove_dir_all<B: Allocator>(&self, alloc: B, path: &str) -> io::Result<()> {
+        self.rt.remove_dir_all(alloc, path)
+    }
+}
