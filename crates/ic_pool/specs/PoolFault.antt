@@ -1,8 +1,8 @@
 -- What the call that plays a flight in one thread answers.
 use Rattle.std.specs.Prelude.{◌≡◌, Result, Ok, Err}
 use Rattle.ic_pool.specs.Played.{PlayedParts}
-use Rattle.ic_round.specs.declared.growth.RoundFault.{RoundFault}
-use Rattle.ic_round.specs.declared.growth.RoundFault.TheVariants as of_round
+use Rattle.ic_round.specs.declared.round_fault.RoundFault.{RoundFault}
+use Rattle.ic_round.specs.declared.round_fault.RoundFault.TheVariants as of_round
 use Rattle.ic_pool.specs.declared.fault.PoolFault.{PoolFault}
 use Rattle.ic_pool.specs.declared.fault.PoolFault.TheVariants.{NoWorkers, Overgrown, NamesOut, NoThread, Memory, Lost, Stranger, RoundsOut}
 

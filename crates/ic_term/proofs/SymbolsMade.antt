@@ -78,3 +78,8 @@ numbered-last ss s are =
 
 pub with_symbol-last : (ss : List Symbol) (s : Symbol) → AreSymbols (ss ++ s ∷ []) → with_symbol ss s.text s.arity ≡ ss ++ s ∷ []
 with_symbol-last ss s are = with_symbol-new ss s.text s.arity (is_new ss s are)
+
+-- the last text of a list of symbols is a symbol's
+pub is_symbol_text-last : (ss : List Symbol) (s : Symbol) → AreSymbols (ss ++ s ∷ []) → IsTrue (is_symbol_text s.text)
+is_symbol_text-last ss s are =
+    (split_all (λ (x : Symbol). IsTrue (is_symbol_text x.text) × IsTrue (fits_limits x.text x.arity)) ss s are.each).1.0

@@ -46,6 +46,8 @@ pub fn numbering_makes_exactly_such_symbols()
         → IsTrue (is_symbol_text text) → numbered ss text arity ≡ Ok n
         → AreSymbols (with_symbol ss text arity) }
     ensures earlier { (ss : List Symbol) (s : Symbol) → AreSymbols (ss ++ s ∷ []) → AreSymbols ss }
+    ensures text { (ss : List Symbol) (s : Symbol) → AreSymbols (ss ++ s ∷ [])
+        → IsTrue (is_symbol_text s.text) }
     ensures last { (ss : List Symbol) (s : Symbol) → AreSymbols (ss ++ s ∷ [])
         → numbered ss s.text s.arity ≡ Ok (length ss) }
     ensures made { (ss : List Symbol) (s : Symbol) → AreSymbols (ss ++ s ∷ [])

@@ -1,4 +1,4 @@
-use Rattle.ic_term.proofs.SymbolsMade.{AreSymbols-numbered, AreSymbols-earlier, numbered-last, with_symbol-last}
+use Rattle.ic_term.proofs.SymbolsMade.{AreSymbols-numbered, AreSymbols-earlier, is_symbol_text-last, numbered-last, with_symbol-last}
 use Rattle.ic_term.proofs.laws.numbering_makes_exactly_such_symbols.Goals as goal
 
 pub returns-clause-kept : goal.returns-clause-kept
@@ -12,3 +12,6 @@ returns-clause-last c = numbered-last
 
 pub returns-clause-made : goal.returns-clause-made
 returns-clause-made c = with_symbol-last
+
+pub returns-clause-text : goal.returns-clause-text
+returns-clause-text c = is_symbol_text-last
