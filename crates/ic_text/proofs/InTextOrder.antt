@@ -61,7 +61,7 @@ among-rule r =
     let right = agent_source r.right in
     both (words left) (mark Greater ∷ mark Less ∷ words right) (prefix left) (prefix right) (among-words left) (among-words right)
 
-among-phrase : (p : Phrase) → words_among (phrase_words p) ≡ texts (phrase_prefix p)
+pub among-phrase : (p : Phrase) → words_among (phrase_words p) ≡ texts (phrase_prefix p)
 among-phrase p =
     let equations = separated Comma (map sides_words p.equations) in
     let sides = flat_map (λ (e : Sides). prefix e.left ++ prefix e.right) p.equations in
@@ -70,7 +70,7 @@ among-phrase p =
     both (separated Comma (map words p.interface)) (mark Bar ∷ (equations ++ mark Greater ∷ [])) (flat_map prefix p.interface) sides
     (among-separated words prefix among-words Comma p.interface) last
 
-among-system : (s : SystemPhrase) → words_among (system_words s) ≡ texts (phrase_prefix (joined_phrase s))
+pub among-system : (s : SystemPhrase) → words_among (system_words s) ≡ texts (phrase_prefix (joined_phrase s))
 among-system s =
     both (rules_words s.rules) (mark RightBrace ∷ phrase_words s.config) (rules_prefix s.rules) (phrase_prefix s.config)
     (among-separated rule_words (λ r. prefix (agent_source r.left) ++ prefix (agent_source r.right)) among-rule Semicolon s.rules) (among-phrase s.config)

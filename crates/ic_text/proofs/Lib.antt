@@ -32,3 +32,4 @@ pub mod InTextOrder
 pub mod NextAbove
 pub mod NameTexts
 pub mod ReadOnce
+pub mod Surveying

@@ -67,12 +67,12 @@ data Outcome (table : List Symbol) (w : Symbol) (ws : List Symbol) : Type 0 wher
   clashed : (n : ℕ) → item_found table w ≡ Err (OtherArity n) → is_word_in_limits w ≡ true → is_word_over (table_over (table_with table w) ws) w ≡ false
       → table_with table w ≡ table → Outcome table w ws
 
-and_right : (a b : Bool) → b ≡ false → (a && b) ≡ false
+pub and_right : (a b : Bool) → b ≡ false → (a && b) ≡ false
 and_right true b e = e
 and_right false b e = refl
 
-too_many : (n : ℕ) → MAX_SYMBOLS < n → nat_le n MAX_SYMBOLS ≡ false
-too_many n above = grind (arith, nat_tests)
+pub not_le : (n most : ℕ) → most < n → nat_le n most ≡ false
+not_le n most above = grind (arith, nat_tests)
 
 name_outcome : (table : List Symbol) (w : Symbol) (ws : List Symbol) → length table ≤ MAX_SYMBOLS → is_name w.text ≡ true → Outcome table w ws
 name_outcome table w ws fits named = by_limit (nat_le (name_number w.text) MAX_NAME) refl
@@ -118,7 +118,7 @@ module _ (table : List Symbol) (w : Symbol) (ws : List Symbol) (fits : length ta
           (omega (arith, length_grown, ltb-true _ _ room))
       by_room false room =
           let long : MAX_SYMBOLS < length (table_over (table_with table w) ws) = omega (arith, ap length whole.1, length-append table (w ∷ whole.0), ltb-false _ _ room) in
-          limited (rw (named, low, found, room) refl) (and_right _ _ (too_many _ long))
+          limited (rw (named, low, found, room) refl) (and_right _ _ (not_le _ _ long))
 
   -- a symbol that is in the table
   known_outcome : (n : ℕ) → number_of_text table w.text ≡ Some n → Outcome table w ws

@@ -114,7 +114,7 @@ unscanned-phrase_words p is =
 pub phrase_words-injective : (p q : Phrase) → IsPhrase p → IsPhrase q → phrase_words p ≡ phrase_words q → p ≡ q
 phrase_words-injective p q is_p is_q same = sym (unscanned-phrase_words p is_p) ∙ ap (λ ts. unscanned (scan ts)) same ∙ unscanned-phrase_words q is_q
 
-pub told : IsTold IsPhrase phrase_words
+abbrev pub told : IsTold IsPhrase phrase_words
 told = record {
   test = accepts (at Begin After 0);
   found = SpelledBy-accepts;

@@ -128,7 +128,7 @@ tokens_inside s = rules_words s.rules ++ mark RightBrace ∷ phrase_words s.conf
 split-inside : (s : SystemPhrase) → split_at_brace (tokens_inside s) ≡ (rules_words s.rules, phrase_words s.config)
 split-inside s = split-rules_words s.rules (phrase_words s.config)
 
-system_words-injective : (s t : SystemPhrase) → IsSystemPhrase s → IsSystemPhrase t
+pub system_words-injective : (s t : SystemPhrase) → IsSystemPhrase s → IsSystemPhrase t
     → system_words s ≡ system_words t → s ≡ t
 system_words-injective s t is_s is_t same =
     let same_inside : tokens_inside s ≡ tokens_inside t = cc in
@@ -139,7 +139,7 @@ system_words-injective s t is_s is_t same =
     let same_config = phrase_words-injective s.config t.config is_s.config is_t.config same_config_words in
     λ i. record { rules = same_rules i; config = same_config i }
 
-pub told_systems : IsTold IsSystemPhrase system_words
+abbrev pub told_systems : IsTold IsSystemPhrase system_words
 told_systems = record {
   test = accepts (at Start After 0);
   found = SystemSpelledBy-accepts;

@@ -8,10 +8,10 @@ use Rattle.ic_text.specs.declared.fault.TextFault.TheVariants.{Syntax, Limit}
 use Rattle.ic_text.specs.Token.{Token, tokens}
 use Rattle.ic_text.specs.Reading.{IsSpelling, IsReading}
 
-some-injective : (ts us : List Token) → Some ts ≡ Some us → ts ≡ us
+pub some-injective : (ts us : List Token) → Some ts ≡ Some us → ts ≡ us
 some-injective ts us e = cc
 
-none_is_some : (ts : List Token) → None ≡ Some ts → ⊥
+pub none_is_some : (ts : List Token) → None ≡ Some ts → ⊥
 none_is_some ts e = cc
 
 -- some phrase of the kind has these tokens
@@ -71,33 +71,34 @@ module _ {P : Type 0} (IsOne : P → Type 0) (words : P → List Token) (told : 
           | inr none ↦ reads_a.malformed short none ∙ sym (reads_b.malformed short none)
         ]
 
+    pub reads_long : (text : List ℕ) → MAX_TEXT < length text → Reading text (Err Limit)
+    reads_long text long =
+        record { long = λ _. refl; spelled = λ short. absurd (omega arith); malformed = λ short. absurd (omega arith) }
+
+    pub reads_sense : (text : List ℕ) (p : P) → length text ≤ MAX_TEXT → IsSpelling IsOne words text p → Reading text (sense p)
+    reads_sense text p short spells = record {
+      long = λ long. absurd (omega arith);
+      spelled = λ _ q other. ap sense (one_phrase text p q spells other);
+      malformed = λ _ none. absurd (none p spells);
+    }
+
+    pub reads_none : (text : List ℕ) → length text ≤ MAX_TEXT → ((p : P) → IsSpelling IsOne words text p → ⊥) → Reading text (Err Syntax)
+    reads_none text short none = record {
+      long = λ long. absurd (omega arith);
+      spelled = λ _ p spells. absurd (none p spells);
+      malformed = λ _ _. refl;
+    }
+
     pub some_answer : (text : List ℕ) → (a : Result V TextFault) × Reading text a
     some_answer text = ⊎_elim by_long by_short (cases_lt MAX_TEXT (length text))
       where
         by_long : MAX_TEXT < length text → (a : Result V TextFault) × Reading text a
-        by_long long = (
-          Err Limit,
-          record { long = λ _. refl; spelled = λ short. absurd (omega arith); malformed = λ short. absurd (omega arith) },
-        )
+        by_long long = (Err Limit, reads_long text long)
 
         by_short : length text ≤ MAX_TEXT → (a : Result V TextFault) × Reading text a
         by_short short = elim (spelling text) [
-          | inl s ↦ (
-            sense s.0,
-            record {
-              long = λ long. absurd (omega arith);
-              spelled = λ _ q other. ap sense (one_phrase text s.0 q s.1 other);
-              malformed = λ _ none. absurd (none s.0 s.1);
-            },
-          )
-          | inr none ↦ (
-            Err Syntax,
-            record {
-              long = λ long. absurd (omega arith);
-              spelled = λ _ p spells. absurd (none p spells);
-              malformed = λ _ _. refl;
-            },
-          )
+          | inl s ↦ (sense s.0, reads_sense text s.0 short s.1)
+          | inr none ↦ (Err Syntax, reads_none text short none)
         ]
 
     pub meant : (text : List ℕ) (v : V) → Reading text (Ok v) → IsMeant IsOne words sense text v

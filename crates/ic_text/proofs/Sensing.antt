@@ -1,5 +1,5 @@
 -- Numbering the words of a configuration and building its terms gives its sense.
-use Rattle.std.proofs.Common.{◌≡◌, ℕ, ◌+◌, ◌≤◌, ◌^◌, Bool, true, false, ◌&&◌, cond, List, [], ◌∷◌, ◌++◌, Option, None, Some, Result, Ok, Err, length, map, refl, sym, ap, ◌∙◌, arith}
+use Rattle.std.proofs.Common.{◌≡◌, ℕ, ◌+◌, ◌<◌, ◌≤◌, ◌^◌, Bool, true, false, ◌&&◌, cond, List, [], ◌∷◌, ◌++◌, Option, None, Some, Result, Ok, Err, length, map, refl, sym, ap, ◌∙◌, arith}
 use Rattle.std.specs.Prelude.{nat_le, nat_lt, sum_by}
 use Rattle.std.specs.List.{flat_map, list_all}
 use Rattle.std.proofs.lemmas.List.{length-map}
@@ -20,6 +20,7 @@ use Rattle.ic_text.specs.declared.prefix.Node.{Node}
 use Rattle.ic_text.specs.Inner.Prefix.{phrase_prefix, node_of, nodes_of as words_of}
 use Rattle.ic_text.specs.Inner.Numbered.{table_over, is_word_in_limits, is_word_over, item_in, unless_refused, numbered_words, as_text_answer, Refuses}
 use Rattle.ic_text.specs.Inner.Built.{built_before, configuration_from}
+use Rattle.ic_text.proofs.Numbering.{not_le}
 use Rattle.ic_text.proofs.PrefixWords.{symbols_among-phrase, names_among-phrase, limits-words, table-words, arities-words, length-phrase_prefix}
 use Rattle.ic_text.proofs.BuiltTrees.{configuration_from-built}
 
@@ -162,6 +163,9 @@ sense-unfit p = by_cases _ (nat_le (length p.interface) MAX_INTERFACE) (nat_le (
     by_cases true true false v unfit = refl
     by_cases true false k v unfit = refl
     by_cases false i k v unfit = refl
+
+pub sense-many : (p : Phrase) → MAX_NODES < phrase_nodes p → sense p ≡ Err Limit
+sense-many p many = sense-unfit p (rw (not_le (phrase_nodes p) MAX_NODES many) refl)
 
 -- a refusal stays where a function goes on with values alone
 pub Refuses-through : {A B : Type 0} (f : Result A TextFault → Result B TextFault) (stays : (e : TextFault) → f (Err e) ≡ Err e) (e : TextFault) (a : Result A TextFault) → Refuses e a → Refuses e (f a)

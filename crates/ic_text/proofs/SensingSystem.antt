@@ -1,10 +1,10 @@
 -- Numbering the words of a system and building its rules and its configuration gives its sense.
-use Rattle.std.proofs.Common.{◌≡◌, ℕ, ◌*◌, Bool, true, false, ◌&&◌, cond, List, [], ◌++◌, Option, None, Some, Result, Ok, Err, length, map, take, drop, refl, sym, ap, ◌∙◌, append_assoc}
+use Rattle.std.proofs.Common.{◌≡◌, ℕ, ◌+◌, ◌*◌, ◌<◌, Bool, true, false, ◌&&◌, cond, List, [], ◌++◌, Option, None, Some, Result, Ok, Err, length, map, take, drop, refl, sym, ap, ◌∙◌, append_assoc, arith}
 use Rattle.std.specs.Prelude.{nat_le, sum_by}
 use Rattle.std.specs.List.{flat_map, list_all}
 use Rattle.std.proofs.lemmas.List.{length-map, map-append, take_at, drop_at}
 use Rattle.std.proofs.lemmas.List.Folds.{list_all-append}
-use Rattle.std.proofs.lemmas.Bool.{false≢true, and_parts}
+use Rattle.std.proofs.lemmas.Bool.{false≢true, and_parts, leb-true}
 use Rattle.ic_term.specs.Symbol.{Symbol, fits_limits, is_over}
 use Rattle.ic_term.specs.Tree.{Tree}
 use Rattle.ic_term.specs.Configuration.{Configuration, third_occurrence, unless_third, restored}
@@ -157,3 +157,16 @@ system-unfit s = by_cases _ (nat_le (length s.rules) MAX_RULES) (nat_le (sum_by 
     by_cases true true false i k v unfit = refl
     by_cases true false m i k v unfit = refl
     by_cases false r m i k v unfit = refl
+
+-- so is one with more words than all of these limits together have
+pub system-many : (s : SystemPhrase)
+    → 2 * MAX_RULES + MAX_RULE_NODES + MAX_NODES < 2 * length s.rules + sum_by rule_nodes s.rules + phrase_nodes s.config
+    → system_sense s ≡ Err Limit
+system-many s many = system-unfit s (by_cases (nat_le (length s.rules) MAX_RULES) (nat_le (sum_by rule_nodes s.rules) MAX_RULE_NODES) (nat_le (phrase_nodes s.config) MAX_NODES) refl refl refl)
+  where
+    by_cases : (r m k : Bool) → nat_le (length s.rules) MAX_RULES ≡ r → nat_le (sum_by rule_nodes s.rules) MAX_RULE_NODES ≡ m → nat_le (phrase_nodes s.config) MAX_NODES ≡ k
+        → ((r && m) && (k && nat_le (length s.config.interface) MAX_INTERFACE)) ≡ false
+    by_cases false m k few small low = refl
+    by_cases true false k few small low = refl
+    by_cases true true false few small low = refl
+    by_cases true true true few small low = absurd (omega (arith, leb-true (length s.rules) MAX_RULES few, leb-true (sum_by rule_nodes s.rules) MAX_RULE_NODES small, leb-true (phrase_nodes s.config) MAX_NODES low))

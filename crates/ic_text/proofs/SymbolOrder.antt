@@ -4,6 +4,7 @@ use Rattle.std.specs.List.{list_any, position, slice_get}
 use Rattle.std.specs.Option.{option_map}
 use Rattle.std.specs.Str.{bytes_eq}
 use Rattle.std.proofs.lemmas.Slice.Eq.{bytes_eq-Decides}
+use Rattle.std.proofs.Math.Bool.{or-false, or_assoc}
 use Rattle.ic_term.specs.Symbol.{Symbol, texts, number_of_text, with_symbol}
 use Rattle.ic_text.specs.Sense.{symbols_after}
 use Rattle.ic_text.proofs.TableLemmas.{position-cons, slice_get-next}
@@ -26,14 +27,6 @@ found (s ∷ ss) text = ap is_some (position-cons (bytes_eq text) s.text (texts 
     by_test true e = refl
     by_test false e = some-map (position (bytes_eq text) (texts ss)) ∙ e
 
-or_false : (b : Bool) → b ≡ (b || false)
-or_false true = refl
-or_false false = refl
-
-or_assoc : (a b c : Bool) → ((a || b) || c) ≡ (a || (b || c))
-or_assoc true b c = refl
-or_assoc false b c = refl
-
 any-append : (text : List ℕ) (ss ts : List Symbol) → has_text text (ss ++ ts) ≡ (has_text text ss || has_text text ts)
 any-append text [] ts = refl
 any-append text (s ∷ ss) ts = ap (λ b. bytes_eq text s.text || b) (any-append text ss ts) ∙ sym (or_assoc (bytes_eq text s.text) (has_text text ss) (has_text text ts))
@@ -47,18 +40,18 @@ known_again text seen s known = by_test (bytes_eq text s.text) refl
         let same : text ≡ s.text = (bytes_eq-Decides text s.text).0 e in
         let there : has_text text seen ≡ true = ap (λ t. has_text t seen) same ∙ known in
         there ∙ sym (ap (λ b. b || true) there)
-    by_test false e = or_false (has_text text seen)
+    by_test false e = sym (or-false (has_text text seen))
 
 texts_with : (text : List ℕ) (seen : List Symbol) (s : Symbol) → has_text text (with_symbol seen s.text s.arity) ≡ (has_text text seen || bytes_eq text s.text)
 texts_with text seen s = by_known (is_some (number_of_text seen s.text)) refl
   where
     by_known : (b : Bool) → is_some (number_of_text seen s.text) ≡ b → has_text text (cond b seen (seen ++ s ∷ [])) ≡ (has_text text seen || bytes_eq text s.text)
     by_known true e = known_again text seen s (sym (found seen s.text) ∙ e)
-    by_known false e = any-append text seen (s ∷ []) ∙ ap (λ b. has_text text seen || b) (sym (or_false (bytes_eq text s.text)))
+    by_known false e = any-append text seen (s ∷ []) ∙ ap (λ b. has_text text seen || b) (or-false (bytes_eq text s.text))
 
 -- the texts of a table are those of its symbols
 texts_after : (text : List ℕ) (ss seen : List Symbol) → has_text text (symbols_after seen ss) ≡ (has_text text seen || has_text text ss)
-texts_after text [] seen = or_false (has_text text seen)
+texts_after text [] seen = sym (or-false (has_text text seen))
 texts_after text (s ∷ ss) seen =
     texts_after text ss (with_symbol seen s.text s.arity)
     ∙ ap (λ b. b || has_text text ss) (texts_with text seen s)

@@ -21,6 +21,7 @@ use Rattle.ic_text.specs.Inner.Numbered.{IsWord, numbered_words}
 use Rattle.ic_text.proofs.GrammarSystem.{split-rules_words}
 use Rattle.ic_text.proofs.JoinedPhrase.{joined_phrase, prefix-joined, is-joined, length-rules_prefix}
 use Rattle.ic_text.proofs.PrefixWords.{words-phrase_prefix}
+use Rattle.ic_text.proofs.Numbering.{and_right}
 use Rattle.ic_text.proofs.Sensing.{nodes_are}
 use Rattle.ic_text.proofs.SensingSystem.{finished_system, sense-system, system-unfit}
 
@@ -47,10 +48,6 @@ pub record Known (s : SystemPhrase) (rules config : Prefix) : Type 0 where
 first_false : (a b : Bool) → a ≡ false → (a && b) ≡ false
 first_false true b e = cc
 first_false false b e = refl
-
-second_false : (a b : Bool) → b ≡ false → (a && b) ≡ false
-second_false true b e = e
-second_false false b e = refl
 
 twice_le : (n m : ℕ) → nat_le (2 * n) (2 * m) ≡ nat_le n m
 twice_le n m = grind (arith, nat_tests)
@@ -88,4 +85,4 @@ module _ (s : SystemPhrase) (rules config : Prefix) (known : Known s rules confi
   unfit-rules many = system-unfit s (first_false _ _ (sym rules_fit ∙ many))
 
   pub unfit-config : (nat_le (length config.nodes.items) MAX_NODES && nat_le config.terms MAX_INTERFACE) ≡ false → system_sense s ≡ Err Limit
-  unfit-config many = system-unfit s (second_false (nat_le (length s.rules) MAX_RULES && nat_le (sum_by rule_nodes s.rules) MAX_RULE_NODES) _ (sym config_fits ∙ many))
+  unfit-config many = system-unfit s (and_right (nat_le (length s.rules) MAX_RULES && nat_le (sum_by rule_nodes s.rules) MAX_RULE_NODES) _ (sym config_fits ∙ many))

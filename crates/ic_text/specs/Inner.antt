@@ -3,6 +3,7 @@ pub mod Tokens
 pub mod Bounds
 pub mod Spelled
 pub mod Syntax
+pub mod Survey
 pub mod Braces
 pub mod Prefix
 pub mod Numbered

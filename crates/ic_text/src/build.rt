@@ -23,7 +23,7 @@ fn take_last(alloc: Global, stack: &mut Vec<Term>, count: usize) -> Result<Vec<T
         (λ terms. trees terms.items ≡ take count (upright stack.old.items)) }
     ensures left { OnOk result (upright stack.new.items ≡ drop count (upright stack.old.items)) }
 {
-    let mut terms = Vec::new(alloc);
+    let mut terms = Vec::with_capacity(alloc, count)?;
     for _ in 0..count {
         if let Some(term) = stack.pop() {
             terms.push(term)?;
@@ -36,7 +36,7 @@ fn take_last(alloc: Global, stack: &mut Vec<Term>, count: usize) -> Result<Vec<T
 fn take_pairs(alloc: Global, mut stack: Vec<Term>) -> Result<Vec<Equation>, AllocError>
     ensures { IfOk result (λ equations. map pair equations.items ≡ pairs_of (upright stack.items)) }
 {
-    let mut equations = Vec::new(alloc);
+    let mut equations = Vec::with_capacity(alloc, stack.len() / 2)?;
     while let Some(left) = stack.pop() {
         if let Some(right) = stack.pop() {
             equations.push(Equation { left, right })?;
@@ -64,7 +64,7 @@ fn put_item(alloc: Global, stack: &mut Vec<Term>, item: Item) -> Result<(), Allo
 fn terms_of(alloc: Global, mut items: Vec<Item>) -> Result<Vec<Term>, AllocError>
     ensures { IfOk result (λ terms. upright terms.items ≡ built_before items.items []) }
 {
-    let mut stack = Vec::new(alloc);
+    let mut stack = Vec::with_capacity(alloc, items.len())?;
     while let Some(item) = items.pop() {
         put_item(alloc, &mut stack, item)?;
     }
@@ -113,7 +113,7 @@ fn rules_of(alloc: Global, mut agents: Vec<Term>) -> Result<Vec<(Cell, Cell)>, A
     ensures { IfOk result (λ rules. map written rules.items ≡ rules_in (trees agents.items)) }
 {
     agents.reverse();
-    let mut rules = Vec::new(alloc);
+    let mut rules = Vec::with_capacity(alloc, agents.len() / 2)?;
     while let Some(left) = agents.pop() {
         if let Some(right) = agents.pop()
             && let Some(rule) = rule_of(left, right)

@@ -14,6 +14,7 @@ mod number;
 mod prefix;
 mod print;
 mod read;
+mod survey;
 mod syntax;
 mod system;
 mod token;

@@ -43,7 +43,7 @@ pub(crate) fn number_words(alloc: Global, nodes: &[Node]) -> Result<(Symbols, Ve
     ensures { Gives (λ v. (v.0, v.1.items)) result (numbered_words (nodes_of nodes.now)) }
 {
     let mut symbols = Symbols::new(alloc);
-    let mut items = Vec::new(alloc);
+    let mut items = Vec::with_capacity(alloc, nodes.len())?;
     let mut clash = false;
     for node in nodes {
         match item_of(&mut symbols, node) {

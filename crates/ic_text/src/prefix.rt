@@ -88,8 +88,12 @@ impl<'a> Scan<'a> {
 }
 
 /// The words of a configuration with these tokens, and its number of terms, or those of rules, and how many agents are
-/// their sides. Takes one pass.
-pub(crate) fn prefix_of<'a>(alloc: Global, tokens: &[Token<'a>]) -> Result<Prefix<'a>, AllocError>
+/// their sides. Takes one pass. Room is made for so many words at first.
+pub(crate) fn prefix_of<'a>(
+    alloc: Global,
+    tokens: &[Token<'a>],
+    words: usize,
+) -> Result<Prefix<'a>, AllocError>
     ensures nodes { IfOk result (λ found. (p : Phrase) →
         tokens_in tokens.now ≡ phrase_words p → nodes_of found.nodes.items ≡ phrase_prefix p) }
     ensures terms { IfOk result (λ found. (p : Phrase) →
@@ -99,8 +103,9 @@ pub(crate) fn prefix_of<'a>(alloc: Global, tokens: &[Token<'a>]) -> Result<Prefi
     ensures agents { IfOk result (λ found. (rs : List RulePhrase) →
         tokens_in tokens.now ≡ rules_words rs → found.terms ≡ 2 * length rs) }
 {
+    let room = Vec::with_capacity(alloc, words)?;
     let mut scan = Scan {
-        nodes: Vec::new(alloc),
+        nodes: room,
         counts: Vec::new(alloc),
         arity: 0,
         terms: 0,

@@ -14,19 +14,19 @@ use crate::fault::TextFault;
 use crate::limits::MAX_TEXT;
 use crate::number::number_words;
 use crate::prefix::prefix_of;
-use crate::syntax::is_config;
+use crate::survey::survey_config;
 use crate::token::{Token, tokens_of};
-use ic_term::{Config, Symbols};
+use ic_term::{Config, MAX_NODES, Symbols};
 use std::alloc::Global;
 
-/// The sense of tokens that are a configuration. Every limit is tested before a term is built.
-fn sense_of(alloc: Global, tokens: &[Token]) -> Result<(Symbols, Config), TextFault>
+/// The sense of tokens that are a configuration, of which so many are words. Every limit is tested before a term is built.
+fn sense_of(alloc: Global, tokens: &[Token], words: usize) -> Result<(Symbols, Config), TextFault>
     requires { SpelledBy (tokens_in tokens.now) }
     ensures sense { (p : Phrase) → IsPhrase p → tokens_in tokens.now ≡ phrase_words p →
         Gives (λ v. v) result (sense p) }
     ensures over { IfOk result (λ v. IsTrue (is_over v.0 v.1)) }
 {
-    let prefix = prefix_of(alloc, tokens)?;
+    let prefix = prefix_of(alloc, tokens, words)?;
     if !prefix.fits() {
         return Err(TextFault::Limit);
     }
@@ -46,11 +46,12 @@ pub fn read_config(alloc: Global, text: &[u8]) -> Result<(Symbols, Config), Text
     if text.len() > MAX_TEXT {
         return Err(TextFault::Limit);
     }
-    let Some(tokens) = tokens_of(alloc, text)? else {
+    let Some(counts) = survey_config(text) else {
         return Err(TextFault::Syntax);
     };
-    if !is_config(&tokens) {
-        return Err(TextFault::Syntax);
+    if counts.words as u64 > MAX_NODES {
+        return Err(TextFault::Limit);
     }
-    sense_of(alloc, &tokens)
+    let tokens = tokens_of(alloc, text, counts.tokens)?;
+    sense_of(alloc, &tokens, counts.words)
 }

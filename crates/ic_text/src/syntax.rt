@@ -1,10 +1,9 @@
-//! The grammar: whether tokens are a configuration or a system, without a stack of what is open.
+//! The grammar: what may come next in a configuration or a system, without a stack of what is open.
 
-ghost use Rattle.std.specs.Prelude.{◌≡◌, ◌+◌, ◌<◌, ◌≤◌, ◌^◌, ◌↔◌, IsTrue, IfSome, Some};
+ghost use Rattle.std.specs.Prelude.{◌≡◌, ◌+◌, ◌<◌, ◌≤◌, ◌^◌, IfSome};
 ghost use Rattle.ic_text.specs.Inner.Braces.{split_at_brace};
-ghost use Rattle.ic_text.specs.Inner.Spelled.{SpelledBy, SystemSpelledBy};
 ghost use Rattle.ic_text.specs.Inner.Syntax.{agent_spot, word_spot, term_step, end_step, empty_step, part_step};
-ghost use Rattle.ic_text.specs.Inner.Syntax.{step, beginning, accepts};
+ghost use Rattle.ic_text.specs.Inner.Syntax.{step, at_beginning};
 ghost use Rattle.ic_text.specs.Inner.Tokens.{token_of, tokens_in};
 
 use crate::name::is_name;
@@ -54,7 +53,7 @@ pub(crate) enum Spot {
 /// How far a check has come. `depth` counts the parentheses that are open.
 #[derive(Clone, Copy, Debug, PartialEq, Eq)]
 pub(crate) struct State {
-    part: Part,
+    pub part: Part,
     spot: Spot,
     depth: usize,
 }
@@ -140,8 +139,21 @@ fn part_step(part: Part, spot: Spot, mark: Mark) -> Option<(Part, Spot)>
     }
 }
 
+impl State {
+    /// Where the check of a part begins, in front of its first mark.
+    pub(crate) fn new(part: Part) -> State
+        ensures { result ≡ at_beginning part }
+    {
+        State {
+            part,
+            spot: Spot::After,
+            depth: 0,
+        }
+    }
+}
+
 /// The next token: within a term, or outside all parentheses.
-fn step(state: State, token: &Token) -> Option<State>
+pub(crate) fn step(state: State, token: &Token) -> Option<State>
     requires { state.depth + 1 < 2 ^ 64 }
     ensures value { result ≡ step state (token_of token.now) }
     ensures rises { IfSome result (λ next. next.depth ≤ state.depth + 1) }
@@ -164,38 +176,6 @@ fn step(state: State, token: &Token) -> Option<State>
         }
         _ => None,
     }
-}
-
-/// Whether the tokens lead from the beginning of a part to the end. Takes one pass, and no memory.
-fn accepts(part: Part, tokens: &[Token]) -> bool
-    ensures { result ≡ accepts (beginning part) (tokens_in tokens.now) }
-{
-    let mut state = State {
-        part,
-        spot: Spot::After,
-        depth: 0,
-    };
-    for token in tokens {
-        match step(state, token) {
-            Some(next) => state = next,
-            None => return false,
-        }
-    }
-    matches!(state.part, Part::End)
-}
-
-/// Whether the tokens are a configuration.
-pub(crate) fn is_config(tokens: &[Token]) -> bool
-    ensures { IsTrue result ↔ SpelledBy (tokens_in tokens.now) }
-{
-    accepts(Part::Begin, tokens)
-}
-
-/// Whether the tokens are a system.
-pub(crate) fn is_system(tokens: &[Token]) -> bool
-    ensures { IsTrue result ↔ SystemSpelledBy (tokens_in tokens.now) }
-{
-    accepts(Part::Start, tokens)
 }
 
 /// The tokens before the first `}`, and those behind it.

@@ -13,20 +13,25 @@ use crate::fault::TextFault;
 use crate::limits::MAX_TEXT;
 use crate::number::number_words;
 use crate::prefix::prefix_of;
-use crate::syntax::{is_system, split_at_brace};
+use crate::survey::survey_system;
+use crate::syntax::split_at_brace;
 use crate::token::{Token, tokens_of};
-use ic_rules::System;
+use ic_rules::{MAX_RULE_NODES, MAX_RULES, System};
+use ic_term::MAX_NODES;
 use std::alloc::Global;
 
-/// The sense of tokens that are a system. Every limit is tested before a term is built.
-fn sense_of(alloc: Global, tokens: &[Token]) -> Result<System, TextFault>
+/// The most words of a system: the sides of its rules, the nodes of their arguments, and those of its configuration.
+const MAX_WORDS: u64 = 2 * MAX_RULES as u64 + MAX_RULE_NODES + MAX_NODES;
+
+/// The sense of tokens that are a system, of which so many are words. Every limit is tested before a term is built.
+fn sense_of(alloc: Global, tokens: &[Token], words: usize) -> Result<System, TextFault>
     requires { SystemSpelledBy (tokens_in tokens.now) }
     ensures { (s : SystemPhrase) → IsSystemPhrase s → tokens_in tokens.now ≡ system_words s →
         Gives (λ system. system) result (system_sense s) }
 {
     let (rules, config) = split_at_brace(&tokens[1..]);
-    let mut rules = prefix_of(alloc, rules)?;
-    let mut config = prefix_of(alloc, config)?;
+    let mut rules = prefix_of(alloc, rules, words)?;
+    let mut config = prefix_of(alloc, config, words)?;
     if !rules.fits_rules() || !config.fits() {
         return Err(TextFault::Limit);
     }
@@ -46,11 +51,12 @@ pub fn read_system(alloc: Global, text: &[u8]) -> Result<System, TextFault>
     if text.len() > MAX_TEXT {
         return Err(TextFault::Limit);
     }
-    let Some(tokens) = tokens_of(alloc, text)? else {
+    let Some(counts) = survey_system(text) else {
         return Err(TextFault::Syntax);
     };
-    if !is_system(&tokens) {
-        return Err(TextFault::Syntax);
+    if counts.words as u64 > MAX_WORDS {
+        return Err(TextFault::Limit);
     }
-    sense_of(alloc, &tokens)
+    let tokens = tokens_of(alloc, text, counts.tokens)?;
+    sense_of(alloc, &tokens, counts.words)
 }

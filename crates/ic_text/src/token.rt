@@ -1,8 +1,8 @@
 //! Tokens of a text: words, and marks that stand by themselves.
 
-ghost use Rattle.std.specs.Prelude.{◌≡◌, ◌++◌, IfOk, OnOk};
-ghost use Rattle.ic_text.specs.Token.{is_blank, is_word_byte, mark_of, word_of, tokens};
-ghost use Rattle.ic_text.specs.Inner.Tokens.{tokens_in, tokens_found};
+ghost use Rattle.std.specs.Prelude.{◌≡◌, ◌++◌, List, Some, IfOk, OnOk};
+ghost use Rattle.ic_text.specs.Token.{Token as Spelled, is_blank, is_word_byte, mark_of, word_of, tokens};
+ghost use Rattle.ic_text.specs.Inner.Tokens.{tokens_in};
 
 use std::alloc::{AllocError, Global};
 
@@ -28,19 +28,19 @@ pub(crate) enum Token<'a> {
     Mark(Mark),
 }
 
-fn is_blank(byte: u8) -> bool
+pub(crate) fn is_blank(byte: u8) -> bool
     ensures { result ≡ is_blank byte }
 {
     byte == b' ' || byte == b'\t' || byte == b'\n' || byte == b'\r'
 }
 
-fn is_word_byte(byte: u8) -> bool
+pub(crate) fn is_word_byte(byte: u8) -> bool
     ensures { result ≡ is_word_byte byte }
 {
     byte.is_ascii_alphanumeric() || byte == b'-'
 }
 
-fn mark_of(byte: u8) -> Option<Mark>
+pub(crate) fn mark_of(byte: u8) -> Option<Mark>
     ensures { result ≡ mark_of byte }
 {
     match byte {
@@ -69,14 +69,16 @@ fn push_word<'a>(tokens: &mut Vec<Token<'a>>, run: &'a [u8]) -> Result<(), Alloc
     Ok(())
 }
 
-/// The tokens of a text in order, or None where a byte is no part of any.
+/// The tokens of a text in order, of which there are so many.
 pub(crate) fn tokens_of<'a>(
     alloc: Global,
     text: &'a [u8],
-) -> Result<Option<Vec<Token<'a>>>, AllocError>
-    ensures { IfOk result (λ found. tokens_found found ≡ tokens text.now) }
+    count: usize,
+) -> Result<Vec<Token<'a>>, AllocError>
+    requires { (ts : List Spelled) × (tokens text.now ≡ Some ts) }
+    ensures { IfOk result (λ found. Some (tokens_in found.items) ≡ tokens text.now) }
 {
-    let mut tokens = Vec::new(alloc);
+    let mut tokens = Vec::with_capacity(alloc, count)?;
     let mut start = 0;
     for (place, byte) in text.iter().enumerate() {
         if !is_word_byte(*byte) {
@@ -84,11 +86,9 @@ pub(crate) fn tokens_of<'a>(
             start = place + 1;
             if let Some(mark) = mark_of(*byte) {
                 tokens.push(Token::Mark(mark))?;
-            } else if !is_blank(*byte) {
-                return Ok(None);
             }
         }
     }
     push_word(&mut tokens, &text[start..])?;
-    Ok(Some(tokens))
+    Ok(tokens)
 }

@@ -91,15 +91,16 @@ abbrev pub step : State → Token → Option State
 step st t = either_step st.part st.spot st.depth t (term_step st.spot st.depth t)
 
 -- where the check of a part begins, in front of its first mark
-abbrev pub beginning : Part → Option State
-beginning p = Some (record { part = p; spot = After; depth = 0 })
+abbrev pub at_beginning : Part → State
+at_beginning p = record { part = p; spot = After; depth = 0 }
+
+-- nothing is left of a system or a configuration
+abbrev pub is_end : Part → Bool
+is_end End = true
+is_end _ = false
 
 -- the tokens lead from a state to the end
 abbrev pub accepts : Option State → List Token → Bool
 accepts None ts = false
 accepts (Some st) [] = is_end st.part
-  where
-    is_end : Part → Bool
-    is_end End = true
-    is_end _ = false
 accepts (Some st) (t ∷ ts) = accepts (step st t) ts

@@ -1,5 +1,5 @@
 -- For private functions: what the reader's tokens are, words of which lie in the text.
-use Rattle.std.specs.Prelude.{List, Option, None, Some, Vec, map}
+use Rattle.std.specs.Prelude.{List, map}
 use Rattle.ic_text.specs.declared.token.Token.{Token as Read}
 use Rattle.ic_text.specs.declared.token.Token.TheVariants.{Word, Mark as Sign}
 use Rattle.ic_text.specs.Token.{Token, word, mark}
@@ -12,7 +12,3 @@ token_of (Sign m) = mark m
 -- tokens without where they lie in memory
 abbrev pub tokens_in : List Read → List Token
 tokens_in ts = map token_of ts
-
-abbrev pub tokens_found : {A : Type 0} → Option (Vec Read A) → Option (List Token)
-tokens_found None = None
-tokens_found (Some v) = Some (tokens_in v.items)

@@ -1,0 +1,155 @@
+-- The first pass over a text counts the words and tokens of what it spells.
+use Rattle.std.proofs.Common.{◌≡◌, ℕ, ◌+◌, ◌-◌, ◌*◌, ◌<◌, ◌≤◌, Bool, true, false, cond, List, [], ◌∷◌, ◌++◌, Option, None, Some, length, get_or, take, drop, refl, sym, ap, ◌∙◌, arith, length-append}
+use Rattle.std.specs.Prelude.{option_and_then}
+use Rattle.std.specs.Option.{option_map}
+use Rattle.ic_text.specs.declared.syntax.Part.{Part}
+use Rattle.ic_text.specs.declared.syntax.State.{State}
+use Rattle.ic_text.specs.declared.survey.Counts.{Counts}
+use Rattle.ic_text.specs.declared.survey.Progress.{Progress}
+use Rattle.std.specs.Prelude.{sum_by}
+use Rattle.std.proofs.lemmas.Bool.{false≢true}
+use Rattle.std.proofs.lemmas.List.{length-map}
+use Rattle.ic_term.specs.Symbol.{Symbol}
+use Rattle.ic_text.specs.Token.{Token, word, mark, is_word_byte, mark_of, word_of, before, tokens_at, followed, tokens_behind, words_among, tokens}
+use Rattle.ic_text.specs.Source.{Phrase, phrase_words, phrase_nodes}
+use Rattle.ic_text.specs.SystemSource.{SystemPhrase, system_words, rule_nodes}
+use Rattle.ic_text.specs.Reading.{IsSpelling}
+use Rattle.ic_text.specs.Inner.Prefix.{phrase_prefix, rules_prefix}
+use Rattle.ic_text.specs.Inner.Syntax.{step, is_end, at_beginning, accepts}
+use Rattle.ic_text.specs.Inner.Survey.{take_one, taken, taken_behind, taken_at, counted, surveyed}
+use Rattle.ic_text.proofs.TokenLemmas.{ended_run}
+use Rattle.ic_text.proofs.ReadOnce.{IsTold, some-injective, none_is_some}
+use Rattle.ic_text.proofs.InTextOrder.{among-phrase, among-system}
+use Rattle.ic_text.proofs.PrefixWords.{length-phrase_prefix}
+use Rattle.ic_text.proofs.JoinedPhrase.{joined_phrase, prefix-joined, length-rules_prefix}
+
+taken-none : (ts : List Token) → taken None ts ≡ None
+taken-none [] = refl
+taken-none (t ∷ ts) = taken-none ts
+
+taken-append : (o : Option Progress) (ts us : List Token) → taken o (ts ++ us) ≡ taken (taken o ts) us
+taken-append o [] us = refl
+taken-append o (t ∷ ts) us = taken-append (option_and_then (λ p. take_one p t) o) ts us
+
+-- the check behind tokens, and behind those that follow
+pub behind-before : (o : Option Progress) (ts : List Token) (rest : Option (List Token))
+    → taken_behind o (before ts rest) ≡ taken_behind (taken o ts) rest
+behind-before o ts None = refl
+behind-before o ts (Some us) = taken-append o ts us
+
+pub behind-followed : (o : Option Progress) (here rest : Option (List Token))
+    → taken_behind o (followed here rest) ≡ taken_behind (taken_behind o here) rest
+behind-followed o None None = refl
+behind-followed o None (Some us) = sym (taken-none us)
+behind-followed o (Some ts) rest = behind-before o ts rest
+
+-- a check that was refused stays so
+pub behind-none : (rest : Option (List Token)) → taken_behind None rest ≡ None
+behind-none None = refl
+behind-none (Some ts) = taken-none ts
+
+-- the counts of tokens that the grammar takes, behind what was counted
+abbrev counts_behind : Progress → List Token → Counts
+counts_behind p ts = record { words = p.counts.words + length (words_among ts); tokens = p.counts.tokens + length ts }
+
+counts-none : (p : Progress) → p.counts ≡ counts_behind p []
+counts-none p = let w : p.counts.words ≡ p.counts.words + 0 = omega arith in let t : p.counts.tokens ≡ p.counts.tokens + 0 = omega arith in
+    λ i. record { words = w i; tokens = t i }
+
+counts-one : (p : Progress) (s : State) (t : Token) (ts : List Token)
+    → counts_behind (record { state = s; counts = record { words = p.counts.words + length (words_among (t ∷ [])); tokens = p.counts.tokens + 1 } }) ts
+    ≡ counts_behind p (t ∷ ts)
+counts-one p s (word w) ts =
+    let words : p.counts.words + 1 + length (words_among ts) ≡ p.counts.words + length (w ∷ words_among ts) = omega arith in
+    let tokens : p.counts.tokens + 1 + length ts ≡ p.counts.tokens + length (word w ∷ ts) = omega arith in
+    λ i. record { words = words i; tokens = tokens i }
+counts-one p s (mark m) ts =
+    let words : p.counts.words + 0 + length (words_among ts) ≡ p.counts.words + length (words_among ts) = omega arith in
+    let tokens : p.counts.tokens + 1 + length ts ≡ p.counts.tokens + length (mark m ∷ ts) = omega arith in
+    λ i. record { words = words i; tokens = tokens i }
+
+-- what is counted is what the grammar takes
+counted-taken : (ts : List Token) (p : Progress) → counted (taken (Some p) ts) ≡ cond (accepts (Some p.state) ts) (Some (counts_behind p ts)) None
+counted-taken [] p = ap (λ c. cond (is_end p.state.part) (Some c) None) (counts-none p)
+counted-taken (t ∷ ts) p = by_step (step p.state t) (counted-taken ts)
+  where
+    by_step : (o : Option State)
+        → ((q : Progress) → counted (taken (Some q) ts) ≡ cond (accepts (Some q.state) ts) (Some (counts_behind q ts)) None)
+        → counted (taken (option_map (λ s. record { state = s; counts = record { words = p.counts.words + length (words_among (t ∷ [])); tokens = p.counts.tokens + 1 } }) o) ts)
+        ≡ cond (accepts o ts) (Some (counts_behind p (t ∷ ts))) None
+    by_step None next = ap counted (taken-none ts)
+    by_step (Some s) next =
+        next (record { state = s; counts = record { words = p.counts.words + length (words_among (t ∷ [])); tokens = p.counts.tokens + 1 } })
+        ∙ ap (λ c. cond (accepts (Some s) ts) (Some c) None) (counts-one p s t ts)
+
+pub surveyed-tokens : (part : Part) (ts : List Token)
+    → surveyed part (Some ts) ≡ cond (accepts (Some (at_beginning part)) ts) (Some (record { words = 0 + length (words_among ts); tokens = 0 + length ts })) None
+surveyed-tokens part ts = counted-taken ts (record { state = at_beginning part; counts = record { words = 0; tokens = 0 } })
+
+-- one byte of the pass
+module _ (text : List ℕ) (start place b : ℕ) (inside : place < length text) (begins : start ≤ place) (here : b ≡ get_or text place 0)
+    (p : Progress) (all : Option Counts)
+    (so_far : counted (taken_behind (Some p) (tokens_behind (take (place - start) (drop start text)) (drop place text))) ≡ all) where
+  -- the check behind the run, and the tokens that are left behind the byte
+  abbrev behind_run : Option Progress
+  behind_run = taken (Some p) (word_of (take (place - start) (drop start text)))
+
+  abbrev left : Option (List Token)
+  left = tokens_behind (take (place + 1 - (place + 1)) (drop (place + 1) text)) (drop (place + 1) text)
+
+  ended : is_word_byte b ≡ false → counted (taken_behind (taken_behind behind_run (tokens_at b (mark_of b))) left) ≡ all
+  ended apart =
+      ap counted (sym (
+      ap (taken_behind (Some p)) (ended_run text start place b inside begins here apart)
+      ∙ behind-before (Some p) (word_of (take (place - start) (drop start text))) (followed (tokens_at b (mark_of b)) left)
+      ∙ behind-followed behind_run (tokens_at b (mark_of b)) left)) ∙ so_far
+
+  -- a word that the grammar doesn't have here
+  pub refused_run : is_word_byte b ≡ false → None ≡ behind_run → None ≡ all
+  refused_run apart none =
+      ap counted (sym (behind-none left)) ∙ ap (λ o. counted (taken_behind o left)) (sym (behind-none (tokens_at b (mark_of b))))
+      ∙ ap (λ o. counted (taken_behind (taken_behind o (tokens_at b (mark_of b))) left)) none ∙ ended apart
+
+  -- a byte that the grammar doesn't have here, or that no text has
+  pub refused_byte : (q : Progress) → is_word_byte b ≡ false → Some q ≡ behind_run → None ≡ taken_at q b → None ≡ all
+  refused_byte q apart run none =
+      ap counted (sym (behind-none left)) ∙ ap (λ o. counted (taken_behind o left)) none
+      ∙ ap (λ o. counted (taken_behind (taken_behind o (tokens_at b (mark_of b))) left)) run ∙ ended apart
+
+  -- the check goes on behind the byte
+  pub goes_on : (q r : Progress) → is_word_byte b ≡ false → Some q ≡ behind_run → Some r ≡ taken_at q b → counted (taken_behind (Some r) left) ≡ all
+  goes_on q r apart run byte =
+      ap (λ o. counted (taken_behind o left)) byte
+      ∙ ap (λ o. counted (taken_behind (taken_behind o (tokens_at b (mark_of b))) left)) run ∙ ended apart
+
+-- what a survey says of a text that may spell a phrase
+abbrev pub Tells : {P : Type 0} → (P → Type 0) → (P → List Token) → List ℕ → Option Counts → Type 0
+Tells {P} IsOne words text None = (p : P) → IsSpelling IsOne words text p → ⊥
+Tells {P} IsOne words text (Some counts) = (p : P) × IsSpelling IsOne words text p × (counts.words ≡ length (words_among (words p)))
+
+module _ {P : Type 0} (IsOne : P → Type 0) (words : P → List Token) (told : IsTold IsOne words) (part : Part)
+    (tested : (ts : List Token) → told.test ts ≡ accepts (Some (at_beginning part)) ts) where
+  by_tokens : (text : List ℕ) (o : Option (List Token)) → tokens text ≡ o → Tells IsOne words text (surveyed part o)
+  by_tokens text None e = λ p spells. none_is_some (words p) (sym e ∙ spells.tokens)
+  by_tokens text (Some ts) e = rw surveyed-tokens (by_test (accepts (Some (at_beginning part)) ts) refl)
+    where
+      by_test : (b : Bool) → accepts (Some (at_beginning part)) ts ≡ b
+          → Tells IsOne words text (cond b (Some (record { words = 0 + length (words_among ts); tokens = 0 + length ts })) None)
+      by_test true is =
+          let s = told.found ts (tested ts ∙ is) in
+          (s.0, record { phrase = s.1; tokens = e ∙ ap Some s.2 }, omega (arith, ap (λ us. length (words_among us)) s.2))
+      by_test false isnt = λ p spells.
+          false≢true (sym isnt ∙ sym (tested ts) ∙ told.only ts (p, spells.phrase, some-injective _ _ (sym e ∙ spells.tokens)))
+
+  pub surveyed_tells : (text : List ℕ) → Tells IsOne words text (surveyed part (tokens text))
+  surveyed_tells text = by_tokens text (tokens text) refl
+
+-- the words of a phrase are its nodes, and the sides of its rules
+pub length-words-phrase : (p : Phrase) → length (words_among (phrase_words p)) ≡ phrase_nodes p
+length-words-phrase p = ap length (among-phrase p) ∙ length-map (phrase_prefix p) (λ (s : Symbol). s.text) ∙ length-phrase_prefix p
+
+pub length-words-system : (s : SystemPhrase)
+    → length (words_among (system_words s)) ≡ 2 * length s.rules + sum_by rule_nodes s.rules + phrase_nodes s.config
+length-words-system s =
+    let all = ap length (among-system s) ∙ length-map (phrase_prefix (joined_phrase s)) (λ (x : Symbol). x.text) ∙ ap length (prefix-joined s) ∙ length-append (rules_prefix s.rules) (phrase_prefix s.config) in
+    omega (arith, all, length-rules_prefix s.rules, length-phrase_prefix s.config)

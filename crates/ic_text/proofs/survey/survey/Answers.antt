@@ -1,0 +1,51 @@
+use Rattle.std.proofs.Common.{◌≡◌, ◌-◌, ◌≤◌, Some, sym, ap, ◌∙◌, refl, arith, get_or, take, drop, length}
+use Rattle.std.proofs.lemmas.List.{length-take}
+use Rattle.ic_text.specs.Inner.Survey.{taken_behind, counted}
+use Rattle.ic_text.proofs.TokenLemmas.{joined_run}
+use Rattle.ic_text.proofs.Surveying.{refused_run, refused_byte, goes_on}
+use Rattle.ic_text.proofs.survey.survey.Goals as goal
+use Rattle.ic_text.proofs.survey.survey.Goals.{then-not-is_word_byte+in_ok-run+in_ok-progress, else-not-is_word_byte}
+
+pub returns-in_err-run : goal.returns-in_err-run
+returns-in_err-run c =
+    let place = c.loop-place.place in
+    let apart = sym c.is_word_byte.ensures ∙ c.if-not-is_word_byte.true in
+    c.from_residual.ensures
+    ∙ refused_run c.args.text.now c.loop-place.start place (get_or c.args.text.now place 0) (omega arith) c.loop-place.invariant.begins refl
+    c.loop-place.progress _ c.loop-place.invariant.same apart c.in_err-run.ensures.value
+
+pub returns-in_err-progress : goal.returns-in_err-progress
+returns-in_err-progress c =
+    let place = c.loop-place.place in
+    let apart = sym c.is_word_byte.ensures ∙ c.if-not-is_word_byte.true in
+    c.from_residual-in_err-progress.ensures
+    ∙ refused_byte c.args.text.now c.loop-place.start place (get_or c.args.text.now place 0) (omega arith) c.loop-place.invariant.begins refl
+    c.loop-place.progress _ c.loop-place.invariant.same c.in_ok-run.run' apart c.in_ok-run.ensures.value c.in_err-progress.ensures.value
+
+pub loop-place-preserved : goal.loop-place-preserved
+loop-place-preserved c =
+    let text = c.args.text.now in
+    let start = c.loop-place.start in
+    let place = c.loop-place.place in
+    let b = get_or text place 0 in
+    let begins = c.loop-place.invariant.begins in
+    let within = c.loop-place.invariant.within in
+    elim c.if-not-is_word_byte.branch [
+      | then-not-is_word_byte+in_ok-run+in_ok-progress w ↦
+          let apart = sym c.is_word_byte.ensures ∙ w.if-not-is_word_byte.true in
+          let short : length (take (place - start) (drop start text)) ≤ place - start = omega (arith, length-take (place - start) (drop start text)) in
+          let run = w.in_ok-run.ensures.risen in
+          let byte = w.in_ok-progress.ensures.risen in
+          rw (w.start-is, w.progress-is) (record {
+            begins = omega arith;
+            within = record { words = omega (arith, short, run.words, byte.words, within.words); tokens = omega (arith, short, run.tokens, byte.tokens, within.tokens); depth = omega (arith, short, run.depth, byte.depth, within.depth) };
+            same = goes_on text start place b (omega arith) begins refl c.loop-place.progress _ c.loop-place.invariant.same w.in_ok-run.run' w.in_ok-progress.progress apart w.in_ok-run.ensures.value w.in_ok-progress.ensures.value;
+          })
+      | else-not-is_word_byte w ↦
+          let joined = joined_run text start place b (omega arith) begins refl (sym c.is_word_byte.ensures ∙ w.if-not-is_word_byte.false) in
+          rw (w.start-is, w.progress-is) (record {
+            begins = omega arith;
+            within = within;
+            same = ap (λ o. counted (taken_behind (Some c.loop-place.progress) o)) joined ∙ c.loop-place.invariant.same;
+          })
+    ]

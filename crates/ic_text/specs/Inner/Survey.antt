@@ -1,0 +1,72 @@
+-- For private functions: the first pass over a text, which checks its syntax and counts its words and
+-- tokens as they come.
+use Rattle.std.specs.Prelude.{◌≡◌, ℕ, ◌+◌, ◌≤◌, List, [], ◌∷◌, Option, None, Some, length, sum_by, ◌*◌, if◌then◌else◌, option_and_then}
+use Rattle.std.specs.Option.{option_map}
+use Rattle.ic_text.specs.declared.syntax.Part.{Part}
+use Rattle.ic_text.specs.declared.syntax.State.{State}
+use Rattle.ic_text.specs.declared.survey.Counts.{Counts}
+use Rattle.ic_text.specs.declared.survey.Progress.{Progress}
+use Rattle.ic_text.specs.Token.{Token, mark_of, tokens_at, words_among}
+use Rattle.ic_text.specs.Source.{Phrase, phrase_nodes}
+use Rattle.ic_text.specs.SystemSource.{SystemPhrase, rule_nodes}
+use Rattle.ic_text.specs.Text.{Spells}
+use Rattle.ic_text.specs.SystemText.{SpellsSystem}
+use Rattle.ic_text.specs.Inner.Syntax.{step, is_end, at_beginning}
+
+-- no count is above a number
+pub record IsWithin (most : ℕ) (p : Progress) : Type 0 where
+  pub words : p.counts.words ≤ most
+  pub tokens : p.counts.tokens ≤ most
+  pub depth : p.state.depth ≤ most
+
+-- no count has risen by more than a number
+pub record HasRisen (most : ℕ) (old new : Progress) : Type 0 where
+  pub words : new.counts.words ≤ old.counts.words + most
+  pub tokens : new.counts.tokens ≤ old.counts.tokens + most
+  pub depth : new.state.depth ≤ old.state.depth + most
+
+-- the check behind one more token
+abbrev pub take_one : Progress → Token → Option Progress
+take_one p t = option_map (λ s. record {
+  state = s;
+  counts = record {
+    words = p.counts.words + length (words_among (t ∷ []));
+    tokens = p.counts.tokens + 1;
+  };
+}) (step p.state t)
+
+-- the check behind more tokens
+abbrev pub taken : Option Progress → List Token → Option Progress
+taken o [] = o
+taken o (t ∷ ts) = taken (option_and_then (λ p. take_one p t) o) ts
+
+-- the check behind the tokens of more bytes, if they have any
+abbrev pub taken_behind : Option Progress → Option (List Token) → Option Progress
+taken_behind o None = None
+taken_behind o (Some ts) = taken o ts
+
+-- the check behind a byte that is no word byte
+abbrev pub taken_at : Progress → ℕ → Option Progress
+taken_at p b = taken_behind (Some p) (tokens_at b (mark_of b))
+
+-- what a check has counted, if it has come to the end
+abbrev pub counted : Option Progress → Option Counts
+counted None = None
+counted (Some p) = if is_end p.state.part then Some p.counts else None
+
+-- what a check of a part counts in tokens
+abbrev pub surveyed : Part → Option (List Token) → Option Counts
+surveyed part o = counted (taken_behind (Some (record {
+  state = at_beginning part;
+  counts = record { words = 0; tokens = 0 };
+})) o)
+
+-- a text spells a configuration of so many words
+abbrev pub ConfigFound : List ℕ → ℕ → Type 0
+ConfigFound text words = (p : Phrase) × Spells text p × (words ≡ phrase_nodes p)
+
+-- a text spells a system of so many words: the sides of its rules, the nodes of their arguments, and
+-- those of its configuration
+abbrev pub SystemFound : List ℕ → ℕ → Type 0
+SystemFound text words = (s : SystemPhrase) × SpellsSystem text s
+    × (words ≡ 2 * length s.rules + sum_by rule_nodes s.rules + phrase_nodes s.config)

@@ -1,0 +1,119 @@
+//! A first pass over the bytes of a text: whether they are a phrase of the grammar, and of how many words and tokens. It
+//! takes no memory, so that a text that is refused fills none.
+
+ghost use Rattle.std.specs.Prelude.{◌≡◌, ◌≤◌, ◌-◌, ◌^◌, [], ◌∷◌, Some, IfSome, IfNone, length};
+ghost use Rattle.ic_text.specs.Inner.Survey.{IsWithin, HasRisen, taken, taken_at, counted, surveyed, ConfigFound, SystemFound};
+ghost use Rattle.ic_text.specs.Inner.Tokens.{token_of};
+ghost use Rattle.ic_text.specs.Source.{Phrase};
+ghost use Rattle.ic_text.specs.SystemSource.{SystemPhrase};
+ghost use Rattle.ic_text.specs.SystemText.{SpellsSystem};
+ghost use Rattle.ic_text.specs.Text.{Spells};
+ghost use Rattle.ic_text.specs.Token.{word_of, tokens};
+
+use crate::limits::MAX_TEXT;
+use crate::syntax::{Part, State, step};
+use crate::token::{Token, is_blank, is_word_byte, mark_of};
+
+/// How many words and tokens a text has.
+#[derive(Clone, Copy, Debug, PartialEq, Eq)]
+pub(crate) struct Counts {
+    pub words: usize,
+    pub tokens: usize,
+}
+
+/// A check of syntax that is on its way over a text, and what it has counted so far.
+#[derive(Clone, Copy, Debug)]
+pub(crate) struct Progress {
+    state: State,
+    counts: Counts,
+}
+
+impl Progress {
+    /// The check behind one more token, or None where the grammar has no such token there.
+    fn take(self, token: &Token) -> Option<Progress>
+        requires { IsWithin (2 ^ 64 - 2) self }
+        ensures value { result ≡ taken (Some self) (token_of token.now ∷ []) }
+        ensures risen { IfSome result (HasRisen 1 self) }
+    {
+        let state = step(self.state, token)?;
+        let mut counts = self.counts;
+        counts.tokens += 1;
+        if let Token::Word(_) = token {
+            counts.words += 1;
+        }
+        Some(Progress { state, counts })
+    }
+
+    /// The check behind the word that a run of word bytes makes, if it has a byte.
+    fn take_run(self, run: &[u8]) -> Option<Progress>
+        requires { IsWithin (2 ^ 64 - 2) self }
+        ensures value { result ≡ taken (Some self) (word_of run.now) }
+        ensures risen { IfSome result (HasRisen (length run.now) self) }
+    {
+        if run.is_empty() {
+            return Some(self);
+        }
+        self.take(&Token::Word(run))
+    }
+
+    /// The check behind a byte that is no word byte: a mark or a blank.
+    fn take_byte(self, byte: u8) -> Option<Progress>
+        requires { IsWithin (2 ^ 64 - 2) self }
+        ensures value { result ≡ taken_at self byte }
+        ensures risen { IfSome result (HasRisen 1 self) }
+    {
+        match mark_of(byte) {
+            Some(mark) => self.take(&Token::Mark(mark)),
+            None if is_blank(byte) => Some(self),
+            None => None,
+        }
+    }
+
+    /// What was counted, if the check has come to the end of the grammar.
+    fn finish(self) -> Option<Counts>
+        ensures { result ≡ counted (Some self) }
+    {
+        matches!(self.state.part, Part::End).then_some(self.counts)
+    }
+}
+
+/// The words and tokens of a text that leads from the beginning of a part to the end. Takes one pass, and no memory.
+fn survey(part: Part, text: &[u8]) -> Option<Counts>
+    requires { length text.now ≤ MAX_TEXT }
+    ensures { result ≡ surveyed part (tokens text.now) }
+{
+    let mut progress = Progress {
+        state: State::new(part),
+        counts: Counts {
+            words: 0,
+            tokens: 0,
+        },
+    };
+    let mut start = 0;
+    for (place, byte) in text.iter().enumerate() {
+        if !is_word_byte(*byte) {
+            let run = progress.take_run(&text[start..place])?;
+            progress = run.take_byte(*byte)?;
+            start = place + 1;
+        }
+    }
+    progress.take_run(&text[start..])?.finish()
+}
+
+/// The words and tokens of a configuration, or None where a text spells none.
+pub(crate) fn survey_config(text: &[u8]) -> Option<Counts>
+    requires { length text.now ≤ MAX_TEXT }
+    ensures found { IfSome result (λ counts. ConfigFound text.now counts.words) }
+    ensures none { IfNone result ((p : Phrase) → ¬ Spells text.now p) }
+{
+    survey(Part::Begin, text)
+}
+
+/// The words and tokens of a system, or None where a text spells none.
+pub(crate) fn survey_system(text: &[u8]) -> Option<Counts>
+    requires { length text.now ≤ MAX_TEXT }
+    ensures found { IfSome result (λ counts. SystemFound text.now counts.words) }
+    ensures none { IfNone result ((s : SystemPhrase) → ¬ SpellsSystem text.now s) }
+{
+    survey(Part::Start, text)
+}
