@@ -11,8 +11,8 @@ use Rattle.ic_term.specs.TermLaws.{cell_tree-out}
 use Rattle.ic_rules.specs.Renaming.{first_occurrences}
 use Rattle.ic_rules.specs.Written.{written}
 use Rattle.ic_text.specs.declared.number.Item.{Item}
-use Rattle.ic_text.specs.Inner.Built.{with_item, built_before, rule_in}
-use Rattle.ic_text.specs.Inner.Terms.{trees, upright}
+use Rattle.ic_text.specs.inner.Built.{with_item, built_before, rule_in}
+use Rattle.ic_text.specs.inner.Terms.{trees, upright}
 use Rattle.ic_text.proofs.Scanning.{map-reverse}
 
 -- the last term of a list comes first

@@ -16,7 +16,7 @@ use Rattle.ic_text.specs.Source.{Source, leaf, node, Sources, no_sources, more_s
 use Rattle.ic_text.specs.Sense.{has_its_arity, number_in_table, numbered_tree, numbered_trees}
 use Rattle.ic_text.specs.SystemSource.{RulePhrase, agent_source, rule_symbols, rule_nodes}
 use Rattle.ic_text.specs.SystemSense.{rule_over}
-use Rattle.ic_text.specs.Inner.Built.{rule_in, rules_in}
+use Rattle.ic_text.specs.inner.Built.{rule_in, rules_in}
 use Rattle.ic_text.proofs.BuiltTrees.{trees_of-list_of, length-numbered_trees}
 use Rattle.ic_text.proofs.Sensing.{names-numbered_trees, nodes-numbered_trees, sum_by-map}
 use Rattle.ic_text.proofs.Over.{found_has}

@@ -9,8 +9,8 @@ use Rattle.ic_text.specs.declared.syntax.Spot.{Spot}
 use Rattle.ic_text.specs.declared.syntax.Spot.TheVariants.{First, Due, After}
 use Rattle.ic_text.specs.Token.{Token, word, mark}
 use Rattle.ic_text.specs.Source.{Source, Sides, IsSource, words, sides_words, separated}
-use Rattle.ic_text.specs.Inner.Spelled.{SpelledBy}
-use Rattle.ic_text.specs.Inner.Syntax.{word_spot, beside, either_step, accepts}
+use Rattle.ic_text.specs.inner.Spelled.{SpelledBy}
+use Rattle.ic_text.specs.inner.Syntax.{word_spot, beside, either_step, accepts}
 use Rattle.ic_text.proofs.Accepted.{at}
 use Rattle.ic_text.proofs.Grammar.{behind_commas, AreSides, accepts-phrase_words}
 use Rattle.ic_text.proofs.Found.{TermFound, term_due, rest_is_less}

@@ -9,9 +9,9 @@ use Rattle.ic_text.specs.declared.syntax.Part.TheVariants.{Start, RuleLeft, Turn
 use Rattle.ic_text.specs.declared.syntax.Spot.TheVariants.{FirstAgent, DueAgent, Symbol, After}
 use Rattle.ic_text.specs.Token.{Token, word, mark}
 use Rattle.ic_text.specs.Source.{IsSource, words, separated}
-use Rattle.ic_text.specs.Inner.Syntax.{beside, either_step, accepts}
+use Rattle.ic_text.specs.inner.Syntax.{beside, either_step, accepts}
 use Rattle.ic_text.specs.SystemSource.{AgentPhrase, RulePhrase, IsRulePhrase, agent_source, rule_words, rules_words}
-use Rattle.ic_text.specs.Inner.Spelled.{SystemSpelledBy}
+use Rattle.ic_text.specs.inner.Spelled.{SystemSpelledBy}
 use Rattle.ic_text.proofs.Accepted.{at}
 use Rattle.ic_text.proofs.Found.{IsInner, goes_on, arguments_due, rest_is_less}
 use Rattle.ic_text.proofs.FoundPhrase.{SpelledBy-accepts}

@@ -7,7 +7,7 @@ use Rattle.ic_text.specs.declared.syntax.Spot.{Spot}
 use Rattle.ic_text.specs.declared.syntax.Spot.TheVariants.{First, Due, After}
 use Rattle.ic_text.specs.Token.{Token, mark}
 use Rattle.ic_text.specs.Source.{Source, Sides, Phrase, IsSource, IsPhrase, words, sides_words, separated, phrase_words}
-use Rattle.ic_text.specs.Inner.Syntax.{accepts}
+use Rattle.ic_text.specs.inner.Syntax.{accepts}
 use Rattle.ic_text.proofs.Accepted.{at, TakesTerm, IsClosed, accepts-words}
 
 -- lists of tokens, each behind a `,`

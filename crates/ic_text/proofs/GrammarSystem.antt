@@ -7,9 +7,9 @@ use Rattle.ic_text.specs.declared.syntax.Spot.{Spot}
 use Rattle.ic_text.specs.declared.syntax.Spot.TheVariants.{FirstAgent, DueAgent, After}
 use Rattle.ic_text.specs.Token.{Token, word, mark}
 use Rattle.ic_text.specs.Source.{Source, leaf, node, Sources, no_sources, more_sources, words, argument_words, further_words, phrase_words}
-use Rattle.ic_text.specs.Inner.Syntax.{accepts}
+use Rattle.ic_text.specs.inner.Syntax.{accepts}
 use Rattle.ic_text.specs.SystemSource.{RulePhrase, SystemPhrase, IsRulePhrase, IsSystemPhrase, agent_source, rule_words, rules_words, system_words}
-use Rattle.ic_text.specs.Inner.Braces.{split_at_brace}
+use Rattle.ic_text.specs.inner.Braces.{split_at_brace}
 use Rattle.ic_text.proofs.Accepted.{at, TakesAgent, IsClosed, accepts-agent_words}
 use Rattle.ic_text.proofs.Grammar.{accepts-phrase_words}
 

@@ -14,7 +14,7 @@ use Rattle.ic_text.specs.declared.number.Item.TheVariants.{Name, Symbol as Agent
 use Rattle.ic_text.specs.declared.fault.TextFault.{TextFault}
 use Rattle.ic_text.specs.declared.fault.TextFault.TheVariants.{Limit, Arity, Memory}
 use Rattle.ic_text.specs.Name.{is_name, name_number}
-use Rattle.ic_text.specs.Inner.Numbered.{item_found, table_with, table_over, is_word_in_limits, is_word_over, item_in, unless_refused, numbered_words}
+use Rattle.ic_text.specs.inner.Numbered.{item_found, table_with, table_over, is_word_in_limits, is_word_over, item_in, unless_refused, numbered_words}
 use Rattle.ic_text.proofs.TableLemmas.{slice_get-append, slice_get-next, number_of_text-append, number_of_text-next, number_of_text-lt}
 
 abbrev Numbering : Type 0

@@ -11,11 +11,11 @@ use Rattle.ic_text.specs.declared.fault.TextFault.{TextFault}
 use Rattle.ic_text.specs.declared.fault.TextFault.TheVariants.{Syntax, Limit}
 use Rattle.ic_text.specs.Token.{Token, word, mark, tokens}
 use Rattle.ic_text.specs.Source.{Source, leaf, node, Sources, no_sources, more_sources, Sides, Phrase, IsPhrase, words, argument_words, further_words, sides_words, separated, phrase_words}
-use Rattle.ic_text.specs.Inner.Syntax.{accepts}
+use Rattle.ic_text.specs.inner.Syntax.{accepts}
 use Rattle.ic_text.specs.SystemSource.{AgentPhrase, RulePhrase, SystemPhrase, IsRulePhrase, IsSystemPhrase, agent_source, rule_words, rules_words, system_words}
 use Rattle.ic_text.specs.SystemSense.{system_sense}
 use Rattle.ic_text.specs.SystemText.{SpellsSystem, ReadsSystem}
-use Rattle.ic_text.specs.Inner.Braces.{split_at_brace}
+use Rattle.ic_text.specs.inner.Braces.{split_at_brace}
 use Rattle.ic_text.proofs.Accepted.{at}
 use Rattle.ic_text.proofs.Grammar.{behind_commas, AreSides}
 use Rattle.ic_text.proofs.GrammarSystem.{behind_semicolons, split-rules_words}

@@ -14,9 +14,9 @@ use Rattle.ic_text.specs.Token.{Token, word, mark, is_word_byte, mark_of, word_o
 use Rattle.ic_text.specs.Source.{Phrase, phrase_words, phrase_nodes}
 use Rattle.ic_text.specs.SystemSource.{SystemPhrase, system_words, rule_nodes}
 use Rattle.ic_text.specs.Reading.{IsSpelling}
-use Rattle.ic_text.specs.Inner.Prefix.{phrase_prefix, rules_prefix}
-use Rattle.ic_text.specs.Inner.Syntax.{step, is_end, at_beginning, accepts}
-use Rattle.ic_text.specs.Inner.Survey.{take_one, taken, taken_behind, taken_at, counted, surveyed}
+use Rattle.ic_text.specs.inner.Prefix.{phrase_prefix, rules_prefix}
+use Rattle.ic_text.specs.inner.Syntax.{step, is_end, at_beginning, accepts}
+use Rattle.ic_text.specs.inner.Survey.{take_one, taken, taken_behind, taken_at, counted, surveyed}
 use Rattle.ic_text.proofs.TokenLemmas.{ended_run}
 use Rattle.ic_text.proofs.ReadOnce.{IsTold, some-injective, none_is_some}
 use Rattle.ic_text.proofs.InTextOrder.{among-phrase, among-system}

@@ -11,13 +11,13 @@ use Rattle.ic_text.specs.declared.fault.TextFault.TheVariants.{Limit}
 use Rattle.ic_text.specs.declared.prefix.Prefix.{Prefix}
 use Rattle.ic_text.specs.declared.token.Token.{Token as Read}
 use Rattle.ic_text.specs.Token.{Token}
-use Rattle.ic_text.specs.Inner.Tokens.{tokens_in}
+use Rattle.ic_text.specs.inner.Tokens.{tokens_in}
 use Rattle.ic_text.specs.Source.{phrase_words, phrase_nodes}
 use Rattle.ic_text.specs.SystemSource.{SystemPhrase, IsSystemPhrase, rules_words, system_words, rule_nodes}
 use Rattle.ic_text.specs.SystemSense.{system_sense}
-use Rattle.ic_text.specs.Inner.Braces.{split_at_brace}
-use Rattle.ic_text.specs.Inner.Prefix.{node_of, nodes_of, rules_prefix, phrase_prefix}
-use Rattle.ic_text.specs.Inner.Numbered.{IsWord, numbered_words}
+use Rattle.ic_text.specs.inner.Braces.{split_at_brace}
+use Rattle.ic_text.specs.inner.Prefix.{node_of, nodes_of, rules_prefix, phrase_prefix}
+use Rattle.ic_text.specs.inner.Numbered.{IsWord, numbered_words}
 use Rattle.ic_text.proofs.GrammarSystem.{split-rules_words}
 use Rattle.ic_text.proofs.JoinedPhrase.{joined_phrase, prefix-joined, is-joined, length-rules_prefix}
 use Rattle.ic_text.proofs.PrefixWords.{words-phrase_prefix}

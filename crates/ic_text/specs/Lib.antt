@@ -1,4 +1,4 @@
--- What a reader of the public contracts must believe, and `Inner`, which is for private functions.
+-- What a reader of the public contracts must believe, and `inner`, which is for private functions.
 pub mod Token
 pub mod Name
 pub mod Source
@@ -8,4 +8,4 @@ pub mod SystemSense
 pub mod Reading
 pub mod Text
 pub mod SystemText
-pub mod Inner
+pub mod inner

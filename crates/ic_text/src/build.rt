@@ -6,9 +6,9 @@ ghost use Rattle.ic_term.specs.Term.{tree, pair};
 ghost use Rattle.ic_term.specs.Configuration.{restored};
 ghost use Rattle.ic_rules.specs.RuleSet.{built};
 ghost use Rattle.ic_rules.specs.Written.{written};
-ghost use Rattle.ic_text.specs.Inner.Built.{built_before, pairs_of, configuration_from, rule_in, rules_in, joined, with_item};
-ghost use Rattle.ic_text.specs.Inner.Numbered.{Gives, as_text_answer};
-ghost use Rattle.ic_text.specs.Inner.Terms.{trees, upright};
+ghost use Rattle.ic_text.specs.inner.Built.{built_before, pairs_of, configuration_from, rule_in, rules_in, joined, with_item};
+ghost use Rattle.ic_text.specs.inner.Numbered.{Gives, as_text_answer};
+ghost use Rattle.ic_text.specs.inner.Terms.{trees, upright};
 
 use crate::fault::TextFault;
 use crate::number::Item;

@@ -4,7 +4,7 @@ ghost use Rattle.std.specs.Prelude.{◌≡◌, IsTrue};
 ghost use Rattle.std.specs.List.{list_all};
 ghost use Rattle.std.specs.Char.{is_ascii_digit};
 ghost use Rattle.ic_text.specs.Name.{is_name, is_numeral, number_in, name_number};
-ghost use Rattle.ic_text.specs.Inner.Bounds.{up_to};
+ghost use Rattle.ic_text.specs.inner.Bounds.{up_to};
 
 use crate::limits::MAX_NAME;
 

@@ -2,8 +2,8 @@
 
 ghost use Rattle.std.specs.Prelude.{◌≡◌, is_ok, if◌then◌else◌};
 ghost use Rattle.std.specs.List.{AllByRecursion};
-ghost use Rattle.ic_text.specs.Inner.Prefix.{node_of, nodes_of};
-ghost use Rattle.ic_text.specs.Inner.Numbered.{IsWord, ItemAnswers, item_found, table_with, numbered_words, Gives};
+ghost use Rattle.ic_text.specs.inner.Prefix.{node_of, nodes_of};
+ghost use Rattle.ic_text.specs.inner.Numbered.{IsWord, ItemAnswers, item_found, table_with, numbered_words, Gives};
 
 use crate::fault::TextFault;
 use crate::name::{is_name, name_number};

@@ -6,7 +6,7 @@ ghost use Rattle.std.specs.List.{list_all};
 ghost use Rattle.ic_term.specs.Symbol.{is_tree_over, is_pair_over, is_over};
 ghost use Rattle.ic_term.specs.Term.{tree, cell_tree, pair};
 ghost use Rattle.ic_text.specs.Name.{name_text};
-ghost use Rattle.ic_text.specs.Inner.Printing.{term_text, terms_text, equation_text, equations_text};
+ghost use Rattle.ic_text.specs.inner.Printing.{term_text, terms_text, equation_text, equations_text};
 ghost use Rattle.ic_text.specs.Text.{printed, fault_text};
 
 use crate::fault::TextFault;

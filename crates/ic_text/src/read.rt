@@ -2,12 +2,12 @@
 
 ghost use Rattle.std.specs.Prelude.{◌≡◌, ◌≢◌, IfOk, IfErr, IsTrue, Ok, Err};
 ghost use Rattle.ic_term.specs.Symbol.{is_over};
-ghost use Rattle.ic_text.specs.Inner.Numbered.{Gives};
+ghost use Rattle.ic_text.specs.inner.Numbered.{Gives};
 ghost use Rattle.ic_text.specs.Sense.{sense};
 ghost use Rattle.ic_text.specs.Source.{Phrase, IsPhrase, phrase_words};
-ghost use Rattle.ic_text.specs.Inner.Spelled.{SpelledBy};
+ghost use Rattle.ic_text.specs.inner.Spelled.{SpelledBy};
 ghost use Rattle.ic_text.specs.Text.{Reads};
-ghost use Rattle.ic_text.specs.Inner.Tokens.{tokens_in};
+ghost use Rattle.ic_text.specs.inner.Tokens.{tokens_in};
 
 use crate::build::config_of;
 use crate::fault::TextFault;

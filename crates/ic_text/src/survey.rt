@@ -2,8 +2,8 @@
 //! takes no memory, so that a text that is refused fills none.
 
 ghost use Rattle.std.specs.Prelude.{◌≡◌, ◌≤◌, ◌-◌, ◌^◌, [], ◌∷◌, Some, IfSome, IfNone, length};
-ghost use Rattle.ic_text.specs.Inner.Survey.{IsWithin, HasRisen, taken, taken_at, counted, surveyed, ConfigFound, SystemFound};
-ghost use Rattle.ic_text.specs.Inner.Tokens.{token_of};
+ghost use Rattle.ic_text.specs.inner.Survey.{IsWithin, HasRisen, taken, taken_at, counted, surveyed, ConfigFound, SystemFound};
+ghost use Rattle.ic_text.specs.inner.Tokens.{token_of};
 ghost use Rattle.ic_text.specs.Source.{Phrase};
 ghost use Rattle.ic_text.specs.SystemSource.{SystemPhrase};
 ghost use Rattle.ic_text.specs.SystemText.{SpellsSystem};

@@ -1,10 +1,10 @@
 //! The grammar: what may come next in a configuration or a system, without a stack of what is open.
 
 ghost use Rattle.std.specs.Prelude.{◌≡◌, ◌+◌, ◌<◌, ◌≤◌, ◌^◌, IfSome};
-ghost use Rattle.ic_text.specs.Inner.Braces.{split_at_brace};
-ghost use Rattle.ic_text.specs.Inner.Syntax.{agent_spot, word_spot, term_step, end_step, empty_step, part_step};
-ghost use Rattle.ic_text.specs.Inner.Syntax.{step, at_beginning};
-ghost use Rattle.ic_text.specs.Inner.Tokens.{token_of, tokens_in};
+ghost use Rattle.ic_text.specs.inner.Braces.{split_at_brace};
+ghost use Rattle.ic_text.specs.inner.Syntax.{agent_spot, word_spot, term_step, end_step, empty_step, part_step};
+ghost use Rattle.ic_text.specs.inner.Syntax.{step, at_beginning};
+ghost use Rattle.ic_text.specs.inner.Tokens.{token_of, tokens_in};
 
 use crate::name::is_name;
 use crate::token::{Mark, Token};

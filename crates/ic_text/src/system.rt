@@ -1,12 +1,12 @@
 //! Reading a system.
 
 ghost use Rattle.std.specs.Prelude.{◌≡◌, ◌≢◌, IfOk, IfErr, Ok, Err};
-ghost use Rattle.ic_text.specs.Inner.Numbered.{Gives};
+ghost use Rattle.ic_text.specs.inner.Numbered.{Gives};
 ghost use Rattle.ic_text.specs.SystemSense.{system_sense};
 ghost use Rattle.ic_text.specs.SystemSource.{SystemPhrase, IsSystemPhrase, system_words};
-ghost use Rattle.ic_text.specs.Inner.Spelled.{SystemSpelledBy};
+ghost use Rattle.ic_text.specs.inner.Spelled.{SystemSpelledBy};
 ghost use Rattle.ic_text.specs.SystemText.{ReadsSystem};
-ghost use Rattle.ic_text.specs.Inner.Tokens.{tokens_in};
+ghost use Rattle.ic_text.specs.inner.Tokens.{tokens_in};
 
 use crate::build::system_of;
 use crate::fault::TextFault;

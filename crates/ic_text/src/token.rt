@@ -2,7 +2,7 @@
 
 ghost use Rattle.std.specs.Prelude.{◌≡◌, ◌++◌, List, Some, IfOk, OnOk};
 ghost use Rattle.ic_text.specs.Token.{Token as Spelled, is_blank, is_word_byte, mark_of, word_of, tokens};
-ghost use Rattle.ic_text.specs.Inner.Tokens.{tokens_in};
+ghost use Rattle.ic_text.specs.inner.Tokens.{tokens_in};
 
 use std::alloc::{AllocError, Global};
 

@@ -1,5 +1,5 @@
 use Rattle.std.proofs.Common.{ap}
-use Rattle.ic_text.specs.Inner.Built.{rules_in}
+use Rattle.ic_text.specs.inner.Built.{rules_in}
 use Rattle.ic_text.proofs.BuildLemmas.{upright-reverse}
 use Rattle.ic_text.proofs.build.rules_of.Goals as goal
 

@@ -1,7 +1,7 @@
 use Rattle.std.proofs.Common.{◌≡◌, ◌++◌, map, vec_len}
 use Rattle.ic_rules.specs.Written.{written}
-use Rattle.ic_text.specs.Inner.Built.{rules_in}
-use Rattle.ic_text.specs.Inner.Terms.{trees, upright}
+use Rattle.ic_text.specs.inner.Built.{rules_in}
+use Rattle.ic_text.specs.inner.Terms.{trees, upright}
 use Rattle.ic_text.proofs.build.rules_of.Given as goal
 
 -- the rules so far and those of what is left are those of the whole

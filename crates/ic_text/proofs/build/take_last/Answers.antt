@@ -1,7 +1,7 @@
 use Rattle.std.proofs.Common.{◌≡◌, ◌++◌, [], ◌∷◌, sym, ap, ◌∙◌, arith}
 use Rattle.std.proofs.lemmas.List.{map-append}
 use Rattle.ic_term.specs.Term.{tree}
-use Rattle.ic_text.specs.Inner.Terms.{upright}
+use Rattle.ic_text.specs.inner.Terms.{upright}
 use Rattle.ic_text.proofs.BuildLemmas.{popped-some, popped-none, take-one_more, take-none_more, empty-length}
 use Rattle.ic_text.proofs.build.take_last.Goals as goal
 use Rattle.ic_text.proofs.build.take_last.Goals.{in-Some+in_ok-push, in_default}

@@ -1,5 +1,5 @@
 use Rattle.std.proofs.Common.{◌≡◌, drop, take}
-use Rattle.ic_text.specs.Inner.Terms.{trees, upright}
+use Rattle.ic_text.specs.inner.Terms.{trees, upright}
 use Rattle.ic_text.proofs.build.take_last.Given as goal
 
 abbrev pub invariant-loop : goal.invariant-loop

@@ -1,7 +1,7 @@
 use Rattle.std.proofs.Common.{◌≡◌, ◌++◌, map, vec_len}
 use Rattle.ic_term.specs.Term.{pair}
-use Rattle.ic_text.specs.Inner.Built.{pairs_of}
-use Rattle.ic_text.specs.Inner.Terms.{upright}
+use Rattle.ic_text.specs.inner.Built.{pairs_of}
+use Rattle.ic_text.specs.inner.Terms.{upright}
 use Rattle.ic_text.proofs.build.take_pairs.Given as goal
 
 -- the pairs so far and those of what is left are those of the whole

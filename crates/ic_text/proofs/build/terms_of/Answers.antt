@@ -1,6 +1,6 @@
 use Rattle.std.proofs.Common.{sym, ap, ◌∙◌}
-use Rattle.ic_text.specs.Inner.Built.{built_before}
-use Rattle.ic_text.specs.Inner.Terms.{upright}
+use Rattle.ic_text.specs.inner.Built.{built_before}
+use Rattle.ic_text.specs.inner.Terms.{upright}
 use Rattle.ic_text.proofs.BuildLemmas.{built_before-append}
 use Rattle.ic_text.proofs.build.terms_of.Goals as goal
 

@@ -1,6 +1,6 @@
 use Rattle.std.proofs.Common.{◌≡◌, [], vec_len}
-use Rattle.ic_text.specs.Inner.Built.{built_before}
-use Rattle.ic_text.specs.Inner.Terms.{upright}
+use Rattle.ic_text.specs.inner.Built.{built_before}
+use Rattle.ic_text.specs.inner.Terms.{upright}
 use Rattle.ic_text.proofs.build.terms_of.Given as goal
 
 -- what is left in front of the terms so far is the whole

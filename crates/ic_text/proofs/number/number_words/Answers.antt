@@ -1,4 +1,4 @@
-use Rattle.ic_text.specs.Inner.Prefix.{nodes_of}
+use Rattle.ic_text.specs.inner.Prefix.{nodes_of}
 use Rattle.ic_text.proofs.Numbering.{go-numbered_words}
 use Rattle.ic_text.proofs.number.number_words.Goals as goal
 

@@ -1,7 +1,7 @@
 use Rattle.std.proofs.Common.{◌≡◌, drop}
 use Rattle.std.specs.List.{AllByRecursion}
-use Rattle.ic_text.specs.Inner.Prefix.{nodes_of}
-use Rattle.ic_text.specs.Inner.Numbered.{IsWord, numbered_words}
+use Rattle.ic_text.specs.inner.Prefix.{nodes_of}
+use Rattle.ic_text.specs.inner.Numbered.{IsWord, numbered_words}
 use Rattle.ic_text.proofs.Numbering.{go}
 use Rattle.ic_text.proofs.number.number_words.Given as goal
 

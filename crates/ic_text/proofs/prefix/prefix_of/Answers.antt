@@ -3,8 +3,8 @@ use Rattle.std.proofs.lemmas.List.{length-map}
 use Rattle.ic_text.specs.Token.{Token}
 use Rattle.ic_text.specs.Source.{phrase_words}
 use Rattle.ic_text.specs.SystemSource.{rules_words}
-use Rattle.ic_text.specs.Inner.Tokens.{token_of, tokens_in}
-use Rattle.ic_text.specs.Inner.Prefix.{Scanned, node_of, nodes_of, scan, scanned}
+use Rattle.ic_text.specs.inner.Tokens.{token_of, tokens_in}
+use Rattle.ic_text.specs.inner.Prefix.{Scanned, node_of, nodes_of, scan, scanned}
 use Rattle.ic_text.proofs.Scanning.{scan-phrase_words, scan_fits, counts_room, map-reverse}
 use Rattle.ic_text.proofs.ScanningRules.{scan-rules_words}
 use Rattle.ic_text.proofs.prefix.prefix_of.Goals as goal

@@ -1,6 +1,6 @@
 use Rattle.std.proofs.Common.{◌≡◌, ◌<◌, ◌≤◌, ◌^◌, length, drop, map}
-use Rattle.ic_text.specs.Inner.Tokens.{token_of}
-use Rattle.ic_text.specs.Inner.Prefix.{scan, scanned}
+use Rattle.ic_text.specs.inner.Tokens.{token_of}
+use Rattle.ic_text.specs.inner.Prefix.{scan, scanned}
 use Rattle.ic_text.proofs.prefix.prefix_of.Given as goal
 
 -- the tokens from `place` on are scanned

@@ -6,10 +6,10 @@ use Rattle.ic_term.specs.declared.limits.TheConstants.{MAX_NODES, MAX_INTERFACE}
 use Rattle.ic_term.specs.Configuration.{restored}
 use Rattle.ic_text.specs.Source.{Phrase, IsPhrase, phrase_words, phrase_nodes}
 use Rattle.ic_text.specs.Sense.{sense}
-use Rattle.ic_text.specs.Inner.Tokens.{tokens_in}
-use Rattle.ic_text.specs.Inner.Prefix.{nodes_of, phrase_prefix}
-use Rattle.ic_text.specs.Inner.Numbered.{numbered_words, as_text_answer}
-use Rattle.ic_text.specs.Inner.Built.{built_before, configuration_from}
+use Rattle.ic_text.specs.inner.Tokens.{tokens_in}
+use Rattle.ic_text.specs.inner.Prefix.{nodes_of, phrase_prefix}
+use Rattle.ic_text.specs.inner.Numbered.{numbered_words, as_text_answer}
+use Rattle.ic_text.specs.inner.Built.{built_before, configuration_from}
 use Rattle.ic_text.proofs.PrefixWords.{words-phrase_prefix}
 use Rattle.ic_text.proofs.Sensing.{nodes_are, sense-unfit, sense-words, finished, beside_table, Refuses-through}
 use Rattle.ic_text.proofs.Over.{sense-over}

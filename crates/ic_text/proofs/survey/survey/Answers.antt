@@ -1,6 +1,6 @@
 use Rattle.std.proofs.Common.{◌≡◌, ◌-◌, ◌≤◌, Some, sym, ap, ◌∙◌, refl, arith, get_or, take, drop, length}
 use Rattle.std.proofs.lemmas.List.{length-take}
-use Rattle.ic_text.specs.Inner.Survey.{taken_behind, counted}
+use Rattle.ic_text.specs.inner.Survey.{taken_behind, counted}
 use Rattle.ic_text.proofs.TokenLemmas.{joined_run}
 use Rattle.ic_text.proofs.Surveying.{refused_run, refused_byte, goes_on}
 use Rattle.ic_text.proofs.survey.survey.Goals as goal

@@ -1,6 +1,6 @@
 use Rattle.std.proofs.Common.{◌≡◌, ◌-◌, ◌≤◌, Some, drop, take}
 use Rattle.ic_text.specs.Token.{tokens, tokens_behind}
-use Rattle.ic_text.specs.Inner.Survey.{IsWithin, taken_behind, counted, surveyed}
+use Rattle.ic_text.specs.inner.Survey.{IsWithin, taken_behind, counted, surveyed}
 use Rattle.ic_text.proofs.survey.survey.Given as goal
 
 -- what is counted over the run so far and what is left is what the whole text has; and each token took a byte

@@ -4,7 +4,7 @@ use Rattle.ic_text.specs.declared.survey.Counts.{Counts}
 use Rattle.ic_text.specs.declared.syntax.Part.TheVariants.{Begin}
 use Rattle.ic_text.specs.Source.{Phrase, IsPhrase, phrase_words}
 use Rattle.ic_text.specs.Text.{Spells}
-use Rattle.ic_text.specs.Inner.Survey.{ConfigFound}
+use Rattle.ic_text.specs.inner.Survey.{ConfigFound}
 use Rattle.ic_text.proofs.OneReading.{told}
 use Rattle.ic_text.proofs.Surveying.{Tells, surveyed_tells, length-words-phrase}
 use Rattle.ic_text.proofs.survey.survey_config.Goals as goal

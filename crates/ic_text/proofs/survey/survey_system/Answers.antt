@@ -4,7 +4,7 @@ use Rattle.ic_text.specs.declared.survey.Counts.{Counts}
 use Rattle.ic_text.specs.declared.syntax.Part.TheVariants.{Start}
 use Rattle.ic_text.specs.SystemSource.{SystemPhrase, IsSystemPhrase, system_words}
 use Rattle.ic_text.specs.SystemText.{SpellsSystem}
-use Rattle.ic_text.specs.Inner.Survey.{SystemFound}
+use Rattle.ic_text.specs.inner.Survey.{SystemFound}
 use Rattle.ic_text.proofs.OneSystem.{told_systems}
 use Rattle.ic_text.proofs.Surveying.{Tells, surveyed_tells, length-words-system}
 use Rattle.ic_text.proofs.survey.survey_system.Goals as goal

@@ -1,6 +1,6 @@
 use Rattle.std.proofs.Common.{◌≡◌, map, take, drop}
-use Rattle.ic_text.specs.Inner.Braces.{split_at_brace}
-use Rattle.ic_text.specs.Inner.Tokens.{token_of, tokens_in}
+use Rattle.ic_text.specs.inner.Braces.{split_at_brace}
+use Rattle.ic_text.specs.inner.Tokens.{token_of, tokens_in}
 use Rattle.ic_text.proofs.GrammarSystem.{in_front}
 use Rattle.ic_text.proofs.syntax.split_at_brace.Given as goal
 

@@ -1,12 +1,12 @@
 use Rattle.std.proofs.Common.{◌≡◌, List, Ok, refl, sym, ap, ◌∙◌}
 use Rattle.std.proofs.lemmas.Result.{err_from_is_err_and}
 use Rattle.ic_text.specs.Token.{Token}
-use Rattle.ic_text.specs.Inner.Tokens.{tokens_in}
+use Rattle.ic_text.specs.inner.Tokens.{tokens_in}
 use Rattle.ic_text.specs.Source.{phrase_words}
 use Rattle.ic_text.specs.SystemSource.{SystemPhrase, IsSystemPhrase, rules_words, system_words}
 use Rattle.ic_text.specs.SystemSense.{system_sense}
-use Rattle.ic_text.specs.Inner.Prefix.{nodes_of}
-use Rattle.ic_text.specs.Inner.Numbered.{numbered_words}
+use Rattle.ic_text.specs.inner.Prefix.{nodes_of}
+use Rattle.ic_text.specs.inner.Numbered.{numbered_words}
 use Rattle.ic_text.proofs.Sensing.{Refuses-through}
 use Rattle.ic_text.proofs.SensingSystem.{finished_system}
 use Rattle.ic_text.proofs.SystemPrefix.{Known, split-system, words_are, sense-known, unfit-rules, unfit-config}

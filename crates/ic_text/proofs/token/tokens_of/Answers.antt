@@ -1,7 +1,7 @@
 use Rattle.std.proofs.Common.{sym, ap, ◌∙◌, refl, arith, append-nil, get_or}
 use Rattle.std.proofs.lemmas.List.{map-append}
 use Rattle.ic_text.specs.Token.{before, tokens_at}
-use Rattle.ic_text.specs.Inner.Tokens.{token_of, tokens_in}
+use Rattle.ic_text.specs.inner.Tokens.{token_of, tokens_in}
 use Rattle.ic_text.proofs.TokenLemmas.{joined_run, ends_run, no_token_here}
 use Rattle.ic_text.proofs.token.tokens_of.Goals as goal
 use Rattle.ic_text.proofs.token.tokens_of.Goals.{then-not-is_word_byte+in_ok-push_word+in-Some+in_ok-push, then-not-is_word_byte+in_ok-push_word+in_default, else-not-is_word_byte}

@@ -1,6 +1,6 @@
 use Rattle.std.proofs.Common.{◌≡◌, ◌-◌, ◌≤◌, drop, take}
 use Rattle.ic_text.specs.Token.{before, tokens, tokens_behind}
-use Rattle.ic_text.specs.Inner.Tokens.{tokens_in}
+use Rattle.ic_text.specs.inner.Tokens.{tokens_in}
 use Rattle.ic_text.proofs.token.tokens_of.Given as goal
 
 -- the tokens so far, and those of what is left behind the run so far, are those of the text

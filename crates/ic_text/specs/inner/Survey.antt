@@ -11,7 +11,7 @@ use Rattle.ic_text.specs.Source.{Phrase, phrase_nodes}
 use Rattle.ic_text.specs.SystemSource.{SystemPhrase, rule_nodes}
 use Rattle.ic_text.specs.Text.{Spells}
 use Rattle.ic_text.specs.SystemText.{SpellsSystem}
-use Rattle.ic_text.specs.Inner.Syntax.{step, is_end, at_beginning}
+use Rattle.ic_text.specs.inner.Syntax.{step, is_end, at_beginning}
 
 -- no count is above a number
 pub record IsWithin (most : ℕ) (p : Progress) : Type 0 where
