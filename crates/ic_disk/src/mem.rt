@@ -1,5 +1,5 @@
 // A disk in memory, which keeps the model, and may be crashed as a test likes.
-ghost use Rattle.std.specs.Prelude.{◌≡◌, ◌⊎◌, ◌≤◌, ◌++◌, ◌∷◌, [], List, ℕ, map, take, ◌+◌, ◌-◌, ◌^◌, min, length, is_ok, IsOk, OnOk, OnErr, IfOk, true};
+ghost use Rattle.std.specs.Prelude.{◌≡◌, ◌≤◌, [], List, ℕ, map, ◌+◌, ◌-◌, length, IsOk, OnOk, OnErr, IfOk, true};
 ghost use Rattle.ic_disk.specs.Content.{bytes_at};
 ghost use Rattle.ic_disk.specs.DiskCalls.{IsDiskSync, IsDiskWrite};
 ghost use Rattle.ic_disk.specs.Model.{write_of, sync};
