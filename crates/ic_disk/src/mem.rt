@@ -29,7 +29,8 @@ pub enum Choice {
 
 /// A disk in memory. Writes are laid over its bytes in place, and a copy of each is kept, from
 /// which what a crash may have left at any moment can be told. So a write takes time in its own
-/// bytes (the first one copies the disk), a sync none, and a crash time in all that was ever written.
+/// bytes (the first one copies the disk), a sync none, and a crash time in all that was ever
+/// written.
 #[derive(Debug, Drop)]
 pub struct MemDisk {
     content: Vec<u8>,
