@@ -1,10 +1,10 @@
 -- That what the clauses of a disk say of images is what the written model says.
-use Rattle.std.proofs.Common.{◌≡◌, ◌⊎◌, inl, inr, ⊎_elim, ℕ, ◌≤◌, List, [], ◌∷◌, length, map, refl, sym, ◌∙◌, ap, subst, arith, Result, Ok, Err, OnOk, OnErr}
+use Rattle.std.proofs.Common.{◌≡◌, ◌⊎◌, inl, inr, ⊎_elim, ℕ, ◌≤◌, List, length, refl, sym, ◌∙◌, ap, subst, arith, Result, Ok, Err, OnOk, OnErr}
 use Rattle.std.specs.Prelude.{◌↔◌}
 use Rattle.ic_disk.specs.Content.{laid}
-use Rattle.ic_disk.specs.Images.{AgreesOutside, IsImage, Only, StaysOrTears, Torn, TornFrom, Within, one_range}
+use Rattle.ic_disk.specs.Images.{AgreesOutside, Only, StaysOrTears, Torn, TornFrom, Within, one_range}
 use Rattle.ic_disk.specs.Time.{Elapses}
-use Rattle.ic_disk.specs.Model.{Write, Call, write, sync, State, begun, after, after_failed, range_of, IsImageIn, IsInState}
+use Rattle.ic_disk.specs.Model.{Write, write, sync, State, begun, after, after_failed, IsImageIn, IsInState}
 use Rattle.ic_disk.specs.lemmas.ImageLaws.{settled_image, within_torn}
 use Rattle.ic_disk.specs.lemmas.HistoryLaws.{write_reached}
 use Rattle.ic_disk.proofs.HistoryLemmas.{write_images}

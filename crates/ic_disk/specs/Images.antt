@@ -46,8 +46,8 @@ pub record Torn (at n : ℕ) (old new : List ℕ) : Type 0 where
 abbrev pub TornFrom : ℕ → ℕ → (List ℕ → Type 0) → List ℕ → Type 0
 TornFrom at n images file = (image : List ℕ) × images image × Torn at n image file
 
--- One of the images torn by a write of these bytes, or the content with them laid over it, torn by a
--- second write, of m bytes.
+-- One of the images torn by a write of these bytes, or the content with them laid over it, torn by
+-- a second write, of m bytes.
 abbrev pub TornInTurn : (at : ℕ) (bytes : List ℕ) (other m : ℕ) (content : List ℕ)
     → (List ℕ → Type 0) → List ℕ → Type 0
 TornInTurn at bytes other m content images file =

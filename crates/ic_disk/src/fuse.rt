@@ -1,5 +1,5 @@
 // A disk in memory of which some call fails, as a test likes.
-ghost use Rattle.std.specs.Prelude.{◌≡◌, ◌⊎◌, ◌+◌, ◌≤◌, true, length, IfOk, OnOk, OnErr};
+ghost use Rattle.std.specs.Prelude.{◌≡◌, ◌+◌, ◌≤◌, true, length, IfOk, OnOk};
 ghost use Rattle.ic_disk.specs.Content.{bytes_at};
 ghost use Rattle.ic_disk.specs.DiskCalls.{IsDiskSync, IsDiskWrite};
 ghost use Rattle.ic_disk.specs.Fuse.{turn_of, one_call_more, Answers, AnswersRead};

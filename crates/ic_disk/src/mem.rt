@@ -1,5 +1,5 @@
 // A disk in memory, which keeps the model, and may be crashed as a test likes.
-ghost use Rattle.std.specs.Prelude.{◌≡◌, ◌⊎◌, ◌≤◌, ◌++◌, ◌∷◌, [], List, ℕ, map, take, ◌+◌, ◌-◌, ◌^◌, min, length, is_ok, IsOk, OnOk, OnErr, IfOk, true};
+ghost use Rattle.std.specs.Prelude.{◌≡◌, ◌≤◌, [], List, ℕ, map, ◌+◌, ◌-◌, length, IsOk, OnOk, OnErr, IfOk, true};
 ghost use Rattle.ic_disk.specs.Content.{bytes_at};
 ghost use Rattle.ic_disk.specs.DiskCalls.{IsDiskSync, IsDiskWrite};
 ghost use Rattle.ic_disk.specs.Model.{write_of, sync};
@@ -29,7 +29,8 @@ pub enum Choice {
 
 /// A disk in memory. Writes are laid over its bytes in place, and a copy of each is kept, from
 /// which what a crash may have left at any moment can be told. So a write takes time in its own
-/// bytes (the first one copies the disk), a sync none, and a crash time in all that was ever written.
+/// bytes (the first one copies the disk), a sync none, and a crash time in all that was ever
+/// written.
 #[derive(Debug, Drop)]
 pub struct MemDisk {
     content: Vec<u8>,
