@@ -10,7 +10,8 @@ use Rattle.ic_frames.specs.declared.slot.Slot.TheVariants.{First, Second}
 use Rattle.ic_frames.specs.Places.{place, other}
 use Rattle.ic_frames.specs.Fields.{number, size, body, is_open, is_whole, IsMade}
 use Rattle.ic_frames.specs.Held.{Holds, HoldsEither}
-use Rattle.ic_frames.specs.Standing.{Stands, IsStaged}
+use Rattle.ic_frames.specs.Staged.{IsStaged}
+use Rattle.ic_frames.specs.inner.Standing.{Stands}
 use Rattle.ic_frames.proofs.FieldLemmas.{SameAt, part_of, number-same, size-same, body-same, open_parts, open_from, shut_from, open-same, whole_parts, whole_from}
 use Rattle.ic_frames.proofs.HeldLemmas.{stands_holds}
 

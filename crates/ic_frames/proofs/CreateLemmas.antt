@@ -8,7 +8,8 @@ use Rattle.ic_disk.specs.lemmas.ImageLaws.{torn_laid}
 use Rattle.ic_frames.specs.declared.slot.Slot.TheVariants.{First, Second}
 use Rattle.ic_frames.specs.Fields.{is_open, IsMade}
 use Rattle.ic_frames.specs.Held.{Holds}
-use Rattle.ic_frames.specs.Standing.{Stands, IsStaged, IsFrame}
+use Rattle.ic_frames.specs.Staged.{IsStaged}
+use Rattle.ic_frames.specs.inner.Standing.{Stands, IsFrame}
 use Rattle.ic_frames.proofs.FieldLemmas.{shut_from, open_from, whole_parts}
 use Rattle.ic_frames.proofs.HeldLemmas.{stands_holds}
 use Rattle.ic_frames.proofs.CrashLemmas.{staged_torn}

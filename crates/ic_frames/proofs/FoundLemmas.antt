@@ -12,8 +12,10 @@ use Rattle.ic_frames.specs.declared.faults.OpenCause.TheVariants.{Device, NoSlot
 use Rattle.ic_frames.specs.Places.{place, other}
 use Rattle.ic_frames.specs.Fields.{number, size, body, is_open, is_whole, IsMade}
 use Rattle.ic_frames.specs.Held.{Held, the_body, damaged, body_held}
-use Rattle.ic_frames.specs.Standing.{Stands, IsStaged, IsKept}
-use Rattle.ic_frames.specs.Opening.{IsChosen, IsFound, IsDamage, Answers}
+use Rattle.ic_frames.specs.Staged.{IsStaged}
+use Rattle.ic_frames.specs.inner.Standing.{Stands, IsKept}
+use Rattle.ic_frames.specs.Opening.{Answers}
+use Rattle.ic_frames.specs.inner.Finding.{IsChosen, IsFound, IsDamage}
 use Rattle.ic_frames.proofs.FieldLemmas.{open_parts, whole_from, spoiled_from}
 use Rattle.ic_frames.proofs.HeldLemmas.{whole_held, spoiled_held}
 use Rattle.ic_frames.proofs.KeepLemmas.{of_only}

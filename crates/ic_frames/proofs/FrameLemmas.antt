@@ -8,7 +8,7 @@ use borrow.Rule.Slice.PartMut.{put_mid}
 use Rattle.ic_disk.specs.Content.{laid, bytes_at}
 use Rattle.ic_disk.specs.lemmas.ContentLaws.{length-laid, laid-inside}
 use Rattle.ic_frames.specs.Fields.{gate, number, size, body, is_open, is_whole}
-use Rattle.ic_frames.specs.Standing.{IsFrame}
+use Rattle.ic_frames.specs.inner.Standing.{IsFrame}
 use Rattle.ic_frames.proofs.FieldLemmas.{length-bytes_at, get_or-bytes_at, shut_from, whole_from}
 
 -- the same bytes at two places

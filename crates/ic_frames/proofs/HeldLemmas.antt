@@ -7,7 +7,7 @@ use Rattle.ic_frames.specs.declared.slot.Slot.TheVariants.{First, Second}
 use Rattle.ic_frames.specs.Places.{place, other}
 use Rattle.ic_frames.specs.Fields.{number, body, is_open, is_whole, IsMade}
 use Rattle.ic_frames.specs.Held.{Held, the_body, no_slot, two_alike, damaged, body_of, newer_body, body_held, IsNewest, Holds}
-use Rattle.ic_frames.specs.Standing.{Stands}
+use Rattle.ic_frames.specs.inner.Standing.{Stands}
 
 -- which of four bodies two tests choose
 pub both_open : (a b : Bool) (x y z w : Held) → a ≡ true → b ≡ true → (if a then (if b then x else y) else (if b then z else w)) ≡ x

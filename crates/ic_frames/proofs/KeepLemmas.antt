@@ -10,7 +10,8 @@ use Rattle.ic_frames.specs.declared.slot.Slot.TheVariants.{First, Second}
 use Rattle.ic_frames.specs.Places.{place, other}
 use Rattle.ic_frames.specs.Fields.{number, size, body, is_open, is_whole, IsMade}
 use Rattle.ic_frames.specs.Held.{Held, the_body, body_held, Holds, HoldsEither}
-use Rattle.ic_frames.specs.Standing.{Stands, IsStaged, IsKept, IsFrame}
+use Rattle.ic_frames.specs.Staged.{IsStaged}
+use Rattle.ic_frames.specs.inner.Standing.{Stands, IsKept, IsFrame}
 use Rattle.ic_frames.proofs.FieldLemmas.{shut_from, open_from, open_parts, open-same, whole_parts}
 use Rattle.ic_frames.proofs.HeldLemmas.{stands_holds}
 use Rattle.ic_frames.proofs.CrashLemmas.{still_stands, gate_torn, body_torn, open_torn, staged_torn, newly_stands, newest_stays, head_made}

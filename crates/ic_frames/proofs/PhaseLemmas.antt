@@ -7,7 +7,8 @@ use Rattle.ic_disk.specs.lemmas.Moments.{leaves_weaker, then_runs}
 use Rattle.ic_frames.specs.declared.slot.Slot.{Slot}
 use Rattle.ic_frames.specs.Places.{place, other}
 use Rattle.ic_frames.specs.Held.{the_body, body_held, Holds, HoldsEither}
-use Rattle.ic_frames.specs.Standing.{IsStaged, IsKept, IsFrame}
+use Rattle.ic_frames.specs.Staged.{IsStaged}
+use Rattle.ic_frames.specs.inner.Standing.{IsKept, IsFrame}
 use Rattle.ic_frames.proofs.KeepLemmas.{gate_leaves, gate_kept, body_leaves, not_made_leaves, body_kept, open_leaves, open_kept, open_holds}
 
 module _ {D : Type 0} (content : D → List ℕ) (image : D → List ℕ → Type 0) (clock : D → ℕ) (left : D → ℕ → List ℕ → Type 0) (old new : D) (now : image old (content old)) (newest slot : Slot) (n : ℕ) (at : slot ≡ other newest) where

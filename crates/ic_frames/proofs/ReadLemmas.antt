@@ -3,7 +3,7 @@ use Rattle.std.proofs.Common.{◌≡◌, ◌⊎◌, inl, inr, ℕ, ◌+◌, ◌-
 use Rattle.ic_disk.specs.Images.{Within, Only}
 use Rattle.ic_disk.specs.Time.{Elapses, LeavesOnly}
 use Rattle.ic_disk.specs.lemmas.Moments.{started, goes_on, then_runs}
-use Rattle.ic_frames.specs.Reading.{OnlyReads}
+use Rattle.ic_frames.specs.inner.Reading.{OnlyReads}
 
 module _ {D : Type 0} (content : D → List ℕ) (image : D → List ℕ → Type 0) (clock : D → ℕ) (left : D → ℕ → List ℕ → Type 0) where
   -- no call at all

@@ -1,9 +1,9 @@
 pub mod Places
 pub mod Fields
 pub mod Held
-pub mod Standing
-pub mod Frames
-pub mod Faults
-pub mod Reading
+pub mod Staged
 pub mod Opening
+pub mod Faults
+pub mod Frames
 pub mod Opened
+pub mod inner

@@ -18,6 +18,7 @@ pub fn create<D: Disk>(disk: &mut D, frame: &mut [u8]) -> Result<(), DiskFault>
 
     ensures keeps { D.keeps disk.new ≡ D.keeps disk.old }
     ensures counted { CountsFailure result (D.failures disk.old) (D.failures disk.new) }
+    ensures same_body { drop 13 frame.new ≡ drop 13 frame.old }
     ensures calls { IsTrue (D.keeps disk.old) → D.clock disk.new ≤ D.clock disk.old + 6 }
 
     // At Ok a crash leaves that body, and so do reads.

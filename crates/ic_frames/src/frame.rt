@@ -1,6 +1,6 @@
 // A frame: the bytes of a slot, a head and then a body.
 ghost use Rattle.std.specs.Prelude.{◌≡◌, ◌+◌, ◌≤◌, ◌<◌, ◌^◌, length, drop};
-ghost use Rattle.ic_frames.specs.Standing.{IsFrame};
+ghost use Rattle.ic_frames.specs.inner.Standing.{IsFrame};
 
 /// How many bytes the head of a frame has: its gate, its number and the length of its body.
 pub const HEAD: usize = 13;

@@ -2,8 +2,10 @@
 ghost use Rattle.std.specs.Prelude.{◌≡◌, ◌⊎◌, ◌↔◌, ◌+◌, ◌-◌, ◌^◌, ◌<◌, ◌≤◌, ℕ, List, Bool, true, false, [], ◌∷◌, length, drop, IsTrue, OnOk, IsErr, IsErrOf, IfOk, IfErr, vec_capacity};
 ghost use Rattle.ic_disk.specs.Images.{Only, Within};
 ghost use Rattle.ic_disk.specs.Time.{LeavesOnly};
+ghost use Rattle.ic_frames.specs.Places.{other};
 ghost use Rattle.ic_frames.specs.Held.{Holds, HoldsEither, IsClosedIn, body_held, the_body};
-ghost use Rattle.ic_frames.specs.Standing.{IsStaged, IsKept};
+ghost use Rattle.ic_frames.specs.Staged.{IsStaged};
+ghost use Rattle.ic_frames.specs.inner.Standing.{IsKept};
 ghost use Rattle.ic_frames.specs.Faults.{CountsKeep, CountsOpen};
 ghost use Rattle.ic_frames.specs.Opening.{Answers};
 
@@ -42,7 +44,7 @@ pub struct Frames<D: Disk> {
 
 impl<D: Disk> Frames<D> {
     ghost use Rattle.ic_frames.specs.Frames.{disk_of, target_of, number_of, is_broken, is_closed, is_staged};
-    ghost use Rattle.ic_frames.specs.Opened.{disk_after, outcome_of};
+    ghost use Rattle.ic_frames.specs.Opened.{disk_after, outcome_of, IsOnNewest};
 
     /// Finds the newest body of a disk. It begins with a sync, and changes nothing. The frame has the
     /// body, and room for the longest. A fault hands the disk back.
@@ -56,6 +58,10 @@ impl<D: Disk> Frames<D> {
             body_held (D.content disk) ≡ the_body (drop 13 opened.frame.items)) }
         ensures refused { IsTrue (D.keeps disk) → IfErr result (λ fault.
             Answers fault.cause (body_held (D.content disk))) }
+
+        // What it says of the newest slot is so.
+        ensures newest { IsTrue (D.keeps disk) → IfOk result (λ opened.
+            IsOnNewest opened.frames (D.content disk)) }
 
         ensures ready { IfOk result (λ opened. is_broken opened.frames ≡ false) }
         ensures room { IfOk result (λ opened. 13 + 3036421 ≤ vec_capacity opened.frame) }
@@ -169,6 +175,7 @@ impl<D: Disk> Frames<D> {
             → disk_of self.new ≡ disk_of self.old }
 
         ensures staged { OnOk result (is_staged self.new ≡ true) }
+        ensures same_body { drop 13 frame.new ≡ drop 13 frame.old }
         ensures ready { OnOk result (is_broken self.new ≡ false) }
         ensures target { target_of self.new ≡ target_of self.old }
         ensures number { number_of self.new ≡ number_of self.old }
@@ -212,6 +219,7 @@ impl<D: Disk> Frames<D> {
             → disk_of self.new ≡ disk_of self.old }
 
         ensures ready { OnOk result (is_broken self.new ≡ false) }
+        ensures target { OnOk result (target_of self.new ≡ other (target_of self.old)) }
         ensures number { OnOk result (number_of self.new ≡ number_of self.old + 1) }
         ensures calls { IsTrue (D.keeps (disk_of self.old))
             → D.clock (disk_of self.new) ≤ D.clock (disk_of self.old) + 2 }
@@ -259,7 +267,10 @@ impl<D: Disk> Frames<D> {
             → disk_of self.new ≡ disk_of self.old }
 
         ensures ready { OnOk result (is_broken self.new ≡ false) }
+        ensures target { OnOk result (target_of self.new ≡ other (target_of self.old)) }
         ensures number { OnOk result (number_of self.new ≡ number_of self.old + 1) }
+
+        ensures same_body { drop 13 frame.new ≡ drop 13 frame.old }
 
         // It makes at most six calls, and four over a closed slot.
         ensures calls { IsTrue (D.keeps (disk_of self.old))

@@ -1,7 +1,10 @@
 //! Laws of the definitions that the contracts of this crate cite.
 
 ghost use Rattle.std.specs.Prelude.{◌≡◌, ◌⊎◌, true, false, List, ℕ};
+ghost use Rattle.ic_frames.specs.declared.frame.TheConstants.{HEAD, MAX_BODY};
 ghost use Rattle.ic_frames.specs.declared.slot.Slot.{Slot};
+ghost use Rattle.ic_frames.specs.declared.slot.Slot.TheVariants.{Second};
+ghost use Rattle.ic_frames.specs.declared.slot.TheConstants.{SECOND_AT};
 ghost use Rattle.ic_frames.specs.Places.{place};
 ghost use Rattle.ic_frames.specs.Fields.{is_whole, body};
 ghost use Rattle.ic_frames.specs.Held.{IsNewest, IsShut, HasTwoAlike, HasSameHeads, body_held, the_body, no_slot, two_alike, damaged};
@@ -26,4 +29,11 @@ pub fn the_newest_slot_is_held()
 pub fn the_heads_say_which_is_newest()
     ensures { (slot : Slot) (old new : List ℕ) → HasSameHeads old new
         → IsNewest slot old → IsNewest slot new }
+{}
+
+/// The places and limits by their names.
+pub fn limits_are()
+    ensures head { HEAD ≡ 13 }
+    ensures body { MAX_BODY ≡ 3036421 }
+    ensures second { SECOND_AT ≡ place Second }
 {}

@@ -6,8 +6,9 @@ ghost use Rattle.ic_disk.specs.Time.{CountsFailure};
 ghost use Rattle.ic_frames.specs.Places.{place};
 ghost use Rattle.ic_frames.specs.Held.{body_held};
 ghost use Rattle.ic_frames.specs.Faults.{CountsOpen};
-ghost use Rattle.ic_frames.specs.Reading.{OnlyReads};
-ghost use Rattle.ic_frames.specs.Opening.{IsHeadOf, Chooses, IsFound, IsOfSlots, IsOfCalls, IsDamage, Answers};
+ghost use Rattle.ic_frames.specs.inner.Reading.{OnlyReads};
+ghost use Rattle.ic_frames.specs.Opening.{Answers};
+ghost use Rattle.ic_frames.specs.inner.Finding.{IsHeadOf, Chooses, IsFound, IsOfSlots, IsOfCalls, IsDamage};
 
 use crate::found::{Found, Head, Newest};
 use crate::{HEAD, MAX_BODY, OpenCause, SECOND_AT, Slot};

@@ -1,10 +1,11 @@
 use Rattle.std.proofs.Common.{◌≡◌, ◌⊎◌, ◌∙◌, ℕ, ◌+◌, ◌<◌, ◌≤◌, List, length, drop, sym, ap, subst}
 use Rattle.std.proofs.lemmas.Bool.{leb-true, leb-false}
+use Rattle.std.proofs.lemmas.Result.{err_from_is_err_and}
 use Rattle.ic_disk.specs.Content.{bytes_at}
 use Rattle.ic_frames.specs.declared.found.Newest.{Newest}
 use Rattle.ic_frames.specs.Places.{place}
 use Rattle.ic_frames.specs.Held.{body_held}
-use Rattle.ic_frames.specs.Opening.{IsChosen}
+use Rattle.ic_frames.specs.inner.Finding.{IsChosen}
 use Rattle.ic_frames.proofs.FoundLemmas.{found_whole, found_spoiled, damage_answers}
 use Rattle.ic_frames.proofs.opening.find.Goals as goal
 
@@ -13,9 +14,10 @@ returns-in_err-whole-clause-refused g c keeps =
     let file = g.D.Disk.content c.args.disk.now in
     let newest = c.in_ok-newest.newest in
     let chosen = c.in_ok-newest.ensures.chosen file (c.in_ok-len.ensures.first keeps) (c.in_ok-len.ensures.second keeps) in
-    damage_answers c.in_err-whole.field-0 (body_held file) c.in_err-whole.ensures.cause
-    (found_spoiled newest file chosen
-    (subst (λ (n : ℕ). (3036421 < newest.head.size) ⊎ (n < place newest.slot + 13 + newest.head.size)) (c.in_ok-len.ensures.length keeps) c.in_err-whole.ensures.err))
+    let p = err_from_is_err_and c.from_residual-in_err-whole.result c.from_residual-in_err-whole.ensures.1 in
+    let damage = found_spoiled newest file chosen
+    (subst (λ (n : ℕ). (3036421 < newest.head.size) ⊎ (n < place newest.slot + 13 + newest.head.size)) (c.in_ok-len.ensures.length keeps) c.in_err-whole.ensures.err) in
+    rw (p.1, p.2) (damage_answers c.in_err-whole.field-0.0 (body_held file) c.in_err-whole.ensures.cause damage)
 
 pub returns-clause-found : goal.returns-clause-found
 returns-clause-found g c keeps =

@@ -2,7 +2,7 @@ use Rattle.std.proofs.Common.{◌≡◌, ◌∙◌, sym, subst, Option, List, �
 use Rattle.ic_frames.specs.declared.slot.Slot.TheVariants.{First, Second}
 use Rattle.ic_frames.specs.declared.found.Head.{Head}
 use Rattle.ic_frames.specs.Fields.{number}
-use Rattle.ic_frames.specs.Opening.{IsHeadOf}
+use Rattle.ic_frames.specs.inner.Finding.{IsHeadOf}
 use Rattle.ic_frames.proofs.LawLemmas.{shut_held, alike_held}
 use Rattle.ic_frames.proofs.opening.newest_of.Goals as goal
 

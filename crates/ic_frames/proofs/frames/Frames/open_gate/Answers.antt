@@ -1,5 +1,5 @@
 use Rattle.std.proofs.Common.{sym, ◌∙◌, ◌+◌, subst, Bool, false}
-use Rattle.ic_frames.specs.Standing.{IsKept}
+use Rattle.ic_frames.specs.inner.Standing.{IsKept}
 use Rattle.ic_frames.proofs.PhaseLemmas.{open_run, open_end, open_whole, made_now}
 use Rattle.ic_frames.proofs.frames.Frames.open_gate.Goals as goal
 

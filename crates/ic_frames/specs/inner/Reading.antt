@@ -1,4 +1,4 @@
--- Calls that only read a disk, or sync it, and what they leave of it.
+-- Calls that only read a disk, or sync it, and what they leave of it. Inner: private functions cite it.
 use Rattle.std.specs.Prelude.{◌≡◌, ℕ, List}
 use Rattle.ic_disk.specs.Images.{Within}
 use Rattle.ic_disk.specs.Time.{LeavesOnly}

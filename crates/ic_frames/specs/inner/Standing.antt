@@ -1,8 +1,9 @@
--- How the two slots stand on a disk while it is kept.
+-- How the two slots stand on a disk while it is kept. Inner: private fields and functions cite it.
 use Rattle.std.specs.Prelude.{◌≡◌, ℕ, ◌+◌, ◌<◌, Bool, true, false, List, length, drop}
 use Rattle.ic_frames.specs.declared.slot.Slot.{Slot}
 use Rattle.ic_frames.specs.Places.{place, other}
 use Rattle.ic_frames.specs.Fields.{gate, number, size, body, is_open, is_whole, IsMade}
+use Rattle.ic_frames.specs.Staged.{IsStaged}
 
 -- The newest slot is open and whole, with this number and body. The other is closed, or older.
 pub record Stands (newest : Slot) (n : ℕ) (closed : Bool) (kept file : List ℕ) : Type 0 where
@@ -12,12 +13,6 @@ pub record Stands (newest : Slot) (n : ℕ) (closed : Bool) (kept file : List �
   pub body_is : body (place newest) file ≡ kept
   pub shut : closed ≡ true → is_open (place (other newest)) file ≡ false
   pub older : closed ≡ false → number (place (other newest)) file < n
-
--- the slot has this number and this body, whole, whatever its gate is
-pub record IsStaged (slot : Slot) (n : ℕ) (staged file : List ℕ) : Type 0 where
-  pub number_is : number (place slot) file ≡ n
-  pub whole : is_whole (place slot) file ≡ true
-  pub body_is : body (place slot) file ≡ staged
 
 -- what is on a disk that is kept: its content, and what a crash may leave
 pub record IsKept (content : List ℕ) (image : List ℕ → Type 0) (newest : Slot) (n : ℕ)
