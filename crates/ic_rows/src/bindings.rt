@@ -69,7 +69,14 @@ fn rows_of_bindings(rt: HostRuntime) -> Result<(), Fail> {
     settles(&rt, alloc, "<a|a=b,c=b>", "<c|>")?;
     settles(&rt, alloc, "<|x=y,x=y>", "<|y=y>")?;
     settles(&rt, alloc, "<|x=A,B(x)=C>", "<|B(A)=C>")?;
-    for text in ["<|x=x>", "<|x=A(x)>", "<|x=A>", "<|A(x)=x>", "<|A=x>", "<|x=y>"] {
+    for text in [
+        "<|x=x>",
+        "<|x=A(x)>",
+        "<|x=A>",
+        "<|A(x)=x>",
+        "<|A=x>",
+        "<|x=y>",
+    ] {
         settles(&rt, alloc, text, text)?;
     }
     Ok(())
@@ -81,8 +88,18 @@ fn rows_of_bindings(rt: HostRuntime) -> Result<(), Fail> {
 fn order_of_sides(rt: HostRuntime) -> Result<(), Fail> {
     let alloc = rt.alloc();
     settles(&rt, alloc, "<x,y|x=y>", "<y,y|>")?;
-    settles(&rt, alloc, "<|a=F(b),b=F(c),c=F(d),d=F(a)>", "<|d=F(F(F(F(d))))>")?;
-    settles(&rt, alloc, "<|b=F(c),c=F(d),a=F(b),d=F(a)>", "<|d=F(F(F(F(d))))>")?;
+    settles(
+        &rt,
+        alloc,
+        "<|a=F(b),b=F(c),c=F(d),d=F(a)>",
+        "<|d=F(F(F(F(d))))>",
+    )?;
+    settles(
+        &rt,
+        alloc,
+        "<|b=F(c),c=F(d),a=F(b),d=F(a)>",
+        "<|d=F(F(F(F(d))))>",
+    )?;
     Ok(())
 }
 
