@@ -1,8 +1,8 @@
-//! The job table: jobs, commands and their replies, and rounds that land.
+//! Jobs, commands and their replies, events, histories and lives.
 //!
-//! A `Table` has jobs in the order in which they were submitted. `apply` takes a client's command. `due` gives a copy of
-//! a running job, to be played outside; `land` puts its round and `halt` stops it, if the job is still as it was. The
-//! definitions of events, histories and lives stand in specs/, and `laws` holds what is proved of them alone.
+//! A table has jobs in the order in which they were submitted. What each command and each round leaves of it, what a
+//! legal history is, and what a history tells of a job's life, stand in specs/; `laws` holds what is proved of them. The
+//! types of commands, replies and entries are here.
 #![tactic(auto)]
 
 mod command;

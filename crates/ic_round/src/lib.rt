@@ -4,8 +4,8 @@
 //! active equations out of a configuration as works, `fire` gives the products of one work and
 //! depends on nothing else, `gather` puts the results back in any order, and `settle` applies the
 //! name equations. `round` does all of it in turn. `fits` tells whether a round stays within the
-//! limits, and `quiet` whether no step is possible. `interact_at`, `indirect_at` and `collect_at`
-//! make one step.
+//! limits, `quiet` whether no step is possible, and `bind` what `settle` replaces. `interact_at`,
+//! `indirect_at` and `collect_at` make one step.
 #![tactic(auto)]
 
 mod firing;
@@ -29,7 +29,7 @@ pub use firing::fire;
 pub use fitting::fits;
 pub use gather_fault::GatherFault;
 pub use gathering::gather;
-pub use ic_settle::laws::settle_slowly as settle;
+pub use ic_settle::{bind, settle};
 pub use planning::plan;
 pub use plans::Plan;
 pub use quietness::quiet;

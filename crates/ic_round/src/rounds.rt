@@ -13,9 +13,9 @@ use crate::gather_fault::GatherFault;
 use crate::gathering::gather;
 use crate::planning::plan;
 use crate::round_fault::RoundFault;
-use crate::settle;
 use crate::work::{Fired, Work};
 use ic_rules::RuleSet;
+use ic_settle::settle;
 use ic_term::Config;
 use std::alloc::{AllocError, Global};
 
@@ -33,7 +33,7 @@ pub fn round(alloc: Global, rules: &RuleSet, config: Config) -> Result<Config, R
     let plan = plan(alloc, rules, config)?;
     let results = fire_all(alloc, rules, plan.works)?;
     match gather(alloc, plan.rest, results) {
-        Ok(fired) => Ok(settle(fired)),
+        Ok(fired) => Ok(settle(alloc, fired)?),
         Err(GatherFault::Memory) => Err(RoundFault::Memory),
         Err(_) => unreachable!(),
     }

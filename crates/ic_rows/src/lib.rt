@@ -4,6 +4,8 @@
 #![tactic(auto)]
 
 #[cfg(test)]
+mod bindings;
+#[cfg(test)]
 mod deep;
 #[cfg(test)]
 mod examples;

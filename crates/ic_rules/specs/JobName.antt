@@ -5,7 +5,9 @@ use Rattle.std.specs.Char.{is_ascii_lowercase, is_ascii_digit}
 -- A job's name: 1 to 16 bytes of a..z, 0..9 and `-`, a letter first (this project's choice).
 abbrev pub is_job_name : List ℕ → Bool
 is_job_name [] = false
-is_job_name (b ∷ bs) = is_ascii_lowercase b && list_all (λ c. is_ascii_lowercase c || is_ascii_digit c || c == 45) bs && nat_le (length (b ∷ bs)) 16
+is_job_name (b ∷ bs) = is_ascii_lowercase b
+    && list_all (λ c. is_ascii_lowercase c || is_ascii_digit c || c == 45) bs
+    && nat_le (length (b ∷ bs)) 16
 
 -- a name's bytes with zeros behind them, as many bytes as the longest name
 abbrev pub padded : List ℕ → List ℕ

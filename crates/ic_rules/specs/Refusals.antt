@@ -36,11 +36,14 @@ abbrev pub IsRefusal : List Symbol → List Rule → RuleFault → Type 0
 IsRefusal ss rs Limit = are_few rs ≡ false
 IsRefusal ss rs (Arity s) = IsTrue (are_few rs) × IsFirstUnfit ss (flat_map rule_agents rs) s
 IsRefusal ss rs (NameCount i) =
-    IsTrue (are_few rs) × AllByRecursion (IsRuleOver ss) rs × IsFirst (λ r. not (are_paired (rule_names r))) rs i
+    IsTrue (are_few rs) × AllByRecursion (IsRuleOver ss) rs
+    × IsFirst (λ r. not (are_paired (rule_names r))) rs i
 IsRefusal ss rs (Twice i) =
-    IsTrue (are_few rs) × AllByRecursion (IsRuleOver ss) rs × AreCounted rs × IsFirstRepeated [] rs i
+    IsTrue (are_few rs) × AllByRecursion (IsRuleOver ss) rs × AreCounted rs
+    × IsFirstRepeated [] rs i
 IsRefusal ss rs (Lopsided i) =
-    IsTrue (are_few rs) × AllByRecursion (IsRuleOver ss) rs × AreCounted rs × (first_repeated rs ≡ None)
+    IsTrue (are_few rs) × AllByRecursion (IsRuleOver ss) rs × AreCounted rs
+    × (first_repeated rs ≡ None)
     × IsFirst (λ r. is_lopsided (numbered r)) rs i
 IsRefusal ss rs Memory = ⊥
 

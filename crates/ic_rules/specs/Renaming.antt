@@ -16,7 +16,8 @@ abbrev mutual
 -- the names of a list in the order in which they first occur, behind those seen
 abbrev pub first_behind : List ℕ → List ℕ → List ℕ
 first_behind seen [] = seen
-first_behind seen (n ∷ ns) = if list_any (λ m. n == m) seen then first_behind seen ns else first_behind (seen ++ n ∷ []) ns
+first_behind seen (n ∷ ns) = if list_any (λ m. n == m) seen then first_behind seen ns
+    else first_behind (seen ++ n ∷ []) ns
 
 -- the names of a list in the order in which they first occur, each once
 abbrev pub first_occurrences : List ℕ → List ℕ

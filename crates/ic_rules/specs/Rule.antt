@@ -35,11 +35,18 @@ numbered r = let firsts = first_occurrences (rule_names r) in record {
 
 -- a rule read from its right side
 abbrev pub swapped : Rule → Rule
-swapped r = record { left = r.right; right = r.left; left_args = r.right_args; right_args = r.left_args; names = r.names }
+swapped r = record {
+  left = r.right;
+  right = r.left;
+  left_args = r.right_args;
+  right_args = r.left_args;
+  names = r.names;
+}
 
 -- whether two rules are the same
 abbrev pub rule_eq : Rule → Rule → Bool
-rule_eq r s = r.left == s.left && r.right == s.right && pointwise tree_eq r.left_args s.left_args && pointwise tree_eq r.right_args s.right_args && r.names == s.names
+rule_eq r s = r.left == s.left && r.right == s.right && pointwise tree_eq r.left_args s.left_args
+    && pointwise tree_eq r.right_args s.right_args && r.names == s.names
 
 -- A rule of a symbol with itself is allowed only where it is its own swap, the names numbered in both (this
 -- project's choice).
@@ -77,10 +84,19 @@ abbrev mutual
 
 -- the agents of a rule in the order of the text
 abbrev pub rule_agents : Rule → List (ℕ × ℕ)
-rule_agents r = agents (agent r.left (trees_of r.left_args)) ++ agents (agent r.right (trees_of r.right_args))
+rule_agents r = agents (agent r.left (trees_of r.left_args))
+    ++ agents (agent r.right (trees_of r.right_args))
 
 -- a rule is stored as the tuple of its fields
 abbrev pub coded_rule : Coded Rule
-coded_rule = code_by (ℕ × (ℕ × (List Tree × (List Tree × ℕ)))) (coded× coded_ℕ (coded× coded_ℕ (coded× (coded_list coded_tree) (coded× (coded_list coded_tree) coded_ℕ))))
+coded_rule = code_by (ℕ × (ℕ × (List Tree × (List Tree × ℕ))))
+    (coded× coded_ℕ
+    (coded× coded_ℕ (coded× (coded_list coded_tree) (coded× (coded_list coded_tree) coded_ℕ))))
     (λ r. (r.left, (r.right, (r.left_args, (r.right_args, r.names)))))
-    (λ p. record { left = p.0; right = p.1.0; left_args = p.1.1.0; right_args = p.1.1.1.0; names = p.1.1.1.1 }) (λ _. refl)
+    (λ p. record {
+      left = p.0;
+      right = p.1.0;
+      left_args = p.1.1.0;
+      right_args = p.1.1.1.0;
+      names = p.1.1.1.1;
+    }) (λ _. refl)

@@ -42,7 +42,8 @@ first_uncounted rs = position_from (λ r. not (are_paired (rule_names r))) 0 rs
 -- the first rule, behind earlier ones, whose unordered pair an earlier one has
 abbrev pub repeated_behind : List Rule → List Rule → Option ℕ
 repeated_behind earlier [] = None
-repeated_behind earlier (r ∷ rs) = if list_any (same_pair r) earlier then Some (length earlier) else repeated_behind (earlier ++ r ∷ []) rs
+repeated_behind earlier (r ∷ rs) = if list_any (same_pair r) earlier then Some (length earlier)
+    else repeated_behind (earlier ++ r ∷ []) rs
 
 -- the first rule whose unordered pair an earlier rule has
 abbrev pub first_repeated : List Rule → Option ℕ
@@ -53,7 +54,8 @@ abbrev pub first_lopsided : List Rule → Option ℕ
 first_lopsided rs = position_from is_lopsided 0 (map numbered rs)
 
 -- what comes where nothing is refused, or the refusal
-abbrev pub unless : {A : Type 0} → Option ℕ → (ℕ → RuleFault) → Result A RuleFault → Result A RuleFault
+abbrev pub unless : {A : Type 0} → Option ℕ → (ℕ → RuleFault) → Result A RuleFault
+    → Result A RuleFault
 unless None fault answer = answer
 unless (Some n) fault answer = Err (fault n)
 
@@ -62,8 +64,9 @@ unless (Some n) fault answer = Err (fault n)
 abbrev pub built : List Symbol → List Rule → Result Rules RuleFault
 built ss rs =
     if are_few rs then
-    unless (first_unfit ss rs) Arity (unless (first_uncounted rs) NameCount (unless (first_repeated rs) Twice
-    (unless (first_lopsided rs) Lopsided (Ok (record { symbols = ss; rules = map numbered rs })))))
+    unless (first_unfit ss rs) Arity (unless (first_uncounted rs) NameCount
+    (unless (first_repeated rs) Twice (unless (first_lopsided rs) Lopsided
+    (Ok (record { symbols = ss; rules = map numbered rs })))))
     else Err Limit
 
 -- What each rule set keeps: that its rules are rules, at most one per unordered pair of symbols (Lafont
@@ -81,7 +84,8 @@ found_or turned None other = other
 
 -- the rule of a pair of symbols: its place, and whether the first symbol is its right one only
 abbrev pub rule_for : List Rule → ℕ → ℕ → Option (ℕ × Bool)
-rule_for rs a b = found_or false (position_from (stands_for a b) 0 rs) (found_or true (position_from (stands_for b a) 0 rs) None)
+rule_for rs a b = found_or false (position_from (stands_for a b) 0 rs)
+    (found_or true (position_from (stands_for b a) 0 rs) None)
 
 -- the rule is of this unordered pair of symbols
 abbrev pub has_pair : ℕ → ℕ → Rule → Bool
@@ -99,7 +103,9 @@ pub record IsRuleFor (rs : List Rule) (a b i : ℕ) (turned : Bool) : Type 0 whe
 
 -- a rule set is stored as the pair of its lists
 abbrev pub coded_rules : Coded Rules
-coded_rules = code_by (List Symbol × List Rule) (coded× (coded_list coded_symbol) (coded_list coded_rule)) (λ r. (r.symbols, r.rules)) (λ p. record { symbols = p.0; rules = p.1 }) (λ _. refl)
+coded_rules = code_by (List Symbol × List Rule)
+    (coded× (coded_list coded_symbol) (coded_list coded_rule)) (λ r. (r.symbols, r.rules))
+    (λ p. record { symbols = p.0; rules = p.1 }) (λ _. refl)
 
 -- whether two rule sets are the same: the same symbols and the same rules, in the same order
 abbrev pub rules_eq : Rules → Rules → Bool

@@ -10,4 +10,5 @@ pub record SystemParts : Type 0 where
   pub config : Configuration
 
 abbrev pub coded_system : Coded SystemParts
-coded_system = code_by (Rules × Configuration) (coded× coded_rules coded_configuration) (λ s. (s.rules, s.config)) (λ p. record { rules = p.0; config = p.1 }) (λ _. refl)
+coded_system = code_by (Rules × Configuration) (coded× coded_rules coded_configuration)
+    (λ s. (s.rules, s.config)) (λ p. record { rules = p.0; config = p.1 }) (λ _. refl)

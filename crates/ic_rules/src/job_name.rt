@@ -68,7 +68,8 @@ fn is_name(text: &[u8]) -> bool
 }
 
 fn are_name_bytes(text: &[u8]) -> bool
-    ensures { result ≡ list_all (λ b. is_ascii_lowercase b || is_ascii_digit b || b == 45) text.now }
+    ensures { result
+        ≡ list_all (λ b. is_ascii_lowercase b || is_ascii_digit b || b == 45) text.now }
 {
     text.iter().all(|byte| byte.is_ascii_lowercase() || byte.is_ascii_digit() || *byte == b'-')
 }

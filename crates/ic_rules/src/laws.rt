@@ -15,9 +15,12 @@ ghost use Rattle.ic_rules.specs.declared.limits.TheConstants.{MAX_RULES, MAX_RUL
 /// The rule that `find` answers has the pair of symbols, turned round or not; where it answers none, no rule has the
 /// pair; and in a rule set no other rule has it.
 pub fn find_is_the_one_rule()
-    ensures found { (rs : List Rule) (a b i : ℕ) (turned : Bool) → rule_for rs a b ≡ Some (i, turned) → IsRuleFor rs a b i turned }
-    ensures none { (rs : List Rule) (a b : ℕ) → rule_for rs a b ≡ None → list_any (has_pair a b) rs ≡ false }
-    ensures single { (before after : List Rule) (r : Rule) → first_repeated (before ++ r ∷ after) ≡ None
+    ensures found { (rs : List Rule) (a b i : ℕ) (turned : Bool)
+        → rule_for rs a b ≡ Some (i, turned) → IsRuleFor rs a b i turned }
+    ensures none { (rs : List Rule) (a b : ℕ) → rule_for rs a b ≡ None
+        → list_any (has_pair a b) rs ≡ false }
+    ensures single { (before after : List Rule) (r : Rule)
+        → first_repeated (before ++ r ∷ after) ≡ None
         → list_any (has_pair r.left r.right) before ≡ false }
 {}
 
@@ -31,13 +34,15 @@ pub fn limits_are()
 /// that an earlier one has, and none before it has such a pair.
 pub fn build_takes_rule_sets()
     ensures taken { (rs : Rules) → (built rs.symbols rs.rules ≡ Ok rs) ↔ IsRuleSet rs }
-    ensures twice { (rs : List Rule) (i : ℕ) → first_repeated rs ≡ Some i → IsFirstRepeated [] rs i }
+    ensures twice { (rs : List Rule) (i : ℕ) → first_repeated rs ≡ Some i
+        → IsFirstRepeated [] rs i }
 {}
 
 /// A name that stands nowhere before has as its number how many different names stand before it.
 pub fn names_are_numbered_by_first_occurrence()
     ensures { (before after : List ℕ) (n : ℕ) → list_any (λ m. n == m) before ≡ false
-        → number_among (first_occurrences (before ++ n ∷ after)) n ≡ length (first_occurrences before) }
+        → number_among (first_occurrences (before ++ n ∷ after)) n
+        ≡ length (first_occurrences before) }
 {}
 
 /// A rule of a symbol with itself is taken exactly where exchanging its sides and renaming its names one-to-one gives
@@ -75,8 +80,11 @@ pub fn numbered_rules_stay()
 /// Numbering the names of a list by first occurrence gives 0, 1, .. in the order of their first occurrences, and keeps
 /// that each name stands there exactly twice.
 pub fn numbering_counts_up()
-    ensures order { (ns : List ℕ) → first_occurrences (map (number_among (first_occurrences ns)) ns) ≡ range_with_len 0 (length (first_occurrences ns)) }
-    ensures paired { (ns : List ℕ) → are_paired (map (number_among (first_occurrences ns)) ns) ≡ are_paired ns }
+    ensures order { (ns : List ℕ)
+        → first_occurrences (map (number_among (first_occurrences ns)) ns)
+        ≡ range_with_len 0 (length (first_occurrences ns)) }
+    ensures paired { (ns : List ℕ)
+        → are_paired (map (number_among (first_occurrences ns)) ns) ≡ are_paired ns }
 {}
 
 /// The tests of equality tell exactly whether two rules, or two rule sets, are the same.

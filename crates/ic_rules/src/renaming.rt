@@ -16,7 +16,9 @@ use std::collections::BTreeMap;
 
 /// The names of two agents in the order of the text, each as often as it occurs.
 pub(crate) fn names_of(alloc: Global, left: &[Term], right: &[Term]) -> Result<Vec<u64>, AllocError>
-    ensures { IfOk result (λ list. list.items ≡ flat_map names (map tree left.now) ++ flat_map names (map tree right.now)) }
+    ensures { IfOk result
+        (λ list. list.items
+        ≡ flat_map names (map tree left.now) ++ flat_map names (map tree right.now)) }
 {
     let mut list = names_of_terms(alloc, left)?;
     list.extend_from_slice(&names_of_terms(alloc, right)?)?;
@@ -34,7 +36,8 @@ pub fn has_numbered_names(alloc: Global, left: &Cell, right: &Cell) -> Result<bo
 
 /// Whether the names of a list are 0, 1, .. by first occurrence.
 fn are_counted_up(names: &[u64]) -> bool
-    ensures { IsTrue result ↔ (first_occurrences names.now ≡ range_with_len 0 (length (first_occurrences names.now))) }
+    ensures { IsTrue result
+        ↔ (first_occurrences names.now ≡ range_with_len 0 (length (first_occurrences names.now))) }
 {
     let mut next = 0u64;
     for name in names {
@@ -74,7 +77,8 @@ pub(crate) fn are_paired(alloc: Global, names: &[u64]) -> Result<bool, AllocErro
 
 /// How often each name of a list stands there.
 fn counts_of(alloc: Global, names: &[u64]) -> Result<BTreeMap<u64, usize>, AllocError>
-    ensures { IfOk result (λ counts. (n : ℕ) → unwrap_or (get nat_cmp counts n) 0 ≡ occurrences n names.now) }
+    ensures { IfOk result
+        (λ counts. (n : ℕ) → unwrap_or (get nat_cmp counts n) 0 ≡ occurrences n names.now) }
 {
     let mut counts: BTreeMap<u64, usize> = BTreeMap::new(alloc);
     for name in names {
@@ -90,7 +94,9 @@ pub(crate) fn number_terms(
     terms: &[Term],
     firsts: &IndexSet<u64>,
 ) -> Result<Vec<Term>, AllocError>
-    ensures { IfOk result (λ out. map tree out.items ≡ map (renamed (number_among firsts.now.keys)) (map tree terms.now)) }
+    ensures { IfOk result
+        (λ out. map tree out.items
+        ≡ map (renamed (number_among firsts.now.keys)) (map tree terms.now)) }
 {
     let mut numbered = Vec::with_capacity(alloc, terms.len())?;
     for term in terms {
@@ -101,7 +107,8 @@ pub(crate) fn number_terms(
 
 #[cycle(number)]
 fn number_term(alloc: Global, term: &Term, firsts: &IndexSet<u64>) -> Result<Term, AllocError>
-    ensures { IfOk result (λ out. tree out ≡ renamed (number_among firsts.now.keys) (tree term.now)) }
+    ensures { IfOk result
+        (λ out. tree out ≡ renamed (number_among firsts.now.keys) (tree term.now)) }
 {
     match term {
         Term::Name(name) => {
@@ -117,7 +124,8 @@ fn number_term(alloc: Global, term: &Term, firsts: &IndexSet<u64>) -> Result<Ter
 
 #[cycle(number)]
 fn number_cell(alloc: Global, cell: &Cell, firsts: &IndexSet<u64>) -> Result<Cell, AllocError>
-    ensures { IfOk result (λ out. cell_tree out ≡ renamed (number_among firsts.now.keys) (cell_tree cell.now)) }
+    ensures { IfOk result
+        (λ out. cell_tree out ≡ renamed (number_among firsts.now.keys) (cell_tree cell.now)) }
 {
     let mut args = Vec::with_capacity(alloc, cell.args.len())?;
     for term in &cell.args {

@@ -31,9 +31,22 @@ impl Model for Rule {
 
     ghost coded = { coded_rule };
 
-    ghost view = { λ r. record { left = r.left; right = r.right; left_args = map tree r.left_args.items; right_args = map tree r.right_args.items; names = r.names } };
+    ghost view = { λ r. record {
+      left = r.left;
+      right = r.right;
+      left_args = map tree r.left_args.items;
+      right_args = map tree r.right_args.items;
+      names = r.names;
+    } };
 
-    ghost invariant = { λ r. IsRule (record { left = r.left; right = r.right; left_args = map tree r.left_args.items; right_args = map tree r.right_args.items; names = r.names }) };
+    ghost invariant = { λ r. IsRule
+        (record {
+          left = r.left;
+          right = r.right;
+          left_args = map tree r.left_args.items;
+          right_args = map tree r.right_args.items;
+          names = r.names;
+        }) };
 }
 
 impl Rule {
@@ -83,9 +96,12 @@ impl Rule {
         right: &Cell,
     ) -> Result<Option<Rule>, AllocError>
         requires { are_paired (rule_names (written (left.now, right.now))) ≡ true }
-        ensures lopsided { IfOk result (λ rule. IsNone rule ↔ IsTrue (is_lopsided (numbered (written (left.now, right.now))))) }
+        ensures lopsided { IfOk result
+            (λ rule. IsNone rule
+            ↔ IsTrue (is_lopsided (numbered (written (left.now, right.now))))) }
         ensures sound { IfOk result (λ rule. IfSome rule IsRule) }
-        ensures rule { IfOk result (λ rule. IfSome rule (λ rule. rule ≡ numbered (written (left.now, right.now)))) }
+        ensures rule { IfOk result
+            (λ rule. IfSome rule (λ rule. rule ≡ numbered (written (left.now, right.now)))) }
     {
         let arguments = number(alloc, &left.args, &right.args)?;
         if is_lopsided(alloc, left.sym, right.sym, &arguments)? {
@@ -135,8 +151,12 @@ struct Arguments {
 
 /// The arguments with their names numbered by first occurrence, the left ones first.
 fn number(alloc: Global, left: &[Term], right: &[Term]) -> Result<Arguments, AllocError>
-    ensures left { IfOk result (λ n. map tree n.left.items ≡ map (renamed (number_among (firsts_of left.now right.now))) (map tree left.now)) }
-    ensures right { IfOk result (λ n. map tree n.right.items ≡ map (renamed (number_among (firsts_of left.now right.now))) (map tree right.now)) }
+    ensures left { IfOk result
+        (λ n. map tree n.left.items
+        ≡ map (renamed (number_among (firsts_of left.now right.now))) (map tree left.now)) }
+    ensures right { IfOk result
+        (λ n. map tree n.right.items
+        ≡ map (renamed (number_among (firsts_of left.now right.now))) (map tree right.now)) }
     ensures names { IfOk result (λ n. n.names ≡ length (firsts_of left.now right.now)) }
 {
     let names = names_of(alloc, left, right)?;
@@ -150,7 +170,10 @@ fn number(alloc: Global, left: &[Term], right: &[Term]) -> Result<Arguments, All
 
 /// Whether numbered arguments are their own swap: the right ones before the left ones, numbered anew.
 fn is_own_swap(alloc: Global, arguments: &Arguments) -> Result<bool, AllocError>
-    ensures { IfOk result (λ same. same ≡ is_own_swap (map tree arguments.now.left.items) (map tree arguments.now.right.items) arguments.now.names) }
+    ensures { IfOk result
+        (λ same. same
+        ≡ is_own_swap (map tree arguments.now.left.items)
+        (map tree arguments.now.right.items) arguments.now.names) }
 {
     let swap = number(alloc, &arguments.right, &arguments.left)?;
     let same = same_terms(&arguments.left, &swap.left)
@@ -172,7 +195,11 @@ fn is_lopsided(
     right: u32,
     arguments: &Arguments,
 ) -> Result<bool, AllocError>
-    ensures { IfOk result (λ lopsided. lopsided ≡ (left == right && not (is_own_swap (map tree arguments.now.left.items) (map tree arguments.now.right.items) arguments.now.names))) }
+    ensures { IfOk result
+        (λ lopsided. lopsided
+        ≡ (left == right
+        && not (is_own_swap (map tree arguments.now.left.items)
+        (map tree arguments.now.right.items) arguments.now.names))) }
 {
     if left != right {
         return Ok(false);

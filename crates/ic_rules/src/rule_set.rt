@@ -78,7 +78,8 @@ impl Model for RuleSet {
 
     ghost view = { λ s. record { symbols = s.symbols; rules = s.rules.items } };
 
-    ghost invariant = { λ s. IsRuleSet (record { symbols = s.symbols; rules = s.rules.items }) × ArePlaces s.places s.rules.items };
+    ghost invariant = { λ s. IsRuleSet (record { symbols = s.symbols; rules = s.rules.items })
+        × ArePlaces s.places s.rules.items };
 }
 
 impl RuleSet {
@@ -226,7 +227,9 @@ fn places_of(alloc: Global, rules: &[(Cell, Cell)]) -> Result<HashMap<SymbolPair
 
 /// Whether there is a place for these symbols, in this order or the other.
 fn has_pair(places: &HashMap<SymbolPair, usize>, pair: SymbolPair) -> bool
-    ensures { result ≡ (is_some (get pair_eq places.now pair) || is_some (get pair_eq places.now (record { first = pair.second; second = pair.first }))) }
+    ensures { result
+        ≡ (is_some (get pair_eq places.now pair)
+        || is_some (get pair_eq places.now (record { first = pair.second; second = pair.first }))) }
 {
     let turned = SymbolPair {
         first: pair.second,

@@ -34,7 +34,8 @@ impl System {
     /// The system of these parts, if the configuration is over the symbols of the rules.
     pub fn new(rules: Arc<RuleSet>, config: Config) -> Option<System>
         ensures over { IsSome result ↔ IsTrue (is_over (arc_value rules).symbols config) }
-        ensures system { IfSome result (λ system. system ≡ record { rules = arc_value rules; config = config }) }
+        ensures system { IfSome result
+            (λ system. system ≡ record { rules = arc_value rules; config = config }) }
     {
         if !over(rules.symbols(), &config) {
             return None;

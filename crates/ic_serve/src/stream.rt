@@ -96,7 +96,7 @@ fn settled_line(alloc: Global, text: &[u8]) -> Result<Vec<u8>, StreamFault>
         (λ fault. (fault ≢ StreamFault.Write) × (fault ≢ StreamFault.Read)) }
 {
     let (symbols, config) = read_config(alloc, text)?;
-    let settled = settle(config);
+    let settled = settle(alloc, config)?;
     Ok(config_line(alloc, &symbols, &settled)?)
 }
 

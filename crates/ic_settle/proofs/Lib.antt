@@ -1,3 +1,14 @@
 pub mod Placed
 pub mod PlacedWhole
 pub mod Settles
+pub mod Entries
+pub mod PutEach
+pub mod Delays
+pub mod Links
+pub mod Spots
+pub mod Deciding
+pub mod Passing
+pub mod Taking
+pub mod ListLemmas
+pub mod PassTurns
+pub mod Rebuilt

@@ -1,13 +1,8 @@
 -- What is held put at the first occurrence of a name in a configuration.
-use Rattle.std.proofs.Common.{◌≡◌, ℕ, suc, ◌≤◌, List, [], ◌∷◌, ◌++◌, ◌&&◌, Option, Some, length, map, refl, sym, ◌∙◌, ap, append_assoc, zero-add, arith}
-use Rattle.std.proofs.lemmas.List.Sums.{sum_by-cons}
-use Rattle.std.proofs.Math.Bool.{and_assoc}
-use Rattle.std.specs.List.{flat_map, list_all}
-use Rattle.std.specs.Prelude.{sum_by}
-use Rattle.ic_term.specs.Tree.{Tree, Trees, no_trees, more_trees, Pair, names, names_of, nodes, nodes_of, pair_names, pair_nodes}
-use Rattle.ic_term.specs.Configuration.{names_in, nodes_in, occurrences}
-use Rattle.ic_term.specs.Symbol.{Symbol, is_tree_over, are_trees_over, is_pair_over}
-use Rattle.ic_settle.specs.Settling.{subst, subst_all, subst_pair}
+use Rattle.std.proofs.Common.{◌≡◌, ℕ, suc, ◌≤◌, List, [], ◌∷◌, Option, Some, length, map, refl, sym, ◌∙◌, ap, arith}
+use Rattle.ic_term.specs.Tree.{Tree, more_trees, Pair}
+use Rattle.ic_term.specs.Configuration.{names_in, occurrences}
+use Rattle.ic_settle.specs.Settling.{subst, subst_pair}
 use Rattle.ic_settle.specs.Placing.{placed, placed_all, placed_terms, placed_pair, placed_pairs}
 use Rattle.ic_settle.proofs.Placed.{placed_all-once}
 use Rattle.ic_settle.specs.WholeLaws.{sides, whole, names_of-whole, subst_all-whole, length-map_subst}

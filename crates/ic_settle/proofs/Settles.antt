@@ -41,7 +41,7 @@ settles-skip c d before p after s none = record {
 }
 
 -- the first choice, once the equations before are passed over
-choice_here : (ts : List Tree) (before : List Pair) (p : Pair) (after : List Pair) (b : Binding) → NoneApplicable ts [] before (p ∷ after)
+pub choice_here : (ts : List Tree) (before : List Pair) (p : Pair) (after : List Pair) (b : Binding) → NoneApplicable ts [] before (p ∷ after)
     → binding (names_in ts (before ++ after)) p ≡ Some b
     → first_choice ts [] (before ++ p ∷ after) ≡ Some (record { before = before; after = after; bound = b })
 choice_here ts before p after b passed e = first_choice-passed ts [] before (p ∷ after) passed ∙ rw e refl

@@ -7,3 +7,7 @@ pub mod WholeLaws
 pub mod MiddleLaws
 pub mod StepLaws
 pub mod ChoiceLaws
+pub mod Bindings
+pub mod Waiting
+pub mod Containers
+pub mod Passing

@@ -10,7 +10,7 @@ use Rattle.ic_settle.specs.Settling.{subst, subst_all, occurs}
 pub occurrences-append : (n : ℕ) (ms ns : List ℕ) → occurrences n (ms ++ ns) ≡ occurrences n ms + occurrences n ns
 occurrences-append n ms ns = sum_by-append _ ms ns
 
-occurrences-cons : (n m : ℕ) (ms : List ℕ) → occurrences n (m ∷ ms) ≡ cond (m == n) 1 0 + occurrences n ms
+pub occurrences-cons : (n m : ℕ) (ms : List ℕ) → occurrences n (m ∷ ms) ≡ cond (m == n) 1 0 + occurrences n ms
 occurrences-cons n m ms = sum_by-cons _ m ms
 
 absent_step : (n m : ℕ) (ms : List ℕ) (b : Bool) → (m == n) ≡ b → ((m == n) || occurs n ms) ≡ false

@@ -36,7 +36,8 @@ occurrences n ns = count_by (λ m. m == n) ns
 -- the first name of a list, behind the names seen, that stands there for the third time
 abbrev pub third_from : List ℕ → List ℕ → Option ℕ
 third_from seen [] = None
-third_from seen (n ∷ ns) = if nat_le 2 (occurrences n seen) then Some n else third_from (seen ++ n ∷ []) ns
+third_from seen (n ∷ ns) = if nat_le 2 (occurrences n seen) then Some n
+    else third_from (seen ++ n ∷ []) ns
 
 -- the first name of a list that stands there for the third time
 abbrev pub third_occurrence : List ℕ → Option ℕ
@@ -63,7 +64,8 @@ is_small_enough ts es = nat_le (nodes_in ts es) MAX_NODES && nat_le (length ts) 
 
 -- no limit is passed, and each name is below `next`
 abbrev pub is_within : Configuration → Bool
-is_within c = is_small_enough c.interface c.equations && nat_le c.next MAX_NEXT && list_all (λ n. nat_lt n c.next) (configuration_names c)
+is_within c = is_small_enough c.interface c.equations && nat_le c.next MAX_NEXT
+    && list_all (λ n. nat_lt n c.next) (configuration_names c)
 
 -- the configuration, or its first third occurrence
 abbrev pub unless_third : Configuration → Option ℕ → Result Configuration ConfigFault
@@ -72,7 +74,8 @@ unless_third c (Some n) = Err (Name n)
 
 -- the configuration of these parts, or the first refusal in the order of `ConfigFault`
 abbrev pub restored : Configuration → Result Configuration ConfigFault
-restored c = if is_within c then unless_third c (third_occurrence (configuration_names c)) else Err Limit
+restored c = if is_within c then unless_third c (third_occurrence (configuration_names c))
+    else Err Limit
 
 -- one above the greatest number of a list, or 0 for none
 abbrev pub one_above : List ℕ → ℕ
@@ -85,5 +88,10 @@ configured ts es = record { interface = ts; equations = es; next = one_above (na
 
 -- a configuration is stored as the tuple of its fields
 abbrev pub coded_configuration : Coded Configuration
-coded_configuration = code_by (List Tree × (List Pair × ℕ)) (coded× (coded_list coded_tree) (coded× (coded_list coded_pair) coded_ℕ))
-    (λ c. (c.interface, (c.equations, c.next))) (λ p. record { interface = p.0; equations = p.1.0; next = p.1.1 }) (λ _. refl)
+coded_configuration = code_by (List Tree × (List Pair × ℕ))
+    (coded× (coded_list coded_tree) (coded× (coded_list coded_pair) coded_ℕ))
+    (λ c. (c.interface, (c.equations, c.next))) (λ p. record {
+      interface = p.0;
+      equations = p.1.0;
+      next = p.1.1;
+    }) (λ _. refl)

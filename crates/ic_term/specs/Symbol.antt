@@ -19,7 +19,8 @@ pub record Symbol : Type 0 where
 -- A symbol's text begins with A..Z or 0..9 and goes on with A..Z, a..z and 0..9 (this project's choice).
 abbrev pub is_symbol_text : List ℕ → Bool
 is_symbol_text [] = false
-is_symbol_text (b ∷ bs) = (is_ascii_uppercase b || is_ascii_digit b) && list_all is_ascii_alphanumeric bs
+is_symbol_text (b ∷ bs) = (is_ascii_uppercase b || is_ascii_digit b)
+    && list_all is_ascii_alphanumeric bs
 
 -- the limits of one symbol (this project's choice)
 abbrev pub fits_limits : List ℕ → ℕ → Bool
@@ -31,7 +32,8 @@ texts ss = map (λ s. s.text) ss
 -- What each list of symbols keeps: the limits, and that no two have one text.
 pub record AreSymbols (ss : List Symbol) : Type 0 where
   pub few : length ss ≤ MAX_SYMBOLS
-  pub each : AllByRecursion (λ s. IsTrue (is_symbol_text s.text) × IsTrue (fits_limits s.text s.arity)) ss
+  pub each : AllByRecursion
+      (λ s. IsTrue (is_symbol_text s.text) × IsTrue (fits_limits s.text s.arity)) ss
   pub distinct : IsDistinct bytes_eq (texts ss)
 
 -- the number of the symbol with this text
@@ -58,11 +60,13 @@ number_found ss arity (Some n) = if has_arity arity (slice_get ss n) then Ok n e
 
 -- the number of a text with this arity among the symbols, or the first refusal in the order of `SymbolFault`
 abbrev pub numbered : List Symbol → List ℕ → ℕ → Result ℕ SymbolFault
-numbered ss text arity = if fits_limits text arity then number_found ss arity (number_of_text ss text) else Err Limit
+numbered ss text arity = if fits_limits text arity
+    then number_found ss arity (number_of_text ss text) else Err Limit
 
 -- the symbols once a text has its number: a new one goes last
 abbrev pub with_symbol : List Symbol → List ℕ → ℕ → List Symbol
-with_symbol ss text arity = if is_some (number_of_text ss text) then ss else ss ++ record { text = text; arity = arity } ∷ []
+with_symbol ss text arity = if is_some (number_of_text ss text) then ss
+    else ss ++ record { text = text; arity = arity } ∷ []
 
 -- The number is this answer, unless a growth was refused.
 abbrev pub Answers : Result ℕ SymbolFault → Result ℕ SymbolFault → Type 0
@@ -75,7 +79,8 @@ Answers (Err Memory) answer = Unit {0}
 abbrev mutual
   pub is_tree_over : List Symbol → Tree → Bool
   is_tree_over ss (name n) = true
-  is_tree_over ss (agent s ts) = has_arity (length (list_of ts)) (slice_get ss s) && are_trees_over ss ts
+  is_tree_over ss (agent s ts) = has_arity (length (list_of ts)) (slice_get ss s)
+      && are_trees_over ss ts
 
   pub are_trees_over : List Symbol → Trees → Bool
   are_trees_over ss no_trees = true
@@ -89,7 +94,8 @@ abbrev pub is_over : List Symbol → Configuration → Bool
 is_over ss c = list_all (is_tree_over ss) c.interface && list_all (is_pair_over ss) c.equations
 
 abbrev pub coded_symbol : Coded Symbol
-coded_symbol = code_by (List ℕ × ℕ) (coded× (coded_list coded_ℕ) coded_ℕ) (λ s. (s.text, s.arity)) (λ p. record { text = p.0; arity = p.1 }) (λ _. refl)
+coded_symbol = code_by (List ℕ × ℕ) (coded× (coded_list coded_ℕ) coded_ℕ) (λ s. (s.text, s.arity))
+    (λ p. record { text = p.0; arity = p.1 }) (λ _. refl)
 
 -- whether two symbols are the same
 abbrev pub symbol_eq : Symbol → Symbol → Bool

@@ -49,9 +49,18 @@ impl Model for Config {
 
     ghost coded = { coded_configuration };
 
-    ghost view = { λ c. record { interface = map tree c.interface.items; equations = map pair c.equations.items; next = c.next } };
+    ghost view = { λ c. record {
+      interface = map tree c.interface.items;
+      equations = map pair c.equations.items;
+      next = c.next;
+    } };
 
-    ghost invariant = { λ c. IsConfiguration (record { interface = map tree c.interface.items; equations = map pair c.equations.items; next = c.next }) };
+    ghost invariant = { λ c. IsConfiguration
+        (record {
+          interface = map tree c.interface.items;
+          equations = map pair c.equations.items;
+          next = c.next;
+        }) };
 }
 
 impl Config {
@@ -61,7 +70,8 @@ impl Config {
         interface: Vec<Term>,
         equations: Vec<Equation>,
     ) -> Result<Config, ConfigFault>
-        ensures { Answers result (restored (configured (map tree interface.items) (map pair equations.items))) }
+        ensures { Answers result
+            (restored (configured (map tree interface.items) (map pair equations.items))) }
     {
         let names = small_names(alloc, &interface, &equations)?;
         let next = one_above(&names);
@@ -75,7 +85,12 @@ impl Config {
         equations: Vec<Equation>,
         next: u64,
     ) -> Result<Config, ConfigFault>
-        ensures { Answers result (restored (record { interface = map tree interface.items; equations = map pair equations.items; next = next })) }
+        ensures { Answers result
+            (restored (record {
+              interface = map tree interface.items;
+              equations = map pair equations.items;
+              next = next;
+            })) }
     {
         let names = small_names(alloc, &interface, &equations)?;
         Config::of_names(alloc, interface, equations, next, &names)
@@ -89,9 +104,16 @@ impl Config {
         next: u64,
         names: &[u64],
     ) -> Result<Config, ConfigFault>
-        requires small { IsTrue (is_small_enough (map tree interface.items) (map pair equations.items)) }
-        requires names { names.now ≡ names_in (map tree interface.items) (map pair equations.items) }
-        ensures { Answers result (restored (record { interface = map tree interface.items; equations = map pair equations.items; next = next })) }
+        requires small { IsTrue
+            (is_small_enough (map tree interface.items) (map pair equations.items)) }
+        requires names { names.now
+            ≡ names_in (map tree interface.items) (map pair equations.items) }
+        ensures { Answers result
+            (restored (record {
+              interface = map tree interface.items;
+              equations = map pair equations.items;
+              next = next;
+            })) }
     {
         if next > MAX_NEXT || !are_below(names, next) {
             return Err(ConfigFault::Limit);
@@ -108,8 +130,18 @@ impl Config {
 
     /// The configuration of parts that are known to make one.
     pub fn from_parts(interface: Vec<Term>, equations: Vec<Equation>, next: u64) -> Config
-        requires { IsConfiguration (record { interface = map tree interface.items; equations = map pair equations.items; next = next }) }
-        ensures { result ≡ record { interface = map tree interface.items; equations = map pair equations.items; next = next } }
+        requires { IsConfiguration
+            (record {
+              interface = map tree interface.items;
+              equations = map pair equations.items;
+              next = next;
+            }) }
+        ensures { result
+            ≡ record {
+              interface = map tree interface.items;
+              equations = map pair equations.items;
+              next = next;
+            } }
     {
         Config {
             interface,
@@ -175,10 +207,14 @@ fn small_names(
     interface: &[Term],
     equations: &[Equation],
 ) -> Result<Vec<u64>, ConfigFault>
-    ensures small { IfOk result (λ _. IsTrue (is_small_enough (map tree interface.now) (map pair equations.now))) }
-    ensures names { IfOk result (λ names. names.items ≡ names_in (map tree interface.now) (map pair equations.now)) }
-    ensures limit { result ≡ Err ConfigFault.Limit → is_small_enough (map tree interface.now) (map pair equations.now) ≡ false }
-    ensures name { IfErr result (λ fault. (fault ≡ ConfigFault.Limit) ⊎ (fault ≡ ConfigFault.Memory)) }
+    ensures small { IfOk result
+        (λ _. IsTrue (is_small_enough (map tree interface.now) (map pair equations.now))) }
+    ensures names { IfOk result
+        (λ names. names.items ≡ names_in (map tree interface.now) (map pair equations.now)) }
+    ensures limit { result ≡ Err ConfigFault.Limit
+        → is_small_enough (map tree interface.now) (map pair equations.now) ≡ false }
+    ensures name { IfErr result
+        (λ fault. (fault ≡ ConfigFault.Limit) ⊎ (fault ≡ ConfigFault.Memory)) }
 {
     if nodes_in(interface, equations) > MAX_NODES || interface.len() > MAX_INTERFACE {
         return Err(ConfigFault::Limit);
@@ -207,7 +243,8 @@ fn nodes_of_equations(equations: &[Equation]) -> u64
 }
 
 fn append_equation_names(equations: &[Equation], names: &mut Vec<u64>) -> Result<(), AllocError>
-    ensures { OnOk result (names.new.items ≡ names.old.items ++ flat_map pair_names (map pair equations.now)) }
+    ensures { OnOk result
+        (names.new.items ≡ names.old.items ++ flat_map pair_names (map pair equations.now)) }
 {
     for equation in equations {
         equation.append_names(names)?;

@@ -56,7 +56,8 @@ impl Model for Symbols {
 
     ghost view = { λ s. map (λ e. record { text = e.0.items; arity = e.1 }) s.arities.entries };
 
-    ghost invariant = { λ s. AreSymbols (map (λ e. record { text = e.0.items; arity = e.1 }) s.arities.entries) };
+    ghost invariant = { λ s. AreSymbols
+        (map (λ e. record { text = e.0.items; arity = e.1 }) s.arities.entries) };
 }
 
 impl Symbols {
@@ -86,7 +87,8 @@ impl Symbols {
     pub fn number(&mut self, text: &[u8], arity: usize) -> Result<u32, SymbolFault>
         requires { IsTrue (is_symbol_text text.now) }
         ensures number { Answers result (numbered self.old text.now arity) }
-        ensures symbols { self.new ≡ if is_ok result then with_symbol self.old text.now arity else self.old }
+        ensures symbols { self.new ≡ if is_ok result then with_symbol self.old text.now arity
+            else self.old }
     {
         if text.len() > MAX_SYMBOL_TEXT || arity > MAX_ARITY {
             return Err(SymbolFault::Limit);
@@ -125,7 +127,8 @@ impl Symbols {
     fn has_same(&self, other: &Symbols, sym: u32) -> bool
         requires here { sym < length self.now }
         requires there { sym < length other.now }
-        ensures { IfSome (slice_get self.now sym) (λ s. IfSome (slice_get other.now sym) (λ t. result ≡ symbol_eq s t)) }
+        ensures { IfSome (slice_get self.now sym)
+            (λ s. IfSome (slice_get other.now sym) (λ t. result ≡ symbol_eq s t)) }
     {
         self.text(sym) == other.text(sym) && self.arity(sym) == other.arity(sym)
     }

@@ -1,12 +1,10 @@
 -- `next` of what is read is one above its greatest name.
-use Rattle.std.proofs.Common.{◌≡◌, ℕ, ◌<◌, ◌≤◌, Bool, true, false, cond, List, Option, None, Some, Result, Ok, Err, length, refl, sym, ap, subst, ⊎_elim}
+use Rattle.std.proofs.Common.{◌≡◌, ℕ, Bool, true, false, cond, List, Option, None, Some, Result, Ok, Err, refl, ap, subst}
 use Rattle.std.specs.List.{list_all}
-use Rattle.std.proofs.lemmas.Bool.{cases_lt}
 use Rattle.ic_term.specs.Symbol.{Symbol}
 use Rattle.ic_term.specs.Configuration.{Configuration, configuration_names, one_above, third_occurrence}
 use Rattle.ic_rules.specs.RuleSet.{first_uncounted, first_repeated, first_lopsided}
 use Rattle.ic_rules.specs.System.{SystemParts}
-use Rattle.ic_text.specs.declared.limits.TheConstants.{MAX_TEXT}
 use Rattle.ic_text.specs.declared.fault.TextFault.{TextFault}
 use Rattle.ic_text.specs.declared.fault.TextFault.TheVariants.{Limit, Arity, NameCount, Name, Twice, Lopsided}
 use Rattle.ic_text.specs.Source.{IsPhrase, phrase_words, phrase_names}

@@ -1,22 +1,14 @@
 -- A text spells at most one configuration.
-use Rattle.std.proofs.Common.{◌≡◌, ℕ, ◌<◌, ◌≤◌, Bool, true, false, cond, List, [], ◌∷◌, ◌++◌, Option, None, Some, Result, Err, length, take, drop, refl, sym, ap, ◌∙◌, ⊎_elim, arith}
+use Rattle.std.proofs.Common.{◌≡◌, cond, List, [], ◌∷◌, ◌++◌, length, take, drop, refl, sym, ap, ◌∙◌, arith}
 use Rattle.std.specs.List.{flat_map, AllByRecursion}
-use Rattle.std.proofs.lemmas.Bool.{false≢true, cases_lt}
 use Rattle.std.proofs.lemmas.List.{take_at, drop_at}
 use Rattle.ic_term.specs.Symbol.{Symbol}
-use Rattle.ic_term.specs.Configuration.{Configuration}
-use Rattle.ic_text.specs.declared.limits.TheConstants.{MAX_TEXT}
 use Rattle.ic_text.specs.declared.syntax.Part.TheVariants.{Begin}
 use Rattle.ic_text.specs.declared.syntax.Spot.TheVariants.{After}
-use Rattle.ic_text.specs.declared.fault.TextFault.{TextFault}
-use Rattle.ic_text.specs.declared.fault.TextFault.TheVariants.{Syntax, Limit}
-use Rattle.ic_text.specs.Token.{Token, tokens}
 use Rattle.ic_text.specs.Name.{is_name, name_number}
 use Rattle.ic_text.specs.Source.{Source, leaf, node, Sources, no_sources, more_sources, Sides, Phrase, IsSource, AreSources, IsPhrase, phrase_words, count_of}
-use Rattle.ic_text.specs.Sense.{sense}
 use Rattle.ic_text.specs.inner.Syntax.{accepts}
 use Rattle.ic_text.specs.inner.Prefix.{Scanned, prefix, prefix_of_sources, phrase_prefix, scan}
-use Rattle.ic_text.specs.Text.{Spells, Reads}
 use Rattle.ic_text.proofs.NameLemmas.{is_name-name_text, name_number-name_text, isnt_name-symbol}
 use Rattle.ic_text.proofs.Accepted.{at}
 use Rattle.ic_text.proofs.Grammar.{AreSides}

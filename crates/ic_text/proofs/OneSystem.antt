@@ -1,20 +1,13 @@
 -- A text spells at most one system.
-use Rattle.std.proofs.Common.{◌≡◌, ℕ, ◌<◌, ◌≤◌, Bool, true, false, List, [], ◌∷◌, ◌++◌, Option, None, Some, Result, Err, length, map, refl, sym, ap, ◌∙◌, append_assoc, ⊎_elim, arith}
+use Rattle.std.proofs.Common.{◌≡◌, List, [], ◌∷◌, ◌++◌, map, refl, sym, ap, ◌∙◌, append_assoc}
 use Rattle.std.specs.List.{AllByRecursion}
-use Rattle.std.proofs.lemmas.Bool.{false≢true, cases_lt}
-use Rattle.ic_rules.specs.System.{SystemParts}
-use Rattle.ic_text.specs.declared.limits.TheConstants.{MAX_TEXT}
 use Rattle.ic_text.specs.declared.token.Mark.TheVariants.{RightBrace, Less, Greater, Bar, Equals, Comma, Semicolon, Open}
 use Rattle.ic_text.specs.declared.syntax.Part.TheVariants.{Start}
 use Rattle.ic_text.specs.declared.syntax.Spot.TheVariants.{After}
-use Rattle.ic_text.specs.declared.fault.TextFault.{TextFault}
-use Rattle.ic_text.specs.declared.fault.TextFault.TheVariants.{Syntax, Limit}
-use Rattle.ic_text.specs.Token.{Token, word, mark, tokens}
+use Rattle.ic_text.specs.Token.{Token, word, mark}
 use Rattle.ic_text.specs.Source.{Source, leaf, node, Sources, no_sources, more_sources, Sides, Phrase, IsPhrase, words, argument_words, further_words, sides_words, separated, phrase_words}
 use Rattle.ic_text.specs.inner.Syntax.{accepts}
 use Rattle.ic_text.specs.SystemSource.{AgentPhrase, RulePhrase, SystemPhrase, IsRulePhrase, IsSystemPhrase, agent_source, rule_words, rules_words, system_words}
-use Rattle.ic_text.specs.SystemSense.{system_sense}
-use Rattle.ic_text.specs.SystemText.{SpellsSystem, ReadsSystem}
 use Rattle.ic_text.specs.inner.Braces.{split_at_brace}
 use Rattle.ic_text.proofs.Accepted.{at}
 use Rattle.ic_text.proofs.Grammar.{behind_commas, AreSides}

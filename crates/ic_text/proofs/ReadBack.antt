@@ -1,16 +1,15 @@
 -- What is printed of a configuration that was read is read as the same.
-use Rattle.std.proofs.Common.{◌≡◌, ℕ, zero, suc, ◌<◌, ◌≤◌, true, not, List, [], ◌∷◌, ◌++◌, Option, None, Some, Ok, map, length, refl, sym, ap, ⊎_elim, subst, ◌∙◌, arith}
+use Rattle.std.proofs.Common.{◌≡◌, ℕ, zero, suc, ◌≤◌, true, not, List, [], ◌∷◌, ◌++◌, Option, None, Some, Ok, map, length, refl, sym, ap, subst, ◌∙◌, arith}
 use Rattle.std.specs.Prelude.{unwrap_or, option_and_then, get_or}
 use Rattle.std.specs.List.{flat_map, filter, list_all, slice_get}
 use Rattle.std.specs.Str.{bytes_eq}
-use Rattle.std.proofs.lemmas.Bool.{and_parts, false≢true, cases_lt}
+use Rattle.std.proofs.lemmas.Bool.{and_parts, false≢true}
 use Rattle.std.proofs.lemmas.List.Folds.{list_all-append}
 use Rattle.std.proofs.lemmas.List.Quantifiers.{position-Some}
 use Rattle.std.proofs.lemmas.List.Sums.{length-filter, count_by-le-length}
 use Rattle.std.proofs.lemmas.Slice.Eq.{bytes_eq-Decides}
 use Rattle.ic_term.specs.Symbol.{Symbol, texts, number_of_text, has_arity}
 use Rattle.ic_term.specs.Configuration.{Configuration}
-use Rattle.ic_text.specs.declared.limits.TheConstants.{MAX_TEXT}
 use Rattle.ic_text.specs.Token.{is_blank}
 use Rattle.ic_text.specs.Source.{Source, leaf, node, Sources, no_sources, more_sources, Sides, Phrase, IsPhrase, source_symbols, symbols_of_sources, phrase_symbols, phrase_words, count_of}
 use Rattle.ic_text.specs.Sense.{symbol_table, has_its_arity, number_in_table, numbered_tree, numbered_trees, numbered_pair, numbered_phrase, sense}

@@ -13,10 +13,9 @@ use Rattle.ic_term.specs.Symbol.{Symbol}
 use Rattle.ic_text.specs.Token.{Token, word, mark, is_word_byte, mark_of, word_of, before, tokens_at, followed, tokens_behind, words_among, tokens}
 use Rattle.ic_text.specs.Source.{Phrase, phrase_words, phrase_nodes}
 use Rattle.ic_text.specs.SystemSource.{SystemPhrase, system_words, rule_nodes}
-use Rattle.ic_text.specs.Reading.{IsSpelling}
 use Rattle.ic_text.specs.inner.Prefix.{phrase_prefix, rules_prefix}
 use Rattle.ic_text.specs.inner.Syntax.{step, is_end, at_beginning, accepts}
-use Rattle.ic_text.specs.inner.Survey.{take_one, taken, taken_behind, taken_at, counted, surveyed}
+use Rattle.ic_text.specs.inner.Survey.{take_one, taken, taken_behind, taken_at, counted, surveyed, Tells}
 use Rattle.ic_text.proofs.TokenLemmas.{ended_run}
 use Rattle.ic_text.proofs.ReadOnce.{IsTold, some-injective, none_is_some}
 use Rattle.ic_text.proofs.InTextOrder.{among-phrase, among-system}
@@ -121,11 +120,6 @@ module _ (text : List ℕ) (start place b : ℕ) (inside : place < length text) 
   goes_on q r apart run byte =
       ap (λ o. counted (taken_behind o left)) byte
       ∙ ap (λ o. counted (taken_behind (taken_behind o (tokens_at b (mark_of b))) left)) run ∙ ended apart
-
--- what a survey says of a text that may spell a phrase
-abbrev pub Tells : {P : Type 0} → (P → Type 0) → (P → List Token) → List ℕ → Option Counts → Type 0
-Tells {P} IsOne words text None = (p : P) → IsSpelling IsOne words text p → ⊥
-Tells {P} IsOne words text (Some counts) = (p : P) × IsSpelling IsOne words text p × (counts.words ≡ length (words_among (words p)))
 
 module _ {P : Type 0} (IsOne : P → Type 0) (words : P → List Token) (told : IsTold IsOne words) (part : Part)
     (tested : (ts : List Token) → told.test ts ≡ accepts (Some (at_beginning part)) ts) where

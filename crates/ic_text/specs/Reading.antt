@@ -11,8 +11,8 @@ pub record IsSpelling {P : Type 0} (IsOne : P → Type 0) (words : P → List To
   pub phrase : IsOne p
   pub tokens : tokens text ≡ Some (words p)
 
--- What a text is read as: a limit where the text is too long, else the sense of what it spells, else
--- no phrase (this project's choice).
+-- What a text is read as: a limit where the text is too long, else the sense of what it spells,
+-- else no phrase (this project's choice).
 pub record IsReading {P V : Type 0} (SpellsOne : List ℕ → P → Type 0)
     (sense : P → Result V TextFault) (text : List ℕ) (answer : Result V TextFault) : Type 0 where
   pub long : MAX_TEXT < length text → answer ≡ Err Limit

@@ -63,8 +63,8 @@ abbrev pub unless_third_name : {A : Type 0} → A → Option ℕ → Result A Te
 unless_third_name v None = Ok v
 unless_third_name v (Some n) = Err (Name n)
 
--- What a configuration that is written means, or the first refusal: a limit that is passed, a symbol
--- with two arities, the first third occurrence of a name (the order is this project's choice).
+-- What a configuration that is written means, or the first refusal: a limit that is passed, a
+-- symbol with two arities, the first third occurrence of a name (the order is this project's choice).
 abbrev pub sense : Phrase → Result (List Symbol × Configuration) TextFault
 sense p =
     if is_in_limits p then

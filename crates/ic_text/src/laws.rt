@@ -74,8 +74,8 @@ pub fn bytes_are_blanks_marks_or_of_words()
     ensures marks { (a b : List ℕ) (m : Mark) →
         tokens (a ++ mark_byte m ∷ b)
         ≡ followed (tokens a) (followed (Some (mark m ∷ [])) (tokens b)) }
-    ensures mark_bytes { map mark_byte (LeftBrace ∷ RightBrace ∷ Less ∷ Greater ∷ Bar ∷ Equals ∷ Comma ∷ Semicolon
-        ∷ Open ∷ Close ∷ []) ≡ codes "{}<>|=,;()" }
+    ensures mark_bytes { map mark_byte (LeftBrace ∷ RightBrace ∷ Less ∷ Greater ∷ Bar ∷ Equals
+        ∷ Comma ∷ Semicolon ∷ Open ∷ Close ∷ []) ≡ codes "{}<>|=,;()" }
     ensures others { (a b : List ℕ) (c : ℕ) → is_ascii_alphanumeric c ≡ false →
         AllByRecursion (λ x. c ≢ x) (32 ∷ 9 ∷ 10 ∷ 13 ∷ codes "-{}<>|=,;()") →
         tokens (a ++ c ∷ b) ≡ None }

@@ -1,13 +1,11 @@
 //! A first pass over the bytes of a text: whether they are a phrase of the grammar, and of how many words and tokens. It
 //! takes no memory, so that a text that is refused fills none.
 
-ghost use Rattle.std.specs.Prelude.{◌≡◌, ◌≤◌, ◌-◌, ◌^◌, [], ◌∷◌, Some, IfSome, IfNone, length};
-ghost use Rattle.ic_text.specs.inner.Survey.{IsWithin, HasRisen, taken, taken_at, counted, surveyed, ConfigFound, SystemFound};
+ghost use Rattle.std.specs.Prelude.{◌≡◌, ◌≤◌, ◌-◌, ◌^◌, [], ◌∷◌, Some, IfSome, length};
+ghost use Rattle.ic_text.specs.inner.Survey.{IsWithin, HasRisen, taken, taken_at, counted, surveyed, Tells};
 ghost use Rattle.ic_text.specs.inner.Tokens.{token_of};
-ghost use Rattle.ic_text.specs.Source.{Phrase};
-ghost use Rattle.ic_text.specs.SystemSource.{SystemPhrase};
-ghost use Rattle.ic_text.specs.SystemText.{SpellsSystem};
-ghost use Rattle.ic_text.specs.Text.{Spells};
+ghost use Rattle.ic_text.specs.Source.{IsPhrase, phrase_words};
+ghost use Rattle.ic_text.specs.SystemSource.{IsSystemPhrase, system_words};
 ghost use Rattle.ic_text.specs.Token.{word_of, tokens};
 
 use crate::limits::MAX_TEXT;
@@ -103,8 +101,7 @@ fn survey(part: Part, text: &[u8]) -> Option<Counts>
 /// The words and tokens of a configuration, or None where a text spells none.
 pub(crate) fn survey_config(text: &[u8]) -> Option<Counts>
     requires { length text.now ≤ MAX_TEXT }
-    ensures found { IfSome result (λ counts. ConfigFound text.now counts.words) }
-    ensures none { IfNone result ((p : Phrase) → ¬ Spells text.now p) }
+    ensures { Tells IsPhrase phrase_words text.now result }
 {
     survey(Part::Begin, text)
 }
@@ -112,8 +109,7 @@ pub(crate) fn survey_config(text: &[u8]) -> Option<Counts>
 /// The words and tokens of a system, or None where a text spells none.
 pub(crate) fn survey_system(text: &[u8]) -> Option<Counts>
     requires { length text.now ≤ MAX_TEXT }
-    ensures found { IfSome result (λ counts. SystemFound text.now counts.words) }
-    ensures none { IfNone result ((s : SystemPhrase) → ¬ SpellsSystem text.now s) }
+    ensures { Tells IsSystemPhrase system_words text.now result }
 {
     survey(Part::Start, text)
 }

@@ -29,7 +29,8 @@ agent_item arity (Err e) = Err e
 abbrev pub item_found : List Symbol → Symbol → Result Item SymbolFault
 item_found table w =
     if is_name w.text
-    then (if nat_le (name_number w.text) MAX_NAME then Ok (Name (name_number w.text)) else Err OverLimit)
+    then (if nat_le (name_number w.text) MAX_NAME then Ok (Name (name_number w.text))
+    else Err OverLimit)
     else agent_item w.arity (numbered table w.text w.arity)
 
 -- the table behind a word, and behind a list of words

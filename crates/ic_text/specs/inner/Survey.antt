@@ -1,16 +1,12 @@
--- For private functions: the first pass over a text, which checks its syntax and counts its words and
--- tokens as they come.
-use Rattle.std.specs.Prelude.{◌≡◌, ℕ, ◌+◌, ◌≤◌, List, [], ◌∷◌, Option, None, Some, length, sum_by, ◌*◌, if◌then◌else◌, option_and_then}
+-- For private functions: the first pass over a text, which checks its syntax and counts its words
+-- and tokens as they come.
+use Rattle.std.specs.Prelude.{◌≡◌, ℕ, ◌+◌, ◌≤◌, List, [], ◌∷◌, Option, None, Some, length, if◌then◌else◌, option_and_then}
 use Rattle.std.specs.Option.{option_map}
 use Rattle.ic_text.specs.declared.syntax.Part.{Part}
-use Rattle.ic_text.specs.declared.syntax.State.{State}
 use Rattle.ic_text.specs.declared.survey.Counts.{Counts}
 use Rattle.ic_text.specs.declared.survey.Progress.{Progress}
 use Rattle.ic_text.specs.Token.{Token, mark_of, tokens_at, words_among}
-use Rattle.ic_text.specs.Source.{Phrase, phrase_nodes}
-use Rattle.ic_text.specs.SystemSource.{SystemPhrase, rule_nodes}
-use Rattle.ic_text.specs.Text.{Spells}
-use Rattle.ic_text.specs.SystemText.{SpellsSystem}
+use Rattle.ic_text.specs.Reading.{IsSpelling}
 use Rattle.ic_text.specs.inner.Syntax.{step, is_end, at_beginning}
 
 -- no count is above a number
@@ -61,12 +57,9 @@ surveyed part o = counted (taken_behind (Some (record {
   counts = record { words = 0; tokens = 0 };
 })) o)
 
--- a text spells a configuration of so many words
-abbrev pub ConfigFound : List ℕ → ℕ → Type 0
-ConfigFound text words = (p : Phrase) × Spells text p × (words ≡ phrase_nodes p)
-
--- a text spells a system of so many words: the sides of its rules, the nodes of their arguments, and
--- those of its configuration
-abbrev pub SystemFound : List ℕ → ℕ → Type 0
-SystemFound text words = (s : SystemPhrase) × SpellsSystem text s
-    × (words ≡ 2 * length s.rules + sum_by rule_nodes s.rules + phrase_nodes s.config)
+-- what a survey of a text tells: that it spells no phrase of a kind, or one of so many words
+abbrev pub Tells : {P : Type 0} → (P → Type 0) → (P → List Token) → List ℕ → Option Counts → Type 0
+Tells {P} IsOne phrase_tokens text None = (p : P) → ¬ IsSpelling IsOne phrase_tokens text p
+Tells {P} IsOne phrase_tokens text (Some counts) =
+    (p : P) × IsSpelling IsOne phrase_tokens text p
+    × (counts.words ≡ length (words_among (phrase_tokens p)))

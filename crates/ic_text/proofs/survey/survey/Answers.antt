@@ -1,4 +1,4 @@
-use Rattle.std.proofs.Common.{◌≡◌, ◌-◌, ◌≤◌, Some, sym, ap, ◌∙◌, refl, arith, get_or, take, drop, length}
+use Rattle.std.proofs.Common.{◌-◌, ◌≤◌, Some, sym, ap, ◌∙◌, refl, arith, get_or, take, drop, length}
 use Rattle.std.proofs.lemmas.List.{length-take}
 use Rattle.ic_text.specs.inner.Survey.{taken_behind, counted}
 use Rattle.ic_text.proofs.TokenLemmas.{joined_run}

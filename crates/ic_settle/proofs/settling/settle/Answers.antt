@@ -1,0 +1,52 @@
+use Rattle.std.proofs.Common.{◌≡◌, ◌∙◌, List, IsTrue, length, map, sym, ap, subst as transport}
+use Rattle.std.proofs.lemmas.List.{with_items_is}
+use Rattle.ic_term.specs.declared.term.Equation.{Equation}
+use Rattle.ic_term.specs.Symbol.{Symbol, is_over}
+use Rattle.ic_term.specs.Configuration.{Configuration, IsConfiguration}
+use Rattle.ic_term.specs.Term.{tree, pair}
+use Rattle.ic_settle.specs.NameSteps.{NameStep, NameSteps}
+use Rattle.ic_settle.specs.Passing.{put_in}
+use Rattle.ic_settle.specs.Waiting.{RebuildsPairs}
+use Rattle.ic_settle.proofs.Rebuilt.{rebuilt}
+use Rattle.ic_settle.proofs.settling.settle.Goals as goal
+
+pub from_parts-requires : goal.from_parts-requires
+from_parts-requires c =
+    let parts = c.in_ok-interface.ensures in
+    let f = c.in_ok-interface.field-0 in
+    let ts = c.rebuild_terms.new.terms in
+    let ps = c.rebuild_equations.new.equations in
+    let a : length ts ≡ f.interface.len = c.rebuild_terms.auto.terms ∙ c.deref_mut.ensures.len in
+    let b : length ps ≡ f.kept.len = c.rebuild_equations.auto.equations ∙ c.deref_mut-2.ensures.len in
+    let E : List Equation → Type 0 = λ l. RebuildsPairs c.rebuild_terms.new.self.terms.entries c.rebuild_equations.new.self.terms.entries (map pair l) (map pair ps) in
+    let given : map tree c.deref_mut.result.now ≡ c.args.config.interface = ap (map tree) c.deref_mut.ensures.value ∙ parts.interface in
+    let made = rebuilt c.args.config (map pair f.kept.items) f.bindings.terms.entries c.rebuild_terms.new.self.terms.entries c.rebuild_equations.new.self.terms.entries
+    (map tree c.deref_mut.result.now) (map tree ts) (map pair ps) f.next parts.passed given parts.next c.rebuild_terms.ensures
+    (transport E c.deref_mut-2.ensures.value c.rebuild_equations.ensures) in
+    let P : Configuration → Type 0 = IsConfiguration in
+    rw (with_items_is f.interface ts a, with_items_is f.kept ps b) (transport P (sym made) parts.passed.valid)
+
+pub returns : goal.returns
+returns c =
+    let parts = c.in_ok-interface.ensures in
+    let f = c.in_ok-interface.field-0 in
+    let ts = c.rebuild_terms.new.terms in
+    let ps = c.rebuild_equations.new.equations in
+    let a : length ts ≡ f.interface.len = c.rebuild_terms.auto.terms ∙ c.deref_mut.ensures.len in
+    let b : length ps ≡ f.kept.len = c.rebuild_equations.auto.equations ∙ c.deref_mut-2.ensures.len in
+    let E : List Equation → Type 0 = λ l. RebuildsPairs c.rebuild_terms.new.self.terms.entries c.rebuild_equations.new.self.terms.entries (map pair l) (map pair ps) in
+    let given : map tree c.deref_mut.result.now ≡ c.args.config.interface = ap (map tree) c.deref_mut.ensures.value ∙ parts.interface in
+    let made = rebuilt c.args.config (map pair f.kept.items) f.bindings.terms.entries c.rebuild_terms.new.self.terms.entries c.rebuild_equations.new.self.terms.entries
+    (map tree c.deref_mut.result.now) (map tree ts) (map pair ps) f.next parts.passed given parts.next c.rebuild_terms.ensures
+    (transport E c.deref_mut-2.ensures.value c.rebuild_equations.ensures) in
+    let whole = rw (with_items_is f.interface ts a, with_items_is f.kept ps b) at c.from_parts.ensures in
+    let result : c.from_parts.result ≡ put_in parts.passed.bs c.args.config (map pair f.kept.items) = whole ∙ made in
+    let R : Configuration → Type 0 = λ d. NameSteps c.args.config d in
+    let N : Configuration → Type 0 = λ d. (e : Configuration) → ¬ NameStep d e in
+    let O : Configuration → Type 0 = λ d. (ss : List Symbol) → IsTrue (is_over ss c.args.config) → IsTrue (is_over ss d) in
+    record {
+      settled = result ∙ parts.passed.settled;
+      reached = transport R (sym result) parts.passed.reached;
+      ended = transport N (sym result) parts.passed.ended;
+      over = transport O (sym result) parts.passed.over;
+    }
