@@ -162,6 +162,7 @@ fn chains_of_2000(rt: HostRuntime) -> Result<(), Fail> {
 }
 
 /// Numbers that look drawn by chance, the same in each run (a linear congruential generator, Knuth's MMIX).
+#[derive(Drop)]
 struct Draws {
     state: u64,
 }
