@@ -4,8 +4,6 @@
 #![tactic(auto)]
 
 #[cfg(test)]
-mod bindings;
-#[cfg(test)]
 mod deep;
 #[cfg(test)]
 mod examples;
@@ -18,11 +16,7 @@ mod reading;
 #[cfg(test)]
 mod refused;
 #[cfg(test)]
-mod round_refusals;
-#[cfg(test)]
 mod rounds;
-#[cfg(test)]
-mod rule_sets;
 #[cfg(test)]
 mod settled;
 #[cfg(test)]
@@ -33,5 +27,3 @@ mod stream_faults;
 mod streams;
 #[cfg(test)]
 mod systems;
-#[cfg(test)]
-mod terms;
