@@ -1,9 +1,10 @@
 -- Rounds that are due, and rounds that land.
-use Rattle.std.specs.Prelude.{◌≡◌, ℕ, ◌+◌, List, Option, Some, drop, slice_get, option_and_then}
+use Rattle.std.specs.Prelude.{◌≡◌, ℕ, ◌==◌, ◌&&◌, Bool, List, Option, Some, drop, slice_get, option_and_then}
 use Rattle.std.specs.List.{position_from}
 use Rattle.std.specs.Option.{option_map, option_or}
 use Rattle.ic_term.specs.Configuration.{Configuration}
-use Rattle.ic_rules.specs.RuleSet.{Rules}
+use Rattle.ic_term.specs.ConfigurationEq.{configuration_eq}
+use Rattle.ic_rules.specs.RuleSet.{Rules, rules_eq}
 use Rattle.ic_pool.specs.Flight.{FlightParts}
 use Rattle.ic_jobs.specs.declared.state.State.TheVariants.{Running}
 use Rattle.ic_jobs.specs.State.{is_running}
@@ -34,6 +35,10 @@ pub record Agrees (j : JobParts) (rules : Rules) (config : Configuration) (round
   pub same_rules : j.rules ≡ rules
   pub same_config : j.config ≡ config
   pub same_rounds : j.rounds ≡ rounds
+
+-- whether a job agrees so
+abbrev pub agrees : JobParts → Rules → Configuration → ℕ → Bool
+agrees j rules config rounds = j.rounds == rounds && configuration_eq j.config config && rules_eq j.rules rules
 
 -- A running job of this name has these rules, this whole configuration and these rounds.
 pub record Awaits (t : List JobParts) (name : List ℕ) (rules : Rules) (config : Configuration) (rounds : ℕ) : Type 0 where

@@ -1,13 +1,15 @@
 //! Laws of the definitions that the contracts of this crate cite.
 
-ghost use Rattle.std.specs.Prelude.{◌≡◌, ◌↔◌, ℕ, List, [], ◌++◌};
-ghost use Rattle.std.specs.Bool.{Decides};
+ghost use Rattle.std.specs.Prelude.{◌≡◌, ◌↔◌, ℕ, List, [], ◌++◌, IfSome, IsTrue, false};
+ghost use Rattle.ic_jobs.specs.declared.event.Event.{Event};
 ghost use Rattle.ic_jobs.specs.declared.event.Entry.{Entry};
 ghost use Rattle.ic_jobs.specs.declared.limits.TheConstants.{MAX_JOBS};
 ghost use Rattle.ic_jobs.specs.Job.{JobParts};
 ghost use Rattle.ic_jobs.specs.JobLaws.{job_eq, table_eq};
-ghost use Rattle.ic_jobs.specs.Table.{job_named};
-ghost use Rattle.ic_jobs.specs.History.{replay, IsLegal};
+ghost use Rattle.ic_jobs.specs.Table.{IsTable, job_named};
+ghost use Rattle.ic_jobs.specs.Events.{apply};
+ghost use Rattle.ic_jobs.specs.Submitted.{IsEvent, mentions};
+ghost use Rattle.ic_jobs.specs.History.{table_after, replay, IsLegal};
 ghost use Rattle.ic_jobs.specs.Life.{life, IsAsLived};
 
 /// The limit of a job table.
@@ -28,8 +30,19 @@ pub fn histories_split_and_join()
     ensures legal { (t : List JobParts) (h k : List Entry) → IsLegal t (h ++ k) ↔ (IsLegal t h × IsLegal (replay t h) k) }
 {}
 
+/// Every event leaves a table.
+pub fn events_leave_tables()
+    ensures { (t : List JobParts) (e : Event) → IsTable t → IsEvent e → IfSome (apply t e) (λ o. IsTable o.table) }
+{}
+
+/// An event leaves the jobs of all names that it doesn't mention.
+pub fn other_jobs_stay()
+    ensures { (t : List JobParts) (e : Event) (name : List ℕ) → mentions name e ≡ false
+        → job_named name (table_after t e) ≡ job_named name t }
+{}
+
 /// The tests of equality tell exactly whether two jobs, or two tables, are the same.
 pub fn equality_is_exact()
-    ensures jobs { (j k : JobParts) → Decides (job_eq j k) (j ≡ k) }
-    ensures tables { (t u : List JobParts) → Decides (table_eq t u) (t ≡ u) }
+    ensures jobs { (j k : JobParts) → IsTrue (job_eq j k) ↔ (j ≡ k) }
+    ensures tables { (t u : List JobParts) → IsTrue (table_eq t u) ↔ (t ≡ u) }
 {}

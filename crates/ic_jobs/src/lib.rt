@@ -1,21 +1,27 @@
-//! Jobs, commands and their replies, events, histories and lives.
+//! The job table: jobs, commands and their replies, and rounds that land.
 //!
-//! A table has jobs in the order in which they were submitted. What each command and each round leaves of it, what a
-//! legal history is, and what a history tells of a job's life, stand in specs/; `laws` holds what is proved of them. The
-//! types of commands, replies and entries are here.
+//! A `Table` has jobs in the order in which they were submitted. `apply` takes a client's command. `due` gives a copy of
+//! a running job, to be played outside; `land` puts its round and `halt` stops it, if the job is still as it was. The
+//! definitions of events, histories and lives stand in specs/, and `laws` holds what is proved of them alone.
 #![tactic(auto)]
 
 mod command;
 mod event;
+mod job;
+mod landed;
 pub mod laws;
 mod limits;
 mod reply;
 mod shown;
 mod state;
+mod table;
 
 pub use command::Command;
 pub use event::{Entry, Event};
+pub use job::Job;
+pub use landed::Landed;
 pub use limits::MAX_JOBS;
 pub use reply::{Refusal, Reply};
 pub use shown::{JobList, ShownJob};
 pub use state::State;
+pub use table::Table;

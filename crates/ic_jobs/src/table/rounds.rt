@@ -1,0 +1,86 @@
+ghost use Rattle.std.specs.Prelude.{◌≡◌, ◌↔◌, IfOk, IsTrue, Some};
+ghost use Rattle.ic_pool.specs.Flight.{is_blocked};
+ghost use Rattle.ic_jobs.specs.declared.event.Event.TheVariants.{Round};
+ghost use Rattle.ic_jobs.specs.declared.reply.Reply.TheVariants as reply;
+ghost use Rattle.ic_jobs.specs.declared.landed.Landed.TheVariants.{Moved, Stale};
+ghost use Rattle.ic_jobs.specs.Events.{apply, outcome};
+ghost use Rattle.ic_jobs.specs.Landing.{due, Awaits};
+
+use super::Table;
+use super::places::{awaited_place, due_place};
+use crate::landed::Landed;
+use crate::state::State;
+use ic_pool::{Flight, Played};
+use ic_rules::{JobName, RuleSet};
+use ic_term::Config;
+use std::alloc::AllocError;
+
+impl Table {
+    /// A copy of the first running job at this place or behind it, or else of the first running job. None where no job
+    /// runs.
+    pub fn due(&self, after: usize) -> Result<Option<Flight>, AllocError>
+        ensures { IfOk result (λ flight. flight ≡ due self.now after) }
+    {
+        let Some(place) = due_place(&self.jobs, after) else {
+            return Ok(None);
+        };
+        let flight = self.jobs[place].flight(*self.jobs.allocator(), place)?;
+        Ok(Some(flight))
+    }
+
+    /// Whether a running job of this name has these rules, this whole configuration and these rounds. Takes no memory.
+    pub fn awaits(&self, name: JobName, rules: &RuleSet, config: &Config, rounds: u64) -> bool
+        ensures { IsTrue result ↔ Awaits self.now name rules.now config.now rounds }
+    {
+        awaited_place(&self.jobs, name, rules, config, rounds).is_some()
+    }
+
+    /// Puts a round that was made, if its job is still as it was before the round; else the round is stale. Takes no
+    /// memory.
+    pub fn land(&mut self, played: Played) -> Landed
+        ensures event { result ≡ Moved
+            → apply self.old (Round played.name) ≡ Some (outcome self.new reply.Moved) }
+        ensures awaited { result ≡ Moved
+            → Awaits self.old played.name played.rules played.before played.rounds }
+        ensures stale { result ≡ Stale
+            → ¬ Awaits self.old played.name played.rules played.before played.rounds }
+        ensures unchanged { result ≡ Stale → self.new ≡ self.old }
+    {
+        let Some(place) = awaited_place(
+            &self.jobs,
+            played.name(),
+            played.rules(),
+            played.before(),
+            played.rounds(),
+        ) else {
+            return Landed::Stale;
+        };
+        self.jobs[place].advance(played.into_after());
+        Landed::Moved
+    }
+
+    /// Halts a job whose round can't be made, if it is still as it was; else the flight is stale. The job keeps its
+    /// configuration. Takes no memory.
+    pub fn halt(&mut self, flight: &Flight) -> Landed
+        requires { IsTrue (is_blocked flight.now) }
+        ensures event { result ≡ Moved
+            → apply self.old (Round flight.now.name) ≡ Some (outcome self.new reply.Halted) }
+        ensures awaited { result ≡ Moved
+            → Awaits self.old flight.now.name flight.now.rules flight.now.config flight.now.rounds }
+        ensures stale { result ≡ Stale
+            → ¬ Awaits self.old flight.now.name flight.now.rules flight.now.config flight.now.rounds }
+        ensures unchanged { result ≡ Stale → self.new ≡ self.old }
+    {
+        let Some(place) = awaited_place(
+            &self.jobs,
+            flight.name(),
+            flight.rules(),
+            flight.config(),
+            flight.rounds(),
+        ) else {
+            return Landed::Stale;
+        };
+        self.jobs[place].put_state(State::Halted);
+        Landed::Moved
+    }
+}
