@@ -4,8 +4,8 @@ ghost use Rattle.ic_pool.specs.declared.fault.PoolFault.TheVariants.{Memory};
 use ic_round::RoundFault;
 use std::alloc::AllocError;
 
-/// Why a flight isn't played. The numbers are lasting. The checks come in this order: `NoWorkers`, `RoundsOut`,
-/// `Overgrown`, `NamesOut`, then the others.
+/// Why a flight isn't played. The numbers are lasting. The checks come in this order: `NoWorkers`,
+/// `RoundsOut`, `Overgrown`, `NamesOut`, then the others.
 #[derive(Clone, Copy, Debug, PartialEq, Eq)]
 pub enum PoolFault {
     /// The number of workers is 0.
