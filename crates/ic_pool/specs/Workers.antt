@@ -3,9 +3,13 @@ use Rattle.std.specs.Prelude.{◌≡◌, ℕ, List, Result, Ok, Err, IsTrue, is_
 use Rattle.ic_term.specs.Configuration.{Configuration}
 use Rattle.ic_rules.specs.Rule.{Rule}
 use Rattle.ic_round.specs.Rounds.{round, is_small, has_names}
+use Rattle.ic_round.specs.declared.gather_fault.GatherFault.{GatherFault}
+use Rattle.ic_round.specs.declared.gather_fault.GatherFault.TheVariants as gathering
 use Rattle.ic_pool.specs.Flight.{FlightParts}
 use Rattle.ic_pool.specs.Played.{PlayedParts, played}
 use Rattle.ic_pool.specs.declared.fault.PoolFault.{PoolFault}
+use Rattle.ic_pool.specs.declared.fault.WorkerFault.{WorkerFault}
+use Rattle.ic_pool.specs.declared.fault.WorkerFault.TheVariants as workers
 use Rattle.ic_pool.specs.declared.fault.PoolFault.TheVariants.{NoWorkers, Overgrown, NamesOut, NoThread, Memory, Lost, Stranger, RoundsOut}
 
 -- the round of a flight by so many workers, or the first refusal: it doesn't depend on their number
@@ -30,3 +34,12 @@ ByWorkers (Err Memory) answer = Unit {0}
 ByWorkers (Err Lost) answer = IsTrue (is_ok answer)
 ByWorkers (Err Stranger) answer = IsTrue (is_ok answer)
 ByWorkers (Err RoundsOut) answer = Err RoundsOut ≡ answer
+
+abbrev pub worker_fault : WorkerFault → PoolFault
+worker_fault workers.NoThread = NoThread
+worker_fault workers.Memory = Memory
+
+abbrev pub gather_fault : GatherFault → PoolFault
+gather_fault gathering.Lost = Lost
+gather_fault gathering.Stranger = Stranger
+gather_fault gathering.Memory = Memory

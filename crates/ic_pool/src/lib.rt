@@ -6,14 +6,20 @@
 #![tactic(auto)]
 
 mod alone;
+mod batches;
 mod fault;
 mod flight;
+mod gate;
 pub mod laws;
 mod limits;
 mod played;
+mod playing;
+mod workers;
 
 pub use alone::play_alone;
 pub use fault::PoolFault;
 pub use flight::Flight;
+pub use gate::{Gate, OpenGate};
 pub use limits::{MAX_ROUNDS, MAX_THREADS};
 pub use played::Played;
+pub use playing::play;
