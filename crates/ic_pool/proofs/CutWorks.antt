@@ -1,5 +1,5 @@
 -- Works cut into batches from their end, and the batches turned round.
-use Rattle.std.proofs.Common.{◌≡◌, ◌≤◌, ◌<◌, ◌⊎◌, ℕ, zero, suc, ◌+◌, ◌-◌, ◌*◌, ◌/◌, List, [], ◌∷◌, ◌++◌, map, length, take, drop, reverse, inl, inr, refl, sym, ap, subst, ◌∙◌, arith, suc-mul, div-one, div-le_self, div-mul-le_self, le-div_iff_mul-le, append_assoc, take-append-drop, one-mul}
+use Rattle.std.proofs.Common.{◌≡◌, ◌≤◌, ◌<◌, ◌⊎◌, ℕ, zero, suc, ◌+◌, ◌*◌, ◌/◌, List, [], ◌∷◌, ◌++◌, map, reverse, inl, inr, sym, ap, subst, ◌∙◌, arith, suc-mul, div-one, div-le_self, div-mul-le_self, le-div_iff_mul-le, append_assoc, one-mul}
 use Rattle.std.proofs.lemmas.List.{reverse-append, append-nil, map-append}
 use Rattle.std.proofs.lemmas.Grind.{flat_map-append}
 use Rattle.std.specs.List.{AllByRecursion, flat_map}

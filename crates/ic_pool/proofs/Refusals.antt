@@ -1,7 +1,6 @@
 -- Which refusal of a flight comes where.
-use Rattle.std.proofs.Common.{◌≡◌, ◌≤◌, ◌<◌, ◌↔◌, ℕ, Bool, true, false, Result, Ok, Err, nat_le, nat_eq, cond, refl, sym, ap, ◌∙◌, arith}
+use Rattle.std.proofs.Common.{◌≡◌, ◌≤◌, ◌<◌, ◌↔◌, ℕ, Bool, true, false, Result, Ok, Err, nat_le, nat_eq, cond, refl, sym, ◌∙◌, arith}
 use Rattle.std.proofs.lemmas.Grind.{common_steps}
-use Rattle.std.specs.Bool.{Decides}
 use Rattle.std.specs.Cmp.{unsigned_Decides}
 use Rattle.ic_pool.specs.Played.{PlayedParts}
 use Rattle.ic_pool.specs.declared.fault.PoolFault.{PoolFault}

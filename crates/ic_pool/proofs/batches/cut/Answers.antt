@@ -1,6 +1,6 @@
-use Rattle.std.proofs.Common.{◌≡◌, ◌<◌, ◌≤◌, ℕ, ◌+◌, ◌-◌, ◌/◌, List, [], ◌∷◌, ◌++◌, length, take, drop, reverse, inl, inr, refl, sym, ap, subst, ◌∙◌, arith, vec_items, vec_len, take-append-drop}
+use Rattle.std.proofs.Common.{◌≡◌, ◌<◌, ◌≤◌, ℕ, ◌+◌, ◌-◌, ◌/◌, [], ◌∷◌, ◌++◌, reverse, inl, inr, refl, sym, ap, subst, ◌∙◌, arith, vec_items, vec_len, take-append-drop}
 use Rattle.std.specs.List.{AllByRecursion, flat_map}
-use Rattle.ic_pool.proofs.CutWorks.{below_or_not, IsPart, part_of, joined-snoc, All-append, All-reverse}
+use Rattle.ic_pool.proofs.CutWorks.{below_or_not, part_of, joined-snoc, All-append, All-reverse}
 use Rattle.ic_pool.proofs.batches.cut.Goals as goal
 
 -- what is left after one batch more, and the batch

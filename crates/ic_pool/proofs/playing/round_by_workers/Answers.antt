@@ -1,11 +1,9 @@
-use Rattle.std.proofs.Common.{◌≡◌, List, Ok, true, map, ap, sym, ◌∙◌}
+use Rattle.std.proofs.Common.{map, ap, ◌∙◌}
 use Rattle.ic_term.specs.Symbol.{is_over}
 use Rattle.ic_round.specs.Firing.{fired}
 use Rattle.ic_round.specs.Plans.{plan_of, planned}
-use Rattle.ic_round.specs.Rounds.{round}
-use Rattle.ic_round.specs.Works.{PlainFired, result_of}
+use Rattle.ic_round.specs.Works.{result_of}
 use Rattle.ic_round.specs.WorkViews.{work_of, fired_of}
-use Rattle.ic_round.specs.Completing.{Completes}
 use Rattle.ic_round.specs.lemmas.RoundLemmas.{plan_completes}
 use Rattle.ic_round.specs.lemmas.SettledLemmas.{settled_over}
 use Rattle.ic_pool.proofs.RoundAnswers.{planned_fits, round_answered, in_order}

@@ -1,7 +1,6 @@
-use Rattle.std.proofs.Common.{rules, ◌≡◌, map, flat_map, vec_items, IsTrue}
-use Rattle.std.specs.List.{AllByRecursion}
-use Rattle.ic_round.specs.Works.{suits, result_of}
-use Rattle.ic_round.specs.WorkViews.{work_of, fired_of}
+use Rattle.std.proofs.Common.{rules, vec_items, IsTrue}
+use Rattle.ic_round.specs.Works.{suits}
+use Rattle.ic_round.specs.WorkViews.{work_of}
 use Rattle.ic_pool.proofs.CutWorks.{All-snoc}
 use Rattle.ic_pool.proofs.workers.+start_workers.Goals as goal
 
