@@ -6,3 +6,4 @@ pub mod JobLemmas
 pub mod EventLemmas
 pub mod PlaceLemmas
 pub mod DistinctLemmas
+pub mod TurnLemmas

@@ -32,7 +32,8 @@ refused t r = outcome t (Refused r)
 abbrev pub submitted : List JobParts → List ℕ → SystemParts → Outcome
 submitted t name system =
     if is_some (job_named name t) then refused t Taken else
-    (if nat_lt (length t) MAX_JOBS then outcome (t ++ begun name system ∷ []) Accepted else refused t Full)
+    (if nat_lt (length t) MAX_JOBS then outcome (t ++ begun name system ∷ []) Accepted
+    else refused t Full)
 
 -- what comes of a job, where it is there
 abbrev pub unless_missing : List JobParts → (JobParts → Outcome) → Option JobParts → Outcome
@@ -42,20 +43,24 @@ unless_missing t what (Some j) = what j
 -- A running job is paused.
 abbrev pub paused : List JobParts → List ℕ → JobParts → Outcome
 paused t name j =
-    if is_running j.state then outcome (with_changed name (in_state state.Paused) t) Okay else refused t NotRunning
+    if is_running j.state then outcome (with_changed name (in_state state.Paused) t) Okay
+    else refused t NotRunning
 
 -- A paused job runs again.
 abbrev pub resumed : List JobParts → List ℕ → JobParts → Outcome
 resumed t name j =
-    if is_paused j.state then outcome (with_changed name (in_state state.Running) t) Okay else refused t NotPaused
+    if is_paused j.state then outcome (with_changed name (in_state state.Running) t) Okay
+    else refused t NotPaused
 
 -- A command, and what it leaves. Cancel removes a job in any state.
 abbrev pub after_command : List JobParts → Command → Outcome
 after_command t (Submit name system) = submitted t name system
 after_command t (Pause name) = unless_missing t (paused t name) (job_named name t)
 after_command t (Resume name) = unless_missing t (resumed t name) (job_named name t)
-after_command t (Cancel name) = unless_missing t (λ j. outcome (without name t) Okay) (job_named name t)
-after_command t (Fetch name) = unless_missing t (λ j. outcome t (Shown (shown j))) (job_named name t)
+after_command t (Cancel name) =
+    unless_missing t (λ j. outcome (without name t) Okay) (job_named name t)
+after_command t (Fetch name) =
+    unless_missing t (λ j. outcome t (Shown (shown j))) (job_named name t)
 after_command t list_jobs = outcome t (Listed (listed t))
 
 -- A running job makes a round where it can, and is halted where it can't.

@@ -65,6 +65,14 @@ in_state s j = record j { state = s }
 abbrev pub coded_job : Coded JobParts
 coded_job =
     code_by (List ℕ × (Rules × (Configuration × (ℕ × State))))
-    (coded× (coded_list coded_ℕ) (coded× coded_rules (coded× coded_configuration (coded× coded_ℕ coded_state))))
+    (coded× (coded_list coded_ℕ)
+    (coded× coded_rules (coded× coded_configuration (coded× coded_ℕ coded_state))))
     (λ j. (j.name, (j.rules, (j.config, (j.rounds, j.state)))))
-    (λ p. record { name = p.0; rules = p.1.0; config = p.1.1.0; rounds = p.1.1.1.0; state = p.1.1.1.1 }) (λ _. refl)
+    (λ p. record {
+      name = p.0;
+      rules = p.1.0;
+      config = p.1.1.0;
+      rounds = p.1.1.1.0;
+      state = p.1.1.1.1;
+    })
+    (λ _. refl)

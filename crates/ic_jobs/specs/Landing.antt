@@ -13,7 +13,13 @@ use Rattle.ic_jobs.specs.Table.{job_named}
 
 -- a job at a place as a round that is to be made
 abbrev pub flight_of : ℕ → JobParts → FlightParts
-flight_of place j = record { place = place; name = j.name; rules = j.rules; config = j.config; rounds = j.rounds }
+flight_of place j = record {
+  place = place;
+  name = j.name;
+  rules = j.rules;
+  config = j.config;
+  rounds = j.rounds;
+}
 
 -- the place of the first running job at this place or behind it
 abbrev pub running_from : ℕ → List JobParts → Option ℕ
@@ -31,17 +37,20 @@ abbrev pub due : List JobParts → ℕ → Option FlightParts
 due t after = option_and_then (flight_at t) (due_place t after)
 
 -- A job has these rules, this whole configuration and these rounds.
-pub record Agrees (j : JobParts) (rules : Rules) (config : Configuration) (rounds : ℕ) : Type 0 where
+pub record Agrees (j : JobParts) (rules : Rules) (config : Configuration)
+    (rounds : ℕ) : Type 0 where
   pub same_rules : j.rules ≡ rules
   pub same_config : j.config ≡ config
   pub same_rounds : j.rounds ≡ rounds
 
 -- whether a job agrees so
 abbrev pub agrees : JobParts → Rules → Configuration → ℕ → Bool
-agrees j rules config rounds = j.rounds == rounds && configuration_eq j.config config && rules_eq j.rules rules
+agrees j rules config rounds =
+    j.rounds == rounds && configuration_eq j.config config && rules_eq j.rules rules
 
 -- A running job of this name has these rules, this whole configuration and these rounds.
-pub record Awaits (t : List JobParts) (name : List ℕ) (rules : Rules) (config : Configuration) (rounds : ℕ) : Type 0 where
+pub record Awaits (t : List JobParts) (name : List ℕ) (rules : Rules) (config : Configuration)
+    (rounds : ℕ) : Type 0 where
   pub job : JobParts
   pub there : job_named name t ≡ Some job
   pub running : job.state ≡ Running

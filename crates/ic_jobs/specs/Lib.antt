@@ -7,5 +7,6 @@ pub mod Memory
 pub mod Events
 pub mod Submitted
 pub mod Landing
+pub mod Turns
 pub mod History
 pub mod Life

@@ -47,7 +47,8 @@ last_beginning name (e ∷ es) =
     option_or (last_beginning name es)
     (option_map (λ s. record { system = s; since = es }) (begins name e.event e.reply))
 
--- What a job has lived through since it began: it is none where the job was cancelled, else its rounds are counted.
+-- What a job has lived through since it began: it is none where the job was cancelled, else its
+-- rounds are counted.
 abbrev pub life_since : List ℕ → Beginning → Option Life
 life_since name b =
     if list_any (λ e. ends name e.event e.reply) b.since then None else

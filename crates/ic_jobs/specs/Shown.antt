@@ -16,7 +16,13 @@ pub record ShownParts : Type 0 where
   pub config : Configuration
 
 abbrev pub shown : JobParts → ShownParts
-shown j = record { name = j.name; state = j.state; rounds = j.rounds; rules = j.rules; config = j.config }
+shown j = record {
+  name = j.name;
+  state = j.state;
+  rounds = j.rounds;
+  rules = j.rules;
+  config = j.config;
+}
 
 -- the name, state and rounds of each job, in the order of the table
 abbrev pub listed : List JobParts → List (List ℕ × State × ℕ)
@@ -26,6 +32,14 @@ listed t = map (λ j. (j.name, j.state, j.rounds)) t
 abbrev pub coded_shown : Coded ShownParts
 coded_shown =
     code_by (List ℕ × (State × (ℕ × (Rules × Configuration))))
-    (coded× (coded_list coded_ℕ) (coded× coded_state (coded× coded_ℕ (coded× coded_rules coded_configuration))))
+    (coded× (coded_list coded_ℕ)
+    (coded× coded_state (coded× coded_ℕ (coded× coded_rules coded_configuration))))
     (λ s. (s.name, (s.state, (s.rounds, (s.rules, s.config)))))
-    (λ p. record { name = p.0; state = p.1.0; rounds = p.1.1.0; rules = p.1.1.1.0; config = p.1.1.1.1 }) (λ _. refl)
+    (λ p. record {
+      name = p.0;
+      state = p.1.0;
+      rounds = p.1.1.0;
+      rules = p.1.1.1.0;
+      config = p.1.1.1.1;
+    })
+    (λ _. refl)

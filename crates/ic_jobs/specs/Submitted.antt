@@ -11,7 +11,8 @@ use Rattle.ic_jobs.specs.declared.command.Command.TheVariants.{Submit, Pause, Re
 use Rattle.ic_jobs.specs.declared.event.Event.{Event}
 use Rattle.ic_jobs.specs.declared.event.Event.TheVariants.{Command as by_command, Round}
 
--- What each submit keeps: it has the name of a job, and a configuration over the symbols of a rule set.
+-- What each submit keeps: it has the name of a job, and a configuration over the symbols of a rule
+-- set.
 pub record IsSubmit (text : List ℕ) (system : SystemParts) : Type 0 where
   pub name : IsTrue (is_job_name text)
   pub symbols : AreSymbols system.rules.symbols

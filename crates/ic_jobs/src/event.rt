@@ -9,7 +9,8 @@ pub enum Event {
     Round(JobName),
 }
 
-/// An event of a history: who sent it (a client's number, or 0 for a round), and what it was answered.
+/// An event of a history: who sent it (a client's number, or 0 for a round), and what it was
+/// answered.
 #[derive(Debug, Drop)]
 pub struct Entry {
     pub who: u64,

@@ -12,8 +12,8 @@ use std::alloc::{AllocError, Global};
 use std::marker::Model;
 use std::sync::Arc;
 
-/// A job: its name, its rules and configuration, how many rounds it has made, and its state. It is done exactly where
-/// its configuration is quiet.
+/// A job: its name, its rules and configuration, how many rounds it has made, and its state. It is
+/// done exactly where its configuration is quiet.
 #[derive(Debug, Drop)]
 pub struct Job {
     name: JobName,
@@ -31,9 +31,21 @@ impl Model for Job {
 
     ghost coded = { coded_job };
 
-    ghost view = { λ j. record { name = j.name; rules = arc_value j.rules; config = j.config; rounds = j.rounds; state = j.state } };
+    ghost view = { λ j. record {
+      name = j.name;
+      rules = arc_value j.rules;
+      config = j.config;
+      rounds = j.rounds;
+      state = j.state;
+    } };
 
-    ghost invariant = { λ j. IsJob (record { name = j.name; rules = arc_value j.rules; config = j.config; rounds = j.rounds; state = j.state }) };
+    ghost invariant = { λ j. IsJob (record {
+      name = j.name;
+      rules = arc_value j.rules;
+      config = j.config;
+      rounds = j.rounds;
+      state = j.state;
+    }) };
 }
 
 impl Job {
@@ -45,8 +57,8 @@ impl Job {
     ghost use Rattle.ic_jobs.specs.Landing.{flight_of, agrees};
     ghost use Rattle.ic_jobs.specs.Shown.{shown};
 
-    /// The job of these parts, if the configuration is over the symbols of the rules, the rounds are at most 2^62, and
-    /// the state is `Done` exactly where the configuration is quiet.
+    /// The job of these parts, if the configuration is over the symbols of the rules, the rounds
+    /// are at most 2^62, and the state is `Done` exactly where the configuration is quiet.
     pub fn restore(
         name: JobName,
         rules: Arc<RuleSet>,
@@ -54,10 +66,20 @@ impl Job {
         rounds: u64,
         state: State,
     ) -> Option<Job>
-        ensures job { IsSome result
-            ↔ IsJob (record { name = name; rules = arc_value rules; config = config; rounds = rounds; state = state }) }
-        ensures parts { IfSome result (λ job.
-            job ≡ record { name = name; rules = arc_value rules; config = config; rounds = rounds; state = state }) }
+        ensures job { IsSome result ↔ IsJob (record {
+          name = name;
+          rules = arc_value rules;
+          config = config;
+          rounds = rounds;
+          state = state;
+        }) }
+        ensures parts { IfSome result (λ job. job ≡ record {
+          name = name;
+          rules = arc_value rules;
+          config = config;
+          rounds = rounds;
+          state = state;
+        }) }
     {
         // What the types of the parts keep, the job keeps too.
         let (_text, _count, _next) = (name.as_bytes(), rules.symbols().len(), config.next());

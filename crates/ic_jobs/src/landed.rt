@@ -3,6 +3,7 @@
 pub enum Landed {
     /// The job was as awaited, and has changed.
     Moved,
-    /// The job is gone, isn't running, or is another than the round was made of. Nothing has changed.
+    /// The job is gone, isn't running, or is another than the round was made of. Nothing has
+    /// changed.
     Stale,
 }

@@ -1,6 +1,7 @@
 //! Laws of the definitions that the contracts of this crate cite.
 
-ghost use Rattle.std.specs.Prelude.{◌≡◌, ◌↔◌, ℕ, List, [], ◌++◌, IfSome, IsTrue, false};
+ghost use Rattle.std.specs.Prelude.{◌≡◌, ◌↔◌, ◌<◌, ◌≤◌, ℕ, List, [], ◌++◌, None, Some, IfSome, IsTrue, false};
+ghost use Rattle.ic_pool.specs.Flight.{FlightParts};
 ghost use Rattle.ic_jobs.specs.declared.event.Event.{Event};
 ghost use Rattle.ic_jobs.specs.declared.event.Entry.{Entry};
 ghost use Rattle.ic_jobs.specs.declared.limits.TheConstants.{MAX_JOBS};
@@ -10,6 +11,8 @@ ghost use Rattle.ic_jobs.specs.Table.{IsTable, job_named};
 ghost use Rattle.ic_jobs.specs.Events.{apply};
 ghost use Rattle.ic_jobs.specs.Submitted.{IsEvent, mentions};
 ghost use Rattle.ic_jobs.specs.History.{table_after, replay, IsLegal};
+ghost use Rattle.ic_jobs.specs.Landing.{due};
+ghost use Rattle.ic_jobs.specs.Turns.{RunsAt, IsFlightOf};
 ghost use Rattle.ic_jobs.specs.Life.{life, IsAsLived};
 
 /// The limit of a job table.
@@ -17,22 +20,28 @@ pub fn limits_are()
     ensures { MAX_JOBS ≡ 32 }
 {}
 
-/// A history that is legal from the empty table leaves a job of a name exactly where the name's life is some rules, a
-/// configuration and a number of rounds. Then the job has these rules and rounds, and its configuration is the
-/// iterate, after so many rounds, of the one that it began with.
+/// A history that is legal from the empty table leaves a job of a name exactly where the name's
+/// life is some rules, a configuration and a number of rounds. Then the job has these rules and
+/// rounds, and its configuration is the iterate, after so many rounds, of the one that it began
+/// with.
 pub fn life_law()
-    ensures { (name : List ℕ) (h : List Entry) → IsLegal [] h → IsAsLived (job_named name (replay [] h)) (life name h) }
+    ensures { (name : List ℕ) (h : List Entry) → IsLegal [] h
+        → IsAsLived (job_named name (replay [] h)) (life name h) }
 {}
 
-/// A history is legal where its first part is, and the rest is from the table that the first part leaves.
+/// A history is legal where its first part is, and the rest is from the table that the first part
+/// leaves.
 pub fn histories_split_and_join()
-    ensures table { (t : List JobParts) (h k : List Entry) → replay t (h ++ k) ≡ replay (replay t h) k }
-    ensures legal { (t : List JobParts) (h k : List Entry) → IsLegal t (h ++ k) ↔ (IsLegal t h × IsLegal (replay t h) k) }
+    ensures table { (t : List JobParts) (h k : List Entry)
+        → replay t (h ++ k) ≡ replay (replay t h) k }
+    ensures legal { (t : List JobParts) (h k : List Entry)
+        → IsLegal t (h ++ k) ↔ (IsLegal t h × IsLegal (replay t h) k) }
 {}
 
 /// Every event leaves a table.
 pub fn events_leave_tables()
-    ensures { (t : List JobParts) (e : Event) → IsTable t → IsEvent e → IfSome (apply t e) (λ o. IsTable o.table) }
+    ensures { (t : List JobParts) (e : Event) → IsTable t → IsEvent e
+        → IfSome (apply t e) (λ o. IsTable o.table) }
 {}
 
 /// An event leaves the jobs of all names that it doesn't mention.
@@ -45,4 +54,19 @@ pub fn other_jobs_stay()
 pub fn equality_is_exact()
     ensures jobs { (j k : JobParts) → IsTrue (job_eq j k) ↔ (j ≡ k) }
     ensures tables { (t u : List JobParts) → IsTrue (table_eq t u) ↔ (t ≡ u) }
+{}
+
+/// What is due is the flight of a running job. It is the first from the place on; where none runs
+/// from there on, it is the first of all. Nothing is due exactly where no job runs.
+pub fn due_is_the_next_running_job()
+    ensures none { (t : List JobParts) (after : ℕ)
+        → (due t after ≡ None) ↔ ((k : ℕ) → ¬ RunsAt t k) }
+    ensures job { (t : List JobParts) (after : ℕ) (f : FlightParts)
+        → due t after ≡ Some f → IsFlightOf t f }
+    ensures first_from_there { (t : List JobParts) (after : ℕ) (f : FlightParts)
+        → due t after ≡ Some f → after ≤ f.place
+        → (k : ℕ) → RunsAt t k → after ≤ k → f.place ≤ k }
+    ensures first_of_all { (t : List JobParts) (after : ℕ) (f : FlightParts)
+        → due t after ≡ Some f → f.place < after
+        → (k : ℕ) → RunsAt t k → (f.place ≤ k) × (k < after) }
 {}

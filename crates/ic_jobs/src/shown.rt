@@ -8,7 +8,8 @@ use std::alloc::{AllocError, Global};
 use std::marker::Model;
 use std::sync::Arc;
 
-/// A job as a reply shows it: its name, state and rounds, and a copy of its configuration with its rules.
+/// A job as a reply shows it: its name, state and rounds, and a copy of its configuration with its
+/// rules.
 #[derive(Debug, Drop)]
 pub struct ShownJob {
     name: JobName,
@@ -28,7 +29,13 @@ impl Model for ShownJob {
 
     ghost coded = { coded_shown };
 
-    ghost view = { λ s. record { name = s.name; state = s.state; rounds = s.rounds; rules = arc_value s.rules; config = s.config } };
+    ghost view = { λ s. record {
+      name = s.name;
+      state = s.state;
+      rounds = s.rounds;
+      rules = arc_value s.rules;
+      config = s.config;
+    } };
 
     ghost invariant = { λ s. IsTrue (is_over (arc_value s.rules).symbols s.config) };
 }
@@ -45,7 +52,13 @@ impl ShownJob {
         config: Config,
     ) -> ShownJob
         requires { IsTrue (is_over (arc_value rules).symbols config) }
-        ensures { result ≡ record { name = name; state = state; rounds = rounds; rules = arc_value rules; config = config } }
+        ensures { result ≡ record {
+          name = name;
+          state = state;
+          rounds = rounds;
+          rules = arc_value rules;
+          config = config;
+        } }
     {
         ShownJob {
             name,

@@ -11,8 +11,8 @@ use ic_rules::JobName;
 use std::alloc::{AllocError, Global};
 use std::marker::Model;
 
-/// Jobs in the order in which they were submitted, at most 32, no two of one name. It keeps the allocator that it was
-/// made with.
+/// Jobs in the order in which they were submitted, at most 32, no two of one name. It keeps the
+/// allocator that it was made with.
 #[derive(Debug, Drop)]
 pub struct Table {
     jobs: Vec<Job>,

@@ -7,7 +7,8 @@ use Rattle.ic_rules.specs.RuleSet.{Rules, coded_rules}
 use Rattle.ic_round.specs.Rounds.{fits}
 use Rattle.ic_pool.specs.declared.limits.TheConstants.{MAX_ROUNDS}
 
--- A job's place in its table and its name, its rules and configuration, and how many rounds it has made.
+-- A job's place in its table and its name, its rules and configuration, and how many rounds it has
+-- made.
 pub record FlightParts : Type 0 where
   pub place : ℕ
   pub name : List ℕ
@@ -28,6 +29,14 @@ is_blocked f = not (fits f.rules.rules f.config) || f.rounds == MAX_ROUNDS
 abbrev pub coded_flight : Coded FlightParts
 coded_flight =
     code_by (ℕ × (List ℕ × (Rules × (Configuration × ℕ))))
-    (coded× coded_ℕ (coded× (coded_list coded_ℕ) (coded× coded_rules (coded× coded_configuration coded_ℕ))))
+    (coded× coded_ℕ
+    (coded× (coded_list coded_ℕ) (coded× coded_rules (coded× coded_configuration coded_ℕ))))
     (λ f. (f.place, (f.name, (f.rules, (f.config, f.rounds)))))
-    (λ p. record { place = p.0; name = p.1.0; rules = p.1.1.0; config = p.1.1.1.0; rounds = p.1.1.1.1 }) (λ _. refl)
+    (λ p. record {
+      place = p.0;
+      name = p.1.0;
+      rules = p.1.1.0;
+      config = p.1.1.1.0;
+      rounds = p.1.1.1.1;
+    })
+    (λ _. refl)

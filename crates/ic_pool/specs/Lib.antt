@@ -1,3 +1,4 @@
 pub mod Flight
 pub mod Played
 pub mod PoolFault
+pub mod Workers

@@ -10,7 +10,8 @@ use Rattle.ic_pool.specs.declared.limits.TheConstants.{MAX_ROUNDS}
 use Rattle.ic_pool.specs.declared.fault.PoolFault.{PoolFault}
 use Rattle.ic_pool.specs.declared.fault.PoolFault.TheVariants.{Overgrown, NamesOut, RoundsOut}
 
--- A job's name, its rules, its configuration before and after the round, and how many rounds it had made before.
+-- A job's name, its rules, its configuration before and after the round, and how many rounds it had
+-- made before.
 pub record PlayedParts : Type 0 where
   pub name : List ℕ
   pub rules : Rules
@@ -36,7 +37,8 @@ round_of f = record {
   rounds = f.rounds;
 }
 
--- the round of a flight, or the first refusal: no rounds are left, too many nodes, no names are left
+-- the round of a flight, or the first refusal: no rounds are left, too many nodes, no names are
+-- left
 abbrev pub played : FlightParts → Result PlayedParts PoolFault
 played f =
     if nat_eq f.rounds MAX_ROUNDS then Err RoundsOut else
@@ -47,6 +49,14 @@ played f =
 abbrev pub coded_played : Coded PlayedParts
 coded_played =
     code_by (List ℕ × (Rules × (Configuration × (Configuration × ℕ))))
-    (coded× (coded_list coded_ℕ) (coded× coded_rules (coded× coded_configuration (coded× coded_configuration coded_ℕ))))
+    (coded× (coded_list coded_ℕ)
+    (coded× coded_rules (coded× coded_configuration (coded× coded_configuration coded_ℕ))))
     (λ p. (p.name, (p.rules, (p.before, (p.after, p.rounds)))))
-    (λ p. record { name = p.0; rules = p.1.0; before = p.1.1.0; after = p.1.1.1.0; rounds = p.1.1.1.1 }) (λ _. refl)
+    (λ p. record {
+      name = p.0;
+      rules = p.1.0;
+      before = p.1.1.0;
+      after = p.1.1.1.0;
+      rounds = p.1.1.1.1;
+    })
+    (λ _. refl)

@@ -8,8 +8,8 @@ use crate::played::Played;
 use ic_round::round;
 use std::alloc::Global;
 
-/// The round of a flight, made by the calling thread alone. Its faults are tried in the order `RoundsOut`, `Overgrown`,
-/// `NamesOut`; `Memory` comes where a growth is refused.
+/// The round of a flight, made by the calling thread alone. Its faults are tried in the order
+/// `RoundsOut`, `Overgrown`, `NamesOut`; `Memory` comes where a growth is refused.
 pub fn play_alone(alloc: Global, flight: &Flight) -> Result<Played, PoolFault>
     ensures { Answers result (played flight.now) }
 {

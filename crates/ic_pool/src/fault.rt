@@ -1,11 +1,11 @@
 ghost use Rattle.std.specs.Prelude.{◌≡◌};
 ghost use Rattle.ic_pool.specs.declared.fault.PoolFault.TheVariants.{Memory};
 
-use ic_round::RoundFault;
+use ic_round::{GatherFault, RoundFault};
 use std::alloc::AllocError;
 
-/// Why a flight isn't played. The numbers are lasting. The checks come in this order: `NoWorkers`, `RoundsOut`,
-/// `Overgrown`, `NamesOut`, then the others.
+/// Why a flight isn't played. The numbers are lasting. The checks come in this order: `NoWorkers`,
+/// `RoundsOut`, `Overgrown`, `NamesOut`, then the others.
 #[derive(Clone, Copy, Debug, PartialEq, Eq)]
 pub enum PoolFault {
     /// The number of workers is 0.
@@ -44,6 +44,52 @@ impl From<RoundFault> for PoolFault {
             RoundFault::Overgrown => PoolFault::Overgrown,
             RoundFault::NamesOut => PoolFault::NamesOut,
             RoundFault::Memory => PoolFault::Memory,
+        }
+    }
+}
+
+/// Why workers give no results.
+#[derive(Clone, Copy, Debug, PartialEq, Eq)]
+pub(crate) enum WorkerFault {
+    /// A thread could not be started.
+    NoThread,
+    /// A growth was refused.
+    Memory,
+}
+
+impl From<AllocError> for WorkerFault {
+    ghost use Rattle.ic_pool.specs.declared.fault.WorkerFault.TheVariants.{Memory};
+
+    ghost from_gives = { λ _ fault. fault ≡ Memory };
+
+    fn from(_error: AllocError) -> WorkerFault {
+        WorkerFault::Memory
+    }
+}
+
+impl From<WorkerFault> for PoolFault {
+    ghost use Rattle.ic_pool.specs.Workers.{worker_fault};
+
+    ghost from_gives = { λ f fault. fault ≡ worker_fault f };
+
+    fn from(fault: WorkerFault) -> PoolFault {
+        match fault {
+            WorkerFault::NoThread => PoolFault::NoThread,
+            WorkerFault::Memory => PoolFault::Memory,
+        }
+    }
+}
+
+impl From<GatherFault> for PoolFault {
+    ghost use Rattle.ic_pool.specs.Workers.{gather_fault};
+
+    ghost from_gives = { λ f fault. fault ≡ gather_fault f };
+
+    fn from(fault: GatherFault) -> PoolFault {
+        match fault {
+            GatherFault::Lost => PoolFault::Lost,
+            GatherFault::Stranger => PoolFault::Stranger,
+            GatherFault::Memory => PoolFault::Memory,
         }
     }
 }

@@ -8,8 +8,8 @@ use ic_term::Config;
 use std::marker::Model;
 use std::sync::Arc;
 
-/// A round that is to be made: a job's place in its table, its name, a copy of its configuration with its rules, and
-/// how many rounds it has made.
+/// A round that is to be made: a job's place in its table, its name, a copy of its configuration
+/// with its rules, and how many rounds it has made.
 #[derive(Debug, Drop)]
 pub struct Flight {
     place: usize,
@@ -27,9 +27,21 @@ impl Model for Flight {
 
     ghost coded = { coded_flight };
 
-    ghost view = { λ f. record { place = f.place; name = f.name; rules = arc_value f.rules; config = f.config; rounds = f.rounds } };
+    ghost view = { λ f. record {
+      place = f.place;
+      name = f.name;
+      rules = arc_value f.rules;
+      config = f.config;
+      rounds = f.rounds;
+    } };
 
-    ghost invariant = { λ f. IsFlight (record { place = f.place; name = f.name; rules = arc_value f.rules; config = f.config; rounds = f.rounds }) };
+    ghost invariant = { λ f. IsFlight (record {
+      place = f.place;
+      name = f.name;
+      rules = arc_value f.rules;
+      config = f.config;
+      rounds = f.rounds;
+    }) };
 }
 
 impl Flight {
@@ -42,8 +54,20 @@ impl Flight {
         config: Config,
         rounds: u64,
     ) -> Flight
-        requires { IsFlight (record { place = place; name = name; rules = arc_value rules; config = config; rounds = rounds }) }
-        ensures { result ≡ record { place = place; name = name; rules = arc_value rules; config = config; rounds = rounds } }
+        requires { IsFlight (record {
+          place = place;
+          name = name;
+          rules = arc_value rules;
+          config = config;
+          rounds = rounds;
+        }) }
+        ensures { result ≡ record {
+          place = place;
+          name = name;
+          rules = arc_value rules;
+          config = config;
+          rounds = rounds;
+        } }
     {
         Flight {
             place,
@@ -91,7 +115,8 @@ impl Flight {
         self.rounds
     }
 
-    /// Whether the configuration doesn't fit, or the job has made 2^62 rounds: no round can be made.
+    /// Whether the configuration doesn't fit, or the job has made 2^62 rounds: no round can be
+    /// made.
     pub fn blocked(&self) -> bool
         ensures blocked { result ≡ is_blocked self.now }
         ensures sound { IsFlight self.now }

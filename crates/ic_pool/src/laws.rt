@@ -1,16 +1,39 @@
 //! Laws of the definitions that the contracts of this crate cite.
 
-ghost use Rattle.std.specs.Prelude.{◌≡◌, ◌^◌, ◌↔◌, Ok, false};
+ghost use Rattle.std.specs.Prelude.{◌≡◌, ◌^◌, ◌<◌, ◌≤◌, ◌↔◌, Ok, Err, false};
 ghost use Rattle.ic_pool.specs.Flight.{FlightParts, is_blocked};
-ghost use Rattle.ic_pool.specs.Played.{played, round_of};
-ghost use Rattle.ic_pool.specs.declared.limits.TheConstants.{MAX_ROUNDS};
+ghost use Rattle.ic_term.specs.Configuration.{configuration_nodes};
+ghost use Rattle.ic_round.specs.Firing.{fired};
+ghost use Rattle.ic_round.specs.Rounds.{round};
+ghost use Rattle.ic_pool.specs.Played.{PlayedParts, played, round_of};
+ghost use Rattle.ic_pool.specs.declared.fault.PoolFault.TheVariants.{Overgrown, NamesOut, RoundsOut};
+ghost use Rattle.ic_pool.specs.declared.limits.TheConstants.{MAX_ROUNDS, MAX_THREADS};
 
-/// The limit of a job's rounds.
+/// The limits of rounds.
 pub fn limits_are()
-    ensures { MAX_ROUNDS ≡ 2 ^ 62 }
+    ensures rounds { MAX_ROUNDS ≡ 2 ^ 62 }
+    ensures threads { MAX_THREADS ≡ 64 }
 {}
 
 /// A flight is refused exactly where it is blocked; else its round is made.
 pub fn blocked_flights_are_refused()
     ensures { (f : FlightParts) → (played f ≡ Ok (round_of f)) ↔ (is_blocked f ≡ false) }
+{}
+
+/// The order of the refusals of a flight: no rounds are left, then more than 8,192 nodes once all
+/// active equations have fired, then names past 2^62. Where none holds, the name, the rules, the
+/// configuration before and the rounds are the flight's, and the configuration after is the round.
+pub fn refusals_come_in_order()
+    ensures rounds_out { (f : FlightParts) → (played f ≡ Err RoundsOut) ↔ (f.rounds ≡ 2 ^ 62) }
+    ensures overgrown { (f : FlightParts) → (played f ≡ Err Overgrown) ↔ (¬ (f.rounds ≡ 2 ^ 62)
+        × (8192 < configuration_nodes (fired f.rules.rules f.config))) }
+    ensures names_out { (f : FlightParts) → (played f ≡ Err NamesOut) ↔ (¬ (f.rounds ≡ 2 ^ 62)
+        × (configuration_nodes (fired f.rules.rules f.config) ≤ 8192)
+        × (2 ^ 62 < (fired f.rules.rules f.config).next)) }
+    ensures name { (f : FlightParts) (p : PlayedParts) → played f ≡ Ok p → p.name ≡ f.name }
+    ensures rules { (f : FlightParts) (p : PlayedParts) → played f ≡ Ok p → p.rules ≡ f.rules }
+    ensures before { (f : FlightParts) (p : PlayedParts) → played f ≡ Ok p → p.before ≡ f.config }
+    ensures after { (f : FlightParts) (p : PlayedParts) → played f ≡ Ok p
+        → p.after ≡ round f.rules.rules f.config }
+    ensures rounds { (f : FlightParts) (p : PlayedParts) → played f ≡ Ok p → p.rounds ≡ f.rounds }
 {}

@@ -1,19 +1,25 @@
 //! Rounds of jobs: what is to be played, and what was played.
 //!
-//! A `Flight` is a copy of a job that is due. `play_alone` makes its round in the calling thread and answers a `Played`,
-//! whose type says that `after` is the round of `before`. Neither holds its job's table, so other events may come
-//! between.
+//! A `Flight` is a copy of a job that is due. `play_alone` makes its round in the calling thread
+//! and answers a `Played`, whose type says that `after` is the round of `before`. Neither holds its
+//! job's table, so other events may come between.
 #![tactic(auto)]
 
 mod alone;
+mod batches;
 mod fault;
 mod flight;
+mod gate;
 pub mod laws;
 mod limits;
 mod played;
+mod playing;
+mod workers;
 
 pub use alone::play_alone;
 pub use fault::PoolFault;
 pub use flight::Flight;
-pub use limits::MAX_ROUNDS;
+pub use gate::{Gate, OpenGate};
+pub use limits::{MAX_ROUNDS, MAX_THREADS};
 pub use played::Played;
+pub use playing::play;

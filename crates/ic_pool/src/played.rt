@@ -6,8 +6,8 @@ use ic_term::Config;
 use std::marker::Model;
 use std::sync::Arc;
 
-/// A round that was made: a job's name and rules, its configuration before and after, and how many rounds it had made
-/// before. `after` is the round of `before`.
+/// A round that was made: a job's name and rules, its configuration before and after, and how many
+/// rounds it had made before. `after` is the round of `before`.
 #[derive(Debug, Drop)]
 pub struct Played {
     name: JobName,
@@ -25,9 +25,21 @@ impl Model for Played {
 
     ghost coded = { coded_played };
 
-    ghost view = { λ p. record { name = p.name; rules = arc_value p.rules; before = p.before; after = p.after; rounds = p.rounds } };
+    ghost view = { λ p. record {
+      name = p.name;
+      rules = arc_value p.rules;
+      before = p.before;
+      after = p.after;
+      rounds = p.rounds;
+    } };
 
-    ghost invariant = { λ p. IsPlayed (record { name = p.name; rules = arc_value p.rules; before = p.before; after = p.after; rounds = p.rounds }) };
+    ghost invariant = { λ p. IsPlayed (record {
+      name = p.name;
+      rules = arc_value p.rules;
+      before = p.before;
+      after = p.after;
+      rounds = p.rounds;
+    }) };
 }
 
 impl Played {
@@ -40,8 +52,20 @@ impl Played {
         after: Config,
         rounds: u64,
     ) -> Played
-        requires { IsPlayed (record { name = name; rules = arc_value rules; before = before; after = after; rounds = rounds }) }
-        ensures { result ≡ record { name = name; rules = arc_value rules; before = before; after = after; rounds = rounds } }
+        requires { IsPlayed (record {
+          name = name;
+          rules = arc_value rules;
+          before = before;
+          after = after;
+          rounds = rounds;
+        }) }
+        ensures { result ≡ record {
+          name = name;
+          rules = arc_value rules;
+          before = before;
+          after = after;
+          rounds = rounds;
+        } }
     {
         Played {
             name,

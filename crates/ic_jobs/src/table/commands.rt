@@ -18,7 +18,8 @@ use std::alloc::AllocError;
 impl Table {
     /// Does what a command asks, and answers it. Pause, resume and cancel take no memory.
     pub fn apply(&mut self, command: Command) -> Result<Reply, AllocError>
-        ensures event { IfOk result (λ reply. apply self.old (by_command command) ≡ Some (outcome self.new reply)) }
+        ensures event { IfOk result (λ reply.
+            apply self.old (by_command command) ≡ Some (outcome self.new reply)) }
         ensures unchanged { OnErr result (self.new ≡ self.old) }
         ensures memory { OnErr result (IsTrue (takes_memory command)) }
     {
@@ -33,7 +34,8 @@ impl Table {
     }
 
     fn submit(&mut self, name: JobName, system: System) -> Result<Reply, AllocError>
-        ensures event { IfOk result (λ reply. outcome self.new reply ≡ after_command self.old (Submit name system)) }
+        ensures event { IfOk result (λ reply.
+            outcome self.new reply ≡ after_command self.old (Submit name system)) }
         ensures unchanged { OnErr result (self.new ≡ self.old) }
     {
         if place_of(&self.jobs, name).is_some() {
@@ -83,7 +85,8 @@ impl Table {
     }
 
     fn fetch(&self, name: JobName) -> Result<Reply, AllocError>
-        ensures { IfOk result (λ reply. outcome self.now reply ≡ after_command self.now (Fetch name)) }
+        ensures { IfOk result (λ reply.
+            outcome self.now reply ≡ after_command self.now (Fetch name)) }
     {
         let Some(place) = place_of(&self.jobs, name) else {
             return Ok(Reply::Refused(Refusal::NoJob));

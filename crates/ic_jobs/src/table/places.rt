@@ -62,7 +62,8 @@ pub(super) fn due_place(jobs: &[Job], after: usize) -> Option<usize>
     }
 }
 
-/// The place of the running job of a name, if it has these rules, this whole configuration and these rounds.
+/// The place of the running job of a name, if it has these rules, this whole configuration and
+/// these rounds.
 pub(super) fn awaited_place(
     jobs: &[Job],
     name: JobName,

@@ -16,8 +16,8 @@ use ic_term::Config;
 use std::alloc::AllocError;
 
 impl Table {
-    /// A copy of the first running job at this place or behind it, or else of the first running job. None where no job
-    /// runs.
+    /// A copy of the first running job at this place or behind it, or else of the first running
+    /// job. None where no job runs.
     pub fn due(&self, after: usize) -> Result<Option<Flight>, AllocError>
         ensures { IfOk result (λ flight. flight ≡ due self.now after) }
     {
@@ -28,15 +28,16 @@ impl Table {
         Ok(Some(flight))
     }
 
-    /// Whether a running job of this name has these rules, this whole configuration and these rounds. Takes no memory.
+    /// Whether a running job of this name has these rules, this whole configuration and these
+    /// rounds. Takes no memory.
     pub fn awaits(&self, name: JobName, rules: &RuleSet, config: &Config, rounds: u64) -> bool
         ensures { IsTrue result ↔ Awaits self.now name rules.now config.now rounds }
     {
         awaited_place(&self.jobs, name, rules, config, rounds).is_some()
     }
 
-    /// Puts a round that was made, if its job is still as it was before the round; else the round is stale. Takes no
-    /// memory.
+    /// Puts a round that was made, if its job is still as it was before the round; else the round
+    /// is stale. Takes no memory.
     pub fn land(&mut self, played: Played) -> Landed
         ensures event { result ≡ Moved
             → apply self.old (Round played.name) ≡ Some (outcome self.new reply.Moved) }
@@ -59,16 +60,16 @@ impl Table {
         Landed::Moved
     }
 
-    /// Halts a job whose round can't be made, if it is still as it was; else the flight is stale. The job keeps its
-    /// configuration. Takes no memory.
+    /// Halts a job whose round can't be made, if it is still as it was; else the flight is stale.
+    /// The job keeps its configuration. Takes no memory.
     pub fn halt(&mut self, flight: &Flight) -> Landed
         requires { IsTrue (is_blocked flight.now) }
         ensures event { result ≡ Moved
             → apply self.old (Round flight.now.name) ≡ Some (outcome self.new reply.Halted) }
-        ensures awaited { result ≡ Moved
-            → Awaits self.old flight.now.name flight.now.rules flight.now.config flight.now.rounds }
-        ensures stale { result ≡ Stale
-            → ¬ Awaits self.old flight.now.name flight.now.rules flight.now.config flight.now.rounds }
+        ensures awaited { result ≡ Moved → Awaits self.old
+            flight.now.name flight.now.rules flight.now.config flight.now.rounds }
+        ensures stale { result ≡ Stale → ¬ Awaits self.old
+            flight.now.name flight.now.rules flight.now.config flight.now.rounds }
         ensures unchanged { result ≡ Stale → self.new ≡ self.old }
     {
         let Some(place) = awaited_place(

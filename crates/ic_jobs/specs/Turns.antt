@@ -1,0 +1,17 @@
+-- Which jobs of a table run, by their places.
+use Rattle.std.specs.Prelude.{◌≡◌, ℕ, List, Some, slice_get}
+use Rattle.ic_pool.specs.Flight.{FlightParts}
+use Rattle.ic_jobs.specs.declared.state.State.TheVariants.{Running}
+use Rattle.ic_jobs.specs.Job.{JobParts}
+use Rattle.ic_jobs.specs.Landing.{flight_of}
+
+-- A running job stands at this place.
+pub record RunsAt (t : List JobParts) (place : ℕ) : Type 0 where
+  pub job : JobParts
+  pub there : slice_get t place ≡ Some job
+  pub running : job.state ≡ Running
+
+-- A flight is that of the running job at its place.
+pub record IsFlightOf (t : List JobParts) (f : FlightParts) : Type 0 where
+  pub runs : RunsAt t f.place
+  pub copied : f ≡ flight_of f.place runs.job
