@@ -12,7 +12,7 @@ use Rattle.ic_frames.specs.inner.Standing.{IsFrame}
 use Rattle.ic_frames.proofs.FieldLemmas.{length-bytes_at, get_or-bytes_at, shut_from, whole_from}
 
 -- the same bytes at two places
-shifted_bytes : (k j n : ℕ) (a b : List ℕ) → k + n ≤ length a → j + n ≤ length b → ((i : ℕ) → i < n → get_or b (j + i) 0 ≡ get_or a (k + i) 0) → bytes_at j n b ≡ bytes_at k n a
+pub shifted_bytes : (k j n : ℕ) (a b : List ℕ) → k + n ≤ length a → j + n ≤ length b → ((i : ℕ) → i < n → get_or b (j + i) 0 ≡ get_or a (k + i) 0) → bytes_at j n b ≡ bytes_at k n a
 shifted_bytes k j n a b within within_new same = ext_get_or 0 (bytes_at j n b) (bytes_at k n a)
     (length-bytes_at j n b within_new ∙ sym (length-bytes_at k n a within))
     (λ i inside.
