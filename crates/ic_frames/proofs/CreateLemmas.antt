@@ -1,19 +1,19 @@
 -- What a disk holds after its first frame is written.
-use Rattle.std.proofs.Common.{◌≡◌, Result, Ok, Err, OnOk, ℕ, ◌+◌, ◌-◌, ◌<◌, ◌≤◌, Bool, true, false, List, [], ◌∷◌, length, get_or, drop, refl, sym, ◌∙◌, ap, subst, arith}
+use Rattle.std.proofs.Common.{◌≡◌, Result, Ok, Err, OnOk, ℕ, ◌≤◌, true, false, List, [], ◌∷◌, length, get_or, sym, ◌∙◌, subst, arith}
 use Rattle.std.proofs.lemmas.Bool.{true≢false}
 use Rattle.ic_disk.specs.Content.{laid}
 use Rattle.ic_disk.specs.lemmas.ContentLaws.{length-laid, laid-inside, laid-behind}
 use Rattle.ic_disk.specs.Images.{Only, Within}
 use Rattle.ic_disk.specs.lemmas.ImageLaws.{torn_laid}
-use Rattle.ic_frames.specs.declared.slot.Slot.TheVariants.{First, Second}
+use Rattle.ic_frames.specs.declared.slot.Slot.TheVariants.{First}
 use Rattle.ic_frames.specs.Fields.{is_open, IsMade}
 use Rattle.ic_frames.specs.Held.{Holds}
 use Rattle.ic_frames.specs.Staged.{IsStaged}
 use Rattle.ic_frames.specs.inner.Standing.{Stands, IsFrame}
-use Rattle.ic_frames.proofs.FieldLemmas.{shut_from, open_from, whole_parts}
+use Rattle.ic_frames.proofs.FieldLemmas.{shut_from, open_from}
 use Rattle.ic_frames.proofs.HeldLemmas.{stands_holds}
 use Rattle.ic_frames.proofs.CrashLemmas.{staged_torn}
-use Rattle.ic_frames.proofs.FrameLemmas.{length-framed, number-framed, whole-framed, body-framed}
+use Rattle.ic_frames.proofs.FrameLemmas.{number-framed, whole-framed, body-framed}
 use Rattle.ic_frames.proofs.KeepLemmas.{laid_byte, zero_is_one, of_only}
 
 module _ (held frame zeros file : List ℕ) (is : IsFrame 1 held frame) (short : length held ≤ 3036421) (long : length zeros ≡ 13) (zero_first : get_or zeros 0 0 ≡ 0) where

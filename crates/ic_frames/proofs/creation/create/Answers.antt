@@ -1,4 +1,4 @@
-use Rattle.std.proofs.Common.{◌≡◌, ◌∙◌, ◌+◌, ◌≤◌, ap, refl, List, ℕ, length, drop, arith, length-drop}
+use Rattle.std.proofs.Common.{◌≡◌, ◌∙◌, ◌≤◌, ap, refl, List, ℕ, length, drop, arith, length-drop}
 use Rattle.std.specs.Prelude.{replicate}
 use Rattle.ic_disk.specs.Content.{laid}
 use Rattle.ic_disk.specs.Images.{Within}
