@@ -97,7 +97,7 @@ fetch_keeps t what (Some j) same is = subst (λ (l : List JobParts). IsTable l) 
 
 pub command_keeps : (t : List JobParts) (c : Command) → IsTable t → IsCommand c → IsTable (after_command t c).table
 command_keeps t (Submit name s) is ok =
-    submit_keeps name s t (is_some (job_named name t)) (nat_lt (length t) MAX_JOBS) refl refl is (IsJob-begun name s ok.name ok.rules ok.config ok.over)
+    submit_keeps name s t (is_some (job_named name t)) (nat_lt (length t) MAX_JOBS) refl refl is (IsJob-begun name s ok.name ok.symbols ok.rules ok.config ok.over)
 command_keeps t (Pause name) is ok = pause_keeps name t (job_named name t) refl is
 command_keeps t (Resume name) is ok = resume_keeps name t (job_named name t) refl is
 command_keeps t (Cancel name) is ok = cancel_keeps name t (job_named name t) refl is

@@ -1,7 +1,7 @@
 -- Jobs that stay jobs.
 use Rattle.std.proofs.Common.{List, ◌≡◌, ℕ, ◌+◌, ◌<◌, ◌≤◌, ◌↔◌, ◌&&◌, Bool, true, false, cond, IsTrue, nat_lt, refl, sym, ap, subst, ◌∙◌, arith}
 use Rattle.std.proofs.lemmas.Bool.{ltb-true}
-use Rattle.ic_term.specs.Symbol.{is_over}
+use Rattle.ic_term.specs.Symbol.{AreSymbols, is_over}
 use Rattle.ic_term.specs.Configuration.{Configuration, IsConfiguration}
 use Rattle.ic_rules.specs.JobName.{is_job_name}
 use Rattle.ic_rules.specs.RuleSet.{Rules, IsRuleSet}
@@ -29,6 +29,7 @@ not_done Halted apart e = cc
 pub IsJob-in_state : (s : State) (j : JobParts) → IsJob j → is_done j.state ≡ false → is_done s ≡ false → IsJob (in_state s j)
 IsJob-in_state s j is old new = record {
   name = is.name;
+  symbols = is.symbols;
   rules = is.rules;
   config = is.config;
   over = is.over;
@@ -55,6 +56,7 @@ IsJob-moved j is can =
     let parts = and_parts (fits j.rules.rules j.config) (nat_lt j.rounds MAX_ROUNDS) can in
     record {
       name = is.name;
+      symbols = is.symbols;
       rules = is.rules;
       config = round_is_configuration j.rules j.config is.rules is.config is.over parts.0;
       over = round_is_over j.rules j.config is.rules is.over;
@@ -62,9 +64,10 @@ IsJob-moved j is can =
       done = open_state-done j.rules (round j.rules.rules j.config);
     }
 
-pub IsJob-begun : (name : List ℕ) (s : SystemParts) → IsTrue (is_job_name name) → IsRuleSet s.rules → IsConfiguration s.config → IsTrue (is_over s.rules.symbols s.config) → IsJob (begun name s)
-IsJob-begun name s named rules config over = record {
+pub IsJob-begun : (name : List ℕ) (s : SystemParts) → IsTrue (is_job_name name) → AreSymbols s.rules.symbols → IsRuleSet s.rules → IsConfiguration s.config → IsTrue (is_over s.rules.symbols s.config) → IsJob (begun name s)
+IsJob-begun name s named symbols rules config over = record {
   name = named;
+  symbols = symbols;
   rules = rules;
   config = config;
   over = over;
@@ -103,12 +106,12 @@ agrees_done s rs c h = bools_equal (is_quiet rs.rules c) (is_done s)
 
 -- ---- jobs that are made or changed field by field
 
-pub IsJob-of_parts : (name : List ℕ) (rules : Rules) (config : Configuration) (s : State) → IsTrue (is_job_name name) → IsRuleSet rules → IsConfiguration config
+pub IsJob-of_parts : (name : List ℕ) (rules : Rules) (config : Configuration) (s : State) → IsTrue (is_job_name name) → AreSymbols rules.symbols → IsRuleSet rules → IsConfiguration config
     → IsTrue (is_over rules.symbols config) → s ≡ open_state rules config
     → IsJob (record { name = name; rules = rules; config = config; rounds = 0; state = s })
-IsJob-of_parts name rules config s named set valid over e =
+IsJob-of_parts name rules config s named symbols set valid over e =
     subst (λ (r : State). IsJob (record { name = name; rules = rules; config = config; rounds = 0; state = r })) (sym e)
-    (IsJob-begun name (record { rules = rules; config = config }) named set valid over)
+    (IsJob-begun name (record { rules = rules; config = config }) named symbols set valid over)
 
 pub IsJob-advanced : (j n : JobParts) (after : Configuration) (s : State) → IsJob j → j ≡ n → IsTrue (can_move n) → after ≡ round n.rules.rules n.config
     → s ≡ open_state j.rules after → IsJob (record { name = j.name; rules = j.rules; config = after; rounds = j.rounds + 1; state = s })

@@ -1,7 +1,7 @@
 -- A job of the table.
 use Rattle.std.specs.Prelude.{◌≡◌, ℕ, ◌+◌, ◌≤◌, ◌↔◌, ◌&&◌, List, Bool, IsTrue, nat_lt, if◌then◌else◌, refl}
 use Rattle.std.specs.Coded.{Coded, code_by, coded×, coded_ℕ, coded_list}
-use Rattle.ic_term.specs.Symbol.{is_over}
+use Rattle.ic_term.specs.Symbol.{AreSymbols, is_over}
 use Rattle.ic_term.specs.Configuration.{Configuration, IsConfiguration, coded_configuration}
 use Rattle.ic_rules.specs.JobName.{is_job_name}
 use Rattle.ic_rules.specs.RuleSet.{Rules, IsRuleSet, coded_rules}
@@ -24,6 +24,7 @@ pub record JobParts : Type 0 where
 -- What each job keeps. It is done exactly where its configuration is quiet.
 pub record IsJob (j : JobParts) : Type 0 where
   pub name : IsTrue (is_job_name j.name)
+  pub symbols : AreSymbols j.rules.symbols
   pub rules : IsRuleSet j.rules
   pub config : IsConfiguration j.config
   pub over : IsTrue (is_over j.rules.symbols j.config)

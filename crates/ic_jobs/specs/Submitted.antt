@@ -1,7 +1,7 @@
 -- Which commands and events there are, and which jobs they mention.
 use Rattle.std.specs.Prelude.{ℕ, List, Bool, false, IsTrue}
 use Rattle.std.specs.Str.{bytes_eq}
-use Rattle.ic_term.specs.Symbol.{is_over}
+use Rattle.ic_term.specs.Symbol.{AreSymbols, is_over}
 use Rattle.ic_term.specs.Configuration.{IsConfiguration}
 use Rattle.ic_rules.specs.JobName.{is_job_name}
 use Rattle.ic_rules.specs.RuleSet.{IsRuleSet}
@@ -14,6 +14,7 @@ use Rattle.ic_jobs.specs.declared.event.Event.TheVariants.{Command as by_command
 -- What each submit keeps: it has the name of a job, and a configuration over the symbols of a rule set.
 pub record IsSubmit (text : List ℕ) (system : SystemParts) : Type 0 where
   pub name : IsTrue (is_job_name text)
+  pub symbols : AreSymbols system.rules.symbols
   pub rules : IsRuleSet system.rules
   pub config : IsConfiguration system.config
   pub over : IsTrue (is_over system.rules.symbols system.config)

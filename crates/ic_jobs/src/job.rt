@@ -60,7 +60,7 @@ impl Job {
             job ≡ record { name = name; rules = arc_value rules; config = config; rounds = rounds; state = state }) }
     {
         // What the types of the parts keep, the job keeps too.
-        let (_text, _next) = (name.as_bytes(), config.next());
+        let (_text, _count, _next) = (name.as_bytes(), rules.symbols().len(), config.next());
         if rounds > MAX_ROUNDS || !over(rules.symbols(), &config) {
             return None;
         }
@@ -82,7 +82,8 @@ impl Job {
         ensures sound { IsJob result }
     {
         let (rules, config) = system.into_parts();
-        let (_text, _symbols, _next) = (name.as_bytes(), rules.symbols(), config.next());
+        let symbols = rules.symbols();
+        let (_text, _count, _next) = (name.as_bytes(), symbols.len(), config.next());
         let state = open_state(&rules, &config);
         Job {
             name,
