@@ -1,18 +1,15 @@
 -- What a crash leaves of two slots while the slot beside the newest is written.
-use Rattle.std.proofs.Common.{◌≡◌, ◌⊎◌, inl, inr, ⊎_elim, ℕ, ◌+◌, ◌-◌, ◌<◌, ◌≤◌, Bool, true, false, List, [], ◌∷◌, length, get_or, drop, refl, sym, ◌∙◌, ap, subst, arith, length-drop}
+use Rattle.std.proofs.Common.{◌≡◌, ◌⊎◌, inl, inr, ⊎_elim, ℕ, ◌+◌, ◌-◌, ◌<◌, ◌≤◌, Bool, true, false, List, length, refl, sym, ◌∙◌, subst, arith}
 use Rattle.std.proofs.lemmas.Bool.{cases_Bool, false≢true, true≢false}
-use Rattle.ic_disk.specs.Content.{laid, bytes_at}
-use Rattle.ic_disk.specs.lemmas.ContentLaws.{length-laid, laid-inside}
 use Rattle.ic_disk.specs.Images.{Torn}
-use Rattle.ic_disk.specs.lemmas.ImageLaws.{torn_laid}
 use Rattle.ic_frames.specs.declared.slot.Slot.{Slot}
 use Rattle.ic_frames.specs.declared.slot.Slot.TheVariants.{First, Second}
 use Rattle.ic_frames.specs.Places.{place, other}
 use Rattle.ic_frames.specs.Fields.{number, size, body, is_open, is_whole, IsMade}
-use Rattle.ic_frames.specs.Held.{Holds, HoldsEither}
+use Rattle.ic_frames.specs.Held.{HoldsEither}
 use Rattle.ic_frames.specs.Staged.{IsStaged}
 use Rattle.ic_frames.specs.inner.Standing.{Stands}
-use Rattle.ic_frames.proofs.FieldLemmas.{SameAt, part_of, number-same, size-same, body-same, open_parts, open_from, shut_from, open-same, whole_parts, whole_from}
+use Rattle.ic_frames.proofs.FieldLemmas.{SameAt, part_of, number-same, size-same, body-same, open_parts, open_from, open-same, whole_parts, whole_from}
 use Rattle.ic_frames.proofs.HeldLemmas.{stands_holds}
 
 -- how far each slot may reach before the other

@@ -1,11 +1,11 @@
 -- Files that are the same over a part of a slot, and what its fields are there.
-use Rattle.std.proofs.Common.{◌≡◌, ◌⊎◌, ⊎_elim, ℕ, ◌+◌, ◌-◌, ◌<◌, ◌≤◌, Bool, true, false, List, length, get_or, take, drop, refl, sym, ◌∙◌, ap, arith, length-drop}
+use Rattle.std.proofs.Common.{◌≡◌, ◌⊎◌, ⊎_elim, ℕ, ◌+◌, ◌<◌, ◌≤◌, Bool, true, false, List, length, get_or, drop, sym, ◌∙◌, ap, arith, length-drop}
 use Rattle.std.proofs.lemmas.List.{ext_get_or, get_or-take, get_or-drop, length-take-le}
 use Rattle.std.proofs.lemmas.Bool.{leb-true, le-leb, eqb-true, eq-eqb, ne_eqb, lt-leb, and_parts, and_from, and_left, and_right}
 use Rattle.std.specs.Prelude.{◌&&◌, ◌==◌, nat_le}
 use Rattle.std.specs.Int.{w32, w64, from_be_bytes}
 use Rattle.ic_disk.specs.Content.{bytes_at}
-use Rattle.ic_frames.specs.Fields.{gate, number, size, body, is_open, is_whole}
+use Rattle.ic_frames.specs.Fields.{number, size, body, is_open, is_whole}
 
 -- both files have these places, with the same bytes
 pub record SameAt (at n : ℕ) (a b : List ℕ) : Type 0 where

@@ -1,6 +1,6 @@
 -- What a disk that is opened has, by what was found there.
-use Rattle.std.proofs.Common.{◌≡◌, ◌⊎◌, inl, inr, ⊎_elim, ℕ, ◌+◌, ◌<◌, ◌≤◌, Bool, true, false, List, length, drop, refl, sym, ◌∙◌, ap, subst, arith}
-use Rattle.std.proofs.lemmas.Bool.{cases_Bool, false≢true, true≢false}
+use Rattle.std.proofs.Common.{◌≡◌, ◌⊎◌, inl, inr, ⊎_elim, ℕ, ◌+◌, ◌<◌, ◌≤◌, true, false, List, length, drop, refl, sym, ◌∙◌, ap, arith}
+use Rattle.std.proofs.lemmas.Bool.{cases_Bool, false≢true}
 use Rattle.ic_disk.specs.Content.{bytes_at}
 use Rattle.ic_disk.specs.Images.{Only}
 use Rattle.ic_frames.specs.declared.slot.Slot.{Slot}
@@ -10,9 +10,8 @@ use Rattle.ic_frames.specs.declared.found.Found.{Found}
 use Rattle.ic_frames.specs.declared.faults.OpenCause.{OpenCause}
 use Rattle.ic_frames.specs.declared.faults.OpenCause.TheVariants.{Device, NoSlot, TwoAlike, Damaged, Memory}
 use Rattle.ic_frames.specs.Places.{place, other}
-use Rattle.ic_frames.specs.Fields.{number, size, body, is_open, is_whole, IsMade}
+use Rattle.ic_frames.specs.Fields.{body, is_open, is_whole, IsMade}
 use Rattle.ic_frames.specs.Held.{Held, the_body, damaged, body_held}
-use Rattle.ic_frames.specs.Staged.{IsStaged}
 use Rattle.ic_frames.specs.inner.Standing.{Stands, IsKept}
 use Rattle.ic_frames.specs.Opening.{Answers}
 use Rattle.ic_frames.specs.inner.Finding.{IsChosen, IsFound, IsDamage}

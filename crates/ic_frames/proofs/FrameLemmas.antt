@@ -1,5 +1,5 @@
 -- A frame that is laid over a file stands there as a slot.
-use Rattle.std.proofs.Common.{◌≡◌, ℕ, ◌+◌, ◌-◌, ◌^◌, ◌<◌, ◌≤◌, Bool, true, List, length, get_or, set, take, drop, refl, sym, ◌∙◌, ap, subst, arith, length-drop}
+use Rattle.std.proofs.Common.{◌≡◌, ℕ, ◌+◌, ◌-◌, ◌^◌, ◌<◌, ◌≤◌, true, List, length, get_or, set, take, drop, sym, ◌∙◌, ap, arith, length-drop}
 use Rattle.std.proofs.lemmas.List.{ext_get_or, get_or-take, get_or-drop, get_or-set_same, length-set, drop-set-lt, take_all, places}
 use Rattle.std.proofs.lemmas.Slice.{take-put_mid_below, drop-put_mid, between-put_mid, between_is}
 use Rattle.std.proofs.lemmas.Nat.{from_be_bytes-to_be_bytes_4, from_be_bytes-to_be_bytes_8}
@@ -7,12 +7,12 @@ use Rattle.std.specs.Int.{w32, w64, from_be_bytes, to_be_bytes}
 use borrow.Rule.Slice.PartMut.{put_mid}
 use Rattle.ic_disk.specs.Content.{laid, bytes_at}
 use Rattle.ic_disk.specs.lemmas.ContentLaws.{length-laid, laid-inside}
-use Rattle.ic_frames.specs.Fields.{gate, number, size, body, is_open, is_whole}
+use Rattle.ic_frames.specs.Fields.{number, size, body, is_whole}
 use Rattle.ic_frames.specs.inner.Standing.{IsFrame}
-use Rattle.ic_frames.proofs.FieldLemmas.{length-bytes_at, get_or-bytes_at, shut_from, whole_from}
+use Rattle.ic_frames.proofs.FieldLemmas.{length-bytes_at, get_or-bytes_at, whole_from}
 
 -- the same bytes at two places
-shifted_bytes : (k j n : ℕ) (a b : List ℕ) → k + n ≤ length a → j + n ≤ length b → ((i : ℕ) → i < n → get_or b (j + i) 0 ≡ get_or a (k + i) 0) → bytes_at j n b ≡ bytes_at k n a
+pub shifted_bytes : (k j n : ℕ) (a b : List ℕ) → k + n ≤ length a → j + n ≤ length b → ((i : ℕ) → i < n → get_or b (j + i) 0 ≡ get_or a (k + i) 0) → bytes_at j n b ≡ bytes_at k n a
 shifted_bytes k j n a b within within_new same = ext_get_or 0 (bytes_at j n b) (bytes_at k n a)
     (length-bytes_at j n b within_new ∙ sym (length-bytes_at k n a within))
     (λ i inside.

@@ -1,12 +1,12 @@
 -- Which body a file holds.
-use Rattle.std.proofs.Common.{◌≡◌, inl, inr, ⊎_elim, ℕ, ◌+◌, ◌<◌, ◌≤◌, Bool, true, false, List, length, refl, sym, ◌∙◌, ap, arith}
+use Rattle.std.proofs.Common.{◌≡◌, ⊎_elim, ℕ, ◌<◌, Bool, true, false, List, refl, sym, ◌∙◌, ap, arith}
 use Rattle.std.proofs.lemmas.Bool.{cases_Bool, ne_eqb, lt-ltb, le-ltb, false≢true}
 use Rattle.std.specs.Prelude.{◌==◌, nat_lt, if◌then◌else◌}
 use Rattle.ic_frames.specs.declared.slot.Slot.{Slot}
 use Rattle.ic_frames.specs.declared.slot.Slot.TheVariants.{First, Second}
-use Rattle.ic_frames.specs.Places.{place, other}
+use Rattle.ic_frames.specs.Places.{place}
 use Rattle.ic_frames.specs.Fields.{number, body, is_open, is_whole, IsMade}
-use Rattle.ic_frames.specs.Held.{Held, the_body, no_slot, two_alike, damaged, body_of, newer_body, body_held, IsNewest, Holds}
+use Rattle.ic_frames.specs.Held.{Held, the_body, damaged, body_of, body_held, IsNewest, Holds}
 use Rattle.ic_frames.specs.inner.Standing.{Stands}
 
 -- which of four bodies two tests choose

@@ -1,18 +1,18 @@
 -- What is on a disk that is kept, before and after each phase of a keep.
-use Rattle.std.proofs.Common.{◌≡◌, ◌⊎◌, inl, inr, ⊎_elim, ℕ, ◌+◌, ◌-◌, ◌<◌, ◌≤◌, Bool, true, false, List, [], ◌∷◌, length, get_or, drop, refl, sym, ◌∙◌, ap, subst, arith, length-drop}
+use Rattle.std.proofs.Common.{◌≡◌, ◌⊎◌, ⊎_elim, ℕ, ◌+◌, ◌-◌, ◌≤◌, Bool, true, false, List, [], ◌∷◌, length, get_or, drop, refl, sym, ◌∙◌, ap, subst, arith, length-drop}
 use Rattle.std.proofs.lemmas.Bool.{cases_Bool, false≢true, true≢false}
-use Rattle.ic_disk.specs.Content.{laid, bytes_at}
-use Rattle.ic_disk.specs.lemmas.ContentLaws.{length-laid, laid-inside, laid-before}
+use Rattle.ic_disk.specs.Content.{laid}
+use Rattle.ic_disk.specs.lemmas.ContentLaws.{laid-inside, laid-before}
 use Rattle.ic_disk.specs.Images.{Torn, TornFrom, Within, Only}
 use Rattle.ic_disk.specs.lemmas.ImageLaws.{torn_laid}
 use Rattle.ic_frames.specs.declared.slot.Slot.{Slot}
 use Rattle.ic_frames.specs.declared.slot.Slot.TheVariants.{First, Second}
 use Rattle.ic_frames.specs.Places.{place, other}
-use Rattle.ic_frames.specs.Fields.{number, size, body, is_open, is_whole, IsMade}
-use Rattle.ic_frames.specs.Held.{Held, the_body, body_held, Holds, HoldsEither}
+use Rattle.ic_frames.specs.Fields.{body, is_open, is_whole, IsMade}
+use Rattle.ic_frames.specs.Held.{the_body, Holds, HoldsEither}
 use Rattle.ic_frames.specs.Staged.{IsStaged}
 use Rattle.ic_frames.specs.inner.Standing.{Stands, IsKept, IsFrame}
-use Rattle.ic_frames.proofs.FieldLemmas.{shut_from, open_from, open_parts, open-same, whole_parts}
+use Rattle.ic_frames.proofs.FieldLemmas.{shut_from, open_from, open-same, whole_parts}
 use Rattle.ic_frames.proofs.HeldLemmas.{stands_holds}
 use Rattle.ic_frames.proofs.CrashLemmas.{still_stands, gate_torn, body_torn, open_torn, staged_torn, newly_stands, newest_stays, head_made}
 use Rattle.ic_frames.proofs.FrameLemmas.{length-framed, number-framed, whole-framed, body-framed, gate-framed}

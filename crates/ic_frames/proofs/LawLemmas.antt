@@ -1,5 +1,5 @@
 -- What the definition of what a file holds comes to.
-use Rattle.std.proofs.Common.{◌≡◌, ◌⊎◌, inl, inr, ⊎_elim, ℕ, ◌+◌, ◌-◌, ◌<◌, ◌≤◌, Bool, true, false, List, length, get_or, drop, refl, sym, ◌∙◌, ap, arith, length-drop}
+use Rattle.std.proofs.Common.{◌≡◌, ◌⊎◌, inl, inr, ⊎_elim, ℕ, ◌+◌, ◌-◌, ◌<◌, Bool, true, false, List, length, get_or, drop, refl, sym, ◌∙◌, ap, arith, length-drop}
 use Rattle.std.proofs.lemmas.Bool.{cases_Bool, cases_order, eq-eqb, false≢true}
 use Rattle.std.proofs.lemmas.List.{length-take}
 use Rattle.std.specs.Prelude.{◌==◌, nat_lt, if◌then◌else◌}
@@ -8,7 +8,7 @@ use Rattle.ic_frames.specs.declared.slot.Slot.{Slot}
 use Rattle.ic_frames.specs.declared.slot.Slot.TheVariants.{First, Second}
 use Rattle.ic_frames.specs.Places.{place, other}
 use Rattle.ic_frames.specs.Fields.{number, body, is_open, is_whole}
-use Rattle.ic_frames.specs.Held.{Held, the_body, no_slot, two_alike, damaged, body_of, newer_body, body_held, IsNewest, IsShut, HasTwoAlike, HasSameHeads}
+use Rattle.ic_frames.specs.Held.{the_body, no_slot, two_alike, damaged, body_held, IsNewest, IsShut, HasTwoAlike, HasSameHeads}
 use Rattle.ic_frames.proofs.FieldLemmas.{SameAt, part_of, length-bytes_at, get_or-bytes_at, number-same, open-same, open_parts}
 use Rattle.ic_frames.proofs.HeldLemmas.{newest_held, both_open, none_open, are_alike}
 

@@ -8,3 +8,4 @@ pub mod FoundLemmas
 pub mod CreateLemmas
 pub mod LawLemmas
 pub mod PhaseLemmas
+pub mod LayoutLemmas

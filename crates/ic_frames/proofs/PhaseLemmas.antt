@@ -1,12 +1,12 @@
 -- What the phases of a keep leave of a disk, at each moment and at the end.
-use Rattle.std.proofs.Common.{◌≡◌, ◌⊎◌, inl, inr, ⊎_elim, ℕ, ◌+◌, ◌-◌, ◌<◌, ◌≤◌, Bool, true, false, List, [], ◌∷◌, length, drop, Result, Ok, Err, OnOk, refl, sym, ◌∙◌, ap, subst, arith}
+use Rattle.std.proofs.Common.{◌≡◌, ◌⊎◌, inl, ⊎_elim, ℕ, ◌+◌, ◌-◌, ◌≤◌, Bool, true, false, List, [], ◌∷◌, length, drop, Result, Ok, Err, OnOk, sym, ◌∙◌, ap, subst, arith}
 use Rattle.ic_disk.specs.Content.{laid}
 use Rattle.ic_disk.specs.Images.{TornFrom, Within, Only}
 use Rattle.ic_disk.specs.Time.{LeavesOnly}
 use Rattle.ic_disk.specs.lemmas.Moments.{leaves_weaker, then_runs}
 use Rattle.ic_frames.specs.declared.slot.Slot.{Slot}
 use Rattle.ic_frames.specs.Places.{place, other}
-use Rattle.ic_frames.specs.Held.{the_body, body_held, Holds, HoldsEither}
+use Rattle.ic_frames.specs.Held.{Holds, HoldsEither}
 use Rattle.ic_frames.specs.Staged.{IsStaged}
 use Rattle.ic_frames.specs.inner.Standing.{IsKept, IsFrame}
 use Rattle.ic_frames.proofs.KeepLemmas.{gate_leaves, gate_kept, body_leaves, not_made_leaves, body_kept, open_leaves, open_kept, open_holds}

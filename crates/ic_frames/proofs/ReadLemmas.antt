@@ -1,7 +1,7 @@
 -- Calls that only read, one after another.
-use Rattle.std.proofs.Common.{◌≡◌, ◌⊎◌, inl, inr, ℕ, ◌+◌, ◌-◌, ◌^◌, ◌<◌, List, refl, ◌∙◌, arith}
-use Rattle.ic_disk.specs.Images.{Within, Only}
-use Rattle.ic_disk.specs.Time.{Elapses, LeavesOnly}
+use Rattle.std.proofs.Common.{◌≡◌, ℕ, List, refl, ◌∙◌}
+use Rattle.ic_disk.specs.Images.{Within}
+use Rattle.ic_disk.specs.Time.{Elapses}
 use Rattle.ic_disk.specs.lemmas.Moments.{started, goes_on, then_runs}
 use Rattle.ic_frames.specs.inner.Reading.{OnlyReads}
 

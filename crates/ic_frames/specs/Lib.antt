@@ -2,6 +2,7 @@ pub mod Places
 pub mod Fields
 pub mod Held
 pub mod Staged
+pub mod Layout
 pub mod Opening
 pub mod Faults
 pub mod Frames

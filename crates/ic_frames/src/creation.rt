@@ -2,7 +2,8 @@
 ghost use Rattle.std.specs.Prelude.{◌≡◌, ◌+◌, ◌≤◌, length, drop, IsTrue, OnOk};
 ghost use Rattle.ic_disk.specs.Images.{Within};
 ghost use Rattle.ic_disk.specs.Time.{CountsFailure};
-ghost use Rattle.ic_frames.specs.Held.{Holds, body_held, the_body};
+ghost use Rattle.ic_frames.specs.Held.{Holds, IsClosedIn, body_held, the_body};
+ghost use Rattle.ic_frames.specs.Staged.{IsStaged};
 
 use crate::frame::fill_head;
 use crate::writes::{write_frame, write_gate};
@@ -21,11 +22,16 @@ pub fn create<D: Disk>(disk: &mut D, frame: &mut [u8]) -> Result<(), DiskFault>
     ensures same_body { drop 13 frame.new ≡ drop 13 frame.old }
     ensures calls { IsTrue (D.keeps disk.old) → D.clock disk.new ≤ D.clock disk.old + 6 }
 
-    // At Ok a crash leaves that body, and so do reads.
+    // At Ok a crash leaves that body, and so do reads. It is in the first slot with the number 1,
+    // and the second slot is closed.
     ensures holds { IsTrue (D.keeps disk.old)
         → OnOk result (Within (D.image disk.new) (Holds (drop 13 frame.old))) }
     ensures held { IsTrue (D.keeps disk.old)
         → OnOk result (body_held (D.content disk.new) ≡ the_body (drop 13 frame.old)) }
+    ensures first { IsTrue (D.keeps disk.old) → OnOk result
+        (Within (D.image disk.new) (IsStaged Slot.First 1 (drop 13 frame.old))) }
+    ensures shut { IsTrue (D.keeps disk.old)
+        → OnOk result (Within (D.image disk.new) (IsClosedIn Slot.Second)) }
 {
     fill_head(frame, 1);
     write_synced(disk, SECOND_AT, &[0; HEAD])?;

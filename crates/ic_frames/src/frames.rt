@@ -125,10 +125,11 @@ impl<D: Disk> Frames<D> {
         ensures counted { CountsKeep result
             (D.failures (disk_of self.old)) (D.failures (disk_of self.new)) }
         ensures breaks { IsErrOf result KeepFault.Device → is_broken self.new ≡ true }
-        ensures refused { IsErr result → is_broken self.new ≡ false
-            → disk_of self.new ≡ disk_of self.old }
+        ensures refused { IsErr result → ¬ IsErrOf result KeepFault.Device
+            → self.new ≡ self.old }
 
         ensures closed { OnOk result (is_closed self.new ≡ true) }
+        ensures staged { is_staged self.new ≡ is_staged self.old }
         ensures ready { OnOk result (is_broken self.new ≡ false) }
         ensures target { target_of self.new ≡ target_of self.old }
         ensures number { number_of self.new ≡ number_of self.old }
@@ -171,10 +172,14 @@ impl<D: Disk> Frames<D> {
         ensures counted { CountsKeep result
             (D.failures (disk_of self.old)) (D.failures (disk_of self.new)) }
         ensures breaks { IsErrOf result KeepFault.Device → is_broken self.new ≡ true }
-        ensures refused { IsErr result → is_broken self.new ≡ false
-            → disk_of self.new ≡ disk_of self.old }
+        ensures refused { IsErr result → ¬ IsErrOf result KeepFault.Device
+            → self.new ≡ self.old }
+
+        ensures same_frame { IsErr result → ¬ IsErrOf result KeepFault.Device
+            → frame.new ≡ frame.old }
 
         ensures staged { OnOk result (is_staged self.new ≡ true) }
+        ensures closed { is_closed self.new ≡ is_closed self.old }
         ensures same_body { drop 13 frame.new ≡ drop 13 frame.old }
         ensures ready { OnOk result (is_broken self.new ≡ false) }
         ensures target { target_of self.new ≡ target_of self.old }
@@ -215,10 +220,12 @@ impl<D: Disk> Frames<D> {
         ensures counted { CountsKeep result
             (D.failures (disk_of self.old)) (D.failures (disk_of self.new)) }
         ensures breaks { IsErrOf result KeepFault.Device → is_broken self.new ≡ true }
-        ensures refused { IsErr result → is_broken self.new ≡ false
-            → disk_of self.new ≡ disk_of self.old }
+        ensures refused { IsErr result → ¬ IsErrOf result KeepFault.Device
+            → self.new ≡ self.old }
 
         ensures ready { OnOk result (is_broken self.new ≡ false) }
+        ensures closed { OnOk result (is_closed self.new ≡ false) }
+        ensures staged { OnOk result (is_staged self.new ≡ false) }
         ensures target { OnOk result (target_of self.new ≡ other (target_of self.old)) }
         ensures number { OnOk result (number_of self.new ≡ number_of self.old + 1) }
         ensures calls { IsTrue (D.keeps (disk_of self.old))
@@ -263,10 +270,15 @@ impl<D: Disk> Frames<D> {
         ensures counted { CountsKeep result
             (D.failures (disk_of self.old)) (D.failures (disk_of self.new)) }
         ensures breaks { IsErrOf result KeepFault.Device → is_broken self.new ≡ true }
-        ensures refused { IsErr result → is_broken self.new ≡ false
-            → disk_of self.new ≡ disk_of self.old }
+        ensures refused { IsErr result → ¬ IsErrOf result KeepFault.Device
+            → self.new ≡ self.old }
+
+        ensures same_frame { IsErr result → ¬ IsErrOf result KeepFault.Device
+            → frame.new ≡ frame.old }
 
         ensures ready { OnOk result (is_broken self.new ≡ false) }
+        ensures closed { OnOk result (is_closed self.new ≡ false) }
+        ensures staged { OnOk result (is_staged self.new ≡ false) }
         ensures target { OnOk result (target_of self.new ≡ other (target_of self.old)) }
         ensures number { OnOk result (number_of self.new ≡ number_of self.old + 1) }
 

@@ -1,13 +1,22 @@
 //! Laws of the definitions that the contracts of this crate cite.
 
-ghost use Rattle.std.specs.Prelude.{◌≡◌, ◌⊎◌, true, false, List, ℕ};
+ghost use Rattle.std.specs.Prelude.{◌≡◌, ◌⊎◌, ◌↔◌, ◌+◌, ◌-◌, ◌^◌, ◌<◌, ◌≤◌, true, false, List, [], ◌∷◌, ◌++◌, ℕ, codes, length, slice_index, IsErrOf, Result, Err};
+ghost use Rattle.ic_disk.specs.Content.{bytes_at};
+ghost use Rattle.ic_frames.specs.declared.faults.KeepFault.{KeepFault};
+ghost use Rattle.ic_frames.specs.declared.faults.KeepFault.TheVariants.{Device as KeepDevice};
+ghost use Rattle.ic_frames.specs.declared.faults.OpenCause.{OpenCause};
+ghost use Rattle.ic_frames.specs.declared.faults.OpenCause.TheVariants.{Device as OpenDevice, NoSlot, TwoAlike, Damaged};
 ghost use Rattle.ic_frames.specs.declared.frame.TheConstants.{HEAD, MAX_BODY};
 ghost use Rattle.ic_frames.specs.declared.slot.Slot.{Slot};
 ghost use Rattle.ic_frames.specs.declared.slot.Slot.TheVariants.{Second};
 ghost use Rattle.ic_frames.specs.declared.slot.TheConstants.{SECOND_AT};
 ghost use Rattle.ic_frames.specs.Places.{place};
-ghost use Rattle.ic_frames.specs.Fields.{is_whole, body};
-ghost use Rattle.ic_frames.specs.Held.{IsNewest, IsShut, HasTwoAlike, HasSameHeads, body_held, the_body, no_slot, two_alike, damaged};
+ghost use Rattle.ic_frames.specs.Faults.{CountsKeep, CountsOpen};
+ghost use Rattle.ic_frames.specs.Fields.{size, is_open, is_whole, body};
+ghost use Rattle.ic_frames.specs.Layout.{slot_bytes, AreBytes};
+ghost use Rattle.ic_frames.specs.Opening.{Answers};
+ghost use Rattle.ic_frames.specs.Staged.{IsStaged};
+ghost use Rattle.ic_frames.specs.Held.{Held, IsNewest, IsShut, HasTwoAlike, HasSameHeads, body_held, the_body, no_slot, two_alike, damaged};
 
 /// What a disk holds is the body of its newest slot: it holds a body exactly where one slot is the
 /// newest and has that body whole.
@@ -29,6 +38,48 @@ pub fn the_newest_slot_is_held()
 pub fn the_heads_say_which_is_newest()
     ensures { (slot : Slot) (old new : List ℕ) → HasSameHeads old new
         → IsNewest slot old → IsNewest slot new }
+{}
+
+/// A slot is its bytes: 1 at the gate, the number in eight bytes and the length of the body in four,
+/// both big endian, and the body. Where these stand the slot is open and whole, with that number
+/// and that body, and nothing else is.
+pub fn a_slot_is_its_bytes()
+    ensures written { (slot : Slot) (n : ℕ) (held file : List ℕ) → n < 2 ^ 64
+        → length held ≤ MAX_BODY → bytes_at (place slot) (13 + length held) file ≡ slot_bytes n held
+        → (is_open (place slot) file ≡ true) × IsStaged slot n held file }
+    ensures only { (slot : Slot) (n : ℕ) (held file : List ℕ) → AreBytes file
+        → is_open (place slot) file ≡ true → IsStaged slot n held file
+        → bytes_at (place slot) (13 + length held) file ≡ slot_bytes n held }
+    ensures example { slot_bytes 1 (codes "ICT1" ++ 0 ∷ [])
+        ≡ 1 ∷ 0 ∷ 0 ∷ 0 ∷ 0 ∷ 0 ∷ 0 ∷ 0 ∷ 1 ∷ 0 ∷ 0 ∷ 0 ∷ 5 ∷ 0x49 ∷ 0x43 ∷ 0x54 ∷ 0x31 ∷ 0 ∷ [] }
+{}
+
+/// When a slot is open, and when its body is whole.
+pub fn a_slot_is_open_or_whole()
+    ensures opened { (at : ℕ) (file : List ℕ) → (is_open at file ≡ true)
+        ↔ ((at + HEAD ≤ length file) × (slice_index file at ≡ 1)) }
+    ensures whole { (at : ℕ) (file : List ℕ) → (is_whole at file ≡ true)
+        ↔ ((size at file ≤ MAX_BODY) × (at + HEAD + size at file ≤ length file)) }
+{}
+
+/// Where the disk is told to have failed one failure more is counted, up to the end of the count.
+/// Where it isn't, none is.
+pub fn a_failure_is_counted()
+    ensures keep_failed { (old new : ℕ) → CountsKeep {T = Unit {0}} (Err KeepDevice) old new
+        → (new ≡ old + 1) ⊎ ((old ≡ 2 ^ 64 - 1) × (new ≡ old)) }
+    ensures keep_else { (result : Result (Unit {0}) KeepFault) (old new : ℕ)
+        → CountsKeep result old new → ¬ IsErrOf result KeepDevice → new ≡ old }
+    ensures open_failed { (old new : ℕ) → CountsOpen {T = Unit {0}} (Err OpenDevice) old new
+        → (new ≡ old + 1) ⊎ ((old ≡ 2 ^ 64 - 1) × (new ≡ old)) }
+    ensures open_else { (result : Result (Unit {0}) OpenCause) (old new : ℕ)
+        → CountsOpen result old new → ¬ IsErrOf result OpenDevice → new ≡ old }
+{}
+
+/// A refusal to open says what the disk holds.
+pub fn a_refusal_says_what_is_held()
+    ensures shut { (held : Held) → Answers NoSlot held → held ≡ no_slot }
+    ensures alike { (held : Held) → Answers TwoAlike held → held ≡ two_alike }
+    ensures spoiled { (held : Held) → Answers Damaged held → held ≡ damaged }
 {}
 
 /// The places and limits by their names.

@@ -8,6 +8,12 @@ mod crashes;
 #[cfg(test)]
 mod files;
 #[cfg(test)]
+mod framed;
+#[cfg(test)]
+mod frames;
+#[cfg(test)]
 mod fuses;
 #[cfg(test)]
 mod slow_files;
+#[cfg(test)]
+mod stops;

@@ -1,5 +1,5 @@
 -- What is found in a disk that is opened. Inner: private functions cite it.
-use Rattle.std.specs.Prelude.{◌≡◌, ℕ, ◌<◌, Bool, true, false, List, length, drop, Option, None, Some, Result, Ok, Err}
+use Rattle.std.specs.Prelude.{◌≡◌, ℕ, ◌<◌, true, false, List, length, drop, Option, None, Some, Result, Ok, Err}
 use Rattle.ic_frames.specs.declared.slot.Slot.{Slot}
 use Rattle.ic_frames.specs.declared.found.Head.{Head}
 use Rattle.ic_frames.specs.declared.found.Newest.{Newest}

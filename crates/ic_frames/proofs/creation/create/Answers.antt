@@ -1,10 +1,11 @@
-use Rattle.std.proofs.Common.{◌≡◌, ◌∙◌, ◌+◌, ◌≤◌, sym, ap, subst, refl, List, [], ◌∷◌, ℕ, length, drop, arith, length-drop}
+use Rattle.std.proofs.Common.{◌≡◌, ◌∙◌, ◌≤◌, ap, refl, List, ℕ, length, drop, arith, length-drop}
 use Rattle.std.specs.Prelude.{replicate}
 use Rattle.ic_disk.specs.Content.{laid}
-use Rattle.ic_disk.specs.Images.{Only, Within}
-use Rattle.ic_frames.specs.Held.{Holds, the_body, body_held}
-use Rattle.ic_frames.proofs.CreateLemmas.{created_holds}
-use Rattle.ic_frames.proofs.KeepLemmas.{of_only}
+use Rattle.ic_disk.specs.Images.{Within}
+use Rattle.ic_frames.specs.declared.slot.Slot.TheVariants.{First, Second}
+use Rattle.ic_frames.specs.Held.{Holds, IsClosedIn, the_body, body_held}
+use Rattle.ic_frames.specs.Staged.{IsStaged}
+use Rattle.ic_frames.proofs.CreateLemmas.{created_first, created_shut, created_holds, on_created}
 use Rattle.ic_frames.proofs.PhaseLemmas.{on_ok}
 use Rattle.ic_frames.proofs.creation.create.Goals as goal
 
@@ -14,17 +15,12 @@ returns-clause-holds g c keeps =
     let body = drop 13 c.args.frame.now in
     let frame = c.fill_head.new.frame in
     let file = disk.content c.args.disk.now in
-    let mid = c.write_frame.new.disk in
-    let new = c.write_gate.new.disk in
     let keeps_once = c.write_synced.ensures.keeps ∙ keeps in
-    let keeps_twice = c.write_frame.ensures.keeps ∙ keeps_once in
     let short : length body ≤ 3036421 = omega (arith, c.requires.short, length-drop 13 c.args.frame.now) in
-    let written : disk.content mid ≡ laid 0 frame (laid 4194304 (replicate 13 0) file) =
-    c.in_ok-write_frame.ensures.written keeps_once ∙ ap (λ (f : List ℕ). laid 0 frame f) (c.in_ok-write_synced.ensures.written keeps) in
-    on_ok c.write_gate.result (Only (laid 0 (1 ∷ []) (disk.content mid)) (disk.image new)) (Within (disk.image new) (Holds body))
-    (λ only. of_only (Holds body) (laid 0 (1 ∷ []) (disk.content mid)) (disk.image new) only
-    (subst (λ (f : List ℕ). Holds body (laid 0 (1 ∷ []) f)) (sym written) (created_holds body frame (replicate 13 0) file c.fill_head.ensures short refl refl)))
-    (c.write_gate.ensures.durable keeps_twice)
+    on_created c.write_gate.result (Holds body) (laid 0 frame (laid 4194304 (replicate 13 0) file)) (disk.content c.write_frame.new.disk) (disk.image c.write_gate.new.disk)
+    (c.in_ok-write_frame.ensures.written keeps_once ∙ ap (λ (f : List ℕ). laid 0 frame f) (c.in_ok-write_synced.ensures.written keeps))
+    (created_holds body frame (replicate 13 0) file c.fill_head.ensures short refl refl)
+    (c.write_gate.ensures.durable (c.write_frame.ensures.keeps ∙ keeps_once))
 
 pub returns-clause-held : goal.returns-clause-held
 returns-clause-held g c keeps =
@@ -34,3 +30,29 @@ returns-clause-held g c keeps =
     on_ok c.write_gate.result (Within (disk.image new) (Holds body)) (body_held (disk.content new) ≡ the_body body)
     (λ holds. (holds (disk.content new) (g.met.D.Disk.content_is_image new)).held)
     (returns-clause-holds g c keeps)
+
+pub returns-clause-first : goal.returns-clause-first
+returns-clause-first g c keeps =
+    let disk = g.D.Disk in
+    let body = drop 13 c.args.frame.now in
+    let frame = c.fill_head.new.frame in
+    let file = disk.content c.args.disk.now in
+    let keeps_once = c.write_synced.ensures.keeps ∙ keeps in
+    let short : length body ≤ 3036421 = omega (arith, c.requires.short, length-drop 13 c.args.frame.now) in
+    on_created c.write_gate.result (IsStaged First 1 body) (laid 0 frame (laid 4194304 (replicate 13 0) file)) (disk.content c.write_frame.new.disk) (disk.image c.write_gate.new.disk)
+    (c.in_ok-write_frame.ensures.written keeps_once ∙ ap (λ (f : List ℕ). laid 0 frame f) (c.in_ok-write_synced.ensures.written keeps))
+    (created_first body frame (replicate 13 0) file c.fill_head.ensures short refl refl)
+    (c.write_gate.ensures.durable (c.write_frame.ensures.keeps ∙ keeps_once))
+
+pub returns-clause-shut : goal.returns-clause-shut
+returns-clause-shut g c keeps =
+    let disk = g.D.Disk in
+    let body = drop 13 c.args.frame.now in
+    let frame = c.fill_head.new.frame in
+    let file = disk.content c.args.disk.now in
+    let keeps_once = c.write_synced.ensures.keeps ∙ keeps in
+    let short : length body ≤ 3036421 = omega (arith, c.requires.short, length-drop 13 c.args.frame.now) in
+    on_created c.write_gate.result (IsClosedIn Second) (laid 0 frame (laid 4194304 (replicate 13 0) file)) (disk.content c.write_frame.new.disk) (disk.image c.write_gate.new.disk)
+    (c.in_ok-write_frame.ensures.written keeps_once ∙ ap (λ (f : List ℕ). laid 0 frame f) (c.in_ok-write_synced.ensures.written keeps))
+    (created_shut body frame (replicate 13 0) file c.fill_head.ensures short refl refl)
+    (c.write_gate.ensures.durable (c.write_frame.ensures.keeps ∙ keeps_once))

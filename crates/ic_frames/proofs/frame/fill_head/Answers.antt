@@ -1,5 +1,4 @@
-use Rattle.std.proofs.Common.{◌∙◌, ap, length}
-use Rattle.std.specs.Int.{w32, w64, to_be_bytes}
+use Rattle.std.proofs.Common.{◌∙◌}
 use Rattle.ic_frames.proofs.FrameLemmas.{filled_frame}
 use Rattle.ic_frames.proofs.frame.fill_head.Goals as goal
 

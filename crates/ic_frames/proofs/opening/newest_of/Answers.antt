@@ -1,4 +1,4 @@
-use Rattle.std.proofs.Common.{◌≡◌, ◌∙◌, sym, subst, Option, List, ℕ, arith}
+use Rattle.std.proofs.Common.{◌≡◌, subst, Option, arith}
 use Rattle.ic_frames.specs.declared.slot.Slot.TheVariants.{First, Second}
 use Rattle.ic_frames.specs.declared.found.Head.{Head}
 use Rattle.ic_frames.specs.Fields.{number}

@@ -1,4 +1,4 @@
-use Rattle.std.proofs.Common.{◌≡◌, ◌∙◌, ◌+◌, sym, ap, subst, List, ℕ, length, arith}
+use Rattle.std.proofs.Common.{◌∙◌, ◌+◌, sym, ap, List, ℕ, arith}
 use Rattle.ic_disk.specs.Content.{bytes_at}
 use Rattle.ic_frames.specs.Places.{place}
 use Rattle.ic_frames.proofs.FieldLemmas.{short_shut, shut_from, open_from, gate_read, number_read, size_read}

@@ -1,4 +1,4 @@
-use Rattle.std.proofs.Common.{◌≡◌, ◌∙◌, List, ℕ, drop}
+use Rattle.std.proofs.Common.{◌≡◌, ◌∙◌, drop}
 use Rattle.ic_disk.specs.Images.{Within}
 use Rattle.ic_frames.specs.Held.{Holds, the_body, body_held}
 use Rattle.ic_frames.proofs.PhaseLemmas.{at_end, keep_run, stop_run, on_ok}
