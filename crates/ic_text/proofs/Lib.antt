@@ -33,3 +33,7 @@ pub mod NextAbove
 pub mod NameTexts
 pub mod ReadOnce
 pub mod Surveying
+pub mod WordSplits
+pub mod LineReading
+pub mod LineParts
+pub mod LineLaws

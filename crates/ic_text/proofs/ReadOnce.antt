@@ -38,10 +38,10 @@ module _ {P : Type 0} (IsOne : P → Type 0) (words : P → List Token) (told : 
       told.injective p q spells_p.phrase spells_q.phrase (some-injective _ _ (sym spells_p.tokens ∙ spells_q.tokens))
 
   -- whether a text spells a phrase of the kind
-  abbrev Spelling : List ℕ → Type 0
+  abbrev pub Spelling : List ℕ → Type 0
   Spelling text = ((p : P) × IsSpelling IsOne words text p) ⊎ ((p : P) → IsSpelling IsOne words text p → ⊥)
 
-  spelling : (text : List ℕ) → Spelling text
+  pub spelling : (text : List ℕ) → Spelling text
   spelling text = by_tokens (tokens text) refl
     where
       by_test : (ts : List Token) → tokens text ≡ Some ts → (b : Bool) → told.test ts ≡ b → Spelling text

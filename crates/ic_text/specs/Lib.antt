@@ -8,4 +8,8 @@ pub mod SystemSense
 pub mod Reading
 pub mod Text
 pub mod SystemText
+pub mod LineSource
+pub mod LineSense
+pub mod LineText
+pub mod ReplyText
 pub mod inner

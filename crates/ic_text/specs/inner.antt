@@ -10,3 +10,4 @@ pub mod Numbered
 pub mod Terms
 pub mod Built
 pub mod Printing
+pub mod Line

@@ -1,6 +1,6 @@
 //! What is proved of the definitions alone: each law is the contract of a function that does nothing.
 
-ghost use Rattle.std.specs.Prelude.{◌≡◌, ◌≢◌, ◌↔◌, ◌<◌, ◌≤◌, ◌+◌, ◌*◌, ◌^◌, ℕ, List, [], ◌∷◌, ◌++◌, Result, Ok, Some, None, true, false, length, map, codes, not, slice_get, IsTrue};
+ghost use Rattle.std.specs.Prelude.{◌≡◌, ◌≢◌, ◌↔◌, ◌<◌, ◌≤◌, ◌+◌, ◌*◌, ◌^◌, ◌&&◌, ℕ, List, [], ◌∷◌, ◌++◌, Result, Ok, Some, None, true, false, length, map, codes, not, slice_get, nat_le, IsTrue};
 ghost use Rattle.std.specs.List.{filter, flat_map, list_any, list_all, AllByRecursion};
 ghost use Rattle.std.specs.Str.{bytes_eq};
 ghost use Rattle.std.specs.Char.{is_ascii_alphanumeric};
@@ -8,7 +8,7 @@ ghost use Rattle.std.specs.Fmt.{decimal};
 ghost use Rattle.ic_rules.specs.System.{SystemParts};
 ghost use Rattle.ic_term.specs.Configuration.{Configuration, configuration_names, one_above};
 ghost use Rattle.ic_term.specs.Symbol.{Symbol, texts};
-ghost use Rattle.ic_text.specs.Name.{is_name, name_number, name_text};
+ghost use Rattle.ic_text.specs.Name.{is_name, name_number, name_text, number_in};
 ghost use Rattle.ic_text.specs.Source.{Phrase, IsPhrase, phrase_words, phrase_symbols, phrase_names, source_symbols};
 ghost use Rattle.ic_text.specs.SystemSource.{SystemPhrase, IsSystemPhrase, system_words, system_symbols, rule_symbols};
 ghost use Rattle.ic_text.specs.SystemSense.{system_table};
@@ -18,8 +18,23 @@ ghost use Rattle.ic_text.specs.Sense.{symbols_after};
 ghost use Rattle.ic_text.specs.Token.{Token, word, mark, is_blank, is_word_byte, mark_byte, mark_of, tokens_at, followed, tokens, words_among};
 ghost use Rattle.ic_text.specs.declared.token.Mark.{Mark};
 ghost use Rattle.ic_text.specs.declared.token.Mark.TheVariants.{LeftBrace, RightBrace, Less, Greater, Bar, Equals, Comma, Semicolon, Open, Close};
-ghost use Rattle.ic_text.specs.declared.limits.TheConstants.{MAX_TEXT, MAX_NAME};
+ghost use Rattle.ic_text.specs.declared.limits.TheConstants.{MAX_TEXT, MAX_NAME, MAX_RUN};
 ghost use Rattle.ic_text.specs.declared.fault.TextFault.{TextFault};
+ghost use Rattle.ic_rules.specs.JobName.{is_job_name};
+ghost use Rattle.ic_rules.specs.declared.job_name.TheConstants.{MAX_JOB_NAME};
+ghost use Rattle.ic_jobs.specs.declared.state.State.{State};
+ghost use Rattle.ic_jobs.specs.declared.state.State.TheVariants.{Running, Paused, Done, Halted};
+ghost use Rattle.ic_jobs.specs.declared.reply.Refusal.{Refusal};
+ghost use Rattle.ic_jobs.specs.declared.reply.Refusal.TheVariants.{Taken, Full, NoJob, NotRunning, NotPaused};
+ghost use Rattle.ic_jobs.specs.declared.reply.Reply.TheVariants as reply;
+ghost use Rattle.ic_jobs.specs.declared.reply.Reply.TheVariants.{Accepted, Okay, Shown, Listed, Refused, Moved};
+ghost use Rattle.ic_jobs.specs.Shown.{ShownParts};
+ghost use Rattle.ic_text.specs.declared.line.Line.{Line};
+ghost use Rattle.ic_text.specs.declared.line.Verb.TheVariants.{Pause, Resume, Cancel, Fetch};
+ghost use Rattle.ic_text.specs.LineSource.{LinePhrase, submit, list, run, is_job_word, is_number, verb_text, line_words};
+ghost use Rattle.ic_text.specs.LineSense.{submitted};
+ghost use Rattle.ic_text.specs.LineText.{SpellsLine, ReadsLine};
+ghost use Rattle.ic_text.specs.ReplyText.{state_text, refusal_text, reply_text};
 
 /// A text spells at most one configuration, and it is read in just one way.
 pub fn one_reading()
@@ -43,6 +58,7 @@ pub fn one_system_reading()
 pub fn limits_are()
     ensures text { MAX_TEXT ≡ 262144 }
     ensures name { MAX_NAME ≡ 4294967295 }
+    ensures run { MAX_RUN ≡ 1000 }
 {}
 
 /// A symbol whose text none before has gets the next number, with the arity that it has there; one whose text another
@@ -135,4 +151,61 @@ pub fn read_back_law()
         Reads text (Ok (table, c)) → Reads (printed table c) (Ok (table, c)) }
     ensures no_longer { (text : List ℕ) (table : List Symbol) (c : Configuration) →
         Reads text (Ok (table, c)) → length (printed table c) ≤ length text }
+{}
+
+/// A text spells at most one line, and it is read in just one way.
+pub fn one_line_reading()
+    ensures source { (text : List ℕ) (p q : LinePhrase) →
+        SpellsLine text p → SpellsLine text q → p ≡ q }
+    ensures answer { (text : List ℕ) (a b : Result Line TextFault) →
+        ReadsLine text a → ReadsLine text b → a ≡ b }
+    ensures total { (text : List ℕ) → (a : Result Line TextFault) × ReadsLine text a }
+{}
+
+/// The words that open lines.
+pub fn command_words_are()
+    ensures verbs { map verb_text (Pause ∷ Resume ∷ Cancel ∷ Fetch ∷ [])
+        ≡ codes "pause" ∷ codes "resume" ∷ codes "cancel" ∷ codes "fetch" ∷ [] }
+    ensures others { (name digits : List ℕ) (s : SystemPhrase) →
+        words_among (line_words list ++ line_words (run digits) ++ line_words (submit name s))
+        ≡ codes "list" ∷ codes "run" ∷ digits ∷ codes "submit" ∷ name
+        ∷ words_among (system_words s) }
+{}
+
+/// A submit's system is read as a system by itself, where its name is a job's name: then the line is a submit of what
+/// the system means, or refused as the system is.
+pub fn a_submit_is_read_as_its_system()
+    ensures { (name text : List ℕ) (a : Result SystemParts TextFault) → IsTrue (is_job_name name) →
+        length text + 24 ≤ MAX_TEXT → ReadsSystem text a →
+        ReadsLine (codes "submit " ++ name ++ 32 ∷ text) (submitted name a) }
+{}
+
+/// A job's name is a word of its bytes that has at most 16 of them. A number is the decimal text of what it writes.
+pub fn names_of_jobs_and_numbers_are()
+    ensures names { (w : List ℕ) →
+        is_job_name w ≡ (is_job_word w && nat_le (length w) MAX_JOB_NAME) }
+    ensures number { (n : ℕ) → n < 2 ^ 64 → IsTrue (is_number (decimal n)) }
+    ensures value { (n : ℕ) → n < 2 ^ 64 → number_in (decimal n) ≡ n }
+    ensures text { (w : List ℕ) → IsTrue (is_number w) → number_in w < 2 ^ 64 →
+        w ≡ decimal (number_in w) }
+{}
+
+/// The words and the forms of answers.
+pub fn answers_are()
+    ensures states { map state_text (Running ∷ Paused ∷ Done ∷ Halted ∷ [])
+        ≡ codes "running" ∷ codes "paused" ∷ codes "done" ∷ codes "halted" ∷ [] }
+    ensures refusals { map refusal_text (Taken ∷ Full ∷ NoJob ∷ NotRunning ∷ NotPaused ∷ [])
+        ≡ codes "taken" ∷ codes "full" ∷ codes "nojob" ∷ codes "notrunning"
+        ∷ codes "notpaused" ∷ [] }
+    ensures words { map reply_text (Accepted ∷ Okay ∷ Moved ∷ reply.Halted ∷ [])
+        ≡ codes "accepted" ∷ codes "ok" ∷ codes "moved" ∷ codes "halted" ∷ [] }
+    ensures refused { (r : Refusal) → reply_text (Refused r) ≡ codes "refused " ++ refusal_text r }
+    ensures shown { (job : ShownParts) → reply_text (Shown job)
+        ≡ job.name ++ codes " " ++ state_text job.state ++ codes " " ++ decimal job.rounds
+        ++ codes " " ++ printed job.rules.symbols job.config }
+    ensures empty { reply_text (Listed []) ≡ codes "jobs" }
+    ensures listed { (jobs : List (List ℕ × State × ℕ)) (name : List ℕ) (state : State) (rounds : ℕ) →
+        reply_text (Listed (jobs ++ (name, state, rounds) ∷ []))
+        ≡ reply_text (Listed jobs) ++ codes " " ++ name ++ codes ":" ++ state_text state
+        ++ codes ":" ++ decimal rounds }
 {}

@@ -1,9 +1,10 @@
-//! Names: a letter, and a number where it has one.
+//! Names: a letter, and a number where it has one; and numbers by themselves.
 
 ghost use Rattle.std.specs.Prelude.{◌≡◌, IsTrue};
 ghost use Rattle.std.specs.List.{list_all};
 ghost use Rattle.std.specs.Char.{is_ascii_digit};
 ghost use Rattle.ic_text.specs.Name.{is_name, is_numeral, number_in, name_number};
+ghost use Rattle.ic_text.specs.LineSource.{is_number};
 ghost use Rattle.ic_text.specs.inner.Bounds.{up_to};
 
 use crate::limits::MAX_NAME;
@@ -34,8 +35,18 @@ pub(crate) fn is_name(text: &[u8]) -> bool
     }
 }
 
-/// The number that digits write, where it is a name's.
-fn number_in(digits: &[u8]) -> Option<u64>
+/// Whether a word is `0`, or digits without a leading zero.
+pub(crate) fn is_number(text: &[u8]) -> bool
+    ensures { result ≡ is_number text.now }
+{
+    match text.split_first() {
+        None => false,
+        Some(_) => text == b"0".as_slice() || is_numeral(text),
+    }
+}
+
+/// The number that digits write, where it is at most the greatest number of a name.
+pub(crate) fn number_in(digits: &[u8]) -> Option<u64>
     requires { IsTrue (list_all is_ascii_digit digits.now) }
     ensures { result ≡ up_to MAX_NAME (number_in digits.now) }
 {

@@ -14,7 +14,7 @@ use ic_term::{Cell, Config, Equation, Symbols, Term};
 use std::alloc::{AllocError, Global};
 
 /// Appends a number in digits.
-fn put_decimal(alloc: Global, out: &mut Vec<u8>, number: u64) -> Result<(), AllocError>
+pub(crate) fn put_decimal(alloc: Global, out: &mut Vec<u8>, number: u64) -> Result<(), AllocError>
     ensures { OnOk result (out.new.items ≡ out.old.items ++ decimal number) }
 {
     let digits = number.to_string(alloc)?;
@@ -131,6 +131,24 @@ fn put_equations(
     Ok(())
 }
 
+/// Appends a configuration.
+pub(crate) fn put_config(
+    alloc: Global,
+    symbols: &Symbols,
+    config: &Config,
+    out: &mut Vec<u8>,
+) -> Result<(), AllocError>
+    requires { IsTrue (is_over symbols.now config.now) }
+    ensures { OnOk result (out.new.items ≡ out.old.items ++ printed symbols.now config.now) }
+{
+    out.push(b'<')?;
+    put_interface(alloc, symbols, config.interface(), out)?;
+    out.push(b'|')?;
+    put_equations(alloc, symbols, config.equations(), out)?;
+    out.push(b'>')?;
+    Ok(())
+}
+
 /// The text of a configuration without blanks, each name in its one spelling. Recurses on nesting, which the
 /// number of its nodes bounds.
 pub fn print_config(
@@ -142,11 +160,7 @@ pub fn print_config(
     ensures { IfOk result (λ text. text.items ≡ printed symbols.now config.now) }
 {
     let mut out = Vec::new(alloc);
-    out.push(b'<')?;
-    put_interface(alloc, symbols, config.interface(), &mut out)?;
-    out.push(b'|')?;
-    put_equations(alloc, symbols, config.equations(), &mut out)?;
-    out.push(b'>')?;
+    put_config(alloc, symbols, config, &mut out)?;
     Ok(out)
 }
 

@@ -1,0 +1,117 @@
+-- Laws of lines: numbers and their texts, and a submit with its system.
+use Rattle.std.proofs.Common.{◌≡◌, ℕ, zero, suc, ◌+◌, ◌*◌, ◌<◌, ◌≤◌, ◌^◌, ◌||◌, ◌==◌, true, List, [], ◌∷◌, ◌++◌, Some, Result, length, IsTrue, refl, sym, ap, ◌∙◌, subst, arith, ⊎_elim, length-append}
+use Rattle.std.specs.Prelude.{codes}
+use Rattle.std.specs.Str.{bytes_eq}
+use Rattle.std.specs.Fmt.{decimal}
+use Rattle.std.proofs.lemmas.Fmt.{decimal_digit}
+use Rattle.std.specs.List.{list_all}
+use Rattle.std.specs.Char.{is_ascii_lowercase, is_ascii_digit}
+use Rattle.std.specs.Cmp.Lexicographic.{bytes_decides}
+use Rattle.std.proofs.lemmas.Bool.Decides.{nat_tests}
+use Rattle.std.proofs.lemmas.Bool.{false≢true, and_parts, or_cases, or_right}
+use Rattle.ic_rules.specs.JobName.{is_job_name}
+use Rattle.ic_rules.specs.System.{SystemParts}
+use Rattle.ic_rules.specs.declared.job_name.TheConstants.{MAX_JOB_NAME}
+use Rattle.ic_text.specs.declared.limits.TheConstants.{MAX_TEXT}
+use Rattle.ic_text.specs.declared.fault.TextFault.{TextFault}
+use Rattle.ic_text.specs.Name.{is_name, is_numeral, name_text, name_number, number_in}
+use Rattle.ic_text.specs.Token.{is_word_byte, word_of, before, followed, tokens}
+use Rattle.ic_text.specs.SystemText.{ReadsSystem}
+use Rattle.ic_text.specs.LineSource.{is_job_word, is_number}
+use Rattle.ic_text.specs.LineSense.{submitted}
+use Rattle.ic_text.specs.LineText.{ReadsLine}
+use Rattle.ic_text.specs.inner.Line.{IsLineOf}
+use Rattle.ic_text.proofs.NameLemmas.{is_name-name_text, name_number-name_text, name_text-name_number}
+use Rattle.ic_text.proofs.NameTexts.{name_text-digits}
+use Rattle.ic_text.proofs.WordRuns.{tokens-parted, tokens-run}
+use Rattle.ic_text.proofs.WordSplits.{before-none}
+use Rattle.ic_text.proofs.LineReading.{reads_line}
+use Rattle.ic_text.proofs.LineParts.{job_name-parts, submit_read}
+
+-- a number's text behind the letter a is the text of a name
+named : (n : ℕ) → 0 < n → n < 2 ^ 64 → name_text (26 * n + 0) ≡ 97 ∷ decimal n
+named n some fits = name_text-digits n 0 some fits (omega arith)
+
+numeral-decimal : (n : ℕ) → 0 < n → n < 2 ^ 64 → is_numeral (decimal n) ≡ true
+numeral-decimal n some fits = sym (ap is_name (named n some fits)) ∙ is_name-name_text (26 * n + 0)
+
+value-decimal : (n : ℕ) → 0 < n → n < 2 ^ 64 → number_in (decimal n) ≡ n
+value-decimal n some fits =
+    let e : 26 * number_in (decimal n) + 0 ≡ 26 * n + 0 = sym (ap name_number (named n some fits)) ∙ name_number-name_text (26 * n + 0) in
+    omega (arith, e)
+
+number-numeral : (w : List ℕ) → is_numeral w ≡ true → 0 < number_in w → is_number w ≡ true
+number-numeral [] is some = absurd (omega arith)
+number-numeral (d ∷ ds) is some = or_right (bytes_eq (d ∷ ds) (codes "0")) (is_numeral (d ∷ ds)) is
+
+decimal-zero : decimal 0 ≡ 48 ∷ []
+decimal-zero = decimal_digit 0 (omega arith)
+
+pub number-decimal : (n : ℕ) → n < 2 ^ 64 → IsTrue (is_number (decimal n))
+number-decimal zero fits = ap is_number decimal-zero
+number-decimal (suc n) fits =
+    let value = value-decimal (suc n) (omega arith) fits in
+    number-numeral (decimal (suc n)) (numeral-decimal (suc n) (omega arith) fits) (omega (arith, value))
+
+pub value-of-decimal : (n : ℕ) → n < 2 ^ 64 → number_in (decimal n) ≡ n
+value-of-decimal zero fits = ap number_in decimal-zero
+value-of-decimal (suc n) fits = value-decimal (suc n) (omega arith) fits
+
+-- digits without a leading zero are the text of what they write
+numeral-text : (w : List ℕ) → is_numeral w ≡ true → 0 < length w → number_in w < 2 ^ 64 → w ≡ decimal (number_in w)
+numeral-text w is filled fits = by_number (number_in w) refl
+  where
+    whole : name_text (26 * number_in w + 0) ≡ 97 ∷ w
+    whole = name_text-name_number (97 ∷ w) is
+
+    by_number : (n : ℕ) → number_in w ≡ n → w ≡ decimal (number_in w)
+    by_number zero e =
+        let short : 97 ∷ [] ≡ 97 ∷ w = ap (λ n. name_text (26 * n + 0)) (sym e) ∙ whole in
+        let none : 1 ≡ suc (length w) = ap length short in
+        absurd (omega (arith, none))
+    by_number (suc n) e =
+        let same : 97 ∷ w ≡ 97 ∷ decimal (number_in w) = sym whole ∙ named (number_in w) (omega (arith, e)) fits in
+        cc
+
+pub number-text : (w : List ℕ) → IsTrue (is_number w) → number_in w < 2 ^ 64 → w ≡ decimal (number_in w)
+number-text [] is fits = absurd (false≢true is)
+number-text (d ∷ ds) is fits = ⊎_elim zero_text (λ e. numeral-text (d ∷ ds) e (omega arith) fits) (or_cases (bytes_eq (d ∷ ds) (codes "0")) (is_numeral (d ∷ ds)) is)
+  where
+    zero_text : bytes_eq (d ∷ ds) (codes "0") ≡ true → d ∷ ds ≡ decimal (number_in (d ∷ ds))
+    zero_text e = let same : d ∷ ds ≡ 48 ∷ [] = (bytes_decides (d ∷ ds) (codes "0")).0 e in same ∙ sym decimal-zero ∙ ap (λ x. decimal (number_in x)) (sym same)
+
+-- the bytes of a job's name are those of a word
+letter_byte : (b : ℕ) → is_ascii_lowercase b ≡ true → is_word_byte b ≡ true
+letter_byte b is = grind (arith, nat_tests)
+
+name_byte : (c : ℕ) → (is_ascii_lowercase c || is_ascii_digit c || c == 45) ≡ true → is_word_byte c ≡ true
+name_byte c is = grind (arith, nat_tests)
+
+name_bytes : (bs : List ℕ) → list_all (λ c. is_ascii_lowercase c || is_ascii_digit c || c == 45) bs ≡ true → list_all is_word_byte bs ≡ true
+name_bytes [] are = refl
+name_bytes (b ∷ bs) are =
+    let parts = and_parts (is_ascii_lowercase b || is_ascii_digit b || b == 45) (list_all (λ c. is_ascii_lowercase c || is_ascii_digit c || c == 45) bs) are in
+    rw (name_byte b parts.0) (name_bytes bs parts.1)
+
+tokens-name : (name : List ℕ) → is_job_word name ≡ true → tokens name ≡ Some (word_of name)
+tokens-name [] is = absurd (false≢true is)
+tokens-name (b ∷ bs) is =
+    let parts = and_parts (is_ascii_lowercase b) (list_all (λ c. is_ascii_lowercase c || is_ascii_digit c || c == 45) bs) is in
+    tokens-run b bs (rw (letter_byte b parts.0) (name_bytes bs parts.1))
+
+-- a word in front of a space
+behind_space : (w rest : List ℕ) → tokens w ≡ Some (word_of w) → tokens (w ++ 32 ∷ rest) ≡ before (word_of w) (tokens rest)
+behind_space w rest run =
+    tokens-parted w rest 32 refl ∙ ap (λ o. followed o (followed (Some []) (tokens rest))) run ∙ ap (before (word_of w)) (before-none (tokens rest))
+
+pub submit_text : (name text : List ℕ) (a : Result SystemParts TextFault) → IsTrue (is_job_name name) → length text + 24 ≤ MAX_TEXT
+    → ReadsSystem text a → ReadsLine (codes "submit " ++ name ++ 32 ∷ text) (submitted name a)
+submit_text name text a is room reads =
+    let parts = and_parts (is_job_word name) _ (sym (job_name-parts name) ∙ is) in
+    let rest = name ++ 32 ∷ text in
+    let split = behind_space name text (tokens-name name parts.0) in
+    let whole : tokens (codes "submit" ++ 32 ∷ rest) ≡ before (word_of (codes "submit")) (tokens rest) = behind_space (codes "submit") rest refl in
+    let few : length name ≤ MAX_JOB_NAME = grind (arith, nat_tests, parts.1) in
+    let short : length (codes "submit" ++ 32 ∷ rest) ≤ MAX_TEXT = omega (arith, few, room, length-append name (32 ∷ text)) in
+    reads_line (codes "submit" ++ 32 ∷ rest) (submitted name a) short
+    (subst (λ o. IsLineOf o (submitted name a)) (sym whole) (submit_read rest name text split parts.0 a (omega arith) is reads))

@@ -1,0 +1,11 @@
+use Rattle.ic_text.proofs.LineParts.{job_name-parts}
+use Rattle.ic_text.proofs.LineLaws.{number-decimal, value-of-decimal, number-text}
+use Rattle.ic_text.proofs.laws.names_of_jobs_and_numbers_are.Goals as goal
+
+pub returns : goal.returns
+returns c = record {
+  names = job_name-parts;
+  number = number-decimal;
+  value = value-of-decimal;
+  text = number-text;
+}
