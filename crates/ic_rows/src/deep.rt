@@ -1,11 +1,11 @@
 //! Terms of the greatest depth, in a thread with the standard's stack.
 
+use crate::trouble::Trouble;
 use ic_round::round;
 use ic_term::over;
 use ic_text::{print_config, read_system};
 use std::alloc::{AllocError, Global};
-use std::test::Fail;
-use std::thread;
+use std::thread::{self, Threads};
 
 /// A text with 8,188 nested C round one D between its front and its back.
 fn nested(alloc: Global, front: &[u8], back: &[u8]) -> Result<Vec<u8>, AllocError> {
@@ -45,13 +45,14 @@ fn goes_deep(alloc: Global) -> Result<bool, AllocError> {
     Ok(same && line.as_slice() == expected.as_slice())
 }
 
-#[test]
-fn deep_terms(rt: HostRuntime) -> Result<(), Fail> {
-    let alloc = rt.alloc();
-    let Ok(child) = thread::spawn(&rt, move || goes_deep(alloc)) else {
-        return Err(Fail::from("no thread"));
+/// Whether it does so in a thread of its own.
+pub fn deep_terms(rt: &impl Threads, alloc: Global) -> Result<Vec<u8>, Trouble> {
+    let Ok(child) = thread::spawn(rt, move || goes_deep(alloc)) else {
+        return Err(Trouble("no thread"));
     };
-    let deep = child.join(&rt)?;
-    assert!(rt; deep);
-    Ok(())
+    let Ok(same) = child.join(rt) else {
+        return Err(Trouble("a thread ended"));
+    };
+    let line = if same { "the same" } else { "other" };
+    Ok(Vec::from_slice(alloc, line.as_bytes())?)
 }

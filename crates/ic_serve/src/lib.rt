@@ -2,13 +2,12 @@
 //!
 //! `settle_stream` settles the configuration that a reader gives and writes it to a writer, and `once_stream` makes one
 //! round of a system; their refusals are a `StreamFault`, which has the program's exit status and its line for standard
-//! error. `read_words` reads the words after the program's name.
+//! error. `read_words` of `ic_words` reads the words after the program's name.
 #![tactic(auto)]
 
 mod fault;
 mod stream;
-mod words;
 
 pub use fault::StreamFault;
 pub use stream::{once_stream, settle_stream};
-pub use words::{Task, WordsFault, read_words};
+pub use ic_words::{Task, WordsFault, read_words};

@@ -1,0 +1,16 @@
+use Rattle.std.proofs.Common.{◌≡◌, ◌∙◌, ap, ap₂, rules, codes}
+use Rattle.std.proofs.lemmas.Result.{IfOk-weaker}
+use Rattle.clap.specs.Words.{App, app_of, new_app, with_subcommand}
+use Rattle.clap.specs.Simple.{app_of_fields, on_top}
+use Rattle.ic_words.specs.Words.{with_settings}
+use Rattle.ic_words.proofs.words.command.Goals as goal
+
+pub returns : goal.returns
+returns c =
+    let named : app_of c.in_ok-bin_name.field-0 ≡ new_app (codes "icserve") = ap app_of_fields c.in_ok-bin_name.ensures.0 ∙ c.new-3.ensures.app in
+    let set : app_of c.subcommand_required.result ≡ on_top with_settings (app_of c.in_ok-bin_name.field-0) = search rules in
+    let settle : app_of c.about-settle.result ≡ new_app (codes "settle") = search rules in
+    let once : app_of c.about-once.result ≡ new_app (codes "once") = search rules in
+    let program = set ∙ ap (on_top with_settings) named in
+    let first = c.in_ok-subcommand.ensures.shape (search rules) ∙ ap₂ with_subcommand program (ap (λ (a : App). a.top) settle) in
+    IfOk-weaker c.subcommand-2.result _ _ (λ command h. h.shape (search rules) ∙ ap₂ with_subcommand first (ap (λ (a : App). a.top) once)) c.subcommand-2.ensures

@@ -1,0 +1,75 @@
+-- What the words after the program's name ask for (this project's choice).
+use Rattle.std.specs.Prelude.{◌≡◌, ◌≢◌, ◌⊎◌, ℕ, List, [], ◌∷◌, ◌++◌, Result, Ok, Err, true}
+use Rattle.std.specs.Prelude.{codes, string_bytes}
+use Rattle.clap.specs.Words.{App, IsAmong, Kinds, Shape, new_app, with_subcommand}
+use Rattle.clap.specs.Simple.{on_top}
+use Rattle.clap.specs.declared.error.ErrorKind.{ErrorKind}
+use Rattle.clap.specs.declared.error.ErrorKind.TheVariants.{DisplayHelp, DisplayVersion}
+use Rattle.ic_words.specs.declared.words.Task.{Task}
+use Rattle.ic_words.specs.declared.words.Task.TheVariants.{Settle, Once, Help, Version}
+use Rattle.ic_words.specs.declared.words.WordsFault.{WordsFault}
+use Rattle.ic_words.specs.declared.words.WordsFault.TheVariants.{Words, Memory}
+
+-- the words are those after the program's name, a command has to be named, help is asked for by an
+-- option alone, and the version by another
+abbrev pub with_settings : Shape → Shape
+with_settings s = record s {
+  has_version = true;
+  no_binary_name = true;
+  disable_help_subcommand = true;
+  subcommand_required = true;
+}
+
+-- the program, of which no command is known
+abbrev pub program : App
+program = on_top with_settings (new_app (codes "icserve"))
+
+-- the command line of the program, whose commands are `settle` and `once`
+abbrev pub command_line : App
+command_line = with_subcommand (with_subcommand program (new_app (codes "settle")).top)
+    (new_app (codes "once")).top
+
+-- the line that tells the version
+abbrev pub version_line : List ℕ
+version_line = codes "icserve 0.1.0" ++ 10 ∷ []
+
+-- What is answered, by the mistakes that the words may have: none, or help or the version that is
+-- asked for, or another.
+abbrev pub AnswersWords : Kinds → Result Task WordsFault → Type 0
+AnswersWords mistakes (Ok Settle) = mistakes ≡ []
+AnswersWords mistakes (Ok Once) = mistakes ≡ []
+AnswersWords mistakes (Ok (Help text)) = IsAmong DisplayHelp mistakes
+AnswersWords mistakes (Ok (Version text)) =
+    IsAmong DisplayVersion mistakes × (string_bytes text ≡ version_line)
+AnswersWords mistakes (Err (Words text)) = (mistake : ErrorKind)
+    × IsAmong mistake mistakes × (mistake ≢ DisplayHelp) × (mistake ≢ DisplayVersion)
+AnswersWords mistakes (Err Memory) = Unit {0}
+
+-- this task is answered, unless a growth was refused
+abbrev pub GivesTask : Task → Result Task WordsFault → Type 0
+GivesTask task (Ok answer) = answer ≡ task
+GivesTask task (Err (Words text)) = ⊥
+GivesTask task (Err Memory) = Unit {0}
+
+-- help is answered, unless a growth was refused
+abbrev pub GivesHelp : Result Task WordsFault → Type 0
+GivesHelp (Ok (Help text)) = Unit {0}
+GivesHelp (Err Memory) = Unit {0}
+GivesHelp _ = ⊥
+
+-- the version is answered, unless a growth was refused
+abbrev pub GivesVersion : Result Task WordsFault → Type 0
+GivesVersion (Ok (Version text)) = Unit {0}
+GivesVersion (Err Memory) = Unit {0}
+GivesVersion _ = ⊥
+
+-- the one word that is a command; a `--` behind it ends the options, of which there are none
+abbrev pub NamesCommand : List ℕ → List (List ℕ) → Type 0
+NamesCommand command words = (words ≡ command ∷ []) ⊎ (words ≡ command ∷ (45 ∷ 45 ∷ []) ∷ [])
+
+-- the words name the task
+abbrev pub Names : List (List ℕ) → Task → Type 0
+Names words Settle = NamesCommand (codes "settle") words
+Names words Once = NamesCommand (codes "once") words
+Names words (Help text) = Unit {0}
+Names words (Version text) = Unit {0}

@@ -1,0 +1,8 @@
+//! The words after the program's name.
+//!
+//! `read_words` reads them, through the kit's `clap`, as what the program is asked to do.
+#![tactic(auto)]
+
+mod words;
+
+pub use words::{Task, WordsFault, read_words};
