@@ -5,6 +5,9 @@ use crate::drawn::bodies_agree;
 use crate::expansion::expanded;
 use crate::failing::{failing, reads, unflushed};
 use crate::faults::{stream_line, text_line};
+use crate::jobs::script;
+use crate::lines::{asked, reply};
+use crate::pool::{meeting, refused, rounds_by_any, rounds_by_yielding};
 use crate::rounds::{ends, lasts, rounds, top_numbers};
 use crate::settling::{bindings, settled_twice};
 use crate::steps::{products, step};
@@ -15,7 +18,9 @@ use crate::trouble::Trouble;
 use crate::values::{built, joined, numbered, paired, restored};
 use crate::words::words;
 use std::alloc::Global;
+use std::sync::Wait;
 use std::thread::Threads;
+use std::time::Clock;
 
 /// A row as it stands on a line.
 #[derive(Drop)]
@@ -44,28 +49,59 @@ impl<'a> Row<'a> {
     }
 
     /// What is answered, where it isn't what the row says.
-    pub fn other_answer(&self, rt: &impl Threads, alloc: Global) -> Option<Vec<u8>> {
+    pub fn other_answer<R: Threads + Wait + Clock + Sync>(
+        &self,
+        rt: &R,
+        alloc: Global,
+    ) -> Option<Vec<u8>> {
         match self.compared(rt, alloc) {
             Ok(found) => found,
             Err(trouble) => Vec::from_slice(alloc, trouble.0.as_bytes()).ok(),
         }
     }
 
-    fn compared(&self, rt: &impl Threads, alloc: Global) -> Result<Option<Vec<u8>>, Trouble> {
+    fn compared<R: Threads + Wait + Clock + Sync>(
+        &self,
+        rt: &R,
+        alloc: Global,
+    ) -> Result<Option<Vec<u8>>, Trouble> {
         let wanted = expanded(alloc, self.answer)?;
         let found = self.found(rt, alloc)?;
         Ok((found.as_slice() != wanted.as_slice()).then_some(found))
     }
 
     /// What is answered.
-    fn found(&self, rt: &impl Threads, alloc: Global) -> Result<Vec<u8>, Trouble> {
+    fn found<R: Threads + Wait + Clock + Sync>(
+        &self,
+        rt: &R,
+        alloc: Global,
+    ) -> Result<Vec<u8>, Trouble> {
         match self.kind {
             "deep" => deep_terms(rt, alloc),
             "drawn" => bodies_agree(alloc),
+            "any_workers" | "yielding" | "meeting" | "pool_fault" => self.by_workers(rt, alloc),
+            "script" => script(alloc, self.text),
             "words" => words(alloc, self.text),
             "top_numbers" => top_numbers(alloc, self.text),
             "joined" | "paired" | "built" | "settle_slowly" | "once_slowly" => self.parts(alloc),
             _ => self.read(alloc),
+        }
+    }
+
+    /// What is answered by threads.
+    fn by_workers<R: Threads + Wait + Clock + Sync>(
+        &self,
+        rt: &R,
+        alloc: Global,
+    ) -> Result<Vec<u8>, Trouble> {
+        let (number, rest) = self.text.split_once(' ').unwrap_or(("", self.text));
+        let count = u32::from_str_radix(number, 10).unwrap_or(0);
+        let text = expanded(alloc, rest)?;
+        match self.kind {
+            "any_workers" => rounds_by_any(rt, alloc, count, &text),
+            "yielding" => rounds_by_yielding(rt, alloc, count, &text),
+            "meeting" => meeting(rt, alloc, &text),
+            _ => refused(rt, alloc, self.text),
         }
     }
 
@@ -95,6 +131,8 @@ impl<'a> Row<'a> {
             "once" => once(alloc, &text),
             "config" => config(alloc, &text),
             "system" => system(alloc, &text),
+            "line" => asked(alloc, &text),
+            "reply" => reply(alloc, &text),
             "symbols" => named_symbols(alloc, &text),
             "both_bodies" => settled_twice(alloc, &text),
             "bind" => bindings(alloc, &text),

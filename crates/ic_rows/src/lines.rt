@@ -1,0 +1,57 @@
+//! Command lines, as they are read.
+
+use crate::expansion::decimal;
+use crate::texts::printed;
+use crate::trouble::Trouble;
+use ic_jobs::{Command, Reply};
+use ic_rules::{JobName, System};
+use ic_text::{Line, print_fault, print_reply, read_command};
+use std::alloc::Global;
+
+/// What a line asks, in one spelling, or the line of its refusal.
+pub fn asked(alloc: Global, text: &[u8]) -> Result<Vec<u8>, Trouble> {
+    match read_command(alloc, text) {
+        Ok(Line::Blank) => Ok(Vec::from_slice(alloc, b"blank")?),
+        Ok(Line::Run(count)) => {
+            let mut line = Vec::from_slice(alloc, b"run ")?;
+            decimal(&mut line, count)?;
+            Ok(line)
+        }
+        Ok(Line::Command(command)) => commanded(alloc, command),
+        Err(fault) => Ok(print_fault(alloc, &fault)?),
+    }
+}
+
+fn commanded(alloc: Global, command: Command) -> Result<Vec<u8>, Trouble> {
+    match command {
+        Command::Submit(name, system) => submitted(alloc, name, system),
+        Command::Pause(name) => about(alloc, b"pause ", name),
+        Command::Resume(name) => about(alloc, b"resume ", name),
+        Command::Cancel(name) => about(alloc, b"cancel ", name),
+        Command::Fetch(name) => about(alloc, b"fetch ", name),
+        Command::List => Ok(Vec::from_slice(alloc, b"list")?),
+    }
+}
+
+fn about(alloc: Global, verb: &[u8], name: JobName) -> Result<Vec<u8>, Trouble> {
+    let mut line = Vec::from_slice(alloc, verb)?;
+    line.extend_from_slice(name.as_bytes())?;
+    Ok(line)
+}
+
+fn submitted(alloc: Global, name: JobName, system: System) -> Result<Vec<u8>, Trouble> {
+    let mut line = about(alloc, b"submit ", name)?;
+    line.push(b' ')?;
+    line.append(&mut printed(alloc, system.rules(), system.config())?)?;
+    Ok(line)
+}
+
+/// The line of a reply that no command has.
+pub fn reply(alloc: Global, text: &[u8]) -> Result<Vec<u8>, Trouble> {
+    let reply = if text == b"moved" {
+        Reply::Moved
+    } else {
+        Reply::Halted
+    };
+    Ok(print_reply(alloc, &reply)?)
+}
