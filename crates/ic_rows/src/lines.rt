@@ -48,7 +48,7 @@ fn submitted(alloc: Global, name: JobName, system: System) -> Result<Vec<u8>, Tr
 
 /// The line of a reply that no command has.
 pub fn reply(alloc: Global, text: &[u8]) -> Result<Vec<u8>, Trouble> {
-    let reply = if text == b"moved" {
+    let reply = if text == b"moved".as_slice() {
         Reply::Moved
     } else {
         Reply::Halted

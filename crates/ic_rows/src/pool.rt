@@ -160,7 +160,7 @@ impl<'a, R: Clock + Sync> Gate for Meeting<'a, R> {
 }
 
 /// The round of a system with two works by two workers, each of which waits until the other has begun.
-pub fn meeting<R: Threads + Wait + Clock + Sync>(
+pub fn played_at_once<R: Threads + Wait + Clock + Sync>(
     rt: &R,
     alloc: Global,
     text: &[u8],

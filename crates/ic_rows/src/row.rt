@@ -7,7 +7,7 @@ use crate::failing::{failing, reads, unflushed};
 use crate::faults::{stream_line, text_line};
 use crate::jobs::script;
 use crate::lines::{asked, reply};
-use crate::pool::{meeting, refused, rounds_by_any, rounds_by_yielding};
+use crate::pool::{played_at_once, refused, rounds_by_any, rounds_by_yielding};
 use crate::rounds::{ends, lasts, rounds, top_numbers};
 use crate::settling::{bindings, settled_twice};
 use crate::steps::{products, step};
@@ -100,7 +100,7 @@ impl<'a> Row<'a> {
         match self.kind {
             "any_workers" => rounds_by_any(rt, alloc, count, &text),
             "yielding" => rounds_by_yielding(rt, alloc, count, &text),
-            "meeting" => meeting(rt, alloc, &text),
+            "meeting" => played_at_once(rt, alloc, &text),
             _ => refused(rt, alloc, self.text),
         }
     }
