@@ -1,7 +1,8 @@
 //! A first pass over the bytes of a text: whether they are a phrase of the grammar, and of how many words and tokens. It
 //! takes no memory, so that a text that is refused fills none.
 
-ghost use Rattle.std.specs.Prelude.{◌≡◌, ◌≤◌, ◌-◌, ◌^◌, [], ◌∷◌, Some, IfSome, length};
+ghost use Rattle.std.specs.Prelude.{◌≡◌, ◌≤◌, ◌-◌, ◌^◌, [], ◌∷◌, Some, None, length};
+ghost use Rattle.std.specs.Bool.{OnTrue, OnFalse};
 ghost use Rattle.ic_text.specs.inner.Survey.{IsWithin, HasRisen, taken, taken_at, counted, surveyed, Tells};
 ghost use Rattle.ic_text.specs.inner.Tokens.{token_of};
 ghost use Rattle.ic_text.specs.Source.{IsPhrase, phrase_words};
@@ -19,7 +20,8 @@ pub(crate) struct Counts {
     pub tokens: usize,
 }
 
-/// A check of syntax that is on its way over a text, and what it has counted so far.
+/// A check of syntax that is on its way over a text, and what it has counted so far. It is changed in place, since a byte
+/// takes less than a copy.
 #[derive(Clone, Copy, Debug)]
 pub(crate) struct Progress {
     state: State,
@@ -27,43 +29,45 @@ pub(crate) struct Progress {
 }
 
 impl Progress {
-    /// The check behind one more token, or None where the grammar has no such token there.
-    fn take(self, token: &Token) -> Option<Progress>
-        requires { IsWithin (2 ^ 64 - 2) self }
-        ensures value { result ≡ taken (Some self) (token_of token.now ∷ []) }
-        ensures risen { IfSome result (HasRisen 1 self) }
+    /// Takes one more token, if the grammar has such a token there.
+    fn take(&mut self, token: &Token) -> bool
+        requires { IsWithin (2 ^ 64 - 2) self.old }
+        ensures taken { OnTrue result
+            (Some self.new ≡ taken (Some self.old) (token_of token.now ∷ [])) }
+        ensures refused { OnFalse result (None ≡ taken (Some self.old) (token_of token.now ∷ [])) }
+        ensures risen { OnTrue result (HasRisen 1 self.old self.new) }
     {
-        let state = step(self.state, token)?;
-        let mut counts = self.counts;
-        counts.tokens += 1;
+        let Some(state) = step(self.state, token) else {
+            return false;
+        };
+        self.state = state;
+        self.counts.tokens += 1;
         if let Token::Word(_) = token {
-            counts.words += 1;
+            self.counts.words += 1;
         }
-        Some(Progress { state, counts })
+        true
     }
 
-    /// The check behind the word that a run of word bytes makes, if it has a byte.
-    fn take_run(self, run: &[u8]) -> Option<Progress>
-        requires { IsWithin (2 ^ 64 - 2) self }
-        ensures value { result ≡ taken (Some self) (word_of run.now) }
-        ensures risen { IfSome result (HasRisen (length run.now) self) }
+    /// Takes the word that a run of word bytes makes, if it has a byte.
+    fn take_run(&mut self, run: &[u8]) -> bool
+        requires { IsWithin (2 ^ 64 - 2) self.old }
+        ensures taken { OnTrue result (Some self.new ≡ taken (Some self.old) (word_of run.now)) }
+        ensures refused { OnFalse result (None ≡ taken (Some self.old) (word_of run.now)) }
+        ensures risen { OnTrue result (HasRisen (length run.now) self.old self.new) }
     {
-        if run.is_empty() {
-            return Some(self);
-        }
-        self.take(&Token::Word(run))
+        run.is_empty() || self.take(&Token::Word(run))
     }
 
-    /// The check behind a byte that is no word byte: a mark or a blank.
-    fn take_byte(self, byte: u8) -> Option<Progress>
-        requires { IsWithin (2 ^ 64 - 2) self }
-        ensures value { result ≡ taken_at self byte }
-        ensures risen { IfSome result (HasRisen 1 self) }
+    /// Takes a byte that is no word byte: a mark or a blank.
+    fn take_byte(&mut self, byte: u8) -> bool
+        requires { IsWithin (2 ^ 64 - 2) self.old }
+        ensures taken { OnTrue result (Some self.new ≡ taken_at self.old byte) }
+        ensures refused { OnFalse result (None ≡ taken_at self.old byte) }
+        ensures risen { OnTrue result (HasRisen 1 self.old self.new) }
     {
         match mark_of(byte) {
             Some(mark) => self.take(&Token::Mark(mark)),
-            None if is_blank(byte) => Some(self),
-            None => None,
+            None => is_blank(byte),
         }
     }
 
@@ -90,12 +94,19 @@ fn survey(part: Part, text: &[u8]) -> Option<Counts>
     let mut start = 0;
     for (place, byte) in text.iter().enumerate() {
         if !is_word_byte(*byte) {
-            let run = progress.take_run(&text[start..place])?;
-            progress = run.take_byte(*byte)?;
+            if !progress.take_run(&text[start..place]) {
+                return None;
+            }
+            if !progress.take_byte(*byte) {
+                return None;
+            }
             start = place + 1;
         }
     }
-    progress.take_run(&text[start..])?.finish()
+    if !progress.take_run(&text[start..]) {
+        return None;
+    }
+    progress.finish()
 }
 
 /// The words and tokens of a configuration, or None where a text spells none.

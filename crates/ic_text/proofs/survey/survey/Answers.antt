@@ -4,23 +4,21 @@ use Rattle.ic_text.specs.inner.Survey.{taken_behind, counted}
 use Rattle.ic_text.proofs.TokenLemmas.{joined_run}
 use Rattle.ic_text.proofs.Surveying.{refused_run, refused_byte, goes_on}
 use Rattle.ic_text.proofs.survey.survey.Goals as goal
-use Rattle.ic_text.proofs.survey.survey.Goals.{then-not-is_word_byte+in_ok-run+in_ok-progress, else-not-is_word_byte}
+use Rattle.ic_text.proofs.survey.survey.Goals.{then-not-is_word_byte+else-not-take_run+else-not-take_byte, else-not-is_word_byte}
 
-pub returns-in_err-run : goal.returns-in_err-run
-returns-in_err-run c =
+pub returns-then-not-take_run : goal.returns-then-not-take_run
+returns-then-not-take_run c =
     let place = c.loop-place.place in
     let apart = sym c.is_word_byte.ensures ∙ c.if-not-is_word_byte.true in
-    c.from_residual.ensures
-    ∙ refused_run c.args.text.now c.loop-place.start place (get_or c.args.text.now place 0) (omega arith) c.loop-place.invariant.begins refl
-    c.loop-place.progress _ c.loop-place.invariant.same apart c.in_err-run.ensures.value
+    refused_run c.args.text.now c.loop-place.start place (get_or c.args.text.now place 0) (omega arith) c.loop-place.invariant.begins refl
+    c.loop-place.progress _ c.loop-place.invariant.same apart c.if-not-take_run.ensures.refused
 
-pub returns-in_err-progress : goal.returns-in_err-progress
-returns-in_err-progress c =
+pub returns-then-not-take_byte : goal.returns-then-not-take_byte
+returns-then-not-take_byte c =
     let place = c.loop-place.place in
     let apart = sym c.is_word_byte.ensures ∙ c.if-not-is_word_byte.true in
-    c.from_residual-in_err-progress.ensures
-    ∙ refused_byte c.args.text.now c.loop-place.start place (get_or c.args.text.now place 0) (omega arith) c.loop-place.invariant.begins refl
-    c.loop-place.progress _ c.loop-place.invariant.same c.in_ok-run.run' apart c.in_ok-run.ensures.value c.in_err-progress.ensures.value
+    refused_byte c.args.text.now c.loop-place.start place (get_or c.args.text.now place 0) (omega arith) c.loop-place.invariant.begins refl
+    c.loop-place.progress _ c.loop-place.invariant.same c.take_run.new.self apart c.if-not-take_run.ensures.taken c.if-not-take_byte.ensures.refused
 
 pub loop-place-preserved : goal.loop-place-preserved
 loop-place-preserved c =
@@ -31,15 +29,19 @@ loop-place-preserved c =
     let begins = c.loop-place.invariant.begins in
     let within = c.loop-place.invariant.within in
     elim c.if-not-is_word_byte.branch [
-      | then-not-is_word_byte+in_ok-run+in_ok-progress w ↦
+      | then-not-is_word_byte+else-not-take_run+else-not-take_byte w ↦
           let apart = sym c.is_word_byte.ensures ∙ w.if-not-is_word_byte.true in
           let short : length (take (place - start) (drop start text)) ≤ place - start = omega (arith, length-take (place - start) (drop start text)) in
-          let run = w.in_ok-run.ensures.risen in
-          let byte = w.in_ok-progress.ensures.risen in
+          let run = w.if-not-take_run.ensures.risen in
+          let byte = w.if-not-take_byte.ensures.risen in
           rw (w.start-is, w.progress-is) (record {
             begins = omega arith;
-            within = record { words = omega (arith, short, run.words, byte.words, within.words); tokens = omega (arith, short, run.tokens, byte.tokens, within.tokens); depth = omega (arith, short, run.depth, byte.depth, within.depth) };
-            same = goes_on text start place b (omega arith) begins refl c.loop-place.progress _ c.loop-place.invariant.same w.in_ok-run.run' w.in_ok-progress.progress apart w.in_ok-run.ensures.value w.in_ok-progress.ensures.value;
+            within = record {
+              words = omega (arith, short, run.words, byte.words, within.words);
+              tokens = omega (arith, short, run.tokens, byte.tokens, within.tokens);
+              depth = omega (arith, short, run.depth, byte.depth, within.depth);
+            };
+            same = goes_on text start place b (omega arith) begins refl c.loop-place.progress _ c.loop-place.invariant.same w.take_run.new.self w.take_byte.new.self apart w.if-not-take_run.ensures.taken w.if-not-take_byte.ensures.taken;
           })
       | else-not-is_word_byte w ↦
           let joined = joined_run text start place b (omega arith) begins refl (sym c.is_word_byte.ensures ∙ w.if-not-is_word_byte.false) in
