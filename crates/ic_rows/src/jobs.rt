@@ -1,5 +1,6 @@
 //! The job table, driven by scripts: command lines, and rounds that are taken, played and landed one by one.
 
+use crate::bytes::digits_of;
 use crate::expansion::{decimal, expanded};
 use crate::systems::system_of;
 use crate::trouble::Trouble;
@@ -38,13 +39,15 @@ pub fn script(alloc: Global, text: &str) -> Result<Vec<u8>, Trouble> {
 
 impl Session {
     /// What a word is answered: a command line; `due K`, which takes a flight from the place K on; `land K`, which plays
-    /// the K-th flight and lands its round; or `top NEXT ROUNDS SYSTEM`, which makes a table of one running job.
+    /// the K-th flight and lands its round; `top NEXT ROUNDS SYSTEM`, which makes a table of one running job; or `bytes`, the
+    /// table's byte form.
     fn answer(&mut self, alloc: Global, word: &str) -> Result<Vec<u8>, Trouble> {
         let (verb, rest) = word.split_once(' ').unwrap_or((word, ""));
         match verb {
             "due" => self.due(alloc, usize::from_str_radix(rest, 10).unwrap_or(0)),
             "land" => self.land(alloc, usize::from_str_radix(rest, 10).unwrap_or(0)),
             "top" => self.top(alloc, rest),
+            "bytes" => digits_of(alloc, &self.table),
             _ => self.line(alloc, word.as_bytes()),
         }
     }

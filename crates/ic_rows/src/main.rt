@@ -5,6 +5,7 @@
 //! from the definitions, computed by hand, never from the program.
 #![tactic(auto)]
 
+mod bytes;
 mod deep;
 mod drawn;
 mod expansion;

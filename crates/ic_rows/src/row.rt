@@ -1,5 +1,6 @@
 //! A row, and what is answered to it.
 
+use crate::bytes::{spoiled, table_of};
 use crate::deep::deep_terms;
 use crate::drawn::bodies_agree;
 use crate::expansion::expanded;
@@ -132,6 +133,8 @@ impl<'a> Row<'a> {
             "config" => config(alloc, &text),
             "system" => system(alloc, &text),
             "line" => asked(alloc, &text),
+            "bytes" => table_of(alloc, &text),
+            "spoiled" => spoiled(alloc, &text),
             "reply" => reply(alloc, &text),
             "symbols" => named_symbols(alloc, &text),
             "both_bodies" => settled_twice(alloc, &text),

@@ -1,0 +1,87 @@
+//! Tables as bytes: what they are read as, and what is written.
+
+use crate::trouble::Trouble;
+use ic_codec::{CodecFault, MAX_BYTES, decode, encode_into};
+use ic_jobs::{Command, Table};
+use ic_text::print_reply;
+use std::alloc::Global;
+
+/// The bytes of a text of two hexadecimal digits each, with blanks between some.
+pub fn bytes_of(alloc: Global, text: &[u8]) -> Result<Vec<u8>, Trouble> {
+    let mut bytes = Vec::new(alloc);
+    let mut first = None;
+    for letter in text {
+        let Some(digit) = char::from(*letter).to_digit(16) else {
+            continue;
+        };
+        match first {
+            None => first = Some(digit),
+            Some(high) => {
+                bytes.push((high * 16 + digit) as u8)?;
+                first = None;
+            }
+        }
+    }
+    Ok(bytes)
+}
+
+/// The table's byte form.
+fn encoded(alloc: Global, table: &Table) -> Result<Vec<u8>, Trouble> {
+    let mut bytes = Vec::with_capacity(alloc, MAX_BYTES)?;
+    encode_into(table, &mut bytes);
+    Ok(bytes)
+}
+
+/// The table's byte form in hexadecimal digits.
+pub fn digits_of(alloc: Global, table: &Table) -> Result<Vec<u8>, Trouble> {
+    let mut line = Vec::new(alloc);
+    for byte in &encoded(alloc, table)? {
+        line.extend_from_slice(format!(in alloc; "{byte:02x}")?.as_bytes())?;
+    }
+    Ok(line)
+}
+
+/// The jobs and configurations of the table of which these are the bytes, which are then its byte form; or that they are
+/// of none.
+pub fn table_of(alloc: Global, text: &[u8]) -> Result<Vec<u8>, Trouble> {
+    let bytes = bytes_of(alloc, text)?;
+    let mut table = match decode(alloc, &bytes) {
+        Ok(table) => table,
+        Err(CodecFault::NotATable) => return Ok(Vec::from_slice(alloc, b"not a table")?),
+        Err(CodecFault::Memory) => return Err(Trouble("no memory")),
+    };
+    if encoded(alloc, &table)?.as_slice() != bytes.as_slice() {
+        return Err(Trouble("another byte form"));
+    }
+    let reply = table.apply(Command::List)?;
+    Ok(print_reply(alloc, &reply)?)
+}
+
+/// Whether bytes are refused, or are a table's own.
+fn is_exact(alloc: Global, bytes: &[u8]) -> Result<bool, Trouble> {
+    match decode(alloc, bytes) {
+        Ok(table) => Ok(encoded(alloc, &table)?.as_slice() == bytes),
+        Err(CodecFault::NotATable) => Ok(true),
+        Err(CodecFault::Memory) => Err(Trouble("no memory")),
+    }
+}
+
+/// Whether no proper front of the bytes is a table, and with each byte changed to each value they are refused or a
+/// table's own.
+pub fn spoiled(alloc: Global, text: &[u8]) -> Result<Vec<u8>, Trouble> {
+    let mut bytes = bytes_of(alloc, text)?;
+    for place in 0..bytes.len() {
+        if decode(alloc, &bytes[..place]).is_ok() {
+            return Err(Trouble("a front is a table"));
+        }
+        let kept = bytes[place];
+        for value in 0..=u8::MAX {
+            bytes[place] = value;
+            if !is_exact(alloc, &bytes)? {
+                return Err(Trouble("another byte form"));
+            }
+        }
+        bytes[place] = kept;
+    }
+    Ok(Vec::from_slice(alloc, b"as it should")?)
+}
