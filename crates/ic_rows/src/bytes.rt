@@ -57,6 +57,15 @@ pub fn table_of(alloc: Global, text: &[u8]) -> Result<Vec<u8>, Trouble> {
     Ok(print_reply(alloc, &reply)?)
 }
 
+/// Whether these are the bytes of a table.
+pub fn is_table(alloc: Global, text: &[u8]) -> Result<Vec<u8>, Trouble> {
+    let line = table_of(alloc, text)?;
+    if line.as_slice() == b"not a table".as_slice() {
+        return Ok(line);
+    }
+    Ok(Vec::from_slice(alloc, b"table")?)
+}
+
 /// Whether bytes are refused, or are a table's own.
 fn is_exact(alloc: Global, bytes: &[u8]) -> Result<bool, Trouble> {
     match decode(alloc, bytes) {

@@ -80,6 +80,7 @@ pub fn lasts(alloc: Global, most: u32, text: &[u8]) -> Result<Vec<u8>, Trouble> 
             (true, Ok(after)) => config = after,
             (false, Err(fault)) => {
                 decimal(&mut line, u64::from(count))?;
+                line.push(b' ')?;
                 line.extend_from_slice(name_of(&fault))?;
                 return Ok(line);
             }
@@ -92,9 +93,9 @@ pub fn lasts(alloc: Global, most: u32, text: &[u8]) -> Result<Vec<u8>, Trouble> 
 
 fn name_of(fault: &RoundFault) -> &'static [u8] {
     match fault {
-        RoundFault::Overgrown => b" overgrown",
-        RoundFault::NamesOut => b" names out",
-        RoundFault::Memory => b" no memory",
+        RoundFault::Overgrown => b"overgrown",
+        RoundFault::NamesOut => b"names out",
+        RoundFault::Memory => b"no memory",
     }
 }
 

@@ -1,6 +1,6 @@
 //! A row, and what is answered to it.
 
-use crate::bytes::{spoiled, table_of};
+use crate::bytes::{is_table, spoiled, table_of};
 use crate::deep::deep_terms;
 use crate::drawn::bodies_agree;
 use crate::expansion::expanded;
@@ -134,6 +134,7 @@ impl<'a> Row<'a> {
             "system" => system(alloc, &text),
             "line" => asked(alloc, &text),
             "bytes" => table_of(alloc, &text),
+            "is_table" => is_table(alloc, &text),
             "spoiled" => spoiled(alloc, &text),
             "reply" => reply(alloc, &text),
             "symbols" => named_symbols(alloc, &text),
