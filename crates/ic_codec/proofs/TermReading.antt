@@ -71,7 +71,7 @@ each_has ss (more_trees t ts) over small =
       each_has ss ts parts.1 (part_right (λ n. n < 2 ^ 64) (names t) (names_of ts) small),
     )
 
-arity_known : (a : ℕ) (o : Option Symbol) → option_map (λ (s : Symbol). s.arity) o ≡ Some a → has_arity a o ≡ true
+pub arity_known : (a : ℕ) (o : Option Symbol) → option_map (λ (s : Symbol). s.arity) o ≡ Some a → has_arity a o ≡ true
 arity_known a None e = absurd cc
 arity_known a (Some s) e = let same : s.arity ≡ a = cc in (unsigned_Decides s.arity a).1 same
 

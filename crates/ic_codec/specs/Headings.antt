@@ -7,9 +7,10 @@ use Rattle.ic_codec.specs.declared.headings.Heading.{Heading}
 use Rattle.ic_codec.specs.Numbers.{eight_bytes}
 use Rattle.ic_codec.specs.Texts.{text_bytes}
 
--- a heading is a job's name, its state in one byte, its rounds and the next name of its configuration
+-- a heading is a job's name, its state in one byte, its rounds and the `next` of its configuration
 abbrev pub heading_bytes : Heading → List ℕ
-heading_bytes h = text_bytes h.name ++ (state_number h.state ∷ (eight_bytes h.rounds ++ eight_bytes h.next))
+heading_bytes h =
+    text_bytes h.name ++ (state_number h.state ∷ (eight_bytes h.rounds ++ eight_bytes h.next))
 
 abbrev pub heading_of : JobParts → Heading
 heading_of j = record { name = j.name; state = j.state; rounds = j.rounds; next = j.config.next }

@@ -9,4 +9,5 @@ use Rattle.ic_codec.specs.Headings.{heading_bytes, heading_of}
 -- a job is its heading, its symbols, its rules and its configuration
 abbrev pub job_bytes : JobParts → List ℕ
 job_bytes j =
-    heading_bytes (heading_of j) ++ (symbols_bytes j.rules.symbols ++ (rules_bytes j.rules.rules ++ configuration_bytes j.config))
+    heading_bytes (heading_of j)
+    ++ (symbols_bytes j.rules.symbols ++ (rules_bytes j.rules.rules ++ configuration_bytes j.config))

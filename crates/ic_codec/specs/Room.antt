@@ -19,7 +19,8 @@ module _ {Z : Type 0} where
     pub capacity : vec_capacity new ≡ vec_capacity old
 
   -- Of bytes that are to be appended, these are left.
-  pub record GoesOn (start : Vec ℕ Z) (bytes : List ℕ) (now : Vec ℕ Z) (left : List ℕ) : Type 0 where
+  pub record GoesOn (start : Vec ℕ Z) (bytes : List ℕ) (now : Vec ℕ Z)
+      (left : List ℕ) : Type 0 where
     pub items : now.items ++ left ≡ start.items ++ bytes
     pub len : vec_len now + length left ≡ vec_len start + length bytes
     pub capacity : vec_capacity now ≡ vec_capacity start

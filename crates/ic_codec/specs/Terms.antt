@@ -19,7 +19,12 @@ abbrev mutual
 abbrev pub pair_bytes : Pair → List ℕ
 pair_bytes p = tree_bytes p.left ++ tree_bytes p.right
 
--- A term that has bytes: its agents are known, with as many arguments as their arities, and its names fit in eight bytes.
+-- A term that has bytes: its agents are known, with as many arguments as their arities, and its names
+-- fit in eight bytes.
 pub record HasBytes (ss : List Symbol) (t : Tree) : Type 0 where
   pub over : IsTrue (is_tree_over ss t)
   pub names : AllByRecursion (λ n. n < 2 ^ 64) (names t)
+
+-- an equation that has bytes: both of its sides have
+abbrev pub HasPairBytes : List Symbol → Pair → Type 0
+HasPairBytes ss p = HasBytes ss p.left × HasBytes ss p.right

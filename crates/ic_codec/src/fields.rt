@@ -1,4 +1,4 @@
-ghost use Rattle.std.specs.Prelude.{◌≡◌, ◌<◌, ◌∷◌, ◌++◌, [], ℕ, List, IfOk, IfErr, length};
+ghost use Rattle.std.specs.Prelude.{◌≡◌, ◌≢◌, ◌<◌, ◌^◌, ◌∷◌, ◌++◌, [], ℕ, List, IfOk, IfErr, length};
 ghost use Rattle.ic_codec.specs.Room.{Fits, Appended};
 ghost use Rattle.ic_codec.specs.Texts.{text_bytes};
 ghost use Rattle.ic_codec.specs.Numbers.{two_bytes, eight_bytes};
@@ -20,6 +20,7 @@ pub(crate) fn byte_at(bytes: &[u8]) -> Result<(u8, &[u8]), CodecFault>
 /// A number in two bytes, and the bytes behind it.
 pub(crate) fn two_bytes_at(bytes: &[u8]) -> Result<(u16, &[u8]), CodecFault>
     ensures read { IfOk result (λ r. bytes.now ≡ two_bytes r.0 ++ r.1.now) }
+    ensures small { IfOk result (λ r. r.0 < 2 ^ 16) }
     ensures refused { IfErr result (λ fault. (fault ≡ NotATable) × (length bytes.now < 2)) }
 {
     if bytes.len() < 2 {
@@ -32,6 +33,7 @@ pub(crate) fn two_bytes_at(bytes: &[u8]) -> Result<(u16, &[u8]), CodecFault>
 /// A number in eight bytes, and the bytes behind it.
 pub(crate) fn eight_bytes_at(bytes: &[u8]) -> Result<(u64, &[u8]), CodecFault>
     ensures read { IfOk result (λ r. bytes.now ≡ eight_bytes r.0 ++ r.1.now) }
+    ensures small { IfOk result (λ r. r.0 < 2 ^ 64) }
     ensures refused { IfErr result (λ fault. (fault ≡ NotATable) × (length bytes.now < 8)) }
 {
     if bytes.len() < 8 {
@@ -42,6 +44,20 @@ pub(crate) fn eight_bytes_at(bytes: &[u8]) -> Result<(u64, &[u8]), CodecFault>
         front[0], front[1], front[2], front[3], front[4], front[5], front[6], front[7],
     ]);
     Ok((number, rest))
+}
+
+/// A text of the length that stands before it, and the bytes behind it.
+pub(crate) fn text_at(bytes: &[u8]) -> Result<(&[u8], &[u8]), CodecFault>
+    ensures read { IfOk result (λ r. bytes.now ≡ text_bytes r.0.now ++ r.1.now) }
+    ensures refused { IfErr result (λ fault. fault ≡ NotATable
+        → (text rest : List ℕ) → bytes.now ≢ text_bytes text ++ rest) }
+{
+    let (count, rest) = byte_at(bytes)?;
+    let count = count as usize;
+    if rest.len() < count {
+        return Err(CodecFault::NotATable);
+    }
+    Ok(rest.split_at(count))
 }
 
 /// Appends a byte.

@@ -1,9 +1,11 @@
-ghost use Rattle.std.specs.Prelude.{◌≡◌, ◌≤◌, IfOk, IfErr, length, map};
+ghost use Rattle.std.specs.Prelude.{◌≡◌, ◌≤◌, ℕ, IfOk, IfErr, length, map};
 ghost use Rattle.std.specs.List.{flat_map};
 ghost use Rattle.ic_term.specs.Tree.{agent, trees_of};
 ghost use Rattle.ic_term.specs.Term.{tree, cell_tree, pair};
 ghost use Rattle.ic_codec.specs.Room.{Fits, Appended};
-ghost use Rattle.ic_codec.specs.Terms.{tree_bytes, pair_bytes};
+ghost use Rattle.ic_codec.specs.Terms.{tree_bytes, pair_bytes, HasPairBytes};
+ghost use Rattle.ic_term.specs.Tree.{pair_nodes};
+ghost use Rattle.ic_codec.specs.Fronts.{BeginsWithOne, BeginsWithNoOne, BeginsWithMany, BeginsWithNoMany};
 ghost use Rattle.ic_codec.specs.Fronts.{BeginsWithTree, BeginsWithNoTree, BeginsWithTrees, BeginsWithNoTrees};
 ghost use Rattle.ic_codec.specs.declared.fault.CodecFault.TheVariants.{NotATable};
 
@@ -69,8 +71,8 @@ pub(crate) fn put_equations(equations: &[Equation], out: &mut Vec<u8>)
     }
 }
 
-/// A term of at most so many nodes, how many are left, and the bytes behind it. It recurses as deep as the term, which
-/// has no more nodes than that.
+/// A term of at most so many nodes, how many are left, and the bytes behind it. It recurses as deep as
+/// the term, which has no more nodes than that.
 #[cycle(read)]
 pub(crate) fn term_at<'a>(
     alloc: Global,
@@ -79,8 +81,10 @@ pub(crate) fn term_at<'a>(
     bytes: &'a [u8],
 ) -> Result<(Term, u64, &'a [u8]), CodecFault>
     requires { length symbols.now ≤ 64 }
-    ensures read { IfOk result (λ r. BeginsWithTree symbols.now budget bytes.now (tree r.0) r.1 r.2.now) }
-    ensures refused { IfErr result (λ fault. fault ≡ NotATable → BeginsWithNoTree symbols.now budget bytes.now) }
+    ensures read { IfOk result (λ r.
+        BeginsWithTree symbols.now budget bytes.now (tree r.0) r.1 r.2.now) }
+    ensures refused { IfErr result (λ fault. fault ≡ NotATable
+        → BeginsWithNoTree symbols.now budget bytes.now) }
 {
     if budget == 0 {
         return Err(CodecFault::NotATable);
@@ -98,7 +102,7 @@ pub(crate) fn term_at<'a>(
     Ok((agent(alloc, sym, args)?, left, rest))
 }
 
-/// So many terms, with at most so many nodes together, how many are left, and the bytes behind them.
+/// So many terms with at most so many nodes together, how many are left, and the bytes behind them.
 #[cycle(read)]
 pub(crate) fn terms_at<'a>(
     alloc: Global,
@@ -108,8 +112,10 @@ pub(crate) fn terms_at<'a>(
     bytes: &'a [u8],
 ) -> Result<(Vec<Term>, u64, &'a [u8]), CodecFault>
     requires { length symbols.now ≤ 64 }
-    ensures read { IfOk result (λ r. BeginsWithTrees symbols.now count budget bytes.now (map tree r.0.items) r.1 r.2.now) }
-    ensures refused { IfErr result (λ fault. fault ≡ NotATable → BeginsWithNoTrees symbols.now count budget bytes.now) }
+    ensures read { IfOk result (λ r.
+        BeginsWithTrees symbols.now count budget bytes.now (map tree r.0.items) r.1 r.2.now) }
+    ensures refused { IfErr result (λ fault. fault ≡ NotATable
+        → BeginsWithNoTrees symbols.now count budget bytes.now) }
 {
     let mut terms = Vec::new(alloc);
     let mut left = budget;
@@ -127,4 +133,52 @@ fn agent(alloc: Global, sym: u32, args: Vec<Term>) -> Result<Term, AllocError>
     ensures { IfOk result (λ term. tree term ≡ agent sym (trees_of (map tree args.items))) }
 {
     Ok(Term::Agent(Box::new(alloc, Cell { sym, args })?))
+}
+
+/// So many equations with at most so many nodes together, how many are left, and the bytes behind
+/// them.
+pub(crate) fn equations_at<'a>(
+    alloc: Global,
+    symbols: &Symbols,
+    count: usize,
+    budget: u64,
+    bytes: &'a [u8],
+) -> Result<(Vec<Equation>, u64, &'a [u8]), CodecFault>
+    requires { length symbols.now ≤ 64 }
+    ensures read { IfOk result (λ r.
+        BeginsWithMany (HasPairBytes symbols.now) pair_bytes pair_nodes count budget bytes.now
+        (map pair r.0.items) r.1 r.2.now) }
+    ensures refused { IfErr result (λ fault. fault ≡ NotATable
+        → BeginsWithNoMany (HasPairBytes symbols.now) pair_bytes pair_nodes count budget
+        bytes.now) }
+{
+    let mut equations = Vec::new(alloc);
+    let mut left = budget;
+    let mut rest = bytes;
+    for _ in 0..count {
+        let (equation, now_left, now_rest) = equation_at(alloc, symbols, left, rest)?;
+        equations.push(equation)?;
+        left = now_left;
+        rest = now_rest;
+    }
+    Ok((equations, left, rest))
+}
+
+/// An equation of at most so many nodes, how many are left, and the bytes behind it.
+fn equation_at<'a>(
+    alloc: Global,
+    symbols: &Symbols,
+    budget: u64,
+    bytes: &'a [u8],
+) -> Result<(Equation, u64, &'a [u8]), CodecFault>
+    requires { length symbols.now ≤ 64 }
+    ensures read { IfOk result (λ r.
+        BeginsWithOne (HasPairBytes symbols.now) pair_bytes pair_nodes budget bytes.now
+        (pair r.0) r.1 r.2.now) }
+    ensures refused { IfErr result (λ fault. fault ≡ NotATable
+        → BeginsWithNoOne (HasPairBytes symbols.now) pair_bytes pair_nodes budget bytes.now) }
+{
+    let (left, budget, rest) = term_at(alloc, symbols, budget, bytes)?;
+    let (right, budget, rest) = term_at(alloc, symbols, budget, rest)?;
+    Ok((Equation { left, right }, budget, rest))
 }
