@@ -6,11 +6,12 @@ use ic_disk::laws::{
     write_and_mark, write_as_modelled, write_synced,
 };
 use ic_disk::{Blow, Choice, Disk, DiskFault, FuseDisk, MemDisk, Then};
+use std::alloc::Global;
 use std::test::Fail;
 
 // The call that fails, how, and then what reads give and what was synced, after a write of 1, a
 // sync, a write of 2 behind it, a sync, `len` and a read of nothing.
-const FUSES: [(u64, Blow, Then, &[u8], &[u8]); 24] = [
+const FUSES: &[(u64, Blow, Then, &[u8], &[u8])] = &[
     (1, Blow::Before, Then::Stop, &[], &[]),
     (1, Blow::Before, Then::GoOn, &[0, 2], &[0, 2]),
     (1, Blow::After, Then::Stop, &[1], &[]),
@@ -37,28 +38,46 @@ const FUSES: [(u64, Blow, Then, &[u8], &[u8]); 24] = [
     (6, Blow::After, Then::GoOn, &[1, 2], &[1, 2]),
 ];
 
+// Whether this call goes well where another fails.
+fn goes(call: u64, at: u64, then: Then) -> bool {
+    call < at || (call > at && then == Then::GoOn)
+}
+
+// Whether each of the six calls answers as it should.
+fn calls_are_right(disk: &mut FuseDisk, at: u64, then: Then) -> bool {
+    let first = disk.write_at(0, &[1]).is_ok() == goes(1, at, then);
+    let second = disk.sync().is_ok() == goes(2, at, then);
+    let third = disk.write_at(1, &[2]).is_ok() == goes(3, at, then);
+    let fourth = disk.sync().is_ok() == goes(4, at, then);
+    let fifth = disk.len().is_ok() == goes(5, at, then);
+    let sixth = disk.read(0, &mut []).is_ok() == goes(6, at, then);
+    first && second && third && fourth && fifth && sixth
+}
+
+// Whether they do, and leave what they should.
+fn is_right(alloc: Global, case: &(u64, Blow, Then, &[u8], &[u8])) -> Result<bool, Fail> {
+    let mut disk = FuseDisk::new(MemDisk::new(alloc), case.0, case.1, case.2);
+    let answered = calls_are_right(&mut disk, case.0, case.2);
+    let inner = disk.into_inner();
+    if !answered || inner.bytes() != case.3 {
+        return Ok(false);
+    }
+    let left = inner.crash(Choice::Synced)?;
+    Ok(left.bytes() == case.4)
+}
+
+fn are_right(alloc: Global, cases: &[(u64, Blow, Then, &[u8], &[u8])]) -> Result<bool, Fail> {
+    for case in cases {
+        if !is_right(alloc, case)? {
+            return Ok(false);
+        }
+    }
+    Ok(true)
+}
+
 #[test]
 fn fuse_at_each_call(rt: HostRuntime) -> Result<(), Fail> {
-    for (at, blow, then, content, synced) in FUSES {
-        let mut disk = FuseDisk::new(MemDisk::new(rt.alloc()), at, blow, then);
-        let answers = [
-            disk.write_at(0, &[1]).is_ok(),
-            disk.sync().is_ok(),
-            disk.write_at(1, &[2]).is_ok(),
-            disk.sync().is_ok(),
-            disk.len().is_ok(),
-            disk.read(0, &mut []).is_ok(),
-        ];
-        for (i, ok) in answers.iter().enumerate() {
-            let call = i as u64 + 1;
-            let want = call < at || (call > at && then == Then::GoOn);
-            assert_eq!(rt; *ok, want, "call {call}, {at} {blow:?} {then:?}");
-        }
-        let inner = disk.into_inner();
-        assert_eq!(rt; inner.bytes(), content, "{at} {blow:?} {then:?}");
-        let left = inner.crash(Choice::Synced)?;
-        assert_eq!(rt; left.bytes(), synced, "{at} {blow:?} {then:?}");
-    }
+    assert!(rt; are_right(rt.alloc(), FUSES)?);
     Ok(())
 }
 
@@ -76,28 +95,35 @@ fn calls_through_the_bound(rt: HostRuntime) -> Result<(), Fail> {
     let mut into = [0; 4];
     let mut disk = MemDisk::new(rt.alloc());
     write_and_mark(&mut disk, 1, b"abc", 0, b'!')?;
-    assert_eq!(rt; front(&mut disk, &mut into)?, 4);
-    assert_eq!(rt; into.as_slice(), b"!abc".as_slice());
+    assert!(rt; front(&mut disk, &mut into)? == 4);
+    assert!(rt; into.as_slice() == b"!abc".as_slice());
 
     let mut fused = FuseDisk::new(disk, 3, Blow::Before, Then::GoOn);
-    assert_eq!(rt; front(&mut fused, &mut into[..2])?, 4);
-    assert_eq!(rt; write_synced(&mut fused, 0, b"xyz"), Err(DiskFault));
+    assert!(rt; front(&mut fused, &mut into[..2])? == 4);
+    assert!(rt; write_synced(&mut fused, 0, b"xyz").is_err());
     write_synced(&mut fused, 0, b"xyz")?;
-    assert_eq!(rt; fused.into_inner().bytes(), b"xyzc".as_slice());
+    let inner = fused.into_inner();
+    assert!(rt; inner.bytes() == b"xyzc".as_slice());
     Ok(())
 }
 
-// What is synced after each of the four calls of a write and its mark, where that call is the last.
+// Whether these bytes are synced where this is the last call of a write and its mark.
+fn marks(alloc: Global, at: u64, want: &[u8]) -> Result<bool, Fail> {
+    let mut disk = FuseDisk::new(MemDisk::new(alloc), at, Blow::After, Then::Stop);
+    if write_and_mark(&mut disk, 1, b"abc", 0, b'!').is_ok() {
+        return Ok(false);
+    }
+    let left = disk.into_inner().crash(Choice::Synced)?;
+    Ok(left.bytes() == want)
+}
+
 #[test]
 fn mark_waits_for_the_bytes(rt: HostRuntime) -> Result<(), Fail> {
-    let cases: [(u64, &[u8]); 4] = [(1, b""), (2, b"\0abc"), (3, b"\0abc"), (4, b"!abc")];
-    for (at, want) in cases {
-        let mut disk = FuseDisk::new(MemDisk::new(rt.alloc()), at, Blow::After, Then::Stop);
-        let answer = write_and_mark(&mut disk, 1, b"abc", 0, b'!');
-        assert_eq!(rt; answer, Err(DiskFault), "call {at}");
-        let left = disk.into_inner().crash(Choice::Synced)?;
-        assert_eq!(rt; left.bytes(), want, "call {at}");
-    }
+    let alloc = rt.alloc();
+    assert!(rt; marks(alloc, 1, b"")?);
+    assert!(rt; marks(alloc, 2, b"\0abc")?);
+    assert!(rt; marks(alloc, 3, b"\0abc")?);
+    assert!(rt; marks(alloc, 4, b"!abc")?);
     Ok(())
 }
 
@@ -108,12 +134,12 @@ fn calls_of_the_laws(rt: HostRuntime) -> Result<(), Fail> {
     settled_disk_begins(&disk);
     write_as_modelled(&mut disk, 0, b"ab")?;
     sync_as_modelled(&mut disk)?;
-    assert_eq!(rt; len_as_modelled(&mut disk)?, 2);
+    assert!(rt; len_as_modelled(&mut disk)? == 2);
     let mut into = [0; 2];
     if disk.len()? == 2 {
         read_as_modelled(&mut disk, 0, &mut into)?;
     }
-    assert_eq!(rt; into, *b"ab");
+    assert!(rt; into == *b"ab");
     failures_rise(&disk.sync());
     Ok(())
 }
