@@ -1,12 +1,13 @@
 //! Laws of the definitions that the contracts of this crate cite.
 
-ghost use Rattle.std.specs.Prelude.{◌≡◌, ◌^◌, ◌<◌, ◌≤◌, ◌↔◌, Ok, Err, false};
+ghost use Rattle.std.specs.Prelude.{◌≡◌, ◌^◌, ◌<◌, ◌≤◌, ◌↔◌, ℕ, Ok, Err, false};
 ghost use Rattle.ic_pool.specs.Flight.{FlightParts, is_blocked};
 ghost use Rattle.ic_term.specs.Configuration.{configuration_nodes};
 ghost use Rattle.ic_round.specs.Firing.{fired};
 ghost use Rattle.ic_round.specs.Rounds.{round};
 ghost use Rattle.ic_pool.specs.Played.{PlayedParts, played, round_of};
-ghost use Rattle.ic_pool.specs.declared.fault.PoolFault.TheVariants.{Overgrown, NamesOut, RoundsOut};
+ghost use Rattle.ic_pool.specs.Workers.{played_by};
+ghost use Rattle.ic_pool.specs.declared.fault.PoolFault.TheVariants.{NoWorkers, Overgrown, NamesOut, RoundsOut};
 ghost use Rattle.ic_pool.specs.declared.limits.TheConstants.{MAX_ROUNDS, MAX_THREADS};
 
 /// The limits of rounds.
@@ -36,4 +37,10 @@ pub fn refusals_come_in_order()
     ensures after { (f : FlightParts) (p : PlayedParts) → played f ≡ Ok p
         → p.after ≡ round f.rules.rules f.config }
     ensures rounds { (f : FlightParts) (p : PlayedParts) → played f ≡ Ok p → p.rounds ≡ f.rounds }
+{}
+
+/// With no workers a flight is refused; with any other number the answer is that of one.
+pub fn the_number_of_workers_makes_no_difference()
+    ensures none { (f : FlightParts) → played_by 0 f ≡ Err NoWorkers }
+    ensures some { (workers : ℕ) (f : FlightParts) → 0 < workers → played_by workers f ≡ played f }
 {}
