@@ -1,5 +1,5 @@
 -- Each number of a byte form is a byte.
-use Rattle.std.proofs.Common.{◌≡◌, ℕ, zero, suc, ◌+◌, ◌^◌, ◌<◌, ◌≤◌, ◌/◌, ◌%◌, Bool, true, false, ◌&&◌, ◌||◌, ◌==◌, List, [], ◌∷◌, ◌++◌, length, refl, arith}
+use Rattle.std.proofs.Common.{◌≡◌, ℕ, zero, suc, ◌^◌, ◌<◌, ◌≤◌, ◌/◌, Bool, true, false, ◌&&◌, ◌||◌, ◌==◌, List, [], ◌∷◌, ◌++◌, length, refl, arith}
 use Rattle.std.specs.Prelude.{IsTrue, nat_le, slice_get}
 use Rattle.std.specs.Int.{byte_at, bytes_high_first, is_in_range}
 use Rattle.std.specs.List.{flat_map, list_all, AllByRecursion}
@@ -8,7 +8,6 @@ use Rattle.std.proofs.lemmas.Bool.{and_parts, leb-true, eqb-true}
 use Rattle.std.proofs.lemmas.Nat.{mod_below}
 use Rattle.ic_term.specs.Tree.{Tree, name, agent, Trees, no_trees, more_trees, Pair, list_of}
 use Rattle.ic_term.specs.Symbol.{Symbol, is_symbol_text, fits_limits, has_arity, is_tree_over, are_trees_over, is_pair_over}
-use Rattle.ic_term.specs.Configuration.{Configuration, IsConfiguration}
 use Rattle.ic_rules.specs.JobName.{is_job_name}
 use Rattle.ic_rules.specs.Rule.{Rule}
 use Rattle.ic_rules.specs.RuleSet.{IsRuleOver}
@@ -30,7 +29,7 @@ use Rattle.ic_codec.specs.Jobs.{job_bytes}
 use Rattle.ic_codec.specs.Tables.{form_head, table_bytes}
 use Rattle.ic_codec.specs.Room.{AreBytes}
 use Rattle.ic_codec.proofs.Appending.{bytes_both}
-use Rattle.ic_codec.proofs.Sizes.{small_symbol, few_rules, short_name}
+use Rattle.ic_codec.proofs.Sizes.{small_symbol, short_name}
 use Rattle.ic_codec.proofs.TermLemmas.{known_below}
 
 byte_small : (i n : ℕ) → byte_at i n < 256

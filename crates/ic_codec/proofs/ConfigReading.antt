@@ -1,15 +1,15 @@
 -- Which equations and configurations bytes begin with, and when they begin with none.
-use Rattle.std.proofs.Common.{◌≡◌, ◌≢◌, ℕ, ◌+◌, ◌^◌, ◌<◌, ◌≤◌, ◌↔◌, Bool, true, false, ◌&&◌, List, [], ◌∷◌, ◌++◌, length, cond, Option, Some, None, Ok, Err, IsTrue, refl, sym, ap, subst, ◌∙◌, append_assoc, arith, sum_by}
+use Rattle.std.proofs.Common.{◌≡◌, ◌≢◌, ℕ, ◌^◌, ◌<◌, ◌≤◌, ◌↔◌, Bool, true, false, List, [], ◌∷◌, ◌++◌, length, cond, Option, Some, None, Ok, Err, refl, sym, ap, subst, ◌∙◌, append_assoc, arith, sum_by}
 use Rattle.std.specs.List.{flat_map, list_all, AllByRecursion}
 use Rattle.std.proofs.lemmas.List.{length-append}
 use Rattle.ic_term.specs.Tree.{Tree, Pair, nodes, pair_nodes}
-use Rattle.ic_term.specs.Symbol.{Symbol, is_tree_over, is_pair_over, is_over}
+use Rattle.ic_term.specs.Symbol.{Symbol, is_pair_over, is_over}
 use Rattle.ic_term.specs.Configuration.{Configuration, IsConfiguration, restored, is_within, unless_third, third_occurrence, configuration_names}
 use Rattle.ic_term.specs.declared.config.ConfigFault.TheVariants.{Limit}
 use Rattle.ic_codec.specs.Numbers.{two_bytes}
 use Rattle.ic_codec.specs.Terms.{tree_bytes, pair_bytes, HasBytes, HasPairBytes}
 use Rattle.ic_codec.specs.Configurations.{configuration_bytes}
-use Rattle.ic_codec.specs.Fronts.{BeginsWithTree, BeginsWithNoTree, BeginsWithTrees, BeginsWithNoTrees, BeginsWith, BeginsWithNone, BeginsWithOne, BeginsWithNoOne, BeginsWithMany, BeginsWithNoMany, IsConfigurationOver}
+use Rattle.ic_codec.specs.Fronts.{BeginsWithTree, BeginsWithNoTree, BeginsWithTrees, BeginsWithNoTrees, BeginsWith, BeginsWithNone, BeginsWithNoOne, BeginsWithMany, BeginsWithNoMany, IsConfigurationOver}
 use Rattle.ic_codec.proofs.NumberLemmas.{length-two_bytes}
 use Rattle.ic_codec.proofs.Items.{items_front}
 use Rattle.ic_codec.proofs.Unique.{two_front, tree_tells, pair_tells, interface_has, equations_have, equations_few, configuration_spread}

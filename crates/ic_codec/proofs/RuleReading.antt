@@ -1,18 +1,18 @@
 -- Which rules bytes begin with, and when they begin with none.
-use Rattle.std.proofs.Common.{◌≡◌, ◌≢◌, ℕ, ◌+◌, ◌^◌, ◌<◌, ◌≤◌, ◌↔◌, Bool, true, ◌&&◌, List, [], ◌∷◌, ◌++◌, length, map, Option, Some, Ok, Err, refl, sym, ap, subst, ◌∙◌, append_assoc, arith, sum_by}
+use Rattle.std.proofs.Common.{◌≡◌, ◌≢◌, ℕ, ◌^◌, ◌<◌, ◌≤◌, ◌↔◌, true, List, [], ◌∷◌, ◌++◌, length, Some, Ok, refl, sym, ap, subst, ◌∙◌, append_assoc, arith, sum_by}
 use Rattle.std.specs.Prelude.{slice_get}
 use Rattle.std.specs.List.{flat_map, list_all, range_with_len, AllByRecursion}
 use Rattle.std.proofs.lemmas.List.{length-append}
 use Rattle.ic_term.specs.Tree.{Tree, names, nodes}
 use Rattle.ic_term.specs.Symbol.{Symbol, has_arity, symbol_arity, is_tree_over}
 use Rattle.ic_rules.specs.Renaming.{first_occurrences}
-use Rattle.ic_rules.specs.Rule.{Rule, rule_names, rule_nodes, numbered, IsNumbered}
-use Rattle.ic_rules.specs.RuleSet.{Rules, IsRuleSet, IsRuleOver, built}
+use Rattle.ic_rules.specs.Rule.{Rule, rule_names, rule_nodes, IsNumbered}
+use Rattle.ic_rules.specs.RuleSet.{Rules, IsRuleSet, built}
 use Rattle.ic_rules.specs.Refusals.{IsTaken}
 use Rattle.ic_rules.specs.NumberingLaws.{map-numbered-same}
 use Rattle.ic_codec.specs.Numbers.{two_bytes}
 use Rattle.ic_codec.specs.Terms.{tree_bytes, HasBytes}
-use Rattle.ic_codec.specs.Rules.{rule_bytes, rules_bytes, HasRuleBytes}
+use Rattle.ic_codec.specs.Rules.{rule_bytes, HasRuleBytes}
 use Rattle.ic_codec.specs.Fronts.{BeginsWithTrees, BeginsWithNoTrees, BeginsWith, BeginsWithNone, BeginsWithOne, BeginsWithNoOne, BeginsWithMany, BeginsWithNoMany, IsRuleSetOver, set_bytes}
 use Rattle.ic_codec.proofs.NumberLemmas.{length-two_bytes}
 use Rattle.ic_codec.proofs.TermLemmas.{one_arity}

@@ -1,17 +1,16 @@
 -- How long byte forms are.
-use Rattle.std.proofs.Common.{◌≡◌, ℕ, ◌+◌, ◌*◌, ◌<◌, ◌≤◌, Bool, true, false, ◌&&◌, List, [], ◌∷◌, ◌++◌, length, refl, arith, sum_by}
+use Rattle.std.proofs.Common.{◌≡◌, ℕ, ◌+◌, ◌*◌, ◌≤◌, true, List, [], ◌∷◌, ◌++◌, length, arith, sum_by}
 use Rattle.std.specs.Prelude.{IsTrue, nat_le}
-use Rattle.std.specs.List.{flat_map, list_all, AllByRecursion}
-use Rattle.std.specs.Char.{is_ascii_lowercase, is_ascii_digit}
+use Rattle.std.specs.List.{flat_map, AllByRecursion}
 use Rattle.std.proofs.lemmas.Bool.{and_parts, leb-true}
 use Rattle.std.proofs.lemmas.List.{length-append}
 use Rattle.std.proofs.lemmas.List.Sums.{sum_by-cons}
 use Rattle.ic_term.specs.Tree.{Tree, name, agent, Trees, no_trees, more_trees, nodes, nodes_of, Pair, pair_nodes}
-use Rattle.ic_term.specs.Symbol.{Symbol, is_symbol_text, fits_limits, AreSymbols}
+use Rattle.ic_term.specs.Symbol.{Symbol, is_symbol_text, fits_limits}
 use Rattle.ic_term.specs.Configuration.{Configuration, IsConfiguration}
 use Rattle.ic_rules.specs.JobName.{is_job_name}
 use Rattle.ic_rules.specs.Rule.{Rule, rule_nodes}
-use Rattle.ic_rules.specs.RuleSet.{Rules, IsRuleSet, are_few}
+use Rattle.ic_rules.specs.RuleSet.{are_few}
 use Rattle.ic_jobs.specs.State.{state_number}
 use Rattle.ic_jobs.specs.Job.{JobParts, IsJob}
 use Rattle.ic_jobs.specs.Table.{IsTable}
@@ -24,7 +23,7 @@ use Rattle.ic_codec.specs.Rules.{rule_bytes, rules_bytes}
 use Rattle.ic_codec.specs.Configurations.{configuration_bytes}
 use Rattle.ic_codec.specs.Headings.{heading_bytes, heading_of}
 use Rattle.ic_codec.specs.Jobs.{job_bytes}
-use Rattle.ic_codec.specs.Tables.{form_head, table_bytes}
+use Rattle.ic_codec.specs.Tables.{table_bytes}
 use Rattle.ic_codec.proofs.NumberLemmas.{length-two_bytes, length-eight_bytes}
 
 mutual

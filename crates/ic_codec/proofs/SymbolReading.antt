@@ -1,10 +1,8 @@
 -- Which symbols bytes begin with, and when they begin with none.
-use Rattle.std.proofs.Common.{◌≡◌, ◌≢◌, ℕ, suc, ◌+◌, ◌<◌, ◌≤◌, Bool, true, false, List, [], ◌∷◌, ◌++◌, length, cond, Option, Some, None, Result, Ok, Err, is_some, refl, sym, ap, subst, ◌∙◌, append_assoc, arith}
+use Rattle.std.proofs.Common.{◌≡◌, ◌≢◌, ℕ, ◌<◌, Bool, true, false, List, [], ◌∷◌, ◌++◌, length, cond, Option, Some, None, Ok, Err, is_some, refl, sym, ap, subst, ◌∙◌, append_assoc, arith}
 use Rattle.std.specs.Prelude.{slice_get}
 use Rattle.std.specs.List.{flat_map}
-use Rattle.std.proofs.lemmas.List.{length-append}
 use Rattle.ic_term.specs.Symbol.{Symbol, AreSymbols, numbered, number_found, number_of_text, with_symbol, fits_limits, has_arity}
-use Rattle.ic_term.specs.declared.symbols.SymbolFault.{SymbolFault}
 use Rattle.ic_term.specs.declared.symbols.SymbolFault.TheVariants.{Limit, Arity}
 use Rattle.ic_codec.specs.Texts.{text_bytes}
 use Rattle.ic_codec.specs.Symbols.{symbol_bytes, symbols_bytes}

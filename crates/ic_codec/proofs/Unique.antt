@@ -1,13 +1,13 @@
 -- Bytes that begin with those of two values begin with those of one, part by part.
-use Rattle.std.proofs.Common.{◌≡◌, ℕ, zero, suc, ◌+◌, ◌^◌, ◌<◌, ◌≤◌, Bool, true, false, ◌&&◌, ◌||◌, ◌==◌, List, [], ◌∷◌, ◌++◌, length, Option, Some, None, cond, refl, sym, ap, subst, ◌∙◌, append_assoc, arith, sum_by}
-use Rattle.std.specs.Prelude.{slice_get, IsTrue}
+use Rattle.std.proofs.Common.{◌≡◌, ℕ, zero, suc, ◌+◌, ◌^◌, ◌<◌, ◌≤◌, Bool, true, false, ◌||◌, ◌==◌, List, [], ◌∷◌, ◌++◌, length, cond, refl, sym, ap, subst, ◌∙◌, append_assoc, arith, sum_by}
+use Rattle.std.specs.Prelude.{slice_get}
 use Rattle.std.specs.List.{flat_map, list_any, list_all, range_with_len, AllByRecursion}
 use Rattle.std.specs.Cmp.{unsigned_Decides}
 use Rattle.std.proofs.lemmas.Bool.{and_parts}
 use Rattle.std.proofs.lemmas.List.{length-append}
 use Rattle.std.proofs.lemmas.List.Sums.{sum_by-cons}
-use Rattle.ic_term.specs.Tree.{Tree, name, agent, Trees, no_trees, more_trees, names, names_of, nodes, nodes_of, Pair, pair_names, pair_nodes}
-use Rattle.ic_term.specs.Symbol.{Symbol, AreSymbols, has_arity, is_tree_over, is_pair_over, is_over}
+use Rattle.ic_term.specs.Tree.{Tree, name, agent, Trees, no_trees, more_trees, names, names_of, nodes, nodes_of, Pair, pair_names}
+use Rattle.ic_term.specs.Symbol.{Symbol, has_arity, is_tree_over, is_pair_over}
 use Rattle.ic_term.specs.Configuration.{Configuration, IsConfiguration}
 use Rattle.ic_rules.specs.Renaming.{first_behind, first_occurrences}
 use Rattle.ic_rules.specs.Rule.{Rule, rule_names, rule_nodes, IsNumbered, IsRule}
@@ -16,8 +16,6 @@ use Rattle.ic_rules.specs.FitLaws.{first_unfit-None}
 use Rattle.ic_rules.specs.NumberingLaws.{Among, each_among, length-range}
 use Rattle.ic_jobs.specs.declared.state.State.{State}
 use Rattle.ic_jobs.specs.State.{state_number, state_numbered, state_numbered-number}
-use Rattle.ic_jobs.specs.Job.{JobParts, IsJob}
-use Rattle.ic_jobs.specs.Table.{IsTable}
 use Rattle.ic_codec.specs.declared.headings.Heading.{Heading}
 use Rattle.ic_codec.specs.Numbers.{two_bytes, eight_bytes}
 use Rattle.ic_codec.specs.Texts.{text_bytes}
@@ -25,9 +23,7 @@ use Rattle.ic_codec.specs.Terms.{tree_bytes, pair_bytes, HasBytes, HasPairBytes}
 use Rattle.ic_codec.specs.Symbols.{symbol_bytes, symbols_bytes}
 use Rattle.ic_codec.specs.Rules.{rule_bytes, rules_bytes, HasRuleBytes}
 use Rattle.ic_codec.specs.Configurations.{configuration_bytes}
-use Rattle.ic_codec.specs.Headings.{heading_bytes, heading_of, HasHeadingBytes}
-use Rattle.ic_codec.specs.Jobs.{job_bytes}
-use Rattle.ic_codec.specs.Tables.{form_head, table_bytes}
+use Rattle.ic_codec.specs.Headings.{heading_bytes, HasHeadingBytes}
 use Rattle.ic_codec.specs.Fronts.{IsConfigurationOver, IsRuleSetOver, set_bytes}
 use Rattle.ic_codec.proofs.NumberLemmas.{fronts, length-two_bytes, two_bytes-injective, length-eight_bytes, eight_bytes-injective}
 use Rattle.ic_codec.proofs.TermLemmas.{tree_front, one_arity}

@@ -1,6 +1,6 @@
 -- Terms and equations as bytes (this project's choice).
-use Rattle.std.specs.Prelude.{◌≡◌, ℕ, ◌<◌, ◌≤◌, ◌^◌, List, [], ◌∷◌, ◌++◌, IsTrue}
-use Rattle.std.specs.List.{flat_map, AllByRecursion}
+use Rattle.std.specs.Prelude.{ℕ, ◌<◌, ◌^◌, List, [], ◌∷◌, ◌++◌, IsTrue}
+use Rattle.std.specs.List.{AllByRecursion}
 use Rattle.ic_term.specs.Tree.{Tree, name, agent, Trees, no_trees, more_trees, Pair, names}
 use Rattle.ic_term.specs.Symbol.{Symbol, is_tree_over}
 use Rattle.ic_codec.specs.Numbers.{eight_bytes}

@@ -1,7 +1,7 @@
-use Rattle.std.proofs.Common.{◌≡◌, List, ℕ, ◌∷◌, ◌++◌, [], length, map, refl, ap, sym, subst, ◌∙◌, arith}
+use Rattle.std.proofs.Common.{List, ◌∷◌, ◌++◌, [], length, ap, sym, subst, ◌∙◌, arith}
 use Rattle.std.proofs.lemmas.List.{length-map}
 use Rattle.std.specs.List.{flat_map}
-use Rattle.ic_term.specs.Tree.{Tree, Pair}
+use Rattle.ic_term.specs.Tree.{Pair}
 use Rattle.ic_term.specs.Term.{tree, pair}
 use Rattle.ic_codec.specs.Numbers.{two_bytes}
 use Rattle.ic_codec.specs.Terms.{tree_bytes, pair_bytes}

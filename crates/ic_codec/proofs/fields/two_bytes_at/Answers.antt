@@ -1,5 +1,4 @@
-use Rattle.std.proofs.Common.{◌≡◌, ◌+◌, arith}
-use Rattle.std.proofs.lemmas.Grind.{common_steps}
+use Rattle.std.proofs.Common.{arith}
 use Rattle.ic_codec.proofs.NumberLemmas.{two_bytes-read}
 use Rattle.ic_codec.proofs.fields.two_bytes_at.Goals as goal
 

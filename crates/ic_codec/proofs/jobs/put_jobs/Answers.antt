@@ -1,4 +1,4 @@
-use Rattle.std.proofs.Common.{◌+◌, drop, map, arith}
+use Rattle.std.proofs.Common.{◌+◌, drop, arith}
 use Rattle.std.specs.List.{flat_map}
 use Rattle.ic_codec.specs.Jobs.{job_bytes}
 use Rattle.ic_codec.proofs.Appending.{bytes_from, left_fits, goes_on}

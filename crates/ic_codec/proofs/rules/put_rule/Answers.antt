@@ -1,4 +1,4 @@
-use Rattle.std.proofs.Common.{◌≡◌, List, ℕ, ◌∷◌, ◌++◌, [], refl, ap, sym, subst}
+use Rattle.std.proofs.Common.{List, ◌∷◌, ◌++◌, [], ap, sym, subst}
 use Rattle.std.specs.List.{flat_map}
 use Rattle.ic_term.specs.Tree.{Tree}
 use Rattle.ic_codec.specs.Terms.{tree_bytes}

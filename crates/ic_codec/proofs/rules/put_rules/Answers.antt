@@ -1,4 +1,4 @@
-use Rattle.std.proofs.Common.{◌+◌, length, drop, map, arith}
+use Rattle.std.proofs.Common.{◌+◌, length, drop, arith}
 use Rattle.std.specs.List.{flat_map}
 use Rattle.ic_codec.specs.Numbers.{two_bytes}
 use Rattle.ic_codec.specs.Rules.{rule_bytes}

@@ -1,6 +1,4 @@
-use Rattle.std.proofs.Common.{◌+◌, drop, arith}
-use Rattle.std.specs.List.{flat_map}
-use Rattle.ic_codec.specs.Symbols.{symbol_bytes}
+use Rattle.std.proofs.Common.{arith}
 use Rattle.ic_codec.proofs.SymbolLemmas.{symbol_fits, symbols_go_on}
 use Rattle.ic_codec.proofs.symbols.put_symbols.Goals as goal
 

@@ -1,7 +1,6 @@
-use Rattle.std.proofs.Common.{◌≡◌, ◌==◌, ℕ, List, length, sym, ap, ◌∙◌}
+use Rattle.std.proofs.Common.{◌==◌, ℕ, List, length, sym, ap, ◌∙◌}
 use Rattle.std.proofs.lemmas.Bool.{false≢true}
 use Rattle.std.proofs.lemmas.Result.{err_from_is_err_and}
-use Rattle.ic_jobs.specs.Job.{JobParts}
 use Rattle.ic_codec.specs.Tables.{table_bytes}
 use Rattle.ic_codec.proofs.TableReading.{none_jobs, none_table, none_longer, table_read}
 use Rattle.ic_codec.proofs.tables.decode.Goals as goal

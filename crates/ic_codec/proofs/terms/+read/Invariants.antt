@@ -1,4 +1,4 @@
-use Rattle.std.proofs.Common.{◌≡◌, map, ℕ, ◌+◌, ◌*◌}
+use Rattle.std.proofs.Common.{map, ◌+◌, ◌*◌}
 use Rattle.ic_term.specs.Term.{tree}
 use Rattle.ic_codec.specs.Fronts.{BeginsWithTrees}
 use Rattle.ic_codec.proofs.terms.+read.Given as goal
