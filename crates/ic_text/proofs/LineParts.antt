@@ -66,7 +66,7 @@ long_name w a named isnt =
     ap (λ b. b && nat_le (length w) MAX_JOB_NAME) (sym named) ∙ sym (job_name-parts w) ∙ false_from_ne_true (is_job_name w) isnt in
     rw long refl
 
-word_of-named : (w : List ℕ) → is_job_word w ≡ true → word_of w ≡ word w ∷ []
+pub word_of-named : (w : List ℕ) → is_job_word w ≡ true → word_of w ≡ word w ∷ []
 word_of-named [] named = absurd (false≢true named)
 word_of-named (b ∷ bs) named = refl
 
