@@ -1,32 +1,37 @@
 -- Laws of lines: numbers and their texts, and a submit with its system.
-use Rattle.std.proofs.Common.{◌≡◌, ℕ, zero, suc, ◌+◌, ◌*◌, ◌<◌, ◌≤◌, ◌^◌, ◌||◌, ◌==◌, true, List, [], ◌∷◌, ◌++◌, Some, Result, length, IsTrue, refl, sym, ap, ◌∙◌, subst, arith, ⊎_elim, length-append}
-use Rattle.std.specs.Prelude.{codes}
+use Rattle.std.proofs.Common.{◌≡◌, ℕ, zero, suc, ◌+◌, ◌*◌, ◌<◌, ◌≤◌, ◌^◌, ◌||◌, ◌==◌, not, true, List, [], ◌∷◌, ◌++◌, Some, Result, Ok, length, IsTrue, refl, sym, ap, ◌∙◌, subst, arith, ⊎_elim, length-append}
+use Rattle.std.specs.Prelude.{codes, nat_le}
 use Rattle.std.specs.Str.{bytes_eq}
 use Rattle.std.specs.Fmt.{decimal}
-use Rattle.std.proofs.lemmas.Fmt.{decimal_digit}
+use Rattle.std.proofs.lemmas.Fmt.{decimal_digit, length-decimal-le}
 use Rattle.std.specs.List.{list_all}
 use Rattle.std.specs.Char.{is_ascii_lowercase, is_ascii_digit}
+use Rattle.std.specs.Cmp.{unsigned_Decides}
 use Rattle.std.specs.Cmp.Lexicographic.{bytes_decides}
 use Rattle.std.proofs.lemmas.Bool.Decides.{nat_tests}
 use Rattle.std.proofs.lemmas.Bool.{false≢true, and_parts, or_cases, or_right}
 use Rattle.ic_rules.specs.JobName.{is_job_name}
 use Rattle.ic_rules.specs.System.{SystemParts}
 use Rattle.ic_rules.specs.declared.job_name.TheConstants.{MAX_JOB_NAME}
-use Rattle.ic_text.specs.declared.limits.TheConstants.{MAX_TEXT}
+use Rattle.ic_text.specs.declared.limits.TheConstants.{MAX_TEXT, MAX_RUN}
 use Rattle.ic_text.specs.declared.fault.TextFault.{TextFault}
 use Rattle.ic_text.specs.Name.{is_name, is_numeral, name_text, name_number, number_in}
-use Rattle.ic_text.specs.Token.{is_word_byte, word_of, before, followed, tokens}
+use Rattle.ic_text.specs.Token.{word, is_blank, is_word_byte, word_of, before, followed, tokens}
 use Rattle.ic_text.specs.SystemText.{ReadsSystem}
-use Rattle.ic_text.specs.LineSource.{is_job_word, is_number}
-use Rattle.ic_text.specs.LineSense.{submitted}
+use Rattle.ic_jobs.specs.declared.command.Command.TheVariants as command
+use Rattle.ic_text.specs.declared.line.Line.TheVariants.{Blank, Command as Asks, Run}
+use Rattle.ic_text.specs.declared.line.Opening.TheVariants as opening
+use Rattle.ic_text.specs.declared.line.Verb.{Verb}
+use Rattle.ic_text.specs.LineSource.{nothing, about, list, run, is_job_word, is_number, verb_text}
+use Rattle.ic_text.specs.LineSense.{submitted, asked, line_sense}
 use Rattle.ic_text.specs.LineText.{ReadsLine}
 use Rattle.ic_text.specs.inner.Line.{IsLineOf}
 use Rattle.ic_text.proofs.NameLemmas.{is_name-name_text, name_number-name_text, name_text-name_number}
 use Rattle.ic_text.proofs.NameTexts.{name_text-digits}
 use Rattle.ic_text.proofs.WordRuns.{tokens-parted, tokens-run}
 use Rattle.ic_text.proofs.WordSplits.{before-none}
-use Rattle.ic_text.proofs.LineReading.{reads_line}
-use Rattle.ic_text.proofs.LineParts.{job_name-parts, submit_read}
+use Rattle.ic_text.proofs.LineReading.{is_sense, is_sense_behind, reads_line}
+use Rattle.ic_text.proofs.LineParts.{job_name-parts, short_name, word_of-named, submit_read}
 
 -- a number's text behind the letter a is the text of a name
 named : (n : ℕ) → 0 < n → n < 2 ^ 64 → name_text (26 * n + 0) ≡ 97 ∷ decimal n
@@ -101,8 +106,8 @@ tokens-name (b ∷ bs) is =
 
 -- a word in front of a space
 behind_space : (w rest : List ℕ) → tokens w ≡ Some (word_of w) → tokens (w ++ 32 ∷ rest) ≡ before (word_of w) (tokens rest)
-behind_space w rest run =
-    tokens-parted w rest 32 refl ∙ ap (λ o. followed o (followed (Some []) (tokens rest))) run ∙ ap (before (word_of w)) (before-none (tokens rest))
+behind_space w rest alone =
+    tokens-parted w rest 32 refl ∙ ap (λ o. followed o (followed (Some []) (tokens rest))) alone ∙ ap (before (word_of w)) (before-none (tokens rest))
 
 pub submit_text : (name text : List ℕ) (a : Result SystemParts TextFault) → IsTrue (is_job_name name) → length text + 24 ≤ MAX_TEXT
     → ReadsSystem text a → ReadsLine (codes "submit " ++ name ++ 32 ∷ text) (submitted name a)
@@ -115,3 +120,73 @@ submit_text name text a is room reads =
     let short : length (codes "submit" ++ 32 ∷ rest) ≤ MAX_TEXT = omega (arith, few, room, length-append name (32 ∷ text)) in
     reads_line (codes "submit" ++ 32 ∷ rest) (submitted name a) short
     (subst (λ o. IsLineOf o (submitted name a)) (sym whole) (submit_read rest name text split parts.0 a (omega arith) is reads))
+
+-- a verb and a job's name
+pub about_text : (verb : Verb) (name : List ℕ) → tokens (verb_text verb) ≡ Some (word_of (verb_text verb)) → length (verb_text verb) ≤ 6 → IsTrue (is_job_name name)
+    → ReadsLine (verb_text verb ++ 32 ∷ name) (Ok (Asks (asked verb name)))
+about_text verb name alone small is =
+    let parts = and_parts (is_job_word name) _ (sym (job_name-parts name) ∙ is) in
+    let whole = behind_space (verb_text verb) name alone in
+    let few : length name ≤ MAX_JOB_NAME = grind (arith, nat_tests, parts.1) in
+    let short : length (verb_text verb ++ 32 ∷ name) ≤ MAX_TEXT = omega (arith, few, small, length-append (verb_text verb) (32 ∷ name)) in
+    let read = is_sense_behind (opening.About verb) name (word name ∷ []) (about verb name) parts.0 (tokens-name name parts.0 ∙ ap Some (word_of-named name parts.0)) refl in
+    reads_line (verb_text verb ++ 32 ∷ name) (Ok (Asks (asked verb name))) short
+    (subst (λ o. IsLineOf o (Ok (Asks (asked verb name)))) (sym whole)
+    (subst (IsLineOf (before (word_of (verb_text verb)) (tokens name))) (short_name name (Ok (Asks (asked verb name))) is) read))
+
+-- the digits of a number are one word
+digit_byte : (c : ℕ) → is_ascii_digit c ≡ true → is_word_byte c ≡ true
+digit_byte c is = grind (arith, nat_tests)
+
+digit_bytes : (ds : List ℕ) → list_all is_ascii_digit ds ≡ true → list_all is_word_byte ds ≡ true
+digit_bytes [] are = refl
+digit_bytes (d ∷ ds) are = let parts = and_parts (is_ascii_digit d) (list_all is_ascii_digit ds) are in rw (digit_byte d parts.0) (digit_bytes ds parts.1)
+
+tokens-number : (w : List ℕ) → is_number w ≡ true → tokens w ≡ Some (word w ∷ [])
+tokens-number [] is = absurd (false≢true is)
+tokens-number (d ∷ ds) is = ⊎_elim zero_text digits (or_cases (bytes_eq (d ∷ ds) (codes "0")) (is_numeral (d ∷ ds)) is)
+  where
+    zero_text : bytes_eq (d ∷ ds) (codes "0") ≡ true → tokens (d ∷ ds) ≡ Some (word (d ∷ ds) ∷ [])
+    zero_text e = let same : d ∷ ds ≡ 48 ∷ [] = (bytes_decides (d ∷ ds) (codes "0")).0 e in ap tokens same ∙ ap (λ x. Some (word x ∷ [])) (sym same)
+
+    digits : is_numeral (d ∷ ds) ≡ true → tokens (d ∷ ds) ≡ Some (word (d ∷ ds) ∷ [])
+    digits e = tokens-run d ds (digit_bytes (d ∷ ds) (and_parts (not (d == 48)) (list_all is_ascii_digit (d ∷ ds)) e).1)
+
+pub run_text : (n : ℕ) → n ≤ MAX_RUN → ReadsLine (codes "run " ++ decimal n) (Ok (Run n))
+run_text n within =
+    let fits : n < 2 ^ 64 = omega arith in
+    let is = number-decimal n fits in
+    let low : nat_le n MAX_RUN ≡ true = grind (arith, nat_tests) in
+    let means : line_sense (run (decimal n)) ≡ Ok (Run n) = rw (value-of-decimal n fits, low) refl in
+    let read = is_sense_behind opening.Run (decimal n) (word (decimal n) ∷ []) (run (decimal n)) is (tokens-number (decimal n) is) refl in
+    let whole : tokens (codes "run" ++ 32 ∷ decimal n) ≡ before (word_of (codes "run")) (tokens (decimal n)) = behind_space (codes "run") (decimal n) refl in
+    reads_line (codes "run" ++ 32 ∷ decimal n) (Ok (Run n)) (omega (arith, length-decimal-le 4 n (omega arith) (omega arith) fits))
+    (subst (λ o. IsLineOf o (Ok (Run n))) (sym whole) (subst (IsLineOf (before (word_of (codes "run")) (tokens (decimal n)))) means read))
+
+pub list_text : ReadsLine (codes "list") (Ok (Asks command.List))
+list_text = reads_line (codes "list") (Ok (Asks command.List)) (omega arith) (is_sense (tokens (codes "list")) list tt refl)
+
+-- blanks alone
+at_blank : (P : ℕ → Type 0) → P 32 → P 9 → P 10 → P 13 → (b : ℕ) → is_blank b ≡ true → P b
+at_blank P space tab feed back b is = ⊎_elim three (at 13 back) (or_cases (b == 32 || b == 9 || b == 10) (b == 13) is)
+  where
+    at : (k : ℕ) → P k → (b == k) ≡ true → P b
+    at k here e = subst P (sym ((unsigned_Decides b k).0 e)) here
+
+    two : (b == 32 || b == 9) ≡ true → P b
+    two e = ⊎_elim (at 32 space) (at 9 tab) (or_cases (b == 32) (b == 9) e)
+
+    three : (b == 32 || b == 9 || b == 10) ≡ true → P b
+    three e = ⊎_elim two (at 10 feed) (or_cases (b == 32 || b == 9) (b == 10) e)
+
+tokens-blank : (bs : List ℕ) (b : ℕ) → is_blank b ≡ true → tokens (b ∷ bs) ≡ tokens bs
+tokens-blank bs b is =
+    let same = before-none (before [] (tokens bs)) ∙ before-none (tokens bs) in
+    at_blank (λ c. tokens (c ∷ bs) ≡ tokens bs) same same same same b is
+
+tokens-blanks : (bs : List ℕ) → list_all is_blank bs ≡ true → tokens bs ≡ Some []
+tokens-blanks [] are = refl
+tokens-blanks (b ∷ bs) are = let parts = and_parts (is_blank b) (list_all is_blank bs) are in tokens-blank bs b parts.0 ∙ tokens-blanks bs parts.1
+
+pub blank_text : (text : List ℕ) → length text ≤ MAX_TEXT → list_all is_blank text ≡ true → ReadsLine text (Ok Blank)
+blank_text text short are = reads_line text (Ok Blank) short (is_sense (tokens text) nothing tt (tokens-blanks text are))

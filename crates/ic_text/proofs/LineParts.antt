@@ -11,40 +11,19 @@ use Rattle.ic_text.specs.declared.fault.TextFault.TheVariants.{Syntax, Limit}
 use Rattle.ic_text.specs.declared.line.Line.{Line}
 use Rattle.ic_text.specs.declared.line.Opening.{Opening}
 use Rattle.ic_text.specs.declared.line.Opening.TheVariants as opening
-use Rattle.ic_text.specs.declared.line.Verb.{Verb}
-use Rattle.ic_text.specs.Token.{Token, word, mark, word_of, before, tokens}
+use Rattle.ic_text.specs.Token.{Token, word, word_of, before, tokens}
 use Rattle.ic_text.specs.Reading.{IsSpelling}
 use Rattle.ic_text.specs.SystemSource.{SystemPhrase, IsSystemPhrase, system_words}
 use Rattle.ic_text.specs.SystemSense.{system_sense}
 use Rattle.ic_text.specs.SystemText.{ReadsSystem}
 use Rattle.ic_text.specs.LineSource.{submit, is_job_word}
 use Rattle.ic_text.specs.LineSense.{unless_long, submitted, line_sense}
-use Rattle.ic_text.specs.inner.Line.{HasNoWord, is_nothing, opening_of, IsLineOf, ReadsBehind}
+use Rattle.ic_text.specs.inner.Line.{is_nothing, opening_of, IsLineOf, ReadsBehind}
 use Rattle.ic_text.proofs.OneSystem.{told_systems}
 use Rattle.ic_text.proofs.ReadOnce.{spelling}
-use Rattle.ic_text.proofs.LineReading.{text-opening_of, opened, is_line_in, stands_in, is_no_line_behind, is_sense_behind}
+use Rattle.ic_text.proofs.LineReading.{text-opening_of, stands_in, is_no_line_behind, is_sense_behind}
 
--- behind a verb and behind `run` stands one word
-pub not_named : (verb : Verb) (o : Option (List Token)) → ((w : List ℕ) → o ≡ Some (word w ∷ []) → ⊥) → stands_in (opening.About verb) o ≡ false
-not_named verb None none = refl
-not_named verb (Some []) none = refl
-not_named verb (Some (mark m ∷ ts)) none = refl
-not_named verb (Some (word w ∷ [])) none = absurd (none w refl)
-not_named verb (Some (word w ∷ t ∷ ts)) none = refl
-
-pub not_numbered : (o : Option (List Token)) → ((w : List ℕ) → o ≡ Some (word w ∷ []) → ⊥) → stands_in opening.Run o ≡ false
-not_numbered None none = refl
-not_numbered (Some []) none = refl
-not_numbered (Some (mark m ∷ ts)) none = refl
-not_numbered (Some (word w ∷ [])) none = absurd (none w refl)
-not_numbered (Some (word w ∷ t ∷ ts)) none = refl
-
--- behind `list` stands nothing
-pub list_alone : (o : Option (List Token)) → stands_in opening.List o ≡ is_nothing o
-list_alone None = refl
-list_alone (Some []) = refl
-list_alone (Some (t ∷ ts)) = refl
-
+-- a text of no tokens
 pub nothing_is : (o : Option (List Token)) → is_nothing o ≡ true → o ≡ Some []
 nothing_is None is = absurd (false≢true is)
 nothing_is (Some []) is = refl
@@ -66,20 +45,11 @@ long_name w a named isnt =
     ap (λ b. b && nat_le (length w) MAX_JOB_NAME) (sym named) ∙ sym (job_name-parts w) ∙ false_from_ne_true (is_job_name w) isnt in
     rw long refl
 
-word_of-named : (w : List ℕ) → is_job_word w ≡ true → word_of w ≡ word w ∷ []
+pub word_of-named : (w : List ℕ) → is_job_word w ≡ true → word_of w ≡ word w ∷ []
 word_of-named [] named = absurd (false≢true named)
 word_of-named (b ∷ bs) named = refl
 
 -- behind `submit` stand a name and a system
-pub submit_unnamed : (w text : List ℕ) (o : Option (List Token)) → (w ≡ [] → HasNoWord text o) → is_job_word w ≡ false
-    → stands_in opening.Submit (before (word_of w) o) ≡ false
-submit_unnamed [] text None front isnt = refl
-submit_unnamed [] text (Some []) front isnt = refl
-submit_unnamed [] text (Some (word v ∷ ts)) front isnt = absurd (front refl)
-submit_unnamed [] text (Some (mark m ∷ ts)) front isnt = refl
-submit_unnamed (b ∷ bs) text None front isnt = refl
-submit_unnamed (b ∷ bs) text (Some ts) front isnt = ap (λ x. x && told_systems.test ts) isnt
-
 abbrev is_system_in : Option (List Token) → Bool
 is_system_in None = false
 is_system_in (Some ts) = told_systems.test ts
@@ -122,16 +92,6 @@ module _ (rest w text : List ℕ) (split : tokens rest ≡ before (word_of w) (t
         let means : a ≡ Err Syntax = reads.malformed short none in
         subst (ReadsBehind opening.Submit rest) (ap (submitted w) (sym means)) (submit_unspelled none)
   ]
-
--- a line begins with no such word
-pub unopened : (w rest : List ℕ) (o : Option (List Token)) → (w ≡ [] → HasNoWord rest o) → is_nothing (before (word_of w) o) ≡ false → opening_of w ≡ None
-    → is_line_in (before (word_of w) o) ≡ false
-unopened [] rest None front some none = refl
-unopened [] rest (Some []) front some none = absurd (false≢true (sym some))
-unopened [] rest (Some (word v ∷ ts)) front some none = absurd (front refl)
-unopened [] rest (Some (mark m ∷ ts)) front some none = refl
-unopened (b ∷ bs) rest None front some none = refl
-unopened (b ∷ bs) rest (Some ts) front some none = ap (λ x. opened x ts) none
 
 -- a line is read as what stands behind its first word
 pub line_behind : (text w rest : List ℕ) (o : Opening) (a : Result Line TextFault) → tokens text ≡ before (word_of w) (tokens rest)

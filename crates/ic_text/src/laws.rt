@@ -29,7 +29,9 @@ ghost use Rattle.ic_jobs.specs.declared.reply.Refusal.TheVariants.{Taken, Full, 
 ghost use Rattle.ic_jobs.specs.declared.reply.Reply.TheVariants as reply;
 ghost use Rattle.ic_jobs.specs.declared.reply.Reply.TheVariants.{Accepted, Okay, Shown, Listed, Refused, Moved};
 ghost use Rattle.ic_jobs.specs.Shown.{ShownParts};
+ghost use Rattle.ic_jobs.specs.declared.command.Command.TheVariants as command;
 ghost use Rattle.ic_text.specs.declared.line.Line.{Line};
+ghost use Rattle.ic_text.specs.declared.line.Line.TheVariants.{Blank, Command as Asks, Run};
 ghost use Rattle.ic_text.specs.declared.line.Verb.TheVariants.{Pause, Resume, Cancel, Fetch};
 ghost use Rattle.ic_text.specs.LineSource.{LinePhrase, submit, list, run, is_job_word, is_number, verb_text, line_words};
 ghost use Rattle.ic_text.specs.LineSense.{submitted};
@@ -170,6 +172,22 @@ pub fn command_words_are()
         words_among (line_words list ++ line_words (run digits) ++ line_words (submit name s))
         ≡ codes "list" ∷ codes "run" ∷ digits ∷ codes "submit" ∷ name
         ∷ words_among (system_words s) }
+{}
+
+/// What each command asks, written with one space behind its word; and a line of blanks.
+pub fn commands_ask()
+    ensures pause { (name : List ℕ) → IsTrue (is_job_name name) →
+        ReadsLine (codes "pause " ++ name) (Ok (Asks (command.Pause name))) }
+    ensures resume { (name : List ℕ) → IsTrue (is_job_name name) →
+        ReadsLine (codes "resume " ++ name) (Ok (Asks (command.Resume name))) }
+    ensures cancel { (name : List ℕ) → IsTrue (is_job_name name) →
+        ReadsLine (codes "cancel " ++ name) (Ok (Asks (command.Cancel name))) }
+    ensures fetch { (name : List ℕ) → IsTrue (is_job_name name) →
+        ReadsLine (codes "fetch " ++ name) (Ok (Asks (command.Fetch name))) }
+    ensures list { ReadsLine (codes "list") (Ok (Asks command.List)) }
+    ensures run { (n : ℕ) → n ≤ MAX_RUN → ReadsLine (codes "run " ++ decimal n) (Ok (Run n)) }
+    ensures blank { (text : List ℕ) → length text ≤ MAX_TEXT → list_all is_blank text ≡ true →
+        ReadsLine text (Ok Blank) }
 {}
 
 /// A submit's system is read as a system by itself, where its name is a job's name: then the line is a submit of what
