@@ -1,0 +1,16 @@
+pub mod NumberLemmas
+pub mod TermLemmas
+pub mod TermReading
+pub mod Appending
+pub mod Sizes
+pub mod ByteLemmas
+pub mod SymbolLemmas
+pub mod Items
+pub mod Unique
+pub mod JobLemmas
+pub mod HeadingReading
+pub mod SymbolReading
+pub mod RuleReading
+pub mod ConfigReading
+pub mod JobReading
+pub mod TableReading

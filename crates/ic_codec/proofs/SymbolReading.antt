@@ -1,0 +1,105 @@
+-- Which symbols bytes begin with, and when they begin with none.
+use Rattle.std.proofs.Common.{◌≡◌, ◌≢◌, ℕ, suc, ◌+◌, ◌<◌, ◌≤◌, Bool, true, false, List, [], ◌∷◌, ◌++◌, length, cond, Option, Some, None, Result, Ok, Err, is_some, refl, sym, ap, subst, ◌∙◌, append_assoc, arith}
+use Rattle.std.specs.Prelude.{slice_get}
+use Rattle.std.specs.List.{flat_map}
+use Rattle.std.proofs.lemmas.List.{length-append}
+use Rattle.ic_term.specs.Symbol.{Symbol, AreSymbols, numbered, number_found, number_of_text, with_symbol, fits_limits, has_arity}
+use Rattle.ic_term.specs.declared.symbols.SymbolFault.{SymbolFault}
+use Rattle.ic_term.specs.declared.symbols.SymbolFault.TheVariants.{Limit, Arity}
+use Rattle.ic_codec.specs.Texts.{text_bytes}
+use Rattle.ic_codec.specs.Symbols.{symbol_bytes, symbols_bytes}
+use Rattle.ic_codec.specs.Fronts.{BeginsWith, BeginsWithNone}
+use Rattle.ic_codec.proofs.TermLemmas.{known_below}
+use Rattle.ic_codec.proofs.Items.{items_split, flat_map-push}
+use Rattle.ic_codec.proofs.Unique.{AnySymbol, any_symbols, symbol_tells, text_front}
+
+-- so many symbols
+pub record AreSoManySymbols (count : ℕ) (ss : List Symbol) : Type 0 where
+  pub symbols : AreSymbols ss
+  pub many : length ss ≡ count
+
+-- the first of symbols are symbols, where those without the last are
+first_are : ((ss : List Symbol) (s : Symbol) → AreSymbols (ss ++ s ∷ []) → AreSymbols ss) → (ss zs : List Symbol) → AreSymbols (ss ++ zs) → AreSymbols ss
+first_are earlier ss [] are = subst (λ (l : List Symbol). AreSymbols l) (nothing ss) are
+  where
+    nothing : (l : List Symbol) → l ++ [] ≡ l
+    nothing [] = refl
+    nothing (x ∷ xs) = ap (λ (ys : List Symbol). x ∷ ys) (nothing xs)
+first_are earlier ss (z ∷ zs) are =
+    earlier ss z (first_are earlier (ss ++ z ∷ []) zs (subst (λ (l : List Symbol). AreSymbols l) (sym (append_assoc ss (z ∷ []) zs)) are))
+
+-- where no further symbol can be read, there are not so many
+pub none_further : ((ss : List Symbol) (s : Symbol) → AreSymbols (ss ++ s ∷ []) → AreSymbols ss) → (ss : List Symbol) (count : ℕ) (bytes rest : List ℕ)
+    → bytes ≡ flat_map symbol_bytes ss ++ rest → length ss < count
+    → ((s : Symbol) (behind : List ℕ) → AreSymbols (ss ++ s ∷ []) → rest ≢ symbol_bytes s ++ behind)
+    → BeginsWithNone (AreSoManySymbols count) (flat_map symbol_bytes) bytes
+none_further earlier ss count bytes rest read fewer none ts behind has e =
+    let split = items_split AnySymbol symbol_bytes symbol_tells ss ts rest behind (any_symbols ss) (any_symbols ts) (omega (arith, has.many)) (sym read ∙ e) in
+    let parts = split.1.1.0 ∙ sym (append_assoc ss (split.0 ∷ []) split.1.0) in
+    none split.0 (flat_map symbol_bytes split.1.0 ++ behind)
+    (first_are earlier (ss ++ split.0 ∷ []) split.1.0 (subst (λ (l : List Symbol). AreSymbols l) parts has.symbols)) split.1.1.1
+
+pub one_further : (ss : List Symbol) (s : Symbol) (bytes rest behind : List ℕ) → bytes ≡ flat_map symbol_bytes ss ++ rest → rest ≡ symbol_bytes s ++ behind
+    → bytes ≡ flat_map symbol_bytes (ss ++ s ∷ []) ++ behind
+one_further ss s bytes rest behind read e =
+    read ∙ ap (λ (bs : List ℕ). flat_map symbol_bytes ss ++ bs) e ∙ sym (append_assoc (flat_map symbol_bytes ss) (symbol_bytes s) behind)
+    ∙ ap (λ (bs : List ℕ). bs ++ behind) (sym (flat_map-push symbol_bytes ss s))
+
+pub symbols_none : (count : ℕ) (bytes rest : List ℕ) → bytes ≡ count ∷ rest → BeginsWithNone (AreSoManySymbols count) (flat_map symbol_bytes) rest
+    → BeginsWithNone AreSymbols symbols_bytes bytes
+symbols_none count bytes rest read none ss behind are e =
+    let same : count ∷ rest ≡ length ss ∷ (flat_map symbol_bytes ss ++ behind) = sym read ∙ e in
+    let counts : length ss ≡ count = cc in
+    let tails : rest ≡ flat_map symbol_bytes ss ++ behind = cc in
+    none ss behind (record { symbols = are; many = counts }) tails
+
+pub symbols_begin : (count : ℕ) (bytes rest : List ℕ) (ss : List Symbol) (behind : List ℕ) → bytes ≡ count ∷ rest
+    → BeginsWith (AreSoManySymbols count) (flat_map symbol_bytes) rest ss behind → BeginsWith AreSymbols symbols_bytes bytes ss behind
+symbols_begin count bytes rest ss behind read begins = record {
+  parts = read ∙ (let counts = sym begins.valid.many in λ i. counts i ∷ begins.parts i);
+  valid = begins.valid.symbols;
+}
+
+-- ---- one symbol
+
+pub symbol_parts : (s : Symbol) (bytes rest behind : List ℕ) → bytes ≡ text_bytes s.text ++ rest → rest ≡ s.arity ∷ behind → bytes ≡ symbol_bytes s ++ behind
+symbol_parts s bytes rest behind e f =
+    e ∙ ap (λ (bs : List ℕ). text_bytes s.text ++ bs) f ∙ sym (append_assoc (text_bytes s.text) (s.arity ∷ []) behind)
+
+symbol_text_first : (s : Symbol) (bytes behind : List ℕ) → bytes ≡ symbol_bytes s ++ behind → bytes ≡ text_bytes s.text ++ (s.arity ∷ behind)
+symbol_text_first s bytes behind e = e ∙ append_assoc (text_bytes s.text) (s.arity ∷ []) behind
+
+pub none_text : (ss : List Symbol) (bytes : List ℕ) → ((text rest : List ℕ) → bytes ≢ text_bytes text ++ rest)
+    → (s : Symbol) (behind : List ℕ) → AreSymbols (ss ++ s ∷ []) → bytes ≢ symbol_bytes s ++ behind
+none_text ss bytes none s behind are e = none s.text (s.arity ∷ behind) (symbol_text_first s bytes behind e)
+
+pub none_arity : (ss : List Symbol) (bytes text rest : List ℕ) → bytes ≡ text_bytes text ++ rest → rest ≡ []
+    → (s : Symbol) (behind : List ℕ) → AreSymbols (ss ++ s ∷ []) → bytes ≢ symbol_bytes s ++ behind
+none_arity ss bytes text rest read ended s behind are e =
+    let tails = (text_front text s.text rest (s.arity ∷ behind) (sym read ∙ symbol_text_first s bytes behind e)).1 in
+    let clash : [] ≡ s.arity ∷ behind = sym ended ∙ tails in
+    absurd (cc (clash))
+
+pub none_next_symbol : (ss : List Symbol) (bytes text rest : List ℕ) (arity : ℕ) (left : List ℕ) → bytes ≡ text_bytes text ++ rest → rest ≡ arity ∷ left
+    → (AreSymbols (ss ++ record { text = text; arity = arity } ∷ []) → ⊥)
+    → (s : Symbol) (behind : List ℕ) → AreSymbols (ss ++ s ∷ []) → bytes ≢ symbol_bytes s ++ behind
+none_next_symbol ss bytes text rest arity left read further not s behind are e =
+    let first = text_front text s.text rest (s.arity ∷ behind) (sym read ∙ symbol_text_first s bytes behind e) in
+    let same : arity ∷ left ≡ s.arity ∷ behind = sym further ∙ first.1 in
+    let arities : s.arity ≡ arity = cc (same) in
+    let texts = sym first.0 in
+    not (subst (λ (t : Symbol). AreSymbols (ss ++ t ∷ [])) (λ i. record { text = texts i; arity = arities i }) are)
+
+-- a number that is the next one is a new symbol's
+pub number_is_new : (ss : List Symbol) (text : List ℕ) (arity : ℕ) → numbered ss text arity ≡ Ok (length ss) → with_symbol ss text arity ≡ ss ++ record { text = text; arity = arity } ∷ []
+number_is_new ss text arity e = by (fits_limits text arity) (number_of_text ss text) e
+  where
+    old : (n : ℕ) (b : Bool) → has_arity arity (slice_get ss n) ≡ b → cond b (Ok n) (Err (Arity n)) ≡ Ok (length ss) → ⊥
+    old n true known f = let same : n ≡ length ss = cc (f) in omega (arith, known_below ss n arity (slice_get ss n) refl known)
+    old n false known f = absurd (cc (f))
+
+    by : (fits : Bool) (o : Option ℕ) → cond fits (number_found ss arity o) (Err Limit) ≡ Ok (length ss)
+        → cond (is_some o) ss (ss ++ record { text = text; arity = arity } ∷ []) ≡ ss ++ record { text = text; arity = arity } ∷ []
+    by true None f = refl
+    by true (Some n) f = absurd (old n (has_arity arity (slice_get ss n)) refl f)
+    by false o f = absurd (cc (f))

@@ -1,0 +1,13 @@
+-- Jobs as bytes (this project's choice).
+use Rattle.std.specs.Prelude.{ℕ, List, ◌++◌}
+use Rattle.ic_jobs.specs.Job.{JobParts}
+use Rattle.ic_codec.specs.Symbols.{symbols_bytes}
+use Rattle.ic_codec.specs.Rules.{rules_bytes}
+use Rattle.ic_codec.specs.Configurations.{configuration_bytes}
+use Rattle.ic_codec.specs.Headings.{heading_bytes, heading_of}
+
+-- a job is its heading, its symbols, its rules and its configuration
+abbrev pub job_bytes : JobParts → List ℕ
+job_bytes j =
+    heading_bytes (heading_of j)
+    ++ (symbols_bytes j.rules.symbols ++ (rules_bytes j.rules.rules ++ configuration_bytes j.config))

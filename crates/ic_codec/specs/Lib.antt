@@ -1,0 +1,11 @@
+pub mod Numbers
+pub mod Texts
+pub mod Terms
+pub mod Symbols
+pub mod Rules
+pub mod Configurations
+pub mod Headings
+pub mod Jobs
+pub mod Tables
+pub mod Fronts
+pub mod Room

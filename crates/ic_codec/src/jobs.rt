@@ -1,0 +1,89 @@
+ghost use Rattle.std.specs.Prelude.{◌≡◌, ◌≤◌, IfOk, IfErr};
+ghost use Rattle.std.specs.List.{flat_map};
+ghost use Rattle.ic_codec.specs.Room.{Fits, Appended};
+ghost use Rattle.ic_codec.specs.Jobs.{job_bytes};
+ghost use Rattle.ic_jobs.specs.Job.{IsJob};
+ghost use Rattle.ic_codec.specs.Fronts.{BeginsWith, BeginsWithNone, BeginsWithMany, BeginsWithNoMany, uncounted};
+ghost use Rattle.ic_codec.specs.declared.fault.CodecFault.TheVariants.{NotATable};
+
+use crate::configs::{config_at, put_config};
+use crate::fault::CodecFault;
+use crate::headings::{Heading, heading_at, put_heading};
+use crate::rules::{put_rules, rule_set_at};
+use crate::symbols::{put_symbols, symbols_at};
+use ic_jobs::Job;
+use std::alloc::Global;
+use std::sync::Arc;
+
+/// Appends jobs in order.
+pub(crate) fn put_jobs(jobs: &[Job], out: &mut Vec<u8>)
+    requires { Fits out.old (flat_map job_bytes jobs.now) }
+    ensures { Appended out.old out.new (flat_map job_bytes jobs.now) }
+{
+    for job in jobs {
+        put_job(job, out);
+    }
+}
+
+fn put_job(job: &Job, out: &mut Vec<u8>)
+    requires { Fits out.old (job_bytes job.now) }
+    ensures { Appended out.old out.new (job_bytes job.now) }
+{
+    let rules = job.rules();
+    put_heading(Heading::of(job), out);
+    put_symbols(rules.symbols(), out);
+    put_rules(rules.rules(), out);
+    put_config(job.config(), out);
+}
+
+/// So many jobs, and the bytes behind them.
+pub(crate) fn jobs_at(
+    alloc: Global,
+    count: usize,
+    bytes: &[u8],
+) -> Result<(Vec<Job>, &[u8]), CodecFault>
+    ensures read { IfOk result (λ r.
+        BeginsWithMany IsJob job_bytes uncounted count 0 bytes.now r.0.items 0 r.1.now) }
+    ensures refused { IfErr result (λ fault. fault ≡ NotATable
+        → BeginsWithNoMany IsJob job_bytes uncounted count 0 bytes.now) }
+{
+    let mut jobs = Vec::new(alloc);
+    let mut rest = bytes;
+    for _ in 0..count {
+        let (job, now_rest) = match job_at(alloc, rest) {
+            Ok((job, rest)) => (job, rest),
+            Err(fault) => return Err(fault),
+        };
+        jobs.push(job)?;
+        rest = now_rest;
+    }
+    Ok((jobs, rest))
+}
+
+fn job_at(alloc: Global, bytes: &[u8]) -> Result<(Job, &[u8]), CodecFault>
+    ensures read { IfOk result (λ r. BeginsWith IsJob job_bytes bytes.now r.0 r.1.now) }
+    ensures refused { IfErr result (λ fault. fault ≡ NotATable
+        → BeginsWithNone IsJob job_bytes bytes.now) }
+{
+    let (heading, rest) = match heading_at(bytes) {
+        Ok((heading, rest)) => (heading, rest),
+        Err(fault) => return Err(fault),
+    };
+    let (symbols, rest) = match symbols_at(alloc, rest) {
+        Ok((symbols, rest)) => (symbols, rest),
+        Err(fault) => return Err(fault),
+    };
+    let (rules, rest) = match rule_set_at(alloc, symbols, rest) {
+        Ok((rules, rest)) => (rules, rest),
+        Err(fault) => return Err(fault),
+    };
+    let (config, rest) = match config_at(alloc, rules.symbols(), heading.next, rest) {
+        Ok((config, rest)) => (config, rest),
+        Err(fault) => return Err(fault),
+    };
+    let rules = Arc::new(alloc, rules)?;
+    match Job::restore(heading.name, rules, config, heading.rounds, heading.state) {
+        Some(job) => Ok((job, rest)),
+        None => Err(CodecFault::NotATable),
+    }
+}

@@ -1,0 +1,37 @@
+//! Laws of the definitions that the contracts of this crate cite.
+
+ghost use Rattle.std.specs.Prelude.{◌≡◌, ◌≤◌, ◌<◌, ◌++◌, ℕ, List, [], ◌∷◌, length};
+ghost use Rattle.std.specs.List.{AllByRecursion};
+ghost use Rattle.ic_jobs.specs.Job.{JobParts};
+ghost use Rattle.ic_jobs.specs.Table.{IsTable};
+ghost use Rattle.ic_codec.specs.Tables.{table_bytes};
+ghost use Rattle.ic_codec.specs.declared.tables.TheConstants.{MAX_BYTES};
+
+/// Two tables with the same bytes are the same table, and no table's bytes are the beginning of
+/// another's: the form says its own length.
+pub fn each_table_has_its_own_bytes()
+    ensures same { (t u : List JobParts) → IsTable t → IsTable u
+        → table_bytes t ≡ table_bytes u → t ≡ u }
+    ensures front { (t u : List JobParts) (rest : List ℕ) → IsTable t → IsTable u
+        → table_bytes t ++ rest ≡ table_bytes u → (t ≡ u) × (rest ≡ []) }
+{}
+
+/// The length of the longest byte form.
+pub fn limits_are()
+    ensures { MAX_BYTES ≡ 3036421 }
+{}
+
+/// A table's byte form has at most 3,036,421 bytes.
+pub fn forms_are_short()
+    ensures { (t : List JobParts) → IsTable t → length (table_bytes t) ≤ 3036421 }
+{}
+
+/// Each number of a table's byte form is a byte.
+pub fn forms_are_bytes()
+    ensures { (t : List JobParts) → IsTable t → AllByRecursion (λ b. b < 256) (table_bytes t) }
+{}
+
+/// The empty table is the head of the form, and no jobs.
+pub fn the_empty_table_is_five_bytes()
+    ensures { table_bytes [] ≡ 73 ∷ 67 ∷ 84 ∷ 49 ∷ 0 ∷ [] }
+{}

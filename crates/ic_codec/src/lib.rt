@@ -1,0 +1,21 @@
+//! The byte form: a table of jobs as bytes, and back.
+//!
+//! `encode_into` appends the form into room that its caller made. `decode` answers the table exactly
+//! where the bytes are the form of one. The form is `ICT1`: `docs/byte-form.md` has it field by field,
+//! and `specs/` as definitions. Each module writes and reads one type; what a later form changes of a
+//! job stands in `headings`.
+#![tactic(auto)]
+
+mod configs;
+mod fault;
+mod fields;
+mod headings;
+mod jobs;
+pub mod laws;
+mod rules;
+mod symbols;
+mod tables;
+mod terms;
+
+pub use fault::CodecFault;
+pub use tables::{MAX_BYTES, decode, encode_into};
