@@ -1,0 +1,5 @@
+pub mod Held
+pub mod Opening
+pub mod Faults
+pub mod Keeper
+pub mod Opened

@@ -1,0 +1,42 @@
+//! Laws of the definitions that the contracts of this crate cite.
+
+ghost use Rattle.std.specs.Prelude.{◌≡◌, true, List, ℕ};
+ghost use Rattle.ic_jobs.specs.Job.{JobParts};
+ghost use Rattle.ic_jobs.specs.Table.{IsTable};
+ghost use Rattle.ic_codec.specs.Tables.{table_bytes};
+ghost use Rattle.ic_codec.specs.declared.tables.TheConstants.{MAX_BYTES};
+ghost use Rattle.ic_frames.specs.declared.frame.TheConstants.{MAX_BODY};
+ghost use Rattle.ic_frames.specs.declared.slot.Slot.{Slot};
+ghost use Rattle.ic_frames.specs.Places.{place};
+ghost use Rattle.ic_frames.specs.Fields.{is_whole, body};
+ghost use Rattle.ic_frames.specs.Held.{IsNewest};
+ghost use Rattle.ic_slots.specs.Held.{Held, IsHeld, the_table, damaged};
+
+use ic_codec::laws::each_table_has_its_own_bytes;
+use ic_frames::laws::the_newest_slot_is_held;
+
+/// A file holds one table at most, or is refused for one reason.
+pub fn one_is_held()
+    ensures { (file : List ℕ) (one other : Held) → IsHeld one file → IsHeld other file
+        → one ≡ other }
+{
+    each_table_has_its_own_bytes();
+}
+
+/// Where the newest slot is whole and its body the byte form of a table, that table is held,
+/// whatever the other slot has.
+pub fn the_newest_table_is_held()
+    ensures held { (slot : Slot) (file : List ℕ) (t : List JobParts) → IsNewest slot file
+        → is_whole (place slot) file ≡ true → IsTable t
+        → body (place slot) file ≡ table_bytes t → IsHeld (the_table t) file }
+    ensures spoiled { (slot : Slot) (file : List ℕ) → IsNewest slot file
+        → ((t : List JobParts) → IsTable t → ¬ (body (place slot) file ≡ table_bytes t))
+        → IsHeld damaged file }
+{
+    the_newest_slot_is_held();
+}
+
+/// The longest byte form of a table is the longest body of a slot.
+pub fn limits_agree()
+    ensures { MAX_BYTES ≡ MAX_BODY }
+{}

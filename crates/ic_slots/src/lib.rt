@@ -1,0 +1,18 @@
+//! The job table in the two slots of a disk: one table is kept, and a stop at any moment of putting
+//! another in its place leaves one of the two.
+//!
+//! `create` keeps the empty table. `Keeper::open` finds the table that a disk holds, and
+//! `Keeper::keep` puts the next one in its place, in three phases that may be called by themselves.
+//! The slots are those of `ic_frames`, and the bodies in them the byte form of `ic_codec`. `laws`
+//! holds what is proved of the definitions alone.
+#![tactic(auto)]
+
+mod creation;
+mod faults;
+mod keeper;
+pub mod laws;
+
+pub use creation::create;
+pub use faults::CreateFault;
+pub use ic_frames::{KeepFault, OpenCause, OpenFault};
+pub use keeper::Keeper;
