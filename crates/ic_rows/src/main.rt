@@ -11,6 +11,7 @@ mod drawn;
 mod expansion;
 mod failing;
 mod faults;
+mod gathering;
 mod jobs;
 mod lines;
 mod pool;

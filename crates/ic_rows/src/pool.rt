@@ -8,7 +8,7 @@ use ic_pool::{Flight, Gate, MAX_ROUNDS, OpenGate, Played, PoolFault, play, play_
 use ic_rules::{JobName, RuleSet};
 use ic_term::{Config, over};
 use std::alloc::Global;
-use std::sync::atomic::{AtomicBool, Ordering};
+use std::sync::atomic::{AtomicBool, AtomicU64, Ordering};
 use std::sync::{Arc, Wait};
 use std::thread::{self, Threads};
 use std::time::{Clock, Duration};
@@ -119,15 +119,71 @@ pub fn refused<R: Threads + Wait>(rt: &R, alloc: Global, text: &str) -> Result<V
     let config = Config::restore(alloc, interface, equations, next)?;
     let flight = flight_of(rules, config, u64::from_str_radix(rounds, 10).unwrap_or(0))?;
     let workers = usize::from_str_radix(workers, 10).unwrap_or(0);
-    let line = match play(rt, alloc, &flight, workers, &OpenGate) {
-        Ok(_) => "none",
-        Err(PoolFault::NoWorkers) => "no workers",
-        Err(PoolFault::RoundsOut) => "rounds out",
-        Err(PoolFault::Overgrown) => "overgrown",
-        Err(PoolFault::NamesOut) => "names out",
-        Err(_) => "another fault",
+    let by_workers = play(rt, alloc, &flight, workers, &OpenGate).err();
+    let alone = play_alone(alloc, &flight).err();
+    if workers > 0 && by_workers != alone {
+        return Err(Trouble("alone another fault comes"));
+    }
+    let line = match by_workers {
+        None => "none",
+        Some(PoolFault::NoWorkers) => "no workers",
+        Some(PoolFault::RoundsOut) => "rounds out",
+        Some(PoolFault::Overgrown) => "overgrown",
+        Some(PoolFault::NamesOut) => "names out",
+        Some(_) => "another fault",
     };
     Ok(Vec::from_slice(alloc, line.as_bytes())?)
+}
+
+/// A gate that counts how often it is passed, and how many are in it at once.
+#[derive(Drop)]
+struct Counting<'a, R> {
+    rt: &'a R,
+    passes: AtomicU64,
+    inside: AtomicU64,
+    most: AtomicU64,
+}
+
+impl<'a, R: Clock + Sync> Gate for Counting<'a, R> {
+    fn pass(&self, _place: u64) {
+        self.passes.fetch_add(1, Ordering::SeqCst);
+        let others = self.inside.fetch_add(1, Ordering::SeqCst);
+        if others >= self.most.load(Ordering::SeqCst) {
+            self.most.store(others.wrapping_add(1), Ordering::SeqCst);
+        }
+        thread::sleep(self.rt, Duration::from_millis(1));
+        self.inside.fetch_sub(1, Ordering::SeqCst);
+    }
+
+    fn answered(&self, _who: u64) {}
+}
+
+/// How often the gate is passed in a round by so many workers, and whether never more of them are in it at once than
+/// there are workers, or than 64.
+pub fn counted<R: Threads + Wait + Clock + Sync>(
+    rt: &R,
+    alloc: Global,
+    workers: u32,
+    text: &[u8],
+) -> Result<Vec<u8>, Trouble> {
+    let counting = Counting {
+        rt,
+        passes: AtomicU64::new(0),
+        inside: AtomicU64::new(0),
+        most: AtomicU64::new(0),
+    };
+    let (rules, config) = system_of(alloc, text)?.into_parts();
+    let flight = flight_of(rules, config, 0)?;
+    if play(rt, alloc, &flight, workers as usize, &counting).is_err() {
+        return Err(Trouble("a round by workers is refused"));
+    }
+    if counting.most.load(Ordering::SeqCst) > u64::from(workers.min(64)) {
+        return Err(Trouble("too many threads"));
+    }
+    let mut line = Vec::new(alloc);
+    decimal(&mut line, counting.passes.load(Ordering::SeqCst))?;
+    line.extend_from_slice(b" passes")?;
+    Ok(line)
 }
 
 /// The gate of two works that wait for each other, each at most 10,000 times a millisecond.
@@ -176,8 +232,9 @@ pub fn played_at_once<R: Threads + Wait + Clock + Sync>(
     let Ok(played) = play(rt, alloc, &flight, 2, &meeting) else {
         return Err(Trouble("a round by workers is refused"));
     };
-    if meeting.missed.load(Ordering::SeqCst) {
-        return Err(Trouble("a wait ran out"));
+    let both = meeting.first.load(Ordering::SeqCst) && meeting.second.load(Ordering::SeqCst);
+    if !both || meeting.missed.load(Ordering::SeqCst) {
+        return Err(Trouble("a wait ran out, or a gate wasn't passed"));
     }
     printed(alloc, played.rules(), played.after())
 }

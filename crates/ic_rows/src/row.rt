@@ -6,9 +6,12 @@ use crate::drawn::bodies_agree;
 use crate::expansion::expanded;
 use crate::failing::{failing, reads, unflushed};
 use crate::faults::{stream_line, text_line};
+use crate::gathering::gathered;
 use crate::jobs::script;
 use crate::lines::{asked, reply};
-use crate::pool::{played_at_once, refused, rounds_by_any, rounds_by_yielding};
+use crate::pool::{
+    counted as passes_counted, played_at_once, refused, rounds_by_any, rounds_by_yielding,
+};
 use crate::rounds::{ends, lasts, rounds, top_numbers};
 use crate::settling::{bindings, settled_twice};
 use crate::steps::{products, step};
@@ -80,7 +83,10 @@ impl<'a> Row<'a> {
         match self.kind {
             "deep" => deep_terms(rt, alloc),
             "drawn" => bodies_agree(alloc),
-            "any_workers" | "yielding" | "meeting" | "pool_fault" => self.by_workers(rt, alloc),
+            "any_workers" | "yielding" | "meeting" | "counting" | "pool_fault" => {
+                self.by_workers(rt, alloc)
+            }
+            "gathered" => gathered(alloc, self.text),
             "script" => script(alloc, self.text),
             "words" => words(alloc, self.text),
             "top_numbers" => top_numbers(alloc, self.text),
@@ -102,6 +108,7 @@ impl<'a> Row<'a> {
             "any_workers" => rounds_by_any(rt, alloc, count, &text),
             "yielding" => rounds_by_yielding(rt, alloc, count, &text),
             "meeting" => played_at_once(rt, alloc, &text),
+            "counting" => passes_counted(rt, alloc, count, &text),
             _ => refused(rt, alloc, self.text),
         }
     }
