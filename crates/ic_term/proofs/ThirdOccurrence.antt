@@ -1,6 +1,7 @@
 -- How often a name stands in a list, and the first name that stands there for the third time.
-use Rattle.std.proofs.Common.{◌≡◌, ℕ, zero, suc, ◌+◌, ◌<◌, ◌≤◌, ◌==◌, List, [], ◌∷◌, ◌++◌, None, Some, length, get_or, take, drop, refl, sym, ◌∙◌, ap, cond, append_assoc, add-one, arith, drop-cons, ◌⊎◌, inl, inr, subst}
+use Rattle.std.proofs.Common.{◌≡◌, ℕ, zero, suc, ◌+◌, ◌<◌, ◌≤◌, ◌==◌, List, [], ◌∷◌, ◌++◌, Option, None, Some, unwrap_or, length, get_or, take, drop, refl, sym, ◌∙◌, ap, cond, append_assoc, add-one, add-zero, arith, drop-cons, ◌⊎◌, inl, inr, subst}
 use Rattle.std.specs.Cmp.{unsigned_Decides}
+use Rattle.std.proofs.lemmas.Bool.{cases_Bool, eqb-true}
 use Rattle.std.proofs.lemmas.Grind.{common_steps}
 use Rattle.std.proofs.lemmas.List.{take_more}
 use Rattle.std.proofs.lemmas.List.Sums.{sum_by-append}
@@ -72,3 +73,23 @@ first_from_some seen (m ∷ ns) n found few = elim (below_two (occurrences m see
       subst (λ k. (before : List ℕ) × ((after : List ℕ) × IsFirstThird k (seen ++ m ∷ ns) before after)) here
       (seen, (ns, record { parts = refl; twice_before = omega (arith, twice, few m); none_earlier = few }))
 ]
+
+-- a count that was a name's occurrences is so again with one more name, where that name's is one higher
+pub counted_next : (q : ℕ) (seen : List ℕ) (n : ℕ) (old new : Option ℕ) → unwrap_or old 0 ≡ occurrences q seen
+    → new ≡ cond (n == q) (Some (occurrences n seen + 1)) old → unwrap_or new 0 ≡ occurrences q (seen ++ n ∷ [])
+counted_next q seen n old new counted put = elim (cases_Bool (n == q)) [
+  | inl same ↦
+      let higher : new ≡ Some (occurrences n seen + 1) = put ∙ ap (λ b. cond b (Some (occurrences n seen + 1)) old) same in
+      let one : occurrences q (n ∷ []) ≡ 1 = ap (λ b. 0 + cond b 1 0) same in
+      ap (λ o. unwrap_or o 0) higher ∙ ap (λ m. occurrences m seen + 1) (eqb-true n q same) ∙ ap (λ k. occurrences q seen + k) (sym one) ∙ sym (occurrences-append q seen (n ∷ []))
+  | inr other ↦
+      let kept : new ≡ old = put ∙ ap (λ b. cond b (Some (occurrences n seen + 1)) old) other in
+      let none : occurrences q (n ∷ []) ≡ 0 = ap (λ b. 0 + cond b 1 0) other in
+      ap (λ o. unwrap_or o 0) kept ∙ counted ∙ sym (add-zero (occurrences q seen)) ∙ ap (λ k. occurrences q seen + k) (sym none) ∙ sym (occurrences-append q seen (n ∷ []))
+]
+
+-- the same for a name of a list, with those before it
+pub counted_more : (q : ℕ) (names : List ℕ) (i : ℕ) → i < length names → (old new : Option ℕ) → unwrap_or old 0 ≡ occurrences q (take i names)
+    → new ≡ cond (get_or names i 0 == q) (Some (occurrences (get_or names i 0) (take i names) + 1)) old → unwrap_or new 0 ≡ occurrences q (take (i + 1) names)
+counted_more q names i within old new counted put =
+    rw (take_more names i 0 within) (counted_next q (take i names) (get_or names i 0) old new counted put)

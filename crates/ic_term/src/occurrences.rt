@@ -1,20 +1,22 @@
 ghost use Rattle.std.specs.Prelude.{◌≡◌, IfOk};
 ghost use Rattle.ic_term.specs.Configuration.{third_occurrence};
 
+use indexmap::IndexMap;
 use std::alloc::{AllocError, Global};
-use std::collections::BTreeMap;
 
-/// The first name of a list that stands there for the third time. Takes n log n steps.
+/// The first name of a list that stands there for the third time. Takes time in proportion to the list.
 pub fn third_occurrence(alloc: Global, names: &[u64]) -> Result<Option<u64>, AllocError>
     ensures { IfOk result (λ name. name ≡ third_occurrence names.now) }
 {
-    let mut counts: BTreeMap<u64, u8> = BTreeMap::new(alloc);
+    let mut counts: IndexMap<u64, u8> = IndexMap::new(alloc);
     for name in names {
-        let count = counts.get(name).copied().unwrap_or(0);
-        if count == 2 {
+        let before = counts.insert(*name, 1)?.unwrap_or(0);
+        if before >= 2 {
             return Ok(Some(*name));
         }
-        counts.insert(*name, count + 1)?;
+        if before == 1 {
+            counts.insert(*name, 2)?;
+        }
     }
     Ok(None)
 }
