@@ -1,14 +1,13 @@
 -- What is known of an interaction at a place whose equation has a rule.
-use Rattle.std.proofs.Common.{◌≡◌, ℕ, ◌+◌, ◌≤◌, ◌<◌, List, ◌∷◌, ◌++◌, Bool, true, false, cond, not, Option, None, Some, IfSome, is_some, Ok, Err, [], slice_get, take, drop, sum_by, nat_le, refl, sym, ap, ◌∙◌, arith, inl, inr, subst}
-use Rattle.std.proofs.lemmas.Bool.{and_parts, cases_lt}
-use Rattle.std.proofs.lemmas.Grind.{common_steps, flat_map-append}
+use Rattle.std.proofs.Common.{◌≡◌, ℕ, ◌+◌, ◌≤◌, ◌<◌, List, ◌∷◌, ◌++◌, Bool, true, false, cond, not, Option, None, Some, IfSome, is_some, Ok, Err, [], slice_get, take, drop, sum_by, nat_le, refl, sym, ap, ◌∙◌, arith, subst}
+use Rattle.std.proofs.lemmas.Bool.{and_parts}
+use Rattle.std.proofs.lemmas.Grind.{common_steps}
 use Rattle.std.proofs.lemmas.List.Sums.{sum_by-append}
-use Rattle.std.proofs.lemmas.List.Folds.{list_all-append}
-use Rattle.std.specs.List.{AllByRecursion, flat_map, list_all}
+use Rattle.std.specs.List.{list_all}
 use Rattle.std.specs.Option.{option_map_or}
-use Rattle.ic_term.specs.Tree.{Tree, Pair, names, pair_names, pair_nodes}
+use Rattle.ic_term.specs.Tree.{Tree, Pair, pair_nodes}
 use Rattle.ic_term.specs.Symbol.{is_over, is_tree_over, is_pair_over}
-use Rattle.ic_term.specs.Configuration.{Configuration, IsConfiguration, configuration_nodes, nodes_in, names_in, occurrences}
+use Rattle.ic_term.specs.Configuration.{Configuration, IsConfiguration, configuration_nodes, nodes_in}
 use Rattle.ic_term.specs.declared.limits.TheConstants.{MAX_NODES, MAX_NEXT}
 use Rattle.ic_rules.specs.Rule.{Rule}
 use Rattle.ic_rules.specs.RuleSet.{Rules, IsRuleSet}
@@ -20,10 +19,9 @@ use Rattle.ic_round.specs.SingleSteps.{interacted_by, interacted, is_within}
 use Rattle.ic_round.specs.StepAnswers.{stepped_within}
 use Rattle.ic_round.specs.inner.Replacing.{fired_at}
 use Rattle.ic_round.specs.declared.steps.StepFault.TheVariants.{Limit}
-use Rattle.ic_settle.specs.SubstitutionLaws.{occurrences-append, and_both, All-append, All-front, All-back}
-use Rattle.ic_settle.specs.MiddleLaws.{nodes-middle, occurrences-middle, All-middle, over-middle}
-use Rattle.ic_round.specs.lemmas.FreshNames.{absent_above}
-use Rattle.ic_round.specs.lemmas.FiredNames.{Fires, fires, All-mono}
+use Rattle.ic_settle.specs.SubstitutionLaws.{and_both}
+use Rattle.ic_settle.specs.MiddleLaws.{nodes-middle, over-middle}
+use Rattle.ic_round.specs.lemmas.FiredNames.{Fires, fires}
 use Rattle.ic_round.specs.lemmas.ActiveRules.{active_by, nodes-any_base}
 use Rattle.ic_round.specs.lemmas.SoundRules.{sound_rule}
 use Rattle.ic_round.specs.lemmas.NamesLemmas.{replaced_names}

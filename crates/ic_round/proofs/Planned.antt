@@ -5,17 +5,16 @@ use Rattle.std.proofs.lemmas.Option.{slice_get_cases}
 use Rattle.std.specs.List.{AllByRecursion}
 use Rattle.std.specs.Option.{option_map_or}
 use Rattle.ic_term.specs.Tree.{Pair}
-use Rattle.ic_term.specs.Configuration.{Configuration, IsConfiguration, configuration_nodes}
-use Rattle.ic_term.specs.declared.limits.TheConstants.{MAX_NODES, MAX_NEXT}
+use Rattle.ic_term.specs.declared.limits.TheConstants.{MAX_NEXT}
 use Rattle.ic_rules.specs.Rule.{Rule}
-use Rattle.ic_round.specs.Firing.{Active, active_pair, count_of, names_taken, next_behind, fired, active_from, bases_from}
+use Rattle.ic_round.specs.Firing.{Active, active_pair, count_of, names_taken, next_behind, active_from, bases_from}
 use Rattle.ic_round.specs.Works.{PlainWork, work_at, works_from, suits, suits_rule, is_agent_of}
 use Rattle.ic_round.specs.lemmas.SoundRules.{HasSoundRule}
 use Rattle.ic_round.specs.declared.work.Work.{Work}
 use Rattle.ic_round.specs.WorkViews.{work_of}
 use Rattle.ic_settle.specs.SubstitutionLaws.{and_both}
 use Rattle.ic_round.proofs.Separating.{active_within}
-use Rattle.ic_round.specs.lemmas.FiredNames.{next_grows, fired_below, fired_twice}
+use Rattle.ic_round.specs.lemmas.FiredNames.{next_grows}
 
 -- the places of the works are those of the active equations
 pub works-places : (rs : List Rule) (i base : ℕ) (ps : List Pair) → map (λ (w : PlainWork). w.place) (works_from rs i base ps) ≡ active_from rs i ps

@@ -1,5 +1,5 @@
 -- What the results of a plan's works, in whatever order they come, are good for.
-use Rattle.std.specs.Prelude.{◌≡◌, List, Result, Ok}
+use Rattle.std.specs.Prelude.{◌≡◌, List, Ok}
 use Rattle.ic_term.specs.Configuration.{Configuration, IsConfiguration}
 use Rattle.ic_rules.specs.Rule.{Rule}
 use Rattle.ic_round.specs.Firing.{fired}

@@ -12,3 +12,5 @@ pub mod Taking
 pub mod ListLemmas
 pub mod PassTurns
 pub mod Rebuilt
+pub mod Twice
+pub mod NameCounts

@@ -11,3 +11,4 @@ pub mod Bindings
 pub mod Waiting
 pub mod Containers
 pub mod Passing
+pub mod Ended

@@ -23,8 +23,9 @@ pub struct Applicable {
     pub side: Side,
 }
 
+/// Whether a name occurs in a term.
 #[cycle(occurs)]
-fn occurs(term: &Term, name: u64) -> bool
+pub(crate) fn occurs(term: &Term, name: u64) -> bool
     ensures { result ≡ occurs name (names (tree term.now)) }
 {
     match term {
@@ -68,7 +69,8 @@ fn occurs_in_equations(equations: &[Equation], name: u64) -> bool
 }
 
 fn occurs_outside(interface: &[Term], before: &[Equation], after: &[Equation], name: u64) -> bool
-    ensures { result ≡ occurs name (names_in (map tree interface.now) (map pair before.now ++ map pair after.now)) }
+    ensures { result ≡ occurs name
+        (names_in (map tree interface.now) (map pair before.now ++ map pair after.now)) }
 {
     occurs_in_terms(interface, name)
         || occurs_in_equations(before, name)
@@ -82,7 +84,10 @@ pub fn applicable_side(
     equation: &Equation,
     after: &[Equation],
 ) -> Option<Applicable>
-    ensures { binding (names_in (map tree interface.now) (map pair before.now ++ map pair after.now)) (pair equation.now) ≡ option_map (bound_by (pair equation.now)) result }
+    ensures { binding
+        (names_in (map tree interface.now) (map pair before.now ++ map pair after.now))
+        (pair equation.now)
+        ≡ option_map (bound_by (pair equation.now)) result }
 {
     if let Term::Name(name) = equation.left
         && occurs_outside(interface, before, after, name)

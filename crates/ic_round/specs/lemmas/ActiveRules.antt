@@ -1,17 +1,15 @@
 -- The rule of an active equation has its symbols and arities, so firing it changes the nodes by
 -- those of the rule.
-use Rattle.std.proofs.Common.{◌≡◌, ℕ, zero, suc, ◌+◌, ◌≤◌, ◌<◌, ◌==◌, List, [], ◌∷◌, Bool, true, false, Option, None, Some, slice_get, length, map, sum_by, refl, sym, ap, ◌∙◌, arith, IfSome, subst as transport}
+use Rattle.std.proofs.Common.{◌≡◌, ℕ, ◌+◌, ◌≤◌, ◌<◌, ◌==◌, List, [], ◌∷◌, Bool, true, false, Option, None, Some, slice_get, length, map, sum_by, refl, sym, ap, ◌∙◌, arith, IfSome, subst as transport}
 use Rattle.std.proofs.lemmas.List.{length-map}
 use Rattle.std.proofs.lemmas.List.Sums.{sum_by-append, sum_by-cons}
 use Rattle.std.specs.Cmp.{unsigned_Decides}
-use Rattle.std.specs.List.{flat_map}
 use Rattle.std.specs.Option.{option_map_or}
-use Rattle.ic_term.specs.Tree.{Tree, name, agent, Trees, no_trees, more_trees, trees_of, list_of, nodes, nodes_of, Pair, pair_nodes}
+use Rattle.ic_term.specs.Tree.{Tree, name, agent, Trees, no_trees, more_trees, list_of, nodes, nodes_of, Pair, pair_nodes}
 use Rattle.ic_term.specs.Symbol.{Symbol, has_arity, is_tree_over, are_trees_over, is_pair_over}
-use Rattle.ic_term.specs.TreeLaws.{list_of-trees_of}
 use Rattle.ic_rules.specs.Renaming.{renamed, renamed_trees}
-use Rattle.ic_rules.specs.Rule.{Rule, rule_nodes, rule_agents, agents}
-use Rattle.ic_rules.specs.RuleSet.{unfit_among, first_unfit, rule_for, stands_turned}
+use Rattle.ic_rules.specs.Rule.{Rule, rule_nodes}
+use Rattle.ic_rules.specs.RuleSet.{first_unfit, rule_for, stands_turned}
 use Rattle.ic_rules.specs.FitLaws.{rule_over_at}
 use Rattle.ic_rules.specs.FindLaws.{rule_for-found}
 use Rattle.ic_round.specs.Instance.{inst}

@@ -2,7 +2,7 @@
 -- symbols.
 use Rattle.std.proofs.Common.{◌≡◌, ◌||◌, ℕ, List, Bool, true, false, Option, None, Some, is_some, refl, sym, ◌∙◌, inl, inr, subst}
 use Rattle.std.specs.List.{list_any, position_from}
-use Rattle.ic_term.specs.Tree.{Tree, name, agent, Trees, Pair}
+use Rattle.ic_term.specs.Tree.{Tree, name, agent, Trees}
 use Rattle.ic_rules.specs.Rule.{Rule, stands_for}
 use Rattle.ic_rules.specs.RuleSet.{rule_for, found_or, has_pair}
 use Rattle.ic_rules.specs.FindLaws.{any_of_two, rule_for-found}

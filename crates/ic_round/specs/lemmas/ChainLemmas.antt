@@ -1,5 +1,5 @@
 -- Lemmas, which no clause is read by: what each chain of steps keeps.
-use Rattle.std.proofs.Common.{◌≡◌, ◌≤◌, ◌+◌, ◌++◌, ◌∷◌, ℕ, List, Bool, true, Some, refl, sym, ap, ◌∙◌, arith, [], subst as transport}
+use Rattle.std.proofs.Common.{◌≡◌, ◌≤◌, ◌∷◌, ℕ, List, Bool, true, Some, sym, ap, ◌∙◌, arith, [], subst as transport}
 use Rattle.std.specs.List.{list_all}
 use Rattle.ic_term.specs.Tree.{Pair}
 use Rattle.ic_term.specs.Symbol.{is_over, is_tree_over, is_pair_over}

@@ -1,12 +1,12 @@
 -- Lemmas, which no clause is read by: each step keeps that names are below `next` and occur at most twice.
-use Rattle.std.proofs.Common.{◌≡◌, ℕ, ◌+◌, ◌*◌, ◌≤◌, ◌<◌, List, ◌∷◌, ◌++◌, true, map, refl, sym, ap, ◌∙◌, arith, inl, inr, subst as transport}
+use Rattle.std.proofs.Common.{◌≡◌, ℕ, ◌+◌, ◌*◌, ◌≤◌, ◌<◌, List, ◌∷◌, ◌++◌, map, sym, ap, ◌∙◌, arith, inl, inr, subst as transport}
 use Rattle.std.proofs.lemmas.Bool.{cases_lt}
 use Rattle.std.proofs.lemmas.Grind.{flat_map-append}
 use Rattle.std.specs.List.{AllByRecursion, flat_map}
 use Rattle.ic_term.specs.Tree.{Tree, Pair, names, names_of, pair_names}
 use Rattle.ic_term.specs.Configuration.{Configuration, names_in, occurrences}
 use Rattle.ic_rules.specs.Rule.{Rule}
-use Rattle.ic_settle.specs.Settling.{Binding, subst, subst_all, subst_pair}
+use Rattle.ic_settle.specs.Settling.{subst, subst_all, subst_pair}
 use Rattle.ic_settle.specs.NameSteps.{NameStep}
 use Rattle.ic_settle.specs.SubstitutionLaws.{occurrences-append, All-append, All-front, All-back, All-subst_all}
 use Rattle.ic_settle.specs.WholeLaws.{whole, names_of-whole, subst_all-whole}

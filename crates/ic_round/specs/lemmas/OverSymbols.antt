@@ -1,14 +1,14 @@
 -- A fired configuration stays over the symbols of its rules.
-use Rattle.std.proofs.Common.{◌≡◌, ℕ, suc, ◌+◌, ◌&&◌, ◌++◌, List, [], ◌∷◌, Bool, true, false, Option, None, Some, slice_get, length, map, refl, sym, ap, ◌∙◌, inl, inr}
+use Rattle.std.proofs.Common.{◌≡◌, ℕ, suc, ◌+◌, ◌&&◌, ◌++◌, List, [], ◌∷◌, true, Option, None, Some, slice_get, length, map, refl, sym, ap, ◌∙◌, inl, inr}
 use Rattle.std.proofs.lemmas.List.Folds.{list_all-append}
 use Rattle.std.specs.List.{list_all}
 use Rattle.std.specs.Option.{option_map_or}
-use Rattle.ic_term.specs.Tree.{Tree, name, agent, Trees, no_trees, more_trees, trees_of, list_of, Pair}
+use Rattle.ic_term.specs.Tree.{Tree, name, agent, Trees, no_trees, more_trees, list_of, Pair}
 use Rattle.ic_term.specs.Symbol.{Symbol, has_arity, is_tree_over, are_trees_over, is_pair_over, is_over}
 use Rattle.ic_term.specs.Configuration.{Configuration}
 use Rattle.ic_rules.specs.Renaming.{renamed, renamed_trees}
-use Rattle.ic_rules.specs.Rule.{Rule, agents, agents_of}
-use Rattle.ic_rules.specs.RuleSet.{unfit_among, first_unfit}
+use Rattle.ic_rules.specs.Rule.{Rule}
+use Rattle.ic_rules.specs.RuleSet.{first_unfit}
 use Rattle.ic_rules.specs.FitLaws.{rule_over_at}
 use Rattle.ic_round.specs.Instance.{inst}
 use Rattle.ic_round.specs.Firing.{Active, active_pair, arguments, against, products, products_by, names_taken, fired_pair, fired_from, fired}

@@ -1,5 +1,5 @@
 -- Lemmas: `is_quiet` tells exactly whether no step is possible.
-use Rattle.std.proofs.Common.{◌≡◌, ◌&&◌, ℕ, List, [], ◌∷◌, ◌++◌, Bool, true, false, Option, None, Some, is_none, refl, sym, ap, ◌∙◌, append_assoc, append-nil, length, subst as transport}
+use Rattle.std.proofs.Common.{◌≡◌, ℕ, List, [], ◌∷◌, ◌++◌, true, Option, None, Some, is_none, refl, sym, ◌∙◌, append_assoc, append-nil, length, subst as transport}
 use Rattle.std.specs.Prelude.{◌↔◌}
 use Rattle.std.specs.List.{flat_map, list_all}
 use Rattle.ic_term.specs.Tree.{Tree, Pair, names}

@@ -1,10 +1,10 @@
 -- Lemmas: a round keeps configurations over their symbols, and is what the results of a plan's
 -- works lead to.
-use Rattle.std.proofs.Common.{◌≡◌, ◌≤◌, ◌&&◌, ℕ, List, Bool, true, false, Result, Ok, Err, map, nat_le, cond, refl, sym, ap, ◌∙◌, arith, subst}
+use Rattle.std.proofs.Common.{◌≡◌, ◌≤◌, ℕ, List, Bool, true, false, Result, Ok, Err, map, nat_le, cond, refl, sym, ap, ◌∙◌, arith, subst}
 use Rattle.std.proofs.lemmas.Grind.{common_steps}
 use Rattle.std.specs.List.{AllByRecursion, list_all}
 use Rattle.std.specs.List.Sorted.{IsPermutation}
-use Rattle.ic_term.specs.Symbol.{Symbol, is_over, is_tree_over, is_pair_over}
+use Rattle.ic_term.specs.Symbol.{is_over, is_tree_over, is_pair_over}
 use Rattle.ic_term.specs.Configuration.{Configuration, IsConfiguration, configuration_nodes}
 use Rattle.ic_term.specs.declared.limits.TheConstants.{MAX_NODES, MAX_NEXT}
 use Rattle.ic_rules.specs.Rule.{Rule}
@@ -13,14 +13,13 @@ use Rattle.ic_round.specs.Firing.{fired}
 use Rattle.ic_settle.specs.Settling.{settled}
 use Rattle.ic_round.specs.Rounds.{round, fits, is_small, has_names, unless_unfit}
 use Rattle.ic_round.specs.Works.{PlainFired, result_of}
-use Rattle.ic_round.specs.Gathering.{Gapped, gathered}
+use Rattle.ic_round.specs.Gathering.{gathered}
 use Rattle.ic_round.specs.Plans.{PlainPlan, planned}
 use Rattle.ic_round.specs.Completing.{Completes}
 use Rattle.ic_round.specs.declared.gather_fault.GatherFault.{GatherFault}
 use Rattle.ic_round.specs.declared.round_fault.RoundFault.{RoundFault}
 use Rattle.ic_round.specs.declared.round_fault.RoundFault.TheVariants.{Overgrown, NamesOut}
 use Rattle.std.proofs.lemmas.Bool.{and_parts}
-use Rattle.ic_settle.specs.SubstitutionLaws.{and_both}
 use Rattle.ic_round.specs.lemmas.SoundRules.{HasSoundRule, sound_rules}
 use Rattle.ic_round.specs.lemmas.FiredNames.{fired_below, fired_twice}
 use Rattle.ic_round.specs.lemmas.OverSymbols.{fired_over}

@@ -1,10 +1,10 @@
 -- Lemmas: a settled configuration is one, and stays over its symbols.
-use Rattle.std.proofs.Common.{◌≡◌, ℕ, zero, suc, List, [], ◌∷◌, ◌++◌, true, Option, None, Some, refl, sym, ap, ◌∙◌, append_assoc, append-nil, subst as transport}
+use Rattle.std.proofs.Common.{◌≡◌, ℕ, zero, suc, List, [], ◌∷◌, ◌++◌, true, Option, None, Some, refl, sym, ap, ◌∙◌, append_assoc, subst as transport}
 use Rattle.ic_term.specs.Tree.{Tree, Pair}
 use Rattle.ic_term.specs.Symbol.{Symbol, is_over}
 use Rattle.ic_term.specs.Configuration.{Configuration, IsConfiguration, names_in}
-use Rattle.ic_settle.specs.Settling.{Binding, Choice, binding, choice_or, first_choice, applied, settling_step, settled_in, settled, occurs, subst_in}
-use Rattle.ic_settle.specs.NameSteps.{Binds, NameStep}
+use Rattle.ic_settle.specs.Settling.{Binding, Choice, binding, choice_or, first_choice, applied, settled_in, settled}
+use Rattle.ic_settle.specs.NameSteps.{NameStep}
 use Rattle.ic_settle.specs.ChoiceLaws.{binding_binds}
 use Rattle.ic_settle.specs.StepLaws.{configuration_kept, over_kept}
 

@@ -1,14 +1,12 @@
 -- Lemmas: a round is joined to its input by a chain of steps.
-use Rattle.std.proofs.Common.{◌≡◌, ℕ, zero, suc, ◌+◌, List, [], ◌∷◌, ◌++◌, Bool, true, false, Option, None, Some, length, refl, sym, ◌∙◌, append_assoc, append-nil, arith, ◌⊎◌, inl, inr, subst}
-use Rattle.std.proofs.lemmas.List.Folds.{list_any-append}
-use Rattle.std.specs.List.{flat_map}
+use Rattle.std.proofs.Common.{◌≡◌, ℕ, zero, suc, ◌+◌, List, [], ◌∷◌, ◌++◌, Option, None, Some, length, refl, sym, append_assoc, append-nil, arith, subst}
 use Rattle.std.specs.Option.{option_map_or}
-use Rattle.ic_term.specs.Tree.{Tree, Pair, names, pair_names}
+use Rattle.ic_term.specs.Tree.{Tree, Pair}
 use Rattle.ic_term.specs.Configuration.{Configuration}
 use Rattle.ic_rules.specs.Rule.{Rule}
 use Rattle.ic_settle.specs.Settling.{Choice, first_choice, applied, settled_in, settled}
 use Rattle.ic_round.specs.Firing.{Active, active_pair, products_by, count_of, names_taken, fired_pair, fired_from, next_behind, fired}
-use Rattle.ic_round.specs.Steps.{Step, interaction, indirection, collect, Steps, no_steps, then_step}
+use Rattle.ic_round.specs.Steps.{Step, interaction, Steps, no_steps, then_step}
 use Rattle.ic_round.specs.Rounds.{round, iterate}
 use Rattle.ic_round.specs.lemmas.NameStepLemmas.{name_step}
 use Rattle.ic_round.specs.lemmas.SettledLemmas.{choice_step}

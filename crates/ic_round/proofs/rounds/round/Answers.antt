@@ -1,14 +1,12 @@
-use Rattle.std.proofs.Common.{◌≡◌, List, Ok, true, map, ap, sym, ◌∙◌, add-one, subst}
+use Rattle.std.proofs.Common.{◌≡◌, List, Ok, map, ap, sym, ◌∙◌, add-one, subst}
 use Rattle.std.proofs.lemmas.List.Sorted.{IsPermutation-refl}
 use Rattle.std.specs.List.Sorted.{IsPermutation}
 use Rattle.ic_term.specs.Symbol.{is_over}
 use Rattle.ic_term.specs.Configuration.{Configuration}
-use Rattle.ic_settle.specs.Settling.{settled}
-use Rattle.ic_round.specs.Works.{PlainFired, result_of}
-use Rattle.ic_round.specs.WorkViews.{work_of, fired_of}
+use Rattle.ic_round.specs.Works.{PlainFired}
+use Rattle.ic_round.specs.WorkViews.{fired_of}
 use Rattle.ic_round.specs.Rounds.{round, iterate}
 use Rattle.ic_round.specs.Steps.{Steps}
-use Rattle.ic_round.specs.Completing.{Completes}
 use Rattle.ic_round.specs.lemmas.RoundLemmas.{plan_completes}
 use Rattle.ic_round.specs.lemmas.SettledLemmas.{settled_over}
 use Rattle.ic_round.specs.Firing.{fired}

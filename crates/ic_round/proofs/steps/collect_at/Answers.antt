@@ -1,6 +1,6 @@
-use Rattle.std.proofs.Common.{◌≡◌, ◌++◌, [], Ok, slice_get, option_map, map, sym, ap, ◌∙◌, subst, append-nil}
+use Rattle.std.proofs.Common.{◌≡◌, Ok, slice_get, option_map, sym, ap, ◌∙◌, subst, append-nil}
 use Rattle.std.specs.List.{flat_map}
-use Rattle.ic_term.specs.Term.{tree, pair}
+use Rattle.ic_term.specs.Term.{pair}
 use Rattle.ic_term.specs.Tree.{names, pair_names}
 use Rattle.ic_term.specs.Configuration.{Configuration}
 use Rattle.ic_settle.specs.Settling.{binding}

@@ -1,4 +1,4 @@
-use Rattle.std.proofs.Common.{◌≡◌, ◌+◌, ◌++◌, Ok, slice_get, option_map, map, take, drop, sym, ap, ◌∙◌, subst}
+use Rattle.std.proofs.Common.{◌≡◌, Ok, slice_get, option_map, sym, ap, ◌∙◌, subst}
 use Rattle.std.specs.List.{flat_map}
 use Rattle.ic_term.specs.Term.{pair}
 use Rattle.ic_term.specs.Tree.{names, pair_names}

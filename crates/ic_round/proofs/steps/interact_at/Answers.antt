@@ -1,4 +1,4 @@
-use Rattle.std.proofs.Common.{ℕ, ◌<◌, List, Some, min}
+use Rattle.std.proofs.Common.{ℕ, List, Some, min}
 use Rattle.ic_term.specs.Tree.{Tree, Pair, pair_nodes}
 use Rattle.ic_rules.specs.RuleSet.{Rules}
 use Rattle.ic_round.specs.inner.Replacing.{fired_at}
@@ -12,12 +12,10 @@ use Rattle.ic_term.specs.declared.limits.TheConstants.{MAX_NODES, MAX_NEXT}
 use Rattle.ic_round.specs.Firing.{oriented, active_pair, names_taken}
 use Rattle.ic_round.specs.Works.{suits, work_at}
 use Rattle.ic_round.specs.Steps.{Interaction}
-use Rattle.ic_round.specs.SingleSteps.{interacted_by, interacted, is_within}
-use Rattle.ic_round.specs.StepAnswers.{stepped_within}
+use Rattle.ic_round.specs.SingleSteps.{interacted_by, is_within}
 use Rattle.ic_round.specs.inner.Replacing.{IsReady}
 use Rattle.ic_round.proofs.Applying.{pair_at}
 use Rattle.ic_round.proofs.StepLemmas.{interacted-inert, no_interaction}
-use Rattle.ic_round.specs.Firing.{rule_of_sides}
 use Rattle.ic_round.proofs.Words.{u64_MAX}
 use Rattle.ic_round.proofs.Interacting.{CanInteract, small_there, over_there, too_large, too_high, interacts, interacted-made, answer-within, answer-limit, none_found}
 use Rattle.ic_round.proofs.steps.interact_at.Goals as goal
