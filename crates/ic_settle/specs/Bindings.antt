@@ -1,4 +1,5 @@
--- What settling replaces: each name in its order, with the opposite side of the equation that is removed for it.
+-- What settling replaces: each name in its order, with the opposite side of the equation that is
+-- removed for it.
 use Rattle.std.specs.Prelude.{ℕ, zero, suc, ◌==◌, List, [], ◌∷◌, ◌++◌, Bool, false, Option, length, slice_get, if◌then◌else◌}
 use Rattle.std.specs.List.{remove, zip}
 use Rattle.std.specs.Option.{option_map, option_map_or, option_to_list}
@@ -15,20 +16,25 @@ abbrev pub is_name : ℕ → Tree → Bool
 is_name x (name y) = y == x
 is_name x (agent s ts) = false
 
--- An equation that is removed for a name, as it is and as it was given: the name, with the opposite side as given.
+-- An equation that is removed for a name, as it is and as it was given: the name, with the opposite
+-- side as given.
 abbrev pub replacement : ℕ → Pair × Pair → Binding
 replacement x p = record { name = x; term = if is_name x p.0.left then p.1.right else p.1.left }
 
 -- what a step replaces; `given` has each equation of the configuration as it was given
 abbrev pub replaced_by : Configuration → List Pair → Choice → List Binding
 replaced_by c given choice =
-    option_to_list (option_map (replacement choice.bound.name) (slice_get (zip c.equations given) (length choice.before)))
+    option_to_list
+    (option_map (replacement choice.bound.name)
+    (slice_get (zip c.equations given) (length choice.before)))
 
 -- what at most so many steps of settling replace, in their order
 abbrev pub replaced_in : ℕ → Configuration → List Pair → List Binding
 replaced_in zero c given = []
 replaced_in (suc n) c given =
-    option_map_or (λ choice. replaced_by c given choice ++ replaced_in n (applied c choice) (remove given (length choice.before)))
+    option_map_or
+    (λ choice. replaced_by c given choice
+    ++ replaced_in n (applied c choice) (remove given (length choice.before)))
     (first_choice c.interface [] c.equations) []
 
 -- what settling a configuration replaces
@@ -43,4 +49,5 @@ binding_of b = record { name = b.0; term = tree b.1 }
 abbrev pub bound_sides : List Pair → List (Option Applicable) → List Binding
 bound_sides [] chosen = []
 bound_sides (p ∷ ps) [] = []
-bound_sides (p ∷ ps) (a ∷ chosen) = option_to_list (option_map (bound_by p) a) ++ bound_sides ps chosen
+bound_sides (p ∷ ps) (a ∷ chosen) =
+    option_to_list (option_map (bound_by p) a) ++ bound_sides ps chosen

@@ -1,6 +1,6 @@
--- Where the occurrences of a name are while equations are removed. Each equation is a container, and so is the
--- interface; the number of a removed equation is linked to the container that took what it held. What settling is
--- doesn't rest on this.
+-- Where the occurrences of a name are while equations are removed. Each equation is a container, and
+-- so is the interface; the number of a removed equation is linked to the container that took what it
+-- held. What settling is doesn't rest on this.
 use Rattle.std.specs.Prelude.{◌≡◌, ℕ, suc, ◌<◌, ◌≤◌, ◌==◌, List, [], ◌∷◌, Option, None, Some, length, slice_index, MatchOption, if◌then◌else◌, ◌⊎◌}
 use Rattle.std.specs.List.{flat_map}
 use Rattle.std.specs.Option.{option_map}
@@ -12,7 +12,8 @@ use Rattle.ic_settle.specs.declared.applicability.Side.TheVariants.{Left, Right}
 
 -- ---- links between containers
 
--- a container without a link is linked to itself; a link goes to a later container, or to one without a link
+-- a container without a link is linked to itself; a link goes to a later container, or to one
+-- without a link
 pub record IsLinked (links : List ℕ) : Type 0 where
   pub within : (e : ℕ) → e < length links → slice_index links e < length links
   pub ahead : (e : ℕ) → e < length links
@@ -48,16 +49,19 @@ noted_in y place (n ∷ ns) found = noted_in y place ns (if n == y then noted pl
 -- those of a name, once equations, numbered from a place on, are met
 abbrev pub noted_equations : ℕ → ℕ → List Pair → Option (ℕ × ℕ) → Option (ℕ × ℕ)
 noted_equations y place [] found = found
-noted_equations y place (p ∷ ps) found = noted_equations y (suc place) ps (noted_in y place (pair_names p) found)
+noted_equations y place (p ∷ ps) found =
+    noted_equations y (suc place) ps (noted_in y place (pair_names p) found)
 
 -- those of a name, once the equations and the interface, numbered behind them, are met
 abbrev pub noted_from : ℕ → ℕ → List Pair → List Tree → Option (ℕ × ℕ) → Option (ℕ × ℕ)
 noted_from y place [] ts found = noted_in y place (flat_map names ts) found
-noted_from y place (p ∷ ps) ts found = noted_from y (suc place) ps ts (noted_in y place (pair_names p) found)
+noted_from y place (p ∷ ps) ts found =
+    noted_from y (suc place) ps ts (noted_in y place (pair_names p) found)
 
 -- what is noted are containers
 abbrev pub AreKnown : List ℕ → (ℕ → Option (ℕ × ℕ)) → Type 0
-AreKnown links look = (y : ℕ) (p : ℕ × ℕ) → look y ≡ Some p → (p.0 < length links) × (p.1 < length links)
+AreKnown links look = (y : ℕ) (p : ℕ × ℕ) → look y ≡ Some p
+    → (p.0 < length links) × (p.1 < length links)
 
 -- ---- the choice of a side
 
@@ -65,11 +69,14 @@ AreKnown links look = (y : ℕ) (p : ℕ × ℕ) → look y ≡ Some p → (p.0 
 abbrev pub elsewhere : (ℕ → ℕ) → ℕ → Option (ℕ × ℕ) → Option ℕ
 elsewhere root place None = None
 elsewhere root place (Some p) =
-    if root p.0 == place then (if root p.1 == place then None else Some (root p.1)) else Some (root p.0)
+    if root p.0 == place
+    then (if root p.1 == place then None else Some (root p.1))
+    else Some (root p.0)
 
 -- a side that is a name which stands in another container
 abbrev pub outlet_at : (ℕ → Option ℕ) → Side → Tree → Option Outlet
-outlet_at other side (name x) = option_map (λ target. record { name = x; side = side; target = target }) (other x)
+outlet_at other side (name x) =
+    option_map (λ target. record { name = x; side = side; target = target }) (other x)
 outlet_at other side (agent s ts) = None
 
 abbrev pub first_outlet : Option Outlet → Option Outlet → Option Outlet
@@ -89,7 +96,8 @@ abbrev pub applicable_of : Outlet → Applicable
 applicable_of o = record { name = o.name; side = o.side }
 
 -- the applicable side of an equation, and where the links end then
-abbrev pub IsChosen : (ℕ → ℕ) → ℕ → (ℕ → Option (ℕ × ℕ)) → Pair → List ℕ → Option Applicable → Type 0
+abbrev pub IsChosen :
+    (ℕ → ℕ) → ℕ → (ℕ → Option (ℕ × ℕ)) → Pair → List ℕ → Option Applicable → Type 0
 IsChosen root place look p links found =
     MatchOption (outlet (λ y. elsewhere root place (look y)) p.left p.right)
     ((found ≡ None) × IsRoot links root)

@@ -1,4 +1,5 @@
--- The steps of the calculus that put a term for a name (Fernández and Mackie 1999, indirection and collect).
+-- The steps of the calculus that put a term for a name (Fernández and Mackie 1999, indirection and
+-- collect).
 use Rattle.std.specs.Prelude.{◌≡◌, List, ◌∷◌, ◌++◌, true, ◌⊎◌}
 use Rattle.ic_term.specs.Tree.{name, Pair}
 use Rattle.ic_term.specs.Configuration.{Configuration, names_in}
@@ -6,10 +7,12 @@ use Rattle.ic_settle.specs.Settling.{Binding, occurs, subst_in}
 
 -- one side of an equation is this name, the other one this term
 abbrev pub Binds : Pair → Binding → Type 0
-Binds p b = (p ≡ record { left = name b.name; right = b.term }) ⊎ (p ≡ record { left = b.term; right = name b.name })
+Binds p b =
+    (p ≡ record { left = name b.name; right = b.term })
+    ⊎ (p ≡ record { left = b.term; right = name b.name })
 
--- An equation of which one side is a name that occurs in another equation (indirection) or in the interface (collect)
--- is removed, and its other side put for that name.
+-- An equation of which one side is a name that occurs in another equation (indirection) or in the
+-- interface (collect) is removed, and its other side put for that name.
 pub record NameStep (c d : Configuration) : Type 0 where
   pub before : List Pair
   pub equation : Pair

@@ -10,7 +10,10 @@ use Rattle.ic_settle.specs.Waiting.{put_each, put_each_pair, IsDelayed}
 
 -- a configuration with bindings put in, and these equations kept
 abbrev pub put_in : List Binding → Configuration → List Pair → Configuration
-put_in bs c kept = record c { interface = map (put_each bs) c.interface; equations = map (put_each_pair bs) kept }
+put_in bs c kept = record c {
+  interface = map (put_each bs) c.interface;
+  equations = map (put_each_pair bs) kept;
+}
 
 -- With all bindings put in, the kept equations and the interface are the settled configuration.
 pub record IsPassed (c : Configuration) (kept : List Pair) (es : List (ℕ × Term)) : Type 0 where

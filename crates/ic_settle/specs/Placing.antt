@@ -21,12 +21,16 @@ abbrev mutual
   pub placed_all : ℕ → Option Tree → Trees → Trees × Option Tree
   placed_all x held no_trees = (no_trees, held)
   placed_all x held (more_trees t ts) =
-      let first = placed x held t in let rest = placed_all x first.1 ts in (more_trees first.0 rest.0, rest.1)
+      let first = placed x held t in
+      let rest = placed_all x first.1 ts in
+      (more_trees first.0 rest.0, rest.1)
 
 abbrev pub placed_terms : ℕ → Option Tree → List Tree → List Tree × Option Tree
 placed_terms x held [] = ([], held)
 placed_terms x held (t ∷ ts) =
-    let first = placed x held t in let rest = placed_terms x first.1 ts in (first.0 ∷ rest.0, rest.1)
+    let first = placed x held t in
+    let rest = placed_terms x first.1 ts in
+    (first.0 ∷ rest.0, rest.1)
 
 abbrev pub placed_pair : ℕ → Option Tree → Pair → Pair × Option Tree
 placed_pair x held p =
@@ -37,4 +41,6 @@ placed_pair x held p =
 abbrev pub placed_pairs : ℕ → Option Tree → List Pair → List Pair × Option Tree
 placed_pairs x held [] = ([], held)
 placed_pairs x held (p ∷ ps) =
-    let first = placed_pair x held p in let rest = placed_pairs x first.1 ps in (first.0 ∷ rest.0, rest.1)
+    let first = placed_pair x held p in
+    let rest = placed_pairs x first.1 ps in
+    (first.0 ∷ rest.0, rest.1)

@@ -1,5 +1,5 @@
--- What settling is: the order of its steps is this project's choice, each step is indirection or collect of
--- Fernández and Mackie 1999.
+-- What settling is: the order of its steps is this project's choice, each step is indirection or
+-- collect of Fernández and Mackie 1999.
 use Rattle.std.specs.Prelude.{ℕ, zero, suc, ◌==◌, List, [], ◌∷◌, ◌++◌, Bool, Option, None, Some, length, map, if◌then◌else◌}
 use Rattle.std.specs.List.{list_any}
 use Rattle.std.specs.Option.{option_map, option_map_or}
@@ -21,7 +21,10 @@ subst_pair x u p = record { left = subst x u p.left; right = subst x u p.right }
 
 -- a term put for a name in a whole configuration
 abbrev pub subst_in : ℕ → Tree → Configuration → Configuration
-subst_in x u c = record c { interface = map (subst x u) c.interface; equations = map (subst_pair x u) c.equations }
+subst_in x u c = record c {
+  interface = map (subst x u) c.interface;
+  equations = map (subst_pair x u) c.equations;
+}
 
 -- a name, and the term to be put for it
 pub record Binding : Type 0 where
@@ -32,9 +35,11 @@ pub record Binding : Type 0 where
 abbrev pub occurs : ℕ → List ℕ → Bool
 occurs x ns = list_any (λ n. n == x) ns
 
--- A side is applicable where it is a name that occurs outside of its equation: it binds that name to the other side.
+-- A side is applicable where it is a name that occurs outside of its equation: it binds that name to
+-- the other side.
 abbrev pub side_binding : List ℕ → Tree → Tree → Option Binding
-side_binding outside (name x) other = if occurs x outside then Some (record { name = x; term = other }) else None
+side_binding outside (name x) other =
+    if occurs x outside then Some (record { name = x; term = other }) else None
 side_binding outside (agent s ts) other = None
 
 abbrev pub first_of_two : Option Binding → Option Binding → Option Binding
@@ -43,7 +48,8 @@ first_of_two None other = other
 
 -- the binding of an equation with these names outside of it: the left side is tried first
 abbrev pub binding : List ℕ → Pair → Option Binding
-binding outside p = first_of_two (side_binding outside p.left p.right) (side_binding outside p.right p.left)
+binding outside p =
+    first_of_two (side_binding outside p.left p.right) (side_binding outside p.right p.left)
 
 -- an equation with an applicable side, the equations before it and those after it
 pub record Choice : Type 0 where
@@ -60,11 +66,14 @@ choice_or before after None later = later
 abbrev pub first_choice : List Tree → List Pair → List Pair → Option Choice
 first_choice ts before [] = None
 first_choice ts before (p ∷ after) =
-    choice_or before after (binding (names_in ts (before ++ after)) p) (first_choice ts (before ++ p ∷ []) after)
+    choice_or before after (binding (names_in ts (before ++ after)) p)
+    (first_choice ts (before ++ p ∷ []) after)
 
 -- The chosen equation is removed, and its other side put for the name in the whole configuration.
 abbrev pub applied : Configuration → Choice → Configuration
-applied c choice = subst_in choice.bound.name choice.bound.term (record c { equations = choice.before ++ choice.after })
+applied c choice =
+    subst_in choice.bound.name choice.bound.term
+    (record c { equations = choice.before ++ choice.after })
 
 -- one step at the first equation with an applicable side, if there is one
 abbrev pub settling_step : Configuration → Option Configuration

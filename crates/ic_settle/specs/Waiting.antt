@@ -1,5 +1,5 @@
--- Bindings that wait in a map until their names are met. The pass over the equations and the rebuilding behind it keep
--- what stands here; what settling is doesn't rest on it.
+-- Bindings that wait in a map until their names are met. The pass over the equations and the
+-- rebuilding behind it keep what stands here; what settling is doesn't rest on it.
 use Rattle.std.specs.Prelude.{◌≡◌, ℕ, ◌+◌, ◌*◌, ◌≤◌, ◌==◌, List, [], ◌∷◌, ◌++◌, Option, None, Some, sum_by, map, nat_eq, is_some, if◌then◌else◌}
 use Rattle.std.specs.List.{flat_map}
 use Rattle.std.specs.Option.{option_map}
@@ -54,8 +54,9 @@ bound y bs = occurrences y (map (λ b. b.name) bs)
 abbrev pub here : Option Tree → ℕ
 here found = if is_some found then 1 else 0
 
--- Bindings of which some wait in a map: each that waits is as good as its name, and a bound name has at most one
--- occurrence left, in what is pending or in a term that waits, and none if it doesn't wait itself.
+-- Bindings of which some wait in a map: each that waits is as good as its name, and a bound name has
+-- at most one occurrence left, in what is pending or in a term that waits, and none if it doesn't
+-- wait itself.
 pub record IsDelayed (bs : List Binding) (es : List (ℕ × Term)) (pending : List ℕ) : Type 0 where
   pub same : (x : ℕ) (u : Tree) → look es x ≡ Some u → put_each bs (name x) ≡ put_each bs u
   pub once : (y : ℕ) → occurrences y pending + held es y + 2 * bound y bs ≤ 2 + here (look es y)
@@ -66,7 +67,8 @@ abbrev pub IsTop : List Binding → Tree → Type 0
 IsTop bs (name x) = bound x bs ≡ 0
 IsTop bs (agent s ts) = Unit {0}
 
--- a term resolved at its top: bound names there gave way to their terms, and the map to what is left
+-- a term resolved at its top: bound names there gave way to their terms, and the map to what is
+-- left
 abbrev pub Resolves : List (ℕ × Term) → List (ℕ × Term) → Tree → Tree → Type 0
 Resolves es es' t u = (bs : List Binding) (rest : List ℕ) → IsDelayed bs es (names t ++ rest)
     → (put_each bs u ≡ put_each bs t) × (IsTop bs u × IsDelayed bs es' (names u ++ rest))
@@ -78,12 +80,14 @@ Rebuilds es es' t u = (bs : List Binding) (rest : List ℕ) → IsDelayed bs es 
 
 -- all bindings put in each term of a list
 abbrev pub RebuildsTerms : List (ℕ × Term) → List (ℕ × Term) → List Tree → List Tree → Type 0
-RebuildsTerms es es' ts us = (bs : List Binding) (rest : List ℕ) → IsDelayed bs es (flat_map names ts ++ rest)
+RebuildsTerms es es' ts us = (bs : List Binding) (rest : List ℕ)
+    → IsDelayed bs es (flat_map names ts ++ rest)
     → (us ≡ map (put_each bs) ts) × IsDelayed bs es' rest
 
 -- all bindings put in each equation of a list
 abbrev pub RebuildsPairs : List (ℕ × Term) → List (ℕ × Term) → List Pair → List Pair → Type 0
-RebuildsPairs es es' ps qs = (bs : List Binding) (rest : List ℕ) → IsDelayed bs es (flat_map pair_names ps ++ rest)
+RebuildsPairs es es' ps qs = (bs : List Binding) (rest : List ℕ)
+    → IsDelayed bs es (flat_map pair_names ps ++ rest)
     → (qs ≡ map (put_each_pair bs) ps) × IsDelayed bs es' rest
 
 -- all bindings put in the arguments of an agent

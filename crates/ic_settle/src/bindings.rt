@@ -8,8 +8,8 @@ use indexmap::IndexMap;
 use std::alloc::{AllocError, Global};
 use std::mem;
 
-/// Terms that wait until the names that they stand for are met. Each such name is met at most once, so its term is
-/// taken out then.
+/// Terms that wait until the names that they stand for are met. Each such name is met at most once,
+/// so its term is taken out then.
 #[derive(Drop)]
 pub(crate) struct Bindings {
     pub(crate) terms: IndexMap<u64, Term>,
@@ -26,22 +26,27 @@ impl Bindings {
 
     pub fn insert(&mut self, name: u64, term: Term) -> Result<(), AllocError>
         requires { look self.old.terms.entries name ≡ None }
-        ensures { OnOk result (IsAdded self.old.terms.entries self.new.terms.entries name (tree term)) }
+        ensures { OnOk result
+            (IsAdded self.old.terms.entries self.new.terms.entries name (tree term)) }
     {
         self.terms.insert(name, term)?;
         Ok(())
     }
 
     fn take(&mut self, name: u64) -> Option<Term>
-        ensures { MatchOption result ((look self.old.terms.entries name ≡ None) × (self.new.terms.entries ≡ self.old.terms.entries))
+        ensures { MatchOption result
+            ((look self.old.terms.entries name ≡ None)
+            × (self.new.terms.entries ≡ self.old.terms.entries))
             (λ term. IsTaken self.old.terms.entries self.new.terms.entries name (tree term)) }
     {
         self.terms.swap_remove(&name)
     }
 
-    /// What stands for a term at its top: the term itself, or where it is a bound name, what stands for its term.
+    /// What stands for a term at its top: the term itself, or where it is a bound name, what stands
+    /// for its term.
     pub fn resolved(&mut self, term: Term) -> Term
-        ensures resolves { Resolves self.old.terms.entries self.new.terms.entries (tree term) (tree result) }
+        ensures resolves { Resolves self.old.terms.entries self.new.terms.entries
+            (tree term) (tree result) }
         ensures nodes { nodes (tree result) + nodes_kept self.new.terms.entries
             ≤ nodes (tree term) + nodes_kept self.old.terms.entries }
         ensures fewer { nodes_kept self.new.terms.entries ≤ nodes_kept self.old.terms.entries }
@@ -61,7 +66,8 @@ impl Bindings {
     /// Puts what stands for the bound names of a term in their places.
     #[cycle(rebuild)]
     fn rebuild(&mut self, term: &mut Term)
-        ensures rebuilds { Rebuilds self.old.terms.entries self.new.terms.entries (tree term.old) (tree term.new) }
+        ensures rebuilds { Rebuilds self.old.terms.entries self.new.terms.entries
+            (tree term.old) (tree term.new) }
         ensures nodes { nodes_kept self.new.terms.entries ≤ nodes_kept self.old.terms.entries }
     {
         let given = mem::replace(term, Term::Name(0));
@@ -76,7 +82,8 @@ impl Bindings {
 
     #[cycle(rebuild)]
     fn rebuild_arguments(&mut self, cell: &mut Cell)
-        ensures rebuilds { RebuildsArguments self.old.terms.entries self.new.terms.entries (cell_tree cell.old) (cell_tree cell.new) }
+        ensures rebuilds { RebuildsArguments self.old.terms.entries self.new.terms.entries
+            (cell_tree cell.old) (cell_tree cell.new) }
         ensures nodes { nodes_kept self.new.terms.entries ≤ nodes_kept self.old.terms.entries }
     {
         for term in cell.args.iter_mut() {
@@ -85,7 +92,8 @@ impl Bindings {
     }
 
     pub fn rebuild_terms(&mut self, terms: &mut [Term])
-        ensures { RebuildsTerms self.old.terms.entries self.new.terms.entries (map tree terms.old) (map tree terms.new) }
+        ensures { RebuildsTerms self.old.terms.entries self.new.terms.entries
+            (map tree terms.old) (map tree terms.new) }
     {
         for term in terms {
             self.rebuild(term);
@@ -93,7 +101,8 @@ impl Bindings {
     }
 
     pub fn rebuild_equations(&mut self, equations: &mut [Equation])
-        ensures { RebuildsPairs self.old.terms.entries self.new.terms.entries (map pair equations.old) (map pair equations.new) }
+        ensures { RebuildsPairs self.old.terms.entries self.new.terms.entries
+            (map pair equations.old) (map pair equations.new) }
     {
         for equation in equations {
             self.rebuild(&mut equation.left);

@@ -10,12 +10,12 @@ use ic_term::{Cell, Equation, Term};
 use indexmap::IndexMap;
 use std::alloc::{AllocError, Global};
 
-/// For each name the first and the last container in which it stands: the number of an equation, or for the interface
-/// how many equations there are.
+/// For each name the first and the last container in which it stands: the number of an equation, or
+/// for the interface how many equations there are.
 type Places = IndexMap<u64, (usize, usize)>;
 
-/// Where each name stands while equations are removed. What a removed equation holds goes to another container, by a
-/// link from its number.
+/// Where each name stands while equations are removed. What a removed equation holds goes to another
+/// container, by a link from its number.
 #[derive(Drop)]
 pub(crate) struct Containers {
     links: Vec<usize>,
@@ -34,17 +34,16 @@ fn note(places: &mut Places, name: u64, place: usize) -> Result<(), AllocError>
     ensures { OnOk result ((y : ℕ) → get nat_eq places.new y
         ≡ (if name == y then noted place (get nat_eq places.old y) else get nat_eq places.old y)) }
 {
-    let first = match places.get(&name) {
-        Some((first, _)) => *first,
-        None => place,
-    };
-    places.insert(name, (first, place))?;
+    if let Some((first, _)) = places.insert(name, (place, place))? {
+        places.insert(name, (first, place))?;
+    }
     Ok(())
 }
 
 #[cycle(note)]
 fn note_names(places: &mut Places, term: &Term, place: usize) -> Result<(), AllocError>
-    ensures { OnOk result ((y : ℕ) → get nat_eq places.new y ≡ noted_in y place (names (tree term.now)) (get nat_eq places.old y)) }
+    ensures { OnOk result ((y : ℕ) → get nat_eq places.new y
+        ≡ noted_in y place (names (tree term.now)) (get nat_eq places.old y)) }
 {
     match term {
         Term::Name(name) => note(places, *name, place),
@@ -54,7 +53,8 @@ fn note_names(places: &mut Places, term: &Term, place: usize) -> Result<(), Allo
 
 #[cycle(note)]
 fn note_names_of(places: &mut Places, cell: &Cell, place: usize) -> Result<(), AllocError>
-    ensures { OnOk result ((y : ℕ) → get nat_eq places.new y ≡ noted_in y place (names (cell_tree cell.now)) (get nat_eq places.old y)) }
+    ensures { OnOk result ((y : ℕ) → get nat_eq places.new y
+        ≡ noted_in y place (names (cell_tree cell.now)) (get nat_eq places.old y)) }
 {
     for term in &cell.args {
         note_names(places, term, place)?;
@@ -73,7 +73,8 @@ fn note_terms(places: &mut Places, terms: &[Term], place: usize) -> Result<(), A
 }
 
 fn note_equations(places: &mut Places, equations: &[Equation]) -> Result<(), AllocError>
-    ensures { OnOk result ((y : ℕ) → get nat_eq places.new y ≡ noted_equations y 0 (map pair equations.now) (get nat_eq places.old y)) }
+    ensures { OnOk result ((y : ℕ) → get nat_eq places.new y
+        ≡ noted_equations y 0 (map pair equations.now) (get nat_eq places.old y)) }
 {
     for (place, equation) in equations.iter().enumerate() {
         note_names(places, &equation.left, place)?;
@@ -125,7 +126,8 @@ fn find_outlet(
     requires known { AreKnown links.old (get nat_eq places.now) }
     ensures linked { IsLinked links.new }
     ensures root { (r : ℕ → ℕ) → IsRoot links.old r
-        → (result ≡ outlet_at (λ y. elsewhere r place (get nat_eq places.now y)) side (tree term.now)) × IsRoot links.new r }
+        → (result ≡ outlet_at (λ y. elsewhere r place (get nat_eq places.now y)) side (tree term.now))
+        × IsRoot links.new r }
     ensures target { IfSome result (IsOutlet links.new place) }
     ensures unlinked { (e : ℕ) → slice_index links.old e ≡ e → slice_index links.new e ≡ e }
 {
@@ -155,7 +157,9 @@ fn first_outlet(
     requires known { AreKnown links.old (get nat_eq places.now) }
     ensures linked { IsLinked links.new }
     ensures root { (r : ℕ → ℕ) → IsRoot links.old r
-        → (result ≡ outlet (λ y. elsewhere r place (get nat_eq places.now y)) (tree equation.now.left) (tree equation.now.right)) × IsRoot links.new r }
+        → (result ≡ outlet (λ y. elsewhere r place (get nat_eq places.now y))
+        (tree equation.now.left) (tree equation.now.right))
+        × IsRoot links.new r }
     ensures target { IfSome result (IsOutlet links.new place) }
     ensures unlinked { (e : ℕ) → slice_index links.old e ≡ e → slice_index links.new e ≡ e }
 {
@@ -174,7 +178,8 @@ impl Containers {
         equations: &[Equation],
     ) -> Result<Containers, AllocError>
         ensures length { IfOk result (λ c. length c.links.items ≡ length equations.now + 1) }
-        ensures own { IfOk result (λ c. (e : ℕ) → e < length equations.now + 1 → slice_index c.links.items e ≡ e) }
+        ensures own { IfOk result (λ c. (e : ℕ) → e < length equations.now + 1
+            → slice_index c.links.items e ≡ e) }
         ensures places { IfOk result (λ c. (y : ℕ) → get nat_eq c.places y
             ≡ noted_from y 0 (map pair equations.now) (map tree interface.now) None) }
     {
@@ -185,8 +190,8 @@ impl Containers {
         Ok(Containers { links, places })
     }
 
-    /// The applicable side of an equation with resolved sides, the left one if both are. What the equation holds then
-    /// goes to the container in which the name stands besides.
+    /// The applicable side of an equation with resolved sides, the left one if both are. What the
+    /// equation holds then goes to the container in which the name stands besides.
     pub fn applicable(&mut self, equation: &Equation, place: usize) -> Option<Applicable>
         requires inside { place < length self.old.links.items }
         requires linked { IsLinked self.old.links.items }

@@ -15,7 +15,8 @@ pub fn settle_slowly(config: Config) -> Config
     ensures settled { result ≡ settled config }
     ensures reached { NameSteps config result }
     ensures ended { (next : Configuration) → ¬ NameStep result next }
-    ensures over { (symbols : List Symbol) → IsTrue (is_over symbols config) → IsTrue (is_over symbols result) }
+    ensures over { (symbols : List Symbol)
+        → IsTrue (is_over symbols config) → IsTrue (is_over symbols result) }
 {
     let (mut interface, mut equations, next) = config.into_parts();
     let mut place = 0;

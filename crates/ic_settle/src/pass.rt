@@ -22,14 +22,16 @@ pub(crate) struct Passed {
     pub chosen: Vec<Option<Applicable>>,
 }
 
-/// Goes through the equations once. Each whose resolved sides have an applicable one is removed, and its other side
-/// waits for that name.
+/// Goes through the equations once. Each whose resolved sides have an applicable one is removed, and
+/// its other side waits for that name.
 pub(crate) fn pass(alloc: Global, config: Config) -> Result<Passed, AllocError>
     ensures interface { IfOk result (λ p. map tree p.interface.items ≡ config.interface) }
     ensures next { IfOk result (λ p. p.next ≡ config.next) }
-    ensures passed { IfOk result (λ p. IsPassed config (map pair p.kept.items) p.bindings.terms.entries) }
+    ensures passed { IfOk result
+        (λ p. IsPassed config (map pair p.kept.items) p.bindings.terms.entries) }
     ensures length { IfOk result (λ p. length p.chosen.items ≡ length config.equations) }
-    ensures chosen { IfOk result (λ p. bound_sides config.equations p.chosen.items ≡ replaced config) }
+    ensures chosen { IfOk result
+        (λ p. bound_sides config.equations p.chosen.items ≡ replaced config) }
 {
     let (interface, equations, next) = config.into_parts();
     let mut containers = Containers::of(alloc, &interface, &equations)?;

@@ -32,8 +32,8 @@ pub fn settle(alloc: Global, config: Config) -> Result<Config, AllocError>
     Ok(Config::from_parts(interface, kept, next))
 }
 
-/// Each name that settling replaces, in its order, with the opposite side of the equation removed at that step, as
-/// that side stands in the given configuration.
+/// Each name that settling replaces, in its order, with the opposite side of the equation removed at
+/// that step, as that side stands in the given configuration.
 pub fn bind(alloc: Global, config: &Config) -> Result<Vec<(u64, Term)>, AllocError>
     ensures { IfOk result (λ bindings. map binding_of bindings.items ≡ replaced config.now) }
 {
@@ -48,7 +48,8 @@ fn copy_sides(
     chosen: &[Option<Applicable>],
 ) -> Result<Vec<(u64, Term)>, AllocError>
     requires { length chosen.now ≡ length equations.now }
-    ensures { IfOk result (λ bindings. map binding_of bindings.items ≡ bound_sides (map pair equations.now) chosen.now) }
+    ensures { IfOk result (λ bindings. map binding_of bindings.items
+        ≡ bound_sides (map pair equations.now) chosen.now) }
 {
     let mut bindings = Vec::new(alloc);
     for (place, equation) in equations.iter().enumerate() {
