@@ -1,4 +1,4 @@
-ghost use Rattle.std.specs.Prelude.{◌≡◌, ◌+◌, ◌≤◌, [], None, MatchOption, OnOk, map};
+ghost use Rattle.std.specs.Prelude.{◌≡◌, ◌+◌, ◌≤◌, [], None, MatchOption, IfOk, OnOk, map};
 ghost use Rattle.ic_term.specs.Tree.{nodes};
 ghost use Rattle.ic_term.specs.Term.{tree, cell_tree, pair};
 ghost use Rattle.ic_settle.specs.Waiting.{look, nodes_kept, IsTaken, IsAdded, Resolves, Rebuilds, RebuildsArguments, RebuildsTerms, RebuildsPairs};
@@ -16,12 +16,13 @@ pub(crate) struct Bindings {
 }
 
 impl Bindings {
-    pub fn new(alloc: Global) -> Bindings
-        ensures { result.terms.entries ≡ [] }
+    /// None, with room for so many.
+    pub fn with_capacity(alloc: Global, count: usize) -> Result<Bindings, AllocError>
+        ensures { IfOk result (λ bindings. bindings.terms.entries ≡ []) }
     {
-        Bindings {
-            terms: IndexMap::new(alloc),
-        }
+        Ok(Bindings {
+            terms: IndexMap::with_capacity(alloc, count)?,
+        })
     }
 
     pub fn insert(&mut self, name: u64, term: Term) -> Result<(), AllocError>

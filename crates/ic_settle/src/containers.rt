@@ -183,7 +183,7 @@ impl Containers {
         ensures places { IfOk result (λ c. (y : ℕ) → get nat_eq c.places y
             ≡ noted_from y 0 (map pair equations.now) (map tree interface.now) None) }
     {
-        let mut places = IndexMap::new(alloc);
+        let mut places = IndexMap::with_capacity(alloc, equations.len())?;
         note_equations(&mut places, equations)?;
         note_terms(&mut places, interface, equations.len())?;
         let links = unlinked(alloc, equations.len() + 1)?;

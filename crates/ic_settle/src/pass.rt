@@ -35,7 +35,7 @@ pub(crate) fn pass(alloc: Global, config: Config) -> Result<Passed, AllocError>
 {
     let (interface, equations, next) = config.into_parts();
     let mut containers = Containers::of(alloc, &interface, &equations)?;
-    let mut bindings = Bindings::new(alloc);
+    let mut bindings = Bindings::with_capacity(alloc, equations.len())?;
     let mut kept = Vec::with_capacity(alloc, equations.len())?;
     let mut chosen = Vec::with_capacity(alloc, equations.len())?;
     for equation in equations {

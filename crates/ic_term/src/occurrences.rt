@@ -8,7 +8,7 @@ use std::alloc::{AllocError, Global};
 pub fn third_occurrence(alloc: Global, names: &[u64]) -> Result<Option<u64>, AllocError>
     ensures { IfOk result (λ name. name ≡ third_occurrence names.now) }
 {
-    let mut counts: IndexMap<u64, u8> = IndexMap::new(alloc);
+    let mut counts: IndexMap<u64, u8> = IndexMap::with_capacity(alloc, names.len() / 2)?;
     for name in names {
         let before = counts.insert(*name, 1)?.unwrap_or(0);
         if before >= 2 {

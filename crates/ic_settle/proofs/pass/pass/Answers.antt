@@ -35,7 +35,7 @@ loop-equation-init c =
     (map pair (into_iter_items c.into_iter-equation-iterator.result)) in
     let E : List (ℕ × Term) → Type 0 = λ es. IsPassing config [] es links (get nat_eq c.in_ok-containers.containers.places) c.in_ok-chosen.chosen.items
     (map pair (into_iter_items c.into_iter-equation-iterator.result)) in
-    let K : List Equation → Type 0 = λ kept. IsPassing config (map pair kept) c.new-bindings.result.terms.entries links (get nat_eq c.in_ok-containers.containers.places) c.in_ok-chosen.chosen.items
+    let K : List Equation → Type 0 = λ kept. IsPassing config (map pair kept) c.in_ok-bindings.bindings.terms.entries links (get nat_eq c.in_ok-containers.containers.places) c.in_ok-chosen.chosen.items
     (map pair (into_iter_items c.into_iter-equation-iterator.result)) in
     record {
       counted = gives.1 ∙ c.into_parts-interface.result.1.ok.0 ∙ sym (ap length gives.0);
@@ -45,7 +45,7 @@ loop-equation-init c =
       known = λ y p is.
           let both = placed-within y config.equations config.interface p (parts.sound.twice y) (sym (noted y) ∙ is) in
           (omega (arith, both.0, made.length, count), omega (arith, both.1, made.length, count));
-      passing = transport K (sym c.in_ok-kept.ensures.items) (transport E (sym c.new-bindings.ensures) (transport C (sym c.in_ok-chosen.ensures.items) (transport R left nothing)));
+      passing = transport K (sym c.in_ok-kept.ensures.items) (transport E (sym c.in_ok-bindings.ensures) (transport C (sym c.in_ok-chosen.ensures.items) (transport R left nothing)));
     }
 
 pub insert-requires : goal.insert-requires
@@ -58,8 +58,8 @@ insert-requires c =
     i.passing c.in-Some.ensures.steps.0 c.resolved-left.ensures.resolves c.resolved-right.ensures.resolves (c.len-in-loop-equation.ensures ∙ c.loop-equation.chosen.ok.0)
     c.in-Some-applicable.ensures.chosen c.in-Some-applicable.field-0 refl
 
-pub loop-equation-preserved-in-Continue-branch-5 : goal.loop-equation-preserved-in-Continue-branch-5
-loop-equation-preserved-in-Continue-branch-5 c =
+pub loop-equation-preserved-in-Continue-branch-6 : goal.loop-equation-preserved-in-Continue-branch-6
+loop-equation-preserved-in-Continue-branch-6 c =
     let i = c.loop-equation.invariant in
     let q : Equation = record { left = c.resolved-left.result; right = c.resolved-right.result } in
     let place = c.len-in-loop-equation.ensures ∙ c.loop-equation.chosen.ok.0 in

@@ -15,5 +15,5 @@ returns-clause-places c = λ y.
     let ts = map tree c.args.interface.now in
     let count : length c.args.equations.now ≡ 0 + length ps = omega (arith, length-map c.args.equations.now pair) in
     c.in_ok-note_terms.ensures y
-    ∙ ap (noted_in y (length c.args.equations.now) (flat_map names ts)) (c.in_ok-note_equations.ensures y ∙ ap (λ l. noted_equations y 0 ps (lookup (nat_eq y) l)) c.new-places.ensures.empty)
+    ∙ ap (noted_in y (length c.args.equations.now) (flat_map names ts)) (c.in_ok-note_equations.ensures y ∙ ap (λ l. noted_equations y 0 ps (lookup (nat_eq y) l)) c.in_ok-places.ensures.empty)
     ∙ ap (λ k. noted_in y k (flat_map names ts) (noted_equations y 0 ps None)) count ∙ noted_behind y 0 ps ts None
