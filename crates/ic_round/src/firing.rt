@@ -14,7 +14,7 @@ pub fn fire(alloc: Global, rules: &RuleSet, work: Work) -> Result<Fired, AllocEr
     let rule = &rules.rules()[work.rule];
     let left = Box::into_inner(work.left);
     let right = Box::into_inner(work.right);
-    let mut products = Vec::new(alloc);
+    let mut products = Vec::with_capacity(alloc, left.args.len().saturating_add(right.args.len()))?;
     append_products(alloc, left.args, rule.left_args(), work.base, &mut products)?;
     append_products(
         alloc,

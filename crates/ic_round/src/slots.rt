@@ -66,7 +66,7 @@ pub(crate) fn join(alloc: Global, slots: Vec<Slot>) -> Result<Option<Vec<Equatio
     ensures { IfOk result (λ all. option_map (λ es. map pair es.items) all
         ≡ joined (map slot_of slots.items)) }
 {
-    let mut equations = Vec::new(alloc);
+    let mut equations = Vec::with_capacity(alloc, slots.len())?;
     for slot in slots {
         match slot {
             Slot::Kept(equation) => equations.push(equation)?,

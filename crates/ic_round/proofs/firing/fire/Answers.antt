@@ -19,7 +19,7 @@ returns c =
     let within : c.args.work.rule < length rs = suits_within rs w c.requires in
     let there : slice_get rs c.args.work.rule ≡ Some r = slice_get_read rs (length rs) c.args.work.rule r refl within (c.index-rules-work.is ∙ ap (λ l. get_or l c.args.work.rule r) c.rules.ensures.rules) in
     let half : map pair c.append_products.new.products.items ≡ against (map tree c.into_inner-left.result.args.items) (map (renamed (λ k. min (w.base + k) u64_MAX)) r.left_args) =
-    c.in_ok-append_products.ensures ∙ ap (λ (es : List Equation). map pair es ++ against (map tree c.into_inner-left.result.args.items) (map (renamed (λ k. min (w.base + k) u64_MAX)) (map tree c.left_args.result.now))) c.new-products.ensures.items
+    c.in_ok-append_products.ensures ∙ ap (λ (es : List Equation). map pair es ++ against (map tree c.into_inner-left.result.args.items) (map (renamed (λ k. min (w.base + k) u64_MAX)) (map tree c.left_args.result.now))) c.in_ok-products.ensures.items
     ∙ ap (λ ts. against (map tree c.into_inner-left.result.args.items) (map (renamed (λ k. min (w.base + k) u64_MAX)) ts)) c.left_args.ensures.args in
     let out : map pair c.append_products-2.new.products.items ≡ map pair c.append_products.new.products.items ++ against (map tree c.into_inner-right.result.args.items) (map (renamed (λ k. min (w.base + k) u64_MAX)) r.right_args) =
     c.in_ok-append_products-2.ensures
