@@ -14,8 +14,8 @@ use std::alloc::{AllocError, Global};
 /// for the interface how many equations there are.
 type Places = IndexMap<u64, (usize, usize)>;
 
-/// Where each name stands while equations are removed. What a removed equation holds goes to another
-/// container, by a link from its number.
+/// Where each name stands while equations are removed. What a removed equation holds goes to
+/// another container, by a link from its number.
 #[derive(Drop)]
 pub(crate) struct Containers {
     links: Vec<usize>,
@@ -126,7 +126,8 @@ fn find_outlet(
     requires known { AreKnown links.old (get nat_eq places.now) }
     ensures linked { IsLinked links.new }
     ensures root { (r : ℕ → ℕ) → IsRoot links.old r
-        → (result ≡ outlet_at (λ y. elsewhere r place (get nat_eq places.now y)) side (tree term.now))
+        → (result ≡ outlet_at (λ y. elsewhere r place (get nat_eq places.now y)) side
+          (tree term.now))
         × IsRoot links.new r }
     ensures target { IfSome result (IsOutlet links.new place) }
     ensures unlinked { (e : ℕ) → slice_index links.old e ≡ e → slice_index links.new e ≡ e }
@@ -202,7 +203,8 @@ impl Containers {
         ensures free { AreUnlinkedFrom (place + 1) self.new.links.items }
         ensures places { self.new.places ≡ self.old.places }
         ensures chosen { (r : ℕ → ℕ) → IsRoot self.old.links.items r
-            → IsChosen r place (get nat_eq self.old.places) (pair equation.now) self.new.links.items result }
+            → IsChosen r place (get nat_eq self.old.places) (pair equation.now)
+              self.new.links.items result }
     {
         let outlet = first_outlet(&mut self.links, &self.places, equation, place)?;
         self.links[place] = outlet.target;

@@ -22,8 +22,8 @@ pub(crate) struct Passed {
     pub chosen: Vec<Option<Applicable>>,
 }
 
-/// Goes through the equations once. Each whose resolved sides have an applicable one is removed, and
-/// its other side waits for that name.
+/// Goes through the equations once. Each whose resolved sides have an applicable one is removed,
+/// and its other side waits for that name.
 pub(crate) fn pass(alloc: Global, config: Config) -> Result<Passed, AllocError>
     ensures interface { IfOk result (λ p. map tree p.interface.items ≡ config.interface) }
     ensures next { IfOk result (λ p. p.next ≡ config.next) }
