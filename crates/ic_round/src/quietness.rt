@@ -10,8 +10,8 @@ use ic_rules::RuleSet;
 use ic_settle::is_settled;
 use ic_term::{Config, Equation};
 
-/// Whether no interaction, indirection or collect is possible. Takes n log n steps for n nodes, and no
-/// memory but on the stack (`is_settled`).
+/// Whether no interaction, indirection or collect is possible. Takes n log n steps for n nodes, and
+/// no memory but on the stack (`is_settled`).
 pub fn quiet(rules: &RuleSet, config: &Config) -> bool
     ensures test { result ≡ is_quiet rules.now.rules config.now }
     ensures no_step { IsTrue result ↔ IsQuiet rules.now.rules config.now }
