@@ -1,6 +1,6 @@
 //! Laws of the definitions that the contracts of this crate cite.
 
-ghost use Rattle.std.specs.Prelude.{◌≡◌, ◌↔◌, ◌<◌, ◌≤◌, ℕ, List, [], ◌++◌, None, Some, IfSome, IsTrue, false};
+ghost use Rattle.std.specs.Prelude.{◌≡◌, ◌↔◌, ◌<◌, ◌≤◌, ℕ, List, [], ◌∷◌, ◌++◌, None, Some, IfSome, IsTrue, false};
 ghost use Rattle.ic_pool.specs.Flight.{FlightParts};
 ghost use Rattle.ic_jobs.specs.declared.event.Event.{Event};
 ghost use Rattle.ic_jobs.specs.declared.event.Entry.{Entry};
@@ -8,7 +8,7 @@ ghost use Rattle.ic_jobs.specs.declared.limits.TheConstants.{MAX_JOBS};
 ghost use Rattle.ic_jobs.specs.Job.{JobParts};
 ghost use Rattle.ic_jobs.specs.JobLaws.{job_eq, table_eq};
 ghost use Rattle.ic_jobs.specs.Table.{IsTable, job_named};
-ghost use Rattle.ic_jobs.specs.Events.{apply};
+ghost use Rattle.ic_jobs.specs.Events.{Outcome, IsAnswered, apply};
 ghost use Rattle.ic_jobs.specs.Submitted.{IsEvent, mentions};
 ghost use Rattle.ic_jobs.specs.History.{table_after, replay, IsLegal};
 ghost use Rattle.ic_jobs.specs.Landing.{due};
@@ -36,6 +36,20 @@ pub fn histories_split_and_join()
         → replay t (h ++ k) ≡ replay (replay t h) k }
     ensures legal { (t : List JobParts) (h k : List Entry)
         → IsLegal t (h ++ k) ↔ (IsLegal t h × IsLegal (replay t h) k) }
+{}
+
+/// An entry is legal exactly where its event is defined and is answered by the entry's reply. It
+/// leaves the table that its event leaves, and an event that isn't defined leaves the table as it
+/// is. The empty history is legal and leaves the table as it is.
+pub fn one_entry_is_legal_where_it_is_answered()
+    ensures empty { (t : List JobParts) → IsLegal t [] }
+    ensures empty_stays { (t : List JobParts) → replay t [] ≡ t }
+    ensures legal { (t : List JobParts) (e : Entry)
+        → IsLegal t (e ∷ []) ↔ IsAnswered t e.event e.reply }
+    ensures table { (t : List JobParts) (e : Entry) (o : Outcome)
+        → apply t e.event ≡ Some o → replay t (e ∷ []) ≡ o.table }
+    ensures undefined { (t : List JobParts) (e : Entry)
+        → apply t e.event ≡ None → replay t (e ∷ []) ≡ t }
 {}
 
 /// Every event leaves a table.
