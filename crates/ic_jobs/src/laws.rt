@@ -1,6 +1,8 @@
 //! Laws of the definitions that the contracts of this crate cite.
 
 ghost use Rattle.std.specs.Prelude.{◌≡◌, ◌↔◌, ◌<◌, ◌≤◌, ℕ, List, [], ◌∷◌, ◌++◌, None, Some, IfSome, IsTrue, false};
+ghost use Rattle.ic_term.specs.Configuration.{Configuration};
+ghost use Rattle.ic_rules.specs.RuleSet.{Rules};
 ghost use Rattle.ic_pool.specs.Flight.{FlightParts};
 ghost use Rattle.ic_jobs.specs.declared.event.Event.{Event};
 ghost use Rattle.ic_jobs.specs.declared.event.Entry.{Entry};
@@ -11,8 +13,8 @@ ghost use Rattle.ic_jobs.specs.Table.{IsTable, job_named};
 ghost use Rattle.ic_jobs.specs.Events.{Outcome, IsAnswered, apply};
 ghost use Rattle.ic_jobs.specs.Submitted.{IsEvent, mentions};
 ghost use Rattle.ic_jobs.specs.History.{table_after, replay, IsLegal};
-ghost use Rattle.ic_jobs.specs.Landing.{due};
-ghost use Rattle.ic_jobs.specs.Turns.{RunsAt, IsFlightOf};
+ghost use Rattle.ic_jobs.specs.Landing.{due, Awaits};
+ghost use Rattle.ic_jobs.specs.Turns.{RunsAt, IsFlightOf, HasFlight};
 ghost use Rattle.ic_jobs.specs.Life.{life, IsAsLived};
 
 /// The limit of a job table.
@@ -83,4 +85,16 @@ pub fn due_is_the_next_running_job()
     ensures first_of_all { (t : List JobParts) (after : ℕ) (f : FlightParts)
         → due t after ≡ Some f → f.place < after
         → (k : ℕ) → RunsAt t k → (f.place ≤ k) × (k < after) }
+{}
+
+/// What is due is awaited, and of a name at most one round. Exactly the next rounds of the running
+/// jobs of a table are awaited.
+pub fn what_is_due_is_awaited()
+    ensures due { (t : List JobParts) (after : ℕ) (f : FlightParts) → IsTable t
+        → due t after ≡ Some f → Awaits t f.name f.rules f.config f.rounds }
+    ensures one { (t : List JobParts) (name : List ℕ) (r q : Rules) (a b : Configuration)
+        (m n : ℕ) → Awaits t name r a m → Awaits t name q b n
+        → (r ≡ q) × (a ≡ b) × (m ≡ n) }
+    ensures running { (t : List JobParts) (name : List ℕ) (r : Rules) (a : Configuration)
+        (n : ℕ) → IsTable t → Awaits t name r a n ↔ HasFlight t name r a n }
 {}
