@@ -1,14 +1,19 @@
 -- The next running job of a table.
 use Rattle.std.proofs.Common.{◌≡◌, ◌≤◌, ◌<◌, ◌⊎◌, ℕ, zero, suc, ◌+◌, ◌-◌, List, [], ◌∷◌, Bool, true, false, cond, Option, None, Some, slice_get, drop, inl, inr, refl, sym, ap, subst, ◌∙◌, arith, add-one}
-use Rattle.std.specs.List.{position_from}
+use Rattle.std.specs.List.{position_from, AllByRecursion, IsDistinct}
+use Rattle.std.specs.Str.{bytes_eq}
+use Rattle.std.specs.Cmp.Lexicographic.{bytes_decides}
 use Rattle.std.specs.Option.{option_map, option_or, option_and_then}
+use Rattle.ic_term.specs.Configuration.{Configuration}
+use Rattle.ic_rules.specs.RuleSet.{Rules}
 use Rattle.ic_pool.specs.Flight.{FlightParts}
 use Rattle.ic_jobs.specs.declared.state.State.{State}
 use Rattle.ic_jobs.specs.declared.state.State.TheVariants.{Running, Paused, Done, Halted}
 use Rattle.ic_jobs.specs.State.{is_running}
 use Rattle.ic_jobs.specs.Job.{JobParts}
-use Rattle.ic_jobs.specs.Landing.{flight_of, running_from, due_place, flight_at, due}
-use Rattle.ic_jobs.specs.Turns.{RunsAt}
+use Rattle.ic_jobs.specs.Landing.{flight_of, running_from, due_place, flight_at, due, Awaits}
+use Rattle.ic_jobs.specs.Table.{IsTable, job_names, is_named, job_named}
+use Rattle.ic_jobs.specs.Turns.{RunsAt, HasFlight}
 
 abbrev runs : JobParts → Bool
 runs j = is_running j.state
@@ -176,3 +181,112 @@ flight_due t after f e = elim (what_is_due t after) [
   | inl h ↦ record { place = h.0; next = h.1; copied = let both = sym h.1.is ∙ e in cc }
   | inr h ↦ let both = sym h.is ∙ e in cc
 ]
+
+-- ---- what is due is awaited
+
+-- the job at a place is found by its name, where no two jobs have one name
+none_before : (x : JobParts) (xs : List JobParts) (k : ℕ) (j : JobParts) → slice_get xs k ≡ Some j
+    → AllByRecursion (λ y. bytes_eq x.name y ≡ false) (job_names xs) → bytes_eq x.name j.name ≡ false
+none_before x [] k j at apart = cc
+none_before x (y ∷ ys) zero j at apart = let same : y ≡ j = cc in sym (ap (λ (z : JobParts). bytes_eq x.name z.name) same) ∙ apart.0
+none_before x (y ∷ ys) (suc k) j at apart = none_before x ys k j at apart.1
+
+itself : (j : JobParts) → is_named j.name j ≡ true
+itself j = (bytes_decides j.name j.name).1 refl
+
+apart_from : (a b : List ℕ) (c : Bool) → bytes_eq b a ≡ c → bytes_eq a b ≡ false → c ≡ false
+apart_from a b false is apart = refl
+apart_from a b true is apart =
+    let same : b ≡ a = (bytes_decides b a).0 is in
+    let both = sym ((bytes_decides a b).1 (sym same)) ∙ apart in cc
+
+found_by_name : (t : List JobParts) (k : ℕ) (j : JobParts) → IsDistinct bytes_eq (job_names t) → slice_get t k ≡ Some j → job_named j.name t ≡ Some j
+unfolding IsDistinct
+found_by_name [] k j distinct at = cc
+found_by_name (x ∷ xs) zero j distinct at =
+    let same : x ≡ j = cc in
+    let named : is_named j.name x ≡ true = ap (is_named j.name) same ∙ itself j in
+    ap (λ (b : Bool). cond b (Some x) (job_named j.name xs)) named ∙ ap (λ (z : JobParts). Some z) same
+found_by_name (x ∷ xs) (suc k) j distinct at =
+    let other : is_named j.name x ≡ false = apart_from x.name j.name (bytes_eq j.name x.name) refl (none_before x xs k j at distinct.0) in
+    ap (λ (b : Bool). cond b (Some x) (job_named j.name xs)) other ∙ found_by_name xs k j distinct.1 at
+
+awaited_flight : (t : List JobParts) (k : ℕ) → IsTable t → (r : RunsAt t k) → Awaits t r.job.name r.job.rules r.job.config r.job.rounds
+awaited_flight t k is r = record {
+  job = r.job;
+  there = found_by_name t k r.job is.distinct r.there;
+  running = r.running;
+  agrees = record { same_rules = refl; same_config = refl; same_rounds = refl };
+}
+
+pub due_awaited : (t : List JobParts) (after : ℕ) (f : FlightParts) → IsTable t → due t after ≡ Some f → Awaits t f.name f.rules f.config f.rounds
+due_awaited t after f is e =
+    let d = flight_due t after f e in
+    subst (λ (x : FlightParts). Awaits t x.name x.rules x.config x.rounds) d.copied (awaited_flight t d.place is d.next.runs_there)
+
+same_job : (a b : JobParts) (o : Option JobParts) → o ≡ Some a → o ≡ Some b → a ≡ b
+same_job a b o e f = let h : Some a ≡ Some b = sym e ∙ f in cc
+
+-- of one name at most one round is awaited
+pub awaited_once : (t : List JobParts) (name : List ℕ) (r q : Rules) (a b : Configuration) (m n : ℕ)
+    → Awaits t name r a m → Awaits t name q b n → (r ≡ q) × (a ≡ b) × (m ≡ n)
+awaited_once t name r q a b m n first second =
+    let same = same_job first.job second.job (job_named name t) first.there second.there in
+    let one = first.agrees in
+    let two = second.agrees in (
+      sym one.same_rules ∙ ap (λ (j : JobParts). j.rules) same ∙ two.same_rules,
+      sym one.same_config ∙ ap (λ (j : JobParts). j.config) same ∙ two.same_config,
+      sym one.same_rounds ∙ ap (λ (j : JobParts). j.rounds) same ∙ two.same_rounds,
+    )
+
+-- ---- what is awaited is the flight of a running job
+
+-- a job that a name finds has that name and a place
+record Found (t : List JobParts) (name : List ℕ) (j : JobParts) : Type 0 where
+  place : ℕ
+  there : slice_get t place ≡ Some j
+  named : j.name ≡ name
+
+found_or_later : (x : JobParts) (xs : List JobParts) (name : List ℕ) (j : JobParts) (b : Bool) → is_named name x ≡ b
+    → (job_named name xs ≡ Some j → Found xs name j) → cond b (Some x) (job_named name xs) ≡ Some j → Found (x ∷ xs) name j
+found_or_later x xs name j true is later e =
+    let same : x ≡ j = cc in
+    record {
+      place = 0;
+      there = e;
+      named = sym (ap (λ (y : JobParts). y.name) same) ∙ sym ((bytes_decides name x.name).0 is);
+    }
+found_or_later x xs name j false other later e =
+    let f = later e in record { place = suc f.place; there = f.there; named = f.named }
+
+found : (t : List JobParts) (name : List ℕ) (j : JobParts) → job_named name t ≡ Some j → Found t name j
+found [] name j e = cc
+found (x ∷ xs) name j e = found_or_later x xs name j (is_named name x) refl (found xs name j) e
+
+pub awaited_flies : (t : List JobParts) (name : List ℕ) (r : Rules) (a : Configuration) (n : ℕ) → Awaits t name r a n → HasFlight t name r a n
+awaited_flies t name r a n w =
+    let f = found t name w.job w.there in
+    record {
+      flight = flight_of f.place w.job;
+      runs = record { runs = record { job = w.job; there = f.there; running = w.running }; copied = refl };
+      same_name = f.named;
+      same_rules = w.agrees.same_rules;
+      same_config = w.agrees.same_config;
+      same_rounds = w.agrees.same_rounds;
+    }
+
+pub flies_awaited : (t : List JobParts) (name : List ℕ) (r : Rules) (a : Configuration) (n : ℕ) → IsTable t → HasFlight t name r a n → Awaits t name r a n
+flies_awaited t name r a n is h =
+    let f = h.runs in
+    let j = f.runs.job in
+    let names : j.name ≡ name = sym (ap (λ (x : FlightParts). x.name) f.copied) ∙ h.same_name in
+    record {
+      job = j;
+      there = sym (ap (λ (m : List ℕ). job_named m t) names) ∙ found_by_name t h.flight.place j is.distinct f.runs.there;
+      running = f.runs.running;
+      agrees = record {
+        same_rules = sym (ap (λ (x : FlightParts). x.rules) f.copied) ∙ h.same_rules;
+        same_config = sym (ap (λ (x : FlightParts). x.config) f.copied) ∙ h.same_config;
+        same_rounds = sym (ap (λ (x : FlightParts). x.rounds) f.copied) ∙ h.same_rounds;
+      };
+    }

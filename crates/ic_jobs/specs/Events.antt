@@ -1,5 +1,5 @@
 -- The events of a job table: commands, and rounds of its jobs.
-use Rattle.std.specs.Prelude.{ℕ, List, [], ◌∷◌, ◌++◌, Option, None, Some, is_some, length, nat_lt, if◌then◌else◌}
+use Rattle.std.specs.Prelude.{◌≡◌, ℕ, List, [], ◌∷◌, ◌++◌, Option, None, Some, is_some, length, nat_lt, if◌then◌else◌}
 use Rattle.ic_rules.specs.System.{SystemParts}
 use Rattle.ic_jobs.specs.declared.limits.TheConstants.{MAX_JOBS}
 use Rattle.ic_jobs.specs.declared.state.State.TheVariants as state
@@ -78,3 +78,9 @@ where_running what (Some j) = if is_running j.state then Some (what j) else None
 abbrev pub apply : List JobParts → Event → Option Outcome
 apply t (by_command c) = Some (after_command t c)
 apply t (Round name) = where_running (after_round t name) (job_named name t)
+
+-- An event is defined here, and this is the reply to it.
+pub record IsAnswered (t : List JobParts) (e : Event) (r : Reply) : Type 0 where
+  pub outcome : Outcome
+  pub defined : apply t e ≡ Some outcome
+  pub replied : outcome.reply ≡ r
