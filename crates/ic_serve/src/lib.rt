@@ -9,5 +9,5 @@ mod fault;
 mod stream;
 
 pub use fault::StreamFault;
-pub use stream::{once_stream, settle_stream};
 pub use ic_words::{Task, WordsFault, read_words};
+pub use stream::{once_stream, settle_stream};

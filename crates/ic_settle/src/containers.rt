@@ -127,7 +127,7 @@ fn find_outlet(
     ensures linked { IsLinked links.new }
     ensures root { (r : ℕ → ℕ) → IsRoot links.old r
         → (result ≡ outlet_at (λ y. elsewhere r place (get nat_eq places.now y)) side
-          (tree term.now))
+        (tree term.now))
         × IsRoot links.new r }
     ensures target { IfSome result (IsOutlet links.new place) }
     ensures unlinked { (e : ℕ) → slice_index links.old e ≡ e → slice_index links.new e ≡ e }
@@ -204,7 +204,7 @@ impl Containers {
         ensures places { self.new.places ≡ self.old.places }
         ensures chosen { (r : ℕ → ℕ) → IsRoot self.old.links.items r
             → IsChosen r place (get nat_eq self.old.places) (pair equation.now)
-              self.new.links.items result }
+            self.new.links.items result }
     {
         let outlet = first_outlet(&mut self.links, &self.places, equation, place)?;
         self.links[place] = outlet.target;
