@@ -17,7 +17,7 @@ pub fn bytes_of(alloc: Global, text: &[u8]) -> Result<Vec<u8>, Trouble> {
         match first {
             None => first = Some(digit),
             Some(high) => {
-                bytes.push(high.wrapping_mul(16).wrapping_add(digit) as u8)?;
+                bytes.push(u8::try_from(high.wrapping_mul(16).wrapping_add(digit)).unwrap_or(0))?;
                 first = None;
             }
         }
