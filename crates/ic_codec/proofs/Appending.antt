@@ -7,7 +7,7 @@ use Rattle.ic_term.specs.declared.term.Term.{Term}
 use Rattle.ic_term.specs.Tree.{trees_of}
 use Rattle.ic_term.specs.Term.{tree}
 use Rattle.ic_codec.specs.Terms.{tree_bytes, trees_bytes}
-use Rattle.ic_codec.specs.Room.{AreBytes, Fits, Appended, GoesOn}
+use Rattle.ic_codec.specs.inner.Room.{AreBytes, Fits, Appended, GoesOn}
 
 pub bytes_left : (xs ys : List ℕ) → AreBytes (xs ++ ys) → AreBytes xs
 bytes_left [] ys all = tt

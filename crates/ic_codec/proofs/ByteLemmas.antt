@@ -14,7 +14,7 @@ use Rattle.ic_rules.specs.RuleSet.{IsRuleOver}
 use Rattle.ic_rules.specs.FitLaws.{first_unfit-None}
 use Rattle.ic_jobs.specs.declared.state.State.{State}
 use Rattle.ic_jobs.specs.declared.state.State.TheVariants.{Running, Paused, Done, Halted}
-use Rattle.ic_jobs.specs.State.{state_number}
+use Rattle.ic_codec.specs.Headings.{state_byte, heading_bytes, heading_of}
 use Rattle.ic_jobs.specs.Job.{JobParts, IsJob}
 use Rattle.ic_jobs.specs.Table.{IsTable}
 use Rattle.ic_codec.specs.declared.headings.Heading.{Heading}
@@ -24,10 +24,9 @@ use Rattle.ic_codec.specs.Terms.{tree_bytes, trees_bytes, pair_bytes}
 use Rattle.ic_codec.specs.Symbols.{symbol_bytes, symbols_bytes}
 use Rattle.ic_codec.specs.Rules.{rule_bytes, rules_bytes}
 use Rattle.ic_codec.specs.Configurations.{configuration_bytes}
-use Rattle.ic_codec.specs.Headings.{heading_bytes, heading_of}
 use Rattle.ic_codec.specs.Jobs.{job_bytes}
 use Rattle.ic_codec.specs.Tables.{form_head, table_bytes}
-use Rattle.ic_codec.specs.Room.{AreBytes}
+use Rattle.ic_codec.specs.inner.Room.{AreBytes}
 use Rattle.ic_codec.proofs.Appending.{bytes_both}
 use Rattle.ic_codec.proofs.Sizes.{small_symbol, short_name}
 use Rattle.ic_codec.proofs.TermLemmas.{known_below}
@@ -141,7 +140,7 @@ rule_are_bytes ss few r over =
       ),
     )
 
-state_small : (s : State) → state_number s < 256
+state_small : (s : State) → state_byte s < 256
 state_small Running = omega arith
 state_small Paused = omega arith
 state_small Done = omega arith
@@ -149,7 +148,7 @@ state_small Halted = omega arith
 
 heading_are_bytes : (h : Heading) → is_job_name h.name ≡ true → AreBytes (heading_bytes h)
 heading_are_bytes h is =
-    bytes_both (text_bytes h.name) (state_number h.state ∷ (eight_bytes h.rounds ++ eight_bytes h.next))
+    bytes_both (text_bytes h.name) (state_byte h.state ∷ (eight_bytes h.rounds ++ eight_bytes h.next))
     (omega (arith, short_name h.name is), name_bytes h.name is)
     (state_small h.state, bytes_both (eight_bytes h.rounds) (eight_bytes h.next) (eight_are_bytes h.rounds) (eight_are_bytes h.next))
 

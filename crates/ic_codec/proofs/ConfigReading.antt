@@ -7,9 +7,10 @@ use Rattle.ic_term.specs.Symbol.{Symbol, is_pair_over, is_over}
 use Rattle.ic_term.specs.Configuration.{Configuration, IsConfiguration, restored, is_within, unless_third, third_occurrence, configuration_names}
 use Rattle.ic_term.specs.declared.config.ConfigFault.TheVariants.{Limit}
 use Rattle.ic_codec.specs.Numbers.{two_bytes}
-use Rattle.ic_codec.specs.Terms.{tree_bytes, pair_bytes, HasBytes, HasPairBytes}
+use Rattle.ic_codec.specs.Terms.{tree_bytes, pair_bytes}
+use Rattle.ic_codec.specs.inner.Forms.{HasBytes, HasPairBytes}
 use Rattle.ic_codec.specs.Configurations.{configuration_bytes}
-use Rattle.ic_codec.specs.Fronts.{BeginsWithTree, BeginsWithNoTree, BeginsWithTrees, BeginsWithNoTrees, BeginsWith, BeginsWithNone, BeginsWithNoOne, BeginsWithMany, BeginsWithNoMany, IsConfigurationOver}
+use Rattle.ic_codec.specs.inner.Fronts.{BeginsWithTree, BeginsWithNoTree, BeginsWithTrees, BeginsWithNoTrees, BeginsWith, BeginsWithNone, BeginsWithNoOne, BeginsWithMany, BeginsWithNoMany, IsConfigurationOver}
 use Rattle.ic_codec.proofs.NumberLemmas.{length-two_bytes}
 use Rattle.ic_codec.proofs.Items.{items_front}
 use Rattle.ic_codec.proofs.Unique.{two_front, tree_tells, pair_tells, interface_has, equations_have, equations_few, configuration_spread}

@@ -4,12 +4,12 @@ use Rattle.std.proofs.lemmas.List.{length-append}
 use Rattle.ic_rules.specs.JobName.{is_job_name}
 use Rattle.ic_jobs.specs.declared.state.State.{State}
 use Rattle.ic_jobs.specs.declared.state.State.TheVariants.{Running, Paused, Done, Halted}
-use Rattle.ic_jobs.specs.State.{state_number}
+use Rattle.ic_codec.specs.Headings.{state_byte, heading_bytes}
 use Rattle.ic_codec.specs.declared.headings.Heading.{Heading}
 use Rattle.ic_codec.specs.Numbers.{eight_bytes}
 use Rattle.ic_codec.specs.Texts.{text_bytes}
-use Rattle.ic_codec.specs.Headings.{heading_bytes, HasHeadingBytes}
-use Rattle.ic_codec.specs.Fronts.{BeginsWithNone}
+use Rattle.ic_codec.specs.inner.Forms.{HasHeadingBytes}
+use Rattle.ic_codec.specs.inner.Fronts.{BeginsWithNone}
 use Rattle.ic_codec.proofs.NumberLemmas.{fronts, length-eight_bytes}
 use Rattle.ic_codec.proofs.Unique.{text_front, heading_spread}
 
@@ -21,16 +21,16 @@ no_text bytes rest count read short text behind e =
     let tails : rest ≡ text ++ behind = cc in
     omega (arith, ap length tails, length-append text behind)
 
-pub state_few : (s : State) → state_number s ≤ 3
+pub state_few : (s : State) → state_byte s ≤ 3
 state_few Running = omega arith
 state_few Paused = omega arith
 state_few Done = omega arith
 state_few Halted = omega arith
 
-pub no_state : (bytes rest : List ℕ) (byte : ℕ) → bytes ≡ byte ∷ rest → 3 < byte → (s : State) (behind : List ℕ) → bytes ≢ state_number s ∷ behind
+pub no_state : (bytes rest : List ℕ) (byte : ℕ) → bytes ≡ byte ∷ rest → 3 < byte → (s : State) (behind : List ℕ) → bytes ≢ state_byte s ∷ behind
 no_state bytes rest byte read big s behind e =
-    let same : byte ∷ rest ≡ state_number s ∷ behind = sym read ∙ e in
-    let bytes_same : byte ≡ state_number s = cc in
+    let same : byte ∷ rest ≡ state_byte s ∷ behind = sym read ∙ e in
+    let bytes_same : byte ≡ state_byte s = cc in
     omega (arith, state_few s)
 
 abbrev pub behind_rounds : Heading → List ℕ → List ℕ
@@ -40,40 +40,40 @@ abbrev pub behind_state : Heading → List ℕ → List ℕ
 behind_state h rest = eight_bytes h.rounds ++ behind_rounds h rest
 
 pub none_name : (bytes : List ℕ) → ((text rest : List ℕ) → bytes ≢ text_bytes text ++ rest) → BeginsWithNone HasHeadingBytes heading_bytes bytes
-none_name bytes none h rest has e = none h.name (state_number h.state ∷ behind_state h rest) (e ∙ heading_spread h rest)
+none_name bytes none h rest has e = none h.name (state_byte h.state ∷ behind_state h rest) (e ∙ heading_spread h rest)
 
 pub none_such_name : (bytes text b : List ℕ) → bytes ≡ text_bytes text ++ b → (is_job_name text ≡ true → ⊥) → BeginsWithNone HasHeadingBytes heading_bytes bytes
 none_such_name bytes text b read not h rest has e =
-    let same = (text_front text h.name b (state_number h.state ∷ behind_state h rest) (sym read ∙ e ∙ heading_spread h rest)).0 in
+    let same = (text_front text h.name b (state_byte h.state ∷ behind_state h rest) (sym read ∙ e ∙ heading_spread h rest)).0 in
     not (ap is_job_name same ∙ has.name)
 
-name_first : (bytes name b : List ℕ) (h : Heading) (rest : List ℕ) → bytes ≡ text_bytes name ++ b → bytes ≡ heading_bytes h ++ rest → b ≡ state_number h.state ∷ behind_state h rest
-name_first bytes name b h rest read e = (text_front name h.name b (state_number h.state ∷ behind_state h rest) (sym read ∙ e ∙ heading_spread h rest)).1
+name_first : (bytes name b : List ℕ) (h : Heading) (rest : List ℕ) → bytes ≡ text_bytes name ++ b → bytes ≡ heading_bytes h ++ rest → b ≡ state_byte h.state ∷ behind_state h rest
+name_first bytes name b h rest read e = (text_front name h.name b (state_byte h.state ∷ behind_state h rest) (sym read ∙ e ∙ heading_spread h rest)).1
 
-pub none_state : (bytes name b : List ℕ) → bytes ≡ text_bytes name ++ b → ((s : State) (rest : List ℕ) → b ≢ state_number s ∷ rest)
+pub none_state : (bytes name b : List ℕ) → bytes ≡ text_bytes name ++ b → ((s : State) (rest : List ℕ) → b ≢ state_byte s ∷ rest)
     → BeginsWithNone HasHeadingBytes heading_bytes bytes
 none_state bytes name b read none h rest has e = none h.state (behind_state h rest) (name_first bytes name b h rest read e)
 
-state_next : (bytes name b : List ℕ) (s : State) (c : List ℕ) (h : Heading) (rest : List ℕ) → bytes ≡ text_bytes name ++ b → b ≡ state_number s ∷ c
+state_next : (bytes name b : List ℕ) (s : State) (c : List ℕ) (h : Heading) (rest : List ℕ) → bytes ≡ text_bytes name ++ b → b ≡ state_byte s ∷ c
     → bytes ≡ heading_bytes h ++ rest → c ≡ behind_state h rest
 state_next bytes name b s c h rest read behind e =
-    let same : state_number s ∷ c ≡ state_number h.state ∷ behind_state h rest = sym behind ∙ name_first bytes name b h rest read e in
+    let same : state_byte s ∷ c ≡ state_byte h.state ∷ behind_state h rest = sym behind ∙ name_first bytes name b h rest read e in
     cc (same)
 
-pub none_rounds : (bytes name b : List ℕ) (s : State) (c : List ℕ) → bytes ≡ text_bytes name ++ b → b ≡ state_number s ∷ c → length c < 8
+pub none_rounds : (bytes name b : List ℕ) (s : State) (c : List ℕ) → bytes ≡ text_bytes name ++ b → b ≡ state_byte s ∷ c → length c < 8
     → BeginsWithNone HasHeadingBytes heading_bytes bytes
 none_rounds bytes name b s c read behind short h rest has e =
     omega (arith, ap length (state_next bytes name b s c h rest read behind e), length-append (eight_bytes h.rounds) (behind_rounds h rest), length-eight_bytes h.rounds)
 
-pub none_next : (bytes name b : List ℕ) (s : State) (c : List ℕ) (rounds : ℕ) (d : List ℕ) → bytes ≡ text_bytes name ++ b → b ≡ state_number s ∷ c
+pub none_next : (bytes name b : List ℕ) (s : State) (c : List ℕ) (rounds : ℕ) (d : List ℕ) → bytes ≡ text_bytes name ++ b → b ≡ state_byte s ∷ c
     → c ≡ eight_bytes rounds ++ d → length d < 8 → BeginsWithNone HasHeadingBytes heading_bytes bytes
 none_next bytes name b s c rounds d read behind further short h rest has e =
     let same = sym further ∙ state_next bytes name b s c h rest read behind e in
     let last = (fronts (eight_bytes rounds) (eight_bytes h.rounds) d (behind_rounds h rest) (length-eight_bytes rounds ∙ sym (length-eight_bytes h.rounds)) same).1 in
     omega (arith, ap length last, length-append (eight_bytes h.next) rest, length-eight_bytes h.next)
 
-pub heading_parts : (h : Heading) (bytes b c d rest : List ℕ) → bytes ≡ text_bytes h.name ++ b → b ≡ state_number h.state ∷ c → c ≡ eight_bytes h.rounds ++ d
+pub heading_parts : (h : Heading) (bytes b c d rest : List ℕ) → bytes ≡ text_bytes h.name ++ b → b ≡ state_byte h.state ∷ c → c ≡ eight_bytes h.rounds ++ d
     → d ≡ eight_bytes h.next ++ rest → bytes ≡ heading_bytes h ++ rest
 heading_parts h bytes b c d rest e f g k =
-    e ∙ ap (λ (bs : List ℕ). text_bytes h.name ++ bs) (f ∙ ap (λ (bs : List ℕ). state_number h.state ∷ bs) (g ∙ ap (λ (bs : List ℕ). eight_bytes h.rounds ++ bs) k))
+    e ∙ ap (λ (bs : List ℕ). text_bytes h.name ++ bs) (f ∙ ap (λ (bs : List ℕ). state_byte h.state ∷ bs) (g ∙ ap (λ (bs : List ℕ). eight_bytes h.rounds ++ bs) k))
     ∙ sym (heading_spread h rest)

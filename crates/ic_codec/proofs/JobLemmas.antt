@@ -9,10 +9,11 @@ use Rattle.ic_codec.specs.declared.headings.Heading.{Heading}
 use Rattle.ic_codec.specs.Symbols.{symbols_bytes}
 use Rattle.ic_codec.specs.Rules.{rules_bytes}
 use Rattle.ic_codec.specs.Configurations.{configuration_bytes}
-use Rattle.ic_codec.specs.Headings.{heading_bytes, heading_of, HasHeadingBytes}
+use Rattle.ic_codec.specs.Headings.{heading_bytes, heading_of}
+use Rattle.ic_codec.specs.inner.Forms.{HasHeadingBytes}
 use Rattle.ic_codec.specs.Jobs.{job_bytes}
 use Rattle.ic_codec.specs.Tables.{table_bytes}
-use Rattle.ic_codec.specs.Fronts.{IsRuleSetOver, IsConfigurationOver}
+use Rattle.ic_codec.specs.inner.Fronts.{IsRuleSetOver, IsConfigurationOver}
 use Rattle.ic_codec.proofs.Items.{Tells, items_front}
 use Rattle.ic_codec.proofs.Unique.{heading_tells, symbols_front, set_tells, configuration_tells}
 

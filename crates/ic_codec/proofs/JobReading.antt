@@ -7,9 +7,10 @@ use Rattle.ic_jobs.specs.Job.{JobParts, IsJob}
 use Rattle.ic_codec.specs.declared.headings.Heading.{Heading}
 use Rattle.ic_codec.specs.Symbols.{symbols_bytes}
 use Rattle.ic_codec.specs.Configurations.{configuration_bytes}
-use Rattle.ic_codec.specs.Headings.{heading_bytes, heading_of, HasHeadingBytes}
+use Rattle.ic_codec.specs.Headings.{heading_bytes, heading_of}
+use Rattle.ic_codec.specs.inner.Forms.{HasHeadingBytes}
 use Rattle.ic_codec.specs.Jobs.{job_bytes}
-use Rattle.ic_codec.specs.Fronts.{BeginsWith, BeginsWithNone, IsRuleSetOver, set_bytes, IsConfigurationOver}
+use Rattle.ic_codec.specs.inner.Fronts.{BeginsWith, BeginsWithNone, IsRuleSetOver, set_bytes, IsConfigurationOver}
 use Rattle.ic_codec.proofs.Unique.{symbols_front, set_tells, configuration_tells}
 use Rattle.ic_codec.proofs.JobLemmas.{behind_heading, behind_symbols, behind_rules, job_spread, heading_has, heading_first, set_of, config_of}
 

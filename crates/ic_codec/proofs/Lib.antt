@@ -14,3 +14,4 @@ pub mod RuleReading
 pub mod ConfigReading
 pub mod JobReading
 pub mod TableReading
+pub mod WorkedLemmas

@@ -11,9 +11,10 @@ use Rattle.ic_rules.specs.RuleSet.{Rules, IsRuleSet, built}
 use Rattle.ic_rules.specs.Refusals.{IsTaken}
 use Rattle.ic_rules.specs.NumberingLaws.{map-numbered-same}
 use Rattle.ic_codec.specs.Numbers.{two_bytes}
-use Rattle.ic_codec.specs.Terms.{tree_bytes, HasBytes}
-use Rattle.ic_codec.specs.Rules.{rule_bytes, HasRuleBytes}
-use Rattle.ic_codec.specs.Fronts.{BeginsWithTrees, BeginsWithNoTrees, BeginsWith, BeginsWithNone, BeginsWithOne, BeginsWithNoOne, BeginsWithMany, BeginsWithNoMany, IsRuleSetOver, set_bytes}
+use Rattle.ic_codec.specs.Terms.{tree_bytes}
+use Rattle.ic_codec.specs.inner.Forms.{HasBytes, HasRuleBytes}
+use Rattle.ic_codec.specs.Rules.{rule_bytes}
+use Rattle.ic_codec.specs.inner.Fronts.{BeginsWithTrees, BeginsWithNoTrees, BeginsWith, BeginsWithNone, BeginsWithOne, BeginsWithNoOne, BeginsWithMany, BeginsWithNoMany, IsRuleSetOver, set_bytes}
 use Rattle.ic_codec.proofs.NumberLemmas.{length-two_bytes}
 use Rattle.ic_codec.proofs.TermLemmas.{one_arity}
 use Rattle.ic_codec.proofs.TermReading.{arity_known}

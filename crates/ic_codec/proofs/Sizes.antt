@@ -11,7 +11,7 @@ use Rattle.ic_term.specs.Configuration.{Configuration, IsConfiguration}
 use Rattle.ic_rules.specs.JobName.{is_job_name}
 use Rattle.ic_rules.specs.Rule.{Rule, rule_nodes}
 use Rattle.ic_rules.specs.RuleSet.{are_few}
-use Rattle.ic_jobs.specs.State.{state_number}
+use Rattle.ic_codec.specs.Headings.{state_byte, heading_bytes, heading_of}
 use Rattle.ic_jobs.specs.Job.{JobParts, IsJob}
 use Rattle.ic_jobs.specs.Table.{IsTable}
 use Rattle.ic_codec.specs.declared.headings.Heading.{Heading}
@@ -21,7 +21,6 @@ use Rattle.ic_codec.specs.Terms.{tree_bytes, trees_bytes, pair_bytes}
 use Rattle.ic_codec.specs.Symbols.{symbol_bytes, symbols_bytes}
 use Rattle.ic_codec.specs.Rules.{rule_bytes, rules_bytes}
 use Rattle.ic_codec.specs.Configurations.{configuration_bytes}
-use Rattle.ic_codec.specs.Headings.{heading_bytes, heading_of}
 use Rattle.ic_codec.specs.Jobs.{job_bytes}
 use Rattle.ic_codec.specs.Tables.{table_bytes}
 use Rattle.ic_codec.proofs.NumberLemmas.{length-two_bytes, length-eight_bytes}
@@ -88,7 +87,7 @@ heading_length h is =
       length-eight_bytes h.rounds,
       length-eight_bytes h.next,
       length-append (eight_bytes h.rounds) (eight_bytes h.next),
-      length-append (text_bytes h.name) (state_number h.state ∷ numbers),
+      length-append (text_bytes h.name) (state_byte h.state ∷ numbers),
     )
 
 -- there are no more equations than nodes

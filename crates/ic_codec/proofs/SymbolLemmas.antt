@@ -4,7 +4,7 @@ use Rattle.std.specs.Prelude.{Vec, slice_get}
 use Rattle.std.specs.List.{flat_map}
 use Rattle.ic_term.specs.Symbol.{Symbol}
 use Rattle.ic_codec.specs.Symbols.{symbol_bytes}
-use Rattle.ic_codec.specs.Room.{Fits, Appended, GoesOn}
+use Rattle.ic_codec.specs.inner.Room.{Fits, Appended, GoesOn}
 use Rattle.ic_codec.proofs.Appending.{left_fits, goes_on}
 
 -- the symbol of a number, and those behind it

@@ -6,7 +6,7 @@ use Rattle.ic_term.specs.Symbol.{Symbol, AreSymbols, numbered, number_found, num
 use Rattle.ic_term.specs.declared.symbols.SymbolFault.TheVariants.{Limit, Arity}
 use Rattle.ic_codec.specs.Texts.{text_bytes}
 use Rattle.ic_codec.specs.Symbols.{symbol_bytes, symbols_bytes}
-use Rattle.ic_codec.specs.Fronts.{BeginsWith, BeginsWithNone}
+use Rattle.ic_codec.specs.inner.Fronts.{BeginsWith, BeginsWithNone}
 use Rattle.ic_codec.proofs.TermLemmas.{known_below}
 use Rattle.ic_codec.proofs.Items.{items_split, flat_map-push}
 use Rattle.ic_codec.proofs.Unique.{AnySymbol, any_symbols, symbol_tells, text_front}

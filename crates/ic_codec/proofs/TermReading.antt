@@ -10,8 +10,9 @@ use Rattle.std.proofs.lemmas.List.Sums.{sum_by-cons, sum_by_push}
 use Rattle.ic_term.specs.Tree.{Tree, name, agent, Trees, no_trees, more_trees, names, names_of, nodes, nodes_of, list_of, trees_of}
 use Rattle.ic_term.specs.Symbol.{Symbol, has_arity, symbol_arity, is_tree_over, are_trees_over}
 use Rattle.ic_codec.specs.Numbers.{eight_bytes}
-use Rattle.ic_codec.specs.Terms.{tree_bytes, trees_bytes, HasBytes}
-use Rattle.ic_codec.specs.Fronts.{BeginsWithTree, BeginsWithNoTree, BeginsWithTrees, BeginsWithNoTrees}
+use Rattle.ic_codec.specs.Terms.{tree_bytes, trees_bytes}
+use Rattle.ic_codec.specs.inner.Forms.{HasBytes}
+use Rattle.ic_codec.specs.inner.Fronts.{BeginsWithTree, BeginsWithNoTree, BeginsWithTrees, BeginsWithNoTrees}
 use Rattle.ic_codec.proofs.NumberLemmas.{length-eight_bytes}
 use Rattle.ic_codec.proofs.TermLemmas.{tree_front, known_below, one_arity}
 

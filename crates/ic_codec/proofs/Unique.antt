@@ -15,16 +15,18 @@ use Rattle.ic_rules.specs.RuleSet.{Rules, IsRuleSet, IsRuleOver}
 use Rattle.ic_rules.specs.FitLaws.{first_unfit-None}
 use Rattle.ic_rules.specs.NumberingLaws.{Among, each_among, length-range}
 use Rattle.ic_jobs.specs.declared.state.State.{State}
-use Rattle.ic_jobs.specs.State.{state_number, state_numbered, state_numbered-number}
+use Rattle.ic_jobs.specs.declared.state.State.TheVariants.{Running, Paused, Done, Halted}
+use Rattle.ic_jobs.specs.State.{state_numbered}
+use Rattle.ic_codec.specs.Headings.{state_byte, heading_bytes}
 use Rattle.ic_codec.specs.declared.headings.Heading.{Heading}
 use Rattle.ic_codec.specs.Numbers.{two_bytes, eight_bytes}
 use Rattle.ic_codec.specs.Texts.{text_bytes}
-use Rattle.ic_codec.specs.Terms.{tree_bytes, pair_bytes, HasBytes, HasPairBytes}
+use Rattle.ic_codec.specs.Terms.{tree_bytes, pair_bytes}
+use Rattle.ic_codec.specs.inner.Forms.{HasBytes, HasPairBytes, HasRuleBytes, HasHeadingBytes}
 use Rattle.ic_codec.specs.Symbols.{symbol_bytes, symbols_bytes}
-use Rattle.ic_codec.specs.Rules.{rule_bytes, rules_bytes, HasRuleBytes}
+use Rattle.ic_codec.specs.Rules.{rule_bytes, rules_bytes}
 use Rattle.ic_codec.specs.Configurations.{configuration_bytes}
-use Rattle.ic_codec.specs.Headings.{heading_bytes, HasHeadingBytes}
-use Rattle.ic_codec.specs.Fronts.{IsConfigurationOver, IsRuleSetOver, set_bytes}
+use Rattle.ic_codec.specs.inner.Fronts.{IsConfigurationOver, IsRuleSetOver, set_bytes}
 use Rattle.ic_codec.proofs.NumberLemmas.{fronts, length-two_bytes, two_bytes-injective, length-eight_bytes, eight_bytes-injective}
 use Rattle.ic_codec.proofs.TermLemmas.{tree_front, one_arity}
 use Rattle.ic_codec.proofs.Sizes.{few_rules, pairs_few}
@@ -48,8 +50,14 @@ text_front x y a b e =
     let tails : x ++ a ≡ y ++ b = cc in
     fronts x y a b counts tails
 
-pub state_same : (s r : State) → state_number s ≡ state_number r → s ≡ r
-state_same s r e = sym (state_numbered-number s) ∙ ap state_numbered e ∙ state_numbered-number r
+byte_numbered : (s : State) → state_numbered (state_byte s) ≡ s
+byte_numbered Running = refl
+byte_numbered Paused = refl
+byte_numbered Done = refl
+byte_numbered Halted = refl
+
+pub state_same : (s r : State) → state_byte s ≡ state_byte r → s ≡ r
+state_same s r e = sym (byte_numbered s) ∙ ap state_numbered e ∙ byte_numbered r
 
 abbrev pub AnySymbol : Symbol → Type 0
 AnySymbol s = Unit {0}
@@ -76,15 +84,15 @@ symbols_front ss ts a b e =
 -- ---- headings
 
 pub heading_spread : (h : Heading) (rest : List ℕ)
-    → heading_bytes h ++ rest ≡ text_bytes h.name ++ (state_number h.state ∷ (eight_bytes h.rounds ++ (eight_bytes h.next ++ rest)))
+    → heading_bytes h ++ rest ≡ text_bytes h.name ++ (state_byte h.state ∷ (eight_bytes h.rounds ++ (eight_bytes h.next ++ rest)))
 heading_spread h rest =
-    append_assoc (text_bytes h.name) (state_number h.state ∷ (eight_bytes h.rounds ++ eight_bytes h.next)) rest
-    ∙ ap (λ (bs : List ℕ). text_bytes h.name ++ (state_number h.state ∷ bs)) (append_assoc (eight_bytes h.rounds) (eight_bytes h.next) rest)
+    append_assoc (text_bytes h.name) (state_byte h.state ∷ (eight_bytes h.rounds ++ eight_bytes h.next)) rest
+    ∙ ap (λ (bs : List ℕ). text_bytes h.name ++ (state_byte h.state ∷ bs)) (append_assoc (eight_bytes h.rounds) (eight_bytes h.next) rest)
 
 pub heading_tells : Tells HasHeadingBytes heading_bytes
 heading_tells g h a b v w e =
     let first = text_front g.name h.name _ _ (sym (heading_spread g a) ∙ e ∙ heading_spread h b) in
-    let states : state_number g.state ≡ state_number h.state = cc (first.1) in
+    let states : state_byte g.state ≡ state_byte h.state = cc (first.1) in
     let behind : eight_bytes g.rounds ++ (eight_bytes g.next ++ a) ≡ eight_bytes h.rounds ++ (eight_bytes h.next ++ b) = cc (first.1) in
     let rounds = eight_front g.rounds h.rounds (eight_bytes g.next ++ a) (eight_bytes h.next ++ b) v.rounds w.rounds behind in
     let nexts = eight_front g.next h.next a b v.next w.next rounds.1 in

@@ -7,5 +7,5 @@ pub mod Configurations
 pub mod Headings
 pub mod Jobs
 pub mod Tables
-pub mod Fronts
-pub mod Room
+pub mod Worked
+pub mod inner

@@ -1,9 +1,7 @@
 -- Rules as bytes (this project's choice).
-use Rattle.std.specs.Prelude.{ℕ, ◌<◌, ◌^◌, List, ◌∷◌, ◌++◌, length}
-use Rattle.std.specs.List.{flat_map, AllByRecursion}
-use Rattle.ic_term.specs.Symbol.{Symbol}
-use Rattle.ic_rules.specs.Rule.{Rule, rule_names, IsNumbered}
-use Rattle.ic_rules.specs.RuleSet.{IsRuleOver}
+use Rattle.std.specs.Prelude.{ℕ, List, ◌∷◌, ◌++◌, length}
+use Rattle.std.specs.List.{flat_map}
+use Rattle.ic_rules.specs.Rule.{Rule}
 use Rattle.ic_codec.specs.Numbers.{two_bytes}
 use Rattle.ic_codec.specs.Terms.{tree_bytes}
 
@@ -15,10 +13,3 @@ rule_bytes r =
 -- rules are their number in two bytes, then each of them in order
 abbrev pub rules_bytes : List Rule → List ℕ
 rules_bytes rs = two_bytes (length rs) ++ flat_map rule_bytes rs
-
--- A rule that has bytes: its agents are known, with as many arguments as their arities, and its names
--- are numbered and fit in eight bytes.
-pub record HasRuleBytes (ss : List Symbol) (r : Rule) : Type 0 where
-  pub over : IsRuleOver ss r
-  pub names : AllByRecursion (λ n. n < 2 ^ 64) (rule_names r)
-  pub in_order : IsNumbered r

@@ -1,9 +1,9 @@
 ghost use Rattle.std.specs.Prelude.{◌≡◌, ◌≢◌, ◌≤◌, Ok, length, map, IfOk, IfErr};
 ghost use Rattle.ic_term.specs.Configuration.{Configuration, restored};
 ghost use Rattle.ic_term.specs.Term.{tree, pair};
-ghost use Rattle.ic_codec.specs.Fronts.{BeginsWith, BeginsWithNone, IsConfigurationOver};
+ghost use Rattle.ic_codec.specs.inner.Fronts.{BeginsWith, BeginsWithNone, IsConfigurationOver};
 ghost use Rattle.ic_codec.specs.declared.fault.CodecFault.TheVariants.{NotATable};
-ghost use Rattle.ic_codec.specs.Room.{Fits, Appended};
+ghost use Rattle.ic_codec.specs.inner.Room.{Fits, Appended};
 ghost use Rattle.ic_codec.specs.Configurations.{configuration_bytes};
 
 use crate::fault::CodecFault;

@@ -1,9 +1,9 @@
 ghost use Rattle.std.specs.Prelude.{◌≡◌, ◌≤◌, IfOk, IfErr};
 ghost use Rattle.std.specs.List.{flat_map};
-ghost use Rattle.ic_codec.specs.Room.{Fits, Appended};
+ghost use Rattle.ic_codec.specs.inner.Room.{Fits, Appended};
 ghost use Rattle.ic_codec.specs.Jobs.{job_bytes};
 ghost use Rattle.ic_jobs.specs.Job.{IsJob};
-ghost use Rattle.ic_codec.specs.Fronts.{BeginsWith, BeginsWithNone, BeginsWithMany, BeginsWithNoMany, uncounted};
+ghost use Rattle.ic_codec.specs.inner.Fronts.{BeginsWith, BeginsWithNone, BeginsWithMany, BeginsWithNoMany, uncounted};
 ghost use Rattle.ic_codec.specs.declared.fault.CodecFault.TheVariants.{NotATable};
 
 use crate::configs::{config_at, put_config};

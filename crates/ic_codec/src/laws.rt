@@ -4,7 +4,11 @@ ghost use Rattle.std.specs.Prelude.{◌≡◌, ◌≤◌, ◌<◌, ◌++◌, ℕ
 ghost use Rattle.std.specs.List.{AllByRecursion};
 ghost use Rattle.ic_jobs.specs.Job.{JobParts};
 ghost use Rattle.ic_jobs.specs.Table.{IsTable};
+ghost use Rattle.ic_jobs.specs.declared.state.State.TheVariants.{Running, Paused, Done, Halted};
+ghost use Rattle.ic_codec.specs.Numbers.{two_bytes, eight_bytes};
+ghost use Rattle.ic_codec.specs.Headings.{state_byte};
 ghost use Rattle.ic_codec.specs.Tables.{table_bytes};
+ghost use Rattle.ic_codec.specs.Worked.{one_plus_one, one_plus_one_done, submitted_by_hand, done_by_hand};
 ghost use Rattle.ic_codec.specs.declared.tables.TheConstants.{MAX_BYTES};
 
 /// Two tables with the same bytes are the same table, and no table's bytes are the beginning of
@@ -34,4 +38,23 @@ pub fn forms_are_bytes()
 /// The empty table is the head of the form, and no jobs.
 pub fn the_empty_table_is_five_bytes()
     ensures { table_bytes [] ≡ 73 ∷ 67 ∷ 84 ∷ 49 ∷ 0 ∷ [] }
+{}
+
+/// Numbers have their highest byte first, and each state has its byte.
+pub fn numbers_and_states_are()
+    ensures two { two_bytes 0x0102 ≡ 1 ∷ 2 ∷ [] }
+    ensures eight { eight_bytes 0x0102030405060708
+        ≡ 1 ∷ 2 ∷ 3 ∷ 4 ∷ 5 ∷ 6 ∷ 7 ∷ 8 ∷ [] }
+    ensures running { state_byte Running ≡ 0 }
+    ensures paused { state_byte Paused ≡ 1 }
+    ensures done { state_byte Done ≡ 2 }
+    ensures halted { state_byte Halted ≡ 3 }
+{}
+
+/// The fields and their order, by a table of one job whose bytes are written by hand: as it is
+/// submitted, and after its two rounds.
+pub fn a_table_by_hand()
+    ensures submitted { table_bytes (one_plus_one ∷ []) ≡ submitted_by_hand }
+    ensures done { table_bytes (one_plus_one_done ∷ []) ≡ done_by_hand }
+    ensures lengths { (length submitted_by_hand ≡ 126) × (length done_by_hand ≡ 106) }
 {}

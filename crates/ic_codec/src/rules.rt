@@ -2,11 +2,12 @@ ghost use Rattle.std.specs.Prelude.{◌≡◌, ◌≢◌, ◌≤◌, ◌<◌, �
 ghost use Rattle.ic_rules.specs.Rule.{rule_nodes};
 ghost use Rattle.ic_rules.specs.RuleSet.{Rules, built};
 ghost use Rattle.ic_rules.specs.Written.{written};
-ghost use Rattle.ic_codec.specs.Fronts.{BeginsWithOne, BeginsWithNoOne, BeginsWithMany, BeginsWithNoMany, BeginsWith, BeginsWithNone, IsRuleSetOver, set_bytes};
+ghost use Rattle.ic_codec.specs.inner.Fronts.{BeginsWithOne, BeginsWithNoOne, BeginsWithMany, BeginsWithNoMany, BeginsWith, BeginsWithNone, IsRuleSetOver, set_bytes};
 ghost use Rattle.ic_codec.specs.declared.fault.CodecFault.TheVariants.{NotATable};
 ghost use Rattle.std.specs.List.{flat_map};
-ghost use Rattle.ic_codec.specs.Room.{Fits, Appended};
-ghost use Rattle.ic_codec.specs.Rules.{rule_bytes, rules_bytes, HasRuleBytes};
+ghost use Rattle.ic_codec.specs.inner.Room.{Fits, Appended};
+ghost use Rattle.ic_codec.specs.Rules.{rule_bytes, rules_bytes};
+ghost use Rattle.ic_codec.specs.inner.Forms.{HasRuleBytes};
 
 use crate::fault::CodecFault;
 use crate::fields::{byte_at, put_byte, put_two_bytes, two_bytes_at};

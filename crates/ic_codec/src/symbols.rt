@@ -1,9 +1,9 @@
 ghost use Rattle.std.specs.Prelude.{◌≡◌, ◌≢◌, ◌<◌, ◌∷◌, ◌++◌, [], ℕ, List, length, slice_get, IfSome, IfOk, IfErr, OnOk};
 ghost use Rattle.std.specs.List.{flat_map};
 ghost use Rattle.ic_term.specs.Symbol.{Symbol, AreSymbols};
-ghost use Rattle.ic_codec.specs.Fronts.{BeginsWith, BeginsWithNone};
+ghost use Rattle.ic_codec.specs.inner.Fronts.{BeginsWith, BeginsWithNone};
 ghost use Rattle.ic_codec.specs.declared.fault.CodecFault.TheVariants.{NotATable};
-ghost use Rattle.ic_codec.specs.Room.{Fits, Appended};
+ghost use Rattle.ic_codec.specs.inner.Room.{Fits, Appended};
 ghost use Rattle.ic_codec.specs.Symbols.{symbol_bytes, symbols_bytes};
 
 use crate::fault::CodecFault;

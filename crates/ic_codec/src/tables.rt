@@ -3,7 +3,7 @@ ghost use Rattle.ic_jobs.specs.Job.{JobParts};
 ghost use Rattle.ic_jobs.specs.Table.{IsTable};
 ghost use Rattle.ic_codec.specs.declared.fault.CodecFault.TheVariants.{NotATable};
 ghost use Rattle.ic_codec.specs.Tables.{form_head, table_bytes};
-ghost use Rattle.ic_codec.specs.Room.{Fits, Appended};
+ghost use Rattle.ic_codec.specs.inner.Room.{Fits, Appended};
 
 use crate::fault::CodecFault;
 use crate::fields::{byte_at, put_byte};

@@ -2,11 +2,11 @@ ghost use Rattle.std.specs.Prelude.{◌≡◌, ◌≤◌, ℕ, IfOk, IfErr, leng
 ghost use Rattle.std.specs.List.{flat_map};
 ghost use Rattle.ic_term.specs.Tree.{agent, trees_of};
 ghost use Rattle.ic_term.specs.Term.{tree, cell_tree, pair};
-ghost use Rattle.ic_codec.specs.Room.{Fits, Appended};
-ghost use Rattle.ic_codec.specs.Terms.{tree_bytes, pair_bytes, HasPairBytes};
+ghost use Rattle.ic_codec.specs.inner.Room.{Fits, Appended};
+ghost use Rattle.ic_codec.specs.Terms.{tree_bytes, pair_bytes};
+ghost use Rattle.ic_codec.specs.inner.Forms.{HasPairBytes};
 ghost use Rattle.ic_term.specs.Tree.{pair_nodes};
-ghost use Rattle.ic_codec.specs.Fronts.{BeginsWithOne, BeginsWithNoOne, BeginsWithMany, BeginsWithNoMany};
-ghost use Rattle.ic_codec.specs.Fronts.{BeginsWithTree, BeginsWithNoTree, BeginsWithTrees, BeginsWithNoTrees};
+ghost use Rattle.ic_codec.specs.inner.Fronts.{BeginsWithOne, BeginsWithNoOne, BeginsWithMany, BeginsWithNoMany, BeginsWithTree, BeginsWithNoTree, BeginsWithTrees, BeginsWithNoTrees};
 ghost use Rattle.ic_codec.specs.declared.fault.CodecFault.TheVariants.{NotATable};
 
 use crate::fault::CodecFault;

@@ -5,7 +5,7 @@ use Rattle.ic_term.specs.Tree.{Pair}
 use Rattle.ic_term.specs.Term.{tree, pair}
 use Rattle.ic_codec.specs.Numbers.{two_bytes}
 use Rattle.ic_codec.specs.Terms.{tree_bytes, pair_bytes}
-use Rattle.ic_codec.specs.Room.{Fits}
+use Rattle.ic_codec.specs.inner.Room.{Fits}
 use Rattle.ic_codec.proofs.Sizes.{pairs_few}
 use Rattle.ic_codec.proofs.Appending.{first_fits, rest_fits}
 use Rattle.ic_codec.proofs.configs.put_config.Goals as goal

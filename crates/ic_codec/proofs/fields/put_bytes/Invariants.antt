@@ -1,5 +1,5 @@
 use Rattle.std.proofs.Common.{drop}
-use Rattle.ic_codec.specs.Room.{GoesOn}
+use Rattle.ic_codec.specs.inner.Room.{GoesOn}
 use Rattle.ic_codec.proofs.fields.put_bytes.Given as goal
 
 -- the bytes behind these are left

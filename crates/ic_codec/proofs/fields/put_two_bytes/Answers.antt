@@ -1,6 +1,6 @@
 use Rattle.std.proofs.Common.{List, ℕ, sym, subst}
 use Rattle.ic_codec.specs.Numbers.{two_bytes}
-use Rattle.ic_codec.specs.Room.{Fits, Appended}
+use Rattle.ic_codec.specs.inner.Room.{Fits, Appended}
 use Rattle.ic_codec.proofs.fields.put_two_bytes.Goals as goal
 
 pub put_bytes-requires : goal.put_bytes-requires

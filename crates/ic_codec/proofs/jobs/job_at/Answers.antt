@@ -3,7 +3,7 @@ use Rattle.std.proofs.lemmas.Bool.{false≢true}
 use Rattle.ic_rules.specs.RuleSet.{Rules}
 use Rattle.ic_jobs.specs.Job.{JobParts, IsJob}
 use Rattle.ic_codec.specs.Jobs.{job_bytes}
-use Rattle.ic_codec.specs.Fronts.{BeginsWith}
+use Rattle.ic_codec.specs.inner.Fronts.{BeginsWith}
 use Rattle.ic_codec.proofs.JobReading.{job_none_heading, job_none_symbols, job_none_rules, job_none_config, job_none_job, job_of, job_begins}
 use Rattle.ic_codec.proofs.jobs.job_at.Goals as goal
 

@@ -1,6 +1,6 @@
 use Rattle.ic_jobs.specs.Job.{IsJob}
 use Rattle.ic_codec.specs.Jobs.{job_bytes}
-use Rattle.ic_codec.specs.Fronts.{BeginsWithMany, uncounted}
+use Rattle.ic_codec.specs.inner.Fronts.{BeginsWithMany, uncounted}
 use Rattle.ic_codec.proofs.jobs.jobs_at.Given as goal
 
 -- so many jobs have been read

@@ -1,6 +1,6 @@
 use Rattle.std.proofs.Common.{drop}
 use Rattle.std.specs.List.{flat_map}
-use Rattle.ic_codec.specs.Room.{GoesOn}
+use Rattle.ic_codec.specs.inner.Room.{GoesOn}
 use Rattle.ic_codec.specs.Jobs.{job_bytes}
 use Rattle.ic_codec.proofs.jobs.put_jobs.Given as goal
 

@@ -2,7 +2,7 @@ use Rattle.std.proofs.Common.{List, ◌∷◌, ◌++◌, [], ap, sym, subst}
 use Rattle.std.specs.List.{flat_map}
 use Rattle.ic_term.specs.Tree.{Tree}
 use Rattle.ic_codec.specs.Terms.{tree_bytes}
-use Rattle.ic_codec.specs.Room.{Fits}
+use Rattle.ic_codec.specs.inner.Room.{Fits}
 use Rattle.ic_codec.proofs.Appending.{rest_fits}
 use Rattle.ic_codec.proofs.rules.put_rule.Goals as goal
 

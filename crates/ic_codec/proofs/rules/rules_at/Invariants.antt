@@ -1,8 +1,9 @@
 use Rattle.std.proofs.Common.{map}
 use Rattle.ic_rules.specs.Written.{written}
 use Rattle.ic_rules.specs.Rule.{rule_nodes}
-use Rattle.ic_codec.specs.Rules.{rule_bytes, HasRuleBytes}
-use Rattle.ic_codec.specs.Fronts.{BeginsWithMany}
+use Rattle.ic_codec.specs.Rules.{rule_bytes}
+use Rattle.ic_codec.specs.inner.Forms.{HasRuleBytes}
+use Rattle.ic_codec.specs.inner.Fronts.{BeginsWithMany}
 use Rattle.ic_codec.proofs.rules.rules_at.Given as goal
 
 -- so many have been read

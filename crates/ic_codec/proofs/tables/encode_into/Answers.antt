@@ -3,7 +3,7 @@ use Rattle.std.specs.List.{flat_map}
 use Rattle.ic_jobs.specs.Job.{JobParts}
 use Rattle.ic_codec.specs.Jobs.{job_bytes}
 use Rattle.ic_codec.specs.Tables.{form_head}
-use Rattle.ic_codec.specs.Room.{Fits}
+use Rattle.ic_codec.specs.inner.Room.{Fits}
 use Rattle.ic_codec.proofs.Sizes.{table_length}
 use Rattle.ic_codec.proofs.ByteLemmas.{table_are_bytes}
 use Rattle.ic_codec.proofs.Appending.{rest_fits}

@@ -1,7 +1,7 @@
 use Rattle.std.proofs.Common.{◌+◌, ◌*◌, drop, map}
 use Rattle.ic_term.specs.Tree.{nodes, trees_of}
 use Rattle.ic_term.specs.Term.{tree, cell_tree}
-use Rattle.ic_codec.specs.Room.{GoesOn}
+use Rattle.ic_codec.specs.inner.Room.{GoesOn}
 use Rattle.ic_codec.specs.Terms.{tree_bytes, trees_bytes}
 use Rattle.ic_codec.proofs.terms.+put.Given as goal
 

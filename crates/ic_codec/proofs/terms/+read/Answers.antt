@@ -2,7 +2,7 @@ use Rattle.std.proofs.Common.{◌∷◌, map, sym, ap, subst, ◌∙◌, arith}
 use Rattle.std.proofs.lemmas.Result.{err_from_is_err_and}
 use Rattle.ic_term.specs.Term.{tree}
 use Rattle.ic_term.specs.Tree.{Tree}
-use Rattle.ic_codec.specs.Fronts.{BeginsWithTree}
+use Rattle.ic_codec.specs.inner.Fronts.{BeginsWithTree}
 use Rattle.ic_codec.proofs.TermReading.{agent_begins, none_without_budget, none_without_bytes, none_without_number, none_without_symbol, none_without_arguments, none_more}
 use Rattle.ic_codec.proofs.terms.+read.Goals as goal
 

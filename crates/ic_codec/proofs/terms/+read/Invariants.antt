@@ -1,6 +1,6 @@
 use Rattle.std.proofs.Common.{map, ◌+◌, ◌*◌}
 use Rattle.ic_term.specs.Term.{tree}
-use Rattle.ic_codec.specs.Fronts.{BeginsWithTrees}
+use Rattle.ic_codec.specs.inner.Fronts.{BeginsWithTrees}
 use Rattle.ic_codec.proofs.terms.+read.Given as goal
 
 -- A term has an argument less to read than its budget; so many terms are read before one of them.

@@ -1,8 +1,9 @@
 use Rattle.std.proofs.Common.{map}
 use Rattle.ic_term.specs.Term.{pair}
 use Rattle.ic_term.specs.Tree.{pair_nodes}
-use Rattle.ic_codec.specs.Terms.{pair_bytes, HasPairBytes}
-use Rattle.ic_codec.specs.Fronts.{BeginsWithMany}
+use Rattle.ic_codec.specs.Terms.{pair_bytes}
+use Rattle.ic_codec.specs.inner.Forms.{HasPairBytes}
+use Rattle.ic_codec.specs.inner.Fronts.{BeginsWithMany}
 use Rattle.ic_codec.proofs.terms.equations_at.Given as goal
 
 -- so many have been read

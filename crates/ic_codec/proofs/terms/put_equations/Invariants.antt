@@ -1,7 +1,7 @@
 use Rattle.std.proofs.Common.{drop, map}
 use Rattle.std.specs.List.{flat_map}
 use Rattle.ic_term.specs.Term.{pair}
-use Rattle.ic_codec.specs.Room.{GoesOn}
+use Rattle.ic_codec.specs.inner.Room.{GoesOn}
 use Rattle.ic_codec.specs.Terms.{pair_bytes}
 use Rattle.ic_codec.proofs.terms.put_equations.Given as goal
 

@@ -1,4 +1,4 @@
--- What private functions say of a front of bytes that they read; no public clause cites it.
+-- What a front of bytes is, as it is read. Inner: private functions cite it.
 use Rattle.std.specs.Prelude.{◌≡◌, ◌≢◌, ℕ, ◌+◌, ◌≤◌, List, ◌++◌, length, sum_by, IsTrue}
 use Rattle.std.specs.List.{flat_map, AllByRecursion}
 use Rattle.ic_term.specs.Tree.{Tree, nodes}
@@ -6,7 +6,8 @@ use Rattle.ic_term.specs.Symbol.{Symbol, is_over}
 use Rattle.ic_term.specs.Configuration.{Configuration, IsConfiguration}
 use Rattle.ic_rules.specs.RuleSet.{Rules, IsRuleSet}
 use Rattle.ic_jobs.specs.Job.{JobParts}
-use Rattle.ic_codec.specs.Terms.{tree_bytes, HasBytes}
+use Rattle.ic_codec.specs.Terms.{tree_bytes}
+use Rattle.ic_codec.specs.inner.Forms.{HasBytes}
 use Rattle.ic_codec.specs.Rules.{rules_bytes}
 
 -- The bytes begin with those of a term of at most so many nodes; this many are left, and this rest.

@@ -1,4 +1,4 @@
--- What private functions say of bytes that they append; no public clause cites it.
+-- Bytes that are appended within the room that there is. Inner: private functions cite it.
 use Rattle.std.specs.Prelude.{◌≡◌, ℕ, ◌+◌, ◌<◌, ◌≤◌, List, ◌++◌, length, Vec, vec_len, vec_capacity}
 use Rattle.std.specs.List.{AllByRecursion}
 

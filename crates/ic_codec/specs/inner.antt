@@ -1,0 +1,4 @@
+-- What contracts of private functions cite. A reader of the public contracts needs none of it.
+pub mod Forms
+pub mod Fronts
+pub mod Room

@@ -1,0 +1,32 @@
+-- Values that have bytes. Inner: private functions cite it.
+use Rattle.std.specs.Prelude.{◌^◌, ◌<◌, List, IsTrue}
+use Rattle.std.specs.List.{AllByRecursion}
+use Rattle.ic_term.specs.Tree.{Tree, Pair, names}
+use Rattle.ic_term.specs.Symbol.{Symbol, is_tree_over}
+use Rattle.ic_rules.specs.JobName.{is_job_name}
+use Rattle.ic_rules.specs.Rule.{Rule, rule_names, IsNumbered}
+use Rattle.ic_rules.specs.RuleSet.{IsRuleOver}
+use Rattle.ic_codec.specs.declared.headings.Heading.{Heading}
+
+-- A term that has bytes: its agents are known, with as many arguments as their arities, and its names
+-- fit in eight bytes.
+pub record HasBytes (ss : List Symbol) (t : Tree) : Type 0 where
+  pub over : IsTrue (is_tree_over ss t)
+  pub names : AllByRecursion (λ n. n < 2 ^ 64) (names t)
+
+-- an equation that has bytes: both of its sides have
+abbrev pub HasPairBytes : List Symbol → Pair → Type 0
+HasPairBytes ss p = HasBytes ss p.left × HasBytes ss p.right
+
+-- A rule that has bytes: its agents are known, with as many arguments as their arities, and its names
+-- are numbered and fit in eight bytes.
+pub record HasRuleBytes (ss : List Symbol) (r : Rule) : Type 0 where
+  pub over : IsRuleOver ss r
+  pub names : AllByRecursion (λ n. n < 2 ^ 64) (rule_names r)
+  pub in_order : IsNumbered r
+
+-- A heading that has bytes: it has a job's name, and its numbers fit in eight bytes.
+pub record HasHeadingBytes (h : Heading) : Type 0 where
+  pub name : IsTrue (is_job_name h.name)
+  pub rounds : h.rounds < 2 ^ 64
+  pub next : h.next < 2 ^ 64
