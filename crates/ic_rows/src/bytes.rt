@@ -75,14 +75,14 @@ fn is_exact(alloc: Global, bytes: &[u8]) -> Result<bool, Trouble> {
     }
 }
 
-/// Whether no proper front of the bytes is a table, and with each byte changed to each value they are refused or a
-/// table's own.
+/// Whether each proper front of the bytes is refused as no table, and with each byte changed to each value they are
+/// refused so or a table's own.
 pub fn spoiled(alloc: Global, text: &[u8]) -> Result<Vec<u8>, Trouble> {
     let mut bytes = bytes_of(alloc, text)?;
     for place in 0..bytes.len() {
-        if decode(alloc, &bytes[..place]).is_ok() {
-            return Err(Trouble("a front is a table"));
-        }
+        let Err(CodecFault::NotATable) = decode(alloc, &bytes[..place]) else {
+            return Err(Trouble("a front isn't refused"));
+        };
         let kept = bytes[place];
         for value in 0..=u8::MAX {
             bytes[place] = value;
