@@ -2,6 +2,10 @@
 use Rattle.std.specs.Prelude.{ℕ, Bool}
 use Rattle.ic_disk.specs.declared.file.FileDisk.{FileDisk}
 
+-- how many calls there have been, up to 2^64 - 1
+abbrev pub calls_of : {F : Type 0} → FileDisk F → ℕ
+calls_of f = f.calls
+
 -- how many calls have failed
 abbrev pub failures_of : {F : Type 0} → FileDisk F → ℕ
 failures_of f = f.failures

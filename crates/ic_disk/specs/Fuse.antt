@@ -1,6 +1,6 @@
 -- Which calls of the disk with a fuse fail, and what they leave.
 -- To be read: contracts of public calls cite it. This project's choice.
-use Rattle.std.specs.Prelude.{◌≡◌, ◌⊎◌, ◌==◌, ◌+◌, ◌-◌, ◌^◌, ℕ, min, nat_lt, if◌then◌else◌, Result, IsOk, IsErr, OnOk, OnErr}
+use Rattle.std.specs.Prelude.{◌≡◌, ◌⊎◌, ◌==◌, ℕ, nat_lt, if◌then◌else◌, Result, IsOk, IsErr, OnOk, OnErr}
 use Rattle.ic_disk.specs.Model.{Call}
 use Rattle.ic_disk.specs.History.{History, with_call, with_failure}
 use Rattle.ic_disk.specs.declared.fuse.Blow.{Blow}
@@ -25,10 +25,6 @@ later GoOn = Make
 abbrev pub turn_of : ℕ → Fuse → Turn
 turn_of n fuse =
     if nat_lt n fuse.at then Make else (if n == fuse.at then blown fuse.blow else later fuse.after)
-
--- how many calls there have been after one more, up to 2^64 - 1
-abbrev pub one_call_more : ℕ → ℕ
-one_call_more calls = min (calls + 1) (2 ^ 64 - 1)
 
 -- a call that changes the disk: made, not made, or made and answered Err
 abbrev pub Answers : {T E : Type 0} → Turn → Call → Result T E → History → History → Type 0

@@ -1,7 +1,8 @@
 -- The parts of the disk with a fuse that contracts of public calls speak of. To be read.
 use Rattle.std.specs.Prelude.{◌≡◌, ◌+◌, ℕ}
 use Rattle.ic_disk.specs.History.{History}
-use Rattle.ic_disk.specs.Fuse.{turn_of, one_call_more}
+use Rattle.ic_disk.specs.Fuse.{turn_of}
+use Rattle.ic_disk.specs.Time.{one_call_more}
 use Rattle.ic_disk.specs.declared.fuse.Turn.{Turn}
 use Rattle.ic_disk.specs.declared.fuse.Fuse.{Fuse}
 use Rattle.ic_disk.specs.declared.fuse.FuseDisk.{FuseDisk}

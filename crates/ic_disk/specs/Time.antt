@@ -1,6 +1,6 @@
 -- What crashes at the moments of a run may leave, and how failures are counted.
 -- To be read: contracts of public calls cite it. This project's choice.
-use Rattle.std.specs.Prelude.{◌≡◌, ◌⊎◌, ℕ, ◌+◌, ◌-◌, ◌^◌, ◌<◌, ◌≤◌, List, Result, MatchResult}
+use Rattle.std.specs.Prelude.{◌≡◌, ◌⊎◌, ℕ, ◌+◌, ◌-◌, ◌^◌, ◌<◌, ◌≤◌, min, List, Result, MatchResult}
 
 -- Time goes on by one call at most: a crash since t may have left what it might have left before,
 -- or what the midst of the call leaves.
@@ -26,3 +26,7 @@ OneMore old new = ((old < 2 ^ 64 - 1) × (new ≡ old + 1)) ⊎ ((old ≡ 2 ^ 64
 -- it rises where the call failed, and stays otherwise
 abbrev pub CountsFailure : {T E : Type 0} → Result T E → ℕ → ℕ → Type 0
 CountsFailure result old new = MatchResult result (λ _. new ≡ old) (λ _. OneMore old new)
+
+-- how many calls there have been after one more, up to 2^64 - 1
+abbrev pub one_call_more : ℕ → ℕ
+one_call_more calls = min (calls + 1) (2 ^ 64 - 1)

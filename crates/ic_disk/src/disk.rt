@@ -2,7 +2,7 @@
 ghost use Rattle.std.specs.Prelude.{◌≡◌, ◌⊎◌, ◌+◌, ◌-◌, ◌^◌, ◌≤◌, ℕ, Bool, List, length, min, is_ok, IsTrue, Some, codes, IfOk, OnOk, OnErr};
 ghost use Rattle.ic_disk.specs.Content.{laid, bytes_at};
 ghost use Rattle.ic_disk.specs.Images.{Torn, TornFrom, Within, Only, StaysOrTears};
-ghost use Rattle.ic_disk.specs.Time.{Elapses, CountsFailure};
+ghost use Rattle.ic_disk.specs.Time.{Elapses, CountsFailure, one_call_more};
 
 use std::error::Error;
 use std::fmt;
@@ -33,7 +33,8 @@ pub trait Disk {
     /// What a crash at this moment may leave.
     ghost image: { Self → List ℕ → Type 0 };
 
-    /// How many calls there have been, where one that changes nothing may be left out.
+    /// How many calls there have been. One that changes nothing may be left out, and so may all
+    /// that come once the count stands at its end.
     ghost clock: { Self → ℕ };
 
     /// What a crash at some moment since that time of the clock may have left, in the midst of a
@@ -47,6 +48,7 @@ pub trait Disk {
     fn len(&mut self) -> Result<u64, DiskFault>
         ensures keeps { keeps self.new ≡ keeps self.old }
         ensures counted { CountsFailure result (failures self.old) (failures self.new) }
+        ensures one_call { clock self.new ≤ clock self.old + 1 }
 
         ensures length { IsTrue (keeps self.old)
             → IfOk result (λ n. n ≡ length (content self.old)) }
@@ -62,6 +64,7 @@ pub trait Disk {
 
         ensures keeps { keeps self.new ≡ keeps self.old }
         ensures counted { CountsFailure result (failures self.old) (failures self.new) }
+        ensures one_call { clock self.new ≤ clock self.old + 1 }
 
         ensures bytes { IsTrue (keeps self.old) → OnOk result
             (into.new ≡ bytes_at at (length into.old) (content self.old)) }
@@ -76,6 +79,7 @@ pub trait Disk {
     fn write_at(&mut self, at: u64, bytes: &[u8]) -> Result<(), DiskFault>
         ensures keeps { keeps self.new ≡ keeps self.old }
         ensures counted { CountsFailure result (failures self.old) (failures self.new) }
+        ensures one_call { clock self.new ≤ clock self.old + 1 }
 
         ensures written { IsTrue (keeps self.old) → OnOk result
             (content self.new ≡ laid at bytes.now (content self.old)) }
@@ -95,6 +99,7 @@ pub trait Disk {
     fn sync(&mut self) -> Result<(), DiskFault>
         ensures keeps { keeps self.new ≡ keeps self.old }
         ensures counted { CountsFailure result (failures self.old) (failures self.new) }
+        ensures one_call { clock self.new ≤ clock self.old + 1 }
 
         ensures same { IsTrue (keeps self.old) → content self.new ≡ content self.old }
         ensures durable { IsTrue (keeps self.old)
@@ -132,4 +137,11 @@ pub(crate) fn count<T, E: Drop>(outcome: Result<T, E>, failures: &mut u64) -> Re
             Err(DiskFault)
         }
     }
+}
+
+// Counts a call.
+pub(crate) fn count_call(calls: &mut u64)
+    ensures { calls.new ≡ one_call_more calls.old }
+{
+    *calls = calls.saturating_add(1);
 }

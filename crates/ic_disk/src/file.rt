@@ -1,8 +1,8 @@
 // A disk in a file of the operating system, of whose bytes no clause speaks.
 ghost use Rattle.std.specs.Prelude.{◌≡◌, [], false, not, is_ok, IsTrue, IsErr, IfOk};
-ghost use Rattle.ic_disk.specs.Time.{CountsFailure};
+ghost use Rattle.ic_disk.specs.Time.{CountsFailure, one_call_more};
 
-use crate::disk::count;
+use crate::disk::{count, count_call};
 use crate::{Disk, DiskFault};
 use std::fs::{File, OpenFile, OpenOptions};
 use std::io;
@@ -29,12 +29,13 @@ impl DiskFile for File {
 #[derive(Debug, Drop)]
 pub struct FileDisk<F = File> {
     file: F,
+    calls: u64,
     failures: u64,
     sync_failed: bool,
 }
 
 impl<F: DiskFile> FileDisk<F> {
-    ghost use Rattle.ic_disk.specs.FileDisk.{failures_of, has_lost_sync};
+    ghost use Rattle.ic_disk.specs.FileDisk.{calls_of, failures_of, has_lost_sync};
 
     /// Opens the file to read and write, and locks it (by an advisory lock on the whole file) for
     /// as long as the disk lives: a second open of it is an error meanwhile, in this process too.
@@ -45,12 +46,14 @@ impl<F: DiskFile> FileDisk<F> {
         path: &str,
         create: bool,
     ) -> Result<FileDisk<F>, DiskFault>
+        ensures calls { IfOk result (λ disk. calls_of disk ≡ 0) }
         ensures failures { IfOk result (λ disk. failures_of disk ≡ 0) }
         ensures syncs { IfOk result (λ disk. has_lost_sync disk ≡ false) }
     {
         match open_alone(rt, path, create) {
             Ok(file) => Ok(FileDisk {
                 file,
+                calls: 0,
                 failures: 0,
                 sync_failed: false,
             }),
@@ -125,7 +128,7 @@ fn sync_once<F: OpenFile>(file: &F, failed: &mut bool) -> io::Result<()>
 }
 
 impl<F: DiskFile> Disk for FileDisk<F> {
-    ghost use Rattle.ic_disk.specs.FileDisk.{failures_of, has_lost_sync};
+    ghost use Rattle.ic_disk.specs.FileDisk.{calls_of, failures_of, has_lost_sync};
 
     ghost keeps = { λ _. false };
 
@@ -133,7 +136,7 @@ impl<F: DiskFile> Disk for FileDisk<F> {
 
     ghost image = { λ _ _. Unit {0} };
 
-    ghost clock = { λ _. 0 };
+    ghost clock = { λ f. f.calls };
 
     ghost left = { λ _ _ _. Unit {0} };
 
@@ -147,32 +150,40 @@ impl<F: DiskFile> Disk for FileDisk<F> {
 
     fn len(&mut self) -> Result<u64, DiskFault>
         ensures counted { CountsFailure result (failures_of self.old) (failures_of self.new) }
+        ensures calls { calls_of self.new ≡ one_call_more (calls_of self.old) }
         ensures syncs { has_lost_sync self.new ≡ has_lost_sync self.old }
     {
+        count_call(&mut self.calls);
         count(len_of(&self.file), &mut self.failures)
     }
 
     fn read(&mut self, at: u64, into: &mut [u8]) -> Result<(), DiskFault>
         ensures counted { CountsFailure result (failures_of self.old) (failures_of self.new) }
+        ensures calls { calls_of self.new ≡ one_call_more (calls_of self.old) }
         ensures syncs { has_lost_sync self.new ≡ has_lost_sync self.old }
     {
+        count_call(&mut self.calls);
         count(read_range(&mut self.file, at, into), &mut self.failures)
     }
 
     fn write_at(&mut self, at: u64, bytes: &[u8]) -> Result<(), DiskFault>
         ensures counted { CountsFailure result (failures_of self.old) (failures_of self.new) }
+        ensures calls { calls_of self.new ≡ one_call_more (calls_of self.old) }
         ensures syncs { has_lost_sync self.new ≡ has_lost_sync self.old }
     {
+        count_call(&mut self.calls);
         count(write_range(&mut self.file, at, bytes), &mut self.failures)
     }
 
     fn sync(&mut self) -> Result<(), DiskFault>
         ensures counted { CountsFailure result (failures_of self.old) (failures_of self.new) }
+        ensures calls { calls_of self.new ≡ one_call_more (calls_of self.old) }
 
         // Once one has failed, each later one does.
         ensures refuses { IsTrue (has_lost_sync self.old) → IsErr result }
         ensures remembers { has_lost_sync self.new ≡ not (is_ok result) }
     {
+        count_call(&mut self.calls);
         let outcome = sync_once(&self.file, &mut self.sync_failed);
         count(outcome, &mut self.failures)
     }

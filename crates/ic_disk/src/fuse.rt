@@ -2,11 +2,11 @@
 ghost use Rattle.std.specs.Prelude.{◌≡◌, ◌+◌, ◌≤◌, true, length, IfOk, OnOk};
 ghost use Rattle.ic_disk.specs.Content.{bytes_at};
 ghost use Rattle.ic_disk.specs.DiskCalls.{IsDiskSync, IsDiskWrite};
-ghost use Rattle.ic_disk.specs.Fuse.{turn_of, one_call_more, Answers, AnswersRead};
+ghost use Rattle.ic_disk.specs.Fuse.{turn_of, Answers, AnswersRead};
 ghost use Rattle.ic_disk.specs.Model.{write_of, sync};
 ghost use Rattle.ic_disk.specs.History.{content_of, image_of, IsLeftSince};
 ghost use Rattle.ic_disk.specs.lemmas.HistoryLaws as laws;
-ghost use Rattle.ic_disk.specs.Time.{CountsFailure};
+ghost use Rattle.ic_disk.specs.Time.{CountsFailure, one_call_more};
 
 use crate::disk::count;
 use crate::{Disk, DiskFault, MemDisk};

@@ -25,7 +25,7 @@ pub fn write_synced<D: Disk>(disk: &mut D, at: u64, bytes: &[u8]) -> Result<(), 
         (TornFrom at (length bytes.now) (D.image disk.old)) }
 
     // It makes at most two calls.
-    ensures calls { IsTrue (D.keeps disk.old) → D.clock disk.new ≤ D.clock disk.old + 2 }
+    ensures calls { D.clock disk.new ≤ D.clock disk.old + 2 }
 {
     disk.write_at(at, bytes)?;
     disk.sync()
@@ -70,7 +70,7 @@ pub fn write_and_mark<D: Disk>(
         (WholeIfMarked at bytes.now mark_at mark) }
 
     // It makes at most four calls.
-    ensures calls { IsTrue (D.keeps disk.old) → D.clock disk.new ≤ D.clock disk.old + 4 }
+    ensures calls { D.clock disk.new ≤ D.clock disk.old + 4 }
 {
     write_synced(disk, at, bytes)?;
     write_synced(disk, mark_at, &[mark])
