@@ -1,6 +1,6 @@
 -- A frame that is laid over a file stands there as a slot.
-use Rattle.std.proofs.Common.{◌≡◌, ℕ, ◌+◌, ◌-◌, ◌^◌, ◌<◌, ◌≤◌, true, List, length, get_or, set, take, drop, sym, ◌∙◌, ap, arith, length-drop}
-use Rattle.std.proofs.lemmas.List.{ext_get_or, get_or-take, get_or-drop, get_or-set_same, length-set, drop-set-lt, take_all, places}
+use Rattle.std.proofs.Common.{◌≡◌, ℕ, ◌+◌, ◌-◌, ◌^◌, ◌<◌, ◌≤◌, true, List, [], ◌∷◌, ◌++◌, length, get_or, set, take, drop, refl, sym, ◌∙◌, ap, arith, length-drop}
+use Rattle.std.proofs.lemmas.List.{ext_get_or, get_or-take, get_or-drop, get_or-set_same, length-set, drop-set-lt, take_all, take-append-drop, take-take, drop-drop, drop-take, drop_more, places}
 use Rattle.std.proofs.lemmas.Slice.{take-put_mid_below, drop-put_mid, between-put_mid, between_is}
 use Rattle.std.proofs.lemmas.Nat.{from_be_bytes-to_be_bytes_4, from_be_bytes-to_be_bytes_8}
 use Rattle.std.specs.Int.{w32, w64, from_be_bytes, to_be_bytes}
@@ -8,6 +8,7 @@ use borrow.Rule.Slice.PartMut.{put_mid}
 use Rattle.ic_disk.specs.Content.{laid, bytes_at}
 use Rattle.ic_disk.specs.lemmas.ContentLaws.{length-laid, laid-inside}
 use Rattle.ic_frames.specs.Fields.{number, size, body, is_whole}
+use Rattle.ic_frames.specs.Layout.{behind_gate}
 use Rattle.ic_frames.specs.inner.Standing.{IsFrame}
 use Rattle.ic_frames.proofs.FieldLemmas.{length-bytes_at, get_or-bytes_at, whole_from}
 
@@ -61,6 +62,26 @@ module _ (skip at n : ℕ) (held frame file : List ℕ) (low : skip ≤ 1) (is :
       let here : at + 0 ≡ at = omega arith in
       ap (λ (k : ℕ). get_or (laid (at + skip) (drop skip frame) file) k 0) (sym here) ∙ framed_at 0 (omega arith) (omega arith) ∙ is.gate_is
 
+pub each_part : (a b c d p q r s : List ℕ) → a ≡ p → b ≡ q → c ≡ r → d ≡ s → a ++ b ++ c ++ d ≡ p ++ q ++ r ++ s
+each_part a b c d p q r s first second third fourth = rw (first, second, third, fourth) refl
+
+-- two parts that meet are one
+pub joined : (at k m : ℕ) (file : List ℕ) → bytes_at at (k + m) file ≡ bytes_at at k file ++ bytes_at (at + k) m file
+joined at k m file =
+    let whole = bytes_at at (k + m) file in
+    sym (take-append-drop k whole)
+    ∙ ap (λ (l : List ℕ). l ++ drop k whole) (take-take k (k + m) (drop at file) (omega arith))
+    ∙ ap (λ (l : List ℕ). bytes_at at k file ++ l) (drop-take k m (drop at file) ∙ ap (λ (l : List ℕ). take m l) (drop-drop k at file))
+
+-- a gate, a number, a length and what follows
+parted : (frame : List ℕ) → frame ≡ bytes_at 0 1 frame ++ bytes_at 1 8 frame ++ bytes_at 9 4 frame ++ drop 13 frame
+parted frame =
+    sym (take-append-drop 13 frame)
+    ∙ ap (λ (l : List ℕ). l ++ drop 13 frame) (joined 0 9 4 frame ∙ ap (λ (l : List ℕ). l ++ bytes_at 9 4 frame) (joined 0 1 8 frame))
+
+pub gate_part : (at gate : ℕ) (file : List ℕ) → at < length file → get_or file at 0 ≡ gate → bytes_at at 1 file ≡ gate ∷ []
+gate_part at gate file within gate_is = ap (λ (l : List ℕ). take 1 l) (drop_more file at 0 within) ∙ ap (λ (b : ℕ). b ∷ []) gate_is
+
 -- The head of a frame that is filled in.
 module _ (n : ℕ) (frame xs ys : List ℕ) (fits : n < 2 ^ 64) (head : 13 ≤ length frame) (short : length frame ≤ 13 + 3036421) (is_number : xs ≡ to_be_bytes w64 n) (is_size : ys ≡ to_be_bytes w32 (length frame - 13)) where
   long_number : length xs ≡ 8
@@ -111,6 +132,17 @@ module _ (n : ℕ) (frame xs ys : List ℕ) (fits : n < 2 ^ 64) (head : 13 ≤ l
       ∙ drop-put_mid 1 8 (set frame 0 0) xs 13 (omega arith) (omega (arith, length-started)) long_number
       ∙ drop-set-lt 13 frame 0 0 (omega arith)
 
+  bytes_filled : put_mid 9 4 (put_mid 1 8 (set frame 0 0) xs) ys ≡ 0 ∷ behind_gate n (drop 13 frame)
+  bytes_filled =
+      let filled = put_mid 9 4 (put_mid 1 8 (set frame 0 0) xs) ys in
+      parted filled
+      ∙ each_part (bytes_at 0 1 filled) (bytes_at 1 8 filled) (bytes_at 9 4 filled) (drop 13 filled)
+      (0 ∷ []) (to_be_bytes w64 n) (to_be_bytes w32 (length (drop 13 frame))) (drop 13 frame)
+      (gate_part 0 0 filled (omega (arith, length-filled)) gate_filled)
+      (number_filled ∙ is_number)
+      (size_filled ∙ is_size ∙ ap (λ (size : ℕ). to_be_bytes w32 size) (sym (length-drop 13 frame)))
+      body_filled
+
   pub filled_frame : IsFrame n (drop 13 frame) (put_mid 9 4 (put_mid 1 8 (set frame 0 0) xs) ys)
   unfolding number size
   filled_frame = record {
@@ -119,4 +151,5 @@ module _ (n : ℕ) (frame xs ys : List ℕ) (fits : n < 2 ^ 64) (head : 13 ≤ l
     size_is = ap (λ (bytes : List ℕ). from_be_bytes w32 bytes) (size_filled ∙ is_size) ∙ from_be_bytes-to_be_bytes_4 (length frame - 13) (omega arith) ∙ sym (length-drop 13 frame);
     long = length-filled ∙ omega (arith, length-drop 13 frame);
     body_is = body_filled;
+    bytes_are = bytes_filled;
   }

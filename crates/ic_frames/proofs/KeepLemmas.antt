@@ -8,13 +8,13 @@ use Rattle.ic_disk.specs.lemmas.ImageLaws.{torn_laid}
 use Rattle.ic_frames.specs.declared.slot.Slot.{Slot}
 use Rattle.ic_frames.specs.declared.slot.Slot.TheVariants.{First, Second}
 use Rattle.ic_frames.specs.Places.{place, other}
-use Rattle.ic_frames.specs.Fields.{body, is_open, is_whole, IsMade}
-use Rattle.ic_frames.specs.Held.{the_body, Holds, HoldsEither}
+use Rattle.ic_frames.specs.Fields.{number, body, is_open, is_whole, IsMade}
+use Rattle.ic_frames.specs.Held.{the_body, Holds, HoldsEither, IsNewest}
 use Rattle.ic_frames.specs.Staged.{IsStaged}
 use Rattle.ic_frames.specs.inner.Standing.{Stands, IsKept, IsFrame}
-use Rattle.ic_frames.proofs.FieldLemmas.{shut_from, open_from, open-same, whole_parts}
+use Rattle.ic_frames.proofs.FieldLemmas.{shut_from, open_from, open_parts, open-same, whole_parts}
 use Rattle.ic_frames.proofs.HeldLemmas.{stands_holds}
-use Rattle.ic_frames.proofs.CrashLemmas.{still_stands, gate_torn, body_torn, open_torn, staged_torn, newly_stands, newest_stays, head_made}
+use Rattle.ic_frames.proofs.CrashLemmas.{still_stands, gate_torn, body_torn, open_torn, staged_torn, newly_stands, newest_stays, newest_untouched, head_made}
 use Rattle.ic_frames.proofs.FrameLemmas.{length-framed, number-framed, whole-framed, body-framed, gate-framed}
 
 -- two bodies that one file holds are one
@@ -171,6 +171,22 @@ module _ (content : List ℕ) (image : List ℕ → Type 0) (newest : Slot) (n :
       let next = body (place (other newest)) content in
       kept_settled (laid (place (other newest)) (1 ∷ []) content) new_image (other newest) (n + 1) false false next only open_made (open_stands next (is.staged_is refl content now))
       (λ e. absurd (false≢true e)) (λ e. absurd (false≢true e))
+
+  -- the slot is the newest then, and the other one is open still
+  pub open_newest : (IsNewest (other newest) (laid (place (other newest)) (1 ∷ []) content)) × (number (place (other newest)) (laid (place (other newest)) (1 ∷ []) content) ≡ n + 1)
+      × (is_open (place newest) (laid (place (other newest)) (1 ∷ []) content) ≡ true)
+  open_newest =
+      let at = place (other newest) in
+      let c = laid at (1 ∷ []) content in
+      let torn : Torn at 1 content c = torn_laid at (1 ∷ []) content in
+      let before = is.stands content now in
+      let same = newest_untouched newest at 1 content c torn (omega arith) (omega arith) before.whole in
+      let gate = open_parts (place newest) content before.opened in
+      let stands = open_stands (body at content) (is.staged_is refl content now) in (
+        record { opened = stands.opened; newer = λ _. omega (arith, stands.older refl, stands.number_is) },
+        stands.number_is,
+        open_from (place newest) c (omega (arith, same.within_new)) (same.same (place newest) (omega arith) (omega arith) ∙ gate.gate_is),
+      )
 
   pub open_holds : (next : List ℕ) (new_image : List ℕ → Type 0) → Within image (IsStaged (other newest) (n + 1) next) → Only (laid (place (other newest)) (1 ∷ []) content) new_image → Within new_image (Holds next)
   open_holds next new_image staged only =

@@ -1,6 +1,6 @@
 -- The bytes of an open slot and what they say.
-use Rattle.std.proofs.Common.{◌≡◌, ⊎_elim, ℕ, ◌+◌, ◌^◌, ◌<◌, ◌≤◌, ◌↔◌, true, List, [], ◌∷◌, ◌++◌, length, get_or, take, drop, refl, sym, ◌∙◌, ap, subst, arith, length-drop}
-use Rattle.std.proofs.lemmas.List.{length-take, get_or_past, take_all, take-append-drop, take-take, drop-drop, drop-take, drop_more}
+use Rattle.std.proofs.Common.{◌≡◌, ⊎_elim, ℕ, ◌+◌, ◌^◌, ◌<◌, ◌≤◌, ◌↔◌, true, List, [], ◌∷◌, ◌++◌, length, get_or, drop, sym, ◌∙◌, ap, subst, arith, length-drop}
+use Rattle.std.proofs.lemmas.List.{length-take, get_or_past, take_all}
 use Rattle.std.proofs.lemmas.Bool.{cases_lt}
 use Rattle.std.proofs.lemmas.Nat.{from_be_bytes-to_be_bytes_4, from_be_bytes-to_be_bytes_8, be_bytes_4, be_bytes_8}
 use Rattle.std.specs.Int.{w32, w64, from_be_bytes, to_be_bytes}
@@ -11,7 +11,7 @@ use Rattle.ic_frames.specs.Fields.{number, size, body, is_open, is_whole}
 use Rattle.ic_frames.specs.Staged.{IsStaged}
 use Rattle.ic_frames.specs.Layout.{slot_bytes, AreBytes}
 use Rattle.ic_frames.proofs.FieldLemmas.{length-bytes_at, get_or-bytes_at, open_parts, open_from, whole_parts, whole_from}
-use Rattle.ic_frames.proofs.FrameLemmas.{shifted_bytes}
+use Rattle.ic_frames.proofs.FrameLemmas.{shifted_bytes, joined, each_part, gate_part}
 
 length-slot_bytes : (n : ℕ) (held : List ℕ) → length (slot_bytes n held) ≡ 13 + length held
 length-slot_bytes n held = omega arith
@@ -71,25 +71,11 @@ part_has_bytes at n file within bytes i = ⊎_elim
     (λ past. subst (λ (b : ℕ). b < 256) (sym (get_or_past (bytes_at at n file) i 0 (omega (arith, length-bytes_at at n file within, past)))) (omega arith))
     (cases_lt i n)
 
--- two parts that meet are one
-joined : (at k m : ℕ) (file : List ℕ) → bytes_at at (k + m) file ≡ bytes_at at k file ++ bytes_at (at + k) m file
-joined at k m file =
-    let whole = bytes_at at (k + m) file in
-    sym (take-append-drop k whole)
-    ∙ ap (λ (l : List ℕ). l ++ drop k whole) (take-take k (k + m) (drop at file) (omega arith))
-    ∙ ap (λ (l : List ℕ). bytes_at at k file ++ l) (drop-take k m (drop at file) ∙ ap (λ (l : List ℕ). take m l) (drop-drop k at file))
-
 -- the four parts of a slot
 four_parts : (at n : ℕ) (file : List ℕ) → bytes_at at (13 + n) file ≡ bytes_at at 1 file ++ bytes_at (at + 1) 8 file ++ bytes_at (at + 9) 4 file ++ bytes_at (at + 13) n file
 four_parts at n file =
     joined at 13 n file
     ∙ ap (λ (l : List ℕ). l ++ bytes_at (at + 13) n file) (joined at 9 4 file ∙ ap (λ (l : List ℕ). l ++ bytes_at (at + 9) 4 file) (joined at 1 8 file))
-
-each_part : (a b c d p q r s : List ℕ) → a ≡ p → b ≡ q → c ≡ r → d ≡ s → a ++ b ++ c ++ d ≡ p ++ q ++ r ++ s
-each_part a b c d p q r s first second third fourth = rw (first, second, third, fourth) refl
-
-gate_part : (at : ℕ) (file : List ℕ) → at < length file → get_or file at 0 ≡ 1 → bytes_at at 1 file ≡ 1 ∷ []
-gate_part at file within gate_is = ap (λ (l : List ℕ). take 1 l) (drop_more file at 0 within) ∙ ap (λ (b : ℕ). b ∷ []) gate_is
 
 number_part : (at n : ℕ) (file : List ℕ) → at + 13 ≤ length file → AreBytes file → number at file ≡ n → bytes_at (at + 1) 8 file ≡ to_be_bytes w64 n
 unfolding number
@@ -121,7 +107,7 @@ slot_written slot n held file bytes opened is =
     four_parts at (length held) file
     ∙ each_part (bytes_at at 1 file) (bytes_at (at + 1) 8 file) (bytes_at (at + 9) 4 file) (bytes_at (at + 13) (length held) file)
     (1 ∷ []) (to_be_bytes w64 n) (to_be_bytes w32 (length held)) held
-    (gate_part at file (omega (arith, head.within)) head.gate_is)
+    (gate_part at 1 file (omega (arith, head.within)) head.gate_is)
     (number_part at n file head.within bytes is.number_is)
     (size_part at (length held) file head.within bytes long)
     (body_part at held file long is.body_is)

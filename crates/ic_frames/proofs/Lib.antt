@@ -9,3 +9,4 @@ pub mod CreateLemmas
 pub mod LawLemmas
 pub mod PhaseLemmas
 pub mod LayoutLemmas
+pub mod LaidLemmas

@@ -6,10 +6,13 @@ use Rattle.ic_disk.specs.Time.{LeavesOnly}
 use Rattle.ic_disk.specs.lemmas.Moments.{leaves_weaker, then_runs}
 use Rattle.ic_frames.specs.declared.slot.Slot.{Slot}
 use Rattle.ic_frames.specs.Places.{place, other}
-use Rattle.ic_frames.specs.Held.{Holds, HoldsEither}
+use Rattle.ic_frames.specs.Fields.{number, is_open, IsMade}
+use Rattle.ic_frames.specs.Layout.{behind_gate}
+use Rattle.ic_frames.specs.Held.{Holds, HoldsEither, IsNewest}
 use Rattle.ic_frames.specs.Staged.{IsStaged}
 use Rattle.ic_frames.specs.inner.Standing.{IsKept, IsFrame}
-use Rattle.ic_frames.proofs.KeepLemmas.{gate_leaves, gate_kept, body_leaves, not_made_leaves, body_kept, open_leaves, open_kept, open_holds}
+use Rattle.ic_frames.proofs.KeepLemmas.{gate_leaves, gate_kept, body_leaves, not_made_leaves, body_kept, open_leaves, open_kept, open_holds, open_newest, of_only}
+use Rattle.ic_frames.proofs.CrashLemmas.{other-other}
 
 module _ {D : Type 0} (content : D → List ℕ) (image : D → List ℕ → Type 0) (clock : D → ℕ) (left : D → ℕ → List ℕ → Type 0) (old new : D) (now : image old (content old)) (newest slot : Slot) (n : ℕ) (at : slot ≡ other newest) where
   gate_run' : (staged made : Bool) → IsKept (content old) (image old) newest n false staged made → LeavesOnly clock left old new (TornFrom (place (other newest)) 1 (image old)) → (kept : List ℕ) → Within (image old) (Holds kept) → LeavesOnly clock left old new (Holds kept)
@@ -49,6 +52,28 @@ module _ {D : Type 0} (content : D → List ℕ) (image : D → List ℕ → Typ
         both.1,
       )
 
+  pub body_written : (closed staged made : Bool) (skip : ℕ) (held frame : List ℕ) → IsKept (content old) (image old) newest n closed staged made → IsFrame (n + 1) held frame → ((made ≡ true) × (skip ≡ 1)) ⊎ ((made ≡ false) × (skip ≡ 0))
+      → content new ≡ laid (place slot + skip) (drop skip frame) (content old) → IsMade (content old) → content new ≡ laid (place (other newest) + 1) (behind_gate (n + 1) held) (content old)
+  body_written closed staged made skip held frame is is_frame which written long = written ∙ ⊎_elim
+      (λ full.
+      ap (λ (s : Slot). laid (place s + skip) (drop skip frame) (content old)) at
+      ∙ ap (λ (k : ℕ). laid (place (other newest) + k) (drop k frame) (content old)) full.1
+      ∙ ap (λ (l : List ℕ). laid (place (other newest) + 1) (drop 1 l) (content old)) is_frame.bytes_are)
+      (λ cut. absurd (omega (arith, long, (is.not_made cut.0).0)))
+      which
+
+  pub body_written_whole : (closed staged made : Bool) (skip : ℕ) (held frame : List ℕ) → IsKept (content old) (image old) newest n closed staged made → IsFrame (n + 1) held frame → ((made ≡ true) × (skip ≡ 1)) ⊎ ((made ≡ false) × (skip ≡ 0))
+      → content new ≡ laid (place slot + skip) (drop skip frame) (content old) → ¬ IsMade (content old) → content new ≡ laid (place (other newest)) (0 ∷ behind_gate (n + 1) held) (content old)
+  body_written_whole closed staged made skip held frame is is_frame which written short = written ∙ ⊎_elim
+      (λ full. absurd (short (is.all_made full.0 (content old) now)))
+      (λ cut.
+      let here : place (other newest) + 0 ≡ place (other newest) = omega arith in
+      ap (λ (s : Slot). laid (place s + skip) (drop skip frame) (content old)) at
+      ∙ ap (λ (k : ℕ). laid (place (other newest) + k) (drop k frame) (content old)) cut.1
+      ∙ ap (λ (k : ℕ). laid k frame (content old)) here
+      ∙ ap (λ (l : List ℕ). laid (place (other newest)) l (content old)) is_frame.bytes_are)
+      which
+
   staged_kept : (closed staged made : Bool) → IsKept (content old) (image old) newest n closed staged made → staged ≡ true → IsKept (content old) (image old) newest n true true true
   staged_kept closed staged made is staged_now =
       subst (λ (b : Bool). IsKept (content old) (image old) newest n b true true) (is.staged_in staged_now).0
@@ -68,6 +93,20 @@ module _ {D : Type 0} (content : D → List ℕ) (image : D → List ℕ → Typ
       (subst (λ (c : List ℕ). IsKept c (image new) (other newest) (n + 1) false false true) (sym (written ∙ ap (λ (s : Slot). laid (place s) (1 ∷ []) (content old)) at))
       (open_kept (content old) (image old) newest n now (staged_kept closed staged made is staged_now) (image new)
       (subst (λ (s : Slot). Only (laid (place s) (1 ∷ []) (content old)) (image new)) at only)))
+
+  pub opened_newest : (closed staged made : Bool) → IsKept (content old) (image old) newest n closed staged made → staged ≡ true → Only (laid (place slot) (1 ∷ []) (content old)) (image new)
+      → (file : List ℕ) → image new file → (IsNewest (other (other slot)) file) × (number (place (other (other slot))) file ≡ n + 1) × (is_open (place (other slot)) file ≡ true)
+  opened_newest closed staged made is staged_now only file there =
+      let there_slot = sym at ∙ sym (other-other slot) in
+      let has = of_only
+      (λ (f : List ℕ). (IsNewest (other newest) f) × (number (place (other newest)) f ≡ n + 1) × (is_open (place newest) f ≡ true))
+      (laid (place (other newest)) (1 ∷ []) (content old)) (image new)
+      (subst (λ (s : Slot). Only (laid (place s) (1 ∷ []) (content old)) (image new)) at only)
+      (open_newest (content old) (image old) newest n now (staged_kept closed staged made is staged_now)) file there in (
+        subst (λ (s : Slot). IsNewest s file) there_slot has.0,
+        subst (λ (s : Slot). number (place s) file ≡ n + 1) there_slot has.1,
+        subst (λ (s : Slot). is_open (place s) file ≡ true) (sym (other-other newest) ∙ ap other (sym at)) has.2,
+      )
 
   pub made_now : (closed staged made : Bool) → IsKept (content old) (image old) newest n closed staged made → staged ≡ true → made ≡ true
   made_now closed staged made is staged_now = (is.staged_in staged_now).1

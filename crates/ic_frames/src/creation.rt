@@ -1,7 +1,10 @@
 // The first body of a disk.
-ghost use Rattle.std.specs.Prelude.{◌≡◌, ◌+◌, ◌≤◌, length, drop, IsTrue, OnOk};
+ghost use Rattle.std.specs.Prelude.{◌≡◌, ◌+◌, ◌≤◌, length, drop, replicate, IsTrue, OnOk};
+ghost use Rattle.ic_disk.specs.Content.{laid};
 ghost use Rattle.ic_disk.specs.Images.{Within};
 ghost use Rattle.ic_disk.specs.Time.{CountsFailure};
+ghost use Rattle.ic_frames.specs.Layout.{slot_bytes};
+ghost use Rattle.ic_frames.specs.Places.{place};
 ghost use Rattle.ic_frames.specs.Held.{Holds, IsClosedIn, body_held, the_body};
 ghost use Rattle.ic_frames.specs.Staged.{IsStaged};
 
@@ -20,7 +23,13 @@ pub fn create<D: Disk>(disk: &mut D, frame: &mut [u8]) -> Result<(), DiskFault>
     ensures keeps { D.keeps disk.new ≡ D.keeps disk.old }
     ensures counted { CountsFailure result (D.failures disk.old) (D.failures disk.new) }
     ensures same_body { drop 13 frame.new ≡ drop 13 frame.old }
-    ensures calls { IsTrue (D.keeps disk.old) → D.clock disk.new ≤ D.clock disk.old + 6 }
+    ensures calls { D.clock disk.new ≤ D.clock disk.old + 6 }
+
+    // At Ok the slot's bytes are at the beginning of the disk, and thirteen zeros are written at the
+    // second slot; all else stays.
+    ensures written { IsTrue (D.keeps disk.old) → OnOk result (D.content disk.new
+        ≡ laid (place Slot.First) (slot_bytes 1 (drop 13 frame.old))
+        (laid (place Slot.Second) (replicate 13 0) (D.content disk.old))) }
 
     // At Ok a crash leaves that body, and so do reads. It is in the first slot with the number 1,
     // and the second slot is closed.

@@ -2,7 +2,10 @@
 ghost use Rattle.std.specs.Prelude.{◌≡◌, ◌⊎◌, ◌↔◌, ◌+◌, ◌-◌, ◌^◌, ◌<◌, ◌≤◌, ℕ, List, Bool, true, false, [], ◌∷◌, length, drop, IsTrue, OnOk, IsErr, IsErrOf, IfOk, IfErr, vec_capacity};
 ghost use Rattle.ic_disk.specs.Images.{Only, Within};
 ghost use Rattle.ic_disk.specs.Time.{LeavesOnly};
-ghost use Rattle.ic_frames.specs.Places.{other};
+ghost use Rattle.ic_disk.specs.Content.{laid};
+ghost use Rattle.ic_frames.specs.Places.{place, other};
+ghost use Rattle.ic_frames.specs.Fields.{IsMade};
+ghost use Rattle.ic_frames.specs.Layout.{behind_gate, slot_bytes};
 ghost use Rattle.ic_frames.specs.Held.{Holds, HoldsEither, IsClosedIn, body_held, the_body};
 ghost use Rattle.ic_frames.specs.Staged.{IsStaged};
 ghost use Rattle.ic_frames.specs.inner.Standing.{IsKept};
@@ -13,7 +16,7 @@ use crate::found::Found;
 use crate::frame::fill_head;
 use crate::opening::find;
 use crate::writes::{write_frame, write_gate};
-use crate::{KeepFault, OpenFault, Opened, Slot};
+use crate::{KeepFault, OpenCause, OpenFault, Opened, Slot};
 use ic_disk::Disk;
 use std::alloc::Global;
 
@@ -73,6 +76,10 @@ impl<D: Disk> Frames<D> {
         ensures same { IsTrue (D.keeps disk) → D.content (disk_after result) ≡ D.content disk }
         ensures settled { IsTrue (D.keeps disk)
             → OnOk result (Only (D.content disk) (D.image (disk_after result))) }
+
+        // Whatever else it answers than that the disk has failed, a sync has come before.
+        ensures synced { IsTrue (D.keeps disk) → ¬ IsErrOf (outcome_of result) OpenCause.Device
+            → Only (D.content disk) (D.image (disk_after result)) }
     {
         match find(alloc, &mut disk) {
             Ok(found) => {
@@ -134,8 +141,12 @@ impl<D: Disk> Frames<D> {
         ensures target { target_of self.new ≡ target_of self.old }
         ensures number { number_of self.new ≡ number_of self.old }
         ensures idle { is_closed self.old ≡ true → disk_of self.new ≡ disk_of self.old }
-        ensures calls { IsTrue (D.keeps (disk_of self.old))
-            → D.clock (disk_of self.new) ≤ D.clock (disk_of self.old) + 2 }
+        ensures calls { D.clock (disk_of self.new) ≤ D.clock (disk_of self.old) + 2 }
+
+        // An open gate is written as 0.
+        ensures written { IsTrue (D.keeps (disk_of self.old)) → is_closed self.old ≡ false
+            → OnOk result (D.content (disk_of self.new)
+            ≡ laid (place (target_of self.old)) (0 ∷ []) (D.content (disk_of self.old))) }
 
         // A crash at any moment leaves the body that was kept, and at Ok the slot is closed.
         ensures any_moment { (kept : List ℕ) → IsTrue (D.keeps (disk_of self.old))
@@ -184,8 +195,20 @@ impl<D: Disk> Frames<D> {
         ensures ready { OnOk result (is_broken self.new ≡ false) }
         ensures target { target_of self.new ≡ target_of self.old }
         ensures number { number_of self.new ≡ number_of self.old }
-        ensures calls { IsTrue (D.keeps (disk_of self.old))
-            → D.clock (disk_of self.new) ≤ D.clock (disk_of self.old) + 2 }
+        ensures calls { D.clock (disk_of self.new) ≤ D.clock (disk_of self.old) + 2 }
+
+        // At Ok the number, the length and the body are written behind the gate. Where the disk
+        // wasn't made, a 0 is written before them.
+        ensures written { IsTrue (D.keeps (disk_of self.old))
+            → IsMade (D.content (disk_of self.old)) → OnOk result (D.content (disk_of self.new)
+            ≡ laid (place (target_of self.old) + 1)
+            (behind_gate (number_of self.old + 1) (drop 13 frame.old))
+            (D.content (disk_of self.old))) }
+        ensures written_whole { IsTrue (D.keeps (disk_of self.old))
+            → ¬ IsMade (D.content (disk_of self.old)) → OnOk result (D.content (disk_of self.new)
+            ≡ laid (place (target_of self.old))
+            (0 ∷ behind_gate (number_of self.old + 1) (drop 13 frame.old))
+            (D.content (disk_of self.old))) }
 
         // A crash at any moment leaves the body that was kept, and at Ok the next is whole behind
         // the gate.
@@ -228,8 +251,16 @@ impl<D: Disk> Frames<D> {
         ensures staged { OnOk result (is_staged self.new ≡ false) }
         ensures target { OnOk result (target_of self.new ≡ other (target_of self.old)) }
         ensures number { OnOk result (number_of self.new ≡ number_of self.old + 1) }
-        ensures calls { IsTrue (D.keeps (disk_of self.old))
-            → D.clock (disk_of self.new) ≤ D.clock (disk_of self.old) + 2 }
+        ensures target_stays { IsErr result → target_of self.new ≡ target_of self.old }
+        ensures number_stays { IsErr result → number_of self.new ≡ number_of self.old }
+        ensures calls { D.clock (disk_of self.new) ≤ D.clock (disk_of self.old) + 2 }
+
+        // At Ok the gate is written as 1, and its slot is the newest in each image.
+        ensures written { IsTrue (D.keeps (disk_of self.old)) → OnOk result
+            (D.content (disk_of self.new)
+            ≡ laid (place (target_of self.old)) (1 ∷ []) (D.content (disk_of self.old))) }
+        ensures newest { IsTrue (D.keeps (disk_of self.old)) → OnOk result
+            (Within (D.image (disk_of self.new)) (IsOnNewest self.new)) }
 
         // A crash at any moment leaves the body that was kept or the one that is staged, and at Ok
         // the latter alone.
@@ -281,14 +312,23 @@ impl<D: Disk> Frames<D> {
         ensures staged { OnOk result (is_staged self.new ≡ false) }
         ensures target { OnOk result (target_of self.new ≡ other (target_of self.old)) }
         ensures number { OnOk result (number_of self.new ≡ number_of self.old + 1) }
+        ensures target_stays { IsErr result → target_of self.new ≡ target_of self.old }
+        ensures number_stays { IsErr result → number_of self.new ≡ number_of self.old }
 
         ensures same_body { drop 13 frame.new ≡ drop 13 frame.old }
 
         // It makes at most six calls, and four over a closed slot.
-        ensures calls { IsTrue (D.keeps (disk_of self.old))
-            → D.clock (disk_of self.new) ≤ D.clock (disk_of self.old) + 6 }
-        ensures few_calls { IsTrue (D.keeps (disk_of self.old)) → is_closed self.old ≡ true
+        ensures calls { D.clock (disk_of self.new) ≤ D.clock (disk_of self.old) + 6 }
+        ensures few_calls { is_closed self.old ≡ true
             → D.clock (disk_of self.new) ≤ D.clock (disk_of self.old) + 4 }
+
+        // At Ok the slot's bytes are written, and it is the newest in each image.
+        ensures written { IsTrue (D.keeps (disk_of self.old)) → OnOk result
+            (D.content (disk_of self.new) ≡ laid (place (target_of self.old))
+            (slot_bytes (number_of self.old + 1) (drop 13 frame.old))
+            (D.content (disk_of self.old))) }
+        ensures newest { IsTrue (D.keeps (disk_of self.old)) → OnOk result
+            (Within (D.image (disk_of self.new)) (IsOnNewest self.new)) }
 
         // A crash at any moment leaves the body that was kept or the next one.
         ensures any_moment { (kept : List ℕ) → IsTrue (D.keeps (disk_of self.old))

@@ -8,11 +8,11 @@ ghost use Rattle.ic_frames.specs.declared.faults.OpenCause.{OpenCause};
 ghost use Rattle.ic_frames.specs.declared.faults.OpenCause.TheVariants.{Device as OpenDevice, NoSlot, TwoAlike, Damaged};
 ghost use Rattle.ic_frames.specs.declared.frame.TheConstants.{HEAD, MAX_BODY};
 ghost use Rattle.ic_frames.specs.declared.slot.Slot.{Slot};
-ghost use Rattle.ic_frames.specs.declared.slot.Slot.TheVariants.{Second};
+ghost use Rattle.ic_frames.specs.declared.slot.Slot.TheVariants.{First, Second};
 ghost use Rattle.ic_frames.specs.declared.slot.TheConstants.{SECOND_AT};
 ghost use Rattle.ic_frames.specs.Places.{place};
 ghost use Rattle.ic_frames.specs.Faults.{CountsKeep, CountsOpen};
-ghost use Rattle.ic_frames.specs.Fields.{size, is_open, is_whole, body};
+ghost use Rattle.ic_frames.specs.Fields.{size, is_open, is_whole, body, IsMade};
 ghost use Rattle.ic_frames.specs.Layout.{slot_bytes, AreBytes};
 ghost use Rattle.ic_frames.specs.Opening.{Answers};
 ghost use Rattle.ic_frames.specs.Staged.{IsStaged};
@@ -42,7 +42,7 @@ pub fn the_heads_say_which_is_newest()
 
 /// A slot is its bytes: 1 at the gate, the number in eight bytes and the length of the body in four,
 /// both big endian, and the body. Where these stand the slot is open and whole, with that number
-/// and that body, and nothing else is.
+/// and that body. In a file that is a list of bytes, nothing else is.
 pub fn a_slot_is_its_bytes()
     ensures written { (slot : Slot) (n : ℕ) (held file : List ℕ) → n < 2 ^ 64
         → length held ≤ MAX_BODY → bytes_at (place slot) (13 + length held) file ≡ slot_bytes n held
@@ -86,5 +86,8 @@ pub fn a_refusal_says_what_is_held()
 pub fn limits_are()
     ensures head { HEAD ≡ 13 }
     ensures body { MAX_BODY ≡ 3036421 }
+    ensures first { place First ≡ 0 }
     ensures second { SECOND_AT ≡ place Second }
+    ensures second_at { SECOND_AT ≡ 4194304 }
+    ensures made { (file : List ℕ) → IsMade file ↔ (place Second + HEAD ≤ length file) }
 {}

@@ -1,5 +1,5 @@
 // Finding the newest body of a disk.
-ghost use Rattle.std.specs.Prelude.{◌≡◌, ◌⊎◌, ◌+◌, ◌≤◌, ◌<◌, ℕ, List, true, false, length, drop, IsTrue, IfOk, IfErr, OnOk, OnErr, vec_capacity};
+ghost use Rattle.std.specs.Prelude.{◌≡◌, ◌⊎◌, ◌+◌, ◌≤◌, ◌<◌, ℕ, List, true, false, length, drop, IsTrue, IfOk, IfErr, IsErrOf, OnOk, OnErr, vec_capacity};
 ghost use Rattle.ic_disk.specs.Content.{bytes_at};
 ghost use Rattle.ic_disk.specs.Images.{Only};
 ghost use Rattle.ic_disk.specs.Time.{CountsFailure};
@@ -160,6 +160,8 @@ pub(crate) fn find<D: Disk>(alloc: Global, disk: &mut D) -> Result<Found, OpenCa
         → IfOk result (λ found. IsFound found (D.content disk.old)) }
     ensures settled { IsTrue (D.keeps disk.old)
         → OnOk result (Only (D.content disk.old) (D.image disk.new)) }
+    ensures synced { IsTrue (D.keeps disk.old) → ¬ IsErrOf result OpenCause.Device
+        → Only (D.content disk.old) (D.image disk.new) }
     ensures room { IfOk result (λ found. 13 + 3036421 ≤ vec_capacity found.frame) }
     ensures head { IfOk result (λ found. 13 ≤ length found.frame.items) }
     ensures refused { IsTrue (D.keeps disk.old)

@@ -19,7 +19,7 @@ pub(crate) fn write_gate<D: Disk>(disk: &mut D, slot: Slot, gate: u8) -> Result<
         (Only (laid (place slot) (gate ∷ []) (D.content disk.old)) (D.image disk.new)) }
     ensures any_moment { IsTrue (D.keeps disk.old) → LeavesOnly D.clock D.left disk.old disk.new
         (TornFrom (place slot) 1 (D.image disk.old)) }
-    ensures calls { IsTrue (D.keeps disk.old) → D.clock disk.new ≤ D.clock disk.old + 2 }
+    ensures calls { D.clock disk.new ≤ D.clock disk.old + 2 }
 {
     write_synced(disk, slot.place(), &[gate])
 }
@@ -42,7 +42,7 @@ pub(crate) fn write_frame<D: Disk>(
         (D.image disk.new)) }
     ensures any_moment { IsTrue (D.keeps disk.old) → LeavesOnly D.clock D.left disk.old disk.new
         (TornFrom (place slot + skip) (length frame.now - skip) (D.image disk.old)) }
-    ensures calls { IsTrue (D.keeps disk.old) → D.clock disk.new ≤ D.clock disk.old + 2 }
+    ensures calls { D.clock disk.new ≤ D.clock disk.old + 2 }
 {
     write_synced(disk, slot.place() + skip as u64, &frame[skip..])
 }

@@ -1,6 +1,11 @@
-use Rattle.std.proofs.Common.{◌≡◌, ◌∙◌, drop}
+use Rattle.std.proofs.Common.{◌≡◌, ◌∙◌, inl, inr, ⊎_elim, ◌+◌, [], ◌∷◌, drop, ap}
+use Rattle.std.proofs.lemmas.Bool.{cases_Bool}
+use Rattle.ic_disk.specs.Content.{laid}
 use Rattle.ic_disk.specs.Images.{Within}
+use Rattle.ic_frames.specs.Places.{place, other}
+use Rattle.ic_frames.specs.Layout.{slot_bytes}
 use Rattle.ic_frames.specs.Held.{Holds, the_body, body_held}
+use Rattle.ic_frames.proofs.LaidLemmas.{keep_written}
 use Rattle.ic_frames.proofs.PhaseLemmas.{at_end, keep_run, stop_run, on_ok}
 use Rattle.ic_frames.proofs.frames.Frames.keep.Goals as goal
 
@@ -41,3 +46,24 @@ returns-clause-held g c keeps =
     on_ok c.open_gate.result (Within (disk.image new) (Holds body)) (body_held (disk.content new) ≡ the_body body)
     (λ holds. (holds (disk.content new) (g.met.D.Disk.content_is_image new)).held)
     (c.open_gate.ensures.holds body keeps_twice (c.in_ok-write_body.ensures.whole keeps_once))
+
+pub returns-clause-written : goal.returns-clause-written
+returns-clause-written g c keeps =
+    let disk = g.D.Disk in
+    let old = c.args.self.now in
+    let closed = c.close_gate.new.self in
+    let staged = c.write_body.new.self in
+    let new = c.open_gate.new.self.disk in
+    let body = drop 13 c.args.frame.now in
+    let keeps_once = c.close_gate.ensures.keeps ∙ keeps in
+    let keeps_twice = c.write_body.ensures.keeps ∙ keeps_once in
+    on_ok c.open_gate.result (disk.content new ≡ laid (place (other staged.newest)) (1 ∷ []) (disk.content staged.disk))
+    (disk.content new ≡ laid (place (other old.newest)) (slot_bytes (old.number + 1) body) (disk.content old.disk))
+    (λ last. keep_written (other old.newest) (other closed.newest) (other staged.newest) old.number closed.number body
+    (disk.content old.disk) (disk.content closed.disk) (disk.content staged.disk) (disk.content new)
+    c.close_gate.ensures.target c.write_body.ensures.target c.close_gate.ensures.number
+    (⊎_elim (λ shut. inl (ap disk.content (c.close_gate.ensures.idle shut))) (λ opened. inr (c.in_ok-close_gate.ensures.written keeps opened)) (cases_Bool old.closed))
+    (λ made. c.in_ok-write_body.ensures.written keeps_once made)
+    (λ cut. c.in_ok-write_body.ensures.written_whole keeps_once cut)
+    last)
+    (c.open_gate.ensures.written keeps_twice)

@@ -1,5 +1,5 @@
 use Rattle.std.proofs.Common.{sym, ◌∙◌, ◌≤◌, ◌+◌, length, drop, arith, length-drop}
-use Rattle.ic_frames.proofs.PhaseLemmas.{body_run, body_end}
+use Rattle.ic_frames.proofs.PhaseLemmas.{body_run, body_end, body_written, body_written_whole}
 use Rattle.ic_frames.proofs.frames.Frames.write_body.Goals as goal
 
 pub returns-in_err-write_frame-clause-any_moment : goal.returns-in_err-write_frame-clause-any_moment
@@ -40,3 +40,19 @@ returns-clause-whole g c keeps =
     (body_end disk.content disk.image disk.clock disk.left old.disk c.write_frame.new.disk (g.met.D.Disk.content_is_image old.disk) old.newest c.other.result old.number c.other.ensures
     old.closed old.staged old.made c.written_from-skip.result (drop 13 c.args.frame.now) c.fill_head.new.frame (old.kept keeps c.in_ok-check_usable.ensures.ok.0) c.requires.closed c.fill_head.ensures short c.written_from-skip.ensures.which
     (c.in_ok-write_frame.ensures.written keeps) (c.in_ok-write_frame.ensures.durable keeps)).1
+
+pub returns-clause-written : goal.returns-clause-written
+returns-clause-written g c keeps made =
+    let disk = g.D.Disk in
+    let old = c.args.self.now in
+    body_written disk.content disk.image disk.clock disk.left old.disk c.write_frame.new.disk (g.met.D.Disk.content_is_image old.disk) old.newest c.other.result old.number c.other.ensures
+    old.closed old.staged old.made c.written_from-skip.result (drop 13 c.args.frame.now) c.fill_head.new.frame (old.kept keeps c.in_ok-check_usable.ensures.ok.0) c.fill_head.ensures c.written_from-skip.ensures.which
+    (c.in_ok-write_frame.ensures.written keeps) made
+
+pub returns-clause-written_whole : goal.returns-clause-written_whole
+returns-clause-written_whole g c keeps made =
+    let disk = g.D.Disk in
+    let old = c.args.self.now in
+    body_written_whole disk.content disk.image disk.clock disk.left old.disk c.write_frame.new.disk (g.met.D.Disk.content_is_image old.disk) old.newest c.other.result old.number c.other.ensures
+    old.closed old.staged old.made c.written_from-skip.result (drop 13 c.args.frame.now) c.fill_head.new.frame (old.kept keeps c.in_ok-check_usable.ensures.ok.0) c.fill_head.ensures c.written_from-skip.ensures.which
+    (c.in_ok-write_frame.ensures.written keeps) made
