@@ -3,7 +3,7 @@ use Rattle.std.proofs.Common.{◌≡◌, ◌∙◌, ⊎_elim, ap, sym, refl, Lis
 use Rattle.ic_jobs.specs.Job.{JobParts}
 use Rattle.ic_jobs.specs.Table.{IsTable}
 use Rattle.ic_codec.specs.Tables.{table_bytes}
-use Rattle.ic_frames.specs.Held.{the_body, body_held}
+use Rattle.ic_frames.specs.Held.{the_body}
 use Rattle.ic_frames.specs.Held.{no_slot as no_open_slot, two_alike as two_alike_slots, damaged as damaged_slot}
 use Rattle.ic_slots.specs.Held.{Held, IsHeld, the_table, no_slot, two_alike, damaged}
 

@@ -1,5 +1,5 @@
 -- What is said of bodies, said of the tables of which they are the byte form.
-use Rattle.std.proofs.Common.{◌≡◌, ◌⊎◌, inl, inr, ⊎_elim, ◌+◌, ◌≤◌, ℕ, List, [], length, drop, Result, Ok, Err, OnOk, subst, refl, sym, ◌∙◌, ap}
+use Rattle.std.proofs.Common.{inl, inr, ⊎_elim, ℕ, List, Result, Ok, Err, OnOk}
 use Rattle.ic_disk.specs.Images.{Within}
 use Rattle.ic_disk.specs.Time.{LeavesOnly}
 use Rattle.ic_disk.specs.lemmas.Moments.{leaves_weaker}
@@ -7,7 +7,7 @@ use Rattle.ic_jobs.specs.Job.{JobParts}
 use Rattle.ic_jobs.specs.Table.{IsTable}
 use Rattle.ic_codec.specs.Tables.{table_bytes}
 use Rattle.ic_frames.specs.declared.slot.Slot.{Slot}
-use Rattle.ic_frames.specs.Held.{Holds, HoldsEither, body_held, the_body}
+use Rattle.ic_frames.specs.Held.{Holds, HoldsEither}
 use Rattle.ic_frames.specs.Staged.{IsStaged}
 use Rattle.ic_slots.specs.Held.{HoldsTable, HoldsEitherTable, IsStagedTable}
 

@@ -1,7 +1,11 @@
 // The empty table on a disk.
-ghost use Rattle.std.specs.Prelude.{◌≡◌, ◌+◌, ◌≤◌, [], IsTrue, IsErrOf, OnOk};
+ghost use Rattle.std.specs.Prelude.{◌≡◌, ◌+◌, ◌≤◌, [], replicate, IsTrue, IsErrOf, OnOk};
+ghost use Rattle.ic_codec.specs.Tables.{table_bytes};
+ghost use Rattle.ic_disk.specs.Content.{laid};
 ghost use Rattle.ic_disk.specs.Images.{Within};
 ghost use Rattle.ic_frames.specs.Held.{IsClosedIn};
+ghost use Rattle.ic_frames.specs.Layout.{slot_bytes};
+ghost use Rattle.ic_frames.specs.Places.{place};
 ghost use Rattle.ic_slots.specs.Held.{HoldsTable, IsStagedTable, IsHeld, the_table};
 ghost use Rattle.ic_slots.specs.Faults.{CountsCreate};
 
@@ -16,10 +20,16 @@ use std::alloc::Global;
 pub fn create<D: Disk>(alloc: Global, disk: &mut D) -> Result<(), CreateFault>
     ensures keeps { D.keeps disk.new ≡ D.keeps disk.old }
     ensures counted { CountsCreate result (D.failures disk.old) (D.failures disk.new) }
-    ensures calls { IsTrue (D.keeps disk.old) → D.clock disk.new ≤ D.clock disk.old + 6 }
+    ensures calls { D.clock disk.new ≤ D.clock disk.old + 6 }
 
     // Without memory the disk is as it was.
     ensures unchanged { IsErrOf result CreateFault.Memory → disk.new ≡ disk.old }
+
+    // At Ok the slot's bytes are at the beginning of the disk, and thirteen zeros are written at the
+    // second slot; all else stays.
+    ensures written { IsTrue (D.keeps disk.old) → OnOk result (D.content disk.new
+        ≡ laid (place Slot.First) (slot_bytes 1 (table_bytes []))
+        (laid (place Slot.Second) (replicate 13 0) (D.content disk.old))) }
 
     // At Ok a crash leaves the empty table, and so do reads. It is in the first slot with the number
     // 1, and the second slot is closed.

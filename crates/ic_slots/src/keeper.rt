@@ -1,11 +1,14 @@
 // A table that is kept on a disk.
-ghost use Rattle.std.specs.Prelude.{◌≡◌, ◌↔◌, ◌+◌, ◌-◌, ◌^◌, ◌≤◌, List, true, false, length, drop, IsTrue, OnOk, IsErr, IsErrOf, IfOk, IfErr, vec_capacity};
+ghost use Rattle.std.specs.Prelude.{◌≡◌, ◌↔◌, ◌+◌, ◌-◌, ◌^◌, ◌≤◌, List, [], ◌∷◌, true, false, length, drop, IsTrue, OnOk, IsErr, IsErrOf, IfOk, IfErr, vec_capacity};
 ghost use Rattle.ic_disk.specs.Images.{Only, Within};
 ghost use Rattle.ic_disk.specs.Time.{LeavesOnly};
 ghost use Rattle.ic_jobs.specs.Job.{JobParts};
 ghost use Rattle.ic_jobs.specs.Table.{IsTable};
 ghost use Rattle.ic_codec.specs.Tables.{table_bytes};
-ghost use Rattle.ic_frames.specs.Places.{other};
+ghost use Rattle.ic_disk.specs.Content.{laid};
+ghost use Rattle.ic_frames.specs.Places.{place, other};
+ghost use Rattle.ic_frames.specs.Fields.{IsMade};
+ghost use Rattle.ic_frames.specs.Layout.{behind_gate, slot_bytes};
 ghost use Rattle.ic_frames.specs.Faults.{CountsKeep, CountsOpen};
 ghost use Rattle.ic_frames.specs.Held.{IsClosedIn};
 ghost use Rattle.ic_frames.specs.Opened.{IsOnNewest};
@@ -56,6 +59,10 @@ impl<D: Disk> Keeper<D> {
         ensures same { IsTrue (D.keeps disk) → D.content (disk_after result) ≡ D.content disk }
         ensures settled { IsTrue (D.keeps disk)
             → OnOk result (Only (D.content disk) (D.image (disk_after result))) }
+
+        // Whatever else it answers than that the disk has failed, a sync has come before.
+        ensures synced { IsTrue (D.keeps disk) → ¬ IsErrOf (outcome_of result) OpenCause.Device
+            → Only (D.content disk) (D.image (disk_after result)) }
     {
         match Frames::open(alloc, disk) {
             Ok(opened) => {
@@ -92,8 +99,12 @@ impl<D: Disk> Keeper<D> {
         ensures target { target_of self.new ≡ target_of self.old }
         ensures number { number_of self.new ≡ number_of self.old }
         ensures idle { is_closed self.old ≡ true → disk_of self.new ≡ disk_of self.old }
-        ensures calls { IsTrue (D.keeps (disk_of self.old))
-            → D.clock (disk_of self.new) ≤ D.clock (disk_of self.old) + 2 }
+        ensures calls { D.clock (disk_of self.new) ≤ D.clock (disk_of self.old) + 2 }
+
+        // An open gate is written as 0.
+        ensures written { IsTrue (D.keeps (disk_of self.old)) → is_closed self.old ≡ false
+            → OnOk result (D.content (disk_of self.new)
+            ≡ laid (place (target_of self.old)) (0 ∷ []) (D.content (disk_of self.old))) }
 
         // A crash at any moment leaves the table that was kept, and at Ok the slot is closed.
         ensures any_moment { (kept : List JobParts) → IsTrue (D.keeps (disk_of self.old))
@@ -127,8 +138,20 @@ impl<D: Disk> Keeper<D> {
         ensures ready { OnOk result (is_broken self.new ≡ false) }
         ensures target { target_of self.new ≡ target_of self.old }
         ensures number { number_of self.new ≡ number_of self.old }
-        ensures calls { IsTrue (D.keeps (disk_of self.old))
-            → D.clock (disk_of self.new) ≤ D.clock (disk_of self.old) + 2 }
+        ensures calls { D.clock (disk_of self.new) ≤ D.clock (disk_of self.old) + 2 }
+
+        // At Ok the number, the length and the byte form of the table are written behind the gate.
+        // Where the disk wasn't made, a 0 is written before them.
+        ensures written { IsTrue (D.keeps (disk_of self.old))
+            → IsMade (D.content (disk_of self.old)) → OnOk result (D.content (disk_of self.new)
+            ≡ laid (place (target_of self.old) + 1)
+            (behind_gate (number_of self.old + 1) (table_bytes table.now))
+            (D.content (disk_of self.old))) }
+        ensures written_whole { IsTrue (D.keeps (disk_of self.old))
+            → ¬ IsMade (D.content (disk_of self.old)) → OnOk result (D.content (disk_of self.new)
+            ≡ laid (place (target_of self.old))
+            (0 ∷ behind_gate (number_of self.old + 1) (table_bytes table.now))
+            (D.content (disk_of self.old))) }
 
         // A crash at any moment leaves the table that was kept, and at Ok the next is whole behind
         // the gate.
@@ -164,8 +187,16 @@ impl<D: Disk> Keeper<D> {
         ensures staged { OnOk result (is_staged self.new ≡ false) }
         ensures target { OnOk result (target_of self.new ≡ other (target_of self.old)) }
         ensures number { OnOk result (number_of self.new ≡ number_of self.old + 1) }
-        ensures calls { IsTrue (D.keeps (disk_of self.old))
-            → D.clock (disk_of self.new) ≤ D.clock (disk_of self.old) + 2 }
+        ensures target_stays { IsErr result → target_of self.new ≡ target_of self.old }
+        ensures number_stays { IsErr result → number_of self.new ≡ number_of self.old }
+        ensures calls { D.clock (disk_of self.new) ≤ D.clock (disk_of self.old) + 2 }
+
+        // At Ok the gate is written as 1, and its slot is the newest in each image.
+        ensures written { IsTrue (D.keeps (disk_of self.old)) → OnOk result
+            (D.content (disk_of self.new)
+            ≡ laid (place (target_of self.old)) (1 ∷ []) (D.content (disk_of self.old))) }
+        ensures newest { IsTrue (D.keeps (disk_of self.old)) → OnOk result
+            (Within (D.image (disk_of self.new)) (IsOnNewest (frames_of self.new))) }
 
         // A crash at any moment leaves the table that was kept or the one that is staged, and at Ok
         // the latter alone.
@@ -202,12 +233,21 @@ impl<D: Disk> Keeper<D> {
         ensures staged { OnOk result (is_staged self.new ≡ false) }
         ensures target { OnOk result (target_of self.new ≡ other (target_of self.old)) }
         ensures number { OnOk result (number_of self.new ≡ number_of self.old + 1) }
+        ensures target_stays { IsErr result → target_of self.new ≡ target_of self.old }
+        ensures number_stays { IsErr result → number_of self.new ≡ number_of self.old }
 
         // It makes at most six calls, and four over a closed slot.
-        ensures calls { IsTrue (D.keeps (disk_of self.old))
-            → D.clock (disk_of self.new) ≤ D.clock (disk_of self.old) + 6 }
-        ensures few_calls { IsTrue (D.keeps (disk_of self.old)) → is_closed self.old ≡ true
+        ensures calls { D.clock (disk_of self.new) ≤ D.clock (disk_of self.old) + 6 }
+        ensures few_calls { is_closed self.old ≡ true
             → D.clock (disk_of self.new) ≤ D.clock (disk_of self.old) + 4 }
+
+        // At Ok the slot's bytes are written, and it is the newest in each image.
+        ensures written { IsTrue (D.keeps (disk_of self.old)) → OnOk result
+            (D.content (disk_of self.new) ≡ laid (place (target_of self.old))
+            (slot_bytes (number_of self.old + 1) (table_bytes table.now))
+            (D.content (disk_of self.old))) }
+        ensures newest { IsTrue (D.keeps (disk_of self.old)) → OnOk result
+            (Within (D.image (disk_of self.new)) (IsOnNewest (frames_of self.new))) }
 
         // A crash at any moment leaves the table that was kept or the next one.
         ensures any_moment { (kept : List JobParts) → IsTrue (D.keeps (disk_of self.old))

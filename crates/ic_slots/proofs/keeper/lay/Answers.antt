@@ -1,4 +1,4 @@
-use Rattle.std.proofs.Common.{◌≡◌, ◌∙◌, List, ℕ, length, take, drop, ap, arith}
+use Rattle.std.proofs.Common.{◌≡◌, ◌∙◌, List, ℕ, length, drop, ap}
 use Rattle.std.proofs.lemmas.List.{drop_at, length-take-le}
 use Rattle.ic_codec.specs.Tables.{table_bytes}
 use Rattle.ic_slots.proofs.keeper.lay.Goals as goal

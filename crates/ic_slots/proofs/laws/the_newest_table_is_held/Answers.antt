@@ -1,13 +1,8 @@
-use Rattle.std.proofs.Common.{◌≡◌, ◌∙◌, ⊎_elim, inl, inr, ap, List, ℕ, true, false}
+use Rattle.std.proofs.Common.{◌∙◌, ⊎_elim, inl, inr, ap}
 use Rattle.std.proofs.lemmas.Bool.{cases_Bool}
-use Rattle.ic_jobs.specs.Job.{JobParts}
-use Rattle.ic_jobs.specs.Table.{IsTable}
-use Rattle.ic_codec.specs.Tables.{table_bytes}
-use Rattle.ic_frames.specs.declared.slot.Slot.{Slot}
 use Rattle.ic_frames.specs.Places.{place}
 use Rattle.ic_frames.specs.Fields.{is_whole, body}
-use Rattle.ic_frames.specs.Held.{IsNewest, the_body}
-use Rattle.ic_slots.specs.Held.{IsHeld, the_table, damaged}
+use Rattle.ic_frames.specs.Held.{the_body}
 use Rattle.ic_slots.proofs.laws.the_newest_table_is_held.Goals as goal
 
 pub returns-clause-held : goal.returns-clause-held

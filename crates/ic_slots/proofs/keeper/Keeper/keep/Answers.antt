@@ -1,4 +1,4 @@
-use Rattle.std.proofs.Common.{◌≡◌, ◌∙◌, List, ℕ, drop, ap, subst}
+use Rattle.std.proofs.Common.{◌∙◌, List, ℕ, drop, ap, subst}
 use Rattle.ic_disk.specs.Time.{LeavesOnly}
 use Rattle.ic_frames.specs.Held.{HoldsEither}
 use Rattle.ic_codec.specs.Tables.{table_bytes}
