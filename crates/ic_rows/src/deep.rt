@@ -1,6 +1,6 @@
 //! Terms of the greatest depth, in a thread with the standard's stack.
 
-use crate::trouble::Trouble;
+use ic_notation::Trouble;
 use ic_round::round;
 use ic_term::over;
 use ic_text::{print_config, read_system};

@@ -1,6 +1,6 @@
 //! Configurations that look drawn by chance, on which both bodies of settling agree.
 
-use crate::trouble::Trouble;
+use ic_notation::Trouble;
 use ic_round::laws::settle_slowly;
 use ic_round::{bind, settle};
 use ic_term::{Cell, Config, Equation, Term};

@@ -1,7 +1,6 @@
 //! Readers and writers that give or take little at a time, or fail on the way, for both streams of the program.
 
-use crate::expansion::decimal;
-use crate::trouble::Trouble;
+use ic_notation::{Trouble, decimal};
 use ic_serve::{StreamFault, once_stream, settle_stream};
 use std::alloc::Global;
 use std::io::{self, ErrorKind, Read, Write};

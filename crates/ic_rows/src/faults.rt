@@ -1,6 +1,6 @@
 //! The line of each fault, also of those that no row meets.
 
-use crate::trouble::Trouble;
+use ic_notation::Trouble;
 use ic_round::RoundFault;
 use ic_serve::StreamFault;
 use ic_text::{TextFault, print_fault};

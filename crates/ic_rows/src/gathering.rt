@@ -3,7 +3,7 @@
 ghost use Rattle.std.specs.Prelude.{◌≡◌, None, [], ◌∷◌, IfOk};
 ghost use Rattle.ic_round.specs.WorkViews.{fired_of};
 
-use crate::trouble::Trouble;
+use ic_notation::Trouble;
 use ic_round::{Fired, GatherFault, Rest, gather};
 use ic_term::Config;
 use std::alloc::{AllocError, Global};

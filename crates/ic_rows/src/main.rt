@@ -1,32 +1,27 @@
-//! The worked rows: each line of standard input has a row's name, what is asked, and the answer that it must have.
+//! The worked rows of texts, values, steps, rounds and streams: each line of standard input has a row's name, what is
+//! asked, and the answer that it must have.
 //!
-//! A row is `NAME: KIND TEXT => ANSWER`, as `settle_chain: settle <r|r=S(s),s=Z> => <S(Z)|>`. A line that is empty, or
-//! begins with `--`, says nothing. Printed is each row with another answer, and how many rows there are. Answers come
-//! from the definitions, computed by hand, never from the program.
+//! A line that is empty, or begins with `--`, says nothing. Printed is each row with another answer, and how many rows
+//! there are.
 #![tactic(auto)]
 
-mod bytes;
+mod answers;
 mod deep;
 mod drawn;
-mod expansion;
 mod failing;
 mod faults;
 mod gathering;
-mod jobs;
-mod lines;
-mod pool;
 mod rounds;
-mod row;
 mod settling;
 mod steps;
 mod streams;
 mod systems;
 mod texts;
-mod trouble;
 mod values;
 mod words;
 
-use crate::row::Row;
+use crate::answers::answer;
+use ic_notation::Row;
 use std::io::{self, Write};
 
 fn main(rt: HostRuntime) -> io::Result<()> {
@@ -38,7 +33,7 @@ fn main(rt: HostRuntime) -> io::Result<()> {
             continue;
         };
         rows = rows.saturating_add(1);
-        if let Some(found) = row.other_answer(&rt, rt.alloc()) {
+        if let Some(found) = row.other_answer(rt.alloc(), answer(&rt, rt.alloc(), &row)) {
             wrong = wrong.saturating_add(1);
             print!(rt; "{}: ", row.name)?;
             rt.stdout().write_all(&found)?;

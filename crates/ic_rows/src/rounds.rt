@@ -1,9 +1,6 @@
 //! Rounds of systems.
 
-use crate::expansion::decimal;
-use crate::systems::system_of;
-use crate::texts::printed;
-use crate::trouble::Trouble;
+use ic_notation::{Trouble, decimal, printed, system_of};
 use ic_round::{RoundFault, fits, quiet, round};
 use ic_rules::RuleSet;
 use ic_term::{Config, over};

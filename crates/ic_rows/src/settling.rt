@@ -1,7 +1,6 @@
 //! Settling through bindings, beside the settling that makes one step after the other.
 
-use crate::expansion::decimal;
-use crate::trouble::Trouble;
+use ic_notation::{Trouble, decimal};
 use ic_round::laws::settle_slowly;
 use ic_round::{bind, settle};
 use ic_term::{Config, Symbols, Term, over};

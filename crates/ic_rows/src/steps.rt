@@ -1,9 +1,6 @@
 //! Single steps, and the works of a plan.
 
-use crate::expansion::decimal;
-use crate::systems::system_of;
-use crate::texts::printed;
-use crate::trouble::Trouble;
+use ic_notation::{Trouble, decimal, printed, system_of};
 use ic_round::{StepFault, collect_at, fire, indirect_at, interact_at, plan};
 use ic_term::over;
 use std::alloc::Global;

@@ -1,6 +1,6 @@
 //! What the program does with a text, without the program: its streams over bytes in memory.
 
-use crate::trouble::Trouble;
+use ic_notation::Trouble;
 use ic_serve::{StreamFault, once_stream, settle_stream};
 use std::alloc::Global;
 

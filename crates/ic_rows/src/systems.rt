@@ -1,18 +1,7 @@
 //! The symbols and rules of a system's text.
 
-use crate::expansion::decimal;
-use crate::trouble::Trouble;
-use ic_rules::System;
-use ic_text::{read_config, read_system};
+use ic_notation::{Trouble, decimal, system_of};
 use std::alloc::Global;
-
-/// The system of a text that is read.
-pub fn system_of(alloc: Global, text: &[u8]) -> Result<System, Trouble> {
-    match read_system(alloc, text) {
-        Ok(system) => Ok(system),
-        Err(_) => Err(Trouble("a text is refused")),
-    }
-}
 
 /// The symbols of a text with their arities, in the order of their numbers, and `next` of its configuration.
 pub fn named_symbols(alloc: Global, text: &[u8]) -> Result<Vec<u8>, Trouble> {

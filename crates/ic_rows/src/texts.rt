@@ -1,19 +1,8 @@
 //! What is read of a text: printed again, or the line of its refusal.
 
-use crate::trouble::Trouble;
-use ic_rules::RuleSet;
-use ic_term::{Config, over};
+use ic_notation::{Trouble, printed};
 use ic_text::{print_config, print_fault, read_config, read_system};
 use std::alloc::Global;
-
-/// The text of a configuration.
-pub fn printed(alloc: Global, rules: &RuleSet, config: &Config) -> Result<Vec<u8>, Trouble> {
-    let symbols = rules.symbols();
-    if !over(symbols, config) {
-        return Err(Trouble("not over the symbols"));
-    }
-    Ok(print_config(alloc, symbols, config)?)
-}
 
 /// The configuration that a text means as it is printed, or the line of the refusal.
 fn read_alone(alloc: Global, text: &[u8]) -> Result<Vec<u8>, Trouble> {

@@ -1,8 +1,6 @@
 //! Values made by calls, out of parts that texts have, and what is answered where no text could ask for them.
 
-use crate::expansion::decimal;
-use crate::systems::system_of;
-use crate::trouble::Trouble;
+use ic_notation::{Trouble, decimal, system_of};
 use ic_rules::{Rule, RuleFault, RuleSet, System};
 use ic_term::{Cell, Config, ConfigFault, SymbolFault, Symbols, Term, copy_terms, is_symbol};
 use ic_text::read_config;

@@ -1,6 +1,6 @@
 //! The words after the program's name.
 
-use crate::trouble::Trouble;
+use ic_notation::Trouble;
 use ic_serve::{Task, WordsFault, read_words};
 use std::alloc::Global;
 

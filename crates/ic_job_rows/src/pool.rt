@@ -1,9 +1,6 @@
 //! Rounds of jobs by any number of workers, and gates that hold the workers up.
 
-use crate::expansion::{decimal, expanded};
-use crate::systems::system_of;
-use crate::texts::printed;
-use crate::trouble::Trouble;
+use ic_notation::{Trouble, decimal, expanded, printed, system_of};
 use ic_pool::{Flight, Gate, MAX_ROUNDS, OpenGate, Played, PoolFault, play, play_alone};
 use ic_rules::{JobName, RuleSet};
 use ic_term::{Config, over};

@@ -5,6 +5,7 @@
 
 use std::alloc::{AllocError, Global};
 
+/// The bytes that a text stands for.
 pub fn expanded(alloc: Global, text: &str) -> Result<Vec<u8>, AllocError> {
     let mut bytes = Vec::new(alloc);
     for part in text.split('[') {

@@ -1,8 +1,8 @@
 //! Tables as bytes: what they are read as, and what is written.
 
-use crate::trouble::Trouble;
 use ic_codec::{CodecFault, MAX_BYTES, decode, encode_into};
 use ic_jobs::{Command, Table};
+use ic_notation::Trouble;
 use ic_text::print_reply;
 use std::alloc::Global;
 

@@ -1,9 +1,7 @@
 //! Command lines, as they are read.
 
-use crate::expansion::decimal;
-use crate::texts::printed;
-use crate::trouble::Trouble;
 use ic_jobs::{Command, Reply};
+use ic_notation::{Trouble, decimal, printed};
 use ic_rules::{JobName, System};
 use ic_text::{Line, print_fault, print_reply, read_command};
 use std::alloc::Global;

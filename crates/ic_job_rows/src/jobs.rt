@@ -1,10 +1,8 @@
 //! The job table, driven by scripts: command lines, and rounds that are taken, played and landed one by one.
 
 use crate::bytes::digits_of;
-use crate::expansion::{decimal, expanded};
-use crate::systems::system_of;
-use crate::trouble::Trouble;
 use ic_jobs::{Command, Job, Landed, State, Table};
+use ic_notation::{Trouble, decimal, expanded, system_of};
 use ic_pool::{Flight, play_alone};
 use ic_rules::JobName;
 use ic_term::Config;
