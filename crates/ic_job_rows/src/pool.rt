@@ -11,14 +11,19 @@ use std::thread::{self, Threads};
 use std::time::{Clock, Duration};
 
 /// A flight of a job, where these are the parts of one.
-fn flight_of(rules: Arc<RuleSet>, config: Config, rounds: u64) -> Result<Flight, Trouble> {
+fn flight_of(
+    alloc: Global,
+    rules: Arc<RuleSet>,
+    config: Config,
+    rounds: u64,
+) -> Result<Flight, Trouble> {
     let Some(name) = JobName::new(b"p") else {
         return Err(Trouble("no name"));
     };
     if !over(rules.symbols(), &config) || rounds > MAX_ROUNDS {
         return Err(Trouble("no flight"));
     }
-    Ok(Flight::new(0, name, rules, config, rounds))
+    Ok(Flight::new(0, name, rules, Arc::new(alloc, config)?, rounds))
 }
 
 /// Whether a round is of this flight: its name, rules, configuration and rounds.
@@ -60,7 +65,7 @@ pub fn rounds_by_any<R: Threads + Wait>(
     let (rules, mut config) = system_of(alloc, text)?.into_parts();
     let mut line = Vec::new(alloc);
     for round in 0..count {
-        let flight = flight_of(rules.clone()?, config, u64::from(round))?;
+        let flight = flight_of(alloc, rules.clone()?, config, u64::from(round))?;
         config = agreed(rt, alloc, &flight, &OpenGate)?;
         line.append(&mut printed(alloc, &rules, &config)?)?;
         line.push(b' ')?;
@@ -98,7 +103,7 @@ pub fn rounds_by_yielding<R: Threads + Wait>(
 ) -> Result<Vec<u8>, Trouble> {
     let (rules, mut config) = system_of(alloc, text)?.into_parts();
     for round in 0..count {
-        let flight = flight_of(rules.clone()?, config, u64::from(round))?;
+        let flight = flight_of(alloc, rules.clone()?, config, u64::from(round))?;
         let seed = u64::from(round);
         config = agreed(rt, alloc, &flight, &Yielding { seed })?;
     }
@@ -114,7 +119,12 @@ pub fn refused<R: Threads + Wait>(rt: &R, alloc: Global, text: &str) -> Result<V
     let (interface, equations, read) = config.into_parts();
     let next = u64::from_str_radix(next, 10).unwrap_or(read);
     let config = Config::restore(alloc, interface, equations, next)?;
-    let flight = flight_of(rules, config, u64::from_str_radix(rounds, 10).unwrap_or(0))?;
+    let flight = flight_of(
+        alloc,
+        rules,
+        config,
+        u64::from_str_radix(rounds, 10).unwrap_or(0),
+    )?;
     let workers = usize::from_str_radix(workers, 10).unwrap_or(0);
     let by_workers = play(rt, alloc, &flight, workers, &OpenGate).err();
     let alone = play_alone(alloc, &flight).err();
@@ -170,7 +180,7 @@ pub fn counted<R: Threads + Wait + Clock + Sync>(
         most: AtomicU64::new(0),
     };
     let (rules, config) = system_of(alloc, text)?.into_parts();
-    let flight = flight_of(rules, config, 0)?;
+    let flight = flight_of(alloc, rules, config, 0)?;
     if play(rt, alloc, &flight, workers as usize, &counting).is_err() {
         return Err(Trouble("a round by workers is refused"));
     }
@@ -225,7 +235,7 @@ pub fn played_at_once<R: Threads + Wait + Clock + Sync>(
         missed: AtomicBool::new(false),
     };
     let (rules, config) = system_of(alloc, text)?.into_parts();
-    let flight = flight_of(rules, config, 0)?;
+    let flight = flight_of(alloc, rules, config, 0)?;
     let Ok(played) = play(rt, alloc, &flight, 2, &meeting) else {
         return Err(Trouble("a round by workers is refused"));
     };

@@ -194,7 +194,7 @@ impl Job {
             place,
             self.name,
             self.rules.clone()?,
-            self.config.copy(alloc)?,
+            Arc::new(alloc, self.config.copy(alloc)?)?,
             self.rounds,
         ))
     }

@@ -1,5 +1,5 @@
 -- What the call that plays a flight in one thread answers.
-use Rattle.std.specs.Prelude.{◌≡◌, Result, Ok, Err}
+use Rattle.std.specs.Prelude.{◌≡◌, ℕ, Result, Ok, Err}
 use Rattle.ic_pool.specs.Played.{PlayedParts}
 use Rattle.ic_round.specs.declared.round_fault.RoundFault.{RoundFault}
 use Rattle.ic_round.specs.declared.round_fault.RoundFault.TheVariants as of_round
@@ -23,3 +23,14 @@ abbrev pub pool_fault : RoundFault → PoolFault
 pool_fault of_round.Overgrown = Overgrown
 pool_fault of_round.NamesOut = NamesOut
 pool_fault of_round.Memory = Memory
+
+-- the lasting number of a refusal
+abbrev pub fault_number : PoolFault → ℕ
+fault_number NoWorkers = 1
+fault_number Overgrown = 2
+fault_number NamesOut = 3
+fault_number NoThread = 4
+fault_number Memory = 5
+fault_number Lost = 6
+fault_number Stranger = 7
+fault_number RoundsOut = 8

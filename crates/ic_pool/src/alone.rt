@@ -17,7 +17,7 @@ pub fn play_alone(alloc: Global, flight: &Flight) -> Result<Played, PoolFault>
         return Err(PoolFault::RoundsOut);
     }
     let after = round(alloc, flight.rules(), flight.config().copy(alloc)?)?;
-    let before = flight.config().copy(alloc)?;
+    let before = flight.shared_config().clone()?;
     let rules = flight.rules().clone()?;
     Ok(Played::new(flight.name(), rules, before, after, flight.rounds()))
 }

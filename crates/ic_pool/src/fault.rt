@@ -26,6 +26,17 @@ pub enum PoolFault {
     RoundsOut = 8,
 }
 
+impl PoolFault {
+    ghost use Rattle.ic_pool.specs.PoolFault.{fault_number};
+
+    /// The lasting number of the fault.
+    pub fn number(self) -> u8
+        ensures { result ≡ fault_number self }
+    {
+        self as u8
+    }
+}
+
 impl From<AllocError> for PoolFault {
     ghost from_gives = { λ _ fault. fault ≡ Memory };
 

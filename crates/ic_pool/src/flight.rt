@@ -9,13 +9,14 @@ use std::marker::Model;
 use std::sync::Arc;
 
 /// A round that is to be made: a job's place in its table, its name, a copy of its configuration
-/// with its rules, and how many rounds it has made.
+/// with its rules, and how many rounds it has made. The copy is shared with the round that is made
+/// of it.
 #[derive(Debug, Drop)]
 pub struct Flight {
     place: usize,
     name: JobName,
     rules: Arc<RuleSet>,
-    config: Config,
+    config: Arc<Config>,
     rounds: u64,
 }
 
@@ -31,7 +32,7 @@ impl Model for Flight {
       place = f.place;
       name = f.name;
       rules = arc_value f.rules;
-      config = f.config;
+      config = arc_value f.config;
       rounds = f.rounds;
     } };
 
@@ -39,7 +40,7 @@ impl Model for Flight {
       place = f.place;
       name = f.name;
       rules = arc_value f.rules;
-      config = f.config;
+      config = arc_value f.config;
       rounds = f.rounds;
     }) };
 }
@@ -51,21 +52,21 @@ impl Flight {
         place: usize,
         name: JobName,
         rules: Arc<RuleSet>,
-        config: Config,
+        config: Arc<Config>,
         rounds: u64,
     ) -> Flight
         requires { IsFlight (record {
           place = place;
           name = name;
           rules = arc_value rules;
-          config = config;
+          config = arc_value config;
           rounds = rounds;
         }) }
         ensures { result ≡ record {
           place = place;
           name = name;
           rules = arc_value rules;
-          config = config;
+          config = arc_value config;
           rounds = rounds;
         } }
     {
@@ -103,6 +104,13 @@ impl Flight {
     pub fn config(&self) -> &Config
         ensures config { result.now ≡ self.now.config }
         ensures sound { IsFlight self.now }
+    {
+        &self.config
+    }
+
+    /// The configuration, to be shared.
+    pub(crate) fn shared_config(&self) -> &Arc<Config>
+        ensures { arc_value result.now ≡ self.now.config }
     {
         &self.config
     }

@@ -7,12 +7,12 @@ use std::marker::Model;
 use std::sync::Arc;
 
 /// A round that was made: a job's name and rules, its configuration before and after, and how many
-/// rounds it had made before. `after` is the round of `before`.
+/// rounds it had made before. `after` is the round of `before`, which is shared with its flight.
 #[derive(Debug, Drop)]
 pub struct Played {
     name: JobName,
     rules: Arc<RuleSet>,
-    before: Config,
+    before: Arc<Config>,
     after: Config,
     rounds: u64,
 }
@@ -28,7 +28,7 @@ impl Model for Played {
     ghost view = { λ p. record {
       name = p.name;
       rules = arc_value p.rules;
-      before = p.before;
+      before = arc_value p.before;
       after = p.after;
       rounds = p.rounds;
     } };
@@ -36,7 +36,7 @@ impl Model for Played {
     ghost invariant = { λ p. IsPlayed (record {
       name = p.name;
       rules = arc_value p.rules;
-      before = p.before;
+      before = arc_value p.before;
       after = p.after;
       rounds = p.rounds;
     }) };
@@ -48,21 +48,21 @@ impl Played {
     pub(crate) fn new(
         name: JobName,
         rules: Arc<RuleSet>,
-        before: Config,
+        before: Arc<Config>,
         after: Config,
         rounds: u64,
     ) -> Played
         requires { IsPlayed (record {
           name = name;
           rules = arc_value rules;
-          before = before;
+          before = arc_value before;
           after = after;
           rounds = rounds;
         }) }
         ensures { result ≡ record {
           name = name;
           rules = arc_value rules;
-          before = before;
+          before = arc_value before;
           after = after;
           rounds = rounds;
         } }

@@ -44,7 +44,7 @@ pub fn play<R: Threads + Wait, G: Gate>(
     }
     let config = flight.config().copy(alloc)?;
     let after = round_by_workers(rt, alloc, flight.rules(), config, workers, gate)?;
-    let before = flight.config().copy(alloc)?;
+    let before = flight.shared_config().clone()?;
     let rules = flight.rules().clone()?;
     Ok(Played::new(flight.name(), rules, before, after, flight.rounds()))
 }
