@@ -7,3 +7,5 @@ pub mod EventLemmas
 pub mod PlaceLemmas
 pub mod DistinctLemmas
 pub mod TurnLemmas
+pub mod TransitionLemmas
+pub mod NameOrder

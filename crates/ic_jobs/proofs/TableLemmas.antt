@@ -175,7 +175,7 @@ IsTable-with name t i j k s is named job =
       distinct = subst (λ (ns : List (List ℕ)). IsDistinct bytes_eq ns) (sym (names_with s.before j k s.after named)) whole.distinct;
     }
 
-names-append : (xs ys : List JobParts) → job_names (xs ++ ys) ≡ job_names xs ++ job_names ys
+pub names-append : (xs ys : List JobParts) → job_names (xs ++ ys) ≡ job_names xs ++ job_names ys
 names-append [] ys = refl
 names-append (x ∷ xs) ys = ap (λ (ns : List (List ℕ)). x.name ∷ ns) (names-append xs ys)
 

@@ -4,8 +4,10 @@ pub mod JobLaws
 pub mod Table
 pub mod Shown
 pub mod Memory
+pub mod Refusal
 pub mod Events
 pub mod Submitted
+pub mod Transitions
 pub mod Landing
 pub mod Turns
 pub mod History

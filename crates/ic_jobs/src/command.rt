@@ -1,4 +1,5 @@
 ghost use Rattle.std.specs.Prelude.{◌≡◌, IfOk, OnErr, IsTrue};
+ghost use Rattle.ic_jobs.specs.Submitted.{IsSubmit};
 
 use ic_rules::{JobName, System};
 use std::alloc::{AllocError, Global};
@@ -18,14 +19,20 @@ pub enum Command {
 
 impl Command {
     ghost use Rattle.ic_jobs.specs.Memory.{is_submit};
+    ghost use Rattle.ic_jobs.specs.Submitted.{IsEvent};
+    ghost use Rattle.ic_jobs.specs.declared.event.Event.TheVariants.{Command as by_command};
 
     /// A copy, equal to its source. Only a submit's takes memory.
     pub fn copy(&self, alloc: Global) -> Result<Command, AllocError>
         ensures copy { IfOk result (λ copy. copy ≡ self.now) }
         ensures memory { OnErr result (IsTrue (is_submit self.now)) }
+        ensures sound { IsEvent (by_command self.now) }
     {
         match self {
-            Command::Submit(name, system) => Ok(Command::Submit(*name, system.copy(alloc)?)),
+            Command::Submit(name, system) => {
+                keeps_submit(name, system);
+                Ok(Command::Submit(*name, system.copy(alloc)?))
+            }
             Command::Pause(name) => Ok(Command::Pause(*name)),
             Command::Resume(name) => Ok(Command::Resume(*name)),
             Command::Cancel(name) => Ok(Command::Cancel(*name)),
@@ -33,4 +40,12 @@ impl Command {
             Command::List => Ok(Command::List),
         }
     }
+}
+
+/// A submit keeps what the types of its parts keep.
+fn keeps_submit(name: &JobName, system: &System)
+    ensures { IsSubmit name.now system.now }
+{
+    let (rules, config) = (system.rules(), system.config());
+    let (_text, _count, _next) = (name.as_bytes(), rules.symbols().len(), config.next());
 }

@@ -9,10 +9,10 @@ pub enum Event {
     Round(JobName),
 }
 
-/// An event of a history: who sent it (a client's number, or 0 for a round), and what it was
-/// answered.
+/// An event of a history: who sent it, and what it was answered.
 #[derive(Debug, Drop)]
 pub struct Entry {
+    /// A client's number; a book writes 0 beside a round.
     pub who: u64,
     pub event: Event,
     pub reply: Reply,

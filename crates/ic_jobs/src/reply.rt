@@ -18,6 +18,17 @@ pub enum Refusal {
     NotPaused = 5,
 }
 
+impl Refusal {
+    ghost use Rattle.ic_jobs.specs.Refusal.{refusal_number};
+
+    /// The lasting number of the refusal.
+    pub fn number(self) -> u8
+        ensures { result ≡ refusal_number self }
+    {
+        self as u8
+    }
+}
+
 /// What an event answers.
 #[derive(Debug, Drop)]
 pub enum Reply {

@@ -1,0 +1,158 @@
+-- The names of a table after an event, in their order.
+use Rattle.std.proofs.Common.{◌≡◌, ℕ, List, [], ◌∷◌, ◌++◌, Bool, true, false, cond, not, Option, None, Some, is_some, nat_lt, length, refl, sym, ap, subst, ◌∙◌}
+use Rattle.std.specs.List.{filter}
+use Rattle.std.specs.Option.{option_map_or}
+use Rattle.std.specs.Str.{bytes_eq}
+use Rattle.ic_rules.specs.System.{SystemParts}
+use Rattle.ic_jobs.specs.declared.limits.TheConstants.{MAX_JOBS}
+use Rattle.ic_jobs.specs.declared.state.State.TheVariants as state
+use Rattle.ic_jobs.specs.declared.command.Command.{Command}
+use Rattle.ic_jobs.specs.declared.command.Command.TheVariants.{Submit, Pause, Resume, Cancel, Fetch, List as list_jobs}
+use Rattle.ic_jobs.specs.declared.reply.Reply.TheVariants.{Accepted, Okay, Shown, Refused, Moved, Halted}
+use Rattle.ic_jobs.specs.declared.reply.Refusal.{Refusal}
+use Rattle.ic_jobs.specs.declared.reply.Refusal.TheVariants.{Taken, Full, NotRunning, NotPaused}
+use Rattle.ic_jobs.specs.declared.event.Event.{Event}
+use Rattle.ic_jobs.specs.declared.event.Event.TheVariants.{Command as by_command, Round}
+use Rattle.ic_jobs.specs.State.{is_running, is_paused}
+use Rattle.ic_jobs.specs.Job.{JobParts, begun, can_move, moved, in_state}
+use Rattle.ic_jobs.specs.Table.{job_names, is_named, job_named, with_changed, without}
+use Rattle.ic_jobs.specs.Shown.{shown}
+use Rattle.ic_jobs.specs.Events.{Outcome, outcome, refused, unless_missing, paused, resumed, after_command, after_round, where_running, apply}
+use Rattle.ic_jobs.specs.History.{table_after}
+use Rattle.ic_jobs.proofs.TableLookups.{KeepsName}
+use Rattle.ic_jobs.proofs.TableLemmas.{names-append}
+
+named_so : (change : JobParts → JobParts) (j : JobParts) (b : Bool) → KeepsName change → (cond b (change j) j).name ≡ j.name
+named_so change j true keeps = keeps j
+named_so change j false keeps = refl
+
+pub names_changed : (n : List ℕ) (change : JobParts → JobParts) (t : List JobParts) → KeepsName change → job_names (with_changed n change t) ≡ job_names t
+names_changed n change [] keeps = refl
+names_changed n change (j ∷ js) keeps = λ i. named_so change j (is_named n j) keeps i ∷ names_changed n change js keeps i
+
+-- the names but one
+abbrev pub but : List ℕ → List (List ℕ) → List (List ℕ)
+but n names = filter (λ m. not (bytes_eq n m)) names
+
+left_at : (n : List ℕ) (j : JobParts) (rest : List JobParts) (names : List (List ℕ)) (b : Bool) → job_names rest ≡ names
+    → job_names (cond b (j ∷ rest) rest) ≡ cond b (j.name ∷ names) names
+left_at n j rest names true e = ap (λ (ns : List (List ℕ)). j.name ∷ ns) e
+left_at n j rest names false e = e
+
+pub names_without : (n : List ℕ) (t : List JobParts) → job_names (without n t) ≡ but n (job_names t)
+names_without n [] = refl
+names_without n (j ∷ js) = left_at n j (without n js) (but n (job_names js)) (not (is_named n j)) (names_without n js)
+
+-- ---- what keeps all names
+
+pause_names_at : (t : List JobParts) (n : List ℕ) (o : Option JobParts) → job_names (unless_missing t (paused t n) o).table ≡ job_names t
+pause_names_at t n None = refl
+pause_names_at t n (Some j) = at (is_running j.state)
+  where
+    at : (b : Bool) → job_names (cond b (outcome (with_changed n (in_state state.Paused) t) Okay) (refused t NotRunning)).table ≡ job_names t
+    at true = names_changed n (in_state state.Paused) t (λ k. refl)
+    at false = refl
+
+pub pause_names : (t : List JobParts) (n : List ℕ) → job_names (table_after t (by_command (Pause n))) ≡ job_names t
+pause_names t n = pause_names_at t n (job_named n t)
+
+resume_names_at : (t : List JobParts) (n : List ℕ) (o : Option JobParts) → job_names (unless_missing t (resumed t n) o).table ≡ job_names t
+resume_names_at t n None = refl
+resume_names_at t n (Some j) = at (is_paused j.state)
+  where
+    at : (b : Bool) → job_names (cond b (outcome (with_changed n (in_state state.Running) t) Okay) (refused t NotPaused)).table ≡ job_names t
+    at true = names_changed n (in_state state.Running) t (λ k. refl)
+    at false = refl
+
+pub resume_names : (t : List JobParts) (n : List ℕ) → job_names (table_after t (by_command (Resume n))) ≡ job_names t
+resume_names t n = resume_names_at t n (job_named n t)
+
+round_names_at : (t : List JobParts) (n : List ℕ) (o : Option JobParts)
+    → job_names (option_map_or (λ p. p.table) (where_running (after_round t n) o) t) ≡ job_names t
+round_names_at t n None = refl
+round_names_at t n (Some j) = at (is_running j.state) (can_move j)
+  where
+    at : (running can : Bool)
+        → job_names (option_map_or (λ p. p.table) (cond running (Some (cond can (outcome (with_changed n moved t) Moved) (outcome (with_changed n (in_state state.Halted) t) Halted))) None) t)
+        ≡ job_names t
+    at true true = names_changed n moved t (λ k. refl)
+    at true false = names_changed n (in_state state.Halted) t (λ k. refl)
+    at false can = refl
+
+pub round_names : (t : List JobParts) (n : List ℕ) → job_names (table_after t (Round n)) ≡ job_names t
+round_names t n = round_names_at t n (job_named n t)
+
+-- ---- an accepted submit, a cancel
+
+pub accepted_at : (t : List JobParts) (n : List ℕ) (s : SystemParts) (taken room : Bool)
+    → let o = cond taken (refused t Taken) (cond room (outcome (t ++ begun n s ∷ []) Accepted) (refused t Full)) in
+    o.reply ≡ Accepted → job_names o.table ≡ job_names t ++ n ∷ []
+accepted_at t n s true room e = cc
+accepted_at t n s false true e = names-append t (begun n s ∷ [])
+accepted_at t n s false false e = cc
+
+pub accepted_names : (t : List JobParts) (n : List ℕ) (s : SystemParts) (o : Outcome) → apply t (by_command (Submit n s)) ≡ Some o
+    → o.reply ≡ Accepted → job_names o.table ≡ job_names t ++ n ∷ []
+accepted_names t n s o is =
+    let same : after_command t (Submit n s) ≡ o = cc in
+    subst (λ (p : Outcome). p.reply ≡ Accepted → job_names p.table ≡ job_names t ++ n ∷ []) same
+    (accepted_at t n s (is_some (job_named n t)) (nat_lt (length t) MAX_JOBS))
+
+cancelled_at : (t : List JobParts) (n : List ℕ) (o : Option JobParts)
+    → let p = unless_missing t (λ j. outcome (without n t) Okay) o in p.reply ≡ Okay → job_names p.table ≡ but n (job_names t)
+cancelled_at t n None e = cc
+cancelled_at t n (Some j) e = names_without n t
+
+pub cancelled_names : (t : List JobParts) (n : List ℕ) (o : Outcome) → apply t (by_command (Cancel n)) ≡ Some o
+    → o.reply ≡ Okay → job_names o.table ≡ but n (job_names t)
+cancelled_names t n o is =
+    let same : after_command t (Cancel n) ≡ o = cc in
+    subst (λ (p : Outcome). p.reply ≡ Okay → job_names p.table ≡ but n (job_names t)) same (cancelled_at t n (job_named n t))
+
+-- ---- what is refused changes nothing
+
+abbrev Stays : List JobParts → Refusal → Outcome → Type 0
+Stays t r o = o.reply ≡ Refused r → o.table ≡ t
+
+submit_stays : (t : List JobParts) (n : List ℕ) (s : SystemParts) (r : Refusal) (taken room : Bool)
+    → Stays t r (cond taken (refused t Taken) (cond room (outcome (t ++ begun n s ∷ []) Accepted) (refused t Full)))
+submit_stays t n s r true room e = refl
+submit_stays t n s r false true e = cc
+submit_stays t n s r false false e = refl
+
+changed_stays : (t u : List JobParts) (q r : Refusal) (b : Bool) → Stays t r (cond b (outcome u Okay) (refused t q))
+changed_stays t u q r true e = cc
+changed_stays t u q r false e = refl
+
+missing_stays : (t : List JobParts) (r : Refusal) (what : JobParts → Outcome) (o : Option JobParts) → ((j : JobParts) → Stays t r (what j))
+    → Stays t r (unless_missing t what o)
+missing_stays t r what None stays e = refl
+missing_stays t r what (Some j) stays e = stays j e
+
+command_stays : (t : List JobParts) (c : Command) (r : Refusal) → Stays t r (after_command t c)
+command_stays t (Submit n s) r = submit_stays t n s r (is_some (job_named n t)) (nat_lt (length t) MAX_JOBS)
+command_stays t (Pause n) r = missing_stays t r (paused t n) (job_named n t) (λ j. changed_stays t _ NotRunning r (is_running j.state))
+command_stays t (Resume n) r = missing_stays t r (resumed t n) (job_named n t) (λ j. changed_stays t _ NotPaused r (is_paused j.state))
+command_stays t (Cancel n) r = missing_stays t r (λ j. outcome (without n t) Okay) (job_named n t) (λ j e. cc)
+command_stays t (Fetch n) r = missing_stays t r (λ j. outcome t (Shown (shown j))) (job_named n t) (λ j e. refl)
+command_stays t list_jobs r = λ e. refl
+
+round_stays : (t : List JobParts) (n : List ℕ) (r : Refusal) (p : Outcome) (o : Option JobParts) → where_running (after_round t n) o ≡ Some p → Stays t r p
+round_stays t n r p None is = cc
+round_stays t n r p (Some j) is = at (is_running j.state) (can_move j) is
+  where
+    at : (running can : Bool)
+        → cond running (Some (cond can (outcome (with_changed n moved t) Moved) (outcome (with_changed n (in_state state.Halted) t) Halted))) None ≡ Some p
+        → Stays t r p
+    at true true e replied =
+        let same : outcome (with_changed n moved t) Moved ≡ p = cc in
+        let answered : Moved ≡ Refused r = ap (λ (o : Outcome). o.reply) same ∙ replied in cc
+    at true false e replied =
+        let same : outcome (with_changed n (in_state state.Halted) t) Halted ≡ p = cc in
+        let answered : Halted ≡ Refused r = ap (λ (o : Outcome). o.reply) same ∙ replied in cc
+    at false can e replied = cc
+
+pub refused_stays : (t : List JobParts) (e : Event) (o : Outcome) (r : Refusal) → apply t e ≡ Some o → o.reply ≡ Refused r → o.table ≡ t
+refused_stays t (by_command c) o r is =
+    let same : after_command t c ≡ o = cc in subst (λ (p : Outcome). Stays t r p) same (command_stays t c r)
+refused_stays t (Round n) o r is = round_stays t n r o (job_named n t) is

@@ -1,0 +1,205 @@
+-- What events make of the state of a job.
+use Rattle.std.proofs.Common.{◌≡◌, ℕ, ◌<◌, ◌≤◌, List, [], ◌∷◌, ◌++◌, Bool, true, false, cond, Option, None, Some, is_some, nat_lt, length, refl, sym, ap, ◌∙◌, arith}
+use Rattle.std.proofs.lemmas.Bool.{lt-ltb, le-ltb}
+use Rattle.std.specs.Option.{option_map, option_or}
+use Rattle.std.specs.Str.{bytes_eq}
+use Rattle.std.specs.Cmp.Lexicographic.{bytes_decides}
+use Rattle.ic_term.specs.Configuration.{Configuration}
+use Rattle.ic_rules.specs.RuleSet.{Rules}
+use Rattle.ic_rules.specs.System.{SystemParts}
+use Rattle.ic_round.specs.Rounds.{round, IsQuiet}
+use Rattle.ic_round.specs.Quiet.{is_quiet}
+use Rattle.ic_round.specs.lemmas.QuietLemmas.{no_step, is_quiet_where}
+use Rattle.ic_jobs.specs.declared.limits.TheConstants.{MAX_JOBS}
+use Rattle.ic_jobs.specs.declared.state.State.{State}
+use Rattle.ic_jobs.specs.declared.state.State.TheVariants as state
+use Rattle.ic_jobs.specs.declared.command.Command.{Command}
+use Rattle.ic_jobs.specs.declared.command.Command.TheVariants.{Submit, Pause, Resume, Cancel, Fetch}
+use Rattle.ic_jobs.specs.declared.reply.Reply.{Reply}
+use Rattle.ic_jobs.specs.declared.reply.Reply.TheVariants.{Accepted, Okay, Shown, Refused, Moved, Halted}
+use Rattle.ic_jobs.specs.declared.reply.Refusal.TheVariants.{Taken, Full, NoJob, NotRunning, NotPaused}
+use Rattle.ic_jobs.specs.declared.event.Event.{Event}
+use Rattle.ic_jobs.specs.declared.event.Event.TheVariants.{Command as by_command, Round}
+use Rattle.ic_jobs.specs.State.{is_running, is_paused}
+use Rattle.ic_jobs.specs.Job.{JobParts, begun, open_state, can_move, moved, in_state}
+use Rattle.ic_jobs.specs.Table.{is_named, job_named, with_changed, without}
+use Rattle.ic_jobs.specs.Shown.{shown}
+use Rattle.ic_jobs.specs.Events.{Outcome, outcome, refused, submitted, unless_missing, paused, resumed, after_command, after_round, where_running, apply}
+use Rattle.ic_jobs.specs.Transitions.{state_of, Leads}
+use Rattle.ic_jobs.proofs.TableLookups.{KeepsName, job_named-changed, job_named-without, job_named-append}
+
+abbrev state_in : Option JobParts → Option State
+state_in o = option_map (λ j. j.state) o
+
+-- a job that is there, in this state
+record Found (o : Option JobParts) (s : State) : Type 0 where
+  job : JobParts
+  there : o ≡ Some job
+  is : job.state ≡ s
+
+found_with : (o : Option JobParts) (s : State) → state_in o ≡ Some s → Found o s
+found_with None s e = cc
+found_with (Some j) s e = record { job = j; there = refl; is = let same : j.state ≡ s = cc in same }
+
+none_with : (o : Option JobParts) → state_in o ≡ None → o ≡ None
+none_with None e = refl
+none_with (Some j) e = cc
+
+not_running : (s : State) → ¬ (s ≡ state.Running) → is_running s ≡ false
+not_running state.Running apart = absurd (apart refl)
+not_running state.Paused apart = refl
+not_running state.Done apart = refl
+not_running state.Halted apart = refl
+
+not_paused : (s : State) → ¬ (s ≡ state.Paused) → is_paused s ≡ false
+not_paused state.Running apart = refl
+not_paused state.Paused apart = absurd (apart refl)
+not_paused state.Done apart = refl
+not_paused state.Halted apart = refl
+
+leads : (t : List JobParts) (e : Event) (o : Outcome) (r : Reply) (n : List ℕ) (s : Option State)
+    → apply t e ≡ Some o → o.reply ≡ r → state_of n o.table ≡ s → Leads t e r n s
+leads t e o r n s defined replied left = record { outcome = o; defined = defined; replied = replied; left = left }
+
+-- a command that leaves this leads there
+commanded : (t : List JobParts) (c : Command) (u : List JobParts) (r : Reply) (n : List ℕ) (s : Option State)
+    → after_command t c ≡ outcome u r → state_of n u ≡ s → Leads t (by_command c) r n s
+commanded t c u r n s is left = leads t (by_command c) (outcome u r) r n s (ap (λ (o : Outcome). Some o) is) refl left
+
+changed_state : (n : List ℕ) (change : JobParts → JobParts) (t : List JobParts) (j : JobParts) → KeepsName change → job_named n t ≡ Some j
+    → state_of n (with_changed n change t) ≡ Some (change j).state
+changed_state n change t j keeps there = ap state_in (job_named-changed n change t keeps ∙ ap (option_map change) there)
+
+-- ---- submits
+
+submits : (t : List JobParts) (n : List ℕ) (s : SystemParts) (taken room : Bool) → is_some (job_named n t) ≡ taken → nat_lt (length t) MAX_JOBS ≡ room
+    → after_command t (Submit n s) ≡ cond taken (refused t Taken) (cond room (outcome (t ++ begun n s ∷ []) Accepted) (refused t Full))
+submits t n s taken room there left i =
+    cond (there i) (refused t Taken) (cond (left i) (outcome (t ++ begun n s ∷ []) Accepted) (refused t Full))
+
+begun_last : (t : List JobParts) (n : List ℕ) (s : SystemParts) → job_named n t ≡ None → job_named n (t ++ begun n s ∷ []) ≡ Some (begun n s)
+begun_last t n s none =
+    let same : bytes_eq n n ≡ true = (bytes_decides n n).1 refl in
+    job_named-append n t (begun n s) ∙ (λ i. option_or (none i) (cond (same i) (Some (begun n s)) None))
+
+pub submit_leads : (t : List JobParts) (n : List ℕ) (s : SystemParts) → state_of n t ≡ None → length t < 32
+    → Leads t (by_command (Submit n s)) Accepted n (Some (open_state s.rules s.config))
+submit_leads t n s e few =
+    let none = none_with (job_named n t) e in
+    commanded t (Submit n s) (t ++ begun n s ∷ []) Accepted n _
+    (submits t n s false true (ap is_some none) (lt-ltb (length t) MAX_JOBS few)) (ap state_in (begun_last t n s none))
+
+pub taken_leads : (t : List JobParts) (n : List ℕ) (s : SystemParts) (was : State) → state_of n t ≡ Some was
+    → Leads t (by_command (Submit n s)) (Refused Taken) n (Some was)
+taken_leads t n s was e =
+    let f = found_with (job_named n t) was e in
+    commanded t (Submit n s) t (Refused Taken) n (Some was) (submits t n s true (nat_lt (length t) MAX_JOBS) (ap is_some f.there) refl) e
+
+pub full_leads : (t : List JobParts) (n : List ℕ) (s : SystemParts) → state_of n t ≡ None → 32 ≤ length t
+    → Leads t (by_command (Submit n s)) (Refused Full) n None
+full_leads t n s e many =
+    let none = none_with (job_named n t) e in
+    commanded t (Submit n s) t (Refused Full) n None (submits t n s false false (ap is_some none) (le-ltb (length t) MAX_JOBS many)) e
+
+-- ---- pause and resume
+
+pub pause_leads : (t : List JobParts) (n : List ℕ) → state_of n t ≡ Some state.Running → Leads t (by_command (Pause n)) Okay n (Some state.Paused)
+pause_leads t n e =
+    let f = found_with (job_named n t) state.Running e in
+    let u : List JobParts = with_changed n (in_state state.Paused) t in
+    commanded t (Pause n) u Okay n (Some state.Paused)
+    (ap (unless_missing t (paused t n)) f.there ∙ ap (λ (s : State). cond (is_running s) (outcome u Okay) (refused t NotRunning)) f.is)
+    (changed_state n (in_state state.Paused) t f.job (λ k. refl) f.there)
+
+pub no_pause_leads : (t : List JobParts) (n : List ℕ) (was : State) → state_of n t ≡ Some was → ¬ (was ≡ state.Running)
+    → Leads t (by_command (Pause n)) (Refused NotRunning) n (Some was)
+no_pause_leads t n was e apart =
+    let f = found_with (job_named n t) was e in
+    let u : List JobParts = with_changed n (in_state state.Paused) t in
+    commanded t (Pause n) t (Refused NotRunning) n (Some was)
+    (ap (unless_missing t (paused t n)) f.there
+    ∙ ap (λ (b : Bool). cond b (outcome u Okay) (refused t NotRunning)) (ap is_running f.is ∙ not_running was apart)) e
+
+pub resume_leads : (t : List JobParts) (n : List ℕ) → state_of n t ≡ Some state.Paused → Leads t (by_command (Resume n)) Okay n (Some state.Running)
+resume_leads t n e =
+    let f = found_with (job_named n t) state.Paused e in
+    let u : List JobParts = with_changed n (in_state state.Running) t in
+    commanded t (Resume n) u Okay n (Some state.Running)
+    (ap (unless_missing t (resumed t n)) f.there ∙ ap (λ (s : State). cond (is_paused s) (outcome u Okay) (refused t NotPaused)) f.is)
+    (changed_state n (in_state state.Running) t f.job (λ k. refl) f.there)
+
+pub no_resume_leads : (t : List JobParts) (n : List ℕ) (was : State) → state_of n t ≡ Some was → ¬ (was ≡ state.Paused)
+    → Leads t (by_command (Resume n)) (Refused NotPaused) n (Some was)
+no_resume_leads t n was e apart =
+    let f = found_with (job_named n t) was e in
+    let u : List JobParts = with_changed n (in_state state.Running) t in
+    commanded t (Resume n) t (Refused NotPaused) n (Some was)
+    (ap (unless_missing t (resumed t n)) f.there
+    ∙ ap (λ (b : Bool). cond b (outcome u Okay) (refused t NotPaused)) (ap is_paused f.is ∙ not_paused was apart)) e
+
+-- ---- cancel and fetch, and names of no job
+
+pub cancel_leads : (t : List JobParts) (n : List ℕ) (was : State) → state_of n t ≡ Some was → Leads t (by_command (Cancel n)) Okay n None
+cancel_leads t n was e =
+    let f = found_with (job_named n t) was e in
+    commanded t (Cancel n) (without n t) Okay n None (ap (unless_missing t (λ j. outcome (without n t) Okay)) f.there) (ap state_in (job_named-without n t))
+
+pub fetched : (t : List JobParts) (n : List ℕ) (j : JobParts) → job_named n t ≡ Some j → apply t (by_command (Fetch n)) ≡ Some (outcome t (Shown (shown j)))
+fetched t n j there = ap (λ (o : Option JobParts). Some (unless_missing t (λ k. outcome t (Shown (shown k))) o)) there
+
+missing : (t : List JobParts) (n : List ℕ) (c : Command) (what : JobParts → Outcome) → after_command t c ≡ unless_missing t what (job_named n t)
+    → state_of n t ≡ None → Leads t (by_command c) (Refused NoJob) n None
+missing t n c what is e =
+    commanded t c t (Refused NoJob) n None (is ∙ ap (unless_missing t what) (none_with (job_named n t) e)) e
+
+pub none_to_pause : (t : List JobParts) (n : List ℕ) → state_of n t ≡ None → Leads t (by_command (Pause n)) (Refused NoJob) n None
+none_to_pause t n e = missing t n (Pause n) (paused t n) refl e
+
+pub none_to_resume : (t : List JobParts) (n : List ℕ) → state_of n t ≡ None → Leads t (by_command (Resume n)) (Refused NoJob) n None
+none_to_resume t n e = missing t n (Resume n) (resumed t n) refl e
+
+pub none_to_cancel : (t : List JobParts) (n : List ℕ) → state_of n t ≡ None → Leads t (by_command (Cancel n)) (Refused NoJob) n None
+none_to_cancel t n e = missing t n (Cancel n) (λ j. outcome (without n t) Okay) refl e
+
+pub none_to_fetch : (t : List JobParts) (n : List ℕ) → state_of n t ≡ None → Leads t (by_command (Fetch n)) (Refused NoJob) n None
+none_to_fetch t n e = missing t n (Fetch n) (λ j. outcome t (Shown (shown j))) refl e
+
+-- ---- rounds
+
+rounds : (t : List JobParts) (n : List ℕ) (j : JobParts) (can : Bool) → job_named n t ≡ Some j → j.state ≡ state.Running → can_move j ≡ can
+    → apply t (Round n) ≡ Some (cond can (outcome (with_changed n moved t) Moved) (outcome (with_changed n (in_state state.Halted) t) Halted))
+rounds t n j can there running able =
+    ap (where_running (after_round t n)) there
+    ∙ ap (λ (s : State). cond (is_running s) (Some (after_round t n j)) None) running
+    ∙ ap (λ (b : Bool). Some (cond b (outcome (with_changed n moved t) Moved) (outcome (with_changed n (in_state state.Halted) t) Halted))) able
+
+pub round_leads : (t : List JobParts) (n : List ℕ) (j : JobParts) → job_named n t ≡ Some j → j.state ≡ state.Running → can_move j ≡ true
+    → Leads t (Round n) Moved n (Some (open_state j.rules (round j.rules.rules j.config)))
+round_leads t n j there running able =
+    leads t (Round n) (outcome (with_changed n moved t) Moved) Moved n _ (rounds t n j true there running able) refl
+    (changed_state n moved t j (λ k. refl) there)
+
+pub halt_leads : (t : List JobParts) (n : List ℕ) (j : JobParts) → job_named n t ≡ Some j → j.state ≡ state.Running → can_move j ≡ false
+    → Leads t (Round n) Halted n (Some state.Halted)
+halt_leads t n j there running able =
+    leads t (Round n) (outcome (with_changed n (in_state state.Halted) t) Halted) Halted n _ (rounds t n j false there running able) refl
+    (changed_state n (in_state state.Halted) t j (λ k. refl) there)
+
+none_running : (what : JobParts → Outcome) (o : Option JobParts) → ¬ (state_in o ≡ Some state.Running) → where_running what o ≡ None
+none_running what None apart = refl
+none_running what (Some j) apart =
+    ap (λ (b : Bool). cond b (Some (what j)) None) (not_running j.state (λ e. apart (ap (λ (s : State). Some s) e)))
+
+pub no_round : (t : List JobParts) (n : List ℕ) → ¬ (state_of n t ≡ Some state.Running) → apply t (Round n) ≡ None
+no_round t n apart = none_running (after_round t n) (job_named n t) apart
+
+false_unless_true : (b : Bool) → ¬ (b ≡ true) → b ≡ false
+false_unless_true true apart = absurd (apart refl)
+false_unless_true false apart = refl
+
+pub open_where_quiet : (rules : Rules) (c : Configuration) → IsQuiet rules.rules c → open_state rules c ≡ state.Done
+open_where_quiet rules c quiet = ap (λ (b : Bool). cond b state.Done state.Running) (is_quiet_where rules.rules c quiet)
+
+pub open_where_not : (rules : Rules) (c : Configuration) → ¬ IsQuiet rules.rules c → open_state rules c ≡ state.Running
+open_where_not rules c apart =
+    ap (λ (b : Bool). cond b state.Done state.Running) (false_unless_true (is_quiet rules.rules c) (λ e. apart (no_step rules.rules c e)))
