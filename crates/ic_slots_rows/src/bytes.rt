@@ -1,0 +1,66 @@
+//! Numbers and bytes in the texts of rows.
+
+use crate::trouble::Trouble;
+use std::alloc::Global;
+
+/// A number in decimal.
+pub fn number(text: &str) -> Result<u64, Trouble> {
+    match u64::from_str_radix(text, 10) {
+        Ok(number) => Ok(number),
+        Err(_) => Err(Trouble("no number")),
+    }
+}
+
+/// A place or a length.
+pub fn place(text: &str) -> Result<usize, Trouble> {
+    match usize::from_str_radix(text, 10) {
+        Ok(place) => Ok(place),
+        Err(_) => Err(Trouble("no number")),
+    }
+}
+
+/// A place, and the word behind it.
+pub fn place_and_rest(text: &str) -> Result<(usize, &str), Trouble> {
+    let (first, rest) = text.split_once(' ').unwrap_or((text, ""));
+    Ok((place(first)?, rest))
+}
+
+/// The bytes of a text of two hexadecimal digits each.
+pub fn bytes_of(alloc: Global, text: &str) -> Result<Vec<u8>, Trouble> {
+    let mut bytes = Vec::new(alloc);
+    let mut first = None;
+    for letter in text.as_bytes() {
+        let Some(digit) = char::from(*letter).to_digit(16) else {
+            return Err(Trouble("no digit"));
+        };
+        match first {
+            None => first = Some(digit),
+            Some(high) => {
+                bytes.push(u8::try_from(high.wrapping_mul(16).wrapping_add(digit)).unwrap_or(0))?;
+                first = None;
+            }
+        }
+    }
+    Ok(bytes)
+}
+
+/// Bytes in hexadecimal digits.
+pub fn digits_of(alloc: Global, bytes: &[u8]) -> Result<Vec<u8>, Trouble> {
+    let mut line = Vec::new(alloc);
+    for byte in bytes {
+        line.extend_from_slice(format!(in alloc; "{byte:02x}")?.as_bytes())?;
+    }
+    Ok(line)
+}
+
+/// These bytes with others put at a place.
+pub fn changed(alloc: Global, bytes: &[u8], at: usize, put: &[u8]) -> Result<Vec<u8>, Trouble> {
+    let mut changed = Vec::from_slice(alloc, bytes)?;
+    for (i, byte) in put.iter().enumerate() {
+        match changed.get_mut(at.saturating_add(i)) {
+            Some(place) => *place = *byte,
+            None => return Err(Trouble("too short")),
+        }
+    }
+    Ok(changed)
+}
