@@ -1,5 +1,5 @@
 -- Laws of lines: numbers and their texts, and a submit with its system.
-use Rattle.std.proofs.Common.{◌≡◌, ℕ, zero, suc, ◌+◌, ◌*◌, ◌<◌, ◌≤◌, ◌^◌, ◌||◌, ◌==◌, not, true, List, [], ◌∷◌, ◌++◌, Some, Result, Ok, length, IsTrue, refl, sym, ap, ◌∙◌, subst, arith, ⊎_elim, length-append}
+use Rattle.std.proofs.Common.{◌≡◌, ℕ, zero, suc, ◌+◌, ◌*◌, ◌<◌, ◌≤◌, ◌^◌, ◌||◌, ◌==◌, not, true, false, List, [], ◌∷◌, ◌++◌, Some, Result, Ok, Err, length, IsTrue, refl, sym, ap, ◌∙◌, subst, arith, ⊎_elim, length-append}
 use Rattle.std.specs.Prelude.{codes, nat_le}
 use Rattle.std.specs.Str.{bytes_eq}
 use Rattle.std.specs.Fmt.{decimal}
@@ -15,6 +15,7 @@ use Rattle.ic_rules.specs.System.{SystemParts}
 use Rattle.ic_rules.specs.declared.job_name.TheConstants.{MAX_JOB_NAME}
 use Rattle.ic_text.specs.declared.limits.TheConstants.{MAX_TEXT, MAX_RUN}
 use Rattle.ic_text.specs.declared.fault.TextFault.{TextFault}
+use Rattle.ic_text.specs.declared.fault.TextFault.TheVariants.{Syntax, Limit}
 use Rattle.ic_text.specs.Name.{is_name, is_numeral, name_text, name_number, number_in}
 use Rattle.ic_text.specs.Token.{word, is_blank, is_word_byte, word_of, before, followed, tokens}
 use Rattle.ic_text.specs.SystemText.{ReadsSystem}
@@ -22,8 +23,9 @@ use Rattle.ic_jobs.specs.declared.command.Command.TheVariants as command
 use Rattle.ic_text.specs.declared.line.Line.TheVariants.{Blank, Command as Asks, Run}
 use Rattle.ic_text.specs.declared.line.Opening.TheVariants as opening
 use Rattle.ic_text.specs.declared.line.Verb.{Verb}
+use Rattle.ic_text.specs.declared.line.Verb.TheVariants.{Pause, Resume, Cancel, Fetch}
 use Rattle.ic_text.specs.LineSource.{nothing, about, list, run, is_job_word, is_number, verb_text}
-use Rattle.ic_text.specs.LineSense.{submitted, asked, line_sense}
+use Rattle.ic_text.specs.LineSense.{submitted, asked, unless_long, line_sense}
 use Rattle.ic_text.specs.LineText.{ReadsLine}
 use Rattle.ic_text.specs.inner.Line.{IsLineOf}
 use Rattle.ic_text.proofs.NameLemmas.{is_name-name_text, name_number-name_text, name_text-name_number}
@@ -31,7 +33,7 @@ use Rattle.ic_text.proofs.NameTexts.{name_text-digits}
 use Rattle.ic_text.proofs.WordRuns.{tokens-parted, tokens-run}
 use Rattle.ic_text.proofs.WordSplits.{before-none}
 use Rattle.ic_text.proofs.LineReading.{is_sense, is_sense_behind, reads_line}
-use Rattle.ic_text.proofs.LineParts.{job_name-parts, short_name, word_of-named, submit_read}
+use Rattle.ic_text.proofs.LineParts.{job_name-parts, short_name, word_of-named, submit_read, submit_too_long}
 
 -- a number's text behind the letter a is the text of a name
 named : (n : ℕ) → 0 < n → n < 2 ^ 64 → name_text (26 * n + 0) ≡ 97 ∷ decimal n
@@ -134,6 +136,44 @@ about_text verb name alone small is =
     (subst (λ o. IsLineOf o (Ok (Asks (asked verb name)))) (sym whole)
     (subst (IsLineOf (before (word_of (verb_text verb)) (tokens name))) (short_name name (Ok (Asks (asked verb name))) is) read))
 
+-- names that are too long
+too_long : (name : List ℕ) → MAX_JOB_NAME < length name → nat_le (length name) MAX_JOB_NAME ≡ false
+too_long name many = grind (arith, nat_tests)
+
+verb_alone : (verb : Verb) → tokens (verb_text verb) ≡ Some (word_of (verb_text verb))
+verb_alone Pause = refl
+verb_alone Resume = refl
+verb_alone Cancel = refl
+verb_alone Fetch = refl
+
+verb_short : (verb : Verb) → length (verb_text verb) ≤ 6
+verb_short Pause = omega arith
+verb_short Resume = omega arith
+verb_short Cancel = omega arith
+verb_short Fetch = omega arith
+
+pub about_long : (verb : Verb) (name : List ℕ) → IsTrue (is_job_word name) → MAX_JOB_NAME < length name → length name + 7 ≤ MAX_TEXT
+    → ReadsLine (verb_text verb ++ 32 ∷ name) (Err Limit)
+about_long verb name named many room =
+    let whole = behind_space (verb_text verb) name (verb_alone verb) in
+    let short : length (verb_text verb ++ 32 ∷ name) ≤ MAX_TEXT = omega (arith, verb_short verb, room, length-append (verb_text verb) (32 ∷ name)) in
+    let read = is_sense_behind (opening.About verb) name (word name ∷ []) (about verb name) named (tokens-name name named ∙ ap Some (word_of-named name named)) refl in
+    let limit : unless_long name (Ok (Asks (asked verb name))) ≡ Err Limit = rw (too_long name many) refl in
+    reads_line (verb_text verb ++ 32 ∷ name) (Err Limit) short
+    (subst (λ o. IsLineOf o (Err Limit)) (sym whole) (subst (IsLineOf (before (word_of (verb_text verb)) (tokens name))) limit read))
+
+pub submit_long_name : (name text : List ℕ) (a : Result SystemParts TextFault) → IsTrue (is_job_word name) → MAX_JOB_NAME < length name
+    → length name + length text + 8 ≤ MAX_TEXT → ReadsSystem text a → ¬ (a ≡ Err Syntax) → ReadsLine (codes "submit " ++ name ++ 32 ∷ text) (Err Limit)
+submit_long_name name text a named many room reads apart =
+    let rest = name ++ 32 ∷ text in
+    let split = behind_space name text (tokens-name name named) in
+    let whole : tokens (codes "submit" ++ 32 ∷ rest) ≡ before (word_of (codes "submit")) (tokens rest) = behind_space (codes "submit") rest refl in
+    let short : length (codes "submit" ++ 32 ∷ rest) ≤ MAX_TEXT = omega (arith, room, length-append name (32 ∷ text)) in
+    let isnt : IsTrue (is_job_name name) → ⊥ =
+    (λ is. false≢true (sym (too_long name many) ∙ (and_parts (is_job_word name) (nat_le (length name) MAX_JOB_NAME) (sym (job_name-parts name) ∙ is)).1)) in
+    reads_line (codes "submit" ++ 32 ∷ rest) (Err Limit) short
+    (subst (λ o. IsLineOf o (Err Limit)) (sym whole) (submit_too_long rest name text split named a (omega (arith, room)) isnt reads apart))
+
 -- the digits of a number are one word
 digit_byte : (c : ℕ) → is_ascii_digit c ≡ true → is_word_byte c ≡ true
 digit_byte c is = grind (arith, nat_tests)
@@ -162,6 +202,16 @@ run_text n within =
     let whole : tokens (codes "run" ++ 32 ∷ decimal n) ≡ before (word_of (codes "run")) (tokens (decimal n)) = behind_space (codes "run") (decimal n) refl in
     reads_line (codes "run" ++ 32 ∷ decimal n) (Ok (Run n)) (omega (arith, length-decimal-le 4 n (omega arith) (omega arith) fits))
     (subst (λ o. IsLineOf o (Ok (Run n))) (sym whole) (subst (IsLineOf (before (word_of (codes "run")) (tokens (decimal n)))) means read))
+
+pub run_long : (digits : List ℕ) → IsTrue (is_number digits) → MAX_RUN < number_in digits → length digits + 4 ≤ MAX_TEXT
+    → ReadsLine (codes "run " ++ digits) (Err Limit)
+run_long digits is many room =
+    let high : nat_le (number_in digits) MAX_RUN ≡ false = grind (arith, nat_tests) in
+    let means : line_sense (run digits) ≡ Err Limit = rw high refl in
+    let read = is_sense_behind opening.Run digits (word digits ∷ []) (run digits) is (tokens-number digits is) refl in
+    let whole : tokens (codes "run" ++ 32 ∷ digits) ≡ before (word_of (codes "run")) (tokens digits) = behind_space (codes "run") digits refl in
+    reads_line (codes "run" ++ 32 ∷ digits) (Err Limit) (omega (arith, room))
+    (subst (λ o. IsLineOf o (Err Limit)) (sym whole) (subst (IsLineOf (before (word_of (codes "run")) (tokens digits))) means read))
 
 pub list_text : ReadsLine (codes "list") (Ok (Asks command.List))
 list_text = reads_line (codes "list") (Ok (Asks command.List)) (omega arith) (is_sense (tokens (codes "list")) list tt refl)

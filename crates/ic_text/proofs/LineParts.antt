@@ -81,6 +81,13 @@ module _ (rest w text : List ℕ) (split : tokens rest ≡ before (word_of w) (t
   submit_long s spells isnt =
       subst (ReadsBehind opening.Submit rest) (long_name w (submitted w (system_sense s)) named isnt) (submit_spelled s spells)
 
+  pub submit_too_long : (a : Result SystemParts TextFault) → length text ≤ MAX_TEXT → (IsTrue (is_job_name w) → ⊥) → ReadsSystem text a → ¬ (a ≡ Err Syntax)
+      → ReadsBehind opening.Submit rest (Err Limit)
+  submit_too_long a short isnt reads apart = elim (spelling IsSystemPhrase system_words told_systems text) [
+    | inl s ↦ submit_long s.0 s.1 isnt
+    | inr none ↦ absurd (apart (reads.malformed short none))
+  ]
+
   -- a submit is read as its system is
   pub submit_read : (a : Result SystemParts TextFault) → length text ≤ MAX_TEXT → IsTrue (is_job_name w) → ReadsSystem text a
       → ReadsBehind opening.Submit rest (submitted w a)

@@ -7,6 +7,7 @@ pub mod Sense
 pub mod SystemSense
 pub mod Reading
 pub mod Text
+pub mod FaultNumber
 pub mod SystemText
 pub mod LineSource
 pub mod LineSense

@@ -27,6 +27,26 @@ pub enum TextFault {
     Memory,
 }
 
+impl TextFault {
+    ghost use Rattle.ic_text.specs.FaultNumber.{fault_number};
+
+    /// The lasting number of the refusal.
+    pub fn number(self) -> u8
+        ensures { result ≡ fault_number self }
+    {
+        match self {
+            TextFault::Syntax => 1,
+            TextFault::Limit => 2,
+            TextFault::Arity => 3,
+            TextFault::NameCount(_) => 4,
+            TextFault::Name(_) => 5,
+            TextFault::Twice(_) => 6,
+            TextFault::Lopsided(_) => 7,
+            TextFault::Memory => 8,
+        }
+    }
+}
+
 impl From<AllocError> for TextFault {
     ghost from_gives = { λ _ e. e ≡ Memory };
 

@@ -1,9 +1,9 @@
 //! What is proved of the definitions alone: each law is the contract of a function that does nothing.
 
-ghost use Rattle.std.specs.Prelude.{◌≡◌, ◌≢◌, ◌↔◌, ◌<◌, ◌≤◌, ◌+◌, ◌*◌, ◌^◌, ◌&&◌, ℕ, List, [], ◌∷◌, ◌++◌, Result, Ok, Some, None, true, false, length, map, codes, not, slice_get, nat_le, IsTrue};
+ghost use Rattle.std.specs.Prelude.{◌≡◌, ◌≢◌, ◌↔◌, ◌<◌, ◌≤◌, ◌+◌, ◌*◌, ◌^◌, ◌&&◌, ◌||◌, ◌==◌, ℕ, List, [], ◌∷◌, ◌++◌, Result, Ok, Err, Some, None, true, false, length, map, codes, not, slice_get, nat_le, IsTrue};
 ghost use Rattle.std.specs.List.{filter, flat_map, list_any, list_all, AllByRecursion};
 ghost use Rattle.std.specs.Str.{bytes_eq};
-ghost use Rattle.std.specs.Char.{is_ascii_alphanumeric};
+ghost use Rattle.std.specs.Char.{is_ascii_alphanumeric, is_ascii_lowercase, is_ascii_digit};
 ghost use Rattle.std.specs.Fmt.{decimal};
 ghost use Rattle.ic_rules.specs.System.{SystemParts};
 ghost use Rattle.ic_term.specs.Configuration.{Configuration, configuration_names, one_above};
@@ -20,6 +20,7 @@ ghost use Rattle.ic_text.specs.declared.token.Mark.{Mark};
 ghost use Rattle.ic_text.specs.declared.token.Mark.TheVariants.{LeftBrace, RightBrace, Less, Greater, Bar, Equals, Comma, Semicolon, Open, Close};
 ghost use Rattle.ic_text.specs.declared.limits.TheConstants.{MAX_TEXT, MAX_NAME, MAX_RUN};
 ghost use Rattle.ic_text.specs.declared.fault.TextFault.{TextFault};
+ghost use Rattle.ic_text.specs.declared.fault.TextFault.TheVariants.{Syntax, Limit};
 ghost use Rattle.ic_rules.specs.JobName.{is_job_name};
 ghost use Rattle.ic_rules.specs.declared.job_name.TheConstants.{MAX_JOB_NAME};
 ghost use Rattle.ic_jobs.specs.declared.state.State.{State};
@@ -32,6 +33,7 @@ ghost use Rattle.ic_jobs.specs.Shown.{ShownParts};
 ghost use Rattle.ic_jobs.specs.declared.command.Command.TheVariants as command;
 ghost use Rattle.ic_text.specs.declared.line.Line.{Line};
 ghost use Rattle.ic_text.specs.declared.line.Line.TheVariants.{Blank, Command as Asks, Run};
+ghost use Rattle.ic_text.specs.declared.line.Verb.{Verb};
 ghost use Rattle.ic_text.specs.declared.line.Verb.TheVariants.{Pause, Resume, Cancel, Fetch};
 ghost use Rattle.ic_text.specs.LineSource.{LinePhrase, submit, list, run, is_job_word, is_number, verb_text, line_words};
 ghost use Rattle.ic_text.specs.LineSense.{submitted};
@@ -174,7 +176,9 @@ pub fn command_words_are()
         ∷ words_among (system_words s) }
 {}
 
-/// What each command asks, written with one space behind its word; and a line of blanks.
+/// What each command asks, written with one space behind its word; and a line of blanks. A job's name of more than 16
+/// bytes passes a limit, in a submit where the text behind it is a system; and so does a number of more than 1,000,
+/// however long it is.
 pub fn commands_ask()
     ensures pause { (name : List ℕ) → IsTrue (is_job_name name) →
         ReadsLine (codes "pause " ++ name) (Ok (Asks (command.Pause name))) }
@@ -188,6 +192,16 @@ pub fn commands_ask()
     ensures run { (n : ℕ) → n ≤ MAX_RUN → ReadsLine (codes "run " ++ decimal n) (Ok (Run n)) }
     ensures blank { (text : List ℕ) → length text ≤ MAX_TEXT → list_all is_blank text ≡ true →
         ReadsLine text (Ok Blank) }
+    ensures too_long { (verb : Verb) (name : List ℕ) → IsTrue (is_job_word name) →
+        MAX_JOB_NAME < length name → length name + 7 ≤ MAX_TEXT →
+        ReadsLine (verb_text verb ++ 32 ∷ name) (Err Limit) }
+    ensures too_long_submit { (name text : List ℕ) (a : Result SystemParts TextFault) →
+        IsTrue (is_job_word name) → MAX_JOB_NAME < length name →
+        length name + length text + 8 ≤ MAX_TEXT → ReadsSystem text a → a ≢ Err Syntax →
+        ReadsLine (codes "submit " ++ name ++ 32 ∷ text) (Err Limit) }
+    ensures too_many { (digits : List ℕ) → IsTrue (is_number digits) →
+        MAX_RUN < number_in digits → length digits + 4 ≤ MAX_TEXT →
+        ReadsLine (codes "run " ++ digits) (Err Limit) }
 {}
 
 /// A submit's system is read as a system by itself, where its name is a job's name: then the line is a submit of what
@@ -198,10 +212,15 @@ pub fn a_submit_is_read_as_its_system()
         ReadsLine (codes "submit " ++ name ++ 32 ∷ text) (submitted name a) }
 {}
 
-/// A job's name is a word of its bytes that has at most 16 of them. A number is the decimal text of what it writes.
+/// A job's name is a word of its bytes that has at most 16 of them, a letter first. A number is `0`, or digits without a
+/// leading zero: the decimal text of what it writes.
 pub fn names_of_jobs_and_numbers_are()
     ensures names { (w : List ℕ) →
         is_job_name w ≡ (is_job_word w && nat_le (length w) MAX_JOB_NAME) }
+    ensures words { (b : ℕ) (bs : List ℕ) → is_job_word (b ∷ bs) ≡ (is_ascii_lowercase b
+        && list_all (λ c. is_ascii_lowercase c || is_ascii_digit c || c == 45) bs) }
+    ensures digits { (d : ℕ) (ds : List ℕ) → is_number (d ∷ ds)
+        ≡ (bytes_eq (d ∷ ds) (codes "0") || (not (d == 48) && list_all is_ascii_digit (d ∷ ds))) }
     ensures number { (n : ℕ) → n < 2 ^ 64 → IsTrue (is_number (decimal n)) }
     ensures value { (n : ℕ) → n < 2 ^ 64 → number_in (decimal n) ≡ n }
     ensures text { (w : List ℕ) → IsTrue (is_number w) → number_in w < 2 ^ 64 →

@@ -1,6 +1,6 @@
 use Rattle.std.proofs.Common.{refl, arith}
 use Rattle.ic_text.specs.declared.line.Verb.TheVariants.{Pause, Resume, Cancel, Fetch}
-use Rattle.ic_text.proofs.LineLaws.{about_text, list_text, run_text, blank_text}
+use Rattle.ic_text.proofs.LineLaws.{about_text, list_text, run_text, blank_text, about_long, submit_long_name, run_long}
 use Rattle.ic_text.proofs.laws.commands_ask.Goals as goal
 
 pub returns : goal.returns
@@ -12,4 +12,7 @@ returns c = record {
   list = list_text;
   run = run_text;
   blank = blank_text;
+  too_long = about_long;
+  too_long_submit = submit_long_name;
+  too_many = run_long;
 }
