@@ -162,8 +162,8 @@ fn line_of(alloc: Global, text: &[u8]) -> Result<Line, TextFault>
     }
 }
 
-/// What a command line asks, with or without its line end, or the first refusal over the whole line. The system of a
-/// submit is read as `read_system` reads it. Takes n log n steps. Only a submit takes memory.
+/// What a command line asks, or the first refusal over the whole line. Its end, if it stands there, is a blank and counts
+/// as a byte. The system of a submit is read as `read_system` reads it. Takes n log n steps. Only a submit takes memory.
 pub fn read_command(alloc: Global, text: &[u8]) -> Result<Line, TextFault>
     ensures read { IfOk result (λ line. ReadsLine text.now (Ok line)) }
     ensures refused { IfErr result
