@@ -40,8 +40,8 @@ fn put_head(out: &mut Vec<u8>)
     put_byte(b'1', out);
 }
 
-/// The table of which these bytes are the byte form. It takes linear time, and n log n where names or
-/// pairs of symbols are looked up.
+/// The table of which these bytes are the byte form. As it is written it takes linear time, and n log n
+/// where names or pairs of symbols are looked up.
 pub fn decode(alloc: Global, bytes: &[u8]) -> Result<Table, CodecFault>
     ensures table { IfOk result (λ table. bytes.now ≡ table_bytes table) }
     ensures sound { IfOk result IsTable }
