@@ -1,0 +1,4 @@
+pub mod LineLemmas
+pub mod TurnLemmas
+pub mod ServingLemmas
+pub mod TakingLemmas

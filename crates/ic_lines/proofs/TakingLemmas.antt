@@ -1,0 +1,217 @@
+-- What a buffer of lines takes.
+use Rattle.std.proofs.Common.{◌≡◌, ℕ, suc, ◌+◌, ◌-◌, ◌<◌, ◌≤◌, ◌==◌, List, [], ◌∷◌, ◌++◌, Bool, true, false, not, Option, None, Some, Result, Ok, Err, is_none, unwrap_or, length, take, drop, refl, sym, ap, ◌∙◌, inl, inr, arith, append-nil, append_assoc, length-append}
+use Rattle.std.specs.Prelude.{position, nat_lt}
+use Rattle.std.specs.Result.{IsErrAnd}
+use Rattle.std.specs.List.{position_or_len}
+use Rattle.std.specs.Io.KnownBytes.{Consumes, IsAtEnd}
+use Rattle.std.proofs.lemmas.Bool.{cases_Bool, or_from, not-true, eqb-true, ltb-true, ltb-false}
+use Rattle.std.proofs.lemmas.List.{take-append-drop, length-take, length-drop, take_all, drop-drop, drop_all}
+use Rattle.std.proofs.lemmas.List.Folds.{list_any-append}
+use Rattle.ic_text.specs.declared.limits.TheConstants.{MAX_TEXT}
+use Rattle.ic_lines.specs.declared.buffer.LineFault.{LineFault}
+use Rattle.ic_lines.specs.declared.buffer.LineFault.TheVariants.{LongLine}
+use Rattle.ic_lines.specs.Lines.{has_feed, lines}
+use Rattle.ic_lines.specs.Taking.{BufferParts, to_come, TakesLine, HasNoLine, HasLongLine, IsTooLong}
+use Rattle.ic_lines.specs.inner.Front.{IsFront, IsLongFront, MovesFront}
+use Rattle.ic_lines.proofs.LineLemmas.{lines_first, lines_last, lines_begin}
+
+abbrev is_feed : ℕ → Bool
+is_feed b = b == 10
+
+-- ---- the first line feed
+
+-- this many bytes stand before the first line feed, or are all there are
+pub record Cuts (bytes : List ℕ) (count : ℕ) : Type 0 where
+  pub unfed : has_feed (take count bytes) ≡ false
+  pub within : count ≤ length bytes
+  pub fed : count < length bytes → bytes ≡ take count bytes ++ 10 ∷ drop (suc count) bytes
+
+cut_more : (b : ℕ) (bs : List ℕ) (n : ℕ) → is_feed b ≡ false → Cuts bs n → Cuts (b ∷ bs) (suc n)
+cut_more b bs n e h = record {
+  unfed = or_from (is_feed b) (has_feed (take n bs)) e h.unfed;
+  within = (let w = h.within in omega (arith, w));
+  fed = λ less. (let rest = h.fed (omega (arith, less)) in ap (λ xs. b ∷ xs) rest);
+}
+
+pub cut : (bytes : List ℕ) → Cuts bytes (position_or_len (λ b. b == 10) bytes)
+cut [] = record { unfed = refl; within = omega arith; fed = λ less. absurd (omega (arith, less)) }
+cut (b ∷ bs) = elim (cases_Bool (is_feed b)) [
+  | inl e ↦ (let at : position_or_len is_feed (b ∷ bs) ≡ 0 = rw e refl in
+      rw at (record { unfed = refl; within = omega arith; fed = λ less. ap (λ x. x ∷ bs) (eqb-true b 10 e) }))
+  | inr e ↦ (let at : position_or_len is_feed (b ∷ bs) ≡ suc (position_or_len is_feed bs) = rw e (omega arith) in
+      rw at (cut_more b bs (position_or_len is_feed bs) e (cut bs)))
+]
+
+-- where `position` stands as a count
+pub count_at : (bytes : List ℕ) (feed : Option ℕ) → feed ≡ position (λ b. b == 10) bytes
+    → unwrap_or feed (length bytes) ≡ position_or_len (λ b. b == 10) bytes
+count_at bytes feed is = elim (cases_Bool (nat_lt (position_or_len is_feed bytes) (length bytes))) [
+  | inl e ↦ rw (is, e) refl
+  | inr e ↦ (let n = cut bytes in let le = ltb-false _ _ e in let w = n.within in rw (is, e) (omega (arith, le, w)))
+]
+
+pub none_at : (bytes : List ℕ) (feed : Option ℕ) → feed ≡ position (λ b. b == 10) bytes → is_none feed ≡ true
+    → length bytes ≤ position_or_len (λ b. b == 10) bytes
+none_at bytes feed is none = elim (cases_Bool (nat_lt (position_or_len is_feed bytes) (length bytes))) [
+  | inl e ↦ (let some : feed ≡ Some (position_or_len is_feed bytes) = rw (is, e) refl in let bad : true ≡ false = sym none ∙ ap is_none some in cc)
+  | inr e ↦ ltb-false _ _ e
+]
+
+pub some_at : (bytes : List ℕ) (feed : Option ℕ) → feed ≡ position (λ b. b == 10) bytes → is_none feed ≡ false
+    → position_or_len (λ b. b == 10) bytes < length bytes
+some_at bytes feed is some = elim (cases_Bool (nat_lt (position_or_len is_feed bytes) (length bytes))) [
+  | inl e ↦ ltb-true _ _ e
+  | inr e ↦ (let none : feed ≡ None = rw (is, e) refl in let bad : false ≡ true = sym some ∙ ap is_none none in cc)
+]
+
+-- ---- a front and what is moved behind it
+
+unfed_both : (front bytes : List ℕ) → has_feed front ≡ false → has_feed bytes ≡ false → has_feed (front ++ bytes) ≡ false
+unfed_both front bytes p q = list_any-append is_feed front bytes ∙ or_from (has_feed front) (has_feed bytes) p q
+
+pub long_front : (front ahead : List ℕ) (count : ℕ) → IsFront front → Cuts ahead count → MAX_TEXT - length front < count
+    → IsLongFront (front ++ ahead)
+long_front front ahead count f h long = record {
+  front = front ++ take count ahead;
+  rest = drop count ahead;
+  parted = ap (λ xs. front ++ xs) (sym (take-append-drop count ahead)) ∙ sym (append_assoc front (take count ahead) (drop count ahead));
+  unfed = unfed_both front (take count ahead) f.unfed h.unfed;
+  long = (let w = h.within in omega (arith, w, long, length-append front (take count ahead), length-take count ahead));
+}
+
+pub moved_front : (front ahead : List ℕ) (count : ℕ) → IsFront front → Cuts ahead count → count ≤ MAX_TEXT - length front
+    → IsFront (front ++ take count ahead)
+moved_front front ahead count f h fits = record {
+  unfed = unfed_both front (take count ahead) f.unfed h.unfed;
+  short = (let w = h.within in let s = f.short in omega (arith, w, s, fits, length-append front (take count ahead), length-take count ahead));
+}
+
+-- ---- lines that are taken
+
+pub long_text : (text more : List ℕ) → IsLongFront text → IsTooLong (text ++ more)
+long_text text more h = long_of h.front (h.rest ++ more) (text ++ more) (ap (λ xs. xs ++ more) h.parted ∙ append_assoc h.front h.rest more) h.unfed h.long
+  where
+    long_of : (front rest all : List ℕ) → all ≡ front ++ rest → has_feed front ≡ false → MAX_TEXT < length front → IsTooLong all
+    long_of [] rest all is unfed long = absurd (omega (arith, long))
+    long_of (b ∷ bs) rest all is unfed long =
+        let h = lines_begin b bs rest unfed in
+        record {
+          line = (b ∷ bs) ++ h.more;
+          rest = h.rest;
+          first = ap lines is ∙ h.is;
+          long = omega (arith, long, length-append (b ∷ bs) h.more);
+        }
+
+pub fault_is : {T : Type 0} (r : Result T LineFault) (e : LineFault) → IsErrAnd r (λ x. x ≡ e) → r ≡ Err LongLine → e ≡ LongLine
+fault_is (Ok v) e is long = absurd is
+fault_is (Err x) e is long = let same : x ≡ e = is in cc
+
+-- the bytes to come are these, and then those that the reader has left
+abbrev pub Begun : BufferParts → Option (List ℕ) → Option (List ℕ) → List ℕ → Type 0
+Begun b old new front = Consumes (to_come b old) new front
+
+pub begun_first : (b : BufferParts) (o : Option (List ℕ)) (front : List ℕ) → front ≡ b.ahead → Begun b o o front
+begun_first b None front is = tt
+begun_first b (Some xs) front is = ap (λ ys. ys ++ xs) (sym is)
+
+pub begun_more : (old now next : Option (List ℕ)) (front more : List ℕ) → Consumes old now front → Consumes now next more
+    → Consumes old next (front ++ more)
+begun_more None now next front more p q = tt
+begun_more (Some t) None next front more p q = absurd p
+begun_more (Some t) (Some xs) None front more p q = absurd q
+begun_more (Some t) (Some xs) (Some ys) front more p q =
+    p ∙ ap (λ zs. front ++ zs) q ∙ sym (append_assoc front more ys)
+
+pub has_long : (old now : Option (List ℕ)) (front : List ℕ) → Consumes old now front → IsLongFront front → HasLongLine old
+has_long None now front p h = tt
+has_long (Some t) None front p h = absurd p
+has_long (Some t) (Some xs) front p h = rw p (long_text front xs h)
+
+-- a line feed was met
+pub takes_line : (old now : Option (List ℕ)) (front line : List ℕ) (next : BufferParts) → Consumes old now front
+    → has_feed line ≡ false → front ≡ line ++ 10 ∷ next.ahead → TakesLine line old (to_come next now)
+takes_line None now front line next p unfed is = tt
+takes_line (Some t) None front line next p unfed is = absurd p
+takes_line (Some t) (Some xs) front line next p unfed is =
+    let all : t ≡ line ++ 10 ∷ (next.ahead ++ xs) = p ∙ ap (λ ys. ys ++ xs) is ∙ append_assoc line (10 ∷ next.ahead) xs in
+    ap lines all ∙ lines_first line (next.ahead ++ xs) unfed
+
+-- the end was met
+pub takes_last : (old now : Option (List ℕ)) (line : List ℕ) (next : BufferParts) → Consumes old now line → IsAtEnd now
+    → has_feed line ≡ false → (length line == 0) ≡ false → next.ahead ≡ [] → TakesLine line old (to_come next now)
+takes_last None now line next p end unfed some none = tt
+takes_last (Some t) None line next p end unfed some none = absurd p
+takes_last (Some t) (Some xs) [] next p end unfed some none = let bad : true ≡ false = some in cc
+takes_last (Some t) (Some xs) (b ∷ bs) next p end unfed some none =
+    let all : t ≡ b ∷ bs = p ∙ ap (λ ys. (b ∷ bs) ++ ys) end ∙ append-nil (b ∷ bs) in
+    let left : next.ahead ++ xs ≡ [] = rw (none, end) refl in
+    ap lines all ∙ lines_last b bs unfed ∙ ap (λ ys. (b ∷ bs) ∷ lines ys) (sym left)
+
+pub takes_none : (old now : Option (List ℕ)) (line : List ℕ) → Consumes old now line → IsAtEnd now → (length line == 0) ≡ true → HasNoLine old
+takes_none None now line p end none = tt
+takes_none (Some t) None line p end none = absurd p
+takes_none (Some t) (Some xs) [] p end none = let all : t ≡ [] = p ∙ end in ap lines all
+takes_none (Some t) (Some xs) (b ∷ bs) p end none = let zero : length (b ∷ bs) ≡ 0 = eqb-true (length (b ∷ bs)) 0 none in absurd (omega (arith, zero))
+
+-- ---- bytes behind a place
+
+pub seen_ahead : (seen bytes : List ℕ) (start : ℕ) → seen ≡ bytes → take (length seen - start) (drop start seen) ≡ drop start bytes
+seen_ahead seen bytes start is = take_all (length seen - start) (drop start seen) (omega (arith, length-drop start seen)) ∙ ap (drop start) is
+
+pub cuts_of : (seen ahead : List ℕ) (feed : Option ℕ) (count : ℕ) → seen ≡ ahead → feed ≡ position (λ b. b == 10) seen
+    → count ≡ unwrap_or feed (length seen) → Cuts ahead count
+cuts_of seen ahead feed count is found counted =
+    let n : count ≡ position_or_len is_feed ahead = counted ∙ count_at seen feed found ∙ ap (position_or_len is_feed) is in
+    rw n (cut ahead)
+
+pub none_left : (seen ahead : List ℕ) (feed : Option ℕ) (count start : ℕ) (bytes : List ℕ) → seen ≡ ahead → feed ≡ position (λ b. b == 10) seen
+    → count ≡ unwrap_or feed (length seen) → is_none feed ≡ true → length ahead ≤ count
+none_left seen ahead feed count start bytes is found counted none =
+    let n : count ≡ position_or_len is_feed seen = counted ∙ count_at seen feed found in
+    rw (n, ← is) (none_at seen feed found none)
+
+pub some_left : (seen ahead : List ℕ) (feed : Option ℕ) (count : ℕ) → seen ≡ ahead → feed ≡ position (λ b. b == 10) seen
+    → count ≡ unwrap_or feed (length seen) → is_none feed ≡ false → count < length ahead
+some_left seen ahead feed count is found counted some =
+    let n : count ≡ position_or_len is_feed seen = counted ∙ count_at seen feed found in
+    rw (n, ← is) (some_at seen feed found some)
+
+-- ---- a line feed is met, and more is moved
+
+pub took : (some : Bool) (old new : BufferParts) (before now : Option (List ℕ)) → some ≡ true → MovesFront (Ok some) old new
+    → Consumes before now (old.line ++ old.ahead) → TakesLine new.line before (to_come new now)
+took some old new before now is moved p =
+    let m : MovesFront (Ok true) old new = rw is at moved in
+    takes_line before now (old.line ++ old.ahead) new.line new p m.0.unfed m.1
+
+pub drop_all_behind : (bytes ahead : List ℕ) (start : ℕ) {count : ℕ} → drop start bytes ≡ ahead → length ahead ≤ count → drop (start + count) bytes ≡ []
+drop_all_behind bytes ahead start {count} is all =
+    sym (drop-drop count start bytes) ∙ ap (drop count) is ∙ drop_all count ahead all
+
+pub fed_behind : (line ahead bytes moved : List ℕ) (start count : ℕ) → Cuts ahead count → count < length ahead → drop start bytes ≡ ahead
+    → moved ≡ line ++ take count ahead → line ++ ahead ≡ moved ++ 10 ∷ drop (start + count + 1) bytes
+fed_behind line ahead bytes moved start count cuts less is items =
+    let behind : drop (suc count) ahead ≡ drop (start + count + 1) bytes =
+    ap (drop (suc count)) (sym is) ∙ drop-drop (suc count) start bytes ∙ ap (λ n. drop n bytes) (omega arith) in
+    ap (λ xs. line ++ xs) (cuts.fed less) ∙ sym (append_assoc line (take count ahead) (10 ∷ drop (suc count) ahead))
+    ∙ ap (λ xs. xs ++ 10 ∷ drop (suc count) ahead) (sym items) ∙ ap (λ xs. moved ++ 10 ∷ xs) behind
+
+pub took_last : (old now next : Option (List ℕ)) (line : List ℕ) (new : BufferParts) → Consumes old now line → Consumes now next new.ahead
+    → new.ahead ≡ [] → IsAtEnd now → has_feed line ≡ false → new.line ≡ line → (length new.line == 0) ≡ false
+    → TakesLine new.line old (to_come new next)
+took_last None now next line new p q none end unfed same some = tt
+took_last (Some t) None next line new p q none end unfed same some = absurd p
+took_last (Some t) (Some xs) None line new p q none end unfed same some = absurd q
+took_last (Some t) (Some xs) (Some ys) line new p q none end unfed same some =
+    let left : ys ≡ [] = sym (q ∙ ap (λ zs. zs ++ ys) none) ∙ end in
+    let all : t ≡ line ++ ys = p ∙ ap (λ zs. line ++ zs) (q ∙ ap (λ zs. zs ++ ys) none) in
+    takes_last (Some t) (Some ys) new.line new (all ∙ ap (λ zs. zs ++ ys) (sym same)) left (rw same unfed) some none
+
+abbrev said : Bool → Result Bool LineFault
+said b = Ok b
+
+pub some_byte : (r : Bool) (seen line : List ℕ) → said (not r) ≡ said true → r ≡ (length seen == 0) → seen ≡ line
+    → (length line == 0) ≡ false
+some_byte r seen line is empty same =
+    let yes : not r ≡ true = cc in
+    ap (λ xs. length xs == 0) (sym same) ∙ sym empty ∙ not-true r yes

@@ -1,0 +1,6 @@
+pub mod Lines
+pub mod Turns
+pub mod Answers
+pub mod Serving
+pub mod Taking
+pub mod inner

@@ -1,0 +1,26 @@
+-- For private functions: the front of a line while its line feed isn't found.
+use Rattle.std.specs.Prelude.{◌≡◌, ℕ, ◌<◌, ◌≤◌, List, [], ◌∷◌, ◌++◌, Bool, true, false, Result, Ok, Err, length}
+use Rattle.ic_text.specs.declared.limits.TheConstants.{MAX_TEXT}
+use Rattle.ic_lines.specs.declared.buffer.LineFault.{LineFault}
+use Rattle.ic_lines.specs.Lines.{has_feed}
+use Rattle.ic_lines.specs.Taking.{BufferParts}
+
+-- it has no line feed and is no longer than a line may be
+pub record IsFront (front : List ℕ) : Type 0 where
+  pub unfed : has_feed front ≡ false
+  pub short : length front ≤ MAX_TEXT
+
+-- bytes from ahead are moved to the line up to a line feed, which is taken away, or all of them
+abbrev pub MovesFront : Result Bool LineFault → BufferParts → BufferParts → Type 0
+MovesFront (Ok true) old new = IsFront new.line × (old.line ++ old.ahead ≡ new.line ++ 10 ∷ new.ahead)
+MovesFront (Ok false) old new =
+    IsFront new.line × (new.ahead ≡ []) × (old.line ++ old.ahead ≡ new.line)
+MovesFront (Err fault) old new = Unit {0}
+
+-- more bytes than a line may have stand before the first line feed
+pub record IsLongFront (bytes : List ℕ) : Type 0 where
+  pub front : List ℕ
+  pub rest : List ℕ
+  pub parted : bytes ≡ front ++ rest
+  pub unfed : has_feed front ≡ false
+  pub long : MAX_TEXT < length front

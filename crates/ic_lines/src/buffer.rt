@@ -1,0 +1,171 @@
+ghost use Rattle.std.specs.Prelude.{◌≡◌, ◌≢◌, ◌≤◌, ◌==◌, ◌++◌, [], false, true, length, Ok, Err, IfSome, OnOk, IsOk, IsErr, position};
+ghost use Rattle.std.specs.Io.KnownBytes.{Consumes, IsAtEnd, Keeps};
+ghost use Rattle.ic_lines.specs.Lines.{has_feed};
+ghost use Rattle.ic_lines.specs.Taking.{to_come, TakesLine, HasNoLine, HasLongLine};
+ghost use Rattle.ic_lines.specs.declared.buffer.LineFault.TheVariants.{LongLine};
+
+use ic_text::MAX_TEXT;
+use std::alloc::{AllocError, Global};
+use std::io::{ErrorKind, Read, Write};
+use std::marker::Model;
+
+/// How many bytes are read at a time.
+const CHUNK: usize = 8_192;
+
+/// Why no line is taken.
+#[derive(Clone, Copy, Debug, PartialEq, Eq)]
+pub enum LineFault {
+    /// The reader failed.
+    Read,
+    /// The writer, which is flushed before the reader is waited for, failed.
+    Write,
+    /// The next line has more than 262,144 bytes.
+    LongLine,
+    /// A growth was refused.
+    Memory,
+}
+
+impl From<AllocError> for LineFault {
+    ghost use Rattle.ic_lines.specs.declared.buffer.LineFault.TheVariants.{Memory};
+
+    ghost from_gives = { λ _ e. e ≡ Memory };
+
+    fn from(_error: AllocError) -> LineFault {
+        LineFault::Memory
+    }
+}
+
+/// Lines from a reader, one at a time: the line that was taken last, and what was read and not yet
+/// taken. It keeps the allocator that it was made with.
+#[derive(Drop)]
+pub struct LineBuffer {
+    line: Vec<u8>,
+    bytes: Vec<u8>,
+    // What stands ahead begins here.
+    start: usize,
+}
+
+impl Model for LineBuffer {
+    ghost use Rattle.std.specs.Prelude.{◌≤◌, drop, length};
+    ghost use Rattle.ic_lines.specs.Taking.{BufferParts, coded_buffer};
+
+    ghost Value = { BufferParts };
+
+    ghost coded = { coded_buffer };
+
+    ghost view = { λ b. record { line = b.line.items; ahead = drop b.start b.bytes.items } };
+
+    ghost invariant = { λ b. b.start ≤ length b.bytes.items };
+}
+
+impl LineBuffer {
+    ghost use Rattle.ic_lines.specs.inner.Front.{IsFront, MovesFront, IsLongFront};
+
+    /// An empty buffer. Later calls take their memory from the allocator.
+    pub fn new(alloc: Global) -> LineBuffer
+        ensures line { result.line ≡ [] }
+        ensures ahead { result.ahead ≡ [] }
+    {
+        LineBuffer {
+            line: Vec::new(alloc),
+            bytes: Vec::new(alloc),
+            start: 0,
+        }
+    }
+
+    /// The line that was taken last, without its line feed.
+    pub fn line(&self) -> &[u8]
+        ensures { result.now ≡ self.now.line }
+    {
+        self.line.as_slice()
+    }
+
+    /// Takes the next line, where there is one. Before the reader is asked for more, the writer is
+    /// flushed; a line that was read already is taken without.
+    pub fn take_line<R: Read, W: Write>(
+        &mut self,
+        reader: &mut R,
+        writer: &mut W,
+    ) -> Result<bool, LineFault>
+        ensures taken { result ≡ Ok true → TakesLine self.new.line
+            (to_come self.old (R.remaining reader.old))
+            (to_come self.new (R.remaining reader.new)) }
+        ensures short { result ≡ Ok true → length self.new.line ≤ MAX_TEXT }
+        ensures end { result ≡ Ok false → HasNoLine (to_come self.old (R.remaining reader.old)) }
+        ensures long { result ≡ Err LongLine
+            → HasLongLine (to_come self.old (R.remaining reader.old)) }
+        ensures kept { Keeps (W.contents writer.old) (W.contents writer.new) }
+    {
+        self.line.clear();
+        if self.take_ahead()? {
+            return Ok(true);
+        }
+        writer.flush().map_err(|_| LineFault::Write)?;
+        for _ in 0..u64::MAX {
+            if !self.fill(reader)? {
+                return Ok(!self.line().is_empty());
+            }
+            if self.take_ahead()? {
+                return Ok(true);
+            }
+        }
+        Err(LineFault::Read)
+    }
+
+    /// Moves what stands ahead, up to the first line feed, to the end of the line. Whether there
+    /// was a line feed.
+    fn take_ahead(&mut self) -> Result<bool, LineFault>
+        requires { IsFront self.old.line }
+        ensures moved { MovesFront result self.old self.new }
+        ensures long { result ≡ Err LongLine → IsLongFront (self.old.line ++ self.old.ahead) }
+    {
+        let room = MAX_TEXT - self.line().len();
+        let ahead = &self.bytes[self.start..];
+        let feed = place_of_feed(ahead);
+        let count = feed.unwrap_or(ahead.len());
+        if count > room {
+            return Err(LineFault::LongLine);
+        }
+        self.line.extend_from_slice(&ahead[..count])?;
+        self.start += count;
+        if feed.is_none() {
+            return Ok(false);
+        }
+        self.start += 1;
+        Ok(true)
+    }
+
+    /// Reads what comes next, where nothing stands ahead. Whether anything came.
+    fn fill<R: Read>(&mut self, reader: &mut R) -> Result<bool, LineFault>
+        requires { self.old.ahead ≡ [] }
+        ensures line { self.new.line ≡ self.old.line }
+        ensures bytes { OnOk result
+            (Consumes (R.remaining reader.old) (R.remaining reader.new) self.new.ahead) }
+        ensures end { result ≡ Ok false → IsAtEnd (R.remaining reader.old) }
+        ensures none { result ≡ Ok false → self.new.ahead ≡ [] }
+        ensures fault { result ≢ Err LongLine }
+    {
+        self.bytes.clear();
+        self.start = 0;
+        let mut chunk = [0u8; CHUNK];
+        for _ in 0..u64::MAX {
+            match reader.read(&mut chunk) {
+                Ok(0) => return Ok(false),
+                Ok(count) => {
+                    self.bytes.extend_from_slice(&chunk[..count])?;
+                    return Ok(true);
+                }
+                Err(error) if error.kind() == ErrorKind::Interrupted => {}
+                Err(_) => return Err(LineFault::Read),
+            }
+        }
+        Err(LineFault::Read)
+    }
+}
+
+/// The place of the first line feed.
+fn place_of_feed(bytes: &[u8]) -> Option<usize>
+    ensures { result ≡ position (λ b. b == 10) bytes.now }
+{
+    bytes.iter().position(|byte| *byte == b'\n')
+}

@@ -1,0 +1,115 @@
+//! Laws of the definitions that the contracts of this crate and of those above cite.
+
+ghost use Rattle.std.specs.Prelude.{◌≡◌, ◌↔◌, ◌+◌, ◌<◌, ◌≤◌, ℕ, List, [], ◌∷◌, ◌++◌, Ok, Err, None, Some, false, true, length, map, take, codes};
+ghost use Rattle.std.specs.List.{flat_map, list_all, AllByRecursion};
+ghost use Rattle.std.specs.Fmt.{decimal};
+ghost use Rattle.ic_pool.specs.Flight.{FlightParts};
+ghost use Rattle.ic_jobs.specs.declared.command.Command.{Command};
+ghost use Rattle.ic_jobs.specs.declared.event.Event.{Event};
+ghost use Rattle.ic_jobs.specs.declared.event.Event.TheVariants.{Round, Command as by_command};
+ghost use Rattle.ic_jobs.specs.declared.event.Entry.{Entry};
+ghost use Rattle.ic_jobs.specs.Job.{JobParts};
+ghost use Rattle.ic_jobs.specs.Table.{IsTable};
+ghost use Rattle.ic_jobs.specs.Events.{Outcome, apply};
+ghost use Rattle.ic_jobs.specs.History.{table_after, replay, IsLegal};
+ghost use Rattle.ic_jobs.specs.Landing.{due};
+ghost use Rattle.ic_jobs.specs.Turns.{RunsAt};
+ghost use Rattle.ic_text.specs.declared.fault.TextFault.{TextFault};
+ghost use Rattle.ic_text.specs.declared.limits.TheConstants.{MAX_TEXT};
+ghost use Rattle.ic_text.specs.declared.line.Line.TheVariants.{Blank, Command as Asks, Run};
+ghost use Rattle.ic_text.specs.LineText.{ReadsLine};
+ghost use Rattle.ic_text.specs.ReplyText.{reply_text};
+ghost use Rattle.ic_text.specs.Text.{fault_text};
+ghost use Rattle.ic_text.specs.Token.{is_blank};
+ghost use Rattle.ic_lines.specs.Lines.{has_feed, ended, lines};
+ghost use Rattle.ic_lines.specs.Turns.{turns, after_events};
+ghost use Rattle.ic_lines.specs.Answers.{Reading, after, out};
+ghost use Rattle.ic_lines.specs.Serving.{IsServed};
+
+/// A line is what stands before a line feed, and the last one needs none where it has a byte. No
+/// line has a line feed in it. The lines of a text that ends with a line feed, each with its line
+/// feed, are the text; behind such a text the lines of another go on.
+pub fn lines_are_parted_by_line_feeds()
+    ensures none { lines [] ≡ [] }
+    ensures last { (b : ℕ) (line : List ℕ) → has_feed (b ∷ line) ≡ false
+        → lines (b ∷ line) ≡ (b ∷ line) ∷ [] }
+    ensures first { (line rest : List ℕ) → has_feed line ≡ false
+        → lines (line ++ 10 ∷ rest) ≡ line ∷ lines rest }
+    ensures each { (text : List ℕ) → AllByRecursion (λ line. has_feed line ≡ false) (lines text) }
+    ensures whole { (text : List ℕ) → flat_map ended (lines (ended text)) ≡ ended text }
+    ensures joined { (text more : List ℕ)
+        → lines (ended text ++ more) ≡ lines (ended text) ++ lines more }
+{}
+
+/// Lines are answered one after the other: the answers to two lists of lines are those to the first,
+/// and behind them those to the second over the table that the first leaves.
+pub fn lines_are_answered_in_turn()
+    ensures nothing { (t : List JobParts) → out t [] ≡ [] }
+    ensures stays { (t : List JobParts) → after t [] ≡ t }
+    ensures out { (t : List JobParts) (a b : List Reading)
+        → out t (a ++ b) ≡ out t a ++ out (after t a) b }
+    ensures after { (t : List JobParts) (a b : List Reading)
+        → after t (a ++ b) ≡ after (after t a) b }
+{}
+
+/// Any lines are served in just one way, no lines are answered nothing, and lines behind other lines
+/// are served from the table that those leave.
+pub fn lines_are_served_in_one_way()
+    ensures some { (t : List JobParts) (ls : List (List ℕ))
+        → (answers : List ℕ) × (left : List JobParts) × IsServed t ls answers left }
+    ensures answers { (t u v : List JobParts) (ls : List (List ℕ)) (a b : List ℕ)
+        → IsServed t ls a u → IsServed t ls b v → a ≡ b }
+    ensures leaves { (t u v : List JobParts) (ls : List (List ℕ)) (a b : List ℕ)
+        → IsServed t ls a u → IsServed t ls b v → u ≡ v }
+    ensures nothing { (t : List JobParts) → IsServed t (lines []) [] t }
+    ensures joined { (t u v : List JobParts) (ls more : List (List ℕ)) (a b : List ℕ)
+        → IsServed t ls a u → IsServed u more b v → IsServed t (ls ++ more) (a ++ b) v }
+{
+    ic_text::laws::one_line_reading();
+}
+
+/// What one line is answered, and what it leaves: nothing to blanks, its refusal to a refused line,
+/// both of which leave the table; its reply to a command; and to a run how many rounds it made.
+pub fn each_line_is_answered()
+    ensures blank { (t : List JobParts) (line : List ℕ) → length line ≤ MAX_TEXT
+        → list_all is_blank line ≡ true → IsServed t (line ∷ []) [] t }
+    ensures refused { (t : List JobParts) (line : List ℕ) (fault : TextFault)
+        → ReadsLine line (Err fault) → IsServed t (line ∷ []) (ended (fault_text fault)) t }
+    ensures command { (t : List JobParts) (line : List ℕ) (c : Command) (o : Outcome)
+        → ReadsLine line (Ok (Asks c)) → apply t (by_command c) ≡ Some o
+        → IsServed t (line ∷ []) (ended (reply_text o.reply)) o.table }
+    ensures run { (t : List JobParts) (line : List ℕ) (k n : ℕ)
+        → ReadsLine line (Ok (Run k)) → length (turns k 0 t) ≡ n
+        → IsServed t (line ∷ []) (ended (codes "ran " ++ decimal n))
+        (after_events t (turns k 0 t)) }
+{
+    ic_text::laws::commands_ask();
+}
+
+/// A run makes rounds of running jobs: at most so many, and fewer only where no job runs then. The
+/// first is that of the job that is due from a place on; what comes behind it is the run of one
+/// fewer from above the job's place. A front of a run's events is a shorter run.
+pub fn runs_are_rounds_in_turn()
+    ensures few { (k place : ℕ) (t : List JobParts) → length (turns k place t) ≤ k }
+    ensures fewer { (k place : ℕ) (t : List JobParts) → length (turns k place t) < k
+        → (i : ℕ) → ¬ RunsAt (after_events t (turns k place t)) i }
+    ensures first { (k place : ℕ) (t : List JobParts) (f : FlightParts) → due t place ≡ Some f
+        → turns (k + 1) place t
+        ≡ Round f.name ∷ turns k (f.place + 1) (table_after t (Round f.name)) }
+    ensures idle { (k place : ℕ) (t : List JobParts) → ((i : ℕ) → ¬ RunsAt t i)
+        → turns k place t ≡ [] }
+    ensures front { (k n place : ℕ) (t : List JobParts) → n ≤ k
+        → take n (turns k place t) ≡ turns n place t }
+{
+    ic_jobs::laws::due_is_the_next_running_job();
+}
+
+/// Each round of a run is of a job that runs when its turn comes: the run's events, each with its
+/// reply, are a legal history of the table.
+pub fn runs_are_legal()
+    ensures { (k place : ℕ) (t : List JobParts) → IsTable t
+        → (h : List Entry) × IsLegal t h × (map (λ e. e.event) h ≡ turns k place t) }
+{
+    ic_jobs::laws::what_is_due_is_awaited();
+    ic_jobs::laws::events_leave_tables();
+}
