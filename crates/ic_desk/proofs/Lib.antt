@@ -1,1 +1,4 @@
 pub mod LivesLemmas
+pub mod HistoryLemmas
+pub mod DiskLemmas
+pub mod AnswerLemmas

@@ -1,1 +1,7 @@
 pub mod Lives
+pub mod Kept
+pub mod Entries
+pub mod Refusals
+pub mod Book
+pub mod Opened
+pub mod lemmas

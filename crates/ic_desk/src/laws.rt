@@ -8,7 +8,13 @@ ghost use Rattle.ic_jobs.specs.Job.{JobParts};
 ghost use Rattle.ic_jobs.specs.Table.{job_named};
 ghost use Rattle.ic_jobs.specs.History.{replay, IsLegal};
 ghost use Rattle.ic_jobs.specs.Life.{Life, life, IsAsLived};
+ghost use Rattle.ic_desk.specs.declared.limits.TheConstants.{MAX_ENTRIES};
 ghost use Rattle.ic_desk.specs.Lives.{Page, IsPage, AreLives, left_by, lived};
+
+/// The limit of a history.
+pub fn limits_are()
+    ensures { MAX_ENTRIES ≡ 65536 }
+{}
 
 /// Over any number of lives, what the stops left of all logs but the last, joined in order, is one
 /// history. It is legal from the empty table, and the last life opened with the table that it

@@ -1,0 +1,105 @@
+-- What a book keeps on its disk, as its calls change it, and what a crash in them leaves.
+use Rattle.std.proofs.Common.{◌≡◌, ◌≢◌, ◌⊎◌, inl, inr, ⊎_elim, ℕ, ◌≤◌, List, Bool, true, false, refl, sym, ◌∙◌, ap, subst}
+use Rattle.std.specs.Coded.{le_prop}
+use Rattle.std.specs.Str.{bytes_eq}
+use Rattle.std.specs.Cmp.Lexicographic.{bytes_decides}
+use mathlib.Core.Logic.{∥∥₁_elim}
+use Rattle.ic_disk.specs.Images.{Within}
+use Rattle.ic_disk.specs.Time.{LeavesOnly}
+use Rattle.ic_disk.specs.lemmas.Moments.{started}
+use Rattle.ic_jobs.specs.declared.event.Entry.{Entry}
+use Rattle.ic_jobs.specs.Job.{JobParts}
+use Rattle.ic_jobs.specs.Table.{IsTable}
+use Rattle.ic_jobs.specs.History.{replay}
+use Rattle.ic_codec.specs.Tables.{table_bytes}
+use Rattle.ic_frames.specs.Held.{Held, the_body, no_slot, two_alike, damaged, body_held}
+use Rattle.ic_slots.specs.Held.{HoldsTable, HoldsEitherTable, IsHeld, the_table}
+use Rattle.ic_desk.specs.Kept.{IsOnDisk, HoldsKeptOrAll, table_kept}
+use Rattle.ic_desk.specs.lemmas.OneProof.{HoldsTable-prop}
+
+-- ---- which of two tables a file holds
+
+same_or_not : (b : Bool) (xs ys : List ℕ) → bytes_eq xs ys ≡ b → (xs ≡ ys) ⊎ (xs ≢ ys)
+same_or_not true xs ys e = inl ((bytes_decides xs ys).0 e)
+same_or_not false xs ys e = inr (λ same. let never : true ≡ false = sym ((bytes_decides xs ys).1 same) ∙ e in cc)
+
+held_or_not : (held : Held) (bytes : List ℕ) → (held ≡ the_body bytes) ⊎ (held ≢ the_body bytes)
+held_or_not (the_body xs) bytes = ⊎_elim
+    (λ same. inl (ap the_body same))
+    (λ other. inr (λ e. other (let same : xs ≡ bytes = cc in same)))
+    (same_or_not (bytes_eq xs bytes) xs bytes refl)
+held_or_not no_slot bytes = inr (λ e. cc)
+held_or_not two_alike bytes = inr (λ e. cc)
+held_or_not damaged bytes = inr (λ e. cc)
+
+-- where it holds one of the two, it can be told which
+pub either_told : (a b : List JobParts) (file : List ℕ) → IsTable a → ∥ HoldsEitherTable a b file ∥₁ → HoldsEitherTable a b file
+either_told a b file sound either = ⊎_elim
+    (λ here. inl (record {
+      made = ∥∥₁_elim either le_prop (⊎_elim (λ (h : HoldsTable a file). h.made) (λ (h : HoldsTable b file). h.made));
+      held = (sound, here);
+    }))
+    (λ other. inr (∥∥₁_elim either (HoldsTable-prop b file)
+    (⊎_elim (λ (h : HoldsTable a file). absurd (other h.held.1)) (λ (h : HoldsTable b file). h))))
+    (held_or_not (body_held file) (table_bytes a))
+
+-- ---- what is on the disk
+
+module _ (content : List ℕ) (image : List ℕ → Type 0) (start : List JobParts) (log : List Entry) (kept : ℕ) (broken made : Bool) (is : IsOnDisk content image start log kept broken made) where
+  -- what is kept stays the same table, and nothing has broken
+  pub same_kept : broken ≡ false → (new_start : List JobParts) (new_log : List Entry) (new_kept : ℕ)
+      → table_kept new_start new_log new_kept ≡ table_kept start log kept → IsOnDisk content image new_start new_log new_kept broken made
+  same_kept ready new_start new_log new_kept same = record {
+    held = λ whole. subst (λ (t : List JobParts). IsHeld (the_table t) content) (sym same) (is.held whole);
+    made_is = is.made_is;
+    holds = λ whole is_made. subst (λ (t : List JobParts). Within image (HoldsTable t)) (sym same) (is.holds whole is_made);
+    either = λ is_made file there. ∣ inl (subst (λ (t : List JobParts). HoldsTable t file) (sym same) (is.holds ready is_made file there)) ∣₁;
+  }
+
+  -- each image is one of the two tables
+  pub either_now : IsTable (table_kept start log kept) → made ≡ true → Within image (HoldsKeptOrAll start log kept)
+  either_now sound is_made file there = either_told (table_kept start log kept) (replay start log) file sound (is.either is_made file there)
+
+  -- each image is the table that is kept, whatever entries come
+  pub kept_alone : broken ≡ false → made ≡ true → (new_log : List Entry) → table_kept start new_log kept ≡ table_kept start log kept → Within image (HoldsKeptOrAll start new_log kept)
+  kept_alone ready is_made new_log same file there = inl (subst (λ (t : List JobParts). HoldsTable t file) (sym same) (is.holds ready is_made file there))
+
+-- a table was kept
+pub kept_now : (content : List ℕ) (image : List ℕ → Type 0) (start : List JobParts) (log : List Entry) (kept : ℕ) (broken : Bool) (table : List JobParts)
+    → table_kept start log kept ≡ table → IsHeld (the_table table) content → Within image (HoldsTable table) → IsOnDisk content image start log kept broken true
+kept_now content image start log kept broken table same held holds =
+    let all = subst (λ (t : List JobParts). Within image (HoldsTable t)) (sym same) holds in record {
+      held = λ _. subst (λ (t : List JobParts). IsHeld (the_table t) content) (sym same) held;
+      made_is = λ _ _. refl;
+      holds = λ _ _. all;
+      either = λ _ file there. ∣ inl (all file there) ∣₁;
+    }
+
+-- a keep has failed
+pub keep_failed : (content : List ℕ) (image : List ℕ → Type 0) (start : List JobParts) (log : List Entry) (kept : ℕ) (broken made : Bool)
+    → broken ≡ true → (made ≡ true → Within image (HoldsKeptOrAll start log kept)) → IsOnDisk content image start log kept broken made
+keep_failed content image start log kept broken made broke either = record {
+  held = λ whole. let never : true ≡ false = sym broke ∙ whole in cc;
+  made_is = λ whole. let never : true ≡ false = sym broke ∙ whole in cc;
+  holds = λ whole. let never : true ≡ false = sym broke ∙ whole in cc;
+  either = λ is_made file there. ∣ either is_made file there ∣₁;
+}
+
+-- ---- what a crash leaves
+
+module _ {D : Type 0} (clock : D → ℕ) (left : D → ℕ → List ℕ → Type 0) (image : D → List ℕ → Type 0) where
+  -- where no call was made
+  pub no_call : (disk : D) (P : List ℕ → Type 0) → ((file : List ℕ) → left disk (clock disk) file → image disk file) → Within (image disk) P → LeavesOnly clock left disk disk P
+  no_call disk P law here = started clock left disk P (λ file is. here file (law file is))
+
+  -- at the end of a run
+  pub at_end : (old new : D) (P : List ℕ → Type 0) → ((file : List ℕ) → clock old ≤ clock new → image new file → left new (clock old) file) → LeavesOnly clock left old new P → Within (image new) P
+  at_end old new P law run file is = run.each file (law file run.later is)
+
+-- a keep of the table after all entries, of which there may be new ones
+pub keep_leaves : {D : Type 0} (clock : D → ℕ) (left : D → ℕ → List ℕ → Type 0) (old new : D) (images : List ℕ → Type 0) (start : List JobParts) (log new_log : List Entry) (kept : ℕ) (table : List JobParts)
+    → table_kept start new_log kept ≡ table_kept start log kept → replay start new_log ≡ table → Within images (HoldsTable (table_kept start log kept))
+    → ((t : List JobParts) → Within images (HoldsTable t) → LeavesOnly clock left old new (HoldsEitherTable t table)) → LeavesOnly clock left old new (HoldsKeptOrAll start new_log kept)
+keep_leaves clock left old new images start log new_log kept table same all holds run =
+    subst (λ (t : List JobParts). LeavesOnly clock left old new (HoldsEitherTable t (replay start new_log))) (sym same)
+    (subst (λ (t : List JobParts). LeavesOnly clock left old new (HoldsEitherTable (table_kept start log kept) t)) (sym all) (run (table_kept start log kept) holds))

@@ -1,0 +1,126 @@
+use Rattle.std.proofs.Common.{◌≡◌, ◌∙◌, length, sym, arith}
+use Rattle.ic_desk.specs.Entries.{command_entry}
+use Rattle.ic_desk.specs.Kept.{HoldsKeptOrAll}
+use Rattle.ic_desk.proofs.AnswerLemmas.{told_stays}
+use Rattle.ic_desk.proofs.HistoryLemmas.{all_kept_after, command_sent, idle_after, left_unkept, length_after, replayed_after, same_table_after, table_all_after, table_kept_after}
+use Rattle.ic_desk.proofs.DiskLemmas.{at_end, either_now, keep_failed, keep_leaves, kept_now, no_call, same_kept}
+use Rattle.ic_desk.proofs.book.Book.command.Goals as goal
+
+pub returns-in_err-check_room-clause-any_moment : goal.returns-in_err-check_room-clause-any_moment
+returns-in_err-check_room-clause-any_moment g c keeps made =
+    let book = c.args.self.now in
+    let disk = g.D.Disk in
+    let old = book.keeper.frames.disk in
+    no_call disk.clock disk.left disk.image old (HoldsKeptOrAll book.start book.log.items book.kept) (g.met.D.Disk.left_is_image old)
+    (either_now (disk.content old) (disk.image old) book.start book.log.items book.kept book.keeper.frames.broken book.made (book.on_disk keeps) book.history.sound made)
+
+pub invariant_of-self-then-leaves_table : goal.invariant_of-self-then-leaves_table
+invariant_of-self-then-leaves_table g c =
+    let book = c.args.self.now in
+    let disk = g.D.Disk in
+    let old = book.keeper.frames.disk in
+    let answer = c.in_ok-answer.answer in
+    let e = command_entry c.args.who c.args.command answer in
+    let log = c.enter_command.new.log.items in
+    let table = c.enter_command.new.table in
+    let ready = c.in_ok-check_room.ensures.ok.0 in
+    let room = c.in_ok-check_room.ensures.ok.1 in
+    let adds = c.in_ok-answer.ensures.added in
+    let sent = command_sent c.args.who c.args.command answer in
+    let same = told_stays book.table table c.args.command answer adds.event (sym c.leaves_table.ensures ∙ c.if-leaves_table.true) in
+    let grown = length_after book.start book.log.items log book.table table book.kept book.keeper.frames.broken e book.history ready adds room sent in
+    let all : book.kept ≡ length book.log.items = omega (arith, grown, c.if-self-len.true, c.len.ensures) in
+    let count : c.len-self.result ≡ length log = omega (arith, c.len-self.ensures) in
+    record {
+      history = idle_after book.start book.log.items log book.table table book.kept book.keeper.frames.broken e book.history ready adds room sent c.len-self.result count same all;
+      on_disk = λ keeps. same_kept (disk.content old) (disk.image old) book.start book.log.items book.kept book.keeper.frames.broken book.made (book.on_disk keeps) ready book.start log c.len-self.result
+          (same_table_after book.start book.log.items log book.table table book.kept book.keeper.frames.broken e book.history ready adds room sent c.len-self.result count same all);
+    }
+
+pub invariant_of-self-in-Break-branch-3 : goal.invariant_of-self-in-Break-branch-3
+invariant_of-self-in-Break-branch-3 g c =
+    let book = c.args.self.now in
+    let disk = g.D.Disk in
+    let old = book.keeper.frames.disk in
+    let keeper = c.keep_table.new.keeper in
+    let new = keeper.frames.disk in
+    let answer = c.in_ok-answer.answer in
+    let e = command_entry c.args.who c.args.command answer in
+    let log = c.enter_command.new.log.items in
+    let table = c.enter_command.new.table in
+    let ready = c.in_ok-check_room.ensures.ok.0 in
+    let room = c.in_ok-check_room.ensures.ok.1 in
+    let adds = c.in_ok-answer.ensures.added in
+    let sent = command_sent c.args.who c.args.command answer in
+    let broke = c.in_err-keep_table.ensures.breaks in
+    record {
+      history = left_unkept book.start book.log.items log book.table table book.kept book.keeper.frames.broken e book.history ready adds room sent keeper.frames.broken broke;
+      on_disk = λ keeps_new.
+          let keeps = sym c.keep_table.ensures.keeps ∙ keeps_new in
+          keep_failed (disk.content new) (disk.image new) book.start log book.kept keeper.frames.broken book.made broke
+          (λ made. at_end disk.clock disk.left disk.image old new (HoldsKeptOrAll book.start log book.kept) (λ file later there. g.met.D.Disk.image_is_left new (disk.clock old) file later there)
+          (keep_leaves disk.clock disk.left old new (disk.image old) book.start book.log.items log book.kept table
+          (table_kept_after book.start book.log.items log book.table table book.kept book.keeper.frames.broken e book.history ready adds room sent)
+          (replayed_after book.start book.log.items log book.table table book.kept book.keeper.frames.broken e book.history ready adds room sent)
+          ((book.on_disk keeps).holds ready made) (λ t holds. c.keep_table.ensures.any_moment t keeps holds)));
+    }
+
+pub invariant_of-self-2 : goal.invariant_of-self-2
+invariant_of-self-2 g c =
+    let book = c.args.self.now in
+    let disk = g.D.Disk in
+    let keeper = c.keep_table.new.keeper in
+    let new = keeper.frames.disk in
+    let answer = c.in_ok-answer.answer in
+    let e = command_entry c.args.who c.args.command answer in
+    let log = c.enter_command.new.log.items in
+    let table = c.enter_command.new.table in
+    let ready = c.in_ok-check_room.ensures.ok.0 in
+    let room = c.in_ok-check_room.ensures.ok.1 in
+    let adds = c.in_ok-answer.ensures.added in
+    let sent = command_sent c.args.who c.args.command answer in
+    let count : c.len-self-2.result ≡ length log = omega (arith, c.len-self-2.ensures) in
+    record {
+      history = all_kept_after book.start book.log.items log book.table table book.kept book.keeper.frames.broken e book.history ready adds room sent keeper.frames.broken c.len-self-2.result count c.keep_table.ensures.sound;
+      on_disk = λ keeps_new.
+          let keeps = sym c.keep_table.ensures.keeps ∙ keeps_new in
+          kept_now (disk.content new) (disk.image new) book.start log c.len-self-2.result keeper.frames.broken table
+          (table_all_after book.start book.log.items log book.table table book.kept book.keeper.frames.broken e book.history ready adds room sent c.len-self-2.result count)
+          (c.in_ok-keep_table.ensures.held keeps) (c.in_ok-keep_table.ensures.holds keeps);
+    }
+
+pub returns-in_err-keep_table-clause-any_moment : goal.returns-in_err-keep_table-clause-any_moment
+returns-in_err-keep_table-clause-any_moment g c keeps made =
+    let book = c.args.self.now in
+    let disk = g.D.Disk in
+    let old = book.keeper.frames.disk in
+    let answer = c.in_ok-answer.answer in
+    let e = command_entry c.args.who c.args.command answer in
+    let log = c.enter_command.new.log.items in
+    let table = c.enter_command.new.table in
+    let ready = c.in_ok-check_room.ensures.ok.0 in
+    let room = c.in_ok-check_room.ensures.ok.1 in
+    let adds = c.in_ok-answer.ensures.added in
+    let sent = command_sent c.args.who c.args.command answer in
+    keep_leaves disk.clock disk.left old c.keep_table.new.keeper.frames.disk (disk.image old) book.start book.log.items log book.kept table
+    (table_kept_after book.start book.log.items log book.table table book.kept book.keeper.frames.broken e book.history ready adds room sent)
+    (replayed_after book.start book.log.items log book.table table book.kept book.keeper.frames.broken e book.history ready adds room sent)
+    ((book.on_disk keeps).holds ready made) (λ t holds. c.keep_table.ensures.any_moment t keeps holds)
+
+pub returns-clause-any_moment : goal.returns-clause-any_moment
+returns-clause-any_moment g c keeps made =
+    let book = c.args.self.now in
+    let disk = g.D.Disk in
+    let old = book.keeper.frames.disk in
+    let answer = c.in_ok-answer.answer in
+    let e = command_entry c.args.who c.args.command answer in
+    let log = c.enter_command.new.log.items in
+    let table = c.enter_command.new.table in
+    let ready = c.in_ok-check_room.ensures.ok.0 in
+    let room = c.in_ok-check_room.ensures.ok.1 in
+    let adds = c.in_ok-answer.ensures.added in
+    let sent = command_sent c.args.who c.args.command answer in
+    keep_leaves disk.clock disk.left old c.keep_table.new.keeper.frames.disk (disk.image old) book.start book.log.items log book.kept table
+    (table_kept_after book.start book.log.items log book.table table book.kept book.keeper.frames.broken e book.history ready adds room sent)
+    (replayed_after book.start book.log.items log book.table table book.kept book.keeper.frames.broken e book.history ready adds room sent)
+    ((book.on_disk keeps).holds ready made) (λ t holds. c.keep_table.ensures.any_moment t keeps holds)

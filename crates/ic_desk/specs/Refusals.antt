@@ -1,0 +1,23 @@
+-- Which refusals a book's calls have, and that a fault of the disk is told exactly where a failure
+-- was counted.
+use Rattle.std.specs.Prelude.{◌≡◌, ℕ, Result, Ok, Err}
+use Rattle.ic_disk.specs.Time.{OneMore}
+use Rattle.ic_frames.specs.declared.faults.KeepFault.{KeepFault}
+use Rattle.ic_frames.specs.declared.faults.KeepFault.TheVariants as keeping
+use Rattle.ic_desk.specs.declared.faults.BookFault.{BookFault}
+use Rattle.ic_desk.specs.declared.faults.BookFault.TheVariants.{Broken, LogFull, Worn, Memory, Device}
+
+-- a refusal of a keep as one of a book
+abbrev pub book_fault : KeepFault → BookFault
+book_fault keeping.Broken = Broken
+book_fault keeping.Worn = Worn
+book_fault keeping.Device = Device
+
+-- `Device` has one failure more counted, and all else has none
+abbrev pub CountsBook : {T : Type 0} → Result T BookFault → ℕ → ℕ → Type 0
+CountsBook (Ok value) old new = new ≡ old
+CountsBook (Err Device) old new = OneMore old new
+CountsBook (Err Broken) old new = new ≡ old
+CountsBook (Err LogFull) old new = new ≡ old
+CountsBook (Err Worn) old new = new ≡ old
+CountsBook (Err Memory) old new = new ≡ old

@@ -1,0 +1,2 @@
+-- Lemmas. A reader of the contracts needs none of it.
+pub mod OneProof

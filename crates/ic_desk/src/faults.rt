@@ -1,0 +1,43 @@
+// Why a call on a book was refused.
+ghost use Rattle.std.specs.Prelude.{◌≡◌};
+ghost use Rattle.ic_desk.specs.declared.faults.BookFault.TheVariants.{Memory};
+ghost use Rattle.ic_desk.specs.Refusals.{book_fault};
+
+use ic_slots::KeepFault;
+use std::alloc::AllocError;
+use thiserror::Error;
+
+/// Why a call on a book was refused. The numbers are lasting.
+#[derive(Clone, Copy, Debug, PartialEq, Eq, Error)]
+pub enum BookFault {
+    #[error("an earlier call to the disk has failed")]
+    Broken = 1,
+    #[error("the history is full")]
+    LogFull = 2,
+    #[error("the numbers of the slots are used up")]
+    Worn = 3,
+    #[error("out of memory")]
+    Memory = 4,
+    #[error("a call to the disk has failed")]
+    Device = 5,
+}
+
+impl From<AllocError> for BookFault {
+    ghost from_gives = { λ _ e. e ≡ Memory };
+
+    fn from(_: AllocError) -> Self {
+        BookFault::Memory
+    }
+}
+
+impl From<KeepFault> for BookFault {
+    ghost from_gives = { λ f e. e ≡ book_fault f };
+
+    fn from(fault: KeepFault) -> Self {
+        match fault {
+            KeepFault::Broken => BookFault::Broken,
+            KeepFault::Worn => BookFault::Worn,
+            KeepFault::Device => BookFault::Device,
+        }
+    }
+}
