@@ -7,13 +7,6 @@ use ic_frames::{Frames, HEAD, KeepFault, MAX_BODY, Opened, SECOND_AT, create};
 use std::alloc::{AllocError, Global};
 use std::test::Fail;
 
-/// How many calls an opening makes where one slot is open: a sync, the length, three reads for an
-/// open head and one for a closed one, and the body.
-pub const CALLS_WITH_ONE: u64 = 7;
-
-/// How many it makes where both are.
-pub const CALLS_WITH_TWO: u64 = 9;
-
 /// Where the second slot begins.
 pub const SECOND: usize = SECOND_AT as usize;
 
@@ -29,8 +22,8 @@ fn frame_of(alloc: Global, body: &[u8]) -> Result<Vec<u8>, AllocError>
     Ok(frame)
 }
 
-/// Whether `create` could put this body on the disk.
-pub fn put_body<D: Disk>(alloc: Global, disk: &mut D, body: &[u8]) -> Result<bool, AllocError> {
+// Whether `create` could put this body on the disk.
+fn put_body<D: Disk>(alloc: Global, disk: &mut D, body: &[u8]) -> Result<bool, AllocError> {
     let mut frame = frame_of(alloc, body)?;
     Ok(create(disk, &mut frame).is_ok())
 }

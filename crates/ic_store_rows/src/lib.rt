@@ -1,4 +1,4 @@
-//! Worked examples, as tests over the disk.
+//! Worked examples, as tests over the disks and the two frames.
 //!
 //! Expected values come from the definitions, computed by hand, never from the program.
 #![tactic(auto)]
@@ -15,5 +15,3 @@ mod frames;
 mod fuses;
 #[cfg(test)]
 mod slow_files;
-#[cfg(test)]
-mod stops;
