@@ -2,9 +2,9 @@
 
 use crate::bytes::{bytes_of, changed, digits_of, place, place_and_rest};
 use crate::tables::{letter_of, table_of};
-use crate::trouble::Trouble;
 use ic_disk::{Blow, Choice, FuseDisk, MemDisk, Then};
 use ic_jobs::Table;
+use ic_notation::Trouble;
 use ic_slots::{CreateFault, KeepFault, Keeper, OpenCause, OpenFault, create};
 use std::alloc::Global;
 

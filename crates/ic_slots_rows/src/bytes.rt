@@ -1,6 +1,6 @@
 //! Numbers and bytes in the texts of rows.
 
-use crate::trouble::Trouble;
+use ic_notation::Trouble;
 use std::alloc::Global;
 
 /// A number in decimal.

@@ -1,19 +1,17 @@
 //! Worked rows of tables that are kept on a disk: each line of standard input has a row's name, what is asked, and the
 //! answer that it must have.
 //!
-//! A row is `NAME: KIND TEXT => ANSWER`. A line that is empty, or begins with `--`, says nothing. Printed is each row
-//! with another answer, and how many rows there are. Answers come from the definitions, computed by hand, never from the
-//! program. `script` says what a row may ask.
+//! A line that is empty, or begins with `--`, says nothing. Printed is each row with another answer, and how many rows
+//! there are. `script` says what a row may ask.
 #![tactic(auto)]
 
 mod bench;
 mod bytes;
-mod row;
 mod script;
 mod tables;
-mod trouble;
 
-use crate::row::Row;
+use crate::script::answer;
+use ic_notation::Row;
 use std::io::{self, Write};
 
 fn main(rt: HostRuntime) -> io::Result<()> {
@@ -25,7 +23,7 @@ fn main(rt: HostRuntime) -> io::Result<()> {
             continue;
         };
         rows = rows.saturating_add(1);
-        if let Some(found) = row.other_answer(rt.alloc()) {
+        if let Some(found) = row.other_answer(rt.alloc(), answer(rt.alloc(), &row)) {
             wrong = wrong.saturating_add(1);
             print!(rt; "{}: ", row.name)?;
             rt.stdout().write_all(&found)?;

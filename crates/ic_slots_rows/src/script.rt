@@ -10,8 +10,8 @@
 
 use crate::bench::{Bench, Setting};
 use crate::bytes::number;
-use crate::trouble::Trouble;
 use ic_disk::{Blow, Choice, Then};
+use ic_notation::{Row, Trouble};
 use std::alloc::Global;
 
 const WAYS: &[(Blow, Then)] = &[
@@ -21,8 +21,18 @@ const WAYS: &[(Blow, Then)] = &[
     (Blow::After, Then::GoOn),
 ];
 
+/// What is answered to a row, by its kind.
+pub fn answer(alloc: Global, row: &Row<'_>) -> Result<Vec<u8>, Trouble> {
+    match row.kind {
+        "run" => run_once(alloc, row.text),
+        "fail" => failed(alloc, row.text),
+        "stop" => stopped(alloc, row.text),
+        _ => Err(Trouble("no such kind")),
+    }
+}
+
 /// What a script is answered where no call fails.
-pub fn run_once(alloc: Global, script: &str) -> Result<Vec<u8>, Trouble> {
+fn run_once(alloc: Global, script: &str) -> Result<Vec<u8>, Trouble> {
     let setting = Setting {
         call: u64::MAX,
         blow: Blow::Before,
@@ -50,7 +60,7 @@ fn run(alloc: Global, setting: Setting, script: &str, between: &[u8]) -> Result<
 }
 
 /// What it is answered where each of these calls fails, in each way.
-pub fn failed(alloc: Global, text: &str) -> Result<Vec<u8>, Trouble> {
+fn failed(alloc: Global, text: &str) -> Result<Vec<u8>, Trouble> {
     let (calls, script) = text.split_once(' ').unwrap_or((text, ""));
     let (first, last) = range(calls)?;
     let mut answers = Vec::new(alloc);
@@ -81,7 +91,7 @@ fn failed_at(alloc: Global, call: u64, script: &str) -> Result<Vec<u8>, Trouble>
 }
 
 /// What it is answered where it is stopped before each of these calls, for each choice of what is left.
-pub fn stopped(alloc: Global, text: &str) -> Result<Vec<u8>, Trouble> {
+fn stopped(alloc: Global, text: &str) -> Result<Vec<u8>, Trouble> {
     let (calls, rest) = text.split_once(' ').unwrap_or((text, ""));
     let (choices, script) = rest.split_once(' ').unwrap_or((rest, ""));
     let (first, last) = range(calls)?;

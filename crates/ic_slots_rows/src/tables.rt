@@ -1,8 +1,8 @@
 //! The tables of the rows: each has a letter.
 
-use crate::trouble::Trouble;
 use ic_codec::decode;
 use ic_jobs::Table;
+use ic_notation::Trouble;
 use std::alloc::Global;
 
 // The table without jobs.
