@@ -169,6 +169,10 @@ impl<D: Disk> Book<D> {
         ensures either { IsTrue (D.keeps (disk_of self.now)) → is_made self.now ≡ true
             → Within (D.image (disk_of self.now))
             (HoldsKeptOrAll (start_of self.now) (log_of self.now) (kept_of self.now)) }
+
+        // `made` says of a book that isn't broken that each image of its disk is made.
+        ensures made { IsTrue (D.keeps (disk_of self.now)) → is_broken self.now ≡ false
+            → (is_made self.now ≡ true) ↔ Within (D.image (disk_of self.now)) IsMade }
     {}
 
     /// Does what a client's command asks and keeps what it leaves, with all that came before it. At
@@ -205,6 +209,8 @@ impl<D: Disk> Book<D> {
 
         ensures start { start_of self.new ≡ start_of self.old }
         ensures made { is_made self.old ≡ true → is_made self.new ≡ true }
+        ensures made_now { IfOk result (λ answer. leaves_table answer ≡ false
+            → is_made self.new ≡ true) }
 
         // A crash at any moment leaves the table that was kept, or the one after the command.
         ensures any_moment { IsTrue (D.keeps (disk_of self.old)) → is_made self.old ≡ true
@@ -368,6 +374,8 @@ impl<D: Disk> Book<D> {
         ensures log { log_of self.new ≡ log_of self.old }
         ensures table { table_of self.new ≡ table_of self.old }
         ensures made { is_made self.old ≡ true → is_made self.new ≡ true }
+        ensures made_now { kept_of self.old < length (log_of self.old)
+            → OnOk result (is_made self.new ≡ true) }
 
         // At Ok reads give the table.
         ensures held { IsTrue (D.keeps (disk_of self.old)) → OnOk result
@@ -417,6 +425,8 @@ impl<D: Disk> Book<D> {
         ensures ready { OnOk result (is_broken self.new ≡ false) }
         ensures table { table_of self.new ≡ table_of self.old }
         ensures made { is_made self.old ≡ true → is_made self.new ≡ true }
+        ensures made_now { kept_of self.old < length (log_of self.old)
+            → OnOk result (is_made self.new ≡ true) }
 
         // After `Device` the page is the old one.
         ensures same_start { OnErr result (start_of self.new ≡ start_of self.old) }

@@ -7,3 +7,10 @@ returns-clause-either g c keeps made =
     let disk = book.keeper.frames.disk in
     either_now (g.D.Disk.content disk) (g.D.Disk.image disk) book.start book.log.items book.kept book.keeper.frames.broken book.made
     (book.on_disk keeps) book.history.sound made
+
+pub returns-clause-made : goal.returns-clause-made
+returns-clause-made g c keeps ready =
+    let book = c.args.self.now in
+    let disk = book.keeper.frames.disk in
+    let is = book.on_disk keeps in
+    (λ made file there. (is.holds ready made file there).made, λ all. is.made_is ready (all (g.D.Disk.content disk) (g.met.D.Disk.content_is_image disk)))
