@@ -37,8 +37,8 @@ pub fn script(alloc: Global, text: &str) -> Result<Vec<u8>, Trouble> {
 
 impl Session {
     /// What a word is answered: a command line; `due K`, which takes a flight from the place K on; `land K`, which plays
-    /// the K-th flight and lands its round; `top NEXT ROUNDS SYSTEM`, which makes a table of one running job; or `bytes`, the
-    /// table's byte form.
+    /// the K-th flight and lands its round, or halts its job where it is blocked; `top NEXT ROUNDS SYSTEM`, which makes a
+    /// table of one running job; or `bytes`, the table's byte form.
     fn answer(&mut self, alloc: Global, word: &str) -> Result<Vec<u8>, Trouble> {
         let (verb, rest) = word.split_once(' ').unwrap_or((word, ""));
         match verb {
@@ -80,7 +80,7 @@ impl Session {
                 break;
             };
             after = flight.place().saturating_add(1);
-            if self.advance(alloc, &flight)? != Landed::Moved {
+            if advance(alloc, &mut self.table, &flight)? != Landed::Moved {
                 return Err(Trouble("a round is stale"));
             }
             made = made.saturating_add(1);
@@ -88,17 +88,6 @@ impl Session {
         let mut line = Vec::from_slice(alloc, b"ran ")?;
         decimal(&mut line, made)?;
         Ok(line)
-    }
-
-    /// Lands the round of a flight, or halts its job where it is blocked.
-    fn advance(&mut self, alloc: Global, flight: &Flight) -> Result<Landed, Trouble> {
-        if flight.blocked() {
-            return Ok(self.table.halt(flight));
-        }
-        match play_alone(alloc, flight) {
-            Ok(played) => Ok(self.table.land(played)),
-            Err(_) => Err(Trouble("a round is refused")),
-        }
     }
 
     fn due(&mut self, alloc: Global, after: usize) -> Result<Vec<u8>, Trouble> {
@@ -112,18 +101,16 @@ impl Session {
         Ok(line)
     }
 
-    /// Lands a flight's round: it is awaited exactly where it moves the job, and changes nothing where it is stale.
+    /// Lands a flight's round, or halts its job: it is awaited exactly where it moves the job, and changes nothing where it
+    /// is stale.
     fn land(&mut self, alloc: Global, number: usize) -> Result<Vec<u8>, Trouble> {
         let Some(flight) = self.flights.get(number.saturating_sub(1)) else {
             return Err(Trouble("no such flight"));
         };
-        let Ok(played) = play_alone(alloc, flight) else {
-            return Err(Trouble("a round is refused"));
-        };
         let before = self.table.copy(alloc)?;
-        let name = played.name();
-        let awaited = before.awaits(name, played.rules(), played.before(), played.rounds());
-        let landed = self.table.land(played);
+        let name = flight.name();
+        let awaited = before.awaits(name, flight.rules(), flight.config(), flight.rounds());
+        let landed = advance(alloc, &mut self.table, flight)?;
         let is_same = before == self.table;
         match landed {
             Landed::Moved if awaited && !is_same => Ok(Vec::from_slice(alloc, b"moved")?),
@@ -153,5 +140,16 @@ impl Session {
             None => return Err(Trouble("no table")),
         }
         Ok(Vec::from_slice(alloc, b"ok")?)
+    }
+}
+
+/// Lands the round of a flight, or halts its job where it is blocked.
+fn advance(alloc: Global, table: &mut Table, flight: &Flight) -> Result<Landed, Trouble> {
+    if flight.blocked() {
+        return Ok(table.halt(flight));
+    }
+    match play_alone(alloc, flight) {
+        Ok(played) => Ok(table.land(played)),
+        Err(_) => Err(Trouble("a round is refused")),
     }
 }
