@@ -1,0 +1,101 @@
+//! Histories that look drawn by chance, told by a job table alone.
+
+use crate::plain::{advanced, answered};
+use ic_jobs::Table;
+use ic_notation::Trouble;
+use std::alloc::Global;
+
+/// What may be drawn: a command, or a round where there is no line.
+const LINES: &[&str] = &[
+    "submit loop {A(B(x))><B(A(x))} <|A(x)=B(x)>",
+    "submit two {Add(x,x)><Z;Add(S(x),y)><S(Add(x,y))} <r|Add(r,S(Z))=S(Z)>",
+    "submit grow {A(B(x),S(y))><B(A(x,y))} <r|A(x,r)=B(x)>",
+    "submit done {} <|x=x>",
+    "pause loop",
+    "pause grow",
+    "resume loop",
+    "resume grow",
+    "cancel loop",
+    "cancel two",
+    "cancel grow",
+    "cancel done",
+    "fetch loop",
+    "fetch two",
+    "fetch grow",
+    "list",
+    "",
+    "",
+    "",
+    "",
+    "",
+    "",
+    "",
+    "",
+    "",
+    "",
+    "",
+    "",
+];
+
+/// An event, and the reply to it where it is a command.
+#[derive(Drop)]
+pub struct Step {
+    /// The command's line; none for a round.
+    pub line: &'static str,
+    /// The place from which on the next round is taken.
+    pub after: usize,
+    pub reply: Vec<u8>,
+}
+
+/// Events from the empty table, and the table after each number of them.
+#[derive(Drop)]
+pub struct History {
+    pub steps: Vec<Step>,
+    pub tables: Vec<Table>,
+}
+
+/// Numbers that look drawn by chance, the same in each run (a linear congruential generator, Knuth's MMIX).
+#[derive(Drop)]
+struct Draws {
+    state: u64,
+}
+
+impl Draws {
+    fn below(&mut self, count: usize) -> usize {
+        self.state = self
+            .state
+            .wrapping_mul(6364136223846793005)
+            .wrapping_add(1442695040888963407);
+        (self.state >> 33) as usize % count.max(1)
+    }
+}
+
+/// An event that is drawn, and made on the table. Where no round is due it is a list.
+fn drawn_step(alloc: Global, draws: &mut Draws, table: &mut Table) -> Result<Step, Trouble> {
+    let after = draws.below(4);
+    let line = LINES.get(draws.below(LINES.len())).copied().unwrap_or("");
+    if line.is_empty() && advanced(alloc, table, after)? {
+        return Ok(Step {
+            line,
+            after,
+            reply: Vec::new(alloc),
+        });
+    }
+    let line = if line.is_empty() { "list" } else { line };
+    let reply = answered(alloc, table, line)?;
+    Ok(Step { line, after, reply })
+}
+
+/// A history of so many events.
+pub fn drawn_history(alloc: Global, seed: u64, count: u32) -> Result<History, Trouble> {
+    let mut draws = Draws { state: seed };
+    let mut table = Table::new(alloc);
+    let mut steps = Vec::new(alloc);
+    let mut tables = Vec::new(alloc);
+    tables.push(table.copy(alloc)?)?;
+    for _ in 0..count {
+        steps.push(drawn_step(alloc, &mut draws, &mut table)?)?;
+        tables.push(table.copy(alloc)?)?;
+    }
+    Ok(History { steps, tables })
+}

@@ -1,0 +1,101 @@
+//! A disk in memory while no book is open on it: its bytes, cut, changed and read, and crashes.
+
+use crate::choices::choice_of;
+use ic_desk::Book;
+use ic_disk::{Blow, Choice, FuseDisk, MemDisk, Then};
+use ic_notation::Trouble;
+use ic_slots::create;
+use std::alloc::{AllocError, Global};
+
+/// Where the second slot begins.
+const SECOND_SLOT: usize = 4_194_304;
+
+/// Gate, number and length of a slot.
+const HEAD: usize = 13;
+
+/// The disk without its bytes from this place on.
+pub fn cut(alloc: Global, disk: &MemDisk, length: usize) -> Result<MemDisk, Trouble> {
+    let mut bytes = disk.bytes().to_vec(alloc)?;
+    bytes.truncate(length);
+    Ok(MemDisk::from_bytes(bytes))
+}
+
+/// The bytes of two hexadecimal digits each.
+fn bytes_of(alloc: Global, digits: &str) -> Result<Vec<u8>, AllocError> {
+    let mut bytes = Vec::new(alloc);
+    for pair in digits.as_bytes().chunks(2) {
+        let text = str::from_utf8(pair).unwrap_or("");
+        bytes.push(u8::from_str_radix(text, 16).unwrap_or(0))?;
+    }
+    Ok(bytes)
+}
+
+/// The disk with these bytes, in hexadecimal digits, at this place.
+pub fn with_bytes(
+    alloc: Global,
+    disk: &MemDisk,
+    at: usize,
+    digits: &str,
+) -> Result<MemDisk, Trouble> {
+    let mut bytes = disk.bytes().to_vec(alloc)?;
+    for (place, byte) in bytes_of(alloc, digits)?.iter().enumerate() {
+        match bytes.get_mut(at.saturating_add(place)) {
+            Some(there) => *there = *byte,
+            None => return Err(Trouble("past the end of the disk")),
+        }
+    }
+    Ok(MemDisk::from_bytes(bytes))
+}
+
+/// What a crash leaves of it: by these words, or by this choice where there are none.
+pub fn crashed(disk: MemDisk, words: &str, choice: Choice) -> Result<MemDisk, Trouble> {
+    if words.is_empty() {
+        return Ok(disk.crash(choice)?);
+    }
+    let Some(choice) = choice_of(words) else {
+        return Err(Trouble("no such crash"));
+    };
+    Ok(disk.crash(choice)?)
+}
+
+/// A number that stands in bytes, the greatest byte first.
+fn number_in(bytes: &[u8]) -> u64 {
+    let mut number = 0u64;
+    for byte in bytes {
+        number = number.wrapping_mul(256).wrapping_add(u64::from(*byte));
+    }
+    number
+}
+
+/// Gate, number and length of a slot, as `1 2 126`.
+pub fn slot(alloc: Global, disk: &MemDisk, second: bool) -> Result<Vec<u8>, Trouble> {
+    let at = if second { SECOND_SLOT } else { 0 };
+    let Some(head) = disk.bytes().get(at..at + HEAD) else {
+        return Err(Trouble("no such slot"));
+    };
+    let gate = head[0];
+    let number = number_in(&head[1..9]);
+    let length = number_in(&head[9..13]);
+    Ok(format!(in alloc; "{gate} {number} {length}")?.into_bytes())
+}
+
+/// The bytes of a disk after `create`.
+pub fn created(alloc: Global) -> Result<Vec<u8>, Trouble> {
+    let mut disk = MemDisk::new(alloc);
+    match create(alloc, &mut disk) {
+        Ok(()) => Ok(disk.bytes().to_vec(alloc)?),
+        Err(_fault) => Err(Trouble("not created")),
+    }
+}
+
+/// How many calls an opening of this disk makes: it goes well where the call behind them fails.
+pub fn opening_calls(alloc: Global, disk: &MemDisk) -> Result<u64, Trouble> {
+    for calls in 0..100u64 {
+        let copy = MemDisk::from_bytes(disk.bytes().to_vec(alloc)?);
+        let fused = FuseDisk::new(copy, calls + 1, Blow::Before, Then::Stop);
+        if Book::open(alloc, fused).is_ok() {
+            return Ok(calls);
+        }
+    }
+    Err(Trouble("not opened"))
+}

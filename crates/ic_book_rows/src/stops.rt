@@ -1,0 +1,167 @@
+//! A drawn history on a book, stopped before every call to the disk, and opened again.
+
+use crate::choices::CHOICES;
+use crate::drawn::{History, Step, drawn_history};
+use crate::medium::created;
+use crate::plain::{command_of, round_of};
+use ic_desk::{Book, BookFault, OpenCause};
+use ic_disk::{Blow, Choice, FuseDisk, MemDisk, Then};
+use ic_jobs::Landed;
+use ic_notation::Trouble;
+use ic_text::print_reply;
+use std::alloc::Global;
+
+/// Events of a history.
+const EVENTS: u32 = 200;
+
+/// More calls than a history makes.
+const CALLS: u64 = 10_000;
+
+/// How far a book came before it was stopped: so many entries up to the last command that was answered, and so many in all.
+#[derive(Drop)]
+struct Stop {
+    disk: MemDisk,
+    answered: usize,
+    made: usize,
+    stopped: bool,
+}
+
+/// Which prefixes were found: without the last entries, and with a last entry that wasn't answered.
+#[derive(Drop)]
+struct Seen {
+    shorter: bool,
+    unanswered: bool,
+}
+
+/// How a step went: whether it was answered, or None where the disk failed.
+fn step(alloc: Global, book: &mut Book<FuseDisk>, step: &Step) -> Result<Option<bool>, Trouble> {
+    if step.line.is_empty() {
+        round(alloc, book, step.after)?;
+        return Ok(Some(false));
+    }
+    match book.command(alloc, 0, command_of(alloc, step.line)?) {
+        Ok(reply) if print_reply(alloc, &reply)?.as_slice() == step.reply.as_slice() => {
+            Ok(Some(true))
+        }
+        Ok(_other) => Err(Trouble("another reply")),
+        Err(BookFault::Device) => Ok(None),
+        Err(_fault) => Err(Trouble("another fault than the device")),
+    }
+}
+
+/// Makes a round, which is due.
+fn round(alloc: Global, book: &mut Book<FuseDisk>, after: usize) -> Result<(), Trouble> {
+    let Ok(Some(flight)) = book.due(after) else {
+        return Err(Trouble("no round is due"));
+    };
+    match book.land(round_of(alloc, &flight)?) {
+        Ok(Landed::Moved) => Ok(()),
+        _ => Err(Trouble("a round doesn't land")),
+    }
+}
+
+/// Plays a history on a book, until the disk fails.
+fn played(alloc: Global, mut book: Book<FuseDisk>, history: &History) -> Result<Stop, Trouble> {
+    let mut answered = 0usize;
+    let mut made = 0usize;
+    let mut stopped = false;
+    for one in &history.steps {
+        made = made.saturating_add(1);
+        match step(alloc, &mut book, one)? {
+            Some(true) => answered = made,
+            Some(false) => {}
+            None => {
+                stopped = true;
+                break;
+            }
+        }
+    }
+    let disk = book.close().into_inner();
+    Ok(Stop {
+        disk,
+        answered,
+        made,
+        stopped,
+    })
+}
+
+/// Plays a history on a disk with these bytes, of which this call and all later ones fail.
+fn stopped(alloc: Global, history: &History, start: &[u8], call: u64) -> Result<Stop, Trouble> {
+    let disk = MemDisk::from_bytes(start.to_vec(alloc)?);
+    match Book::open(alloc, FuseDisk::new(disk, call, Blow::Before, Then::Stop)) {
+        Ok(book) => played(alloc, book, history),
+        Err(fault) => match fault.cause {
+            OpenCause::Device => Ok(Stop {
+                disk: fault.disk.into_inner(),
+                answered: 0,
+                made: 0,
+                stopped: true,
+            }),
+            _ => Err(Trouble("another cause than the device")),
+        },
+    }
+}
+
+/// How many entries are in the prefix whose table a crash left, of those that have all answered commands.
+fn prefix_left(
+    alloc: Global,
+    history: &History,
+    stop: Stop,
+    choice: Choice,
+) -> Result<usize, Trouble> {
+    let disk = stop.disk.crash(choice)?;
+    let Ok(book) = Book::open(
+        alloc,
+        FuseDisk::new(disk, u64::MAX, Blow::Before, Then::Stop),
+    ) else {
+        return Err(Trouble("not opened"));
+    };
+    for count in stop.answered..=stop.made {
+        if history.tables.get(count) == Some(book.table()) {
+            return Ok(count);
+        }
+    }
+    Err(Trouble("the table of no prefix with all answered commands"))
+}
+
+/// Stops before this call, crashes with each choice and opens again. Answers whether there is such a call.
+fn stopped_at(
+    alloc: Global,
+    history: &History,
+    start: &[u8],
+    call: u64,
+    seen: &mut Seen,
+) -> Result<bool, Trouble> {
+    for choice in CHOICES {
+        let stop = stopped(alloc, history, start, call)?;
+        if !stop.stopped {
+            return Ok(false);
+        }
+        let answered = stop.answered;
+        let made = stop.made;
+        let left = prefix_left(alloc, history, stop, *choice)?;
+        seen.shorter = seen.shorter || left < made;
+        seen.unanswered = seen.unanswered || left > answered;
+    }
+    Ok(true)
+}
+
+/// Stops before each call.
+pub fn stops(alloc: Global, seed: u64) -> Result<Vec<u8>, Trouble> {
+    let history = drawn_history(alloc, seed, EVENTS)?;
+    let start = created(alloc)?;
+    let mut seen = Seen {
+        shorter: false,
+        unanswered: false,
+    };
+    for call in 1..CALLS {
+        if stopped_at(alloc, &history, &start, call, &mut seen)? {
+            continue;
+        }
+        if !seen.shorter || !seen.unanswered {
+            return Err(Trouble("no stop in a keep"));
+        }
+        return Ok(Vec::from_slice(alloc, b"prefixes with all answered commands")?);
+    }
+    Err(Trouble("too many calls"))
+}
