@@ -14,7 +14,7 @@ pub enum Line {
 }
 
 /// What is asked of a job by its name alone.
-#[derive(Clone, Copy, Debug, PartialEq, Eq)]
+#[derive(Clone, Copy)]
 pub(crate) enum Verb {
     Pause,
     Resume,
@@ -23,7 +23,7 @@ pub(crate) enum Verb {
 }
 
 /// What the first word of a line asks for.
-#[derive(Clone, Copy, Debug, PartialEq, Eq)]
+#[derive(Clone, Copy)]
 pub(crate) enum Opening {
     Submit,
     About(Verb),

@@ -13,7 +13,7 @@ use std::alloc::Global;
 
 /// A word of a configuration in prefix notation: a name, or the number of a symbol with how many arguments it
 /// has.
-#[derive(Clone, Copy, Debug, PartialEq, Eq)]
+#[derive(Clone, Copy)]
 pub(crate) enum Item {
     Name(u64),
     Symbol(u32, usize),

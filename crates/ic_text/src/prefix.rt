@@ -13,7 +13,7 @@ use ic_term::{MAX_INTERFACE, MAX_NODES};
 use std::alloc::{AllocError, Global};
 
 /// A word, and how many arguments stand behind it.
-#[derive(Clone, Copy, Debug)]
+#[derive(Clone, Copy)]
 pub(crate) struct Node<'a> {
     pub text: &'a [u8],
     pub arity: usize,
@@ -21,7 +21,7 @@ pub(crate) struct Node<'a> {
 
 /// The words of a configuration in the order of the text, and how many terms its interface has; or the words of rules,
 /// and how many agents are their sides.
-#[derive(Debug, Drop)]
+#[derive(Drop)]
 pub(crate) struct Prefix<'a> {
     pub nodes: Vec<Node<'a>>,
     pub terms: usize,
@@ -48,7 +48,7 @@ impl Prefix<'_> {
 
 /// What is known of tokens that are scanned from their end: the words, the arguments so far of each list that
 /// is open, those of the list that just opened, and the terms outside all parentheses before a `|`.
-#[derive(Debug, Drop)]
+#[derive(Drop)]
 pub(crate) struct Scan<'a> {
     nodes: Vec<Node<'a>>,
     counts: Vec<usize>,

@@ -14,7 +14,7 @@ use crate::syntax::{Part, State, step};
 use crate::token::{Token, is_blank, is_word_byte, mark_of};
 
 /// How many words and tokens a text has.
-#[derive(Clone, Copy, Debug, PartialEq, Eq)]
+#[derive(Clone, Copy)]
 pub(crate) struct Counts {
     pub words: usize,
     pub tokens: usize,
@@ -22,7 +22,7 @@ pub(crate) struct Counts {
 
 /// A check of syntax that is on its way over a text, and what it has counted so far. It is changed in place, since a byte
 /// takes less than a copy.
-#[derive(Clone, Copy, Debug)]
+#[derive(Clone, Copy)]
 pub(crate) struct Progress {
     state: State,
     counts: Counts,

@@ -11,7 +11,7 @@ use crate::token::{Mark, Token};
 use ic_term::is_symbol;
 
 /// The part of a system or a configuration that comes next.
-#[derive(Clone, Copy, Debug, PartialEq, Eq)]
+#[derive(Clone, Copy)]
 pub(crate) enum Part {
     /// A system, from its `{` on.
     Start,
@@ -34,7 +34,7 @@ pub(crate) enum Part {
 }
 
 /// What may come next within a part.
-#[derive(Clone, Copy, Debug, PartialEq, Eq)]
+#[derive(Clone, Copy)]
 pub(crate) enum Spot {
     /// A term, or the end of the part.
     First,
@@ -51,7 +51,7 @@ pub(crate) enum Spot {
 }
 
 /// How far a check has come. `depth` counts the parentheses that are open.
-#[derive(Clone, Copy, Debug, PartialEq, Eq)]
+#[derive(Clone, Copy)]
 pub(crate) struct State {
     pub part: Part,
     spot: Spot,

@@ -7,7 +7,7 @@ ghost use Rattle.ic_text.specs.inner.Tokens.{tokens_in};
 use std::alloc::{AllocError, Global};
 
 /// A byte that is a token by itself.
-#[derive(Clone, Copy, Debug, PartialEq, Eq)]
+#[derive(Clone, Copy)]
 pub(crate) enum Mark {
     LeftBrace,
     RightBrace,
@@ -22,7 +22,7 @@ pub(crate) enum Mark {
 }
 
 /// A token. A word borrows the text that it stands in.
-#[derive(Clone, Copy, Debug)]
+#[derive(Clone, Copy)]
 pub(crate) enum Token<'a> {
     Word(&'a [u8]),
     Mark(Mark),
