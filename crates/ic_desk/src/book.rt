@@ -80,6 +80,10 @@ impl<D: Disk> Book<D> {
         ensures same { IsTrue (D.keeps disk) → D.content (disk_after result) ≡ D.content disk }
         ensures settled { IsTrue (D.keeps disk)
             → OnOk result (Only (D.content disk) (D.image (disk_after result))) }
+
+        // So it is wherever no call to the disk has failed: a sync has come before.
+        ensures synced { IsTrue (D.keeps disk) → ¬ IsErrOf (outcome_of result) OpenCause.Device
+            → Only (D.content disk) (D.image (disk_after result)) }
     {
         match Keeper::open(alloc, disk) {
             Ok((keeper, table)) => {
@@ -218,8 +222,7 @@ impl<D: Disk> Book<D> {
             (HoldsKeptOrAll (start_of self.old) (log_of self.new) (kept_of self.old)) }
 
         // It makes at most six calls, and none where all was kept and the table stays.
-        ensures calls { IsTrue (D.keeps (disk_of self.old))
-            → D.clock (disk_of self.new) ≤ D.clock (disk_of self.old) + 6 }
+        ensures calls { D.clock (disk_of self.new) ≤ D.clock (disk_of self.old) + 6 }
         ensures idle { kept_of self.old ≡ length (log_of self.old)
             → IfOk result (λ answer. IsTrue (leaves_table answer)
             → keeper_of self.new ≡ keeper_of self.old) }
@@ -387,8 +390,7 @@ impl<D: Disk> Book<D> {
             (HoldsKeptOrAll (start_of self.old) (log_of self.old) (kept_of self.old)) }
 
         // It makes at most six calls, and none where all is kept.
-        ensures calls { IsTrue (D.keeps (disk_of self.old))
-            → D.clock (disk_of self.new) ≤ D.clock (disk_of self.old) + 6 }
+        ensures calls { D.clock (disk_of self.new) ≤ D.clock (disk_of self.old) + 6 }
         ensures idle { kept_of self.old ≡ length (log_of self.old)
             → keeper_of self.new ≡ keeper_of self.old }
     {
@@ -443,8 +445,7 @@ impl<D: Disk> Book<D> {
             (HoldsKeptOrAll (start_of self.old) (log_of self.old) (kept_of self.old)) }
 
         // It makes at most six calls, and none where all is kept.
-        ensures calls { IsTrue (D.keeps (disk_of self.old))
-            → D.clock (disk_of self.new) ≤ D.clock (disk_of self.old) + 6 }
+        ensures calls { D.clock (disk_of self.new) ≤ D.clock (disk_of self.old) + 6 }
         ensures idle { kept_of self.old ≡ length (log_of self.old)
             → keeper_of self.new ≡ keeper_of self.old }
     {

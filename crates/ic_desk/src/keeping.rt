@@ -23,8 +23,7 @@ pub(crate) fn keep_table<D: Disk>(keeper: &mut Keeper<D>, table: &Table) -> Resu
     ensures ready { OnOk result (is_broken keeper.new ≡ false) }
     ensures counted { CountsBook result
         (D.failures (disk_of keeper.old)) (D.failures (disk_of keeper.new)) }
-    ensures calls { IsTrue (D.keeps (disk_of keeper.old))
-        → D.clock (disk_of keeper.new) ≤ D.clock (disk_of keeper.old) + 6 }
+    ensures calls { D.clock (disk_of keeper.new) ≤ D.clock (disk_of keeper.old) + 6 }
     ensures any_moment { (kept : List JobParts) → IsTrue (D.keeps (disk_of keeper.old))
         → Within (D.image (disk_of keeper.old)) (HoldsTable kept)
         → LeavesOnly D.clock D.left (disk_of keeper.old) (disk_of keeper.new)
