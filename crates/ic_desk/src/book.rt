@@ -232,7 +232,8 @@ impl<D: Disk> Book<D> {
             return Err(BookFault::Worn);
         }
         let answer = enter_command(alloc, &mut self.log, &mut self.table, who, command)?;
-        if self.kept + 1 == self.log.len() && leaves_table(&answer) {
+        let kept_before = self.kept + 1 == self.log.len();
+        if kept_before && leaves_table(&answer) {
             self.kept = self.log.len();
             return Ok(answer);
         }

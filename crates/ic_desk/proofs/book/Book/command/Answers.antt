@@ -29,7 +29,7 @@ invariant_of-self-then-leaves_table g c =
     let sent = command_sent c.args.who c.args.command answer in
     let same = told_stays book.table table c.args.command answer adds.event (sym c.leaves_table.ensures ∙ c.if-leaves_table.true) in
     let grown = length_after book.start book.log.items log book.table table book.kept book.keeper.frames.broken e book.history ready adds room sent in
-    let all : book.kept ≡ length book.log.items = omega (arith, grown, c.if-self-len.true, c.len.ensures) in
+    let all : book.kept ≡ length book.log.items = omega (arith, grown, c.if-kept_before.true, c.len.ensures) in
     let count : c.len-self.result ≡ length log = omega (arith, c.len-self.ensures) in
     record {
       history = idle_after book.start book.log.items log book.table table book.kept book.keeper.frames.broken e book.history ready adds room sent c.len-self.result count same all;
