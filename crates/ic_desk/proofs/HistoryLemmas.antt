@@ -1,5 +1,5 @@
 -- What a book keeps in memory, as its calls change it.
-use Rattle.std.proofs.Common.{◌≡◌, ℕ, ◌+◌, ◌-◌, ◌<◌, List, [], ◌∷◌, ◌++◌, ◌⊎◌, inl, inr, ⊎_elim, Bool, true, false, Option, Some, Result, Ok, Err, IfOk, IsTrue, length, take, drop, refl, sym, ◌∙◌, ap, subst, arith}
+use Rattle.std.proofs.Common.{◌↔◌, zero, suc, ◌≡◌, ℕ, ◌+◌, ◌-◌, ◌<◌, List, [], ◌∷◌, ◌++◌, ◌⊎◌, inl, inr, ⊎_elim, Bool, true, false, Option, Some, Result, Ok, Err, IfOk, IsTrue, length, take, drop, refl, sym, ◌∙◌, ap, subst, arith}
 use Rattle.std.specs.List.{AllByRecursion}
 use Rattle.std.specs.Option.{option_map, option_map_or}
 use Rattle.std.proofs.lemmas.List.{length_push, take_all, drop_all, take-append-le, drop-append-le}
@@ -40,6 +40,28 @@ none_unkept broken = record { unbroken = λ _. tt; but_last = tt }
 -- nothing stands behind where all is kept
 all_behind : (log : List Entry) (broken : Bool) → MayBeUnkept broken (drop (length log) log)
 all_behind log broken = subst (λ (es : List Entry). MayBeUnkept broken es) (sym (drop_all (length log) log (omega arith))) (none_unkept broken)
+
+-- rounds alone, where nothing is broken
+pub unkept_unbroken : (es : List Entry) → MayBeUnkept false es ↔ AreRounds es
+unkept_unbroken es = (λ may. may.unbroken refl, λ rounds. record { unbroken = λ _. rounds; but_last = rounds_but_last es rounds })
+  where
+    all_taken : (n : ℕ) (xs : List Entry) → AreRounds xs → AreRounds (take n xs)
+    all_taken zero xs all = tt
+    all_taken (suc n) [] all = tt
+    all_taken (suc n) (x ∷ xs) all = (all.0, all_taken n xs all.1)
+
+    rounds_but_last : (xs : List Entry) → AreRounds xs → AreRounds (take (length xs - 1) xs)
+    rounds_but_last xs all = all_taken (length xs - 1) xs all
+
+-- one last entry may be of any kind, where something is
+pub unkept_broken : (es : List Entry) (e : Entry) → MayBeUnkept true (es ++ e ∷ []) ↔ AreRounds es
+unkept_broken es e = (
+  λ may. subst AreRounds (but_last_push es e) may.but_last,
+  λ rounds. record {
+    unbroken = λ whole. let never : true ≡ false = whole in cc;
+    but_last = subst AreRounds (sym (but_last_push es e)) rounds;
+  },
+)
 
 -- ---- one entry more
 

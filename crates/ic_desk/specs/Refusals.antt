@@ -7,6 +7,14 @@ use Rattle.ic_frames.specs.declared.faults.KeepFault.TheVariants as keeping
 use Rattle.ic_desk.specs.declared.faults.BookFault.{BookFault}
 use Rattle.ic_desk.specs.declared.faults.BookFault.TheVariants.{Broken, LogFull, Worn, Memory, Device}
 
+-- the lasting numbers of the refusals
+abbrev pub fault_number : BookFault → ℕ
+fault_number Broken = 1
+fault_number LogFull = 2
+fault_number Worn = 3
+fault_number Memory = 4
+fault_number Device = 5
+
 -- a refusal of a keep as one of a book
 abbrev pub book_fault : KeepFault → BookFault
 book_fault keeping.Broken = Broken

@@ -295,6 +295,8 @@ impl<D: Disk> Book<D> {
             → Awaits (table_of self.old) played.name played.rules played.before played.rounds) }
         ensures stale { IfOk result (λ landed. landed ≡ Landed.Stale
             → ¬ Awaits (table_of self.old) played.name played.rules played.before played.rounds) }
+        ensures wanted { IsErrOf result BookFault.Memory
+            → Awaits (table_of self.old) played.name played.rules played.before played.rounds }
         ensures unchanged { IfOk result (λ landed. landed ≡ Landed.Stale
             → IsUnchanged self.old self.new) }
 
@@ -335,6 +337,9 @@ impl<D: Disk> Book<D> {
         ensures stale { IfOk result (λ landed. landed ≡ Landed.Stale
             → ¬ Awaits (table_of self.old)
             flight.now.name flight.now.rules flight.now.config flight.now.rounds) }
+        ensures wanted { IsErrOf result BookFault.Memory
+            → Awaits (table_of self.old)
+            flight.now.name flight.now.rules flight.now.config flight.now.rounds }
         ensures unchanged { IfOk result (λ landed. landed ≡ Landed.Stale
             → IsUnchanged self.old self.new) }
 

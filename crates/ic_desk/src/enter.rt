@@ -56,6 +56,8 @@ pub(crate) fn enter_played(
         → Awaits table.old played.name played.rules played.before played.rounds) }
     ensures stale { IfOk result (λ landed. landed ≡ Landed.Stale
         → ¬ Awaits table.old played.name played.rules played.before played.rounds) }
+    ensures wanted { OnErr result
+        (Awaits table.old played.name played.rules played.before played.rounds) }
     ensures same_log { IsStale result → log.new.items ≡ log.old.items }
     ensures same_table { IsStale result → table.new ≡ table.old }
 {
@@ -82,6 +84,8 @@ pub(crate) fn enter_halted(
     ensures awaited { IfOk result (λ landed. landed ≡ Landed.Moved → Awaits table.old
         flight.now.name flight.now.rules flight.now.config flight.now.rounds) }
     ensures stale { IfOk result (λ landed. landed ≡ Landed.Stale → ¬ Awaits table.old
+        flight.now.name flight.now.rules flight.now.config flight.now.rounds) }
+    ensures wanted { OnErr result (Awaits table.old
         flight.now.name flight.now.rules flight.now.config flight.now.rounds) }
     ensures same_log { IsStale result → log.new.items ≡ log.old.items }
     ensures same_table { IsStale result → table.new ≡ table.old }

@@ -22,6 +22,17 @@ pub enum BookFault {
     Device = 5,
 }
 
+impl BookFault {
+    ghost use Rattle.ic_desk.specs.Refusals.{fault_number};
+
+    /// The lasting number of the refusal.
+    pub fn number(self) -> u8
+        ensures { result ≡ fault_number self }
+    {
+        self as u8
+    }
+}
+
 impl From<AllocError> for BookFault {
     ghost from_gives = { λ _ e. e ≡ Memory };
 

@@ -1,19 +1,80 @@
 //! Laws of the definitions that the contracts of this crate cite.
 
-ghost use Rattle.std.specs.Prelude.{◌≡◌, ◌↔◌, ℕ, List, [], ◌∷◌, ◌++◌, Some, IsSome, length, take, drop};
+ghost use Rattle.std.specs.Prelude.{◌≡◌, ◌⊎◌, ◌↔◌, ◌+◌, ◌-◌, ◌^◌, ◌≤◌, ℕ, List, [], ◌∷◌, ◌++◌, Bool, true, false, Some, IsSome, Result, Err, IsErrOf, length, take, drop};
 ghost use Rattle.std.specs.List.{sum_by};
 ghost use Rattle.ic_round.specs.Rounds.{iterate};
+ghost use Rattle.ic_jobs.specs.declared.command.Command.{Command};
 ghost use Rattle.ic_jobs.specs.declared.event.Entry.{Entry};
+ghost use Rattle.ic_jobs.specs.declared.event.Event.TheVariants.{Command as by_command, Round};
+ghost use Rattle.ic_jobs.specs.declared.reply.Refusal.{Refusal};
+ghost use Rattle.ic_jobs.specs.declared.reply.Reply.{Reply};
+ghost use Rattle.ic_jobs.specs.declared.reply.Reply.TheVariants.{Accepted, Okay, Shown, Listed, Refused, Moved, Halted};
+ghost use Rattle.ic_jobs.specs.declared.state.State.{State};
+ghost use Rattle.ic_jobs.specs.Events.{apply, outcome};
+ghost use Rattle.ic_jobs.specs.Shown.{ShownParts};
 ghost use Rattle.ic_jobs.specs.Job.{JobParts};
 ghost use Rattle.ic_jobs.specs.Table.{job_named};
 ghost use Rattle.ic_jobs.specs.History.{replay, IsLegal};
 ghost use Rattle.ic_jobs.specs.Life.{Life, life, IsAsLived};
 ghost use Rattle.ic_desk.specs.declared.limits.TheConstants.{MAX_ENTRIES};
+ghost use Rattle.ic_slots.specs.Held.{HoldsTable};
+ghost use Rattle.ic_desk.specs.declared.faults.BookFault.{BookFault};
+ghost use Rattle.ic_desk.specs.declared.faults.BookFault.TheVariants.{Device};
+ghost use Rattle.ic_desk.specs.Entries.{AreRounds, is_round, leaves_table};
+ghost use Rattle.ic_desk.specs.Kept.{HoldsKeptOrAll, IsHistory, MayBeUnkept};
+ghost use Rattle.ic_desk.specs.Refusals.{CountsBook};
 ghost use Rattle.ic_desk.specs.Lives.{Page, IsPage, AreLives, left_by, lived};
 
 /// The limit of a history.
 pub fn limits_are()
     ensures { MAX_ENTRIES ≡ 65536 }
+{}
+
+/// Where a book tells that its disk has failed one failure more is counted, up to the end of the
+/// count. Where it doesn't, none is.
+pub fn a_failure_is_counted()
+    ensures failed { (old new : ℕ) → CountsBook {T = Unit {0}} (Err Device) old new
+        → (new ≡ old + 1) ⊎ ((old ≡ 2 ^ 64 - 1) × (new ≡ old)) }
+    ensures others { (result : Result (Unit {0}) BookFault) (old new : ℕ)
+        → CountsBook result old new → ¬ IsErrOf result Device → new ≡ old }
+{}
+
+/// A reply that shows or lists jobs, or refuses, leaves the table. All other replies tell a change.
+pub fn some_replies_leave_the_table()
+    ensures stays { (t new : List JobParts) (c : Command) (r : Reply)
+        → apply t (by_command c) ≡ Some (outcome new r) → leaves_table r ≡ true → new ≡ t }
+    ensures shown { (job : ShownParts) → leaves_table (Shown job) ≡ true }
+    ensures listed { (jobs : List (List ℕ × State × ℕ)) → leaves_table (Listed jobs) ≡ true }
+    ensures refused { (refusal : Refusal) → leaves_table (Refused refusal) ≡ true }
+    ensures accepted { leaves_table Accepted ≡ false }
+    ensures okay { leaves_table Okay ≡ false }
+    ensures moved { leaves_table Moved ≡ false }
+    ensures halted { leaves_table Halted ≡ false }
+{}
+
+/// Behind what is kept stand rounds alone where the book isn't broken. Where it is, one last entry
+/// of any kind may stand behind them.
+pub fn rounds_stand_behind()
+    ensures command { (c : Command) → is_round (by_command c) ≡ false }
+    ensures round { (name : List ℕ) → is_round (Round name) ≡ true }
+    ensures unbroken { (es : List Entry) → MayBeUnkept false es ↔ AreRounds es }
+    ensures broken { (es : List Entry) (e : Entry)
+        → MayBeUnkept true (es ++ e ∷ []) ↔ AreRounds es }
+{}
+
+/// A page is a log that is legal from its table, with as many entries kept as the stop left or
+/// fewer. A stop of a book leaves one: where a crash leaves a file that holds the table of the kept
+/// entries or of all, it holds the table that the page leaves.
+pub fn a_stop_leaves_a_page()
+    ensures page { (p : Page) → IsPage p
+        ↔ (IsLegal p.start p.log × (p.kept ≤ p.stop) × (p.stop ≤ length p.log)) }
+    ensures left { (p : Page) → left_by p ≡ take p.stop p.log }
+    ensures stop { (start : List JobParts) (log : List Entry) (table : List JobParts)
+        (kept now : ℕ) (broken : Bool) (file : List ℕ)
+        → IsHistory start log table now broken → kept ≤ now
+        → HoldsKeptOrAll start log kept file
+        → (k : ℕ) × IsPage (record { start = start; log = log; kept = kept; stop = k })
+        × HoldsTable (replay start (take k log)) file }
 {}
 
 /// Over any number of lives, what the stops left of all logs but the last, joined in order, is one
