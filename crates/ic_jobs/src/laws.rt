@@ -1,6 +1,6 @@
 //! Laws of the definitions that the contracts of this crate cite.
 
-ghost use Rattle.std.specs.Prelude.{◌≡◌, ◌↔◌, ◌<◌, ◌≤◌, ℕ, List, [], ◌∷◌, ◌++◌, None, Some, IfSome, IsTrue, true, false, not, length, filter};
+ghost use Rattle.std.specs.Prelude.{◌≡◌, ◌↔◌, ◌<◌, ◌≤◌, ℕ, List, [], ◌∷◌, ◌++◌, None, Some, IfSome, IsTrue, true, false, not, length, map, filter};
 ghost use Rattle.std.specs.Str.{bytes_eq};
 ghost use Rattle.ic_term.specs.Configuration.{Configuration};
 ghost use Rattle.ic_rules.specs.RuleSet.{Rules};
@@ -24,6 +24,7 @@ ghost use Rattle.ic_jobs.specs.Table.{IsTable, job_names, job_named};
 ghost use Rattle.ic_jobs.specs.Shown.{shown, listed};
 ghost use Rattle.ic_jobs.specs.Events.{Outcome, IsAnswered, outcome, apply};
 ghost use Rattle.ic_jobs.specs.Transitions.{state_of, Leads};
+ghost use Rattle.ic_jobs.specs.Memory.{takes_memory, is_submit, tells_jobs};
 ghost use Rattle.ic_jobs.specs.Submitted.{IsEvent, mentions};
 ghost use Rattle.ic_jobs.specs.History.{table_after, replay, IsLegal};
 ghost use Rattle.ic_jobs.specs.Landing.{due, Awaits};
@@ -149,6 +150,21 @@ pub fn rounds_change_states_so()
         → IsQuiet rules.rules c → open_state rules c ≡ Done }
     ensures running { (rules : Rules) (c : Configuration)
         → ¬ IsQuiet rules.rules c → open_state rules c ≡ Running }
+{}
+
+/// Pause, resume and cancel take no memory; a copy of a command takes some of a submit alone, and a
+/// copy of a reply of one that tells of jobs.
+pub fn memory_is_taken_by()
+    ensures commands { (n : List ℕ) → map takes_memory
+        (Pause n ∷ Resume n ∷ Cancel n ∷ Fetch n ∷ list_jobs ∷ [])
+        ≡ false ∷ false ∷ false ∷ true ∷ true ∷ [] }
+    ensures submits { (n : List ℕ) (s : SystemParts) → takes_memory (Submit n s) ≡ true }
+    ensures copies { (n : List ℕ) → map is_submit
+        (Pause n ∷ Resume n ∷ Cancel n ∷ Fetch n ∷ list_jobs ∷ [])
+        ≡ false ∷ false ∷ false ∷ false ∷ false ∷ [] }
+    ensures replies { (r : Refusal) → map tells_jobs
+        (Accepted ∷ Okay ∷ Refused r ∷ Moved ∷ reply.Halted ∷ [])
+        ≡ false ∷ false ∷ false ∷ false ∷ false ∷ [] }
 {}
 
 /// The names of a table stand in the order of submission: an accepted submit puts its name last, a
