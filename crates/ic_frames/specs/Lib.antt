@@ -5,6 +5,7 @@ pub mod Staged
 pub mod Layout
 pub mod Opening
 pub mod Faults
+pub mod Numbers
 pub mod Frames
 pub mod Opened
 pub mod inner

@@ -18,6 +18,21 @@ pub enum KeepFault {
     Device,
 }
 
+impl KeepFault {
+    ghost use Rattle.ic_frames.specs.Numbers.{keep_fault_number};
+
+    /// The lasting number of the fault.
+    pub fn number(self) -> u8
+        ensures { result ≡ keep_fault_number self }
+    {
+        match self {
+            KeepFault::Broken => 1,
+            KeepFault::Worn => 2,
+            KeepFault::Device => 3,
+        }
+    }
+}
+
 impl From<DiskFault> for KeepFault {
     ghost from_gives = { λ _ e. e ≡ KeepDevice };
 
@@ -39,6 +54,23 @@ pub enum OpenCause {
     Damaged,
     #[error("out of memory")]
     Memory,
+}
+
+impl OpenCause {
+    ghost use Rattle.ic_frames.specs.Numbers.{open_cause_number};
+
+    /// The lasting number of the cause.
+    pub fn number(self) -> u8
+        ensures { result ≡ open_cause_number self }
+    {
+        match self {
+            OpenCause::Device => 1,
+            OpenCause::NoSlot => 2,
+            OpenCause::TwoAlike => 3,
+            OpenCause::Damaged => 4,
+            OpenCause::Memory => 5,
+        }
+    }
 }
 
 impl From<DiskFault> for OpenCause {

@@ -10,13 +10,18 @@ ghost use Rattle.ic_frames.specs.declared.frame.TheConstants.{HEAD, MAX_BODY};
 ghost use Rattle.ic_frames.specs.declared.slot.Slot.{Slot};
 ghost use Rattle.ic_frames.specs.declared.slot.Slot.TheVariants.{First, Second};
 ghost use Rattle.ic_frames.specs.declared.slot.TheConstants.{SECOND_AT};
-ghost use Rattle.ic_frames.specs.Places.{place};
+ghost use Rattle.ic_frames.specs.Places.{place, other};
+ghost use Rattle.ic_frames.specs.Frames.{target_of, number_of, is_closed};
+ghost use Rattle.ic_frames.specs.Opened.{IsOnNewest};
 ghost use Rattle.ic_frames.specs.Faults.{CountsKeep, CountsOpen};
-ghost use Rattle.ic_frames.specs.Fields.{size, is_open, is_whole, body, IsMade};
+ghost use Rattle.ic_frames.specs.Fields.{number, size, is_open, is_whole, body, IsMade};
 ghost use Rattle.ic_frames.specs.Layout.{slot_bytes, AreBytes};
 ghost use Rattle.ic_frames.specs.Opening.{Answers};
 ghost use Rattle.ic_frames.specs.Staged.{IsStaged};
 ghost use Rattle.ic_frames.specs.Held.{Held, IsNewest, IsShut, HasTwoAlike, HasSameHeads, body_held, the_body, no_slot, two_alike, damaged};
+
+use crate::Frames;
+use ic_disk::Disk;
 
 /// What a disk holds is the body of its newest slot: it holds a body exactly where one slot is the
 /// newest and has that body whole.
@@ -81,6 +86,18 @@ pub fn a_refusal_says_what_is_held()
     ensures alike { (held : Held) → Answers TwoAlike held → held ≡ two_alike }
     ensures spoiled { (held : Held) → Answers Damaged held → held ≡ damaged }
 {}
+
+/// What frames that are on the newest slot of a file say of it.
+pub fn frames_tell_the_newest<D: Disk>(frames: &Frames<D>)
+    ensures newest { (file : List ℕ) → IsOnNewest frames.now file
+        → IsNewest (other (target_of frames.now)) file }
+    ensures number { (file : List ℕ) → IsOnNewest frames.now file
+        → number (place (other (target_of frames.now))) file ≡ number_of frames.now }
+    ensures closed { (file : List ℕ) → IsOnNewest frames.now file → (is_closed frames.now ≡ true)
+        ↔ (is_open (place (target_of frames.now)) file ≡ false) }
+{
+    let _ = frames;
+}
 
 /// The places and limits by their names.
 pub fn limits_are()

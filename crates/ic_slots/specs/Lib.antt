@@ -1,5 +1,6 @@
 pub mod Held
 pub mod Opening
 pub mod Faults
+pub mod Numbers
 pub mod Keeper
 pub mod Opened

@@ -15,6 +15,20 @@ pub enum CreateFault {
     Memory,
 }
 
+impl CreateFault {
+    ghost use Rattle.ic_slots.specs.Numbers.{create_fault_number};
+
+    /// The lasting number of the fault.
+    pub fn number(self) -> u8
+        ensures { result ≡ create_fault_number self }
+    {
+        match self {
+            CreateFault::Device => 1,
+            CreateFault::Memory => 2,
+        }
+    }
+}
+
 impl From<DiskFault> for CreateFault {
     ghost from_gives = { λ _ e. e ≡ Device };
 

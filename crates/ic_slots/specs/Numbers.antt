@@ -1,0 +1,8 @@
+-- The lasting numbers of faults. This project's choice.
+use Rattle.std.specs.Prelude.{ℕ}
+use Rattle.ic_slots.specs.declared.faults.CreateFault.{CreateFault}
+use Rattle.ic_slots.specs.declared.faults.CreateFault.TheVariants.{Device, Memory}
+
+abbrev pub create_fault_number : CreateFault → ℕ
+create_fault_number Device = 1
+create_fault_number Memory = 2
