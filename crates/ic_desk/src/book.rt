@@ -10,13 +10,14 @@ ghost use Rattle.ic_jobs.specs.Table.{IsTable};
 ghost use Rattle.ic_pool.specs.Flight.{is_blocked};
 ghost use Rattle.ic_frames.specs.Fields.{IsMade};
 ghost use Rattle.ic_frames.specs.Faults.{CountsOpen};
+ghost use Rattle.ic_frames.specs.Opened.{IsOnNewest};
 ghost use Rattle.ic_slots.specs.Held.{HoldsTable, IsHeld, the_table};
 ghost use Rattle.ic_slots.specs.Opening.{Says};
 ghost use Rattle.ic_slots.specs.Keeper as keeper_parts;
 ghost use Rattle.ic_desk.specs.Entries.{AddsCommand, AddsRound, leaves_table};
 ghost use Rattle.ic_desk.specs.Kept.{HoldsKeptOrAll, IsHistory, IsOnDisk};
 ghost use Rattle.ic_desk.specs.Refusals.{CountsBook};
-ghost use Rattle.ic_desk.specs.lemmas.OneProof.{IsHistory-prop, IsOnDisk-prop};
+ghost use Rattle.ic_desk.specs.lemmas.OneProof.{IsHistory-prop, IsOnDisk-prop, IsOnNewest-prop};
 
 use crate::enter::{enter_command, enter_halted, enter_played};
 use crate::keeping::keep_table;
@@ -48,6 +49,10 @@ pub struct Book<D: Disk> {
         (keeper_parts.is_broken keeper) made } by { Π_prop (λ _. IsOnDisk-prop
             (D.content (keeper_parts.disk_of keeper)) (D.image (keeper_parts.disk_of keeper))
             start log.items kept (keeper_parts.is_broken keeper) made) },
+    ghost newest: { IsTrue (D.keeps (keeper_parts.disk_of keeper))
+        → keeper_parts.is_broken keeper ≡ false
+        → IsOnNewest (keeper_parts.frames_of keeper) (D.content (keeper_parts.disk_of keeper)) } by { Π_prop (λ _. Π_prop (λ _. IsOnNewest-prop (keeper_parts.frames_of keeper)
+            (D.content (keeper_parts.disk_of keeper)))) },
 }
 
 impl<D: Disk> Book<D> {
@@ -173,6 +178,11 @@ impl<D: Disk> Book<D> {
         ensures either { IsTrue (D.keeps (disk_of self.now)) → is_made self.now ≡ true
             → Within (D.image (disk_of self.now))
             (HoldsKeptOrAll (start_of self.now) (log_of self.now) (kept_of self.now)) }
+
+        // The number by which a book is worn is that of the newest slot, as reads give it.
+        ensures newest { IsTrue (D.keeps (disk_of self.now)) → is_broken self.now ≡ false
+            → IsOnNewest (keeper_parts.frames_of (keeper_of self.now))
+            (D.content (disk_of self.now)) }
 
         // `made` says of a book that isn't broken that each image of its disk is made.
         ensures made { IsTrue (D.keeps (disk_of self.now)) → is_broken self.now ≡ false

@@ -4,8 +4,9 @@ ghost use Rattle.ic_disk.specs.Images.{Within};
 ghost use Rattle.ic_disk.specs.Time.{LeavesOnly};
 ghost use Rattle.ic_jobs.specs.Job.{JobParts};
 ghost use Rattle.ic_jobs.specs.Table.{IsTable};
+ghost use Rattle.ic_frames.specs.Opened.{IsOnNewest};
 ghost use Rattle.ic_slots.specs.Held.{HoldsTable, HoldsEitherTable, IsHeld, the_table};
-ghost use Rattle.ic_slots.specs.Keeper.{disk_of, is_broken, number_of};
+ghost use Rattle.ic_slots.specs.Keeper.{disk_of, frames_of, is_broken, number_of};
 ghost use Rattle.ic_desk.specs.Refusals.{CountsBook};
 
 use crate::BookFault;
@@ -32,6 +33,8 @@ pub(crate) fn keep_table<D: Disk>(keeper: &mut Keeper<D>, table: &Table) -> Resu
         (Within (D.image (disk_of keeper.new)) (HoldsTable table.now)) }
     ensures held { IsTrue (D.keeps (disk_of keeper.old)) → OnOk result
         (IsHeld (the_table table.now) (D.content (disk_of keeper.new))) }
+    ensures newest { IsTrue (D.keeps (disk_of keeper.old)) → OnOk result
+        (IsOnNewest (frames_of keeper.new) (D.content (disk_of keeper.new))) }
     ensures sound { IsTable table.now }
 {
     let _jobs = table.jobs();

@@ -15,6 +15,9 @@ use Rattle.ic_term.specs.Symbol.{AreSymbols}
 use Rattle.ic_term.specs.Configuration.{IsConfiguration}
 use Rattle.ic_rules.specs.Rule.{Rule, IsRule}
 use Rattle.ic_rules.specs.RuleSet.{Rules, IsRuleSet}
+use Rattle.ic_disk.specs.declared.disk.Disk.{Ghosts}
+use Rattle.ic_frames.specs.declared.frames.Frames.{Frames}
+use Rattle.ic_frames.specs.Opened.{IsOnNewest}
 use Rattle.ic_slots.specs.Held.{HoldsTable}
 use Rattle.ic_frames.specs.Held.{Held}
 use Rattle.ic_desk.specs.Kept.{IsHistory, IsOnDisk, MayBeUnkept}
@@ -72,3 +75,6 @@ HoldsTable-prop t file = hlevel (IsTable-prop, Held-set, props)
 pub IsOnDisk-prop : (content : List ℕ) (image : List ℕ → Type 0) (start : List JobParts) (log : List Entry) (kept : ℕ) (broken made : Bool)
     → IsProp (IsOnDisk content image start log kept broken made)
 IsOnDisk-prop content image start log kept broken made = hlevel (IsTable-prop, HoldsTable-prop, Held-set, props)
+
+pub IsOnNewest-prop : {D : Type 0} {ghosts : Ghosts D} (frames : Frames D ghosts) (file : List ℕ) → IsProp (IsOnNewest frames file)
+IsOnNewest-prop frames file = hlevel props

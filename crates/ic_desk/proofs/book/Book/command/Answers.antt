@@ -1,4 +1,4 @@
-use Rattle.std.proofs.Common.{◌≡◌, ◌∙◌, length, sym, arith}
+use Rattle.std.proofs.Common.{◌≡◌, ◌∙◌, length, sym, arith, true, false}
 use Rattle.ic_desk.specs.Entries.{command_entry}
 use Rattle.ic_desk.specs.Kept.{HoldsKeptOrAll}
 use Rattle.ic_desk.proofs.AnswerLemmas.{told_stays}
@@ -35,6 +35,7 @@ invariant_of-self-then-leaves_table g c =
       history = idle_after book.start book.log.items log book.table table book.kept book.keeper.frames.broken e book.history ready adds room sent c.len-self.result count same all;
       on_disk = λ keeps. same_kept (disk.content old) (disk.image old) book.start book.log.items book.kept book.keeper.frames.broken book.made (book.on_disk keeps) ready book.start log c.len-self.result
           (same_table_after book.start book.log.items log book.table table book.kept book.keeper.frames.broken e book.history ready adds room sent c.len-self.result count same all);
+      newest = book.newest;
     }
 
 pub invariant_of-self-in-Break-branch-3 : goal.invariant_of-self-in-Break-branch-3
@@ -63,6 +64,7 @@ invariant_of-self-in-Break-branch-3 g c =
           (table_kept_after book.start book.log.items log book.table table book.kept book.keeper.frames.broken e book.history ready adds room sent)
           (replayed_after book.start book.log.items log book.table table book.kept book.keeper.frames.broken e book.history ready adds room sent)
           ((book.on_disk keeps).holds ready made) (λ t holds. c.keep_table.ensures.any_moment t keeps holds)));
+      newest = λ _ whole. let never : true ≡ false = sym broke ∙ whole in cc;
     }
 
 pub invariant_of-self-2 : goal.invariant_of-self-2
@@ -87,6 +89,7 @@ invariant_of-self-2 g c =
           kept_now (disk.content new) (disk.image new) book.start log c.len-self-2.result keeper.frames.broken table
           (table_all_after book.start book.log.items log book.table table book.kept book.keeper.frames.broken e book.history ready adds room sent c.len-self-2.result count)
           (c.in_ok-keep_table.ensures.held keeps) (c.in_ok-keep_table.ensures.holds keeps);
+      newest = λ keeps_new _. c.in_ok-keep_table.ensures.newest (sym c.keep_table.ensures.keeps ∙ keeps_new);
     }
 
 pub returns-in_err-keep_table-clause-any_moment : goal.returns-in_err-keep_table-clause-any_moment

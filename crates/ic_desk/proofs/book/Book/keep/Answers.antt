@@ -1,4 +1,4 @@
-use Rattle.std.proofs.Common.{◌∙◌, refl, sym}
+use Rattle.std.proofs.Common.{◌∙◌, refl, sym, true, false, ◌≡◌}
 use Rattle.ic_desk.specs.Kept.{HoldsKeptOrAll}
 use Rattle.ic_desk.proofs.HistoryLemmas.{broke_now}
 use Rattle.ic_desk.proofs.DiskLemmas.{either_now, keep_failed, keep_leaves, no_call, at_end}
@@ -32,6 +32,7 @@ invariant_of-self g c =
           (λ made. at_end disk.clock disk.left disk.image old new (HoldsKeptOrAll start log book.kept) (λ file later there. g.met.D.Disk.image_is_left new (disk.clock old) file later there)
           (keep_leaves disk.clock disk.left old new (disk.image old) start log log book.kept book.table refl is.replayed
           ((book.on_disk keeps).holds c.in_ok-check_keepable.ensures.ok made) (λ t holds. c.keep_table.ensures.any_moment t keeps holds)));
+      newest = λ _ whole. let never : true ≡ false = sym broke ∙ whole in cc;
     }
 
 pub returns-in_err-keep_table-clause-any_moment : goal.returns-in_err-keep_table-clause-any_moment

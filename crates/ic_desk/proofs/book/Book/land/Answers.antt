@@ -29,6 +29,7 @@ invariant_of-self g c =
       history = round_entered book.start book.log.items log book.table table book.kept book.keeper.frames.broken e book.history ready room (λ _. refl) refl is;
       on_disk = λ keeps. same_kept (disk.content old) (disk.image old) book.start book.log.items book.kept book.keeper.frames.broken book.made (book.on_disk keeps) ready book.start log book.kept
           (table_kept_entered book.start book.log.items log book.table table book.kept book.keeper.frames.broken e book.history ready room (λ _. refl) refl is);
+      newest = book.newest;
     }
 
 pub returns-in_err-enter_played-clause-any_moment :
