@@ -51,7 +51,9 @@ pub struct Book<D: Disk> {
             start log.items kept (keeper_parts.is_broken keeper) made) },
     ghost newest: { IsTrue (D.keeps (keeper_parts.disk_of keeper))
         → keeper_parts.is_broken keeper ≡ false
-        → IsOnNewest (keeper_parts.frames_of keeper) (D.content (keeper_parts.disk_of keeper)) } by { Π_prop (λ _. Π_prop (λ _. IsOnNewest-prop (keeper_parts.frames_of keeper)
+        → IsOnNewest (keeper_parts.frames_of keeper)
+        (D.content (keeper_parts.disk_of keeper)) } by { Π_prop (λ _. Π_prop (λ _.
+            IsOnNewest-prop (keeper_parts.frames_of keeper)
             (D.content (keeper_parts.disk_of keeper)))) },
 }
 
@@ -191,8 +193,8 @@ impl<D: Disk> Book<D> {
 
     /// Does what a client's command asks and keeps what it leaves, with all that came before it. At
     /// Ok the answer and all before it are kept. After `Device` the command stands at the log's
-    /// end, unanswered, and the book is broken. A fetch, a list or a refusal makes no call to the disk
-    /// where all was kept.
+    /// end, unanswered, and the book is broken. A fetch, a list or a refusal makes no call to the
+    /// disk where all was kept.
     pub fn command(&mut self, alloc: Global, who: u64, command: Command) -> Result<Reply, BookFault>
         ensures keeps { D.keeps (disk_of self.new) ≡ D.keeps (disk_of self.old) }
 
