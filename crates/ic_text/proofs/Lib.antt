@@ -37,3 +37,4 @@ pub mod WordSplits
 pub mod LineReading
 pub mod LineParts
 pub mod LineLaws
+pub mod NoMemory

@@ -20,7 +20,7 @@ ghost use Rattle.ic_text.specs.declared.token.Mark.{Mark};
 ghost use Rattle.ic_text.specs.declared.token.Mark.TheVariants.{LeftBrace, RightBrace, Less, Greater, Bar, Equals, Comma, Semicolon, Open, Close};
 ghost use Rattle.ic_text.specs.declared.limits.TheConstants.{MAX_TEXT, MAX_NAME, MAX_RUN};
 ghost use Rattle.ic_text.specs.declared.fault.TextFault.{TextFault};
-ghost use Rattle.ic_text.specs.declared.fault.TextFault.TheVariants.{Syntax, Limit};
+ghost use Rattle.ic_text.specs.declared.fault.TextFault.TheVariants.{Syntax, Limit, Memory};
 ghost use Rattle.ic_rules.specs.JobName.{is_job_name};
 ghost use Rattle.ic_rules.specs.declared.job_name.TheConstants.{MAX_JOB_NAME};
 ghost use Rattle.ic_jobs.specs.declared.state.State.{State};
@@ -157,13 +157,14 @@ pub fn read_back_law()
         Reads text (Ok (table, c)) → length (printed table c) ≤ length text }
 {}
 
-/// A text spells at most one line, and it is read in just one way.
+/// A text spells at most one line, and it is read in just one way, never as want of memory.
 pub fn one_line_reading()
     ensures source { (text : List ℕ) (p q : LinePhrase) →
         SpellsLine text p → SpellsLine text q → p ≡ q }
     ensures answer { (text : List ℕ) (a b : Result Line TextFault) →
         ReadsLine text a → ReadsLine text b → a ≡ b }
     ensures total { (text : List ℕ) → (a : Result Line TextFault) × ReadsLine text a }
+    ensures no_memory { (text : List ℕ) → ¬ ReadsLine text (Err Memory) }
 {}
 
 /// The words that open lines.
