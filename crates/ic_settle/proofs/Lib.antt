@@ -7,6 +7,7 @@ pub mod Delays
 pub mod Links
 pub mod Spots
 pub mod Deciding
+pub mod Replaced
 pub mod Passing
 pub mod Taking
 pub mod ListLemmas

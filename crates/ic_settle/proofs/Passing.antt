@@ -1,8 +1,8 @@
 -- The pass over the equations: what it keeps from one equation to the next.
-use Rattle.std.proofs.Common.{◌≡◌, ℕ, zero, suc, ◌+◌, ◌*◌, ◌<◌, ◌≤◌, ◌==◌, List, [], ◌∷◌, ◌++◌, true, false, cond, Option, None, Some, is_some, option_map, length, map, get_or, slice_get, refl, sym, ap, ◌∙◌, append_assoc, append-nil, length-append, eq-eqb, inl, inr, arith, subst as transport}
+use Rattle.std.proofs.Common.{◌≡◌, ℕ, suc, ◌+◌, ◌*◌, ◌<◌, ◌≤◌, ◌==◌, List, [], ◌∷◌, ◌++◌, true, false, cond, Option, None, Some, is_some, option_map, length, map, get_or, refl, sym, ap, ◌∙◌, append_assoc, append-nil, length-append, eq-eqb, inl, inr, arith, subst as transport}
 use Rattle.std.proofs.lemmas.Bool.{ne_eqb, false_from_ne_true}
 use Rattle.std.proofs.lemmas.List.{map-append, length-map}
-use Rattle.std.specs.List.{remove, zip}
+use Rattle.std.specs.List.{remove}
 use Rattle.std.specs.Option.{option_map_or, option_to_list}
 use Rattle.ic_term.specs.declared.term.Term.{Term}
 use Rattle.ic_term.specs.Tree.{Tree, name, agent, Pair, names, pair_names}
@@ -23,6 +23,7 @@ use Rattle.ic_settle.specs.MiddleLaws.{occurrences-middle}
 use Rattle.ic_settle.specs.StepLaws.{occurrences-binds, once_outside, itself_once}
 use Rattle.ic_settle.specs.ChoiceLaws.{binding_binds, first_choice-passed}
 use Rattle.ic_settle.proofs.Settles.{Settles, choice_here, settles-start, settles-skip, settles-step, settles-end}
+use Rattle.ic_settle.proofs.Replaced.{zip_middle, remove_middle, stopped}
 use Rattle.ic_settle.proofs.PutEach.{put_each-unbound, map_put, map_put_pair, map_put_none, map_put_pair_none, bound-cons, counted_no, occurrences-exact_pair, occurrences-exact_in}
 use Rattle.ic_settle.proofs.Delays.{delays-fewer, delays-bind}
 use Rattle.ic_settle.proofs.Spots.{spots_from, IsPlaced, placed_all, length-spots, AreInside, inside_all}
@@ -153,16 +154,6 @@ bound_sides-push (q ∷ ps) [] p a e = absurd (omega arith)
 bound_sides-push (q ∷ ps) (b ∷ cs) p a e =
     ap (λ r. option_to_list (option_map (bound_by q) b) ++ r) (bound_sides-push ps cs p a (omega arith))
     ∙ sym (append_assoc (option_to_list (option_map (bound_by q) b)) (bound_sides ps cs) (option_to_list (option_map (bound_by p) a)))
-
-zip_middle : (us vs us' vs' : List Pair) (p q : Pair) → length us ≡ length vs → slice_get (zip (us ++ p ∷ us') (vs ++ q ∷ vs')) (length us) ≡ Some (p, q)
-zip_middle [] [] us' vs' p q e = refl
-zip_middle [] (b ∷ vs) us' vs' p q e = absurd (omega arith)
-zip_middle (a ∷ us) [] us' vs' p q e = absurd (omega arith)
-zip_middle (a ∷ us) (b ∷ vs) us' vs' p q e = zip_middle us vs us' vs' p q (omega arith)
-
-remove_middle : (us us' : List Pair) (p : Pair) → remove (us ++ p ∷ us') (length us) ≡ us ++ us'
-remove_middle [] us' p = refl
-remove_middle (a ∷ us) us' p = ap (λ r. a ∷ r) (remove_middle us us' p)
 
 absent_name : (x : ℕ) (t : Tree) → occurrences x (names t) ≡ 0 → is_name x t ≡ false
 absent_name x (name y) none = false_from_ne_true (y == x) (λ h. (let one : occurrences x (y ∷ []) ≡ 1 = ap (λ b. 0 + cond b 1 0) h in absurd (omega arith)))
@@ -489,10 +480,5 @@ passing-end c kept es links look_up chosen s =
       ),
     )
   where
-    stopped : (n : ℕ) (d : Configuration) (given : List Pair) → first_choice d.interface [] d.equations ≡ None → replaced_in n d given ≡ []
-    stopped zero d given e = refl
-    stopped (suc n) d given e =
-        ap (λ w. option_map_or (λ ch. replaced_by d given ch ++ replaced_in n (applied d ch) (remove given (length ch.before))) w []) e
-
     nothing_left : (n : ℕ) (d : Configuration) (given : List Pair) {before : List Pair} → Settles c d before [] → replaced_in n d given ≡ []
     nothing_left n d given {before} s' = stopped n d given (ap (first_choice d.interface []) s'.whole ∙ first_choice-passed d.interface [] before [] s'.passed)

@@ -1,13 +1,13 @@
 -- What settling replaces: each name in its order, with the opposite side of the equation that is
 -- removed for it.
-use Rattle.std.specs.Prelude.{ℕ, zero, suc, ◌==◌, List, [], ◌∷◌, ◌++◌, Bool, false, Option, length, slice_get, if◌then◌else◌}
+use Rattle.std.specs.Prelude.{◌≡◌, ℕ, zero, suc, ◌==◌, List, [], ◌∷◌, ◌++◌, Bool, false, Option, length, map, slice_get, if◌then◌else◌}
 use Rattle.std.specs.List.{remove, zip}
 use Rattle.std.specs.Option.{option_map, option_map_or, option_to_list}
 use Rattle.ic_term.specs.declared.term.Term.{Term}
 use Rattle.ic_term.specs.Term.{tree}
 use Rattle.ic_term.specs.Tree.{Tree, name, agent, Pair}
 use Rattle.ic_term.specs.Configuration.{Configuration}
-use Rattle.ic_settle.specs.Settling.{Binding, Choice, first_choice, applied}
+use Rattle.ic_settle.specs.Settling.{Binding, Choice, subst, first_choice, applied}
 use Rattle.ic_settle.specs.Sides.{bound_by}
 use Rattle.ic_settle.specs.declared.applicability.Applicable.{Applicable}
 
@@ -40,6 +40,22 @@ replaced_in (suc n) c given =
 -- what settling a configuration replaces
 abbrev pub replaced : Configuration → List Binding
 replaced c = replaced_in (length c.equations) c c.equations
+
+-- the names that bindings bind, in their order
+abbrev pub bound_names : List Binding → List ℕ
+bound_names bs = map (λ b. b.name) bs
+
+-- a later binding, with the term of an earlier one put for its name
+abbrev pub put_into : Binding → Binding → Binding
+put_into b later = record later { term = subst b.name b.term later.term }
+
+-- The binding of this first step is replaced first; what is replaced behind it, with its term put
+-- for its name, is what settling what is left replaces.
+abbrev pub ReplacesFirst : Configuration → Choice → Type 0
+ReplacesFirst c choice =
+    (later : List Binding)
+    × (replaced c ≡ choice.bound ∷ later)
+    × (replaced (applied c choice) ≡ map (put_into choice.bound) later)
 
 -- the program's bindings as plain data
 abbrev pub binding_of : ℕ × Term → Binding

@@ -1,10 +1,10 @@
 -- The first equation with an applicable side, found by going on where the last one stood.
-use Rattle.std.proofs.Common.{◌≡◌, ℕ, zero, suc, ◌+◌, ◌==◌, List, [], ◌∷◌, ◌++◌, Bool, true, false, cond, Option, None, Some, length, map, refl, sym, ◌∙◌, ap, append_assoc, append-nil, add-one, inl, inr, arith}
+use Rattle.std.proofs.Common.{◌≡◌, ℕ, zero, suc, ◌+◌, ◌==◌, List, [], ◌∷◌, ◌++◌, Bool, true, false, cond, Option, None, Some, length, map, refl, sym, ◌∙◌, ap, append_assoc, append-nil, add-one, inl, inr, arith, subst as transport}
 use Rattle.std.proofs.lemmas.List.{map-append}
 use Rattle.std.proofs.lemmas.Bool.{eqb-true, false_from_ne_true}
 use Rattle.ic_term.specs.Tree.{Tree, name, agent, Pair, names}
 use Rattle.ic_term.specs.Configuration.{Configuration, names_in, occurrences}
-use Rattle.ic_settle.specs.Settling.{Binding, Choice, subst, subst_pair, occurs, side_binding, binding, first_of_two, first_choice, applied, settled_in, settled}
+use Rattle.ic_settle.specs.Settling.{Binding, Choice, subst, subst_pair, occurs, side_binding, binding, first_of_two, choice_or, first_choice, applied, settled_in, settled}
 use Rattle.ic_settle.specs.NameSteps.{Binds}
 use Rattle.ic_settle.specs.SubstitutionLaws.{occurrences_none, occurs_none}
 use Rattle.ic_settle.specs.MiddleLaws.{occurrences-middle}
@@ -146,6 +146,34 @@ none_at ts done [] p after rest none = rw (append-nil done) none.0
 none_at ts done (q ∷ qs) p after rest none =
     let moved : (done ++ (q ∷ qs)) ≡ (done ++ q ∷ []) ++ qs = sym (append_assoc done (q ∷ []) qs) in
     rw moved (none_at ts (done ++ q ∷ []) qs p after rest none.1)
+
+-- ---- the first choice
+
+-- The equation of a choice stands between those before and those after, and binds what is to be
+-- put.
+pub record IsChoice (ts : List Tree) (es : List Pair) (choice : Choice) : Type 0 where
+  pub equation : Pair
+  pub place : es ≡ choice.before ++ equation ∷ choice.after
+  pub binds : binding (names_in ts (choice.before ++ choice.after)) equation ≡ Some choice.bound
+
+choice_at : (ts : List Tree) (before : List Pair) (p : Pair) (after : List Pair) (choice : Choice) (here : Option Binding)
+    → binding (names_in ts (before ++ after)) p ≡ here
+    → choice_or before after here (first_choice ts (before ++ p ∷ []) after) ≡ Some choice
+    → (first_choice ts (before ++ p ∷ []) after ≡ Some choice → IsChoice ts ((before ++ p ∷ []) ++ after) choice)
+    → IsChoice ts (before ++ p ∷ after) choice
+choice_at ts before p after choice (Some b) bound e later =
+    let same : record { before = before; after = after; bound = b } ≡ choice = cc in
+    let P : Choice → Type 0 = λ d. IsChoice ts (before ++ p ∷ after) d in
+    transport P same (record { equation = p; place = refl; binds = bound })
+choice_at ts before p after choice None bound e later =
+    let P : List Pair → Type 0 = λ es. IsChoice ts es choice in
+    transport P (append_assoc before (p ∷ []) after) (later e)
+
+pub is_choice : (ts : List Tree) (before es : List Pair) (choice : Choice) → first_choice ts before es ≡ Some choice
+    → IsChoice ts (before ++ es) choice
+is_choice ts before [] choice e = cc
+is_choice ts before (p ∷ after) choice e =
+    choice_at ts before p after choice (binding (names_in ts (before ++ after)) p) refl e (λ f. is_choice ts (before ++ p ∷ []) after choice f)
 
 -- ---- settling
 

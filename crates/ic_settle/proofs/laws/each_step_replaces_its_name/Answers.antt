@@ -1,0 +1,14 @@
+use Rattle.ic_settle.proofs.Replaced.{none_replaced, replaced_names, replaces_first, replaced_count}
+use Rattle.ic_settle.proofs.laws.each_step_replaces_its_name.Goals as goal
+
+pub returns-clause-none : goal.returns-clause-none
+returns-clause-none c = none_replaced
+
+pub returns-clause-names : goal.returns-clause-names
+returns-clause-names c = replaced_names
+
+pub returns-clause-terms : goal.returns-clause-terms
+returns-clause-terms c = replaces_first
+
+pub returns-clause-count : goal.returns-clause-count
+returns-clause-count c = replaced_count
