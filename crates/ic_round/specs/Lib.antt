@@ -3,6 +3,7 @@ pub use Rattle.ic_settle.specs.NameSteps
 pub mod Instance
 pub mod Firing
 pub mod Steps
+pub mod CountedSteps
 pub mod Works
 pub mod WorkViews
 pub mod Rounds

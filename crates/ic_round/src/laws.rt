@@ -1,6 +1,6 @@
 //! Laws of the definitions that the contracts of this crate cite.
 
-ghost use Rattle.std.specs.Prelude.{◌≡◌, ◌↔◌, ℕ, ◌<◌, ◌≤◌, Bool, List, None, Some, Ok, is_some, map, IsPermutation, IsTrue};
+ghost use Rattle.std.specs.Prelude.{◌≡◌, ◌↔◌, ℕ, ◌<◌, ◌≤◌, List, None, Some, Ok, is_some, map, IsPermutation, IsTrue};
 ghost use Rattle.std.specs.List.{AllByRecursion, list_any};
 ghost use Rattle.ic_term.specs.Tree.{Tree, name, agent, Trees};
 ghost use Rattle.ic_term.specs.Symbol.{Symbol, is_over};
@@ -15,7 +15,8 @@ ghost use Rattle.ic_round.specs.Naming.{HasNames};
 ghost use Rattle.ic_round.specs.Plans.{PlainPlan, planned};
 ghost use Rattle.ic_round.specs.Quiet.{is_quiet};
 ghost use Rattle.ic_round.specs.Rounds.{round, iterate, fits, unless_unfit, IsQuiet};
-ghost use Rattle.ic_round.specs.Steps.{Step, Steps};
+ghost use Rattle.ic_round.specs.Steps.{Steps};
+ghost use Rattle.ic_round.specs.CountedSteps.{IsStepsFrom};
 ghost use Rattle.ic_round.specs.Turning.{IsTurnedRight};
 ghost use Rattle.ic_round.specs.Works.{PlainFired, result_of, works_from};
 
@@ -71,18 +72,16 @@ pub fn a_plan_leads_to_the_round()
 {}
 
 /// A chain of steps never lowers `next`, stays over the symbols, and keeps that each name is below
-/// `next` and occurs at most twice. And chains are only what single steps make: they are in each
-/// relation that one step more doesn't leave.
+/// `next` and occurs at most twice. And chains are only what single steps make: there is one just
+/// where some number of steps leads from its beginning to its end.
 pub fn chains_are_steps()
     ensures next { (rs : List Rule) (c d : Configuration) → Steps rs c d → c.next ≤ d.next }
     ensures over { (rs : Rules) (c d : Configuration) → IsRuleSet rs
         → IsTrue (is_over rs.symbols c) → Steps rs.rules c d → IsTrue (is_over rs.symbols d) }
     ensures names { (rs : Rules) (c d : Configuration) → IsRuleSet rs
         → IsTrue (is_over rs.symbols c) → HasNames c → Steps rs.rules c d → HasNames d }
-    ensures least { (rs : List Rule) (relates : Configuration → Configuration → Bool)
-        → ((c : Configuration) → IsTrue (relates c c))
-        → ((c d e : Configuration) → IsTrue (relates c d) → Step rs d e → IsTrue (relates c e))
-        → (c d : Configuration) → Steps rs c d → IsTrue (relates c d) }
+    ensures single_steps { (rs : List Rule) (c d : Configuration)
+        → Steps rs c d ↔ ((n : ℕ) × IsStepsFrom rs n c d) }
 {}
 
 /// A round is a chain of steps, and so is each number of rounds, which begins with none.

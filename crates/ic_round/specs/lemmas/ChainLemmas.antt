@@ -1,5 +1,5 @@
 -- Lemmas, which no clause is read by: what each chain of steps keeps.
-use Rattle.std.proofs.Common.{◌≡◌, ◌≤◌, ◌∷◌, ℕ, List, Bool, true, Some, sym, ap, ◌∙◌, arith, [], subst as transport}
+use Rattle.std.proofs.Common.{◌≡◌, ◌↔◌, ◌≤◌, ◌∷◌, ℕ, zero, suc, List, true, Some, refl, sym, ap, ◌∙◌, arith, [], subst as transport}
 use Rattle.std.specs.List.{list_all}
 use Rattle.ic_term.specs.Tree.{Pair}
 use Rattle.ic_term.specs.Symbol.{is_over, is_tree_over, is_pair_over}
@@ -16,6 +16,7 @@ use Rattle.ic_round.specs.lemmas.SoundRules.{sound_rule}
 use Rattle.ic_round.specs.lemmas.FiredNames.{Fires, fires}
 use Rattle.ic_round.specs.lemmas.NamesLemmas.{replaced_names, name_step-names}
 use Rattle.ic_round.specs.Steps.{Interaction, Step, interaction, indirection, collect, Steps, no_steps, then_step}
+use Rattle.ic_round.specs.CountedSteps.{IsStepsFrom}
 use Rattle.ic_round.specs.lemmas.NameStepLemmas.{indirection_step, collect_step}
 use Rattle.ic_round.specs.lemmas.SettledLemmas.{name_step-over}
 use Rattle.ic_round.specs.lemmas.OverSymbols.{over_pair, over_replaced}
@@ -68,13 +69,17 @@ pub steps-over : (rs : Rules) (c d : Configuration) → IsRuleSet rs → is_over
 steps-over rs c d set over (no_steps x) = over
 steps-over rs c d set over (then_step x e y steps step) = step-over rs e d set (steps-over rs c e set over steps) step
 
--- a chain is in each relation that each configuration has to itself, and that one step more doesn't
--- leave
-pub steps_least : (rs : List Rule) (relates : Configuration → Configuration → Bool) → ((c : Configuration) → relates c c ≡ true)
-    → ((c d e : Configuration) → relates c d ≡ true → Step rs d e → relates c e ≡ true)
-    → (c d : Configuration) → Steps rs c d → relates c d ≡ true
-steps_least rs relates stays goes c d (no_steps x) = stays c
-steps_least rs relates stays goes c d (then_step x e y steps step) = goes c e d (steps_least rs relates stays goes c e steps) step
+-- a chain has a number of steps, and each number of steps makes a chain
+chain_counted : (rs : List Rule) (c d : Configuration) → Steps rs c d → (n : ℕ) × IsStepsFrom rs n c d
+chain_counted rs c d (no_steps x) = (0, refl)
+chain_counted rs c d (then_step x e y steps step) = let before = chain_counted rs c e steps in (suc before.0, (e, before.1, step))
+
+chain_made : (rs : List Rule) (n : ℕ) (c d : Configuration) → IsStepsFrom rs n c d → Steps rs c d
+chain_made rs zero c d same = let P : Configuration → Type 0 = λ e. Steps rs c e in transport P same (no_steps c)
+chain_made rs (suc n) c d last = then_step c last.0 d (chain_made rs n c last.0 last.1) last.2
+
+pub steps_counted : (rs : List Rule) (c d : Configuration) → Steps rs c d ↔ ((n : ℕ) × IsStepsFrom rs n c d)
+steps_counted rs c d = (chain_counted rs c d, λ some. chain_made rs some.0 c d some.1)
 
 pub steps-names : (rs : Rules) (c d : Configuration) → IsRuleSet rs → is_over rs.symbols c ≡ true → HasNames c → Steps rs.rules c d → HasNames d
 steps-names rs c d set over named (no_steps x) = named

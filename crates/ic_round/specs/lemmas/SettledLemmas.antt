@@ -1,38 +1,11 @@
 -- Lemmas: a settled configuration is one, and stays over its symbols.
-use Rattle.std.proofs.Common.{◌≡◌, ℕ, zero, suc, List, [], ◌∷◌, ◌++◌, true, Option, None, Some, refl, sym, ap, ◌∙◌, append_assoc, subst as transport}
-use Rattle.ic_term.specs.Tree.{Tree, Pair}
+use Rattle.std.proofs.Common.{◌≡◌, ℕ, zero, suc, List, [], ◌∷◌, ◌++◌, true, Option, None, Some, refl, sym, ap, ◌∙◌, subst as transport}
 use Rattle.ic_term.specs.Symbol.{Symbol, is_over}
 use Rattle.ic_term.specs.Configuration.{Configuration, IsConfiguration, names_in}
-use Rattle.ic_settle.specs.Settling.{Binding, Choice, binding, choice_or, first_choice, applied, settled_in, settled}
+use Rattle.ic_settle.specs.Settling.{Choice, first_choice, applied, settled_in, settled}
 use Rattle.ic_settle.specs.NameSteps.{NameStep}
-use Rattle.ic_settle.specs.ChoiceLaws.{binding_binds}
+use Rattle.ic_settle.specs.ChoiceLaws.{is_choice, binding_binds}
 use Rattle.ic_settle.specs.StepLaws.{configuration_kept, over_kept}
-
--- The equation of a choice stands between those before and those after, and binds what is to be
--- put.
-pub record IsChoice (ts : List Tree) (es : List Pair) (choice : Choice) : Type 0 where
-  pub equation : Pair
-  pub place : es ≡ choice.before ++ equation ∷ choice.after
-  pub binds : binding (names_in ts (choice.before ++ choice.after)) equation ≡ Some choice.bound
-
-choice_at : (ts : List Tree) (before : List Pair) (p : Pair) (after : List Pair) (choice : Choice) (here : Option Binding)
-    → binding (names_in ts (before ++ after)) p ≡ here
-    → choice_or before after here (first_choice ts (before ++ p ∷ []) after) ≡ Some choice
-    → (first_choice ts (before ++ p ∷ []) after ≡ Some choice → IsChoice ts ((before ++ p ∷ []) ++ after) choice)
-    → IsChoice ts (before ++ p ∷ after) choice
-choice_at ts before p after choice (Some b) bound e later =
-    let same : record { before = before; after = after; bound = b } ≡ choice = cc in
-    let P : Choice → Type 0 = λ d. IsChoice ts (before ++ p ∷ after) d in
-    transport P same (record { equation = p; place = refl; binds = bound })
-choice_at ts before p after choice None bound e later =
-    let P : List Pair → Type 0 = λ es. IsChoice ts es choice in
-    transport P (append_assoc before (p ∷ []) after) (later e)
-
-pub is_choice : (ts : List Tree) (before es : List Pair) (choice : Choice) → first_choice ts before es ≡ Some choice
-    → IsChoice ts (before ++ es) choice
-is_choice ts before [] choice e = cc
-is_choice ts before (p ∷ after) choice e =
-    choice_at ts before p after choice (binding (names_in ts (before ++ after)) p) refl e (λ f. is_choice ts (before ++ p ∷ []) after choice f)
 
 -- a choice is a step of the calculus
 pub choice_step : (c : Configuration) (choice : Choice) → first_choice c.interface [] c.equations ≡ Some choice
