@@ -7,5 +7,6 @@ pub mod Configurations
 pub mod Headings
 pub mod Jobs
 pub mod Tables
+pub mod CodecFault
 pub mod Worked
 pub mod inner
