@@ -2,13 +2,13 @@
 use Rattle.std.proofs.Common.{◌≡◌, ◌↔◌, ℕ, zero, suc, ◌+◌, List, [], ◌∷◌, ◌++◌, Bool, true, false, cond, Option, None, Some, option_map, length, map, slice_get, refl, sym, ◌∙◌, ap, eq-eqb, length-append, inl, inr, arith}
 use Rattle.std.proofs.lemmas.Bool.{eqb-true}
 use Rattle.std.proofs.lemmas.List.{map-append, length-map}
-use Rattle.std.specs.List.{remove, zip}
+use Rattle.std.specs.List.{AllByRecursion, remove, zip}
 use Rattle.std.specs.Option.{option_map_or, option_to_list}
 use Rattle.ic_term.specs.Tree.{Tree, name, agent, Pair}
 use Rattle.ic_term.specs.Configuration.{Configuration, names_in}
 use Rattle.ic_settle.specs.Settling.{Binding, Choice, subst_pair, first_choice, settling_step, applied, settled}
 use Rattle.ic_settle.specs.NameSteps.{Binds}
-use Rattle.ic_settle.specs.Bindings.{is_name, replacement, replaced_by, replaced_in, replaced, bound_names, put_into, ReplacesFirst}
+use Rattle.ic_settle.specs.Bindings.{is_name, replacement, replaced_by, replaced_in, replaced, bound_names, put_into, IsSideIn, ReplacesFirst}
 use Rattle.ic_settle.specs.ChoiceLaws.{is_choice, binding_binds, settled-step, settled-stop}
 
 -- ---- lists
@@ -169,3 +169,59 @@ counted_in (suc n) c size = at (first_choice c.interface [] c.equations) refl (�
 
 pub replaced_count : (c : Configuration) → length (replaced c) + length (settled c).equations ≡ length c.equations
 replaced_count c = counted_in (length c.equations) c refl
+
+-- ---- terms as they were given
+
+either_side : (p : Pair) (ps : List Pair) (is : Bool) → IsSideIn (p ∷ ps) (cond is p.right p.left)
+either_side p ps true = inr (inl refl)
+either_side p ps false = inl refl
+
+later_sides : (p : Pair) (ps : List Pair) (bs : List Binding) → AllByRecursion (λ b. IsSideIn ps b.term) bs → AllByRecursion (λ b. IsSideIn (p ∷ ps) b.term) bs
+later_sides p ps [] all = tt
+later_sides p ps (b ∷ bs) all = (inr (inr all.0), later_sides p ps bs all.1)
+
+given_by : (x : ℕ) (es given : List Pair) (i : ℕ)
+    → AllByRecursion (λ b. IsSideIn given b.term) (option_to_list (option_map (replacement x) (slice_get (zip es given) i)))
+given_by x [] given i = tt
+given_by x (e ∷ es) [] i = tt
+given_by x (e ∷ es) (g ∷ given) zero = (either_side g given (is_name x e.left), tt)
+given_by x (e ∷ es) (g ∷ given) (suc i) =
+    later_sides g given (option_to_list (option_map (replacement x) (slice_get (zip es given) i))) (given_by x es given i)
+
+removed_side : (given : List Pair) (i : ℕ) (t : Tree) → IsSideIn (remove given i) t → IsSideIn given t
+removed_side [] zero t is = is
+removed_side [] (suc i) t is = is
+removed_side (p ∷ ps) zero t is = inr (inr is)
+removed_side (p ∷ ps) (suc i) t is = elim is [
+  | inl left ↦ inl left
+  | inr other ↦ elim other [
+    | inl right ↦ inr (inl right)
+    | inr later ↦ inr (inr (removed_side ps i t later))
+  ]
+]
+
+removed_sides : (given : List Pair) (i : ℕ) (bs : List Binding) → AllByRecursion (λ b. IsSideIn (remove given i) b.term) bs
+    → AllByRecursion (λ b. IsSideIn given b.term) bs
+removed_sides given i [] all = tt
+removed_sides given i (b ∷ bs) all = (removed_side given i b.term all.0, removed_sides given i bs all.1)
+
+both_parts : (given : List Pair) (bs ds : List Binding) → AllByRecursion (λ b. IsSideIn given b.term) bs → AllByRecursion (λ b. IsSideIn given b.term) ds
+    → AllByRecursion (λ b. IsSideIn given b.term) (bs ++ ds)
+both_parts given [] ds first second = second
+both_parts given (b ∷ bs) ds first second = (first.0, both_parts given bs ds first.1 second)
+
+given_in : (n : ℕ) (c : Configuration) (given : List Pair) → AllByRecursion (λ b. IsSideIn given b.term) (replaced_in n c given)
+given_in zero c given = tt
+given_in (suc n) c given = at (first_choice c.interface [] c.equations) (λ d g. given_in n d g)
+  where
+    at : (found : Option Choice) → ((d : Configuration) (g : List Pair) → AllByRecursion (λ b. IsSideIn g b.term) (replaced_in n d g))
+        → AllByRecursion (λ b. IsSideIn given b.term)
+        (option_map_or (λ ch. replaced_by c given ch ++ replaced_in n (applied c ch) (remove given (length ch.before))) found [])
+    at None rest = tt
+    at (Some ch) rest =
+        both_parts given (replaced_by c given ch) (replaced_in n (applied c ch) (remove given (length ch.before)))
+        (given_by ch.bound.name c.equations given (length ch.before))
+        (removed_sides given (length ch.before) _ (rest (applied c ch) (remove given (length ch.before))))
+
+pub replaced_sides : (c : Configuration) → AllByRecursion (λ b. IsSideIn c.equations b.term) (replaced c)
+replaced_sides c = given_in (length c.equations) c c.equations

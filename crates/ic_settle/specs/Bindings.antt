@@ -1,6 +1,6 @@
 -- What settling replaces: each name in its order, with the opposite side of the equation that is
 -- removed for it.
-use Rattle.std.specs.Prelude.{◌≡◌, ℕ, zero, suc, ◌==◌, List, [], ◌∷◌, ◌++◌, Bool, false, Option, length, map, slice_get, if◌then◌else◌}
+use Rattle.std.specs.Prelude.{◌≡◌, ℕ, zero, suc, ◌==◌, List, [], ◌∷◌, ◌++◌, Bool, false, Option, length, map, slice_get, if◌then◌else◌, ◌⊎◌}
 use Rattle.std.specs.List.{remove, zip}
 use Rattle.std.specs.Option.{option_map, option_map_or, option_to_list}
 use Rattle.ic_term.specs.declared.term.Term.{Term}
@@ -44,6 +44,11 @@ replaced c = replaced_in (length c.equations) c c.equations
 -- the names that bindings bind, in their order
 abbrev pub bound_names : List Binding → List ℕ
 bound_names bs = map (λ b. b.name) bs
+
+-- a term is a side of one of these equations
+abbrev pub IsSideIn : List Pair → Tree → Type 0
+IsSideIn [] t = ⊥
+IsSideIn (p ∷ ps) t = (t ≡ p.left) ⊎ ((t ≡ p.right) ⊎ IsSideIn ps t)
 
 -- a later binding, with the term of an earlier one put for its name
 abbrev pub put_into : Binding → Binding → Binding

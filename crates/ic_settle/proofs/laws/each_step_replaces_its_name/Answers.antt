@@ -1,4 +1,4 @@
-use Rattle.ic_settle.proofs.Replaced.{none_replaced, replaced_names, replaces_first, replaced_count}
+use Rattle.ic_settle.proofs.Replaced.{none_replaced, replaced_names, replaces_first, replaced_sides, replaced_count}
 use Rattle.ic_settle.proofs.laws.each_step_replaces_its_name.Goals as goal
 
 pub returns-clause-none : goal.returns-clause-none
@@ -9,6 +9,9 @@ returns-clause-names c = replaced_names
 
 pub returns-clause-terms : goal.returns-clause-terms
 returns-clause-terms c = replaces_first
+
+pub returns-clause-given : goal.returns-clause-given
+returns-clause-given c = replaced_sides
 
 pub returns-clause-count : goal.returns-clause-count
 returns-clause-count c = replaced_count
