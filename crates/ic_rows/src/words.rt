@@ -15,6 +15,7 @@ pub fn words(alloc: Global, line: &str) -> Result<Vec<u8>, Trouble> {
     let (name, text) = match read_words(alloc, &words) {
         Ok(Task::Settle) => ("settle", String::new(alloc)),
         Ok(Task::Once) => ("once", String::new(alloc)),
+        Ok(Task::Create { disk }) => ("create", disk),
         Ok(Task::Help(text)) => ("help", text),
         Ok(Task::Version(text)) => ("version", text),
         Err(WordsFault::Words(text)) => ("refused", text),

@@ -1,2 +1,3 @@
+pub mod DiskRefusals
 pub mod Faults
 pub mod Streams

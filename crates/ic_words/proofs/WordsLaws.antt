@@ -1,16 +1,20 @@
 -- What the parser's contract says of the program's words.
-use Rattle.std.proofs.Common.{◌≡◌, ◌≢◌, ℕ, List, [], ◌∷◌, Option, None, Some, true, codes, refl, sym, ◌∙◌, ap, ◌⊎◌, inl, inr}
-use Rattle.std.specs.Prelude.{option_map}
+use Rattle.std.proofs.Common.{◌≡◌, ◌≢◌, ℕ, List, [], ◌∷◌, Option, None, Some, true, codes, refl, sym, ◌∙◌, ap, ◌⊎◌, inl, inr, true≢false, ◌==◌, slice_index}
+use Rattle.std.specs.Prelude.{option_map, unwrap_or}
 use Rattle.std.specs.Borrow.{Bor}
-use Rattle.clap.specs.Words.{App, HasKind, HasMatchesOf, IsAmong, Kinds, fault_of, is_simple, is_simple_and_free, kind_of, subcommand_name_of, subcommand_of, subcommand_rows_of}
+use Rattle.clap.specs.Words.{App, HasKind, HasMatchesOf, IsAmong, Kinds, fault_of, first_of, is_simple, is_simple_and_free, kind_of, rows_of, subcommand_name_of, subcommand_of, subcommand_rows_of}
 use Rattle.clap.specs.Walk.{Row, Text}
 use Rattle.clap.specs.declared.error.Error.{Error}
 use Rattle.clap.specs.declared.error.ErrorKind.{ErrorKind}
 use Rattle.clap.specs.declared.error.ErrorKind.TheVariants.{DisplayHelp, DisplayVersion, OutOfMemory}
 use Rattle.clap.specs.declared.parser.matches.ArgMatches.{ArgMatches}
 use Rattle.clap.proofs.OnLiterals.{clap_on_literals}
-use Rattle.ic_words.specs.Words.{NamesCommand, command_line}
-use Rattle.ic_words.proofs.WordsExact.{OneCommand, one_command}
+use Rattle.clap.specs.Matches.{first_value}
+use Rattle.clap.specs.Simple.{built, entered}
+use Rattle.clap.specs.declared.parser.matches.Found.{Found}
+use Rattle.clap.proofs.WalkLemmas.{first_value-rows}
+use Rattle.ic_words.specs.Words.{BeginsWith, NamesCommand, command_line, value_met}
+use Rattle.ic_words.proofs.WordsExact.{OneCommand, create_stops, one_command}
 
 command_line_simple : is_simple_and_free command_line ≡ true
 unfolding clap_on_literals
@@ -98,13 +102,18 @@ option_map_twice f g (Some x) = refl
 name_of_rows : (m : ArgMatches) → option_map (λ (p : Text × List Row). p.0) (subcommand_rows_of m) ≡ subcommand_name_of m
 name_of_rows m = option_map_twice _ _ _
 
+create_met : (words : List Text) → BeginsWith (codes "create") words → command_of words ≡ Some (codes "create")
+create_met words begins = ap command_of begins.1 ∙ ap (λ s. option_map (λ (p : Text × List Row). p.0) (entered (built command_line) s)) (create_stops begins.0)
+
 -- the words name a command, which is the one that the parser met
 abbrev pub Met : List Text → Option Text → Type 0
-Met words met = (NamesCommand (codes "settle") words × (met ≡ Some (codes "settle"))) ⊎ (NamesCommand (codes "once") words × (met ≡ Some (codes "once")))
+Met words met = (NamesCommand (codes "settle") words × (met ≡ Some (codes "settle")))
+    ⊎ ((NamesCommand (codes "once") words × (met ≡ Some (codes "once"))) ⊎ (BeginsWith (codes "create") words × (met ≡ Some (codes "create"))))
 
 met_by : (words : List Text) (met : Option Text) → OneCommand words → met ≡ command_of words → Met words met
 met_by words met (inl settle) is = inl (settle, is ∙ names_met (codes "settle") words settle_met settle)
-met_by words met (inr once) is = inr (once, is ∙ names_met (codes "once") words once_met once)
+met_by words met (inr (inl once)) is = inr (inl (once, is ∙ names_met (codes "once") words once_met once))
+met_by words met (inr (inr create)) is = inr (inr (create, is ∙ create_met words create))
 
 -- words of which matches are made
 pub command_met : (app : App) (words : List Text) (m : ArgMatches) → app ≡ command_line → (is_simple_and_free app ≡ true → fault_of app words ≡ [])
@@ -113,28 +122,79 @@ command_met app words m is fails matches =
     let rows = (matches (ap is_simple is ∙ simple)).1 ∙ ap (λ a. subcommand_of a words) is in
     met_by words _ (one_command words (none_made app words is fails)) (sym (name_of_rows m) ∙ ap (option_map (λ (p : Text × List Row). p.0)) rows)
 
+-- the rows of the command that the parser met
+pub rows_met : (app : App) (words : List Text) (m : ArgMatches) → app ≡ command_line → HasMatchesOf app words m
+    → subcommand_rows_of m ≡ subcommand_of command_line words
+rows_met app words m is matches = (matches (ap is_simple is ∙ simple)).1 ∙ ap (λ a. subcommand_of a words) is
+
+-- the name that was read is that of the command that was met
+same_name : (name : Option (Bor Text)) (x : Bor Text) (met : Option Text) (one other : Text)
+    → option_map (λ s. s.now) name ≡ met → name ≡ Some x → x.now ≡ one → met ≡ Some other → Some one ≡ Some other
+same_name name x met one other shown is same was = ap Some (sym same) ∙ sym (ap (option_map (λ s. s.now)) is) ∙ shown ∙ was
+
+-- these names begin with other letters
+pub settle_or_create : Some (codes "settle") ≡ Some (codes "create") → ⊥
+settle_or_create e = true≢false (ap (λ (o : Option Text). slice_index (unwrap_or o []) 0 == 115) e)
+
+pub once_or_create : Some (codes "once") ≡ Some (codes "create") → ⊥
+once_or_create e = true≢false (ap (λ (o : Option Text). slice_index (unwrap_or o []) 0 == 111) e)
+
 -- the command of this name was met
 pub settle_named : (words : List Text) (met : Option Text) (name : Option (Bor Text)) (x : Bor Text) → Met words met
     → option_map (λ s. s.now) name ≡ met → name ≡ Some x → x.now ≡ codes "settle" → NamesCommand (codes "settle") words
 settle_named words met name x (inl named) shown is same = named.0
-settle_named words met name x (inr named) shown is same =
-    absurd (let e : Some (codes "settle") ≡ Some (codes "once") = ap Some (sym same) ∙ sym (ap (option_map (λ s. s.now)) is) ∙ shown ∙ named.1 in cc)
+settle_named words met name x (inr (inl named)) shown is same = absurd (let e = same_name name x met _ _ shown is same named.1 in cc)
+settle_named words met name x (inr (inr named)) shown is same = absurd (settle_or_create (same_name name x met _ _ shown is same named.1))
 
 pub once_named : (words : List Text) (met : Option Text) (name : Option (Bor Text)) (x : Bor Text) → Met words met
     → option_map (λ s. s.now) name ≡ met → name ≡ Some x → x.now ≡ codes "once" → NamesCommand (codes "once") words
-once_named words met name x (inr named) shown is same = named.0
-once_named words met name x (inl named) shown is same =
-    absurd (let e : Some (codes "once") ≡ Some (codes "settle") = ap Some (sym same) ∙ sym (ap (option_map (λ s. s.now)) is) ∙ shown ∙ named.1 in cc)
+once_named words met name x (inl named) shown is same = absurd (let e = same_name name x met _ _ shown is same named.1 in cc)
+once_named words met name x (inr (inl named)) shown is same = named.0
+once_named words met name x (inr (inr named)) shown is same = absurd (let e = same_name name x met _ _ shown is same named.1 in cc)
+
+pub create_named : (words : List Text) (met : Option Text) (name : Option (Bor Text)) (x : Bor Text) → Met words met
+    → option_map (λ s. s.now) name ≡ met → name ≡ Some x → x.now ≡ codes "create" → BeginsWith (codes "create") words
+create_named words met name x (inl named) shown is same = absurd (settle_or_create (sym (same_name name x met _ _ shown is same named.1)))
+create_named words met name x (inr (inl named)) shown is same = absurd (let e = same_name name x met _ _ shown is same named.1 in cc)
+create_named words met name x (inr (inr named)) shown is same = named.0
 
 -- no other command was met, and one was met
-pub none_other : (words : List Text) (met : Option Text) (name : Option (Bor Text)) → Met words met
-    → option_map (λ s. s.now) name ≡ met → ((x : Bor Text) → name ≡ Some x → (x.now ≢ codes "settle") × (x.now ≢ codes "once")) → ⊥
+pub none_other : (words : List Text) (met : Option Text) (name : Option (Bor Text)) → Met words met → option_map (λ s. s.now) name ≡ met
+    → ((x : Bor Text) → name ≡ Some x → (x.now ≢ codes "settle") × (x.now ≢ codes "once") × (x.now ≢ codes "create")) → ⊥
 none_other words met None (inl named) shown other = let e = shown ∙ named.1 in cc
-none_other words met None (inr named) shown other = let e = shown ∙ named.1 in cc
+none_other words met None (inr (inl named)) shown other = let e = shown ∙ named.1 in cc
+none_other words met None (inr (inr named)) shown other = let e = shown ∙ named.1 in cc
 none_other words met (Some x) (inl named) shown other = (other x refl).0 (let e = shown ∙ named.1 in cc)
-none_other words met (Some x) (inr named) shown other = (other x refl).1 (let e = shown ∙ named.1 in cc)
+none_other words met (Some x) (inr (inl named)) shown other = (other x refl).1 (let e = shown ∙ named.1 in cc)
+none_other words met (Some x) (inr (inr named)) shown other = (other x refl).2 (let e : Some x.now ≡ Some (codes "create") = shown ∙ named.1 in cc)
 
 -- words that name one command aren't another one alone
 pub no_other_alone : (one other : Text) (words : List Text) → NamesCommand one words → words ≡ other ∷ [] → one ≡ other
 no_other_alone one other words (inl alone) is = cc
 no_other_alone one other words (inr dashed) is = cc
+
+-- nor are words that begin with another
+pub begins_otherwise : (one other : Text) (words : List Text) → BeginsWith one words → words ≡ other ∷ [] → one ≡ other
+begins_otherwise one other words begins is = let e = begins.1 in cc
+
+-- ---- the value of an option
+
+value_of_rows : (option : Text) (met : Option (Text × List Row)) (rows : List Row)
+    → Some rows ≡ option_map (λ (p : Text × List Row). p.1) met → value_met option met ≡ unwrap_or (first_of option rows) []
+value_of_rows option None rows is = cc
+value_of_rows option (Some p) rows is = let e : rows ≡ p.1 = cc in ap (λ r. unwrap_or (first_of option r) []) (sym e)
+
+text_or_none : (read : Option (Bor Text)) (none : Bor Text) → none.now ≡ [] → (unwrap_or read none).now ≡ unwrap_or (option_map (λ s. s.now) read) []
+text_or_none None none is = is
+text_or_none (Some text) none is = refl
+
+-- the text of the option's value in the matches of a command, whose rows these are
+pub value_read : (option : Text) (met : Option (Text × List Row)) (found : Found) (read : Option (Bor Text)) (none : Bor Text)
+    → none.now ≡ [] → Some (rows_of found) ≡ option_map (λ (p : Text × List Row). p.1) met
+    → option_map (λ s. s.now) read ≡ first_value found option → (unwrap_or read none).now ≡ value_met option met
+value_read option met found read none empty rows is =
+    text_or_none read none empty ∙ ap (λ o. unwrap_or o []) (is ∙ first_value-rows found option) ∙ sym (value_of_rows option met (rows_of found) rows)
+
+pub value_missing : (option : Text) (met : Option (Text × List Row)) → None ≡ option_map (λ (p : Text × List Row). p.1) met → [] ≡ value_met option met
+value_missing option None is = refl
+value_missing option (Some p) is = cc

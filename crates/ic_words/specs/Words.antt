@@ -1,12 +1,14 @@
 -- What the words after the program's name ask for (this project's choice).
 use Rattle.std.specs.Prelude.{◌≡◌, ◌≢◌, ◌⊎◌, ℕ, List, [], ◌∷◌, ◌++◌, Result, Ok, Err, true}
-use Rattle.std.specs.Prelude.{codes, string_bytes}
-use Rattle.clap.specs.Words.{App, IsAmong, Kinds, Shape, new_app, with_subcommand}
+use Rattle.std.specs.Prelude.{codes, string_bytes, Option, Some, unwrap_or, option_and_then}
+use Rattle.clap.specs.Words.{App, IsAmong, Kinds, Row, Rule, Shape, Text, first_of, new_app}
+use Rattle.clap.specs.Words.{new_rule, subcommand_of, with_rule, with_subcommand}
 use Rattle.clap.specs.Simple.{on_top}
 use Rattle.clap.specs.declared.error.ErrorKind.{ErrorKind}
 use Rattle.clap.specs.declared.error.ErrorKind.TheVariants.{DisplayHelp, DisplayVersion}
 use Rattle.ic_words.specs.declared.words.Task.{Task}
-use Rattle.ic_words.specs.declared.words.Task.TheVariants.{Settle, Once, Help, Version}
+use Rattle.ic_words.specs.declared.words.Task.TheVariants.{Settle, Once, Create, Help}
+use Rattle.ic_words.specs.declared.words.Task.TheVariants.{Version}
 use Rattle.ic_words.specs.declared.words.WordsFault.{WordsFault}
 use Rattle.ic_words.specs.declared.words.WordsFault.TheVariants.{Words, Memory}
 
@@ -24,10 +26,21 @@ with_settings s = record s {
 abbrev pub program : App
 program = on_top with_settings (new_app (codes "icserve"))
 
--- the command line of the program, whose commands are `settle` and `once`
+-- the option `--disk F`, which has to be given
+abbrev pub disk_option : Rule
+disk_option = record (new_rule (codes "disk")) {
+  long = Some (codes "disk");
+  value_names = 1;
+  required = true;
+}
+
+abbrev pub create_command : App
+create_command = with_rule (new_app (codes "create")) disk_option
+
+-- the command line of the program, whose commands are `settle`, `once` and `create`
 abbrev pub command_line : App
-command_line = with_subcommand (with_subcommand program (new_app (codes "settle")).top)
-    (new_app (codes "once")).top
+command_line = with_subcommand (with_subcommand (with_subcommand program
+    (new_app (codes "settle")).top) (new_app (codes "once")).top) create_command.top
 
 -- the line that tells the version
 abbrev pub version_line : List ℕ
@@ -38,6 +51,7 @@ version_line = codes "icserve 0.1.0" ++ 10 ∷ []
 abbrev pub AnswersWords : Kinds → Result Task WordsFault → Type 0
 AnswersWords mistakes (Ok Settle) = mistakes ≡ []
 AnswersWords mistakes (Ok Once) = mistakes ≡ []
+AnswersWords mistakes (Ok (Create disk)) = mistakes ≡ []
 AnswersWords mistakes (Ok (Help text)) = IsAmong DisplayHelp mistakes
 AnswersWords mistakes (Ok (Version text)) =
     IsAmong DisplayVersion mistakes × (string_bytes text ≡ version_line)
@@ -67,9 +81,19 @@ GivesVersion _ = ⊥
 abbrev pub NamesCommand : List ℕ → List (List ℕ) → Type 0
 NamesCommand command words = (words ≡ command ∷ []) ⊎ (words ≡ command ∷ (45 ∷ 45 ∷ []) ∷ [])
 
+-- the value of an option of a command that is met, or no text where it has none
+abbrev pub value_met : Text → Option (Text × List Row) → Text
+value_met option met = unwrap_or (option_and_then (λ p. first_of option p.1) met) []
+
+-- the first of the words is this command
+abbrev pub BeginsWith : List ℕ → List (List ℕ) → Type 0
+BeginsWith command words = (rest : List (List ℕ)) × (words ≡ command ∷ rest)
+
 -- the words name the task
 abbrev pub Names : List (List ℕ) → Task → Type 0
 Names words Settle = NamesCommand (codes "settle") words
 Names words Once = NamesCommand (codes "once") words
+Names words (Create disk) = BeginsWith (codes "create") words
+    × (string_bytes disk ≡ value_met (codes "disk") (subcommand_of command_line words))
 Names words (Help text) = Unit {0}
 Names words (Version text) = Unit {0}

@@ -1,12 +1,13 @@
 //! The words after the program's name.
 
-ghost use Rattle.std.specs.Prelude.{◌≡◌, map, IfOk, codes, [], ◌∷◌, string_bytes};
-ghost use Rattle.clap.specs.Words.{app_of, fault_of};
+ghost use Rattle.std.specs.Prelude.{◌≡◌, false, map, IfOk, codes, [], ◌∷◌, string_bytes};
+ghost use Rattle.clap.specs.Words.{app_of, fault_of, subcommand_rows_of};
+ghost use Rattle.clap.specs.declared.builder.command.Command.TheViews.{out-Command};
 ghost use Rattle.ic_words.specs.Words.{AnswersWords, GivesHelp, GivesTask, GivesVersion, Names};
-ghost use Rattle.ic_words.specs.Words.{command_line};
+ghost use Rattle.ic_words.specs.Words.{command_line, create_command, value_met};
 
-use clap::Command;
 use clap::error::ErrorKind;
+use clap::{Arg, ArgMatches, Command};
 use std::alloc::{AllocError, AllocFailed, Global};
 
 /// The version of the program.
@@ -19,6 +20,11 @@ pub enum Task {
     Settle,
     /// Make one round of the system on standard input.
     Once,
+    /// Make a file an empty disk.
+    Create {
+        /// The path of the file.
+        disk: String,
+    },
     /// Show this help.
     Help(String),
     /// Show this line, which tells the version.
@@ -59,6 +65,10 @@ pub fn read_words(alloc: Global, words: &[String]) -> Result<Task, WordsFault>
         Ok(matches) => match matches.subcommand_name() {
             Some("settle") => Ok(Task::Settle),
             Some("once") => Ok(Task::Once),
+            Some("create") => {
+                let disk = String::from_str(alloc, value_of(&matches, "disk"))?;
+                Ok(Task::Create { disk })
+            }
             _ => unreachable!(),
         },
         Err(error) => match error.kind() {
@@ -72,6 +82,31 @@ pub fn read_words(alloc: Global, words: &[String]) -> Result<Task, WordsFault>
     }
 }
 
+/// The value of an option of the command that was met, or no text where it has none.
+fn value_of<'a>(matches: &ArgMatches<'a>, option: &str) -> &'a str
+    ensures { result.now ≡ value_met option.now (subcommand_rows_of matches.now) }
+{
+    match matches.subcommand() {
+        Some((_, met)) => met.get_str(option).unwrap_or(""),
+        None => "",
+    }
+}
+
+/// The command that makes a file an empty disk.
+fn create_command<'a>(alloc: Global) -> Result<Command<'a>, AllocError>
+    ensures shape { IfOk result (λ command. app_of command ≡ create_command) }
+    ensures local { IfOk result (λ command. (out-Command command).has_globals ≡ false) }
+{
+    let disk = Arg::new(alloc, "disk")
+        .long("disk")
+        .value_name("F")
+        .required(true)
+        .help("The path of the file, which is made where it is missing");
+    Command::new(alloc, "create")
+        .about("Makes the file F an empty disk, whatever it held")
+        .arg(disk)
+}
+
 /// The program's command line.
 fn command<'a>(alloc: Global) -> Result<Command<'a>, AllocError>
     ensures { IfOk result (λ command. app_of command ≡ command_line) }
@@ -82,6 +117,7 @@ fn command<'a>(alloc: Global) -> Result<Command<'a>, AllocError>
     let once = Command::new(alloc, "once").about(
         "Makes one round of the system on standard input and prints the configuration",
     );
+    let create = create_command(alloc)?;
     Command::new(alloc, "icserve")
         .bin_name("icserve")?
         .about("A job server for the interaction calculus")
@@ -90,5 +126,6 @@ fn command<'a>(alloc: Global) -> Result<Command<'a>, AllocError>
         .disable_help_subcommand(true)
         .subcommand_required(true)
         .subcommand(settle)?
-        .subcommand(once)
+        .subcommand(once)?
+        .subcommand(create)
 }

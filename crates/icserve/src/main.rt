@@ -1,17 +1,16 @@
 //! The program `icserve`: a job server for the interaction calculus.
 #![tactic(auto)]
 
-use ic_serve::{StreamFault, Task, WordsFault, once_stream, read_words, settle_stream};
+use ic_disk::FileDisk;
+use ic_serve::{DiskRefused, StreamFault, Task, WordsFault};
+use ic_serve::{once_stream, read_words, settle_stream};
 use std::env;
 use std::io::{self, ErrorKind, Write};
 use std::process::ExitCode;
 
 fn main(rt: HostRuntime) -> ExitCode {
     match task(&rt) {
-        Ok(task) => match run(&rt, task) {
-            Ok(()) => ExitCode::SUCCESS,
-            Err(fault) => refuse(&rt, fault),
-        },
+        Ok(task) => run(&rt, task),
         Err(WordsFault::Words(text)) => {
             let _ = eprint!(rt; "{text}");
             ExitCode::from(2)
@@ -34,14 +33,37 @@ fn task(rt: &HostRuntime) -> Result<Task, WordsFault> {
     read_words(alloc, &words)
 }
 
-/// Does a task on standard input and output.
-fn run(rt: &HostRuntime, task: Task) -> Result<(), StreamFault> {
+/// Opens the file of this path, which is made where it is missing, and puts the empty table on it.
+fn create(rt: &HostRuntime, path: &str) -> Result<(), DiskRefused> {
+    let mut disk = FileDisk::open(rt, path, true)?;
+    ic_slots::create(rt.alloc(), &mut disk)?;
+    Ok(())
+}
+
+/// Does a task, on standard input and output but for `create`.
+fn run(rt: &HostRuntime, task: Task) -> ExitCode {
     let mut input = rt.reader();
     let mut output = io::writer(rt);
-    match task {
+    let ended = match task {
         Task::Settle => settle_stream(rt.alloc(), &mut input, &mut output),
         Task::Once => once_stream(rt.alloc(), &mut input, &mut output),
+        Task::Create { disk } => return create_status(rt, disk.as_str()),
         Task::Help(text) | Task::Version(text) => show(&mut output, text.as_str()),
+    };
+    match ended {
+        Ok(()) => ExitCode::SUCCESS,
+        Err(fault) => refuse(rt, fault),
+    }
+}
+
+/// Makes the file of this path an empty disk, and says why it can't be.
+fn create_status(rt: &HostRuntime, path: &str) -> ExitCode {
+    match create(rt, path) {
+        Ok(()) => ExitCode::SUCCESS,
+        Err(refused) => {
+            let _ = eprint!(rt; "{}", refused.line());
+            ExitCode::from(refused.status())
+        }
     }
 }
 

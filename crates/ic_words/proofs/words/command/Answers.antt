@@ -13,4 +13,6 @@ returns c =
     let once : app_of c.about-once.result ≡ new_app (codes "once") = search rules in
     let program = set ∙ ap (on_top with_settings) named in
     let first = c.in_ok-subcommand.ensures.shape (search rules) ∙ ap₂ with_subcommand program (ap (λ (a : App). a.top) settle) in
-    IfOk-weaker c.subcommand-2.result _ _ (λ command h. h.shape (search rules) ∙ ap₂ with_subcommand first (ap (λ (a : App). a.top) once)) c.subcommand-2.ensures
+    let second = c.in_ok-subcommand-2.ensures.shape (search rules) ∙ ap₂ with_subcommand first (ap (λ (a : App). a.top) once) in
+    let create = c.in_ok-create.ensures in
+    IfOk-weaker c.subcommand-3.result _ _ (λ command h. h.shape create.local ∙ ap₂ with_subcommand second (ap (λ (a : App). a.top) create.shape)) c.subcommand-3.ensures

@@ -1,5 +1,7 @@
-use Rattle.std.proofs.Common.{◌≡◌, ◌∙◌, sym, codes}
-use Rattle.ic_words.proofs.WordsLaws.{mistake_made, none_made, taken_alone, settle_taken, once_taken, help_asked, version_asked, asked_alone, asked_not_taken, command_met, settle_named, once_named, none_other, no_other_alone}
+use Rattle.std.proofs.Common.{◌≡◌, ◌∙◌, sym, ap, codes, Some, rules}
+use Rattle.std.specs.Prelude.{string_bytes}
+use Rattle.ic_words.specs.Words.{value_met}
+use Rattle.ic_words.proofs.WordsLaws.{create_named, rows_met, settle_or_create, once_or_create, begins_otherwise, mistake_made, none_made, taken_alone, settle_taken, once_taken, help_asked, version_asked, asked_alone, asked_not_taken, command_met, settle_named, once_named, none_other, no_other_alone}
 use Rattle.ic_words.proofs.words.read_words.Goals.{in_default-via-in-Some+in_default, in_default-via-in_default}
 use Rattle.ic_words.proofs.words.read_words.Goals as goal
 
@@ -39,13 +41,29 @@ pub returns-in-Some-once-clause-settle : goal.returns-in-Some-once-clause-settle
 returns-in-Some-once-clause-settle c = λ is.
     (let e : codes "once" ≡ codes "settle" = no_other_alone _ _ _ (returns-in-Some-once-clause-named c) is in cc)
 
+pub returns-in-Some-create : goal.returns-in-Some-create
+returns-in-Some-create c =
+    let none = none_made _ _ c.in_ok-command.ensures c.in-Ok.ensures.kinds in
+    let met = command_met _ _ c.in-Ok.matches c.in_ok-command.ensures c.in-Ok.ensures.kinds c.in-Ok.ensures.matches in
+    let begins = create_named _ _ _ c.in-Some-create.field-0 met c.subcommand_name.ensures c.in-Some-create.is c.in-Some-create.is-create in
+    let rows = rows_met _ _ c.in-Ok.matches c.in_ok-command.ensures c.in-Ok.ensures.matches in
+    let text : string_bytes c.in_ok-disk-in-Some-create.disk ≡ c.value_of.result.now = search rules in
+    record {
+      answers = none;
+      named = (begins, text ∙ c.value_of.ensures ∙ ap (value_met (codes "disk")) rows);
+      settle = λ is. absurd (settle_or_create (ap Some (sym (begins_otherwise _ _ _ begins is))));
+      once = λ is. absurd (once_or_create (ap Some (sym (begins_otherwise _ _ _ begins is))));
+      help = λ is. absurd (asked_not_taken _ _ _ help_asked is none);
+      version = λ is. absurd (asked_not_taken _ _ _ version_asked is none);
+    }
+
 pub unreachable-requires : goal.unreachable-requires
 unreachable-requires c =
     let met = command_met _ _ c.in-Ok.matches c.in_ok-command.ensures c.in-Ok.ensures.kinds c.in-Ok.ensures.matches in
     let name = c.subcommand_name.result in
     elim c.in_default.branch [
       | in_default-via-in-Some+in_default w ↦ none_other _ _ name met c.subcommand_name.ensures
-          (λ x is. (λ e. w.in_default.not-settle cc, λ e. w.in_default.not-once cc))
+          (λ x is. (λ e. w.in_default.not-settle cc, λ e. w.in_default.not-once cc, λ e. w.in_default.not-create cc))
       | in_default-via-in_default w ↦ none_other _ _ name met c.subcommand_name.ensures (λ x is. cc)
     ]
 
