@@ -14,7 +14,7 @@ const SECOND_SLOT: usize = 4_194_304;
 const HEAD: usize = 13;
 
 /// The disk without its bytes from this place on.
-pub fn cut(alloc: Global, disk: &MemDisk, length: usize) -> Result<MemDisk, Trouble> {
+fn cut(alloc: Global, disk: &MemDisk, length: usize) -> Result<MemDisk, Trouble> {
     let mut bytes = disk.bytes().to_vec(alloc)?;
     bytes.truncate(length);
     Ok(MemDisk::from_bytes(bytes))
@@ -31,12 +31,7 @@ fn bytes_of(alloc: Global, digits: &str) -> Result<Vec<u8>, AllocError> {
 }
 
 /// The disk with these bytes, in hexadecimal digits, at this place.
-pub fn with_bytes(
-    alloc: Global,
-    disk: &MemDisk,
-    at: usize,
-    digits: &str,
-) -> Result<MemDisk, Trouble> {
+fn with_bytes(alloc: Global, disk: &MemDisk, at: usize, digits: &str) -> Result<MemDisk, Trouble> {
     let mut bytes = disk.bytes().to_vec(alloc)?;
     for (place, byte) in bytes_of(alloc, digits)?.iter().enumerate() {
         match bytes.get_mut(at.saturating_add(place)) {
@@ -48,7 +43,7 @@ pub fn with_bytes(
 }
 
 /// What a crash leaves of it: by these words, or by this choice where there are none.
-pub fn crashed(disk: MemDisk, words: &str, choice: Choice) -> Result<MemDisk, Trouble> {
+fn crashed(disk: MemDisk, words: &str, choice: Choice) -> Result<MemDisk, Trouble> {
     if words.is_empty() {
         return Ok(disk.crash(choice)?);
     }
@@ -56,6 +51,24 @@ pub fn crashed(disk: MemDisk, words: &str, choice: Choice) -> Result<MemDisk, Tr
         return Err(Trouble("no such crash"));
     };
     Ok(disk.crash(choice)?)
+}
+
+/// What becomes of a disk by the word `cut LENGTH`, `put PLACE BYTES` or `crash CHOICE`; a crash of which nothing is said
+/// takes this choice.
+pub fn changed(
+    alloc: Global,
+    disk: MemDisk,
+    verb: &str,
+    rest: &str,
+    choice: Choice,
+) -> Result<MemDisk, Trouble> {
+    let (first, behind) = rest.split_once(' ').unwrap_or((rest, ""));
+    let place = usize::from_str_radix(first, 10).unwrap_or(0);
+    match verb {
+        "cut" => cut(alloc, &disk, place),
+        "put" => with_bytes(alloc, &disk, place, behind),
+        _ => crashed(disk, rest, choice),
+    }
 }
 
 /// A number that stands in bytes, the greatest byte first.

@@ -20,37 +20,41 @@ pub fn answer(alloc: Global, row: &Row) -> Result<Vec<u8>, Trouble> {
     }
 }
 
-/// What each word of a script is answered.
-fn book(alloc: Global, text: &str) -> Result<Vec<u8>, Trouble> {
-    let mut session = Session::new(alloc, Choice::Synced);
-    let mut line = Vec::new(alloc);
-    for (place, word) in text.split(" ; ").enumerate() {
-        if place > 0 {
-            line.extend_from_slice(b" ; ")?;
-        }
-        line.append(&mut session.answer(word)?)?;
+/// What each word of a script is answered, where a crash of which nothing is said takes this choice.
+fn answers(alloc: Global, text: &str, choice: Choice) -> Result<Vec<Vec<u8>>, Trouble> {
+    let mut session = Session::new(alloc, choice);
+    let mut lines = Vec::new(alloc);
+    for word in text.split(" ; ") {
+        lines.push(session.answer(word)?)?;
     }
-    Ok(line)
+    Ok(lines)
 }
 
-/// What the last word of a script is answered, with this choice of a crash.
-fn last(alloc: Global, text: &str, choice: Choice) -> Result<Vec<u8>, Trouble> {
-    let mut session = Session::new(alloc, choice);
-    let mut line = Vec::new(alloc);
-    for word in text.split(" ; ") {
-        line = session.answer(word)?;
+/// The answers in one line.
+fn joined(alloc: Global, lines: &[Vec<u8>]) -> Result<Vec<u8>, Trouble> {
+    let mut all = Vec::new(alloc);
+    for (place, line) in lines.iter().enumerate() {
+        if place > 0 {
+            all.extend_from_slice(b" ; ")?;
+        }
+        all.extend_from_slice(line)?;
     }
-    Ok(line)
+    Ok(all)
+}
+
+/// What each word of a script is answered.
+fn book(alloc: Global, text: &str) -> Result<Vec<u8>, Trouble> {
+    joined(alloc, &answers(alloc, text, Choice::Synced)?)
 }
 
 /// What the last word of a script is answered, with each choice of a crash.
 fn crashes(alloc: Global, text: &str) -> Result<Vec<u8>, Trouble> {
-    let mut line = Vec::new(alloc);
-    for (place, choice) in CHOICES.iter().enumerate() {
-        if place > 0 {
-            line.extend_from_slice(b" ; ")?;
+    let mut lines = Vec::new(alloc);
+    for choice in CHOICES {
+        match answers(alloc, text, *choice)?.pop() {
+            Some(last) => lines.push(last)?,
+            None => return Err(Trouble("no word")),
         }
-        line.append(&mut last(alloc, text, *choice)?)?;
     }
-    Ok(line)
+    joined(alloc, &lines)
 }

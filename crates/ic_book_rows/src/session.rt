@@ -1,7 +1,7 @@
 //! A book on a disk in memory, driven word by word.
 
 use crate::faults::{book_fault, create_fault, open_cause};
-use crate::medium::{crashed, cut, opening_calls, slot, with_bytes};
+use crate::medium::{changed, opening_calls, slot};
 use crate::plain::round_of;
 use ic_desk::{Book, BookFault};
 use ic_disk::{Blow, Choice, FuseDisk, MemDisk, Then};
@@ -58,7 +58,8 @@ impl Session {
         let (verb, rest) = word.split_once(' ').unwrap_or((word, ""));
         match verb {
             "create" => self.create(),
-            "cut" | "put" | "slot" | "crash" => self.on_disk(verb, rest),
+            "cut" | "put" | "crash" => self.change(verb, rest),
+            "slot" => self.slot(rest),
             "fuse" | "opening" => self.lay_fuse(verb, rest),
             "open" => self.open(),
             "close" => self.close(),
@@ -96,22 +97,19 @@ impl Session {
         }
     }
 
-    fn on_disk(&mut self, verb: &str, rest: &str) -> Result<Vec<u8>, Trouble> {
+    fn change(&mut self, verb: &str, rest: &str) -> Result<Vec<u8>, Trouble> {
         let Some(disk) = self.disk.take() else {
             return Err(Trouble("no disk"));
         };
-        let (first, behind) = rest.split_once(' ').unwrap_or((rest, ""));
-        if verb == "slot" {
-            let line = slot(self.alloc, &disk, first == "1");
-            self.disk = Some(disk);
-            return line;
-        }
-        self.disk = Some(match verb {
-            "cut" => cut(self.alloc, &disk, number(first))?,
-            "put" => with_bytes(self.alloc, &disk, number(first), behind)?,
-            _ => crashed(disk, rest, self.choice)?,
-        });
+        self.disk = Some(changed(self.alloc, disk, verb, rest, self.choice)?);
         self.said("ok")
+    }
+
+    fn slot(&self, number: &str) -> Result<Vec<u8>, Trouble> {
+        match &self.disk {
+            Some(disk) => slot(self.alloc, disk, number == "1"),
+            None => Err(Trouble("no disk")),
+        }
     }
 
     fn lay_fuse(&mut self, verb: &str, rest: &str) -> Result<Vec<u8>, Trouble> {
@@ -275,8 +273,7 @@ impl Session {
     fn due(&mut self, after: usize) -> Result<Vec<u8>, Trouble> {
         match self.book()?.due(after) {
             Ok(Some(flight)) => {
-                let mut line = Vec::from_slice(self.alloc, flight.name().as_bytes())?;
-                line.extend_from_slice(format!(in self.alloc; " {}", flight.place())?.as_bytes())?;
+                let line = taken(self.alloc, &flight)?;
                 self.flights.push(flight)?;
                 Ok(line)
             }
@@ -303,6 +300,14 @@ impl Session {
             },
         }
     }
+}
+
+/// The name and the place of a flight.
+fn taken(alloc: Global, flight: &Flight) -> Result<Vec<u8>, Trouble> {
+    let mut line = Vec::from_slice(alloc, flight.name().as_bytes())?;
+    let place = flight.place();
+    line.extend_from_slice(format!(in alloc; " {place}")?.as_bytes())?;
+    Ok(line)
 }
 
 /// A number in decimal.

@@ -1,4 +1,4 @@
-//! A drawn history on a book, stopped before every call to the disk, and opened again.
+//! A drawn history on a book, stopped before every call to the disk, opened again, played on, and stopped again.
 
 use crate::choices::CHOICES;
 use crate::drawn::{History, Step, drawn_history};
@@ -6,7 +6,7 @@ use crate::medium::created;
 use crate::plain::{command_of, round_of};
 use ic_desk::{Book, BookFault, OpenCause};
 use ic_disk::{Blow, Choice, FuseDisk, MemDisk, Then};
-use ic_jobs::Landed;
+use ic_jobs::{Landed, Table};
 use ic_notation::Trouble;
 use ic_text::print_reply;
 use std::alloc::Global;
@@ -16,6 +16,9 @@ const EVENTS: u32 = 200;
 
 /// More calls than a history makes.
 const CALLS: u64 = 10_000;
+
+/// The second life is stopped before one of so many calls.
+const SECOND_CALLS: u64 = 60;
 
 /// How far a book came before it was stopped: so many entries up to the last command that was answered, and so many in all.
 #[derive(Drop)]
@@ -60,12 +63,17 @@ fn round(alloc: Global, book: &mut Book<FuseDisk>, after: usize) -> Result<(), T
     }
 }
 
-/// Plays a history on a book, until the disk fails.
-fn played(alloc: Global, mut book: Book<FuseDisk>, history: &History) -> Result<Stop, Trouble> {
-    let mut answered = 0usize;
-    let mut made = 0usize;
+/// Plays the events of a history behind the first so many on a book, until the disk fails.
+fn played(
+    alloc: Global,
+    mut book: Book<FuseDisk>,
+    history: &History,
+    from: usize,
+) -> Result<Stop, Trouble> {
+    let mut answered = from;
+    let mut made = from;
     let mut stopped = false;
-    for one in &history.steps {
+    for one in history.steps.get(from..).unwrap_or(&[]) {
         made = made.saturating_add(1);
         match step(alloc, &mut book, one)? {
             Some(true) => answered = made,
@@ -85,16 +93,21 @@ fn played(alloc: Global, mut book: Book<FuseDisk>, history: &History) -> Result<
     })
 }
 
-/// Plays a history on a disk with these bytes, of which this call and all later ones fail.
-fn stopped(alloc: Global, history: &History, start: &[u8], call: u64) -> Result<Stop, Trouble> {
-    let disk = MemDisk::from_bytes(start.to_vec(alloc)?);
+/// One life on a disk that holds the table of the first so many events: this call to it and all later ones fail.
+fn life(
+    alloc: Global,
+    history: &History,
+    disk: MemDisk,
+    from: usize,
+    call: u64,
+) -> Result<Stop, Trouble> {
     match Book::open(alloc, FuseDisk::new(disk, call, Blow::Before, Then::Stop)) {
-        Ok(book) => played(alloc, book, history),
+        Ok(book) => played(alloc, book, history, from),
         Err(fault) => match fault.cause {
             OpenCause::Device => Ok(Stop {
                 disk: fault.disk.into_inner(),
-                answered: 0,
-                made: 0,
+                answered: from,
+                made: from,
                 stopped: true,
             }),
             _ => Err(Trouble("another cause than the device")),
@@ -102,29 +115,35 @@ fn stopped(alloc: Global, history: &History, start: &[u8], call: u64) -> Result<
     }
 }
 
-/// How many entries are in the prefix whose table a crash left, of those that have all answered commands.
-fn prefix_left(
+/// How many events are in the prefix of which this is the table, of those that have all answered commands.
+fn prefix_of(history: &History, table: &Table, answered: usize, made: usize) -> Option<usize> {
+    for count in answered..=made {
+        if history.tables.get(count) == Some(table) {
+            return Some(count);
+        }
+    }
+    None
+}
+
+/// What a crash leaves, opened again and closed, and of how many events it has the table.
+fn reopened(
     alloc: Global,
     history: &History,
     stop: Stop,
     choice: Choice,
-) -> Result<usize, Trouble> {
-    let disk = stop.disk.crash(choice)?;
-    let Ok(book) = Book::open(
-        alloc,
-        FuseDisk::new(disk, u64::MAX, Blow::Before, Then::Stop),
-    ) else {
+) -> Result<(MemDisk, usize), Trouble> {
+    let disk = FuseDisk::new(stop.disk.crash(choice)?, u64::MAX, Blow::Before, Then::Stop);
+    let Ok(book) = Book::open(alloc, disk) else {
         return Err(Trouble("not opened"));
     };
-    for count in stop.answered..=stop.made {
-        if history.tables.get(count) == Some(book.table()) {
-            return Ok(count);
-        }
+    match prefix_of(history, book.table(), stop.answered, stop.made) {
+        Some(count) => Ok((book.close().into_inner(), count)),
+        None => Err(Trouble("the table of no prefix with all answered commands")),
     }
-    Err(Trouble("the table of no prefix with all answered commands"))
 }
 
-/// Stops before this call, crashes with each choice and opens again. Answers whether there is such a call.
+/// Stops before this call, crashes with each choice, opens again, plays on, and stops once more. Answers whether there is
+/// such a call.
 fn stopped_at(
     alloc: Global,
     history: &History,
@@ -132,16 +151,20 @@ fn stopped_at(
     call: u64,
     seen: &mut Seen,
 ) -> Result<bool, Trouble> {
-    for choice in CHOICES {
-        let stop = stopped(alloc, history, start, call)?;
+    for (place, choice) in CHOICES.iter().enumerate() {
+        let disk = MemDisk::from_bytes(start.to_vec(alloc)?);
+        let stop = life(alloc, history, disk, 0, call)?;
         if !stop.stopped {
             return Ok(false);
         }
         let answered = stop.answered;
         let made = stop.made;
-        let left = prefix_left(alloc, history, stop, *choice)?;
+        let (disk, left) = reopened(alloc, history, stop, *choice)?;
         seen.shorter = seen.shorter || left < made;
         seen.unanswered = seen.unanswered || left > answered;
+        let later = call.wrapping_mul(7).wrapping_add(place as u64) % SECOND_CALLS;
+        let stop = life(alloc, history, disk, left, later + 1)?;
+        let _reopened = reopened(alloc, history, stop, *choice)?;
     }
     Ok(true)
 }
