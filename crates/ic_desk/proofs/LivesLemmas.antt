@@ -2,7 +2,7 @@
 use Rattle.std.proofs.Common.{◌≡◌, ℕ, ◌+◌, List, [], ◌∷◌, ◌++◌, Option, None, Some, length, take, drop, refl, sym, ap, subst, ◌∙◌, append_assoc}
 use Rattle.std.specs.Prelude.{◌↔◌, IsSome}
 use Rattle.std.specs.List.{sum_by}
-use Rattle.std.proofs.lemmas.List.{take-append-drop, take-take, length-take-le, length-append}
+use Rattle.std.proofs.lemmas.List.{take-append-drop, take-take, length-take-le, length-append, append-nil}
 use Rattle.std.proofs.lemmas.List.Concat.{flat_map-append}
 use Rattle.std.proofs.lemmas.List.Sums.{sum_by-cons}
 use Rattle.ic_rules.specs.RuleSet.{Rules}
@@ -11,6 +11,7 @@ use Rattle.ic_jobs.specs.declared.event.Entry.{Entry}
 use Rattle.ic_jobs.specs.Job.{JobParts}
 use Rattle.ic_jobs.specs.History.{replay, IsLegal}
 use Rattle.ic_jobs.specs.Life.{Life, HasLived, IsAsLived}
+use Rattle.ic_slots.specs.Held.{Held, the_table, IsHeld, HoldsTable}
 use Rattle.ic_desk.specs.Lives.{Page, IsPage, AreLives, left_by, lived}
 
 -- ---- what is known of histories
@@ -115,3 +116,28 @@ counted t (p ∷ ps) lives =
     let rest = counted (replay p.start (left_by p)) ps lives.2 in
     let both : length (left_by p) + length (lived ps) ≡ p.stop + sum_by (λ (q : Page). q.stop) ps = cc in
     length-append (left_by p) (lived ps) ∙ both ∙ sym (sum_by-cons (λ (q : Page). q.stop) p ps)
+
+-- ---- one life more
+
+lived-last : (before : List Page) (last : Page) → lived (before ++ last ∷ []) ≡ lived before ++ left_by last
+lived-last before last =
+    flat_map-append left_by before (last ∷ []) ∙ ap (λ (l : List Entry). lived before ++ l) (append-nil (left_by last))
+
+abbrev table_in : Held → List JobParts
+table_in (the_table t) = t
+table_in _ = []
+
+pub begins_next : Replays → ((file : List ℕ) (one other : Held) → IsHeld one file → IsHeld other file → one ≡ other)
+    → (before : List Page) (last : Page) (file : List ℕ) (next : List JobParts) → AreLives [] (before ++ last ∷ [])
+    → HoldsTable (replay last.start (left_by last)) file → IsHeld (the_table next) file
+    → next ≡ replay [] (lived (before ++ last ∷ []))
+begins_next replays one before last file next lives holds held =
+    let same : the_table next ≡ the_table (replay last.start (left_by last)) =
+        one file (the_table next) (the_table (replay last.start (left_by last))) held holds.held in
+    let opened : next ≡ replay last.start (left_by last) = ap table_in same in
+    let parts = apart replays [] before last lives in
+    let from : replay last.start (left_by last) ≡ replay (replay [] (lived before)) (left_by last) =
+        ap (λ (s : List JobParts). replay s (left_by last)) parts.2 in
+    let all : replay [] (lived before ++ left_by last) ≡ replay (replay [] (lived before)) (left_by last) =
+        replays [] (lived before) (left_by last) in
+    opened ∙ from ∙ sym all ∙ ap (λ (h : List Entry). replay [] h) (sym (lived-last before last))

@@ -17,7 +17,7 @@ ghost use Rattle.ic_jobs.specs.Table.{job_named};
 ghost use Rattle.ic_jobs.specs.History.{replay, IsLegal};
 ghost use Rattle.ic_jobs.specs.Life.{Life, life, IsAsLived};
 ghost use Rattle.ic_desk.specs.declared.limits.TheConstants.{MAX_ENTRIES};
-ghost use Rattle.ic_slots.specs.Held.{HoldsTable};
+ghost use Rattle.ic_slots.specs.Held.{HoldsTable, IsHeld, the_table};
 ghost use Rattle.ic_desk.specs.declared.faults.BookFault.{BookFault};
 ghost use Rattle.ic_desk.specs.declared.faults.BookFault.TheVariants.{Device};
 ghost use Rattle.ic_desk.specs.Entries.{AreRounds, is_round, leaves_table};
@@ -166,4 +166,17 @@ pub fn lives_go_on()
         ↔ (AreLives t before × IsPage last × (last.start ≡ replay t (lived before))) }
 {
     ic_jobs::laws::histories_split_and_join();
+}
+
+/// A stop begins the next life: where a file holds the table that the last page's stop left, whoever
+/// opens it begins with the table that the history of all lives leaves.
+pub fn a_stop_begins_the_next_life()
+    ensures { (before : List Page) (last : Page) (file : List ℕ) (next : List JobParts)
+        → AreLives [] (before ++ last ∷ [])
+        → HoldsTable (replay last.start (left_by last)) file
+        → IsHeld (the_table next) file
+        → next ≡ replay [] (lived (before ++ last ∷ [])) }
+{
+    ic_jobs::laws::histories_split_and_join();
+    ic_slots::laws::one_is_held();
 }
