@@ -1,5 +1,5 @@
 -- What events make of the state of a job.
-use Rattle.std.proofs.Common.{◌≡◌, ℕ, ◌<◌, ◌≤◌, List, [], ◌∷◌, ◌++◌, Bool, true, false, cond, Option, None, Some, is_some, nat_lt, length, refl, sym, ap, ◌∙◌, arith}
+use Rattle.std.proofs.Common.{◌≡◌, ℕ, ◌<◌, ◌≤◌, List, [], ◌∷◌, ◌++◌, Bool, true, false, cond, Option, None, Some, is_some, nat_lt, length, refl, ap, ◌∙◌}
 use Rattle.std.proofs.lemmas.Bool.{lt-ltb, le-ltb}
 use Rattle.std.specs.Option.{option_map, option_or}
 use Rattle.std.specs.Str.{bytes_eq}
@@ -22,9 +22,9 @@ use Rattle.ic_jobs.specs.declared.event.Event.{Event}
 use Rattle.ic_jobs.specs.declared.event.Event.TheVariants.{Command as by_command, Round}
 use Rattle.ic_jobs.specs.State.{is_running, is_paused}
 use Rattle.ic_jobs.specs.Job.{JobParts, begun, open_state, can_move, moved, in_state}
-use Rattle.ic_jobs.specs.Table.{is_named, job_named, with_changed, without}
+use Rattle.ic_jobs.specs.Table.{job_named, with_changed, without}
 use Rattle.ic_jobs.specs.Shown.{shown}
-use Rattle.ic_jobs.specs.Events.{Outcome, outcome, refused, submitted, unless_missing, paused, resumed, after_command, after_round, where_running, apply}
+use Rattle.ic_jobs.specs.Events.{Outcome, outcome, refused, unless_missing, paused, resumed, after_command, after_round, where_running, apply}
 use Rattle.ic_jobs.specs.Transitions.{state_of, Leads}
 use Rattle.ic_jobs.proofs.TableLookups.{KeepsName, job_named-changed, job_named-without, job_named-append}
 
