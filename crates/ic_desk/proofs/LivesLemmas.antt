@@ -133,11 +133,11 @@ pub begins_next : Replays → ((file : List ℕ) (one other : Held) → IsHeld o
     → next ≡ replay [] (lived (before ++ last ∷ []))
 begins_next replays one before last file next lives holds held =
     let same : the_table next ≡ the_table (replay last.start (left_by last)) =
-        one file (the_table next) (the_table (replay last.start (left_by last))) held holds.held in
+    one file (the_table next) (the_table (replay last.start (left_by last))) held holds.held in
     let opened : next ≡ replay last.start (left_by last) = ap table_in same in
     let parts = apart replays [] before last lives in
     let from : replay last.start (left_by last) ≡ replay (replay [] (lived before)) (left_by last) =
-        ap (λ (s : List JobParts). replay s (left_by last)) parts.2 in
+    ap (λ (s : List JobParts). replay s (left_by last)) parts.2 in
     let all : replay [] (lived before ++ left_by last) ≡ replay (replay [] (lived before)) (left_by last) =
-        replays [] (lived before) (left_by last) in
+    replays [] (lived before) (left_by last) in
     opened ∙ from ∙ sym all ∙ ap (λ (h : List Entry). replay [] h) (sym (lived-last before last))

@@ -2,8 +2,9 @@
 #![tactic(auto)]
 
 use ic_disk::FileDisk;
-use ic_serve::{DiskRefused, StreamFault, Task, WordsFault};
-use ic_serve::{once_stream, read_words, settle_stream};
+use ic_serve::{
+    DiskRefused, StreamFault, Task, WordsFault, once_stream, read_words, settle_stream,
+};
 use std::env;
 use std::io::{self, ErrorKind, Write};
 use std::process::ExitCode;
