@@ -36,7 +36,7 @@ fn by_workers<R: Threads + Wait + Clock + Sync>(
         "any_workers" => rounds_by_any(rt, alloc, count, &text),
         "yielding" => rounds_by_yielding(rt, alloc, count, &text),
         "counting" => counted(rt, alloc, count, &text),
-        _ => played_at_once(rt, alloc, &text),
+        _ => played_at_once(rt, alloc, count, &text),
     }
 }
 

@@ -193,25 +193,20 @@ pub fn counted<R: Threads + Wait + Clock + Sync>(
     Ok(line)
 }
 
-/// The gate of two works that wait for each other, each at most 10,000 times a millisecond.
+/// The gate of so many works that wait for each other, each at most 10,000 times a millisecond.
 #[derive(Drop)]
 struct Meeting<'a, R> {
     rt: &'a R,
-    first: AtomicBool,
-    second: AtomicBool,
+    works: u64,
+    begun: AtomicU64,
     missed: AtomicBool,
 }
 
 impl<'a, R: Clock + Sync> Gate for Meeting<'a, R> {
-    fn pass(&self, place: u64) {
-        let (mine, other) = if place == 0 {
-            (&self.first, &self.second)
-        } else {
-            (&self.second, &self.first)
-        };
-        mine.store(true, Ordering::SeqCst);
+    fn pass(&self, _place: u64) {
+        self.begun.fetch_add(1, Ordering::SeqCst);
         for _ in 0..10_000u32 {
-            if other.load(Ordering::SeqCst) {
+            if self.begun.load(Ordering::SeqCst) >= self.works {
                 return;
             }
             thread::sleep(self.rt, Duration::from_millis(1));
@@ -222,25 +217,26 @@ impl<'a, R: Clock + Sync> Gate for Meeting<'a, R> {
     fn answered(&self, _who: u64) {}
 }
 
-/// The round of a system with two works by two workers, each of which waits until the other has begun.
+/// The round of a system with so many works by as many workers, each of which waits until all have begun.
 pub fn played_at_once<R: Threads + Wait + Clock + Sync>(
     rt: &R,
     alloc: Global,
+    works: u32,
     text: &[u8],
 ) -> Result<Vec<u8>, Trouble> {
     let meeting = Meeting {
         rt,
-        first: AtomicBool::new(false),
-        second: AtomicBool::new(false),
+        works: u64::from(works),
+        begun: AtomicU64::new(0),
         missed: AtomicBool::new(false),
     };
     let (rules, config) = system_of(alloc, text)?.into_parts();
     let flight = flight_of(alloc, rules, config, 0)?;
-    let Ok(played) = play(rt, alloc, &flight, 2, &meeting) else {
+    let Ok(played) = play(rt, alloc, &flight, works as usize, &meeting) else {
         return Err(Trouble("a round by workers is refused"));
     };
-    let both = meeting.first.load(Ordering::SeqCst) && meeting.second.load(Ordering::SeqCst);
-    if !both || meeting.missed.load(Ordering::SeqCst) {
+    let all = meeting.begun.load(Ordering::SeqCst) == u64::from(works);
+    if !all || meeting.missed.load(Ordering::SeqCst) {
         return Err(Trouble("a wait ran out, or a gate wasn't passed"));
     }
     printed(alloc, played.rules(), played.after())
