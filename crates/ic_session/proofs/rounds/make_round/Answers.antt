@@ -1,0 +1,16 @@
+use Rattle.std.proofs.Common.{◌≡◌, ◌<◌, ◌≤◌, ◌∙◌, sym, Some, length, arith}
+use Rattle.std.proofs.lemmas.Option.{slice_get_within}
+use Rattle.ic_jobs.specs.declared.limits.TheConstants.{MAX_JOBS}
+use Rattle.ic_jobs.specs.Landing.{due}
+use Rattle.ic_jobs.specs.Table.{IsTable}
+use Rattle.ic_desk.specs.Book.{table_of}
+use Rattle.ic_session.proofs.rounds.make_round.Goals as goal
+
+pub returns-clause-low : goal.returns-clause-low
+returns-clause-low g c =
+    let is : due (table_of c.args.book.now) c.args.after ≡ Some c.in-Some.flight = sym c.in_ok-flight.ensures.due ∙ c.in-Some.is in
+    let at = (c.due_is_the_next_running_job.ensures.job (table_of c.args.book.now) c.args.after c.in-Some.flight is).runs in
+    let within = slice_get_within (table_of c.args.book.now) c.in-Some.flight.place at.job at.there in
+    let few : length (table_of c.args.book.now) ≤ MAX_JOBS = (let sound : IsTable (table_of c.args.book.now) = rw c.table.ensures at c.jobs-jobs.ensures.sound in sound.few) in
+    let here : c.place-place.result ≡ c.in-Some.flight.place = c.place-place.ensures.place in
+    omega (arith, within, few, here)

@@ -1,0 +1,5 @@
+pub mod Parts
+pub mod Booked
+pub mod Faults
+pub mod Served
+pub mod inner

@@ -1,0 +1,29 @@
+-- To be believed: tables between the events of a line.
+use Rattle.std.specs.Prelude.{◌≡◌, ◌⊎◌, ℕ, List, [], ◌∷◌, ◌++◌, Ok, Err}
+use Rattle.ic_jobs.specs.Job.{JobParts}
+use Rattle.ic_jobs.specs.declared.event.Event.{Event}
+use Rattle.ic_text.specs.LineText.{ReadsLine}
+use Rattle.ic_lines.specs.Turns.{after_events}
+use Rattle.ic_lines.specs.Answers.{Reading, events}
+
+-- this table is the one after a front of some events
+pub record IsPart (t : List JobParts) (es : List Event) (u : List JobParts) : Type 0 where
+  pub front : List Event
+  pub rest : List Event
+  pub parted : es ≡ front ++ rest
+  pub leaves : u ≡ after_events t front
+
+-- the table that was kept before them, or the one after a front of them
+abbrev pub IsKeptWithin : (t kept : List JobParts) (es : List Event) (u : List JobParts) → Type 0
+IsKeptWithin t kept es u = (u ≡ kept) ⊎ IsPart t es u
+
+-- this table is the one after a front of the events that a line asks for
+pub record IsInLine (t : List JobParts) (line : List ℕ) (u : List JobParts) : Type 0 where
+  pub reading : Reading
+  pub read : ReadsLine line reading
+  pub part : IsPart t (events t reading) u
+
+-- the same of the first of some lines; where there is none, it is the table before it
+abbrev pub IsInFirst : (t : List JobParts) (ls : List (List ℕ)) (u : List JobParts) → Type 0
+IsInFirst t [] u = u ≡ t
+IsInFirst t (line ∷ ls) u = IsInLine t line u

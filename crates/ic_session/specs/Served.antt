@@ -1,0 +1,54 @@
+-- To be believed: what a serving leaves, by its answer.
+use Rattle.std.specs.Prelude.{◌≡◌, ℕ, ◌<◌, ◌≤◌, List, [], ◌∷◌, ◌++◌, Option, length}
+use Rattle.std.specs.List.{AllByRecursion}
+use Rattle.std.specs.Io.KnownBytes.{Appends}
+use Rattle.ic_jobs.specs.Job.{JobParts}
+use Rattle.ic_text.specs.declared.limits.TheConstants.{MAX_TEXT}
+use Rattle.ic_lines.specs.Serving.{IsServed}
+use Rattle.ic_session.specs.declared.limits.TheConstants.{MAX_LINES}
+use Rattle.ic_session.specs.declared.fault.ServeFault.{ServeFault}
+use Rattle.ic_session.specs.declared.fault.ServeFault.TheVariants.{LongLine, TooManyLines}
+use Rattle.ic_session.specs.Parts.{IsInFirst}
+
+-- lines that may be served: no more than there may be, and none too long
+pub record MayBeServed (ls : List (List ℕ)) : Type 0 where
+  pub few : length ls ≤ MAX_LINES
+  pub short : AllByRecursion (λ line. length line ≤ MAX_TEXT) ls
+
+-- Lines were served from one table to another, and what answers them was written.
+pub record AreAnswered (ls : List (List ℕ)) (t u : List JobParts)
+    (old new : Option (List ℕ)) : Type 0 where
+  pub within : MayBeServed ls
+  pub answers : List ℕ
+  pub served : IsServed t ls answers u
+  pub written : Appends old new answers
+
+-- what a fault says of the lines that were answered and of those that weren't
+abbrev pub SaysOf : ServeFault → List (List ℕ) → List (List ℕ) → Type 0
+SaysOf LongLine front [] = ⊥
+SaysOf LongLine front (line ∷ rest) = MAX_TEXT < length line
+SaysOf TooManyLines front [] = ⊥
+SaysOf TooManyLines front (line ∷ rest) = length front ≡ MAX_LINES
+SaysOf _ front rest = Unit {0}
+
+-- A serving was ended by a fault other than that of the writer: a front of the lines is answered,
+-- and the table is within the line behind it, as is the one that was kept last where all was kept.
+pub record IsEnded (fault : ServeFault) (all_kept : Type 0) (ls : List (List ℕ))
+    (t u kept : List JobParts) (old new : Option (List ℕ)) : Type 0 where
+  pub front : List (List ℕ)
+  pub rest : List (List ℕ)
+  pub between : List JobParts
+  pub parted : ls ≡ front ++ rest
+  pub answered : AreAnswered front t between old new
+  pub says : SaysOf fault front rest
+  pub in_line : IsInFirst between rest u
+  pub keeps : all_kept → IsInFirst between rest kept
+
+-- The writer failed: the table is that after a front of the lines.
+pub record IsCut (ls : List (List ℕ)) (t u : List JobParts) : Type 0 where
+  pub front : List (List ℕ)
+  pub rest : List (List ℕ)
+  pub answers : List ℕ
+  pub parted : ls ≡ front ++ rest
+  pub within : MayBeServed front
+  pub served : IsServed t front answers u

@@ -1,0 +1,100 @@
+//! Answering one line over a book.
+
+ghost use Rattle.std.specs.Prelude.{◌≡◌, ◌≤◌, ◌++◌, [], ◌∷◌, Ok, OnOk, OnErr, IfErr, IfOk};
+ghost use Rattle.ic_desk.specs.Book.{table_of};
+ghost use Rattle.ic_jobs.specs.declared.event.Event.TheVariants.{Command as by_command};
+ghost use Rattle.ic_text.specs.declared.line.Line.TheVariants.{Command as Asks, Run};
+ghost use Rattle.ic_lines.specs.Lines.{ended};
+ghost use Rattle.ic_lines.specs.Turns.{turns};
+ghost use Rattle.ic_lines.specs.Answers.{answer, after_line};
+ghost use Rattle.ic_session.specs.Booked.{Begins, IsAllKept};
+ghost use Rattle.ic_session.specs.inner.Line.{IsAnswered, IsBegun};
+ghost use Rattle.ic_session.specs.Faults.{IsOfBook};
+
+use crate::fault::ServeFault;
+use crate::rounds::make_room;
+use crate::running::run;
+use ic_desk::Book;
+use ic_disk::Disk;
+use ic_jobs::Command;
+use ic_text::{Line, TextFault, print_fault, print_reply, read_command};
+use std::alloc::{AllocError, Global};
+use std::sync::Wait;
+use std::thread::Threads;
+
+/// What a line is answered. What it leaves is kept before it is answered.
+pub(crate) fn answer_line<T: Threads + Wait, D: Disk>(
+    rt: &T,
+    alloc: Global,
+    book: &mut Book<D>,
+    line: &[u8],
+    workers: usize,
+    every: u64,
+) -> Result<Vec<u8>, ServeFault>
+    requires { 1 ≤ every }
+    ensures answered { IfOk result (λ bytes. IsAnswered line.now bytes.items book.old book.new) }
+    ensures begun { OnErr result (IsBegun line.now book.old book.new) }
+    ensures sort { IfErr result IsOfBook }
+{
+    ic_text::laws::one_line_reading();
+    match read_command(alloc, line) {
+        Ok(Line::Blank) => Ok(Vec::new(alloc)),
+        Ok(Line::Command(command)) => answer_command(alloc, book, command),
+        Ok(Line::Run(count)) => answer_run(rt, alloc, book, count, workers, every),
+        Err(TextFault::Memory) => Err(ServeFault::Memory),
+        Err(fault) => Ok(ended(print_fault(alloc, &fault)?)?),
+    }
+}
+
+fn answer_command<D: Disk>(
+    alloc: Global,
+    book: &mut Book<D>,
+    command: Command,
+) -> Result<Vec<u8>, ServeFault>
+    ensures answer { IfOk result (λ bytes.
+        bytes.items ≡ answer (table_of book.old) (Ok (Asks command))) }
+    ensures table { OnOk result
+        (table_of book.new ≡ after_line (table_of book.old) (Ok (Asks command))) }
+    ensures kept { OnOk result (IsAllKept book.new) }
+    ensures begun { OnErr result (Begins (by_command command ∷ []) book.old book.new) }
+    ensures sort { IfErr result IsOfBook }
+{
+    make_room(alloc, book)?;
+    book.facts();
+    let reply = book.command(alloc, 0, command)?;
+    book.facts();
+    Ok(ended(print_reply(alloc, &reply)?)?)
+}
+
+fn answer_run<T: Threads + Wait, D: Disk>(
+    rt: &T,
+    alloc: Global,
+    book: &mut Book<D>,
+    count: u64,
+    workers: usize,
+    every: u64,
+) -> Result<Vec<u8>, ServeFault>
+    requires { 1 ≤ every }
+    ensures answer { IfOk result (λ bytes.
+        bytes.items ≡ answer (table_of book.old) (Ok (Run count))) }
+    ensures table { OnOk result
+        (table_of book.new ≡ after_line (table_of book.old) (Ok (Run count))) }
+    ensures kept { OnOk result (IsAllKept book.new) }
+    ensures begun { OnErr result (Begins (turns count 0 (table_of book.old)) book.old book.new) }
+    ensures sort { IfErr result IsOfBook }
+{
+    let made = run(rt, alloc, book, count, workers, every)?;
+    book.facts();
+    let mut line = b"ran ".to_vec(alloc)?;
+    line.extend_from_slice(made.to_string(alloc)?.as_bytes())?;
+    Ok(ended(line)?)
+}
+
+/// A line with its line feed.
+fn ended(line: Vec<u8>) -> Result<Vec<u8>, AllocError>
+    ensures { IfOk result (λ bytes. bytes.items ≡ ended line.items) }
+{
+    let mut line = line;
+    line.push(b'\n')?;
+    Ok(line)
+}

@@ -1,0 +1,16 @@
+//! Serving lines over a book: each line that a reader gives is answered to a writer.
+//!
+//! `serve_lines` answers commands, makes the rounds of a `run` on several threads, and keeps what
+//! the lines leave before it answers. What lines ask for and are answered is that of `ic_lines`.
+#![tactic(auto)]
+
+mod answering;
+mod fault;
+mod limits;
+mod rounds;
+mod running;
+mod serving;
+
+pub use fault::ServeFault;
+pub use limits::MAX_LINES;
+pub use serving::serve_lines;

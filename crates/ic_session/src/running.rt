@@ -1,0 +1,83 @@
+//! The rounds of a run over a book.
+
+ghost use Rattle.std.specs.Prelude.{◌≡◌, ◌≤◌, ◌⊎◌, OnOk, OnErr, IfErr, IfOk, length};
+ghost use Rattle.ic_desk.specs.Book.{table_of};
+ghost use Rattle.ic_lines.specs.Turns.{turns, after_events};
+ghost use Rattle.ic_session.specs.Booked.{last_kept, Begins, IsAllKept};
+ghost use Rattle.ic_session.specs.Parts.{IsKeptWithin};
+ghost use Rattle.ic_session.specs.Faults.{IsOfBook};
+
+use crate::fault::ServeFault;
+use crate::rounds::{keep_all, make_round};
+use ic_desk::{Book, BookFault};
+use ic_disk::Disk;
+use std::alloc::Global;
+use std::sync::Wait;
+use std::thread::Threads;
+
+/// Makes at most so many rounds of running jobs in turn, and keeps what they leave: after each
+/// `every` rounds and halts, and at the end. How many there were.
+pub(crate) fn run<T: Threads + Wait, D: Disk>(
+    rt: &T,
+    alloc: Global,
+    book: &mut Book<D>,
+    count: u64,
+    workers: usize,
+    every: u64,
+) -> Result<u64, ServeFault>
+    requires { 1 ≤ every }
+    ensures count { IfOk result (λ made. made ≡ length (turns count 0 (table_of book.old))) }
+    ensures table { OnOk result
+        (table_of book.new ≡ after_events (table_of book.old) (turns count 0 (table_of book.old))) }
+    ensures kept { OnOk result (IsAllKept book.new) }
+    ensures last { OnOk result (last_kept book.new ≡ table_of book.new) }
+    ensures begun { OnErr result (Begins (turns count 0 (table_of book.old)) book.old book.new) }
+    ensures sort { IfErr result IsOfBook }
+{
+    let made = make_rounds(rt, alloc, book, count, workers, every)?;
+    keep_all(book)?;
+    Ok(made)
+}
+
+/// The same, without the keep at the end.
+fn make_rounds<T: Threads + Wait, D: Disk>(
+    rt: &T,
+    alloc: Global,
+    book: &mut Book<D>,
+    count: u64,
+    workers: usize,
+    every: u64,
+) -> Result<u64, ServeFault>
+    requires { 1 ≤ every }
+    ensures count { IfOk result (λ made. made ≡ length (turns count 0 (table_of book.old))) }
+    ensures table { OnOk result
+        (table_of book.new ≡ after_events (table_of book.old) (turns count 0 (table_of book.old))) }
+    ensures within { OnOk result (IsKeptWithin (table_of book.old) (last_kept book.old)
+        (turns count 0 (table_of book.old)) (last_kept book.new)) }
+    ensures begun { OnErr result (Begins (turns count 0 (table_of book.old)) book.old book.new) }
+    ensures sort { IfErr result IsOfBook }
+{
+    let mut place = 0;
+    for made in 0..count {
+        match make_round(rt, alloc, book, place, workers)? {
+            None => return Ok(made),
+            Some(last) => place = last + 1,
+        }
+        keep_each(book, made + 1, every)?;
+    }
+    Ok(count)
+}
+
+/// Keeps what isn't kept, where the number of rounds is a multiple of `every`.
+fn keep_each<D: Disk>(book: &mut Book<D>, made: u64, every: u64) -> Result<(), BookFault>
+    requires { 1 ≤ every }
+    ensures table { table_of book.new ≡ table_of book.old }
+    ensures kept { OnOk result ((last_kept book.new ≡ last_kept book.old)
+        ⊎ (last_kept book.new ≡ table_of book.old)) }
+    ensures unkept { OnErr result (last_kept book.new ≡ last_kept book.old) }
+{
+    if made % every == 0 {
+        return keep_all(book);
+    }
+    Ok(())
+}

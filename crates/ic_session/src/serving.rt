@@ -1,0 +1,68 @@
+//! Serving all lines of a reader over a book.
+
+ghost use Rattle.std.specs.Prelude.{◌≡◌, ◌≢◌, ◌≤◌, Err, IfSome, IfErr, OnOk};
+ghost use Rattle.ic_desk.specs.Book.{table_of};
+ghost use Rattle.ic_lines.specs.Lines.{lines};
+ghost use Rattle.ic_session.specs.Booked.{last_kept, IsAllKept};
+ghost use Rattle.ic_session.specs.Served.{AreAnswered, IsEnded, IsCut};
+
+use crate::answering::answer_line;
+use crate::fault::ServeFault;
+use crate::limits::MAX_LINES;
+use ic_desk::Book;
+use ic_disk::Disk;
+use ic_lines::{LineBuffer, LineFault};
+use std::alloc::Global;
+use std::io::{Read, Write};
+use std::sync::Wait;
+use std::thread::Threads;
+
+/// Serves the lines of the reader over the book. Rounds are made by so many workers and kept after
+/// each `every` of them; what a line leaves is kept before the line is answered. An answer is flushed
+/// before the reader is waited for.
+///
+/// At a fault the lines before are answered, but for a fault of the writer; the line at which it came
+/// isn't, though some of its events may stand in the book.
+pub fn serve_lines<T: Threads + Wait, D: Disk, R: Read, W: Write>(
+    rt: &T,
+    alloc: Global,
+    book: &mut Book<D>,
+    reader: &mut R,
+    writer: &mut W,
+    workers: usize,
+    every: u64,
+) -> Result<(), ServeFault>
+    requires workers { 1 ≤ workers }
+    requires every { 1 ≤ every }
+    ensures served { OnOk result (IfSome (R.remaining reader.old) (λ text. AreAnswered (lines text)
+        (table_of book.old) (table_of book.new) (W.contents writer.old) (W.contents writer.new))) }
+    ensures kept { OnOk result (IsAllKept book.old → IsAllKept book.new) }
+    ensures ended { IfErr result (λ fault. fault ≢ ServeFault.Write
+        → IfSome (R.remaining reader.old) (λ text. IsEnded fault (IsAllKept book.old) (lines text)
+        (table_of book.old) (table_of book.new) (last_kept book.new)
+        (W.contents writer.old) (W.contents writer.new))) }
+    ensures cut { result ≡ Err ServeFault.Write
+        → IfSome (R.remaining reader.old) (λ text. IsCut (lines text)
+        (table_of book.old) (table_of book.new)) }
+    ensures kept_at_cut { result ≡ Err ServeFault.Write
+        → IsAllKept book.old → IsAllKept book.new }
+{
+    ic_text::laws::one_line_reading();
+    ic_lines::laws::lines_are_served_in_one_way();
+    let mut lines = LineBuffer::new(alloc);
+    for _ in 0..MAX_LINES {
+        book.facts();
+        if !lines.take_line(reader, writer)? {
+            return Ok(());
+        }
+        let answer = answer_line(rt, alloc, book, lines.line(), workers, every)?;
+        writer.write_all(&answer).map_err(|_| ServeFault::Write)?;
+    }
+    book.facts();
+    match lines.take_line(reader, writer) {
+        Ok(false) => Ok(()),
+        Ok(true) => Err(ServeFault::TooManyLines),
+        Err(LineFault::LongLine) => Err(ServeFault::TooManyLines),
+        Err(fault) => Err(fault.into()),
+    }
+}
