@@ -10,7 +10,7 @@ use Rattle.ic_jobs.specs.declared.event.Event.{Event}
 use Rattle.ic_jobs.specs.declared.event.Event.TheVariants.{Round}
 use Rattle.ic_jobs.specs.declared.event.Entry.{Entry}
 use Rattle.ic_jobs.specs.Events.{Outcome, apply, after_round, where_running}
-use Rattle.ic_jobs.specs.History.{table_after, IsLegal}
+use Rattle.ic_jobs.specs.History.{table_after, replay, IsLegal}
 use Rattle.ic_jobs.specs.Landing.{due, Awaits}
 use Rattle.ic_jobs.specs.Turns.{RunsAt}
 use Rattle.ic_lines.specs.Turns.{after_events, round_and, turns}
@@ -67,11 +67,12 @@ AwaitedLaw = (t : List JobParts) (place : ℕ) (f : FlightParts) → IsTable t �
 abbrev pub TableLaw : Type 0
 TableLaw = (t : List JobParts) (name : List ℕ) → IsTable t → IfSome (apply t (Round name)) (λ o. IsTable o.table)
 
--- a legal history with these events
+-- a legal history with these events, which leaves what they leave
 pub record IsHistory (t : List JobParts) (es : List Event) : Type 0 where
   pub history : List Entry
   pub legal : IsLegal t history
   pub events : map (λ (e : Entry). e.event) history ≡ es
+  pub leaves : replay t history ≡ after_events t es
 
 round_of_job : (t : List JobParts) (f : FlightParts) → Awaits t f.name f.rules f.config f.rounds
     → (o : Outcome) × (apply t (Round f.name) ≡ Some o)
@@ -89,11 +90,12 @@ one_more t e o es is h = record {
   history = record { who = 0; event = e; reply = o.reply } ∷ h.history;
   legal = (ap (option_map (λ (q : Outcome). q.reply)) is, h.legal);
   events = ap (λ xs. e ∷ xs) h.events;
+  leaves = h.leaves;
 }
 
 legal_of : AwaitedLaw → TableLaw → (k place : ℕ) (t : List JobParts) (o : Option FlightParts) → due t place ≡ o → IsTable t
     → ((p : ℕ) (u : List JobParts) → IsTable u → IsHistory u (turns k p u)) → IsHistory t (option_map_or (round_and (turns k) t) o [])
-legal_of awaited tables k place t None is sound more = record { history = []; legal = tt; events = refl }
+legal_of awaited tables k place t None is sound more = record { history = []; legal = tt; events = refl; leaves = refl }
 legal_of awaited tables k place t (Some f) is sound more =
     let r = round_of_job t f (awaited t place f sound is) in
     let after : IsTable r.0.table = rw r.1 at (tables t f.name sound) in
@@ -101,6 +103,6 @@ legal_of awaited tables k place t (Some f) is sound more =
     one_more t (Round f.name) r.0 _ r.1 (more (f.place + 1) (table_after t (Round f.name)) next)
 
 pub turns_legal : AwaitedLaw → TableLaw → (k place : ℕ) (t : List JobParts) → IsTable t → IsHistory t (turns k place t)
-turns_legal awaited tables zero place t sound = record { history = []; legal = tt; events = refl }
+turns_legal awaited tables zero place t sound = record { history = []; legal = tt; events = refl; leaves = refl }
 turns_legal awaited tables (suc k) place t sound =
     legal_of awaited tables k place t (due t place) refl sound (λ p u s. turns_legal awaited tables k p u s)

@@ -105,10 +105,11 @@ pub fn runs_are_rounds_in_turn()
 }
 
 /// Each round of a run is of a job that runs when its turn comes: the run's events, each with its
-/// reply, are a legal history of the table.
+/// reply, are a legal history of the table, and the run leaves the table that this history leaves.
 pub fn runs_are_legal()
     ensures { (k place : ℕ) (t : List JobParts) → IsTable t
-        → (h : List Entry) × IsLegal t h × (map (λ e. e.event) h ≡ turns k place t) }
+        → (h : List Entry) × IsLegal t h × (map (λ e. e.event) h ≡ turns k place t)
+        × (replay t h ≡ after_events t (turns k place t)) }
 {
     ic_jobs::laws::what_is_due_is_awaited();
     ic_jobs::laws::events_leave_tables();
