@@ -16,6 +16,13 @@ pub fn words(alloc: Global, line: &str) -> Result<Vec<u8>, Trouble> {
         Ok(Task::Settle) => ("settle", String::new(alloc)),
         Ok(Task::Once) => ("once", String::new(alloc)),
         Ok(Task::Create { disk }) => ("create", disk),
+        Ok(
+            Task::Serve {
+                disk,
+                workers,
+                every,
+            },
+        ) => ("serve", format!(in alloc; "{disk} {workers} {every}")?),
         Ok(Task::Help(text)) => ("help", text),
         Ok(Task::Version(text)) => ("version", text),
         Err(WordsFault::Words(text)) => ("refused", text),

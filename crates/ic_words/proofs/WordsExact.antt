@@ -115,7 +115,7 @@ dashes = 45 ∷ 45 ∷ []
 -- the commands below a level
 abbrev names_below : Bool → Names
 names_below true = []
-names_below false = (codes "settle", []) ∷ (codes "once", []) ∷ (codes "create", []) ∷ []
+names_below false = (codes "settle", []) ∷ (codes "once", []) ∷ (codes "create", []) ∷ (codes "serve", []) ∷ []
 
 behind_dashes : (base : Shape) (leaf : Bool) (u : Text)
     → turn_fault (level base leaf) (names_below leaf) (walked (rules leaf) (names_below leaf) (walk_from nothing_held) dashes) u ≡ [] → ⊥
@@ -188,9 +188,9 @@ unfolding clap_on_literals
 none_alone e = cc
 
 another_word : (v : Text) (vs : List Text) → bytes_eq (codes "settle") v ≡ false → bytes_eq (codes "once") v ≡ false
-    → bytes_eq (codes "create") v ≡ false → fault_of command_line (v ∷ vs) ≡ [] → ⊥
-another_word v vs no_settle no_once no_create e =
-    let met : subcommand_met (names_below false) idle v ≡ None = rw (no_settle, no_once, no_create) refl in
+    → bytes_eq (codes "create") v ≡ false → bytes_eq (codes "serve") v ≡ false → fault_of command_line (v ∷ vs) ≡ [] → ⊥
+another_word v vs no_settle no_once no_create no_serve e =
+    let met : subcommand_met (names_below false) idle v ≡ None = rw (no_settle, no_once, no_create, no_serve) refl in
     let none : (w : Text) (ws : List Text) → v ∷ vs ≡ w ∷ ws → subcommand_met (names_below false) idle w ≡ None = λ w ws is. (let same : v ≡ w = cc in rw (← same) met) in
     elim (level_words top false (v ∷ vs) none (both_empty _ _ e).0) [
       | inl empty ↦ cc
@@ -209,26 +209,33 @@ named_first name v vs is after e =
     ]
 
 abbrev pub OneCommand : List Text → Type 0
-OneCommand words = NamesCommand (codes "settle") words ⊎ (NamesCommand (codes "once") words ⊎ BeginsWith (codes "create") words)
+OneCommand words = NamesCommand (codes "settle") words ⊎ (NamesCommand (codes "once") words
+    ⊎ (BeginsWith (codes "create") words ⊎ BeginsWith (codes "serve") words))
 
-create_first : (v : Text) (vs : List Text) → bytes_eq (codes "create") v ≡ true → BeginsWith (codes "create") (v ∷ vs)
-create_first v vs is = (vs, ap (λ w. w ∷ vs) (sym ((bytes_eq-Decides (codes "create") v).0 is)))
+is_first : (name v : Text) (vs : List Text) → bytes_eq name v ≡ true → BeginsWith name (v ∷ vs)
+is_first name v vs is = (vs, ap (λ w. w ∷ vs) (sym ((bytes_eq-Decides name v).0 is)))
 
-first_named : (v : Text) (vs : List Text) (settle once create : Bool) → bytes_eq (codes "settle") v ≡ settle → bytes_eq (codes "once") v ≡ once
-    → bytes_eq (codes "create") v ≡ create → fault_of command_line (v ∷ vs) ≡ [] → OneCommand (v ∷ vs)
-first_named v vs true once create is _ _ e = inl (named_first (codes "settle") v vs is after_settle e)
-first_named v vs false true create _ is _ e = inr (inl (named_first (codes "once") v vs is after_once e))
-first_named v vs false false true _ _ is e = inr (inr (create_first v vs is))
-first_named v vs false false false no_settle no_once no_create e = absurd (another_word v vs no_settle no_once no_create e)
+first_named : (v : Text) (vs : List Text) (settle once create serve : Bool) → bytes_eq (codes "settle") v ≡ settle → bytes_eq (codes "once") v ≡ once
+    → bytes_eq (codes "create") v ≡ create → bytes_eq (codes "serve") v ≡ serve → fault_of command_line (v ∷ vs) ≡ [] → OneCommand (v ∷ vs)
+first_named v vs true once create serve is _ _ _ e = inl (named_first (codes "settle") v vs is after_settle e)
+first_named v vs false true create serve _ is _ _ e = inr (inl (named_first (codes "once") v vs is after_once e))
+first_named v vs false false true serve _ _ is _ e = inr (inr (inl (is_first (codes "create") v vs is)))
+first_named v vs false false false true _ _ _ is e = inr (inr (inr (is_first (codes "serve") v vs is)))
+first_named v vs false false false false no_settle no_once no_create no_serve e = absurd (another_word v vs no_settle no_once no_create no_serve e)
 
 -- words without a mistake name one of the commands
 pub one_command : (words : List Text) → fault_of command_line words ≡ [] → OneCommand words
 one_command [] e = absurd (none_alone e)
-one_command (v ∷ vs) e =
-    first_named v vs (bytes_eq (codes "settle") v) (bytes_eq (codes "once") v) (bytes_eq (codes "create") v) refl refl refl e
+one_command (v ∷ vs) e = first_named v vs (bytes_eq (codes "settle") v) (bytes_eq (codes "once") v) (bytes_eq (codes "create") v)
+    (bytes_eq (codes "serve") v) refl refl refl refl e
 
--- where `create` is the first word, the others are its own
+-- where `create` or `serve` is the first word, the others are its own
 pub create_stops : (words : List Text)
     → (walk (rules false) (names_below false) nothing_held (codes "create" ∷ words)).stopped ≡ Some (codes "create", words)
 unfolding walked
 create_stops words = stopped_with (codes "create") [] words
+
+pub serve_stops : (words : List Text)
+    → (walk (rules false) (names_below false) nothing_held (codes "serve" ∷ words)).stopped ≡ Some (codes "serve", words)
+unfolding walked
+serve_stops words = stopped_with (codes "serve") [] words

@@ -14,7 +14,7 @@ use Rattle.clap.specs.Simple.{built, entered}
 use Rattle.clap.specs.declared.parser.matches.Found.{Found}
 use Rattle.clap.proofs.WalkLemmas.{first_value-rows}
 use Rattle.ic_words.specs.Words.{BeginsWith, NamesCommand, command_line, value_met}
-use Rattle.ic_words.proofs.WordsExact.{OneCommand, create_stops, one_command}
+use Rattle.ic_words.proofs.WordsExact.{OneCommand, create_stops, serve_stops, one_command}
 
 command_line_simple : is_simple_and_free command_line ≡ true
 unfolding clap_on_literals
@@ -105,15 +105,20 @@ name_of_rows m = option_map_twice _ _ _
 create_met : (words : List Text) → BeginsWith (codes "create") words → command_of words ≡ Some (codes "create")
 create_met words begins = ap command_of begins.1 ∙ ap (λ s. option_map (λ (p : Text × List Row). p.0) (entered (built command_line) s)) (create_stops begins.0)
 
+serve_met : (words : List Text) → BeginsWith (codes "serve") words → command_of words ≡ Some (codes "serve")
+serve_met words begins = ap command_of begins.1 ∙ ap (λ s. option_map (λ (p : Text × List Row). p.0) (entered (built command_line) s)) (serve_stops begins.0)
+
 -- the words name a command, which is the one that the parser met
 abbrev pub Met : List Text → Option Text → Type 0
 Met words met = (NamesCommand (codes "settle") words × (met ≡ Some (codes "settle")))
-    ⊎ ((NamesCommand (codes "once") words × (met ≡ Some (codes "once"))) ⊎ (BeginsWith (codes "create") words × (met ≡ Some (codes "create"))))
+    ⊎ ((NamesCommand (codes "once") words × (met ≡ Some (codes "once")))
+    ⊎ ((BeginsWith (codes "create") words × (met ≡ Some (codes "create"))) ⊎ (BeginsWith (codes "serve") words × (met ≡ Some (codes "serve")))))
 
 met_by : (words : List Text) (met : Option Text) → OneCommand words → met ≡ command_of words → Met words met
 met_by words met (inl settle) is = inl (settle, is ∙ names_met (codes "settle") words settle_met settle)
 met_by words met (inr (inl once)) is = inr (inl (once, is ∙ names_met (codes "once") words once_met once))
-met_by words met (inr (inr create)) is = inr (inr (create, is ∙ create_met words create))
+met_by words met (inr (inr (inl create))) is = inr (inr (inl (create, is ∙ create_met words create)))
+met_by words met (inr (inr (inr serve))) is = inr (inr (inr (serve, is ∙ serve_met words serve)))
 
 -- words of which matches are made
 pub command_met : (app : App) (words : List Text) (m : ArgMatches) → app ≡ command_line → (is_simple_and_free app ≡ true → fault_of app words ≡ [])
@@ -132,41 +137,65 @@ same_name : (name : Option (Bor Text)) (x : Bor Text) (met : Option Text) (one o
     → option_map (λ s. s.now) name ≡ met → name ≡ Some x → x.now ≡ one → met ≡ Some other → Some one ≡ Some other
 same_name name x met one other shown is same was = ap Some (sym same) ∙ sym (ap (option_map (λ s. s.now)) is) ∙ shown ∙ was
 
--- these names begin with other letters
+-- these names have other letters
+pub settle_or_once : Some (codes "settle") ≡ Some (codes "once") → ⊥
+settle_or_once e = true≢false (ap (λ (o : Option Text). slice_index (unwrap_or o []) 0 == 115) e)
+
 pub settle_or_create : Some (codes "settle") ≡ Some (codes "create") → ⊥
 settle_or_create e = true≢false (ap (λ (o : Option Text). slice_index (unwrap_or o []) 0 == 115) e)
 
+pub settle_or_serve : Some (codes "settle") ≡ Some (codes "serve") → ⊥
+settle_or_serve e = true≢false (ap (λ (o : Option Text). slice_index (unwrap_or o []) 2 == 116) e)
+
 pub once_or_create : Some (codes "once") ≡ Some (codes "create") → ⊥
 once_or_create e = true≢false (ap (λ (o : Option Text). slice_index (unwrap_or o []) 0 == 111) e)
+
+pub once_or_serve : Some (codes "once") ≡ Some (codes "serve") → ⊥
+once_or_serve e = true≢false (ap (λ (o : Option Text). slice_index (unwrap_or o []) 0 == 111) e)
+
+pub create_or_serve : Some (codes "create") ≡ Some (codes "serve") → ⊥
+create_or_serve e = true≢false (ap (λ (o : Option Text). slice_index (unwrap_or o []) 0 == 99) e)
 
 -- the command of this name was met
 pub settle_named : (words : List Text) (met : Option Text) (name : Option (Bor Text)) (x : Bor Text) → Met words met
     → option_map (λ s. s.now) name ≡ met → name ≡ Some x → x.now ≡ codes "settle" → NamesCommand (codes "settle") words
 settle_named words met name x (inl named) shown is same = named.0
-settle_named words met name x (inr (inl named)) shown is same = absurd (let e = same_name name x met _ _ shown is same named.1 in cc)
-settle_named words met name x (inr (inr named)) shown is same = absurd (settle_or_create (same_name name x met _ _ shown is same named.1))
+settle_named words met name x (inr (inl named)) shown is same = absurd (settle_or_once (same_name name x met _ _ shown is same named.1))
+settle_named words met name x (inr (inr (inl named))) shown is same = absurd (settle_or_create (same_name name x met _ _ shown is same named.1))
+settle_named words met name x (inr (inr (inr named))) shown is same = absurd (settle_or_serve (same_name name x met _ _ shown is same named.1))
 
 pub once_named : (words : List Text) (met : Option Text) (name : Option (Bor Text)) (x : Bor Text) → Met words met
     → option_map (λ s. s.now) name ≡ met → name ≡ Some x → x.now ≡ codes "once" → NamesCommand (codes "once") words
-once_named words met name x (inl named) shown is same = absurd (let e = same_name name x met _ _ shown is same named.1 in cc)
+once_named words met name x (inl named) shown is same = absurd (settle_or_once (sym (same_name name x met _ _ shown is same named.1)))
 once_named words met name x (inr (inl named)) shown is same = named.0
-once_named words met name x (inr (inr named)) shown is same = absurd (let e = same_name name x met _ _ shown is same named.1 in cc)
+once_named words met name x (inr (inr (inl named))) shown is same = absurd (once_or_create (same_name name x met _ _ shown is same named.1))
+once_named words met name x (inr (inr (inr named))) shown is same = absurd (once_or_serve (same_name name x met _ _ shown is same named.1))
 
 pub create_named : (words : List Text) (met : Option Text) (name : Option (Bor Text)) (x : Bor Text) → Met words met
     → option_map (λ s. s.now) name ≡ met → name ≡ Some x → x.now ≡ codes "create" → BeginsWith (codes "create") words
 create_named words met name x (inl named) shown is same = absurd (settle_or_create (sym (same_name name x met _ _ shown is same named.1)))
-create_named words met name x (inr (inl named)) shown is same = absurd (let e = same_name name x met _ _ shown is same named.1 in cc)
-create_named words met name x (inr (inr named)) shown is same = named.0
+create_named words met name x (inr (inl named)) shown is same = absurd (once_or_create (sym (same_name name x met _ _ shown is same named.1)))
+create_named words met name x (inr (inr (inl named))) shown is same = named.0
+create_named words met name x (inr (inr (inr named))) shown is same = absurd (create_or_serve (same_name name x met _ _ shown is same named.1))
+
+pub serve_named : (words : List Text) (met : Option Text) (name : Option (Bor Text)) (x : Bor Text) → Met words met
+    → option_map (λ s. s.now) name ≡ met → name ≡ Some x → x.now ≡ codes "serve" → BeginsWith (codes "serve") words
+serve_named words met name x (inl named) shown is same = absurd (settle_or_serve (sym (same_name name x met _ _ shown is same named.1)))
+serve_named words met name x (inr (inl named)) shown is same = absurd (once_or_serve (sym (same_name name x met _ _ shown is same named.1)))
+serve_named words met name x (inr (inr (inl named))) shown is same = absurd (create_or_serve (sym (same_name name x met _ _ shown is same named.1)))
+serve_named words met name x (inr (inr (inr named))) shown is same = named.0
 
 -- no other command was met, and one was met
 pub none_other : (words : List Text) (met : Option Text) (name : Option (Bor Text)) → Met words met → option_map (λ s. s.now) name ≡ met
-    → ((x : Bor Text) → name ≡ Some x → (x.now ≢ codes "settle") × (x.now ≢ codes "once") × (x.now ≢ codes "create")) → ⊥
+    → ((x : Bor Text) → name ≡ Some x → (x.now ≢ codes "settle") × (x.now ≢ codes "once") × (x.now ≢ codes "create") × (x.now ≢ codes "serve")) → ⊥
 none_other words met None (inl named) shown other = let e = shown ∙ named.1 in cc
 none_other words met None (inr (inl named)) shown other = let e = shown ∙ named.1 in cc
-none_other words met None (inr (inr named)) shown other = let e = shown ∙ named.1 in cc
-none_other words met (Some x) (inl named) shown other = (other x refl).0 (let e = shown ∙ named.1 in cc)
-none_other words met (Some x) (inr (inl named)) shown other = (other x refl).1 (let e = shown ∙ named.1 in cc)
-none_other words met (Some x) (inr (inr named)) shown other = (other x refl).2 (let e : Some x.now ≡ Some (codes "create") = shown ∙ named.1 in cc)
+none_other words met None (inr (inr (inl named))) shown other = let e = shown ∙ named.1 in cc
+none_other words met None (inr (inr (inr named))) shown other = let e = shown ∙ named.1 in cc
+none_other words met (Some x) (inl named) shown other = (other x refl).0 (let e : Some x.now ≡ Some (codes "settle") = shown ∙ named.1 in cc)
+none_other words met (Some x) (inr (inl named)) shown other = (other x refl).1 (let e : Some x.now ≡ Some (codes "once") = shown ∙ named.1 in cc)
+none_other words met (Some x) (inr (inr (inl named))) shown other = (other x refl).2 (let e : Some x.now ≡ Some (codes "create") = shown ∙ named.1 in cc)
+none_other words met (Some x) (inr (inr (inr named))) shown other = (other x refl).3 (let e : Some x.now ≡ Some (codes "serve") = shown ∙ named.1 in cc)
 
 -- words that name one command aren't another one alone
 pub no_other_alone : (one other : Text) (words : List Text) → NamesCommand one words → words ≡ other ∷ [] → one ≡ other

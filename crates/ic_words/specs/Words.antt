@@ -1,14 +1,15 @@
 -- What the words after the program's name ask for (this project's choice).
-use Rattle.std.specs.Prelude.{◌≡◌, ◌≢◌, ◌⊎◌, ℕ, List, [], ◌∷◌, ◌++◌, Result, Ok, Err, true}
+use Rattle.std.specs.Prelude.{◌≡◌, ◌≢◌, ◌≤◌, ◌⊎◌, ℕ, pos, List, [], ◌∷◌, ◌++◌, Result, Ok, Err, true}
 use Rattle.std.specs.Prelude.{codes, string_bytes, Option, Some, unwrap_or, option_and_then}
 use Rattle.clap.specs.Words.{App, IsAmong, Kinds, Row, Rule, Shape, Text, first_of, new_app}
 use Rattle.clap.specs.Words.{new_rule, subcommand_of, with_rule, with_subcommand}
 use Rattle.clap.specs.Simple.{on_top}
+use Rattle.clap.specs.declared.builder.value_parser.ValueParser.TheVariants as parser
 use Rattle.clap.specs.declared.error.ErrorKind.{ErrorKind}
 use Rattle.clap.specs.declared.error.ErrorKind.TheVariants.{DisplayHelp, DisplayVersion}
 use Rattle.ic_words.specs.declared.words.Task.{Task}
-use Rattle.ic_words.specs.declared.words.Task.TheVariants.{Settle, Once, Create, Help}
-use Rattle.ic_words.specs.declared.words.Task.TheVariants.{Version}
+use Rattle.ic_words.specs.declared.words.Task.TheVariants.{Settle, Once, Create, Serve}
+use Rattle.ic_words.specs.declared.words.Task.TheVariants.{Help, Version}
 use Rattle.ic_words.specs.declared.words.WordsFault.{WordsFault}
 use Rattle.ic_words.specs.declared.words.WordsFault.TheVariants.{Words, Memory}
 
@@ -37,10 +38,33 @@ disk_option = record (new_rule (codes "disk")) {
 abbrev pub create_command : App
 create_command = with_rule (new_app (codes "create")) disk_option
 
--- the command line of the program, whose commands are `settle`, `once` and `create`
+-- the option `--workers N`, from 1 to 64, of which the default is 2
+abbrev pub workers_option : Rule
+workers_option = record (new_rule (codes "workers")) {
+  long = Some (codes "workers");
+  value_names = 1;
+  defaults = codes "2" ∷ [];
+  parser = Some (parser.Signed (pos 1) (pos 64));
+}
+
+-- the option `--every K`, from 1 to 1,000,000, of which the default is 100
+abbrev pub every_option : Rule
+every_option = record (new_rule (codes "every")) {
+  long = Some (codes "every");
+  value_names = 1;
+  defaults = codes "100" ∷ [];
+  parser = Some (parser.Signed (pos 1) (pos 1000000));
+}
+
+abbrev pub serve_command : App
+serve_command = with_rule (with_rule (with_rule (new_app (codes "serve")) disk_option) workers_option)
+    every_option
+
+-- the command line of the program, whose commands are `settle`, `once`, `create` and `serve`
 abbrev pub command_line : App
-command_line = with_subcommand (with_subcommand (with_subcommand program
-    (new_app (codes "settle")).top) (new_app (codes "once")).top) create_command.top
+command_line = with_subcommand (with_subcommand (with_subcommand (with_subcommand program
+    (new_app (codes "settle")).top) (new_app (codes "once")).top) create_command.top)
+    serve_command.top
 
 -- the line that tells the version
 abbrev pub version_line : List ℕ
@@ -52,6 +76,7 @@ abbrev pub AnswersWords : Kinds → Result Task WordsFault → Type 0
 AnswersWords mistakes (Ok Settle) = mistakes ≡ []
 AnswersWords mistakes (Ok Once) = mistakes ≡ []
 AnswersWords mistakes (Ok (Create disk)) = mistakes ≡ []
+AnswersWords mistakes (Ok (Serve disk workers every)) = mistakes ≡ []
 AnswersWords mistakes (Ok (Help text)) = IsAmong DisplayHelp mistakes
 AnswersWords mistakes (Ok (Version text)) =
     IsAmong DisplayVersion mistakes × (string_bytes text ≡ version_line)
@@ -95,5 +120,8 @@ Names words Settle = NamesCommand (codes "settle") words
 Names words Once = NamesCommand (codes "once") words
 Names words (Create disk) = BeginsWith (codes "create") words
     × (string_bytes disk ≡ value_met (codes "disk") (subcommand_of command_line words))
+Names words (Serve disk workers every) = BeginsWith (codes "serve") words
+    × (string_bytes disk ≡ value_met (codes "disk") (subcommand_of command_line words))
+    × (1 ≤ workers) × (workers ≤ 64) × (1 ≤ every) × (every ≤ 1000000)
 Names words (Help text) = Unit {0}
 Names words (Version text) = Unit {0}

@@ -1,17 +1,24 @@
 //! The words after the program's name.
 
-ghost use Rattle.std.specs.Prelude.{◌≡◌, false, map, IfOk, codes, [], ◌∷◌, string_bytes};
-ghost use Rattle.clap.specs.Words.{app_of, fault_of, subcommand_rows_of};
+ghost use Rattle.std.specs.Prelude.{◌≡◌, ◌≤◌, false, map, IfOk, codes, [], ◌∷◌, string_bytes};
+ghost use Rattle.clap.specs.Words.{app_of, fault_of, new_app, rule_of, subcommand_rows_of};
 ghost use Rattle.clap.specs.declared.builder.command.Command.TheViews.{out-Command};
 ghost use Rattle.ic_words.specs.Words.{AnswersWords, GivesHelp, GivesTask, GivesVersion, Names};
-ghost use Rattle.ic_words.specs.Words.{command_line, create_command, value_met};
+ghost use Rattle.ic_words.specs.Words.{command_line, create_command, serve_command};
+ghost use Rattle.ic_words.specs.Words.{disk_option, every_option, workers_option, value_met};
 
 use clap::error::ErrorKind;
-use clap::{Arg, ArgMatches, Command};
+use clap::{Arg, ArgMatches, Command, value_parser};
 use std::alloc::{AllocError, AllocFailed, Global};
 
 /// The version of the program.
 const VERSION: &str = "0.1.0";
+
+/// The most threads of a round.
+const MAX_WORKERS: u32 = 64;
+
+/// The most rounds between two keeps.
+const MAX_EVERY: u32 = 1_000_000;
 
 /// What the words after the program's name ask for.
 #[derive(Debug, Drop)]
@@ -24,6 +31,15 @@ pub enum Task {
     Create {
         /// The path of the file.
         disk: String,
+    },
+    /// Serve the lines of standard input over a disk.
+    Serve {
+        /// The path of the disk's file.
+        disk: String,
+        /// How many threads make a round, from 1 to 64.
+        workers: u32,
+        /// After how many rounds they are kept, from 1 to 1,000,000.
+        every: u32,
     },
     /// Show this help.
     Help(String),
@@ -69,6 +85,16 @@ pub fn read_words(alloc: Global, words: &[String]) -> Result<Task, WordsFault>
                 let disk = String::from_str(alloc, value_of(&matches, "disk"))?;
                 Ok(Task::Create { disk })
             }
+            Some("serve") => {
+                let disk = String::from_str(alloc, value_of(&matches, "disk"))?;
+                let workers = number_of(&matches, "workers", MAX_WORKERS);
+                let every = number_of(&matches, "every", MAX_EVERY);
+                Ok(Task::Serve {
+                    disk,
+                    workers,
+                    every,
+                })
+            }
             _ => unreachable!(),
         },
         Err(error) => match error.kind() {
@@ -92,32 +118,109 @@ fn value_of<'a>(matches: &ArgMatches<'a>, option: &str) -> &'a str
     }
 }
 
+/// The number that is the value of an option of the command that was met, in its range.
+fn number_of(matches: &ArgMatches, option: &str, most: u32) -> u32
+    requires { 1 ≤ most }
+    ensures least { 1 ≤ result }
+    ensures most { result ≤ most }
+{
+    match matches.subcommand() {
+        Some((_, met)) => met.get_one::<u32>(option).unwrap_or(1).max(1).min(most),
+        None => 1,
+    }
+}
+
+/// The option that names a file.
+fn disk_option<'a>(alloc: Global, help: &'a str) -> Arg<'a>
+    ensures rule { rule_of result ≡ disk_option }
+    ensures local { result.global ≡ false }
+{
+    Arg::new(alloc, "disk")
+        .long("disk")
+        .value_name("F")
+        .required(true)
+        .help(help)
+}
+
+/// The option that says how many threads make a round.
+fn workers_option<'a>(alloc: Global) -> Arg<'a>
+    ensures rule { rule_of result ≡ workers_option }
+    ensures local { result.global ≡ false }
+{
+    Arg::new(alloc, "workers")
+        .long("workers")
+        .value_name("N")
+        .default_value("2")
+        .help("How many threads make a round, from 1 to 64")
+        .value_parser(value_parser!(u32).range(1..65))
+}
+
+/// The option that says after how many rounds they are kept.
+fn every_option<'a>(alloc: Global) -> Arg<'a>
+    ensures rule { rule_of result ≡ every_option }
+    ensures local { result.global ≡ false }
+{
+    Arg::new(alloc, "every")
+        .long("every")
+        .value_name("K")
+        .default_value("100")
+        .help("After how many rounds of a run they are kept, from 1 to 1000000")
+        .value_parser(value_parser!(u32).range(1..1_000_001))
+}
+
 /// The command that makes a file an empty disk.
 fn create_command<'a>(alloc: Global) -> Result<Command<'a>, AllocError>
     ensures shape { IfOk result (λ command. app_of command ≡ create_command) }
     ensures local { IfOk result (λ command. (out-Command command).has_globals ≡ false) }
 {
-    let disk = Arg::new(alloc, "disk")
-        .long("disk")
-        .value_name("F")
-        .required(true)
-        .help("The path of the file, which is made where it is missing");
+    let disk = disk_option(
+        alloc,
+        "The path of the file, which is made where it is missing",
+    );
     Command::new(alloc, "create")
         .about("Makes the file F an empty disk, whatever it held")
         .arg(disk)
+}
+
+/// The command that serves lines.
+fn serve_command<'a>(alloc: Global) -> Result<Command<'a>, AllocError>
+    ensures shape { IfOk result (λ command. app_of command ≡ serve_command) }
+    ensures local { IfOk result (λ command. (out-Command command).has_globals ≡ false) }
+{
+    let disk = disk_option(alloc, "The path of the file, which has to be a disk");
+    let workers = workers_option(alloc);
+    let every = every_option(alloc);
+    Command::new(alloc, "serve")
+        .about("Serves the lines of standard input over the disk in the file F")
+        .arg(disk)?
+        .arg(workers)?
+        .arg(every)
+}
+
+/// A command without options of its own.
+fn plain_command<'a>(alloc: Global, name: &'a str, about: &'a str) -> Command<'a>
+    ensures shape { app_of result ≡ new_app name.entry.now }
+    ensures local { (out-Command result).has_globals ≡ false }
+{
+    Command::new(alloc, name).about(about)
 }
 
 /// The program's command line.
 fn command<'a>(alloc: Global) -> Result<Command<'a>, AllocError>
     ensures { IfOk result (λ command. app_of command ≡ command_line) }
 {
-    let settle = Command::new(alloc, "settle").about(
+    let settle = plain_command(
+        alloc,
+        "settle",
         "Settles the configuration on standard input and prints it",
     );
-    let once = Command::new(alloc, "once").about(
+    let once = plain_command(
+        alloc,
+        "once",
         "Makes one round of the system on standard input and prints the configuration",
     );
     let create = create_command(alloc)?;
+    let serve = serve_command(alloc)?;
     Command::new(alloc, "icserve")
         .bin_name("icserve")?
         .about("A job server for the interaction calculus")
@@ -127,5 +230,6 @@ fn command<'a>(alloc: Global) -> Result<Command<'a>, AllocError>
         .subcommand_required(true)
         .subcommand(settle)?
         .subcommand(once)?
-        .subcommand(create)
+        .subcommand(create)?
+        .subcommand(serve)
 }

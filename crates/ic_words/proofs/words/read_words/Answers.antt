@@ -1,7 +1,7 @@
 use Rattle.std.proofs.Common.{◌≡◌, ◌∙◌, sym, ap, codes, Some, rules}
 use Rattle.std.specs.Prelude.{string_bytes}
 use Rattle.ic_words.specs.Words.{value_met}
-use Rattle.ic_words.proofs.WordsLaws.{create_named, rows_met, settle_or_create, once_or_create, begins_otherwise, mistake_made, none_made, taken_alone, settle_taken, once_taken, help_asked, version_asked, asked_alone, asked_not_taken, command_met, settle_named, once_named, none_other, no_other_alone}
+use Rattle.ic_words.proofs.WordsLaws.{create_named, serve_named, rows_met, settle_or_create, once_or_create, settle_or_serve, once_or_serve, begins_otherwise, mistake_made, none_made, taken_alone, settle_taken, once_taken, help_asked, version_asked, asked_alone, asked_not_taken, command_met, settle_named, once_named, none_other, no_other_alone}
 use Rattle.ic_words.proofs.words.read_words.Goals.{in_default-via-in-Some+in_default, in_default-via-in_default}
 use Rattle.ic_words.proofs.words.read_words.Goals as goal
 
@@ -57,13 +57,29 @@ returns-in-Some-create c =
       version = λ is. absurd (asked_not_taken _ _ _ version_asked is none);
     }
 
+pub returns-in-Some-serve : goal.returns-in-Some-serve
+returns-in-Some-serve c =
+    let none = none_made _ _ c.in_ok-command.ensures c.in-Ok.ensures.kinds in
+    let met = command_met _ _ c.in-Ok.matches c.in_ok-command.ensures c.in-Ok.ensures.kinds c.in-Ok.ensures.matches in
+    let begins = serve_named _ _ _ c.in-Some-serve.field-0 met c.subcommand_name.ensures c.in-Some-serve.is c.in-Some-serve.is-serve in
+    let rows = rows_met _ _ c.in-Ok.matches c.in_ok-command.ensures c.in-Ok.ensures.matches in
+    let text : string_bytes c.in_ok-disk-in-Some-serve.disk ≡ c.value_of-in-Some-serve.result.now = search rules in
+    record {
+      answers = none;
+      named = (begins, text ∙ c.value_of-in-Some-serve.ensures ∙ ap (value_met (codes "disk")) rows, c.number_of-workers.ensures.least, c.number_of-workers.ensures.most, c.number_of-every.ensures.least, c.number_of-every.ensures.most);
+      settle = λ is. absurd (settle_or_serve (ap Some (sym (begins_otherwise _ _ _ begins is))));
+      once = λ is. absurd (once_or_serve (ap Some (sym (begins_otherwise _ _ _ begins is))));
+      help = λ is. absurd (asked_not_taken _ _ _ help_asked is none);
+      version = λ is. absurd (asked_not_taken _ _ _ version_asked is none);
+    }
+
 pub unreachable-requires : goal.unreachable-requires
 unreachable-requires c =
     let met = command_met _ _ c.in-Ok.matches c.in_ok-command.ensures c.in-Ok.ensures.kinds c.in-Ok.ensures.matches in
     let name = c.subcommand_name.result in
     elim c.in_default.branch [
       | in_default-via-in-Some+in_default w ↦ none_other _ _ name met c.subcommand_name.ensures
-          (λ x is. (λ e. w.in_default.not-settle cc, λ e. w.in_default.not-once cc, λ e. w.in_default.not-create cc))
+          (λ x is. (λ e. w.in_default.not-settle cc, λ e. w.in_default.not-once cc, λ e. w.in_default.not-create cc, λ e. w.in_default.not-serve cc))
       | in_default-via-in_default w ↦ none_other _ _ name met c.subcommand_name.ensures (λ x is. cc)
     ]
 
