@@ -13,7 +13,7 @@ use Rattle.ic_text.specs.Name.{name_text}
 use Rattle.ic_text.specs.Source.{Source, leaf, node, Sources, no_sources, more_sources, IsSource, AreSources, words, argument_words, further_words}
 use Rattle.ic_text.specs.SystemSource.{AgentPhrase, agent_source}
 use Rattle.ic_text.specs.inner.Syntax.{word_spot, either_step, step, accepts}
-use Rattle.ic_text.proofs.NameLemmas.{is_name-name_text, isnt_name-symbol}
+use Rattle.ic_text.specs.lemmas.NameLemmas.{is_name-name_text, isnt_name-symbol}
 
 -- a state that is on its way
 abbrev pub at : Part → Spot → ℕ → Option State

@@ -10,7 +10,7 @@ use Rattle.ic_text.specs.Sense.{number_in_table, numbered_tree, numbered_trees, 
 use Rattle.ic_text.specs.inner.Prefix.{prefix, prefix_of_sources, phrase_prefix}
 use Rattle.ic_text.specs.inner.Numbered.{item_in}
 use Rattle.ic_text.specs.inner.Built.{with_item, built_before, pairs_of, configuration_from}
-use Rattle.ic_text.proofs.NameLemmas.{is_name-name_text, name_number-name_text, isnt_name-symbol}
+use Rattle.ic_text.specs.lemmas.NameLemmas.{is_name-name_text, name_number-name_text, isnt_name-symbol}
 use Rattle.ic_text.proofs.Grammar.{AreSides}
 
 pub trees_of-list_of : (ts : Trees) → trees_of (list_of ts) ≡ ts

@@ -7,7 +7,7 @@ use Rattle.std.proofs.lemmas.Bool.{ne_eqb}
 use Rattle.ic_text.specs.declared.token.Mark.{Mark}
 use Rattle.ic_text.specs.declared.token.Mark.TheVariants.{LeftBrace, RightBrace, Less, Greater, Bar, Equals, Comma, Semicolon, Open, Close}
 use Rattle.ic_text.specs.Token.{Token, mark, is_blank, is_word_byte, mark_byte, mark_of, before, followed, tokens_at, tokens}
-use Rattle.ic_text.proofs.WordRuns.{tokens-parted}
+use Rattle.ic_text.specs.lemmas.WordRuns.{tokens-parted}
 
 before-nil : (o : Option (List Token)) → before [] o ≡ o
 before-nil None = refl

@@ -13,7 +13,7 @@ use Rattle.ic_text.specs.Token.{Token, word, mark}
 use Rattle.ic_text.specs.Name.{is_name, name_number}
 use Rattle.ic_text.specs.Source.{Source, leaf, node, Sources, no_sources, more_sources, IsSource, AreSources, words, argument_words, further_words}
 use Rattle.ic_text.specs.inner.Syntax.{beside, either_step, accepts}
-use Rattle.ic_text.proofs.NameLemmas.{name_text-name_number}
+use Rattle.ic_text.specs.lemmas.NameLemmas.{name_text-name_number}
 use Rattle.ic_text.proofs.Accepted.{at, symbol_is_term, inside, comma_step, close_step}
 
 -- a part that terms stand in

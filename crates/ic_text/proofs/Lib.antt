@@ -1,5 +1,4 @@
 pub mod TokenLemmas
-pub mod NameLemmas
 pub mod Accepted
 pub mod Grammar
 pub mod Found
@@ -25,13 +24,10 @@ pub mod OneSystem
 pub mod ReadBack
 pub mod WrittenTokens
 pub mod KeptBytes
-pub mod WordRuns
 pub mod SymbolOrder
 pub mod ByteKinds
 pub mod InTextOrder
 pub mod NextAbove
-pub mod NameTexts
-pub mod ReadOnce
 pub mod Surveying
 pub mod WordSplits
 pub mod LineReading

@@ -28,9 +28,9 @@ use Rattle.ic_text.specs.LineSource.{nothing, about, list, run, is_job_word, is_
 use Rattle.ic_text.specs.LineSense.{submitted, asked, unless_long, line_sense}
 use Rattle.ic_text.specs.LineText.{ReadsLine}
 use Rattle.ic_text.specs.inner.Line.{IsLineOf}
-use Rattle.ic_text.proofs.NameLemmas.{is_name-name_text, name_number-name_text, name_text-name_number}
-use Rattle.ic_text.proofs.NameTexts.{name_text-digits}
-use Rattle.ic_text.proofs.WordRuns.{tokens-parted, tokens-run}
+use Rattle.ic_text.specs.lemmas.NameLemmas.{is_name-name_text, name_number-name_text, name_text-name_number}
+use Rattle.ic_text.specs.lemmas.NameTexts.{name_text-digits}
+use Rattle.ic_text.specs.lemmas.WordRuns.{tokens-parted, tokens-run}
 use Rattle.ic_text.proofs.WordSplits.{before-none}
 use Rattle.ic_text.proofs.LineReading.{is_sense, is_sense_behind, reads_line}
 use Rattle.ic_text.proofs.LineParts.{job_name-parts, short_name, word_of-named, submit_read, submit_too_long}

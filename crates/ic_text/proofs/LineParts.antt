@@ -20,7 +20,7 @@ use Rattle.ic_text.specs.LineSource.{submit, is_job_word}
 use Rattle.ic_text.specs.LineSense.{unless_long, submitted, line_sense}
 use Rattle.ic_text.specs.inner.Line.{is_nothing, opening_of, IsLineOf, ReadsBehind}
 use Rattle.ic_text.proofs.OneSystem.{told_systems}
-use Rattle.ic_text.proofs.ReadOnce.{spelling}
+use Rattle.ic_text.specs.lemmas.ReadOnce.{spelling}
 use Rattle.ic_text.proofs.LineReading.{text-opening_of, stands_in, is_no_line_behind, is_sense_behind}
 
 -- a text of no tokens

@@ -17,7 +17,7 @@ use Rattle.ic_text.specs.LineSense.{line_sense}
 use Rattle.ic_text.specs.LineText.{ReadsLine}
 use Rattle.ic_text.specs.inner.Line.{opening_text, openings, opening_of, IsLineOf}
 use Rattle.ic_text.proofs.OneSystem.{told_systems}
-use Rattle.ic_text.proofs.ReadOnce.{IsTold, some-injective}
+use Rattle.ic_text.specs.lemmas.ReadOnce.{IsTold, some-injective}
 
 -- the words that open a line, each by its text
 pub opening_of-text : (o : Opening) → opening_of (opening_text o) ≡ Some o

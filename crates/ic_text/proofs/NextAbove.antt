@@ -16,7 +16,7 @@ use Rattle.ic_text.specs.SystemText.{ReadsSystem}
 use Rattle.ic_text.proofs.Over.{has_sense}
 use Rattle.ic_text.proofs.OneReading.{told}
 use Rattle.ic_text.proofs.OneSystem.{told_systems}
-use Rattle.ic_text.proofs.ReadOnce.{meant}
+use Rattle.ic_text.specs.lemmas.ReadOnce.{meant}
 
 abbrev IsNext : Configuration → Type 0
 IsNext c = c.next ≡ one_above (configuration_names c)

@@ -19,7 +19,7 @@ use Rattle.ic_text.specs.SystemSense.{is_system_in_limits, system_table, rules_o
 use Rattle.ic_text.specs.LineSource.{LinePhrase, nothing, submit, about, list, run, IsLine, line_words}
 use Rattle.ic_text.specs.LineSense.{submitted, line_sense}
 use Rattle.ic_text.specs.LineText.{ReadsLine}
-use Rattle.ic_text.proofs.ReadOnce.{spelling}
+use Rattle.ic_text.specs.lemmas.ReadOnce.{spelling}
 use Rattle.ic_text.proofs.LineReading.{told_lines}
 
 abbrev is_want : TextFault → Bool

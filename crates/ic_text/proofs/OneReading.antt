@@ -9,12 +9,12 @@ use Rattle.ic_text.specs.Name.{is_name, name_number}
 use Rattle.ic_text.specs.Source.{Source, leaf, node, Sources, no_sources, more_sources, Sides, Phrase, IsSource, AreSources, IsPhrase, phrase_words, count_of}
 use Rattle.ic_text.specs.inner.Syntax.{accepts}
 use Rattle.ic_text.specs.inner.Prefix.{Scanned, prefix, prefix_of_sources, phrase_prefix, scan}
-use Rattle.ic_text.proofs.NameLemmas.{is_name-name_text, name_number-name_text, isnt_name-symbol}
+use Rattle.ic_text.specs.lemmas.NameLemmas.{is_name-name_text, name_number-name_text, isnt_name-symbol}
 use Rattle.ic_text.proofs.Accepted.{at}
 use Rattle.ic_text.proofs.Grammar.{AreSides}
 use Rattle.ic_text.proofs.FoundPhrase.{SpelledBy-accepts, accepts-SpelledBy}
 use Rattle.ic_text.proofs.Scanning.{scan-phrase_words}
-use Rattle.ic_text.proofs.ReadOnce.{IsTold}
+use Rattle.ic_text.specs.lemmas.ReadOnce.{IsTold}
 
 -- the arguments of a symbol as a list, and back
 abbrev sources_in : Sources → List Source

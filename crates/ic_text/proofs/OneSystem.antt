@@ -14,7 +14,7 @@ use Rattle.ic_text.proofs.Grammar.{behind_commas, AreSides}
 use Rattle.ic_text.proofs.GrammarSystem.{behind_semicolons, split-rules_words}
 use Rattle.ic_text.proofs.FoundSystem.{SystemSpelledBy-accepts, accepts-SystemSpelledBy}
 use Rattle.ic_text.proofs.OneReading.{phrase_words-injective}
-use Rattle.ic_text.proofs.ReadOnce.{IsTold}
+use Rattle.ic_text.specs.lemmas.ReadOnce.{IsTold}
 
 -- the tokens of rules as those of equations: `><` as `=`, `;` as `,`
 abbrev as_equations : List Token → List Token

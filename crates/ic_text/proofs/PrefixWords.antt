@@ -11,7 +11,7 @@ use Rattle.ic_text.specs.Source.{Source, leaf, node, Sources, no_sources, more_s
 use Rattle.ic_text.specs.Sense.{symbols_after, has_its_arity}
 use Rattle.ic_text.specs.inner.Prefix.{prefix, prefix_of_sources, phrase_prefix}
 use Rattle.ic_text.specs.inner.Numbered.{IsWord, table_over, is_word_in_limits, is_word_over}
-use Rattle.ic_text.proofs.NameLemmas.{is_name-name_text, name_number-name_text, isnt_name-symbol}
+use Rattle.ic_text.specs.lemmas.NameLemmas.{is_name-name_text, name_number-name_text, isnt_name-symbol}
 
 -- the symbols among words
 abbrev pub symbols_among : List Symbol → List Symbol

@@ -18,7 +18,7 @@ use Rattle.ic_text.proofs.KeptBytes.{text_of-tokens}
 use Rattle.ic_text.proofs.Over.{has_sense}
 use Rattle.ic_text.proofs.WrittenTokens.{tokens-phrase_words}
 use Rattle.ic_text.proofs.OneReading.{told}
-use Rattle.ic_text.proofs.ReadOnce.{one_phrase, meant}
+use Rattle.ic_text.specs.lemmas.ReadOnce.{one_phrase, meant}
 
 text-get_or : (ss : List Symbol) (n : ℕ) → get_or (texts ss) n [] ≡ text_or_none (slice_get ss n)
 text-get_or [] zero = refl

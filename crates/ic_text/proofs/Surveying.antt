@@ -17,7 +17,7 @@ use Rattle.ic_text.specs.inner.Prefix.{phrase_prefix, rules_prefix}
 use Rattle.ic_text.specs.inner.Syntax.{step, is_end, at_beginning, accepts}
 use Rattle.ic_text.specs.inner.Survey.{take_one, taken, taken_behind, taken_at, counted, surveyed, Tells}
 use Rattle.ic_text.proofs.TokenLemmas.{ended_run}
-use Rattle.ic_text.proofs.ReadOnce.{IsTold, some-injective, none_is_some}
+use Rattle.ic_text.specs.lemmas.ReadOnce.{IsTold, some-injective, none_is_some}
 use Rattle.ic_text.proofs.InTextOrder.{among-phrase, among-system}
 use Rattle.ic_text.proofs.PrefixWords.{length-phrase_prefix}
 use Rattle.ic_text.proofs.JoinedPhrase.{joined_phrase, prefix-joined, length-rules_prefix}

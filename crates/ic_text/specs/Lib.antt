@@ -1,4 +1,5 @@
--- What a reader of the public contracts must believe, and `inner`, which is for private functions.
+-- What a reader of the public contracts must believe; `lemmas`, which is proved; and `inner`, which
+-- is for private functions.
 pub mod Token
 pub mod Name
 pub mod Source
@@ -13,4 +14,5 @@ pub mod LineSource
 pub mod LineSense
 pub mod LineText
 pub mod ReplyText
+pub mod lemmas
 pub mod inner

@@ -1,5 +1,5 @@
 -- To be believed: the texts of names.
-use Rattle.std.specs.Prelude.{ℕ, ◌+◌, ◌-◌, ◌*◌, ◌/◌, ◌%◌, ◌==◌, List, [], ◌∷◌, Bool, true, false, ◌&&◌, not, map}
+use Rattle.std.specs.Prelude.{ℕ, ◌+◌, ◌-◌, ◌*◌, ◌/◌, ◌%◌, ◌==◌, List, [], ◌∷◌, Bool, true, false, ◌&&◌, not, Option, None, Some, map, nat_le, if◌then◌else◌}
 use Rattle.std.specs.List.{list_all}
 use Rattle.std.specs.Int.Digits.{digits_of, number_from_digits}
 use Rattle.std.specs.Char.{is_ascii_lowercase, is_ascii_digit}
@@ -27,3 +27,7 @@ number_in ds = number_from_digits 10 (map (λ d. d - 48) ds)
 abbrev pub name_number : List ℕ → ℕ
 name_number [] = 0
 name_number (b ∷ ds) = 26 * number_in ds + (b - 97)
+
+-- a number, unless it is too great
+abbrev pub up_to : ℕ → ℕ → Option ℕ
+up_to most n = if nat_le n most then Some n else None

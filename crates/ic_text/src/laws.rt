@@ -1,6 +1,6 @@
 //! What is proved of the definitions alone: each law is the contract of a function that does nothing.
 
-ghost use Rattle.std.specs.Prelude.{◌≡◌, ◌≢◌, ◌↔◌, ◌<◌, ◌≤◌, ◌+◌, ◌*◌, ◌^◌, ◌&&◌, ◌||◌, ◌==◌, ℕ, List, [], ◌∷◌, ◌++◌, Result, Ok, Err, Some, None, true, false, length, map, codes, not, slice_get, nat_le, IsTrue};
+ghost use Rattle.std.specs.Prelude.{◌≡◌, ◌≢◌, ◌↔◌, ◌<◌, ◌≤◌, ◌+◌, ◌*◌, ◌^◌, ◌&&◌, ◌||◌, ◌==◌, ℕ, Bool, List, [], ◌∷◌, ◌++◌, Result, Ok, Err, Some, None, true, false, length, map, codes, not, slice_get, nat_le, IsTrue};
 ghost use Rattle.std.specs.List.{filter, flat_map, list_any, list_all, AllByRecursion};
 ghost use Rattle.std.specs.Str.{bytes_eq};
 ghost use Rattle.std.specs.Char.{is_ascii_alphanumeric, is_ascii_lowercase, is_ascii_digit};
@@ -56,6 +56,14 @@ pub fn one_system_reading()
     ensures answer { (text : List ℕ) (a b : Result SystemParts TextFault) →
         ReadsSystem text a → ReadsSystem text b → a ≡ b }
     ensures total { (text : List ℕ) → (a : Result SystemParts TextFault) × ReadsSystem text a }
+{}
+
+/// A system is told by its tokens: no other has them, and a test tells the tokens of systems from others.
+pub fn systems_are_told_by_their_tokens()
+    ensures one { (s t : SystemPhrase) → IsSystemPhrase s → IsSystemPhrase t →
+        system_words s ≡ system_words t → s ≡ t }
+    ensures test { (is_one : List Token → Bool) × ((ts : List Token) →
+        IsTrue (is_one ts) ↔ ((s : SystemPhrase) × IsSystemPhrase s × (ts ≡ system_words s))) }
 {}
 
 /// The limits of a text.

@@ -3,9 +3,8 @@
 ghost use Rattle.std.specs.Prelude.{◌≡◌, IsTrue};
 ghost use Rattle.std.specs.List.{list_all};
 ghost use Rattle.std.specs.Char.{is_ascii_digit};
-ghost use Rattle.ic_text.specs.Name.{is_name, is_numeral, number_in, name_number};
+ghost use Rattle.ic_text.specs.Name.{is_name, is_numeral, number_in, name_number, up_to};
 ghost use Rattle.ic_text.specs.LineSource.{is_number};
-ghost use Rattle.ic_text.specs.inner.Bounds.{up_to};
 
 use crate::limits::MAX_NAME;
 
@@ -46,7 +45,7 @@ pub(crate) fn is_number(text: &[u8]) -> bool
 }
 
 /// The number that digits write, where it is at most the greatest number of a name.
-pub(crate) fn number_in(digits: &[u8]) -> Option<u64>
+pub fn number_in(digits: &[u8]) -> Option<u64>
     requires { IsTrue (list_all is_ascii_digit digits.now) }
     ensures { result ≡ up_to MAX_NAME (number_in digits.now) }
 {

@@ -131,8 +131,9 @@ fn put_equations(
     Ok(())
 }
 
-/// Appends a configuration.
-pub(crate) fn put_config(
+/// Appends the text of a configuration, as `print_config` writes it. Recurses on nesting, which the number of its nodes
+/// bounds. Where a growth is refused a part of it may stand there.
+pub fn put_config(
     alloc: Global,
     symbols: &Symbols,
     config: &Config,

@@ -6,7 +6,8 @@ ghost use Rattle.std.specs.Bool.{OnTrue, OnFalse};
 ghost use Rattle.ic_text.specs.inner.Survey.{IsWithin, HasRisen, taken, taken_at, counted, surveyed, Tells};
 ghost use Rattle.ic_text.specs.inner.Tokens.{token_of};
 ghost use Rattle.ic_text.specs.Source.{IsPhrase, phrase_words};
-ghost use Rattle.ic_text.specs.SystemSource.{IsSystemPhrase, system_words};
+ghost use Rattle.ic_text.specs.SystemSource.{SystemPhrase, IsSystemPhrase, system_words};
+ghost use Rattle.ic_text.specs.SystemText.{SpellsSystem};
 ghost use Rattle.ic_text.specs.Token.{word_of, tokens};
 
 use crate::limits::MAX_TEXT;
@@ -123,4 +124,13 @@ pub(crate) fn survey_system(text: &[u8]) -> Option<Counts>
     ensures { Tells IsSystemPhrase system_words text.now result }
 {
     survey(Part::Start, text)
+}
+
+/// Whether a text spells a system, whatever it means. Takes one pass, and no memory.
+pub fn is_system(text: &[u8]) -> bool
+    requires { length text.now ≤ MAX_TEXT }
+    ensures spelled { OnTrue result ((s : SystemPhrase) × SpellsSystem text.now s) }
+    ensures none { OnFalse result ((s : SystemPhrase) → ¬ SpellsSystem text.now s) }
+{
+    survey_system(text).is_some()
 }

@@ -28,13 +28,15 @@ pub(crate) enum Token<'a> {
     Mark(Mark),
 }
 
-pub(crate) fn is_blank(byte: u8) -> bool
+/// Whether a byte is dropped between words: a space, a tab, a line feed or a carriage return.
+pub fn is_blank(byte: u8) -> bool
     ensures { result ≡ is_blank byte }
 {
     byte == b' ' || byte == b'\t' || byte == b'\n' || byte == b'\r'
 }
 
-pub(crate) fn is_word_byte(byte: u8) -> bool
+/// Whether a byte is of a word: a letter, a digit or `-`.
+pub fn is_word_byte(byte: u8) -> bool
     ensures { result ≡ is_word_byte byte }
 {
     byte.is_ascii_alphanumeric() || byte == b'-'

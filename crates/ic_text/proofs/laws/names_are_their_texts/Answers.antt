@@ -1,5 +1,5 @@
-use Rattle.ic_text.proofs.NameLemmas.{name_number-name_text, name_text-name_number}
-use Rattle.ic_text.proofs.NameTexts.{name_text-letter, name_text-digits, is_name-text}
+use Rattle.ic_text.specs.lemmas.NameLemmas.{name_number-name_text, name_text-name_number}
+use Rattle.ic_text.specs.lemmas.NameTexts.{name_text-letter, name_text-digits, is_name-text}
 use Rattle.ic_text.proofs.laws.names_are_their_texts.Goals as goal
 
 pub returns : goal.returns

@@ -1,6 +1,6 @@
 use Rattle.ic_text.specs.Source.{IsPhrase, phrase_words}
 use Rattle.ic_text.specs.Sense.{sense}
-use Rattle.ic_text.proofs.ReadOnce.{one_phrase, one_answer, some_answer}
+use Rattle.ic_text.specs.lemmas.ReadOnce.{one_phrase, one_answer, some_answer}
 use Rattle.ic_text.proofs.OneReading.{told}
 use Rattle.ic_text.proofs.laws.one_reading.Goals as goal
 

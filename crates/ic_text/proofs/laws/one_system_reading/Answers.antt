@@ -1,6 +1,6 @@
 use Rattle.ic_text.specs.SystemSource.{IsSystemPhrase, system_words}
 use Rattle.ic_text.specs.SystemSense.{system_sense}
-use Rattle.ic_text.proofs.ReadOnce.{one_phrase, one_answer, some_answer}
+use Rattle.ic_text.specs.lemmas.ReadOnce.{one_phrase, one_answer, some_answer}
 use Rattle.ic_text.proofs.OneSystem.{told_systems}
 use Rattle.ic_text.proofs.laws.one_system_reading.Goals as goal
 

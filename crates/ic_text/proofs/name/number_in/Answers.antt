@@ -3,8 +3,7 @@ use Rattle.std.specs.Int.Digits.{number_from_digits_after}
 use Rattle.std.proofs.lemmas.List.{drop_more}
 use Rattle.std.proofs.lemmas.Int.Digits.{number_after_ge}
 use Rattle.std.proofs.lemmas.Bool.Decides.{nat_tests}
-use Rattle.ic_text.specs.Name.{number_in}
-use Rattle.ic_text.specs.inner.Bounds.{up_to}
+use Rattle.ic_text.specs.Name.{number_in, up_to}
 use Rattle.ic_text.proofs.name.number_in.Goals as goal
 
 up_to-none : (most n : ℕ) → most < n → None ≡ up_to most n

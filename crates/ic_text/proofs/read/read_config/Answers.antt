@@ -2,7 +2,7 @@ use Rattle.std.proofs.Common.{subst, arith}
 use Rattle.ic_text.specs.Source.{IsPhrase, phrase_words}
 use Rattle.ic_text.specs.Sense.{sense}
 use Rattle.ic_text.specs.Text.{Reads}
-use Rattle.ic_text.proofs.ReadOnce.{reads_sense}
+use Rattle.ic_text.specs.lemmas.ReadOnce.{reads_sense}
 use Rattle.ic_text.proofs.OneReading.{told}
 use Rattle.ic_text.proofs.Sensing.{sense-many}
 use Rattle.ic_text.proofs.Surveying.{length-words-phrase}

@@ -2,7 +2,7 @@ use Rattle.std.proofs.Common.{subst, arith}
 use Rattle.ic_text.specs.SystemSource.{IsSystemPhrase, system_words}
 use Rattle.ic_text.specs.SystemSense.{system_sense}
 use Rattle.ic_text.specs.SystemText.{ReadsSystem}
-use Rattle.ic_text.proofs.ReadOnce.{reads_sense}
+use Rattle.ic_text.specs.lemmas.ReadOnce.{reads_sense}
 use Rattle.ic_text.proofs.OneSystem.{told_systems}
 use Rattle.ic_text.proofs.SensingSystem.{system-many}
 use Rattle.ic_text.proofs.Surveying.{length-words-system}

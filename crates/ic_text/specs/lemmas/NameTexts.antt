@@ -3,7 +3,7 @@ use Rattle.std.proofs.Common.{◌≡◌, ◌↔◌, ℕ, ◌+◌, ◌*◌, ◌/�
 use Rattle.std.specs.Fmt.{decimal}
 use Rattle.std.proofs.lemmas.Fmt.{decimal-digits_of}
 use Rattle.ic_text.specs.Name.{name_text, is_name, name_number}
-use Rattle.ic_text.proofs.NameLemmas.{is_name-name_text, name_text-name_number}
+use Rattle.ic_text.specs.lemmas.NameLemmas.{is_name-name_text, name_text-name_number}
 
 pub name_text-letter : (l : ℕ) → l < 26 → name_text l ≡ (97 + l) ∷ []
 name_text-letter l low =
