@@ -29,8 +29,3 @@ pub mod ByteKinds
 pub mod InTextOrder
 pub mod NextAbove
 pub mod Surveying
-pub mod WordSplits
-pub mod LineReading
-pub mod LineParts
-pub mod LineLaws
-pub mod NoMemory

@@ -10,9 +10,5 @@ pub mod Reading
 pub mod Text
 pub mod FaultNumber
 pub mod SystemText
-pub mod LineSource
-pub mod LineSense
-pub mod LineText
-pub mod ReplyText
 pub mod lemmas
 pub mod inner

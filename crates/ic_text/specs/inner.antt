@@ -9,4 +9,3 @@ pub mod Numbered
 pub mod Terms
 pub mod Built
 pub mod Printing
-pub mod Line

@@ -5,6 +5,3 @@ pub const MAX_TEXT: usize = 262_144;
 
 /// The greatest number of a name that a text may hold.
 pub const MAX_NAME: u64 = (1 << 32) - 1;
-
-/// The greatest number of a `run` line.
-pub const MAX_RUN: u64 = 1_000;

@@ -1,10 +1,9 @@
-//! Names: a letter, and a number where it has one; and numbers by themselves.
+//! Names: a letter, and a number where it has one; and what digits write.
 
 ghost use Rattle.std.specs.Prelude.{◌≡◌, IsTrue};
 ghost use Rattle.std.specs.List.{list_all};
 ghost use Rattle.std.specs.Char.{is_ascii_digit};
 ghost use Rattle.ic_text.specs.Name.{is_name, is_numeral, number_in, name_number, up_to};
-ghost use Rattle.ic_text.specs.LineSource.{is_number};
 
 use crate::limits::MAX_NAME;
 
@@ -31,16 +30,6 @@ pub(crate) fn is_name(text: &[u8]) -> bool
     match text.split_first() {
         None => false,
         Some((letter, rest)) => letter.is_ascii_lowercase() && is_numeral(rest),
-    }
-}
-
-/// Whether a word is `0`, or digits without a leading zero.
-pub(crate) fn is_number(text: &[u8]) -> bool
-    ensures { result ≡ is_number text.now }
-{
-    match text.split_first() {
-        None => false,
-        Some(_) => text == b"0".as_slice() || is_numeral(text),
     }
 }
 

@@ -14,7 +14,7 @@ use ic_term::{Cell, Config, Equation, Symbols, Term};
 use std::alloc::{AllocError, Global};
 
 /// Appends a number in digits.
-pub(crate) fn put_decimal(alloc: Global, out: &mut Vec<u8>, number: u64) -> Result<(), AllocError>
+fn put_decimal(alloc: Global, out: &mut Vec<u8>, number: u64) -> Result<(), AllocError>
     ensures { OnOk result (out.new.items ≡ out.old.items ++ decimal number) }
 {
     let digits = number.to_string(alloc)?;

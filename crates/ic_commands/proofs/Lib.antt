@@ -1,0 +1,6 @@
+pub mod WordSplits
+pub mod LineReading
+pub mod LineTold
+pub mod LineParts
+pub mod LineLaws
+pub mod NoMemory

@@ -1,0 +1,100 @@
+-- A text spells at most one line, and whether it spells one can be told, where both hold of systems.
+use Rattle.std.proofs.Common.{◌≡◌, ◌&&◌, Bool, true, false, List, [], ◌∷◌, Option, None, Some, refl, ap, ◌∙◌}
+use Rattle.std.proofs.lemmas.Bool.{false≢true, and_parts}
+use Rattle.ic_text.specs.Token.{Token, word, mark}
+use Rattle.ic_text.specs.SystemSource.{IsSystemPhrase, system_words}
+use Rattle.ic_text.specs.lemmas.ReadOnce.{IsTold}
+use Rattle.ic_commands.specs.declared.line.Opening.{Opening}
+use Rattle.ic_commands.specs.declared.line.Opening.TheVariants as opening
+use Rattle.ic_commands.specs.declared.line.Verb.TheVariants.{Pause, Resume, Cancel, Fetch}
+use Rattle.ic_commands.specs.LineSource.{LinePhrase, nothing, submit, about, list, run, IsLine, is_job_word, is_number, line_words}
+use Rattle.ic_commands.specs.inner.Line.{opening_text, opening_of}
+use Rattle.ic_commands.proofs.LineReading.{text-opening_of, OneSystem, line_words-injective}
+
+module _ (told_systems : IsTold IsSystemPhrase system_words) where
+  -- whether tokens stand behind the word that opens a line
+  abbrev stands_behind : Opening → List Token → Bool
+  stands_behind opening.Submit [] = false
+  stands_behind opening.Submit (mark m ∷ ts) = false
+  stands_behind opening.Submit (word name ∷ ts) = is_job_word name && told_systems.test ts
+  stands_behind (opening.About verb) [] = false
+  stands_behind (opening.About verb) (mark m ∷ ts) = false
+  stands_behind (opening.About verb) (word name ∷ []) = is_job_word name
+  stands_behind (opening.About verb) (word name ∷ t ∷ ts) = false
+  stands_behind opening.List [] = true
+  stands_behind opening.List (t ∷ ts) = false
+  stands_behind opening.Run [] = false
+  stands_behind opening.Run (mark m ∷ ts) = false
+  stands_behind opening.Run (word digits ∷ []) = is_number digits
+  stands_behind opening.Run (word digits ∷ t ∷ ts) = false
+
+  abbrev opened : Option Opening → List Token → Bool
+  opened None ts = false
+  opened (Some o) ts = stands_behind o ts
+
+  -- whether tokens are those of a line
+  abbrev is_line : List Token → Bool
+  is_line [] = true
+  is_line (mark m ∷ ts) = false
+  is_line (word w ∷ ts) = opened (opening_of w) ts
+
+  -- some line has these tokens
+  abbrev LineBy : List Token → Type 0
+  LineBy ts = (p : LinePhrase) × IsLine p × (ts ≡ line_words p)
+
+  found-behind : (o : Opening) (ts : List Token) → stands_behind o ts ≡ true → LineBy (word (opening_text o) ∷ ts)
+  found-behind opening.Submit [] e = absurd (false≢true e)
+  found-behind opening.Submit (mark m ∷ ts) e = absurd (false≢true e)
+  found-behind opening.Submit (word name ∷ ts) e =
+      let parts = and_parts (is_job_word name) (told_systems.test ts) e in
+      let s = told_systems.found ts parts.1 in
+      (submit name s.0, (parts.0, s.1), ap (λ us. word (opening_text opening.Submit) ∷ word name ∷ us) s.2)
+  found-behind (opening.About verb) [] e = absurd (false≢true e)
+  found-behind (opening.About verb) (mark m ∷ ts) e = absurd (false≢true e)
+  found-behind (opening.About verb) (word name ∷ []) e = (about verb name, e, refl)
+  found-behind (opening.About verb) (word name ∷ t ∷ ts) e = absurd (false≢true e)
+  found-behind opening.List [] e = (list, tt, refl)
+  found-behind opening.List (t ∷ ts) e = absurd (false≢true e)
+  found-behind opening.Run [] e = absurd (false≢true e)
+  found-behind opening.Run (mark m ∷ ts) e = absurd (false≢true e)
+  found-behind opening.Run (word digits ∷ []) e = (run digits, e, refl)
+  found-behind opening.Run (word digits ∷ t ∷ ts) e = absurd (false≢true e)
+
+  found-line : (ts : List Token) → is_line ts ≡ true → LineBy ts
+  found-line [] e = (nothing, tt, refl)
+  found-line (mark m ∷ ts) e = absurd (false≢true e)
+  found-line (word w ∷ ts) e = by_opening (opening_of w) refl e
+    where
+      by_opening : (o : Option Opening) → opening_of w ≡ o → opened o ts ≡ true → LineBy (word w ∷ ts)
+      by_opening None is e = absurd (false≢true e)
+      by_opening (Some o) is e =
+          let line = found-behind o ts e in
+          (line.0, line.1, ap (λ x. word x ∷ ts) (text-opening_of w o is) ∙ line.2)
+
+  line_words-test : (p : LinePhrase) → IsLine p → is_line (line_words p) ≡ true
+  line_words-test nothing is = refl
+  line_words-test (submit name s) is = rw is.0 (told_systems.only _ (s, is.1, refl))
+  line_words-test (about Pause name) is = is
+  line_words-test (about Resume name) is = is
+  line_words-test (about Cancel name) is = is
+  line_words-test (about Fetch name) is = is
+  line_words-test list is = refl
+  line_words-test (run digits) is = is
+
+  only-line : (ts : List Token) → LineBy ts → is_line ts ≡ true
+  only-line ts line = ap is_line line.2 ∙ line_words-test line.0 line.1
+
+  one_system : (p : LinePhrase) → IsLine p → OneSystem p
+  one_system nothing is = tt
+  one_system (submit name s) is = λ t is_t same. told_systems.injective s t is.1 is_t same
+  one_system (about verb name) is = tt
+  one_system list is = tt
+  one_system (run digits) is = tt
+
+  pub told_lines : IsTold IsLine line_words
+  told_lines = record {
+    test = is_line;
+    found = found-line;
+    only = only-line;
+    injective = λ p q is_p is_q same. line_words-injective p q (one_system p is_p) is_q same;
+  }

@@ -1,0 +1,41 @@
+-- To be believed: what a command line that is written means.
+use Rattle.std.specs.Prelude.{ℕ, List, Result, Ok, Err, length, nat_le, if◌then◌else◌}
+use Rattle.ic_rules.specs.System.{SystemParts}
+use Rattle.ic_rules.specs.declared.job_name.TheConstants.{MAX_JOB_NAME}
+use Rattle.ic_jobs.specs.declared.command.Command.{Command}
+use Rattle.ic_jobs.specs.declared.command.Command.TheVariants as command
+use Rattle.ic_commands.specs.declared.limits.TheConstants.{MAX_RUN}
+use Rattle.ic_commands.specs.declared.line.Line.{Line}
+use Rattle.ic_commands.specs.declared.line.Line.TheVariants.{Blank, Command as Asks, Run}
+use Rattle.ic_commands.specs.declared.line.Verb.{Verb}
+use Rattle.ic_commands.specs.declared.line.Verb.TheVariants.{Pause, Resume, Cancel, Fetch}
+use Rattle.ic_text.specs.declared.fault.TextFault.{TextFault}
+use Rattle.ic_text.specs.declared.fault.TextFault.TheVariants.{Limit}
+use Rattle.ic_text.specs.Name.{number_in}
+use Rattle.ic_text.specs.SystemSense.{system_sense}
+use Rattle.ic_commands.specs.LineSource.{LinePhrase, nothing, submit, about, list, run}
+
+-- what is asked of the job of a name
+abbrev pub asked : Verb → List ℕ → Command
+asked Pause name = command.Pause name
+asked Resume name = command.Resume name
+asked Cancel name = command.Cancel name
+asked Fetch name = command.Fetch name
+
+-- A job's name that is too long passes a limit, so it comes before all but Syntax.
+abbrev pub unless_long : List ℕ → Result Line TextFault → Result Line TextFault
+unless_long name answer = if nat_le (length name) MAX_JOB_NAME then answer else Err Limit
+
+-- the submit of what a system means, or the refusal of the system
+abbrev pub submitted : List ℕ → Result SystemParts TextFault → Result Line TextFault
+submitted name (Ok system) = Ok (Asks (command.Submit name system))
+submitted name (Err fault) = Err fault
+
+-- what a line means, or its first refusal
+abbrev pub line_sense : LinePhrase → Result Line TextFault
+line_sense nothing = Ok Blank
+line_sense (submit name s) = unless_long name (submitted name (system_sense s))
+line_sense (about verb name) = unless_long name (Ok (Asks (asked verb name)))
+line_sense list = Ok (Asks command.List)
+line_sense (run digits) =
+    if nat_le (number_in digits) MAX_RUN then Ok (Run (number_in digits)) else Err Limit

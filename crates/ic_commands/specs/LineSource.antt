@@ -1,0 +1,53 @@
+-- To be believed: a command line as it is written.
+use Rattle.std.specs.Prelude.{ℕ, ◌==◌, List, [], ◌∷◌, Bool, false, ◌&&◌, ◌||◌, IsTrue, codes}
+use Rattle.std.specs.List.{list_all}
+use Rattle.std.specs.Char.{is_ascii_lowercase, is_ascii_digit}
+use Rattle.std.specs.Str.{bytes_eq}
+use Rattle.ic_commands.specs.declared.line.Verb.{Verb}
+use Rattle.ic_commands.specs.declared.line.Verb.TheVariants.{Pause, Resume, Cancel, Fetch}
+use Rattle.ic_text.specs.Token.{Token, word}
+use Rattle.ic_text.specs.Name.{is_numeral}
+use Rattle.ic_text.specs.SystemSource.{SystemPhrase, IsSystemPhrase, system_words}
+
+-- A line: nothing, the submit of a job's name and its system, what is asked of a job by its name,
+-- the list of all jobs, or a run of so many (this project's choice).
+pub data LinePhrase : Type 0 where
+  nothing : LinePhrase
+  submit : List ℕ → SystemPhrase → LinePhrase
+  about : Verb → List ℕ → LinePhrase
+  list : LinePhrase
+  run : List ℕ → LinePhrase
+
+-- a word of a..z, 0..9 and `-`, a letter first, of any length
+abbrev pub is_job_word : List ℕ → Bool
+is_job_word [] = false
+is_job_word (b ∷ bs) = is_ascii_lowercase b
+    && list_all (λ c. is_ascii_lowercase c || is_ascii_digit c || c == 45) bs
+
+-- the word `0`, or digits without a leading zero, of any length
+abbrev pub is_number : List ℕ → Bool
+is_number [] = false
+is_number (d ∷ ds) = bytes_eq (d ∷ ds) (codes "0") || is_numeral (d ∷ ds)
+
+-- names and numbers are such words, and the system is one
+abbrev pub IsLine : LinePhrase → Type 0
+IsLine nothing = Unit {0}
+IsLine (submit name s) = IsTrue (is_job_word name) × IsSystemPhrase s
+IsLine (about verb name) = IsTrue (is_job_word name)
+IsLine list = Unit {0}
+IsLine (run digits) = IsTrue (is_number digits)
+
+-- the word of what is asked of a job
+abbrev pub verb_text : Verb → List ℕ
+verb_text Pause = codes "pause"
+verb_text Resume = codes "resume"
+verb_text Cancel = codes "cancel"
+verb_text Fetch = codes "fetch"
+
+-- the tokens of a line
+abbrev pub line_words : LinePhrase → List Token
+line_words nothing = []
+line_words (submit name s) = word (codes "submit") ∷ word name ∷ system_words s
+line_words (about verb name) = word (verb_text verb) ∷ word name ∷ []
+line_words list = word (codes "list") ∷ []
+line_words (run digits) = word (codes "run") ∷ word digits ∷ []

@@ -1,0 +1,2 @@
+-- For private functions: how a line is read, word by word. No public clause needs what stands here.
+pub mod Line

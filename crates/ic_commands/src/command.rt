@@ -1,0 +1,189 @@
+//! Reading a command line, word by word; the system of a submit is read as any system.
+
+ghost use Rattle.std.specs.Prelude.{◌≡◌, ◌≢◌, ◌≤◌, ◌==◌, ◌||◌, IfOk, IfErr, IsTrue, Ok, Err, length};
+ghost use Rattle.std.specs.Char.{is_ascii_lowercase, is_ascii_digit};
+ghost use Rattle.std.specs.List.{list_all};
+ghost use Rattle.ic_commands.specs.LineSource.{is_job_word, is_number, run};
+ghost use Rattle.ic_commands.specs.LineSense.{asked, line_sense};
+ghost use Rattle.ic_commands.specs.LineText.{ReadsLine};
+ghost use Rattle.ic_text.specs.Token.{tokens};
+ghost use Rattle.ic_commands.specs.declared.line.Opening.TheVariants as opening;
+ghost use Rattle.ic_commands.specs.inner.Line.{opening_of, IsLineOf, ReadsBehind};
+
+use crate::limits::MAX_RUN;
+use crate::line::{Line, Opening, Verb};
+use crate::word::{is_nothing, only_word, split_word};
+use ic_jobs::Command;
+use ic_rules::JobName;
+use ic_text::{MAX_TEXT, TextFault, is_system, number_in, read_system};
+use std::alloc::Global;
+
+fn are_name_bytes(text: &[u8]) -> bool
+    ensures { result
+        ≡ list_all (λ c. is_ascii_lowercase c || is_ascii_digit c || c == 45) text.now }
+{
+    text.iter().all(|byte| byte.is_ascii_lowercase() || byte.is_ascii_digit() || *byte == b'-')
+}
+
+/// Whether a word is a job's name but for its length.
+fn is_job_word(text: &[u8]) -> bool
+    ensures { result ≡ is_job_word text.now }
+{
+    match text.split_first() {
+        None => false,
+        Some((first, rest)) => first.is_ascii_lowercase() && are_name_bytes(rest),
+    }
+}
+
+fn are_digits(text: &[u8]) -> bool
+    ensures { result ≡ list_all is_ascii_digit text.now }
+{
+    text.iter().all(|byte| byte.is_ascii_digit())
+}
+
+/// Whether a word is `0`, or digits without a leading zero.
+fn is_number(text: &[u8]) -> bool
+    ensures { result ≡ is_number text.now }
+{
+    match text.split_first() {
+        None => false,
+        Some((first, _)) => text == b"0".as_slice() || (*first != b'0' && are_digits(text)),
+    }
+}
+
+/// What the first word of a line asks for.
+fn opening_of(word: &[u8]) -> Option<Opening>
+    ensures { result ≡ opening_of word.now }
+{
+    if word == b"submit".as_slice() {
+        Some(Opening::Submit)
+    } else if word == b"pause".as_slice() {
+        Some(Opening::About(Verb::Pause))
+    } else if word == b"resume".as_slice() {
+        Some(Opening::About(Verb::Resume))
+    } else if word == b"cancel".as_slice() {
+        Some(Opening::About(Verb::Cancel))
+    } else if word == b"fetch".as_slice() {
+        Some(Opening::About(Verb::Fetch))
+    } else if word == b"list".as_slice() {
+        Some(Opening::List)
+    } else if word == b"run".as_slice() {
+        Some(Opening::Run)
+    } else {
+        None
+    }
+}
+
+/// What a verb asks of the job of a name.
+fn ask(verb: Verb, name: JobName) -> Command
+    ensures { result ≡ asked verb name }
+{
+    match verb {
+        Verb::Pause => Command::Pause(name),
+        Verb::Resume => Command::Resume(name),
+        Verb::Cancel => Command::Cancel(name),
+        Verb::Fetch => Command::Fetch(name),
+    }
+}
+
+/// The line of a `submit` with this behind it. A name that is too long is tested where the text behind it is a system:
+/// such a line makes no value.
+fn read_submit(alloc: Global, rest: &[u8]) -> Result<Line, TextFault>
+    requires { length rest.now ≤ MAX_TEXT }
+    ensures { result ≢ Err TextFault.Memory → ReadsBehind opening.Submit rest.now result }
+{
+    let (word, text) = split_word(rest);
+    if !is_job_word(word) {
+        return Err(TextFault::Syntax);
+    }
+    let Some(name) = JobName::new(word) else {
+        if !is_system(text) {
+            return Err(TextFault::Syntax);
+        }
+        return Err(TextFault::Limit);
+    };
+    let system = read_system(alloc, text)?;
+    Ok(Line::Command(Command::Submit(name, system)))
+}
+
+/// The line of a verb with this behind it.
+fn read_about(verb: Verb, rest: &[u8]) -> Result<Line, TextFault>
+    ensures { ReadsBehind (opening.About verb) rest.now result }
+{
+    let Some(word) = only_word(rest) else {
+        return Err(TextFault::Syntax);
+    };
+    if !is_job_word(word) {
+        return Err(TextFault::Syntax);
+    }
+    match JobName::new(word) {
+        Some(name) => Ok(Line::Command(ask(verb, name))),
+        None => Err(TextFault::Limit),
+    }
+}
+
+/// The line of a `list` with this behind it.
+fn read_list(rest: &[u8]) -> Result<Line, TextFault>
+    ensures { ReadsBehind opening.List rest.now result }
+{
+    if is_nothing(rest) {
+        Ok(Line::Command(Command::List))
+    } else {
+        Err(TextFault::Syntax)
+    }
+}
+
+/// The line of a `run` with this number.
+fn run_of(word: &[u8]) -> Result<Line, TextFault>
+    requires { IsTrue (is_number word.now) }
+    ensures { result ≡ line_sense (run word.now) }
+{
+    match number_in(word) {
+        Some(number) if number <= MAX_RUN => Ok(Line::Run(number)),
+        _ => Err(TextFault::Limit),
+    }
+}
+
+/// The line of a `run` with this behind it.
+fn read_run(rest: &[u8]) -> Result<Line, TextFault>
+    ensures { ReadsBehind opening.Run rest.now result }
+{
+    let Some(word) = only_word(rest) else {
+        return Err(TextFault::Syntax);
+    };
+    if !is_number(word) {
+        return Err(TextFault::Syntax);
+    }
+    run_of(word)
+}
+
+/// What a line asks that isn't too long.
+fn line_of(alloc: Global, text: &[u8]) -> Result<Line, TextFault>
+    requires { length text.now ≤ MAX_TEXT }
+    ensures { result ≢ Err TextFault.Memory → IsLineOf (tokens text.now) result }
+{
+    if is_nothing(text) {
+        return Ok(Line::Blank);
+    }
+    let (word, rest) = split_word(text);
+    match opening_of(word) {
+        Some(Opening::Submit) => read_submit(alloc, rest),
+        Some(Opening::About(verb)) => read_about(verb, rest),
+        Some(Opening::List) => read_list(rest),
+        Some(Opening::Run) => read_run(rest),
+        None => Err(TextFault::Syntax),
+    }
+}
+
+/// What a command line asks, or the first refusal over the whole line. Its end, if it stands there, is a blank and counts
+/// as a byte. The system of a submit is read as `read_system` reads it. Takes n log n steps. Only a submit takes memory.
+pub fn read_command(alloc: Global, text: &[u8]) -> Result<Line, TextFault>
+    ensures read { IfOk result (λ line. ReadsLine text.now (Ok line)) }
+    ensures refused { IfErr result
+        (λ fault. fault ≢ TextFault.Memory → ReadsLine text.now (Err fault)) }
+{
+    if text.len() > MAX_TEXT {
+        return Err(TextFault::Limit);
+    }
+    line_of(alloc, text)
+}

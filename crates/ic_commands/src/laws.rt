@@ -1,0 +1,134 @@
+//! What is proved of the definitions alone: each law is the contract of a function that does nothing, or calls the laws
+//! that it comes of.
+
+ghost use Rattle.std.specs.Prelude.{◌≡◌, ◌≢◌, ◌<◌, ◌≤◌, ◌+◌, ◌^◌, ◌&&◌, ◌||◌, ◌==◌, ℕ, List, [], ◌∷◌, ◌++◌, Result, Ok, Err, true, length, map, codes, not, nat_le, IsTrue};
+ghost use Rattle.std.specs.List.{list_all};
+ghost use Rattle.std.specs.Str.{bytes_eq};
+ghost use Rattle.std.specs.Char.{is_ascii_lowercase, is_ascii_digit};
+ghost use Rattle.std.specs.Fmt.{decimal};
+ghost use Rattle.ic_rules.specs.System.{SystemParts};
+ghost use Rattle.ic_rules.specs.JobName.{is_job_name};
+ghost use Rattle.ic_rules.specs.declared.job_name.TheConstants.{MAX_JOB_NAME};
+ghost use Rattle.ic_jobs.specs.declared.state.State.{State};
+ghost use Rattle.ic_jobs.specs.declared.state.State.TheVariants.{Running, Paused, Done, Halted};
+ghost use Rattle.ic_jobs.specs.declared.reply.Refusal.{Refusal};
+ghost use Rattle.ic_jobs.specs.declared.reply.Refusal.TheVariants.{Taken, Full, NoJob, NotRunning, NotPaused};
+ghost use Rattle.ic_jobs.specs.declared.reply.Reply.TheVariants as reply;
+ghost use Rattle.ic_jobs.specs.declared.reply.Reply.TheVariants.{Accepted, Okay, Shown, Listed, Refused, Moved};
+ghost use Rattle.ic_jobs.specs.Shown.{ShownParts};
+ghost use Rattle.ic_jobs.specs.declared.command.Command.TheVariants as command;
+ghost use Rattle.ic_text.specs.Name.{number_in};
+ghost use Rattle.ic_text.specs.SystemSource.{SystemPhrase, system_words};
+ghost use Rattle.ic_text.specs.SystemText.{ReadsSystem};
+ghost use Rattle.ic_text.specs.Text.{printed};
+ghost use Rattle.ic_text.specs.Token.{is_blank, words_among};
+ghost use Rattle.ic_text.specs.declared.limits.TheConstants.{MAX_TEXT};
+ghost use Rattle.ic_text.specs.declared.fault.TextFault.{TextFault};
+ghost use Rattle.ic_text.specs.declared.fault.TextFault.TheVariants.{Syntax, Limit, Memory};
+ghost use Rattle.ic_commands.specs.declared.limits.TheConstants.{MAX_RUN};
+ghost use Rattle.ic_commands.specs.declared.line.Line.{Line};
+ghost use Rattle.ic_commands.specs.declared.line.Line.TheVariants.{Blank, Command as Asks, Run};
+ghost use Rattle.ic_commands.specs.declared.line.Verb.{Verb};
+ghost use Rattle.ic_commands.specs.declared.line.Verb.TheVariants.{Pause, Resume, Cancel, Fetch};
+ghost use Rattle.ic_commands.specs.LineSource.{LinePhrase, submit, list, run, is_job_word, is_number, verb_text, line_words};
+ghost use Rattle.ic_commands.specs.LineSense.{submitted};
+ghost use Rattle.ic_commands.specs.LineText.{SpellsLine, ReadsLine};
+ghost use Rattle.ic_commands.specs.ReplyText.{state_text, refusal_text, reply_text};
+
+/// A text spells at most one line, and it is read in just one way, never as want of memory.
+pub fn one_line_reading()
+    ensures source { (text : List ℕ) (p q : LinePhrase) →
+        SpellsLine text p → SpellsLine text q → p ≡ q }
+    ensures answer { (text : List ℕ) (a b : Result Line TextFault) →
+        ReadsLine text a → ReadsLine text b → a ≡ b }
+    ensures total { (text : List ℕ) → (a : Result Line TextFault) × ReadsLine text a }
+    ensures no_memory { (text : List ℕ) → ¬ ReadsLine text (Err Memory) }
+{
+    ic_text::laws::systems_are_told_by_their_tokens();
+}
+
+/// The limit of a line.
+pub fn limits_are()
+    ensures run { MAX_RUN ≡ 1000 }
+{}
+
+/// The words that open lines.
+pub fn command_words_are()
+    ensures verbs { map verb_text (Pause ∷ Resume ∷ Cancel ∷ Fetch ∷ [])
+        ≡ codes "pause" ∷ codes "resume" ∷ codes "cancel" ∷ codes "fetch" ∷ [] }
+    ensures others { (name digits : List ℕ) (s : SystemPhrase) →
+        words_among (line_words list ++ line_words (run digits) ++ line_words (submit name s))
+        ≡ codes "list" ∷ codes "run" ∷ digits ∷ codes "submit" ∷ name
+        ∷ words_among (system_words s) }
+{}
+
+/// What each command asks, written with one space behind its word; and a line of blanks. A job's name of more than 16
+/// bytes passes a limit, in a submit where the text behind it is a system; and so does a number of more than 1,000,
+/// however long it is.
+pub fn commands_ask()
+    ensures pause { (name : List ℕ) → IsTrue (is_job_name name) →
+        ReadsLine (codes "pause " ++ name) (Ok (Asks (command.Pause name))) }
+    ensures resume { (name : List ℕ) → IsTrue (is_job_name name) →
+        ReadsLine (codes "resume " ++ name) (Ok (Asks (command.Resume name))) }
+    ensures cancel { (name : List ℕ) → IsTrue (is_job_name name) →
+        ReadsLine (codes "cancel " ++ name) (Ok (Asks (command.Cancel name))) }
+    ensures fetch { (name : List ℕ) → IsTrue (is_job_name name) →
+        ReadsLine (codes "fetch " ++ name) (Ok (Asks (command.Fetch name))) }
+    ensures list { ReadsLine (codes "list") (Ok (Asks command.List)) }
+    ensures run { (n : ℕ) → n ≤ MAX_RUN → ReadsLine (codes "run " ++ decimal n) (Ok (Run n)) }
+    ensures blank { (text : List ℕ) → length text ≤ MAX_TEXT → list_all is_blank text ≡ true →
+        ReadsLine text (Ok Blank) }
+    ensures too_long { (verb : Verb) (name : List ℕ) → IsTrue (is_job_word name) →
+        MAX_JOB_NAME < length name → length name + 7 ≤ MAX_TEXT →
+        ReadsLine (verb_text verb ++ 32 ∷ name) (Err Limit) }
+    ensures too_long_submit { (name text : List ℕ) (a : Result SystemParts TextFault) →
+        IsTrue (is_job_word name) → MAX_JOB_NAME < length name →
+        length name + length text + 8 ≤ MAX_TEXT → ReadsSystem text a → a ≢ Err Syntax →
+        ReadsLine (codes "submit " ++ name ++ 32 ∷ text) (Err Limit) }
+    ensures too_many { (digits : List ℕ) → IsTrue (is_number digits) →
+        MAX_RUN < number_in digits → length digits + 4 ≤ MAX_TEXT →
+        ReadsLine (codes "run " ++ digits) (Err Limit) }
+{}
+
+/// A submit's system is read as a system by itself, where its name is a job's name: then the line is a submit of what
+/// the system means, or refused as the system is.
+pub fn a_submit_is_read_as_its_system()
+    ensures { (name text : List ℕ) (a : Result SystemParts TextFault) → IsTrue (is_job_name name) →
+        length text + 24 ≤ MAX_TEXT → ReadsSystem text a →
+        ReadsLine (codes "submit " ++ name ++ 32 ∷ text) (submitted name a) }
+{}
+
+/// A job's name is a word of its bytes that has at most 16 of them, a letter first. A number is `0`, or digits without a
+/// leading zero: the decimal text of what it writes.
+pub fn names_of_jobs_and_numbers_are()
+    ensures names { (w : List ℕ) →
+        is_job_name w ≡ (is_job_word w && nat_le (length w) MAX_JOB_NAME) }
+    ensures words { (b : ℕ) (bs : List ℕ) → is_job_word (b ∷ bs) ≡ (is_ascii_lowercase b
+        && list_all (λ c. is_ascii_lowercase c || is_ascii_digit c || c == 45) bs) }
+    ensures digits { (d : ℕ) (ds : List ℕ) → is_number (d ∷ ds)
+        ≡ (bytes_eq (d ∷ ds) (codes "0") || (not (d == 48) && list_all is_ascii_digit (d ∷ ds))) }
+    ensures number { (n : ℕ) → n < 2 ^ 64 → IsTrue (is_number (decimal n)) }
+    ensures value { (n : ℕ) → n < 2 ^ 64 → number_in (decimal n) ≡ n }
+    ensures text { (w : List ℕ) → IsTrue (is_number w) → number_in w < 2 ^ 64 →
+        w ≡ decimal (number_in w) }
+{}
+
+/// The words and the forms of answers.
+pub fn answers_are()
+    ensures states { map state_text (Running ∷ Paused ∷ Done ∷ Halted ∷ [])
+        ≡ codes "running" ∷ codes "paused" ∷ codes "done" ∷ codes "halted" ∷ [] }
+    ensures refusals { map refusal_text (Taken ∷ Full ∷ NoJob ∷ NotRunning ∷ NotPaused ∷ [])
+        ≡ codes "taken" ∷ codes "full" ∷ codes "nojob" ∷ codes "notrunning"
+        ∷ codes "notpaused" ∷ [] }
+    ensures words { map reply_text (Accepted ∷ Okay ∷ Moved ∷ reply.Halted ∷ [])
+        ≡ codes "accepted" ∷ codes "ok" ∷ codes "moved" ∷ codes "halted" ∷ [] }
+    ensures refused { (r : Refusal) → reply_text (Refused r) ≡ codes "refused " ++ refusal_text r }
+    ensures shown { (job : ShownParts) → reply_text (Shown job)
+        ≡ job.name ++ codes " " ++ state_text job.state ++ codes " " ++ decimal job.rounds
+        ++ codes " " ++ printed job.rules.symbols job.config }
+    ensures empty { reply_text (Listed []) ≡ codes "jobs" }
+    ensures listed { (jobs : List (List ℕ × State × ℕ)) (name : List ℕ) (state : State) (rounds : ℕ) →
+        reply_text (Listed (jobs ++ (name, state, rounds) ∷ []))
+        ≡ reply_text (Listed jobs) ++ codes " " ++ name ++ codes ":" ++ state_text state
+        ++ codes ":" ++ decimal rounds }
+{}

@@ -1,0 +1,94 @@
+//! Printing the line that answers a command.
+
+ghost use Rattle.std.specs.Prelude.{◌≡◌, ◌++◌, IfOk, OnOk, codes};
+ghost use Rattle.std.specs.List.{flat_map};
+ghost use Rattle.ic_commands.specs.ReplyText.{state_text, refusal_text, job_text, shown_text, listed_text, reply_text};
+
+use ic_jobs::{JobList, Refusal, Reply, ShownJob, State};
+use ic_rules::JobName;
+use ic_text::put_config;
+use std::alloc::{AllocError, Global};
+
+/// The word of a state.
+fn state_word(state: State) -> &'static [u8]
+    ensures { result.now ≡ state_text state }
+{
+    match state {
+        State::Running => b"running",
+        State::Paused => b"paused",
+        State::Done => b"done",
+        State::Halted => b"halted",
+    }
+}
+
+/// Appends a job's name, state and rounds, with a byte between them.
+fn put_job(
+    alloc: Global,
+    out: &mut Vec<u8>,
+    between: u8,
+    name: JobName,
+    state: State,
+    rounds: u64,
+) -> Result<(), AllocError>
+    ensures { OnOk result
+        (out.new.items ≡ out.old.items ++ job_text between name state rounds) }
+{
+    out.extend_from_slice(name.as_bytes())?;
+    out.push(between)?;
+    out.extend_from_slice(state_word(state))?;
+    out.push(between)?;
+    out.extend_from_slice(rounds.to_string(alloc)?.as_bytes())?;
+    Ok(())
+}
+
+/// The line of a job that was fetched.
+fn print_shown(alloc: Global, job: &ShownJob) -> Result<Vec<u8>, AllocError>
+    ensures { IfOk result (λ text. text.items ≡ shown_text job.now) }
+{
+    let mut out = Vec::new(alloc);
+    put_job(alloc, &mut out, b' ', job.name(), job.state(), job.rounds())?;
+    out.push(b' ')?;
+    put_config(alloc, job.rules().symbols(), job.config(), &mut out)?;
+    Ok(out)
+}
+
+/// The line of all jobs.
+fn print_list(alloc: Global, jobs: &JobList) -> Result<Vec<u8>, AllocError>
+    ensures { IfOk result (λ text. text.items ≡ codes "jobs" ++ flat_map listed_text jobs.now) }
+{
+    let mut out = Vec::from_slice(alloc, b"jobs")?;
+    for (name, state, rounds) in jobs.as_slice() {
+        out.push(b' ')?;
+        put_job(alloc, &mut out, b':', *name, *state, *rounds)?;
+    }
+    Ok(out)
+}
+
+/// The line of a command that was refused.
+fn print_refusal(alloc: Global, refusal: Refusal) -> Result<Vec<u8>, AllocError>
+    ensures { IfOk result (λ text. text.items ≡ codes "refused " ++ refusal_text refusal) }
+{
+    match refusal {
+        Refusal::Taken => Vec::from_slice(alloc, b"refused taken"),
+        Refusal::Full => Vec::from_slice(alloc, b"refused full"),
+        Refusal::NoJob => Vec::from_slice(alloc, b"refused nojob"),
+        Refusal::NotRunning => Vec::from_slice(alloc, b"refused notrunning"),
+        Refusal::NotPaused => Vec::from_slice(alloc, b"refused notpaused"),
+    }
+}
+
+/// The line that answers, without its end. Recurses on the nesting of a job that is shown, which the number of its nodes
+/// bounds.
+pub fn print_reply(alloc: Global, reply: &Reply) -> Result<Vec<u8>, AllocError>
+    ensures { IfOk result (λ text. text.items ≡ reply_text reply.now) }
+{
+    match reply {
+        Reply::Accepted => Vec::from_slice(alloc, b"accepted"),
+        Reply::Okay => Vec::from_slice(alloc, b"ok"),
+        Reply::Shown(job) => print_shown(alloc, job),
+        Reply::Listed(jobs) => print_list(alloc, jobs),
+        Reply::Refused(refusal) => print_refusal(alloc, *refusal),
+        Reply::Moved => Vec::from_slice(alloc, b"moved"),
+        Reply::Halted => Vec::from_slice(alloc, b"halted"),
+    }
+}

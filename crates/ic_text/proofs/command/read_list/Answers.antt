@@ -1,9 +1,0 @@
-use Rattle.std.proofs.Common.{refl, sym, ◌∙◌}
-use Rattle.ic_text.specs.declared.line.Opening.TheVariants as opening
-use Rattle.ic_text.specs.LineSource.{list}
-use Rattle.ic_text.proofs.LineReading.{is_sense_behind}
-use Rattle.ic_text.proofs.LineParts.{nothing_is}
-use Rattle.ic_text.proofs.command.read_list.Goals as goal
-
-pub returns-then-is_nothing : goal.returns-then-is_nothing
-returns-then-is_nothing c = is_sense_behind opening.List c.args.rest.now _ list tt (nothing_is _ (sym c.is_nothing.ensures ∙ c.if-is_nothing.true)) refl

@@ -1,5 +1,0 @@
-use Rattle.ic_text.proofs.LineLaws.{submit_text}
-use Rattle.ic_text.proofs.laws.a_submit_is_read_as_its_system.Goals as goal
-
-pub returns : goal.returns
-returns c = submit_text
