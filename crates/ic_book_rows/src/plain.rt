@@ -1,9 +1,9 @@
 //! Events on a job table by itself, as a book is compared with it.
 
+use ic_commands::{Line, print_reply, read_command};
 use ic_jobs::{Command, Landed, Table};
 use ic_notation::Trouble;
 use ic_pool::{Flight, Played, play_alone};
-use ic_text::{Line, print_reply, read_command};
 use std::alloc::Global;
 
 /// The command of a line.

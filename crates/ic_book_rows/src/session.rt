@@ -3,13 +3,14 @@
 use crate::faults::{book_fault, create_fault, open_cause};
 use crate::medium::{changed, opening_calls, slot};
 use crate::plain::round_of;
+use ic_commands::{Line, print_reply, read_command};
 use ic_desk::{Book, BookFault};
 use ic_disk::{Blow, Choice, FuseDisk, MemDisk, Then};
 use ic_jobs::{Command, Entry, Event, Landed, Table};
 use ic_notation::Trouble;
 use ic_pool::Flight;
 use ic_slots::create;
-use ic_text::{Line, print_fault, print_reply, read_command};
+use ic_text::print_fault;
 use std::alloc::Global;
 
 /// Which call to the disk of the next book fails, and how.

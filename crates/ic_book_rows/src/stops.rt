@@ -4,11 +4,11 @@ use crate::choices::CHOICES;
 use crate::drawn::{History, Step, drawn_history};
 use crate::medium::created;
 use crate::plain::{command_of, round_of};
+use ic_commands::print_reply;
 use ic_desk::{Book, BookFault, OpenCause};
 use ic_disk::{Blow, Choice, FuseDisk, MemDisk, Then};
 use ic_jobs::{Landed, Table};
 use ic_notation::Trouble;
-use ic_text::print_reply;
 use std::alloc::Global;
 
 /// Events of a history.

@@ -1,9 +1,9 @@
 //! Tables as bytes: what they are read as, and what is written.
 
 use ic_codec::{CodecFault, MAX_BYTES, decode, encode_into};
+use ic_commands::print_reply;
 use ic_jobs::{Command, Table};
 use ic_notation::Trouble;
-use ic_text::print_reply;
 use std::alloc::Global;
 
 /// The bytes of a text of two hexadecimal digits each, with blanks between some.

@@ -1,12 +1,13 @@
 //! The job table, driven by scripts: command lines, and rounds that are taken, played and landed one by one.
 
 use crate::bytes::digits_of;
+use ic_commands::{Line, print_reply, read_command};
 use ic_jobs::{Command, Job, Landed, State, Table};
 use ic_notation::{Trouble, decimal, expanded, system_of};
 use ic_pool::{Flight, play_alone};
 use ic_rules::JobName;
 use ic_term::Config;
-use ic_text::{Line, print_fault, print_reply, read_command};
+use ic_text::print_fault;
 use std::alloc::Global;
 
 /// A table, and the flights that were taken, in their order.

@@ -1,9 +1,10 @@
 //! Command lines, as they are read.
 
+use ic_commands::{Line, print_reply, read_command};
 use ic_jobs::{Command, Reply};
 use ic_notation::{Trouble, decimal, printed};
 use ic_rules::{JobName, System};
-use ic_text::{Line, print_fault, print_reply, read_command};
+use ic_text::print_fault;
 use std::alloc::Global;
 
 /// What a line asks, in one spelling, or the line of its refusal.

@@ -1,7 +1,7 @@
 -- Lines that are served.
 use Rattle.std.proofs.Common.{◌≡◌, ℕ, List, [], ◌∷◌, ◌++◌, refl, sym, ap, ap₂, ◌∙◌, append-nil, append_assoc}
 use Rattle.ic_jobs.specs.Job.{JobParts}
-use Rattle.ic_text.specs.LineText.{ReadsLine}
+use Rattle.ic_commands.specs.LineText.{ReadsLine}
 use Rattle.ic_lines.specs.Answers.{Reading, answer, after_line, after, out}
 use Rattle.ic_lines.specs.Serving.{AreRead, IsServed}
 

@@ -6,11 +6,11 @@ use Rattle.ic_jobs.specs.Job.{JobParts}
 use Rattle.ic_jobs.specs.declared.event.Event.{Event}
 use Rattle.ic_jobs.specs.declared.event.Event.TheVariants.{Command as by_command}
 use Rattle.ic_jobs.specs.Events.{after_command}
-use Rattle.ic_text.specs.declared.line.Line.{Line}
-use Rattle.ic_text.specs.declared.line.Line.TheVariants.{Blank, Command, Run}
+use Rattle.ic_commands.specs.declared.line.Line.{Line}
+use Rattle.ic_commands.specs.declared.line.Line.TheVariants.{Blank, Command, Run}
 use Rattle.ic_text.specs.declared.fault.TextFault.{TextFault}
 use Rattle.ic_text.specs.Text.{fault_text}
-use Rattle.ic_text.specs.ReplyText.{reply_text}
+use Rattle.ic_commands.specs.ReplyText.{reply_text}
 use Rattle.ic_lines.specs.Lines.{ended}
 use Rattle.ic_lines.specs.Turns.{turns, after_events}
 

@@ -1,7 +1,7 @@
 -- To be believed: lines that are served, from a table on.
 use Rattle.std.specs.Prelude.{◌≡◌, ℕ, List, [], ◌∷◌}
 use Rattle.ic_jobs.specs.Job.{JobParts}
-use Rattle.ic_text.specs.LineText.{ReadsLine}
+use Rattle.ic_commands.specs.LineText.{ReadsLine}
 use Rattle.ic_lines.specs.Answers.{Reading, after, out}
 
 -- each line is read so, in turn

@@ -16,9 +16,9 @@ ghost use Rattle.ic_jobs.specs.Landing.{due};
 ghost use Rattle.ic_jobs.specs.Turns.{RunsAt};
 ghost use Rattle.ic_text.specs.declared.fault.TextFault.{TextFault};
 ghost use Rattle.ic_text.specs.declared.limits.TheConstants.{MAX_TEXT};
-ghost use Rattle.ic_text.specs.declared.line.Line.TheVariants.{Blank, Command as Asks, Run};
-ghost use Rattle.ic_text.specs.LineText.{ReadsLine};
-ghost use Rattle.ic_text.specs.ReplyText.{reply_text};
+ghost use Rattle.ic_commands.specs.declared.line.Line.TheVariants.{Blank, Command as Asks, Run};
+ghost use Rattle.ic_commands.specs.LineText.{ReadsLine};
+ghost use Rattle.ic_commands.specs.ReplyText.{reply_text};
 ghost use Rattle.ic_text.specs.Text.{fault_text};
 ghost use Rattle.ic_text.specs.Token.{is_blank};
 ghost use Rattle.ic_lines.specs.Lines.{has_feed, ended, lines};
@@ -65,7 +65,7 @@ pub fn lines_are_served_in_one_way()
     ensures joined { (t u v : List JobParts) (ls more : List (List ℕ)) (a b : List ℕ)
         → IsServed t ls a u → IsServed u more b v → IsServed t (ls ++ more) (a ++ b) v }
 {
-    ic_text::laws::one_line_reading();
+    ic_commands::laws::one_line_reading();
 }
 
 /// What one line is answered, and what it leaves: nothing to blanks, its refusal to a refused line,
@@ -83,7 +83,7 @@ pub fn each_line_is_answered()
         → IsServed t (line ∷ []) (ended (codes "ran " ++ decimal n))
         (after_events t (turns k 0 t)) }
 {
-    ic_text::laws::commands_ask();
+    ic_commands::laws::commands_ask();
 }
 
 /// A run makes rounds of running jobs: at most so many, and fewer only where no job runs then. The

@@ -5,7 +5,7 @@ use Rattle.std.specs.List.{AllByRecursion}
 use Rattle.std.specs.Io.KnownBytes.{Appends, Keeps}
 use Rattle.ic_jobs.specs.Job.{JobParts}
 use Rattle.ic_jobs.specs.declared.event.Event.{Event}
-use Rattle.ic_text.specs.LineText.{ReadsLine}
+use Rattle.ic_commands.specs.LineText.{ReadsLine}
 use Rattle.ic_text.specs.declared.limits.TheConstants.{MAX_TEXT}
 use Rattle.ic_lines.specs.Lines.{lines}
 use Rattle.ic_lines.specs.Answers.{Reading, events, answer, after_line}

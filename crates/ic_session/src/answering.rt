@@ -3,7 +3,7 @@
 ghost use Rattle.std.specs.Prelude.{◌≡◌, ◌≤◌, ◌++◌, [], ◌∷◌, Ok, OnOk, OnErr, IfErr, IfOk};
 ghost use Rattle.ic_desk.specs.Book.{table_of};
 ghost use Rattle.ic_jobs.specs.declared.event.Event.TheVariants.{Command as by_command};
-ghost use Rattle.ic_text.specs.declared.line.Line.TheVariants.{Command as Asks, Run};
+ghost use Rattle.ic_commands.specs.declared.line.Line.TheVariants.{Command as Asks, Run};
 ghost use Rattle.ic_lines.specs.Lines.{ended};
 ghost use Rattle.ic_lines.specs.Turns.{turns};
 ghost use Rattle.ic_lines.specs.Answers.{answer, after_line};
@@ -14,10 +14,11 @@ ghost use Rattle.ic_session.specs.Faults.{IsOfBook};
 use crate::fault::ServeFault;
 use crate::rounds::make_room;
 use crate::running::run;
+use ic_commands::{Line, print_reply, read_command};
 use ic_desk::Book;
 use ic_disk::Disk;
 use ic_jobs::Command;
-use ic_text::{Line, TextFault, print_fault, print_reply, read_command};
+use ic_text::{TextFault, print_fault};
 use std::alloc::{AllocError, Global};
 use std::sync::Wait;
 use std::thread::Threads;
@@ -36,7 +37,7 @@ pub(crate) fn answer_line<T: Threads + Wait, D: Disk>(
     ensures begun { OnErr result (IsBegun line.now book.old book.new) }
     ensures sort { IfErr result IsOfBook }
 {
-    ic_text::laws::one_line_reading();
+    ic_commands::laws::one_line_reading();
     match read_command(alloc, line) {
         Ok(Line::Blank) => Ok(Vec::new(alloc)),
         Ok(Line::Command(command)) => answer_command(alloc, book, command),

@@ -47,7 +47,7 @@ pub fn serve_lines<T: Threads + Wait, D: Disk, R: Read, W: Write>(
     ensures kept_at_cut { result ≡ Err ServeFault.Write
         → IsAllKept book.old → IsAllKept book.new }
 {
-    ic_text::laws::one_line_reading();
+    ic_commands::laws::one_line_reading();
     ic_lines::laws::lines_are_served_in_one_way();
     let mut lines = LineBuffer::new(alloc);
     for _ in 0..MAX_LINES {

@@ -1,7 +1,7 @@
 -- For private functions: what one line leaves.
 use Rattle.std.specs.Prelude.{◌≡◌, ℕ, List}
 use Rattle.ic_disk.specs.declared.disk.Disk.{Ghosts}
-use Rattle.ic_text.specs.LineText.{ReadsLine}
+use Rattle.ic_commands.specs.LineText.{ReadsLine}
 use Rattle.ic_lines.specs.Answers.{Reading, events, answer, after_line}
 use Rattle.ic_desk.specs.declared.book.Book.{Book}
 use Rattle.ic_desk.specs.Book.{table_of}

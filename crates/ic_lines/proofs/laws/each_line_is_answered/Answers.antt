@@ -1,7 +1,7 @@
 use Rattle.std.proofs.Common.{◌≡◌, [], ◌∷◌, Ok, Err, subst}
 use Rattle.ic_jobs.specs.Events.{Outcome, after_command}
-use Rattle.ic_text.specs.declared.line.Line.TheVariants.{Blank, Command as Asks, Run}
-use Rattle.ic_text.specs.ReplyText.{reply_text}
+use Rattle.ic_commands.specs.declared.line.Line.TheVariants.{Blank, Command as Asks, Run}
+use Rattle.ic_commands.specs.ReplyText.{reply_text}
 use Rattle.ic_lines.specs.Lines.{ended}
 use Rattle.ic_lines.specs.Serving.{IsServed}
 use Rattle.ic_lines.proofs.ServingLemmas.{served_line}

@@ -1,7 +1,7 @@
 use Rattle.std.proofs.Common.{◌≡◌, ◌≢◌, ◌+◌, ◌∙◌, List, ℕ, Option, Ok, Err, true, false, length, arith, refl, sym, ap}
 use Rattle.std.specs.Prelude.{IfSome, is_ok}
 use Rattle.std.specs.Io.KnownBytes.{Appends}
-use Rattle.ic_text.specs.LineText.{ReadsLine}
+use Rattle.ic_commands.specs.LineText.{ReadsLine}
 use Rattle.ic_lines.specs.Lines.{lines}
 use Rattle.ic_lines.specs.Answers.{events}
 use Rattle.ic_lines.specs.Taking.{to_come, TakesLine}
