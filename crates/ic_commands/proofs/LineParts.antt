@@ -107,13 +107,6 @@ module _ (rest w text : List ℕ) (split : tokens rest ≡ before (word_of w) (t
       → ReadsBehind opening.Submit rest (Err Limit)
   submit_too_long a short isnt reads apart = submit_long isnt (λ none. apart (reads.malformed short (no_system none)))
 
-  -- no line submits what is no system
-  pub submit_unspelled : ((s : SystemPhrase) → IsSpelling IsSystemPhrase system_words text s → ⊥) → ReadsBehind opening.Submit rest (Err Syntax)
-  submit_unspelled unspelled = record {
-    spelled = submit_sense (Err Syntax) (λ s spells. absurd (unspelled s spells));
-    malformed = λ _. refl;
-  }
-
   -- a submit is read as its system is
   pub submit_read : (a : Result SystemParts TextFault) → length text ≤ MAX_TEXT → IsTrue (is_job_name w) → ReadsSystem text a
       → ReadsBehind opening.Submit rest (submitted w a)
