@@ -1,30 +1,40 @@
 //! What is answered to a row, by its kind. Each kind serves lines on a new disk, by so many workers, with a keep after each
-//! so many rounds; what is written is the answer, and behind it the line of a fault.
+//! so many rounds; what is written is the answer, and behind it the line of a fault. LINES have ` ; ` between them, and so
+//! have their answers.
 //!
-//! - `serve WORKERS EVERY LINES`: lines with ` ; ` between them, and their answers likewise.
+//! - `serve WORKERS EVERY LINES`: lines.
 //! - `stream WORKERS EVERY TEXT`: a text as it stands, and what is written; or `nothing`.
 //! - `again WORKERS EVERY LINES + LINES`: lines, a crash that leaves what was synced, and more lines on the opened disk.
+//! - `worn WORKERS EVERY LINES`: lines on a disk whose numbers are used up, and whether the disk is as it was.
+//! - `newest WORKERS EVERY LINES`: the number of the newest slot behind the lines.
+//! - `reads`, `writes` or `flushes WORKERS EVERY LINES + LINES`: each read, write or flush fails in turn, where a reader gives
+//!   a line a read. For each, the answer that was written last, and ` -> ` and what the other lines are answered behind a
+//!   crash that leaves what was synced. Where the next is the same, how many times.
+//! - `device BLOW THEN CHOICE WORKERS EVERY LINES + LINES`: in the same way each call to the disk behind the opening, with
+//!   `before` or `after`, `stop` or `on`, and a crash that leaves what was `synced` or `written`.
 //! - `times COUNT LINE`: the same line so many times, and the answer that each has.
 //! - `feeds COUNT TEXT`: so many line feeds, and a text behind them.
 
-use crate::serving::{served, served_again};
+use crate::cuts::{Failing, cut_everywhere};
+use crate::lines::{lines_of, on_one_line, or_nothing, parted, repeated};
+use crate::serving::Server;
+use ic_disk::{Blow, Choice, Then};
 use ic_notation::{Row, Trouble, expanded};
-use std::alloc::{AllocError, Global};
+use std::alloc::Global;
 use std::sync::Wait;
 use std::thread::Threads;
 
 pub fn answer<R: Threads + Wait>(rt: &R, alloc: Global, row: &Row<'_>) -> Result<Vec<u8>, Trouble> {
-    let (first, rest) = row.text.split_once(' ').unwrap_or((row.text, ""));
     match row.kind {
-        "times" => times(rt, alloc, number(first), rest),
-        "feeds" => {
-            let mut text = repeated(alloc, b"\n", number(first))?;
-            text.append(&mut expanded(alloc, rest)?)?;
-            or_nothing(alloc, served(rt, alloc, &text, 1, 1)?)
-        }
+        "times" => times(&Server::new(rt, alloc, 1, 1), row.text),
+        "feeds" => feeds(&Server::new(rt, alloc, 1, 1), row.text),
+        "reads" => cut(rt, alloc, Failing::Read, Choice::Synced, row.text),
+        "writes" => cut(rt, alloc, Failing::Write, Choice::Synced, row.text),
+        "flushes" => cut(rt, alloc, Failing::Flush, Choice::Synced, row.text),
+        "device" => device(rt, alloc, row.text),
         _ => {
-            let (every, text) = rest.split_once(' ').unwrap_or((rest, ""));
-            by_workers(rt, alloc, row.kind, number(first), number(every), text)
+            let (server, text) = server_of(rt, alloc, row.text);
+            served(&server, row.kind, text)
         }
     }
 }
@@ -33,84 +43,89 @@ fn number(text: &str) -> usize {
     usize::from_str_radix(text, 10).unwrap_or(1)
 }
 
-/// What is answered where the number of workers, and after how many rounds is kept, are told.
-fn by_workers<R: Threads + Wait>(
-    rt: &R,
+/// The first word, and what stands behind it.
+fn first_word(text: &str) -> (&str, &str) {
+    text.split_once(' ').unwrap_or((text, ""))
+}
+
+/// The server of a row that begins with the number of workers and after how many rounds is kept, and what stands behind these.
+fn server_of<'a, 'b, R: Threads + Wait>(
+    rt: &'a R,
     alloc: Global,
+    text: &'b str,
+) -> (Server<'a, R>, &'b str) {
+    let (workers, rest) = first_word(text);
+    let (every, rest) = first_word(rest);
+    (Server::new(rt, alloc, number(workers), number(every)), rest)
+}
+
+/// What is answered where nothing fails.
+fn served<R: Threads + Wait>(
+    server: &Server<'_, R>,
     kind: &str,
-    workers: usize,
-    every: usize,
     text: &str,
 ) -> Result<Vec<u8>, Trouble> {
-    match kind {
-        "stream" => or_nothing(
-            alloc,
-            served(rt, alloc, &expanded(alloc, text)?, workers, every)?,
-        ),
-        "serve" => {
-            let written = served(rt, alloc, &lines_of(alloc, text)?, workers, every)?;
-            on_one_line(alloc, &written)
+    let alloc = server.alloc;
+    let written = match kind {
+        "stream" => {
+            let written = server.on_new_disk(&expanded(alloc, text)?)?;
+            return or_nothing(alloc, written);
         }
+        "serve" => server.on_new_disk(&lines_of(alloc, text)?)?,
+        "worn" => server.on_worn_disk(&lines_of(alloc, text)?)?,
+        "newest" => server.newest_slot(&lines_of(alloc, text)?)?,
         "again" => {
-            let (before, behind) = text.split_once(" + ").unwrap_or((text, ""));
-            let before = lines_of(alloc, before)?;
-            let behind = lines_of(alloc, behind)?;
-            let written = served_again(rt, alloc, &before, &behind, workers, every)?;
-            on_one_line(alloc, &written)
+            let (before, behind) = parted(alloc, text)?;
+            server.again(&before, &behind)?
         }
-        _ => Err(Trouble("no such kind")),
-    }
-}
-
-/// The text of lines that stand with ` ; ` between them.
-fn lines_of(alloc: Global, text: &str) -> Result<Vec<u8>, Trouble> {
-    let Ok(text) = String::from_utf8(expanded(alloc, text)?) else {
-        return Err(Trouble("no text"));
+        _ => return Err(Trouble("no such kind")),
     };
-    let mut lines = Vec::new(alloc);
-    for line in text.split(" ; ") {
-        lines.extend_from_slice(line.as_bytes())?;
-        lines.push(b'\n')?;
-    }
-    Ok(lines)
+    Ok(on_one_line(alloc, &written)?)
 }
 
-/// Lines with ` ; ` between them.
-fn on_one_line(alloc: Global, written: &[u8]) -> Result<Vec<u8>, Trouble> {
-    let mut line = Vec::new(alloc);
-    for (place, part) in written.split(|byte| *byte == b'\n').enumerate() {
-        if place > 0 && !part.is_empty() {
-            line.extend_from_slice(b" ; ")?;
-        }
-        line.extend_from_slice(part)?;
-    }
-    Ok(line)
+/// What comes of it where each call fails in turn.
+fn cut<R: Threads + Wait>(
+    rt: &R,
+    alloc: Global,
+    failing: Failing,
+    choice: Choice,
+    text: &str,
+) -> Result<Vec<u8>, Trouble> {
+    let (server, text) = server_of(rt, alloc, text);
+    let (before, behind) = parted(alloc, text)?;
+    cut_everywhere(&server, failing, choice, &before, &behind)
 }
 
-fn or_nothing(alloc: Global, written: Vec<u8>) -> Result<Vec<u8>, Trouble> {
-    if written.is_empty() {
-        return Ok(Vec::from_slice(alloc, b"nothing")?);
-    }
-    Ok(written)
-}
-
-fn repeated(alloc: Global, piece: &[u8], count: usize) -> Result<Vec<u8>, AllocError> {
-    let mut text = Vec::new(alloc);
-    for _ in 0..count {
-        text.extend_from_slice(piece)?;
-    }
-    Ok(text)
+/// The same of each call to the disk.
+fn device<R: Threads + Wait>(rt: &R, alloc: Global, text: &str) -> Result<Vec<u8>, Trouble> {
+    let (blow, rest) = first_word(text);
+    let (then, rest) = first_word(rest);
+    let (choice, rest) = first_word(rest);
+    let blow = match blow {
+        "before" => Blow::Before,
+        "after" => Blow::After,
+        _ => return Err(Trouble("neither before nor after")),
+    };
+    let then = match then {
+        "stop" => Then::Stop,
+        "on" => Then::GoOn,
+        _ => return Err(Trouble("neither stop nor on")),
+    };
+    let choice = match choice {
+        "synced" => Choice::Synced,
+        "written" => Choice::Written,
+        _ => return Err(Trouble("neither synced nor written")),
+    };
+    cut(rt, alloc, Failing::Device(blow, then), choice, rest)
 }
 
 /// The answer that a line has each of so many times.
-fn times<R: Threads + Wait>(
-    rt: &R,
-    alloc: Global,
-    count: usize,
-    line: &str,
-) -> Result<Vec<u8>, Trouble> {
+fn times<R: Threads + Wait>(server: &Server<'_, R>, text: &str) -> Result<Vec<u8>, Trouble> {
+    let alloc = server.alloc;
+    let (count, line) = first_word(text);
+    let count = number(count);
     let text = repeated(alloc, &lines_of(alloc, line)?, count)?;
-    let written = served(rt, alloc, &text, 1, 1)?;
+    let written = server.on_new_disk(&text)?;
     let first = written.split(|byte| *byte == b'\n').next().unwrap_or(b"");
     let mut once = Vec::from_slice(alloc, first)?;
     once.push(b'\n')?;
@@ -118,4 +133,13 @@ fn times<R: Threads + Wait>(
         return Err(Trouble("another answer comes between"));
     }
     Ok(Vec::from_slice(alloc, first)?)
+}
+
+/// What is written for so many line feeds, and a text behind them.
+fn feeds<R: Threads + Wait>(server: &Server<'_, R>, text: &str) -> Result<Vec<u8>, Trouble> {
+    let alloc = server.alloc;
+    let (count, rest) = first_word(text);
+    let mut text = repeated(alloc, b"\n", number(count))?;
+    text.append(&mut expanded(alloc, rest)?)?;
+    or_nothing(alloc, server.on_new_disk(&text)?)
 }

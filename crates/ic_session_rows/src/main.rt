@@ -6,7 +6,11 @@
 #![tactic(auto)]
 
 mod answers;
+mod cuts;
+mod disks;
+mod lines;
 mod serving;
+mod streams;
 
 use crate::answers::answer;
 use ic_notation::Row;

@@ -1,72 +1,91 @@
 //! Lines that are served on a disk in memory.
 
+use crate::disks::{new_disk, newest, opened, reopened, worn_disk};
 use ic_desk::Book;
-use ic_disk::{Choice, MemDisk};
-use ic_notation::Trouble;
+use ic_disk::{Choice, Disk};
+use ic_notation::{Trouble, decimal};
 use ic_session::serve_lines;
-use ic_slots::create;
 use std::alloc::Global;
+use std::io::{Read, Write};
 use std::sync::Wait;
 use std::thread::Threads;
 
-fn new_disk(alloc: Global) -> Result<MemDisk, Trouble> {
-    let mut disk = MemDisk::new(alloc);
-    match create(alloc, &mut disk) {
-        Ok(()) => Ok(disk),
-        Err(_) => Err(Trouble("no disk")),
-    }
-}
-
-fn opened(alloc: Global, disk: MemDisk) -> Result<Book<MemDisk>, Trouble> {
-    match Book::open(alloc, disk) {
-        Ok(book) => Ok(book),
-        Err(_) => Err(Trouble("no book")),
-    }
-}
-
-/// What is written for a text over a book, and the line of a fault.
-fn written<R: Threads + Wait>(
-    rt: &R,
-    alloc: Global,
-    book: &mut Book<MemDisk>,
-    text: &[u8],
+/// By how many workers lines are served, and after how many rounds is kept.
+#[derive(Drop)]
+pub struct Server<'a, R> {
+    rt: &'a R,
+    pub alloc: Global,
     workers: usize,
-    every: usize,
-) -> Result<Vec<u8>, Trouble> {
-    let mut reader = text;
-    let mut output = Vec::new(alloc);
-    let (workers, every) = (workers.max(1), (every as u64).max(1));
-    if let Err(fault) = serve_lines(rt, alloc, book, &mut reader, &mut output, workers, every) {
-        output.append(&mut fault.line(alloc)?)?;
+    every: u64,
+}
+
+impl<'a, R: Threads + Wait> Server<'a, R> {
+    pub fn new(rt: &'a R, alloc: Global, workers: usize, every: usize) -> Server<'a, R> {
+        Server {
+            rt,
+            alloc,
+            workers,
+            every: every as u64,
+        }
     }
-    Ok(output)
-}
 
-/// What is written for a text on a new disk.
-pub fn served<R: Threads + Wait>(
-    rt: &R,
-    alloc: Global,
-    text: &[u8],
-    workers: usize,
-    every: usize,
-) -> Result<Vec<u8>, Trouble> {
-    let mut book = opened(alloc, new_disk(alloc)?)?;
-    written(rt, alloc, &mut book, text, workers, every)
-}
+    /// Serves what a reader gives over a book. Answered is the line of a fault, or nothing.
+    pub fn serve<D: Disk, I: Read, O: Write>(
+        &self,
+        book: &mut Book<D>,
+        reader: &mut I,
+        writer: &mut O,
+    ) -> Result<Vec<u8>, Trouble> {
+        let workers = self.workers.max(1);
+        let every = self.every.max(1);
+        match serve_lines(self.rt, self.alloc, book, reader, writer, workers, every) {
+            Ok(()) => Ok(Vec::new(self.alloc)),
+            Err(fault) => Ok(fault.line(self.alloc)?),
+        }
+    }
 
-/// What is written for a text on a new disk, and for another on what a crash then leaves of it.
-pub fn served_again<R: Threads + Wait>(
-    rt: &R,
-    alloc: Global,
-    text: &[u8],
-    more: &[u8],
-    workers: usize,
-    every: usize,
-) -> Result<Vec<u8>, Trouble> {
-    let mut book = opened(alloc, new_disk(alloc)?)?;
-    let mut output = written(rt, alloc, &mut book, text, workers, every)?;
-    let left = book.close().crash(Choice::Synced)?;
-    let mut book = opened(alloc, left)?;
-    output.append(&mut written(rt, alloc, &mut book, more, workers, every)?)?;
-    Ok(output)
+    /// What is written for a text over a book, and the line of a fault.
+    pub fn written<D: Disk>(&self, book: &mut Book<D>, text: &[u8]) -> Result<Vec<u8>, Trouble> {
+        let mut reader = text;
+        let mut output = Vec::new(self.alloc);
+        let mut fault = self.serve(book, &mut reader, &mut output)?;
+        output.append(&mut fault)?;
+        Ok(output)
+    }
+
+    /// What is written for a text on a new disk.
+    pub fn on_new_disk(&self, text: &[u8]) -> Result<Vec<u8>, Trouble> {
+        let mut book = opened(self.alloc, new_disk(self.alloc)?)?;
+        self.written(&mut book, text)
+    }
+
+    /// What is written for a text on a new disk, and for another on what a crash then leaves of it.
+    pub fn again(&self, text: &[u8], more: &[u8]) -> Result<Vec<u8>, Trouble> {
+        let mut book = opened(self.alloc, new_disk(self.alloc)?)?;
+        let mut output = self.written(&mut book, text)?;
+        let mut book = reopened(self.alloc, book.close(), Choice::Synced)?;
+        output.append(&mut self.written(&mut book, more)?)?;
+        Ok(output)
+    }
+
+    /// What is written for a text on a disk whose numbers are used up, and whether the disk is as it was.
+    pub fn on_worn_disk(&self, text: &[u8]) -> Result<Vec<u8>, Trouble> {
+        let disk = worn_disk(self.alloc)?;
+        let before = disk.bytes().to_vec(self.alloc)?;
+        let mut book = opened(self.alloc, disk)?;
+        let mut output = self.written(&mut book, text)?;
+        if book.close().bytes() == before.as_slice() {
+            output.extend_from_slice(b"the disk is as it was\n")?;
+        }
+        Ok(output)
+    }
+
+    /// The number of the newest slot after a text was served on a new disk.
+    pub fn newest_slot(&self, text: &[u8]) -> Result<Vec<u8>, Trouble> {
+        let mut book = opened(self.alloc, new_disk(self.alloc)?)?;
+        self.written(&mut book, text)?;
+        let mut line = Vec::new(self.alloc);
+        decimal(&mut line, newest(&book.close()))?;
+        Ok(line)
+    }
 }

@@ -1,0 +1,188 @@
+//! Servings that are cut short: each call of a kind fails in turn, and then a crash comes.
+
+use crate::disks::{new_disk, opened, reopened};
+use crate::lines::{last_line, on_one_line};
+use crate::serving::Server;
+use crate::streams::{FailingWriter, LineReader};
+use ic_desk::Book;
+use ic_disk::{Blow, Choice, FuseDisk, MemDisk, Then};
+use ic_notation::{Trouble, decimal};
+use std::alloc::{AllocError, Global};
+use std::sync::Wait;
+use std::thread::Threads;
+
+/// More calls than a serving makes.
+const CALLS: u64 = 1_000;
+
+/// How a serving ended: what was written, the line of its fault, and what the disk holds.
+#[derive(Drop)]
+struct Cut {
+    written: Vec<u8>,
+    fault: Vec<u8>,
+    disk: MemDisk,
+}
+
+/// What came of the servings so far, one behind the other: the answer that was written last, and what another text was
+/// answered behind the crash, with how often one after the other they were the same.
+#[derive(Drop)]
+struct Story {
+    told: Vec<u8>,
+    written: Vec<u8>,
+    last: Vec<u8>,
+    times: u64,
+}
+
+impl Story {
+    fn new(alloc: Global) -> Story {
+        Story {
+            told: Vec::new(alloc),
+            written: Vec::new(alloc),
+            last: Vec::new(alloc),
+            times: 0,
+        }
+    }
+
+    /// Tells what comes next. No answer that was written before is another one now.
+    fn add(&mut self, alloc: Global, written: Vec<u8>, shown: &[u8]) -> Result<(), Trouble> {
+        if !written.starts_with(&self.written) {
+            return Err(Trouble("an answer is another one"));
+        }
+        let mut entry = last_line(alloc, &written)?;
+        if !entry.is_empty() {
+            entry.push(b' ')?;
+        }
+        entry.extend_from_slice(b"-> ")?;
+        entry.append(&mut on_one_line(alloc, shown)?)?;
+        if entry.as_slice() != self.last.as_slice() {
+            self.close_entry()?;
+            self.last = entry;
+        }
+        self.times = self.times.saturating_add(1);
+        self.written = written;
+        Ok(())
+    }
+
+    /// Writes the last entry down.
+    fn close_entry(&mut self) -> Result<(), AllocError> {
+        if self.times == 0 {
+            return Ok(());
+        }
+        if !self.told.is_empty() {
+            self.told.extend_from_slice(b" ; ")?;
+        }
+        self.told.extend_from_slice(&self.last)?;
+        if self.times > 1 {
+            self.told.extend_from_slice(b" (")?;
+            decimal(&mut self.told, self.times)?;
+            self.told.extend_from_slice(b" times)")?;
+        }
+        self.times = 0;
+        Ok(())
+    }
+
+    fn finish(mut self) -> Result<Vec<u8>, Trouble> {
+        self.close_entry()?;
+        Ok(self.told)
+    }
+}
+
+/// Which call of a serving fails.
+#[derive(Clone, Copy)]
+pub enum Failing {
+    Read,
+    Write,
+    Flush,
+    Device(Blow, Then),
+}
+
+impl Failing {
+    /// The line of the fault by which the serving ends.
+    fn line(self) -> &'static [u8] {
+        match self {
+            Failing::Read => b"icserve: read\n",
+            Failing::Write | Failing::Flush => b"icserve: write\n",
+            Failing::Device(_, _) => b"icserve: device\n",
+        }
+    }
+
+    /// Serves a text on a new disk, where the call of this number fails.
+    fn cut<R: Threads + Wait>(
+        self,
+        server: &Server<'_, R>,
+        text: &[u8],
+        call: u64,
+    ) -> Result<Cut, Trouble> {
+        let (read, write, flush) = match self {
+            Failing::Read => (call, 0, 0),
+            Failing::Write => (0, call, 0),
+            Failing::Flush => (0, 0, call),
+            Failing::Device(blow, then) => return fused(server, text, call, blow, then),
+        };
+        let mut book = opened(server.alloc, new_disk(server.alloc)?)?;
+        let mut reader = LineReader::new(text, read);
+        let mut writer = FailingWriter::new(server.alloc, write, flush);
+        let fault = server.serve(&mut book, &mut reader, &mut writer)?;
+        Ok(Cut {
+            written: writer.bytes,
+            fault,
+            disk: book.close(),
+        })
+    }
+}
+
+/// How many calls to a new disk an opening makes: it goes well where the call behind them fails.
+fn opening_calls(alloc: Global) -> Result<u64, Trouble> {
+    for calls in 0..CALLS {
+        let disk = FuseDisk::new(new_disk(alloc)?, calls + 1, Blow::Before, Then::Stop);
+        if Book::open(alloc, disk).is_ok() {
+            return Ok(calls);
+        }
+    }
+    Err(Trouble("never opened"))
+}
+
+/// Serves a text on a new disk, of which the call of this number behind the opening fails.
+fn fused<R: Threads + Wait>(
+    server: &Server<'_, R>,
+    text: &[u8],
+    call: u64,
+    blow: Blow,
+    then: Then,
+) -> Result<Cut, Trouble> {
+    let call = opening_calls(server.alloc)?.saturating_add(call);
+    let disk = FuseDisk::new(new_disk(server.alloc)?, call, blow, then);
+    let mut book = opened(server.alloc, disk)?;
+    let mut reader = text;
+    let mut written = Vec::new(server.alloc);
+    let fault = server.serve(&mut book, &mut reader, &mut written)?;
+    Ok(Cut {
+        written,
+        fault,
+        disk: book.close().into_inner(),
+    })
+}
+
+/// What comes of a text where each call of a kind fails in turn, until none is left that fails. Behind each of these servings
+/// a crash leaves what it may by this choice, and another text is served on the opened disk.
+pub fn cut_everywhere<R: Threads + Wait>(
+    server: &Server<'_, R>,
+    failing: Failing,
+    choice: Choice,
+    text: &[u8],
+    more: &[u8],
+) -> Result<Vec<u8>, Trouble> {
+    let mut story = Story::new(server.alloc);
+    for call in 1..CALLS {
+        let cut = failing.cut(server, text, call)?;
+        if cut.fault.is_empty() {
+            return story.finish();
+        }
+        if cut.fault.as_slice() != failing.line() {
+            return Err(Trouble("another fault"));
+        }
+        let mut book = reopened(server.alloc, cut.disk, choice)?;
+        let shown = server.written(&mut book, more)?;
+        story.add(server.alloc, cut.written, &shown)?;
+    }
+    Err(Trouble("each serving fails"))
+}

@@ -1,0 +1,62 @@
+//! Disks in memory on which lines are served.
+
+use ic_desk::Book;
+use ic_disk::{Choice, Disk, MemDisk};
+use ic_notation::Trouble;
+use ic_slots::create;
+use std::alloc::Global;
+
+/// Where the second slot begins.
+const SECOND_SLOT: usize = 4_194_304;
+
+/// A disk that was just created.
+pub fn new_disk(alloc: Global) -> Result<MemDisk, Trouble> {
+    let mut disk = MemDisk::new(alloc);
+    match create(alloc, &mut disk) {
+        Ok(()) => Ok(disk),
+        Err(_) => Err(Trouble("no disk")),
+    }
+}
+
+/// A new disk, of which the one open slot has the greatest number there is.
+pub fn worn_disk(alloc: Global) -> Result<MemDisk, Trouble> {
+    let mut bytes = new_disk(alloc)?.bytes().to_vec(alloc)?;
+    for byte in bytes.iter_mut().skip(1).take(8) {
+        *byte = 255;
+    }
+    Ok(MemDisk::from_bytes(bytes))
+}
+
+/// The book on a disk.
+pub fn opened<D: Disk + Drop>(alloc: Global, disk: D) -> Result<Book<D>, Trouble> {
+    match Book::open(alloc, disk) {
+        Ok(book) => Ok(book),
+        Err(_) => Err(Trouble("no book")),
+    }
+}
+
+/// The book on what a crash leaves of a disk.
+pub fn reopened(alloc: Global, disk: MemDisk, choice: Choice) -> Result<Book<MemDisk>, Trouble> {
+    opened(alloc, disk.crash(choice)?)
+}
+
+/// The number of the slot that begins here, where it is open.
+fn open_number(slot: &[u8]) -> Option<u64> {
+    let (gate, rest) = slot.split_first()?;
+    if *gate != 1 {
+        return None;
+    }
+    let mut number = 0u64;
+    for byte in rest.get(..8)? {
+        number = number.wrapping_mul(256).wrapping_add(u64::from(*byte));
+    }
+    Some(number)
+}
+
+/// The number of the newest slot, or 0 where none is open.
+pub fn newest(disk: &MemDisk) -> u64 {
+    let bytes = disk.bytes();
+    let first = open_number(bytes).unwrap_or(0);
+    let second = open_number(bytes.get(SECOND_SLOT..).unwrap_or(&[])).unwrap_or(0);
+    first.max(second)
+}
