@@ -3,21 +3,28 @@
 //! have their answers.
 //!
 //! - `serve WORKERS EVERY LINES`: lines.
+//! - `slow WORKERS EVERY LINES`: lines that a reader gives a byte at a time, each other read interrupted, and a writer that
+//!   takes three; what was flushed.
 //! - `stream WORKERS EVERY TEXT`: a text as it stands, and what is written; or `nothing`.
 //! - `again WORKERS EVERY LINES + LINES`: lines, a crash that leaves what was synced, and more lines on the opened disk.
-//! - `worn WORKERS EVERY LINES`: lines on a disk whose numbers are used up, and whether the disk is as it was.
+//! - `worn WORKERS EVERY LINES`, or `LINES + LINES`: lines on a disk whose numbers are used up, as lines before have left it,
+//!   and whether it is as it was.
+//! - `broken CALL WORKERS EVERY LINES + LINES`: lines, and more over the same book, of whose disk this call fails.
 //! - `newest WORKERS EVERY LINES`: the number of the newest slot behind the lines.
+//! - `history WORKERS EVERY LINES`: the entries of the book, how many are kept, and how many jobs it began with.
 //! - `reads`, `writes` or `flushes WORKERS EVERY LINES + LINES`: each read, write or flush fails in turn, where a reader gives
-//!   a line a read. For each, the answer that was written last, and ` -> ` and what the other lines are answered behind a
-//!   crash that leaves what was synced. Where the next is the same, how many times.
+//!   a line a read, and none once the lines have ended. For each, the answer that was written last (with `reads`, flushed),
+//!   and ` -> ` and what the other lines are answered behind a crash that leaves what was synced. Where the next is the
+//!   same, how many times. `slow_reads`, `slow_writes`: the same of the reader and the writer of `slow`.
 //! - `device BLOW THEN CHOICE WORKERS EVERY LINES + LINES`: in the same way each call to the disk behind the opening, with
 //!   `before` or `after`, `stop` or `on`, and a crash that leaves what was `synced` or `written`.
 //! - `times COUNT LINE`: the same line so many times, and the answer that each has.
 //! - `feeds COUNT TEXT`: so many line feeds, and a text behind them.
 
-use crate::cuts::{Failing, cut_everywhere};
+use crate::cuts::{Failing, broken, cut_everywhere};
 use crate::lines::{lines_of, on_one_line, or_nothing, parted, repeated};
 use crate::serving::Server;
+use crate::streams::Pace;
 use ic_disk::{Blow, Choice, Then};
 use ic_notation::{Row, Trouble, expanded};
 use std::alloc::Global;
@@ -28,14 +35,27 @@ pub fn answer<R: Threads + Wait>(rt: &R, alloc: Global, row: &Row<'_>) -> Result
     match row.kind {
         "times" => times(&Server::new(rt, alloc, 1, 1), row.text),
         "feeds" => feeds(&Server::new(rt, alloc, 1, 1), row.text),
-        "reads" => cut(rt, alloc, Failing::Read, Choice::Synced, row.text),
-        "writes" => cut(rt, alloc, Failing::Write, Choice::Synced, row.text),
-        "flushes" => cut(rt, alloc, Failing::Flush, Choice::Synced, row.text),
         "device" => device(rt, alloc, row.text),
-        _ => {
+        "broken" => broken_by(rt, alloc, row.text),
+        kind => {
             let (server, text) = server_of(rt, alloc, row.text);
-            served(&server, row.kind, text)
+            match failing_of(kind) {
+                Some(failing) => cut(&server, failing, Choice::Synced, text),
+                None => served(&server, kind, text),
+            }
         }
+    }
+}
+
+/// What fails in turn in rows of a kind.
+fn failing_of(kind: &str) -> Option<Failing> {
+    match kind {
+        "reads" => Some(Failing::Read(Pace::Lines)),
+        "writes" => Some(Failing::Write(Pace::Lines)),
+        "flushes" => Some(Failing::Flush),
+        "slow_reads" => Some(Failing::Read(Pace::Slow)),
+        "slow_writes" => Some(Failing::Write(Pace::Slow)),
+        _ => None,
     }
 }
 
@@ -72,31 +92,43 @@ fn served<R: Threads + Wait>(
             return or_nothing(alloc, written);
         }
         "serve" => server.on_new_disk(&lines_of(alloc, text)?)?,
-        "worn" => server.on_worn_disk(&lines_of(alloc, text)?)?,
+        "slow" => server.slowly(&lines_of(alloc, text)?)?,
         "newest" => server.newest_slot(&lines_of(alloc, text)?)?,
-        "again" => {
-            let (before, behind) = parted(alloc, text)?;
-            server.again(&before, &behind)?
-        }
+        "history" => server.history(&lines_of(alloc, text)?)?,
+        "again" | "worn" => twice(server, kind, text)?,
         _ => return Err(Trouble("no such kind")),
     };
     Ok(on_one_line(alloc, &written)?)
 }
 
+/// What is answered to lines before ` + `, and to those behind it.
+fn twice<R: Threads + Wait>(
+    server: &Server<'_, R>,
+    kind: &str,
+    text: &str,
+) -> Result<Vec<u8>, Trouble> {
+    if kind == "worn" && !text.contains(" + ") {
+        return server.on_worn_disk(b"", &lines_of(server.alloc, text)?);
+    }
+    let (before, behind) = parted(server.alloc, text)?;
+    match kind {
+        "worn" => server.on_worn_disk(&before, &behind),
+        _ => server.again(&before, &behind),
+    }
+}
+
 /// What comes of it where each call fails in turn.
 fn cut<R: Threads + Wait>(
-    rt: &R,
-    alloc: Global,
+    server: &Server<'_, R>,
     failing: Failing,
     choice: Choice,
     text: &str,
 ) -> Result<Vec<u8>, Trouble> {
-    let (server, text) = server_of(rt, alloc, text);
-    let (before, behind) = parted(alloc, text)?;
-    cut_everywhere(&server, failing, choice, &before, &behind)
+    let (before, behind) = parted(server.alloc, text)?;
+    cut_everywhere(server, failing, choice, &before, &behind)
 }
 
-/// The same of each call to the disk.
+/// What comes of it where each call to the disk fails in turn.
 fn device<R: Threads + Wait>(rt: &R, alloc: Global, text: &str) -> Result<Vec<u8>, Trouble> {
     let (blow, rest) = first_word(text);
     let (then, rest) = first_word(rest);
@@ -116,7 +148,17 @@ fn device<R: Threads + Wait>(rt: &R, alloc: Global, text: &str) -> Result<Vec<u8
         "written" => Choice::Written,
         _ => return Err(Trouble("neither synced nor written")),
     };
-    cut(rt, alloc, Failing::Device(blow, then), choice, rest)
+    let (server, text) = server_of(rt, alloc, rest);
+    cut(&server, Failing::Device(blow, then), choice, text)
+}
+
+/// What is answered over a book that one failed call to the disk breaks.
+fn broken_by<R: Threads + Wait>(rt: &R, alloc: Global, text: &str) -> Result<Vec<u8>, Trouble> {
+    let (call, rest) = first_word(text);
+    let (server, text) = server_of(rt, alloc, rest);
+    let (before, behind) = parted(alloc, text)?;
+    let written = broken(&server, number(call) as u64, &before, &behind)?;
+    Ok(on_one_line(alloc, &written)?)
 }
 
 /// The answer that a line has each of so many times.

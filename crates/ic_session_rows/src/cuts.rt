@@ -3,7 +3,7 @@
 use crate::disks::{new_disk, opened, reopened};
 use crate::lines::{last_line, on_one_line};
 use crate::serving::Server;
-use crate::streams::{FailingWriter, LineReader};
+use crate::streams::{FailingReader, FailingWriter, Pace};
 use ic_desk::Book;
 use ic_disk::{Blow, Choice, FuseDisk, MemDisk, Then};
 use ic_notation::{Trouble, decimal};
@@ -89,8 +89,8 @@ impl Story {
 /// Which call of a serving fails.
 #[derive(Clone, Copy)]
 pub enum Failing {
-    Read,
-    Write,
+    Read(Pace),
+    Write(Pace),
     Flush,
     Device(Blow, Then),
 }
@@ -99,31 +99,35 @@ impl Failing {
     /// The line of the fault by which the serving ends.
     fn line(self) -> &'static [u8] {
         match self {
-            Failing::Read => b"icserve: read\n",
-            Failing::Write | Failing::Flush => b"icserve: write\n",
+            Failing::Read(_) => b"icserve: read\n",
+            Failing::Write(_) | Failing::Flush => b"icserve: write\n",
             Failing::Device(_, _) => b"icserve: device\n",
         }
     }
 
-    /// Serves a text on a new disk, where the call of this number fails.
+    /// Serves a text on a new disk, where the call of this number fails. Where it is a read, written is what was flushed.
     fn cut<R: Threads + Wait>(
         self,
         server: &Server<'_, R>,
         text: &[u8],
         call: u64,
     ) -> Result<Cut, Trouble> {
-        let (read, write, flush) = match self {
-            Failing::Read => (call, 0, 0),
-            Failing::Write => (0, call, 0),
-            Failing::Flush => (0, 0, call),
+        let (pace, read, write, flush) = match self {
+            Failing::Read(pace) => (pace, call, 0, 0),
+            Failing::Write(pace) => (pace, 0, call, 0),
+            Failing::Flush => (Pace::Lines, 0, 0, call),
             Failing::Device(blow, then) => return fused(server, text, call, blow, then),
         };
         let mut book = opened(server.alloc, new_disk(server.alloc)?)?;
-        let mut reader = LineReader::new(text, read);
-        let mut writer = FailingWriter::new(server.alloc, write, flush);
+        let mut reader = FailingReader::new(text, pace, read);
+        let mut writer = FailingWriter::new(server.alloc, pace, write, flush);
         let fault = server.serve(&mut book, &mut reader, &mut writer)?;
+        let written = match self {
+            Failing::Read(_) => writer.into_flushed(),
+            _ => writer.into_written(),
+        };
         Ok(Cut {
-            written: writer.bytes,
+            written,
             fault,
             disk: book.close(),
         })
@@ -141,6 +145,17 @@ fn opening_calls(alloc: Global) -> Result<u64, Trouble> {
     Err(Trouble("never opened"))
 }
 
+/// The book on a new disk, of which the call of this number behind the opening fails.
+fn on_fused_disk(
+    alloc: Global,
+    call: u64,
+    blow: Blow,
+    then: Then,
+) -> Result<Book<FuseDisk>, Trouble> {
+    let call = opening_calls(alloc)?.saturating_add(call);
+    opened(alloc, FuseDisk::new(new_disk(alloc)?, call, blow, then))
+}
+
 /// Serves a text on a new disk, of which the call of this number behind the opening fails.
 fn fused<R: Threads + Wait>(
     server: &Server<'_, R>,
@@ -149,9 +164,7 @@ fn fused<R: Threads + Wait>(
     blow: Blow,
     then: Then,
 ) -> Result<Cut, Trouble> {
-    let call = opening_calls(server.alloc)?.saturating_add(call);
-    let disk = FuseDisk::new(new_disk(server.alloc)?, call, blow, then);
-    let mut book = opened(server.alloc, disk)?;
+    let mut book = on_fused_disk(server.alloc, call, blow, then)?;
     let mut reader = text;
     let mut written = Vec::new(server.alloc);
     let fault = server.serve(&mut book, &mut reader, &mut written)?;
@@ -160,6 +173,20 @@ fn fused<R: Threads + Wait>(
         fault,
         disk: book.close().into_inner(),
     })
+}
+
+/// What is written for a text on a new disk, of which this call behind the opening fails, and then for another over the same
+/// book.
+pub fn broken<R: Threads + Wait>(
+    server: &Server<'_, R>,
+    call: u64,
+    text: &[u8],
+    more: &[u8],
+) -> Result<Vec<u8>, Trouble> {
+    let mut book = on_fused_disk(server.alloc, call, Blow::Before, Then::GoOn)?;
+    let mut output = server.written(&mut book, text)?;
+    output.append(&mut server.written(&mut book, more)?)?;
+    Ok(output)
 }
 
 /// What comes of a text where each call of a kind fails in turn, until none is left that fails. Behind each of these servings

@@ -18,15 +18,6 @@ pub fn new_disk(alloc: Global) -> Result<MemDisk, Trouble> {
     }
 }
 
-/// A new disk, of which the one open slot has the greatest number there is.
-pub fn worn_disk(alloc: Global) -> Result<MemDisk, Trouble> {
-    let mut bytes = new_disk(alloc)?.bytes().to_vec(alloc)?;
-    for byte in bytes.iter_mut().skip(1).take(8) {
-        *byte = 255;
-    }
-    Ok(MemDisk::from_bytes(bytes))
-}
-
 /// The book on a disk.
 pub fn opened<D: Disk + Drop>(alloc: Global, disk: D) -> Result<Book<D>, Trouble> {
     match Book::open(alloc, disk) {
@@ -53,10 +44,28 @@ fn open_number(slot: &[u8]) -> Option<u64> {
     Some(number)
 }
 
+/// The numbers of the two slots, 0 where one isn't open.
+fn numbers(bytes: &[u8]) -> (u64, u64) {
+    let second = bytes.get(SECOND_SLOT..).unwrap_or(&[]);
+    (
+        open_number(bytes).unwrap_or(0),
+        open_number(second).unwrap_or(0),
+    )
+}
+
 /// The number of the newest slot, or 0 where none is open.
 pub fn newest(disk: &MemDisk) -> u64 {
-    let bytes = disk.bytes();
-    let first = open_number(bytes).unwrap_or(0);
-    let second = open_number(bytes.get(SECOND_SLOT..).unwrap_or(&[])).unwrap_or(0);
+    let (first, second) = numbers(disk.bytes());
     first.max(second)
+}
+
+/// A disk of which the newest slot has the greatest number there is.
+pub fn worn(alloc: Global, disk: &MemDisk) -> Result<MemDisk, Trouble> {
+    let mut bytes = disk.bytes().to_vec(alloc)?;
+    let (first, second) = numbers(&bytes);
+    let slot = if first < second { SECOND_SLOT } else { 0 };
+    for byte in bytes.iter_mut().skip(slot + 1).take(8) {
+        *byte = 255;
+    }
+    Ok(MemDisk::from_bytes(bytes))
 }

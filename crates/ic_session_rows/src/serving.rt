@@ -1,6 +1,7 @@
 //! Lines that are served on a disk in memory.
 
-use crate::disks::{new_disk, newest, opened, reopened, worn_disk};
+use crate::disks::{new_disk, newest, opened, reopened, worn};
+use crate::streams::{FailingReader, FailingWriter, Pace};
 use ic_desk::Book;
 use ic_disk::{Choice, Disk};
 use ic_notation::{Trouble, decimal};
@@ -68,16 +69,49 @@ impl<'a, R: Threads + Wait> Server<'a, R> {
         Ok(output)
     }
 
-    /// What is written for a text on a disk whose numbers are used up, and whether the disk is as it was.
-    pub fn on_worn_disk(&self, text: &[u8]) -> Result<Vec<u8>, Trouble> {
-        let disk = worn_disk(self.alloc)?;
-        let before = disk.bytes().to_vec(self.alloc)?;
+    /// What is written for a text on a new disk, by a reader and a writer that go slowly.
+    pub fn slowly(&self, text: &[u8]) -> Result<Vec<u8>, Trouble> {
+        let mut book = opened(self.alloc, new_disk(self.alloc)?)?;
+        let mut reader = FailingReader::new(text, Pace::Slow, 0);
+        let mut writer = FailingWriter::new(self.alloc, Pace::Slow, 0, 0);
+        let mut fault = self.serve(&mut book, &mut reader, &mut writer)?;
+        let mut output = writer.into_flushed();
+        output.append(&mut fault)?;
+        Ok(output)
+    }
+
+    /// What is written for a text on a disk that another text has left and whose numbers are used up, and whether the disk is
+    /// as it was.
+    pub fn on_worn_disk(&self, before: &[u8], text: &[u8]) -> Result<Vec<u8>, Trouble> {
+        let mut book = opened(self.alloc, new_disk(self.alloc)?)?;
+        self.written(&mut book, before)?;
+        let disk = worn(self.alloc, &book.close())?;
+        let bytes = disk.bytes().to_vec(self.alloc)?;
         let mut book = opened(self.alloc, disk)?;
         let mut output = self.written(&mut book, text)?;
-        if book.close().bytes() == before.as_slice() {
+        if book.close().bytes() == bytes.as_slice() {
             output.extend_from_slice(b"the disk is as it was\n")?;
         }
         Ok(output)
+    }
+
+    /// What the book has after a text was served on a new disk: how many entries, how many of them kept, and how many jobs at
+    /// the start; and whether each entry has the sender 0.
+    pub fn history(&self, text: &[u8]) -> Result<Vec<u8>, Trouble> {
+        let mut book = opened(self.alloc, new_disk(self.alloc)?)?;
+        self.written(&mut book, text)?;
+        let entries = book.log().len();
+        let kept = book.kept();
+        let jobs = book.start().jobs().len();
+        let senders = if book.log().iter().all(|entry| entry.who == 0) {
+            "0"
+        } else {
+            "others"
+        };
+        let line = format!(in self.alloc;
+            "entries {entries}, kept {kept}, jobs before {jobs}, sender {senders}"
+        )?;
+        Ok(line.into_bytes())
     }
 
     /// The number of the newest slot after a text was served on a new disk.
