@@ -3,7 +3,7 @@
 ghost use Rattle.std.specs.Prelude.{◌≡◌, ◌⊎◌, ◌+◌, ◌-◌, ◌^◌, ◌<◌, ◌≤◌, ◌↔◌, [], ◌∷◌, List, ℕ, length, IsTrue, OnOk, OnErr};
 ghost use Rattle.ic_disk.specs.Content.{laid};
 ghost use Rattle.ic_disk.specs.Crash.{Takes};
-ghost use Rattle.ic_disk.specs.Images.{AgreesOutside, AgreesWithAny, IsUnmarked, Only, Torn, TornFrom, TornInTurn, WholeIfMarked, one_range, two_ranges};
+ghost use Rattle.ic_disk.specs.Images.{AgreesOutside, AgreesWithAny, IsUnmarked, Only, Torn, TornFrom, TornInTurn, WholeIfMarked, Within, one_range, two_ranges};
 ghost use Rattle.ic_disk.specs.Model.{IsImageIn, IsInState, State, after, after_failed, begun, sync, write_of};
 ghost use Rattle.ic_disk.specs.Time.{CountsFailure, LeavesOnly};
 ghost use Rattle.ic_disk.specs.declared.mem.Choice.{Choice};
@@ -19,6 +19,11 @@ pub fn write_synced<D: Disk>(disk: &mut D, at: u64, bytes: &[u8]) -> Result<(), 
         (D.content disk.new ≡ laid at bytes.now (D.content disk.old)) }
     ensures durable { IsTrue (D.keeps disk.old) → OnOk result
         (Only (laid at bytes.now (D.content disk.old)) (D.image disk.new)) }
+
+    // At Err the images from before are there still, or the bytes are on the disk for good.
+    ensures failed { IsTrue (D.keeps disk.old) → OnErr result
+        (Within (D.image disk.old) (D.image disk.new)
+        ⊎ Only (laid at bytes.now (D.content disk.old)) (D.image disk.new)) }
 
     // A crash at any moment leaves an image from before, torn by the write.
     ensures any_moment { IsTrue (D.keeps disk.old) → LeavesOnly D.clock D.left disk.old disk.new

@@ -9,20 +9,20 @@ use Rattle.ic_frames.specs.declared.slot.Slot.{Slot}
 use Rattle.ic_frames.specs.declared.slot.Slot.TheVariants.{First, Second}
 use Rattle.ic_frames.specs.Places.{place, other}
 use Rattle.ic_frames.specs.Fields.{number, body, is_open, is_whole, IsMade}
-use Rattle.ic_frames.specs.Held.{the_body, Holds, HoldsEither, IsNewest}
+use Rattle.ic_frames.specs.Held.{the_body, HasBody, Holds, HoldsEither, IsNewest}
 use Rattle.ic_frames.specs.Staged.{IsStaged}
 use Rattle.ic_frames.specs.inner.Standing.{Stands, IsKept, IsFrame}
 use Rattle.ic_frames.proofs.FieldLemmas.{shut_from, open_from, open_parts, open-same, whole_parts}
-use Rattle.ic_frames.proofs.HeldLemmas.{stands_holds}
+use Rattle.ic_frames.proofs.HeldLemmas.{stands_holds, stands_newest, whole_held}
 use Rattle.ic_frames.proofs.CrashLemmas.{still_stands, gate_torn, body_torn, open_torn, staged_torn, newly_stands, newest_stays, newest_untouched, head_made}
 use Rattle.ic_frames.proofs.FrameLemmas.{length-framed, number-framed, whole-framed, body-framed, gate-framed}
 
--- two bodies that one file holds are one
+-- two bodies that one file has are one
+same_body : (xs ys : List ℕ) → the_body xs ≡ the_body ys → xs ≡ ys
+same_body xs ys e = cc
+
 pub one_body : (file kept held : List ℕ) → Holds kept file → Holds held file → kept ≡ held
-one_body file kept held this that = same kept held (sym this.held ∙ that.held)
-  where
-    same : (xs ys : List ℕ) → the_body xs ≡ the_body ys → xs ≡ ys
-    same xs ys e = cc
+one_body file kept held this that = same_body kept held (sym this.held ∙ that.held)
 
 pub zero_is_one : ◌≡◌ {A = ℕ} 0 1 → ⊥
 zero_is_one e = omega (arith, e)
@@ -61,9 +61,16 @@ module _ (content : List ℕ) (image : List ℕ → Type 0) (newest : Slot) (n :
       let held = body (place newest) content in
       one_body c held kept (stands_holds newest n closed held c (is.stands c there) made_c) (holds c there)
 
+  -- Whatever body an image has, made or not, it is the newest slot's.
+  pub has_is : (kept c : List ℕ) → image c → HasBody kept c → body (place newest) content ≡ kept
+  has_is kept c there has =
+      let held = body (place newest) content in
+      let stands = is.stands c there in
+      same_body held kept (sym (whole_held newest c (stands_newest newest n closed held c stands) stands.whole ∙ ap the_body stands.body_is) ∙ has)
+
 -- Before the gate of the other slot is closed.
 module _ (content : List ℕ) (image : List ℕ → Type 0) (newest : Slot) (n : ℕ) (staged made : Bool) (now : image content) (is : IsKept content image newest n false staged made) where
-  is_made : made ≡ true
+  pub is_made : made ≡ true
   is_made = ⊎_elim (λ so. so) (λ not. absurd (false≢true (is.not_made not).1)) (cases_Bool made)
 
   pub gate_leaves : (kept : List ℕ) → Within image (Holds kept) → Within (TornFrom (place (other newest)) 1 image) (Holds kept)
@@ -116,27 +123,45 @@ module _ (content : List ℕ) (image : List ℕ → Type 0) (newest : Slot) (n :
       shut_from at c (λ opened. zero_is_one (sym (gate-framed skip at (n + 1) held frame content (omega (arith, cut.1)) is_frame short cut.1) ∙ opened)))
       which
 
-  pub body_kept : (skip : ℕ) (held frame : List ℕ) (new_image : List ℕ → Type 0) → IsFrame (n + 1) held frame → length held ≤ 3036421 → ((made ≡ true) × (skip ≡ 1)) ⊎ ((made ≡ false) × (skip ≡ 0))
-      → Only (laid (place (other newest) + skip) (drop skip frame) content) new_image
-      → IsKept (laid (place (other newest) + skip) (drop skip frame) content) new_image newest n true true true × Within new_image (IsStaged (other newest) (n + 1) held)
-  body_kept skip held frame new_image is_frame short which only =
+  -- what stands once the frame is laid
+  laid_stands : (skip : ℕ) (held frame : List ℕ) → IsFrame (n + 1) held frame → length held ≤ 3036421 → ((made ≡ true) × (skip ≡ 1)) ⊎ ((made ≡ false) × (skip ≡ 0))
+      → Stands newest n true (body (place newest) content) (laid (place (other newest) + skip) (drop skip frame) content)
+      × IsStaged (other newest) (n + 1) held (laid (place (other newest) + skip) (drop skip frame) content)
+  laid_stands skip held frame is_frame short which =
       let at = place (other newest) in
       let bytes = drop skip frame in
       let c = laid (at + skip) bytes content in
       let low : skip ≤ 1 = ⊎_elim (λ full. omega (arith, full.1)) (λ cut. omega (arith, cut.1)) which in
       let torn : Torn (at + skip) (length bytes) content c = torn_laid (at + skip) bytes content in
-      let until : at + skip + length bytes ≤ at + 13 + 3036421 = omega (arith, length-drop skip frame, is_frame.long, short, low) in
-      let before = is.stands content now in
-      let stands = still_stands newest (at + skip) (length bytes) content c torn (omega arith) until n true true (body (place newest) content) before
-      (λ _. still_shut skip held frame is_frame short which) (λ e. absurd (true≢false e)) in
-      let staged_now : IsStaged (other newest) (n + 1) held c = record {
-        number_is = number-framed skip at (n + 1) held frame content low is_frame short;
-        whole = whole-framed skip at (n + 1) held frame content low is_frame short;
-        body_is = body-framed skip at (n + 1) held frame content low is_frame short;
-      } in (
-        kept_settled c new_image newest n true true (body (place newest) content) only (second_made newest c stands.whole staged_now.whole) stands (λ _. refl) (λ _. (held, staged_now)),
-        of_only (IsStaged (other newest) (n + 1) held) c new_image only staged_now,
+      let until : at + skip + length bytes ≤ at + 13 + 3036421 = omega (arith, length-drop skip frame, is_frame.long, short, low) in (
+        still_stands newest (at + skip) (length bytes) content c torn (omega arith) until n true true (body (place newest) content) (is.stands content now)
+            (λ _. still_shut skip held frame is_frame short which) (λ e. absurd (true≢false e)),
+        record {
+          number_is = number-framed skip at (n + 1) held frame content low is_frame short;
+          whole = whole-framed skip at (n + 1) held frame content low is_frame short;
+          body_is = body-framed skip at (n + 1) held frame content low is_frame short;
+        },
       )
+
+  pub body_kept : (skip : ℕ) (held frame : List ℕ) (new_image : List ℕ → Type 0) → IsFrame (n + 1) held frame → length held ≤ 3036421 → ((made ≡ true) × (skip ≡ 1)) ⊎ ((made ≡ false) × (skip ≡ 0))
+      → Only (laid (place (other newest) + skip) (drop skip frame) content) new_image
+      → IsKept (laid (place (other newest) + skip) (drop skip frame) content) new_image newest n true true true × Within new_image (IsStaged (other newest) (n + 1) held)
+  body_kept skip held frame new_image is_frame short which only =
+      let c = laid (place (other newest) + skip) (drop skip frame) content in
+      let both = laid_stands skip held frame is_frame short which in (
+        kept_settled c new_image newest n true true (body (place newest) content) only (second_made newest c both.0.whole both.1.whole) both.0 (λ _. refl) (λ _. (held, both.1)),
+        of_only (IsStaged (other newest) (n + 1) held) c new_image only both.1,
+      )
+
+  -- once the frame is laid each image holds what the disk had, made or not
+  pub body_holds : (skip : ℕ) (held frame kept : List ℕ) (new_image : List ℕ → Type 0) → IsFrame (n + 1) held frame → length held ≤ 3036421 → ((made ≡ true) × (skip ≡ 1)) ⊎ ((made ≡ false) × (skip ≡ 0))
+      → HasBody kept content → Only (laid (place (other newest) + skip) (drop skip frame) content) new_image → Within new_image (Holds kept)
+  body_holds skip held frame kept new_image is_frame short which has only =
+      let c = laid (place (other newest) + skip) (drop skip frame) content in
+      let both = laid_stands skip held frame is_frame short which in
+      of_only (Holds kept) c new_image only
+      (subst (λ (k : List ℕ). Holds k c) (has_is content image newest n true staged made is kept content now has)
+      (stands_holds newest n true (body (place newest) content) c both.0 (second_made newest c both.0.whole both.1.whole)))
 
 -- While the gate of the staged slot is opened.
 module _ (content : List ℕ) (image : List ℕ → Type 0) (newest : Slot) (n : ℕ) (now : image content) (is : IsKept content image newest n true true true) where

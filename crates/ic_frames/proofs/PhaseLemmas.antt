@@ -8,10 +8,10 @@ use Rattle.ic_frames.specs.declared.slot.Slot.{Slot}
 use Rattle.ic_frames.specs.Places.{place, other}
 use Rattle.ic_frames.specs.Fields.{number, is_open, IsMade}
 use Rattle.ic_frames.specs.Layout.{behind_gate}
-use Rattle.ic_frames.specs.Held.{Holds, HoldsEither, IsNewest}
+use Rattle.ic_frames.specs.Held.{HasBody, Holds, HoldsEither, IsNewest}
 use Rattle.ic_frames.specs.Staged.{IsStaged}
 use Rattle.ic_frames.specs.inner.Standing.{IsKept, IsFrame}
-use Rattle.ic_frames.proofs.KeepLemmas.{gate_leaves, gate_kept, body_leaves, not_made_leaves, body_kept, open_leaves, open_kept, open_holds, open_newest, of_only}
+use Rattle.ic_frames.proofs.KeepLemmas.{is_made, gate_leaves, gate_kept, body_leaves, body_holds, not_made_leaves, body_kept, open_leaves, open_kept, open_holds, open_newest, of_only}
 use Rattle.ic_frames.proofs.CrashLemmas.{other-other}
 
 module _ {D : Type 0} (content : D → List ℕ) (image : D → List ℕ → Type 0) (clock : D → ℕ) (left : D → ℕ → List ℕ → Type 0) (old new : D) (now : image old (content old)) (newest slot : Slot) (n : ℕ) (at : slot ≡ other newest) where
@@ -28,6 +28,14 @@ module _ {D : Type 0} (content : D → List ℕ) (image : D → List ℕ → Typ
       subst (λ (c : List ℕ). IsKept c (image new) newest n true staged made) (sym (written ∙ ap (λ (s : Slot). laid (place s) (0 ∷ []) (content old)) at))
       (gate_kept (content old) (image old) newest n staged made now (subst (λ (b : Bool). IsKept (content old) (image old) newest n b staged made) opened is) (image new)
       (subst (λ (s : Slot). Only (laid (place s) (0 ∷ []) (content old)) (image new)) at only))
+
+  -- Closing the gate leaves each image the body that it had.
+  pub gate_stays : (closed staged made : Bool) → IsKept (content old) (image old) newest n closed staged made → closed ≡ false → LeavesOnly clock left old new (TornFrom (place slot) 1 (image old))
+      → ((file : List ℕ) → clock old ≤ clock new → image new file → left new (clock old) file) → (kept : List ℕ) → Within (image old) (HasBody kept) → Within (image new) (HasBody kept)
+  gate_stays closed staged made is opened run law kept has file there =
+      let made_now = is_made (content old) (image old) newest n staged made now (subst (λ (b : Bool). IsKept (content old) (image old) newest n b staged made) opened is) in
+      let holds = gate_run closed staged made is opened run kept (λ c here. record { made = is.all_made made_now c here; held = has c here }) in
+      (holds.each file (law file run.later there)).held
 
   pub body_run : (closed staged made : Bool) (skip : ℕ) (frame : List ℕ) → IsKept (content old) (image old) newest n closed staged made → closed ≡ true → length frame ≤ 13 + 3036421 → ((made ≡ true) × (skip ≡ 1)) ⊎ ((made ≡ false) × (skip ≡ 0))
       → LeavesOnly clock left old new (TornFrom (place slot + skip) (length frame - skip) (image old)) → (kept : List ℕ) → Within (image old) (Holds kept) → LeavesOnly clock left old new (Holds kept)
@@ -51,6 +59,23 @@ module _ {D : Type 0} (content : D → List ℕ) (image : D → List ℕ → Typ
             (subst (λ (c : List ℕ). IsKept c (image new) newest n true true true) (sym (written ∙ ap (λ (s : Slot). laid (place s + skip) (drop skip frame) (content old)) at)) both.0),
         both.1,
       )
+
+  -- Writing the body leaves an image that isn't made, or each image holds the body that it had.
+  pub body_if_made : (closed staged made : Bool) (skip : ℕ) (held frame : List ℕ) → IsKept (content old) (image old) newest n closed staged made → closed ≡ true → IsFrame (n + 1) held frame → length held ≤ 3036421 → ((made ≡ true) × (skip ≡ 1)) ⊎ ((made ≡ false) × (skip ≡ 0))
+      → LeavesOnly clock left old new (TornFrom (place slot + skip) (length frame - skip) (image old)) → ((file : List ℕ) → clock old ≤ clock new → image new file → left new (clock old) file)
+      → Within (image old) (image new) ⊎ Only (laid (place slot + skip) (drop skip frame) (content old)) (image new)
+      → (kept : List ℕ) → Within (image old) (HasBody kept) → Within (image new) IsMade → Within (image new) (Holds kept)
+  body_if_made closed staged made skip held frame is shut is_frame short which run law ends kept has all file there = ⊎_elim
+      (λ full.
+      let holds = body_run closed staged made skip frame is shut (omega (arith, is_frame.long, short)) which run kept (λ c here. record { made = is.all_made full.0 c here; held = has c here }) in
+      holds.each file (law file run.later there))
+      (λ cut. ⊎_elim
+      (λ stay. absurd (omega (arith, (is.not_made cut.0).0, all (content old) (stay (content old) now))))
+      (λ only.
+      body_holds (content old) (image old) newest n staged made now (subst (λ (b : Bool). IsKept (content old) (image old) newest n b staged made) shut is) skip held frame kept (image new) is_frame short which (has (content old) now)
+      (subst (λ (s : Slot). Only (laid (place s + skip) (drop skip frame) (content old)) (image new)) at only) file there)
+      ends)
+      which
 
   pub body_written : (closed staged made : Bool) (skip : ℕ) (held frame : List ℕ) → IsKept (content old) (image old) newest n closed staged made → IsFrame (n + 1) held frame → ((made ≡ true) × (skip ≡ 1)) ⊎ ((made ≡ false) × (skip ≡ 0))
       → content new ≡ laid (place slot + skip) (drop skip frame) (content old) → IsMade (content old) → content new ≡ laid (place (other newest) + 1) (behind_gate (n + 1) held) (content old)

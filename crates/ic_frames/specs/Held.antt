@@ -55,6 +55,10 @@ abbrev pub HasSameHeads : (old new : List ℕ) → Type 0
 HasSameHeads old new =
     (slot : Slot) → bytes_at (place slot) 13 new ≡ bytes_at (place slot) 13 old
 
+-- the file holds this body, made or not
+abbrev pub HasBody : (kept file : List ℕ) → Type 0
+HasBody kept file = body_held file ≡ the_body kept
+
 -- a made file that holds this body
 pub record Holds (kept file : List ℕ) : Type 0 where
   pub made : IsMade file

@@ -6,7 +6,7 @@ ghost use Rattle.ic_disk.specs.Content.{laid};
 ghost use Rattle.ic_frames.specs.Places.{place, other};
 ghost use Rattle.ic_frames.specs.Fields.{IsMade};
 ghost use Rattle.ic_frames.specs.Layout.{behind_gate, slot_bytes};
-ghost use Rattle.ic_frames.specs.Held.{Holds, HoldsEither, IsClosedIn, body_held, the_body};
+ghost use Rattle.ic_frames.specs.Held.{HasBody, Holds, HoldsEither, IsClosedIn, body_held, the_body};
 ghost use Rattle.ic_frames.specs.Staged.{IsStaged};
 ghost use Rattle.ic_frames.specs.inner.Standing.{IsKept};
 ghost use Rattle.ic_frames.specs.Faults.{CountsKeep, CountsOpen};
@@ -156,6 +156,11 @@ impl<D: Disk> Frames<D> {
             → LeavesOnly D.clock D.left (disk_of self.old) (disk_of self.new) (Holds kept) }
         ensures shut { IsTrue (D.keeps (disk_of self.old)) → OnOk result
             (Within (D.image (disk_of self.new)) (IsClosedIn (target_of self.old))) }
+
+        // Whatever it answers, a body that each image had, made or not, each has after it.
+        ensures stays { (kept : List ℕ) → IsTrue (D.keeps (disk_of self.old))
+            → Within (D.image (disk_of self.old)) (HasBody kept)
+            → Within (D.image (disk_of self.new)) (HasBody kept) }
     {
         self.check_usable()?;
         let closed = self.closed;
@@ -220,6 +225,15 @@ impl<D: Disk> Frames<D> {
         ensures whole { IsTrue (D.keeps (disk_of self.old)) → OnOk result
             (Within (D.image (disk_of self.new))
             (IsStaged (target_of self.new) (number_of self.new + 1) (drop 13 frame.old))) }
+
+        // On a disk that isn't made too: whatever it answers, a body that each image had each holds
+        // after it, if each is made then. At Ok each is.
+        ensures holds_if_made { (kept : List ℕ) → IsTrue (D.keeps (disk_of self.old))
+            → Within (D.image (disk_of self.old)) (HasBody kept)
+            → Within (D.image (disk_of self.new)) IsMade
+            → Within (D.image (disk_of self.new)) (Holds kept) }
+        ensures made { IsTrue (D.keeps (disk_of self.old)) → OnOk result
+            (Within (D.image (disk_of self.new)) IsMade) }
     {
         self.check_usable()?;
         fill_head(frame, self.number + 1);
@@ -337,6 +351,13 @@ impl<D: Disk> Frames<D> {
             → Within (D.image (disk_of self.old)) (Holds kept)
             → LeavesOnly D.clock D.left (disk_of self.old) (disk_of self.new)
             (HoldsEither kept (drop 13 frame.old)) }
+
+        // On a disk that isn't made too: whatever it answers, where each image had one body, each
+        // holds that or the next one after it, if each is made then.
+        ensures either_if_made { (kept : List ℕ) → IsTrue (D.keeps (disk_of self.old))
+            → Within (D.image (disk_of self.old)) (HasBody kept)
+            → Within (D.image (disk_of self.new)) IsMade
+            → Within (D.image (disk_of self.new)) (HoldsEither kept (drop 13 frame.old)) }
 
         // At Ok it leaves the next one, and so do reads.
         ensures holds { IsTrue (D.keeps (disk_of self.old)) → OnOk result

@@ -1,7 +1,7 @@
 // Writes to one slot, each of them on the disk for good before the next call.
-ghost use Rattle.std.specs.Prelude.{◌≡◌, ◌+◌, ◌-◌, ◌≤◌, [], ◌∷◌, length, drop, IsTrue, OnOk};
+ghost use Rattle.std.specs.Prelude.{◌≡◌, ◌⊎◌, ◌+◌, ◌-◌, ◌≤◌, [], ◌∷◌, length, drop, IsTrue, OnOk, OnErr};
 ghost use Rattle.ic_disk.specs.Content.{laid};
-ghost use Rattle.ic_disk.specs.Images.{Only, TornFrom};
+ghost use Rattle.ic_disk.specs.Images.{Only, TornFrom, Within};
 ghost use Rattle.ic_disk.specs.Time.{CountsFailure, LeavesOnly};
 ghost use Rattle.ic_frames.specs.Places.{place};
 
@@ -39,6 +39,10 @@ pub(crate) fn write_frame<D: Disk>(
         ≡ laid (place slot + skip) (drop skip frame.now) (D.content disk.old)) }
     ensures durable { IsTrue (D.keeps disk.old) → OnOk result
         (Only (laid (place slot + skip) (drop skip frame.now) (D.content disk.old))
+        (D.image disk.new)) }
+    ensures failed { IsTrue (D.keeps disk.old) → OnErr result
+        (Within (D.image disk.old) (D.image disk.new)
+        ⊎ Only (laid (place slot + skip) (drop skip frame.now) (D.content disk.old))
         (D.image disk.new)) }
     ensures any_moment { IsTrue (D.keeps disk.old) → LeavesOnly D.clock D.left disk.old disk.new
         (TornFrom (place slot + skip) (length frame.now - skip) (D.image disk.old)) }

@@ -7,9 +7,9 @@ use Rattle.ic_jobs.specs.Job.{JobParts}
 use Rattle.ic_jobs.specs.Table.{IsTable}
 use Rattle.ic_codec.specs.Tables.{table_bytes}
 use Rattle.ic_frames.specs.declared.slot.Slot.{Slot}
-use Rattle.ic_frames.specs.Held.{Holds, HoldsEither}
+use Rattle.ic_frames.specs.Held.{HasBody, Holds, HoldsEither}
 use Rattle.ic_frames.specs.Staged.{IsStaged}
-use Rattle.ic_slots.specs.Held.{HoldsTable, HoldsEitherTable, IsStagedTable}
+use Rattle.ic_slots.specs.Held.{HoldsTable, HoldsEitherTable, IsHeld, IsStagedTable, the_table}
 
 -- a file that holds the byte form holds the table
 pub table_holds : (t : List JobParts) (file : List ℕ) → IsTable t → Holds (table_bytes t) file → HoldsTable t file
@@ -19,6 +19,10 @@ table_holds t file sound holds = record { made = holds.made; held = (sound, hold
 pub bytes_hold : (t : List JobParts) (image : List ℕ → Type 0) → Within image (HoldsTable t) → Within image (Holds (table_bytes t))
 bytes_hold t image holds file is = record { made = (holds file is).made; held = (holds file is).held.1 }
 
+-- also of a file that isn't made
+pub bytes_had : (t : List JobParts) (image : List ℕ → Type 0) → Within image (IsHeld (the_table t)) → Within image (HasBody (table_bytes t))
+bytes_had t image held file is = (held file is).1
+
 pub bytes_staged : (slot : Slot) (n : ℕ) (t : List JobParts) (image : List ℕ → Type 0) → Within image (IsStagedTable slot n t) → Within image (IsStaged slot n (table_bytes t))
 bytes_staged slot n t image staged file is = (staged file is).1
 
@@ -26,7 +30,7 @@ bytes_staged slot n t image staged file is = (staged file is).1
 pub sound_of : (t : List JobParts) (image : List ℕ → Type 0) (file : List ℕ) → image file → Within image (HoldsTable t) → IsTable t
 sound_of t image file is holds = (holds file is).held.0
 
-either_table : (old new : List JobParts) (file : List ℕ) → IsTable old → IsTable new → HoldsEither (table_bytes old) (table_bytes new) file → HoldsEitherTable old new file
+pub either_table : (old new : List JobParts) (file : List ℕ) → IsTable old → IsTable new → HoldsEither (table_bytes old) (table_bytes new) file → HoldsEitherTable old new file
 either_table old new file sound_old sound_new either = ⊎_elim (λ is. inl (table_holds old file sound_old is)) (λ is. inr (table_holds new file sound_new is)) either
 
 module _ {D : Type 0} (clock : D → ℕ) (left : D → ℕ → List ℕ → Type 0) (old new : D) where

@@ -114,6 +114,11 @@ impl<D: Disk> Keeper<D> {
             → LeavesOnly D.clock D.left (disk_of self.old) (disk_of self.new) (HoldsTable kept) }
         ensures shut { IsTrue (D.keeps (disk_of self.old)) → OnOk result
             (Within (D.image (disk_of self.new)) (IsClosedIn (target_of self.old))) }
+
+        // Whatever it answers, a table that each image held, made or not, each holds after it.
+        ensures stays { (kept : List JobParts) → IsTrue (D.keeps (disk_of self.old))
+            → Within (D.image (disk_of self.old)) (IsHeld (the_table kept))
+            → Within (D.image (disk_of self.new)) (IsHeld (the_table kept)) }
     {
         self.frames.close_gate()
     }
@@ -163,6 +168,15 @@ impl<D: Disk> Keeper<D> {
         ensures whole { IsTrue (D.keeps (disk_of self.old)) → OnOk result
             (Within (D.image (disk_of self.new))
             (IsStagedTable (target_of self.new) (number_of self.new + 1) table.now)) }
+
+        // On a disk that isn't made too: whatever it answers, a table that each image held each
+        // holds after it, if each is made then. At Ok each is.
+        ensures holds_if_made { (kept : List JobParts) → IsTrue (D.keeps (disk_of self.old))
+            → Within (D.image (disk_of self.old)) (IsHeld (the_table kept))
+            → Within (D.image (disk_of self.new)) IsMade
+            → Within (D.image (disk_of self.new)) (HoldsTable kept) }
+        ensures made { IsTrue (D.keeps (disk_of self.old)) → OnOk result
+            (Within (D.image (disk_of self.new)) IsMade) }
     {
         lay(&mut self.frame, table);
         self.frames.write_body(&mut self.frame)
@@ -256,6 +270,13 @@ impl<D: Disk> Keeper<D> {
             → Within (D.image (disk_of self.old)) (HoldsTable kept)
             → LeavesOnly D.clock D.left (disk_of self.old) (disk_of self.new)
             (HoldsEitherTable kept table.now) }
+
+        // On a disk that isn't made too: whatever it answers, where each image held one table, each
+        // holds that or the next one after it, if each is made then.
+        ensures either_if_made { (kept : List JobParts) → IsTrue (D.keeps (disk_of self.old))
+            → Within (D.image (disk_of self.old)) (IsHeld (the_table kept))
+            → Within (D.image (disk_of self.new)) IsMade
+            → Within (D.image (disk_of self.new)) (HoldsEitherTable kept table.now) }
 
         // At Ok it leaves the next one, and so do reads.
         ensures holds { IsTrue (D.keeps (disk_of self.old)) → OnOk result

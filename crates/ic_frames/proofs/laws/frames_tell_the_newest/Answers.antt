@@ -1,4 +1,4 @@
-use Rattle.std.proofs.Common.{◌≡◌, ⊎_elim, ◌∙◌, sym, Bool, true, false}
+use Rattle.std.proofs.Common.{⊎_elim, ◌∙◌, sym}
 use Rattle.std.proofs.lemmas.Bool.{cases_Bool, true≢false}
 use Rattle.ic_frames.proofs.laws.frames_tell_the_newest.Goals as goal
 

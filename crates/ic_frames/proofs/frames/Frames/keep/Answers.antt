@@ -4,7 +4,7 @@ use Rattle.ic_disk.specs.Content.{laid}
 use Rattle.ic_disk.specs.Images.{Within}
 use Rattle.ic_frames.specs.Places.{place, other}
 use Rattle.ic_frames.specs.Layout.{slot_bytes}
-use Rattle.ic_frames.specs.Held.{Holds, the_body, body_held}
+use Rattle.ic_frames.specs.Held.{Holds, HoldsEither, the_body, body_held}
 use Rattle.ic_frames.proofs.LaidLemmas.{keep_written}
 use Rattle.ic_frames.proofs.PhaseLemmas.{at_end, keep_run, stop_run, on_ok}
 use Rattle.ic_frames.proofs.frames.Frames.keep.Goals as goal
@@ -67,3 +67,21 @@ returns-clause-written g c keeps =
     (λ cut. c.in_ok-write_body.ensures.written_whole keeps_once cut)
     last)
     (c.open_gate.ensures.written keeps_twice)
+
+pub returns-in_err-close_gate-clause-either_if_made : goal.returns-in_err-close_gate-clause-either_if_made
+returns-in_err-close_gate-clause-either_if_made g c kept keeps has all file there = inl (record { made = all file there; held = c.close_gate.ensures.stays kept keeps has file there })
+
+pub returns-in_err-write_body-clause-either_if_made : goal.returns-in_err-write_body-clause-either_if_made
+returns-in_err-write_body-clause-either_if_made g c kept keeps has all file there =
+    inl (c.write_body.ensures.holds_if_made kept (c.close_gate.ensures.keeps ∙ keeps) (c.close_gate.ensures.stays kept keeps has) all file there)
+
+pub returns-clause-either_if_made : goal.returns-clause-either_if_made
+returns-clause-either_if_made g c kept keeps has all =
+    let disk = g.D.Disk in
+    let staged = c.write_body.new.self.disk in
+    let new = c.open_gate.new.self.disk in
+    let body = drop 13 c.args.frame.now in
+    let keeps_once = c.close_gate.ensures.keeps ∙ keeps in
+    let holds = c.write_body.ensures.holds_if_made kept keeps_once (c.close_gate.ensures.stays kept keeps has) (c.in_ok-write_body.ensures.made keeps_once) in
+    let third = c.open_gate.ensures.any_moment kept body (c.write_body.ensures.keeps ∙ keeps_once) holds (c.in_ok-write_body.ensures.whole keeps_once) in
+    at_end disk.image disk.clock disk.left staged new (HoldsEither kept body) (λ file is. g.met.D.Disk.image_is_left new (disk.clock staged) file third.later is) third
