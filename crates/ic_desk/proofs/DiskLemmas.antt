@@ -12,6 +12,7 @@ use Rattle.ic_jobs.specs.Job.{JobParts}
 use Rattle.ic_jobs.specs.Table.{IsTable}
 use Rattle.ic_jobs.specs.History.{replay}
 use Rattle.ic_codec.specs.Tables.{table_bytes}
+use Rattle.ic_frames.specs.Fields.{IsMade}
 use Rattle.ic_frames.specs.Held.{Held, the_body, no_slot, two_alike, damaged, body_held}
 use Rattle.ic_slots.specs.Held.{HoldsTable, HoldsEitherTable, IsHeld, the_table}
 use Rattle.ic_desk.specs.Kept.{IsOnDisk, HoldsKeptOrAll, table_kept}
@@ -46,23 +47,28 @@ either_told a b file sound either = ⊎_elim
 -- ---- what is on the disk
 
 module _ (content : List ℕ) (image : List ℕ → Type 0) (start : List JobParts) (log : List Entry) (kept : ℕ) (broken made : Bool) (is : IsOnDisk content image start log kept broken made) where
+  -- each image holds the table that is kept
+  pub holds_now : broken ≡ false → Within image IsMade → Within image (HoldsTable (table_kept start log kept))
+  holds_now ready all file there = record { made = all file there; held = is.holds ready file there }
+
+  -- whatever entries come
+  pub kept_alone : broken ≡ false → Within image IsMade → (new_log : List Entry) → table_kept start new_log kept ≡ table_kept start log kept → Within image (HoldsKeptOrAll start new_log kept)
+  kept_alone ready all new_log same file there = inl (subst (λ (t : List JobParts). HoldsTable t file) (sym same) (holds_now ready all file there))
+
   -- what is kept stays the same table, and nothing has broken
   pub same_kept : broken ≡ false → (new_start : List JobParts) (new_log : List Entry) (new_kept : ℕ)
       → table_kept new_start new_log new_kept ≡ table_kept start log kept → IsOnDisk content image new_start new_log new_kept broken made
   same_kept ready new_start new_log new_kept same = record {
     held = λ whole. subst (λ (t : List JobParts). IsHeld (the_table t) content) (sym same) (is.held whole);
+    holds = λ whole file there. subst (λ (t : List JobParts). IsHeld (the_table t) file) (sym same) (is.holds whole file there);
     made_is = is.made_is;
-    holds = λ whole is_made. subst (λ (t : List JobParts). Within image (HoldsTable t)) (sym same) (is.holds whole is_made);
-    either = λ is_made file there. ∣ inl (subst (λ (t : List JobParts). HoldsTable t file) (sym same) (is.holds ready is_made file there)) ∣₁;
+    all_made = is.all_made;
+    either = λ all file there. ∣ inl (subst (λ (t : List JobParts). HoldsTable t file) (sym same) (holds_now ready all file there)) ∣₁;
   }
 
   -- each image is one of the two tables
-  pub either_now : IsTable (table_kept start log kept) → made ≡ true → Within image (HoldsKeptOrAll start log kept)
-  either_now sound is_made file there = either_told (table_kept start log kept) (replay start log) file sound (is.either is_made file there)
-
-  -- each image is the table that is kept, whatever entries come
-  pub kept_alone : broken ≡ false → made ≡ true → (new_log : List Entry) → table_kept start new_log kept ≡ table_kept start log kept → Within image (HoldsKeptOrAll start new_log kept)
-  kept_alone ready is_made new_log same file there = inl (subst (λ (t : List JobParts). HoldsTable t file) (sym same) (is.holds ready is_made file there))
+  pub either_now : IsTable (table_kept start log kept) → Within image IsMade → Within image (HoldsKeptOrAll start log kept)
+  either_now sound all file there = either_told (table_kept start log kept) (replay start log) file sound (is.either all file there)
 
 -- a table was kept
 pub kept_now : (content : List ℕ) (image : List ℕ → Type 0) (start : List JobParts) (log : List Entry) (kept : ℕ) (broken : Bool) (table : List JobParts)
@@ -70,20 +76,30 @@ pub kept_now : (content : List ℕ) (image : List ℕ → Type 0) (start : List 
 kept_now content image start log kept broken table same held holds =
     let all = subst (λ (t : List JobParts). Within image (HoldsTable t)) (sym same) holds in record {
       held = λ _. subst (λ (t : List JobParts). IsHeld (the_table t) content) (sym same) held;
+      holds = λ _ file there. (all file there).held;
       made_is = λ _ _. refl;
-      holds = λ _ _. all;
+      all_made = λ _ file there. (all file there).made;
       either = λ _ file there. ∣ inl (all file there) ∣₁;
     }
 
 -- a keep has failed
 pub keep_failed : (content : List ℕ) (image : List ℕ → Type 0) (start : List JobParts) (log : List Entry) (kept : ℕ) (broken made : Bool)
-    → broken ≡ true → (made ≡ true → Within image (HoldsKeptOrAll start log kept)) → IsOnDisk content image start log kept broken made
-keep_failed content image start log kept broken made broke either = record {
+    → broken ≡ true → (made ≡ true → Within image IsMade) → (Within image IsMade → Within image (HoldsKeptOrAll start log kept)) → IsOnDisk content image start log kept broken made
+keep_failed content image start log kept broken made broke each either = record {
   held = λ whole. let never : true ≡ false = sym broke ∙ whole in cc;
-  made_is = λ whole. let never : true ≡ false = sym broke ∙ whole in cc;
   holds = λ whole. let never : true ≡ false = sym broke ∙ whole in cc;
-  either = λ is_made file there. ∣ either is_made file there ∣₁;
+  made_is = λ whole. let never : true ≡ false = sym broke ∙ whole in cc;
+  all_made = each;
+  either = λ all file there. ∣ either all file there ∣₁;
 }
+
+-- a keep of the table after all entries, of which there may be new ones: what each image holds
+pub keep_holds : (images new_images : List ℕ → Type 0) (start : List JobParts) (log new_log : List Entry) (kept : ℕ) (table : List JobParts)
+    → table_kept start new_log kept ≡ table_kept start log kept → replay start new_log ≡ table → Within images (IsHeld (the_table (table_kept start log kept)))
+    → ((t : List JobParts) → Within images (IsHeld (the_table t)) → Within new_images (HoldsEitherTable t table)) → Within new_images (HoldsKeptOrAll start new_log kept)
+keep_holds images new_images start log new_log kept table same all holds run =
+    subst (λ (t : List JobParts). Within new_images (HoldsEitherTable t (replay start new_log))) (sym same)
+    (subst (λ (t : List JobParts). Within new_images (HoldsEitherTable (table_kept start log kept) t)) (sym all) (run (table_kept start log kept) holds))
 
 -- ---- what a crash leaves
 
@@ -92,11 +108,14 @@ module _ {D : Type 0} (clock : D → ℕ) (left : D → ℕ → List ℕ → Typ
   pub no_call : (disk : D) (P : List ℕ → Type 0) → ((file : List ℕ) → left disk (clock disk) file → image disk file) → Within (image disk) P → LeavesOnly clock left disk disk P
   no_call disk P law here = started clock left disk P (λ file is. here file (law file is))
 
-  -- at the end of a run
-  pub at_end : (old new : D) (P : List ℕ → Type 0) → ((file : List ℕ) → clock old ≤ clock new → image new file → left new (clock old) file) → LeavesOnly clock left old new P → Within (image new) P
-  at_end old new P law run file is = run.each file (law file run.later is)
+  -- at the end of a run that leaves tables each image is made
+  pub made_after : (old new : D) (start : List JobParts) (log : List Entry) (kept : ℕ) → ((file : List ℕ) → clock old ≤ clock new → image new file → left new (clock old) file)
+      → LeavesOnly clock left old new (HoldsKeptOrAll start log kept) → Within (image new) IsMade
+  made_after old new start log kept law run file there = ⊎_elim
+      (λ (h : HoldsTable (table_kept start log kept) file). h.made) (λ (h : HoldsTable (replay start log) file). h.made)
+      (run.each file (law file run.later there))
 
--- a keep of the table after all entries, of which there may be new ones
+-- and what a crash in it leaves
 pub keep_leaves : {D : Type 0} (clock : D → ℕ) (left : D → ℕ → List ℕ → Type 0) (old new : D) (images : List ℕ → Type 0) (start : List JobParts) (log new_log : List Entry) (kept : ℕ) (table : List JobParts)
     → table_kept start new_log kept ≡ table_kept start log kept → replay start new_log ≡ table → Within images (HoldsTable (table_kept start log kept))
     → ((t : List JobParts) → Within images (HoldsTable t) → LeavesOnly clock left old new (HoldsEitherTable t table)) → LeavesOnly clock left old new (HoldsKeptOrAll start new_log kept)

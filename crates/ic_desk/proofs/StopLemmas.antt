@@ -1,5 +1,5 @@
 -- What a stop of a book leaves.
-use Rattle.std.proofs.Common.{◌≡◌, ℕ, ◌≤◌, List, Bool, length, take, sym, subst, ⊎_elim, arith}
+use Rattle.std.proofs.Common.{ℕ, ◌≤◌, List, Bool, length, take, sym, subst, ⊎_elim, arith}
 use Rattle.std.proofs.lemmas.List.{take_all}
 use Rattle.ic_jobs.specs.declared.event.Entry.{Entry}
 use Rattle.ic_jobs.specs.Job.{JobParts}

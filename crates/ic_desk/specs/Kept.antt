@@ -7,7 +7,7 @@ use Rattle.ic_jobs.specs.Job.{JobParts}
 use Rattle.ic_jobs.specs.Table.{IsTable}
 use Rattle.ic_jobs.specs.History.{replay, IsLegal}
 use Rattle.ic_frames.specs.Fields.{IsMade}
-use Rattle.ic_slots.specs.Held.{HoldsTable, HoldsEitherTable, IsHeld, the_table}
+use Rattle.ic_slots.specs.Held.{HoldsEitherTable, IsHeld, the_table}
 use Rattle.ic_desk.specs.declared.limits.TheConstants.{MAX_ENTRIES}
 use Rattle.ic_desk.specs.Entries.{AreRounds, IsSentByNobody}
 
@@ -40,12 +40,13 @@ pub record IsHistory (start : List JobParts) (log : List Entry) (table : List Jo
   pub sound : IsTable (table_kept start log kept)
 
 -- What a book keeps on a disk that keeps the model: what reads give and what a crash may leave.
--- `made` says that both heads of the slots lie within the disk.
+-- Where the book is broken that is said only if each image is made. `made` says that both heads of
+-- the slots lie within the disk.
 pub record IsOnDisk (content : List ℕ) (image : List ℕ → Type 0) (start : List JobParts)
     (log : List Entry) (kept : ℕ) (broken made : Bool) : Type 0 where
   pub held : broken ≡ false → IsHeld (the_table (table_kept start log kept)) content
+  pub holds : broken ≡ false → Within image (IsHeld (the_table (table_kept start log kept)))
   pub made_is : broken ≡ false → IsMade content → made ≡ true
-  pub holds : broken ≡ false → made ≡ true
-      → Within image (HoldsTable (table_kept start log kept))
-  pub either : made ≡ true
+  pub all_made : made ≡ true → Within image IsMade
+  pub either : Within image IsMade
       → (file : List ℕ) → image file → ∥ HoldsKeptOrAll start log kept file ∥₁

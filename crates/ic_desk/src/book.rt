@@ -172,12 +172,17 @@ impl<D: Disk> Book<D> {
             (kept_of self.now) (is_broken self.now) }
 
         // Reads give the table that was kept last, where the book isn't broken, and a crash now
-        // leaves it too, or where the book is broken that or the table after all.
+        // leaves it too. Where the book is broken, it leaves that or the table after all, if each
+        // image is made.
         ensures on_disk { IsTrue (D.keeps (disk_of self.now)) → IsOnDisk
             (D.content (disk_of self.now)) (D.image (disk_of self.now))
             (start_of self.now) (log_of self.now) (kept_of self.now)
             (is_broken self.now) (is_made self.now) }
         ensures either { IsTrue (D.keeps (disk_of self.now)) → is_made self.now ≡ true
+            → Within (D.image (disk_of self.now))
+            (HoldsKeptOrAll (start_of self.now) (log_of self.now) (kept_of self.now)) }
+        ensures kept { IsTrue (D.keeps (disk_of self.now))
+            → Within (D.image (disk_of self.now)) IsMade
             → Within (D.image (disk_of self.now))
             (HoldsKeptOrAll (start_of self.now) (log_of self.now) (kept_of self.now)) }
 

@@ -4,6 +4,7 @@ ghost use Rattle.ic_disk.specs.Images.{Within};
 ghost use Rattle.ic_disk.specs.Time.{LeavesOnly};
 ghost use Rattle.ic_jobs.specs.Job.{JobParts};
 ghost use Rattle.ic_jobs.specs.Table.{IsTable};
+ghost use Rattle.ic_frames.specs.Fields.{IsMade};
 ghost use Rattle.ic_frames.specs.Opened.{IsOnNewest};
 ghost use Rattle.ic_slots.specs.Held.{HoldsTable, HoldsEitherTable, IsHeld, the_table};
 ghost use Rattle.ic_slots.specs.Keeper.{disk_of, frames_of, is_broken, number_of};
@@ -29,6 +30,10 @@ pub(crate) fn keep_table<D: Disk>(keeper: &mut Keeper<D>, table: &Table) -> Resu
         → Within (D.image (disk_of keeper.old)) (HoldsTable kept)
         → LeavesOnly D.clock D.left (disk_of keeper.old) (disk_of keeper.new)
         (HoldsEitherTable kept table.now) }
+    ensures either_if_made { (kept : List JobParts) → IsTrue (D.keeps (disk_of keeper.old))
+        → Within (D.image (disk_of keeper.old)) (IsHeld (the_table kept))
+        → Within (D.image (disk_of keeper.new)) IsMade
+        → Within (D.image (disk_of keeper.new)) (HoldsEitherTable kept table.now) }
     ensures holds { IsTrue (D.keeps (disk_of keeper.old)) → OnOk result
         (Within (D.image (disk_of keeper.new)) (HoldsTable table.now)) }
     ensures held { IsTrue (D.keeps (disk_of keeper.old)) → OnOk result

@@ -1,4 +1,3 @@
-use Rattle.std.proofs.Common.{refl}
 use Rattle.ic_desk.proofs.HistoryLemmas.{unkept_unbroken, unkept_broken}
 use Rattle.ic_desk.proofs.laws.rounds_stand_behind.Goals as goal
 

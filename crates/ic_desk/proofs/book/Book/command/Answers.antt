@@ -3,7 +3,7 @@ use Rattle.ic_desk.specs.Entries.{command_entry}
 use Rattle.ic_desk.specs.Kept.{HoldsKeptOrAll}
 use Rattle.ic_desk.proofs.AnswerLemmas.{told_stays}
 use Rattle.ic_desk.proofs.HistoryLemmas.{all_kept_after, command_sent, idle_after, left_unkept, length_after, replayed_after, same_table_after, table_all_after, table_kept_after}
-use Rattle.ic_desk.proofs.DiskLemmas.{at_end, either_now, keep_failed, keep_leaves, kept_now, no_call, same_kept}
+use Rattle.ic_desk.proofs.DiskLemmas.{either_now, holds_now, keep_failed, keep_holds, keep_leaves, kept_now, made_after, no_call, same_kept}
 use Rattle.ic_desk.proofs.book.Book.command.Goals as goal
 
 pub returns-in_err-check_room-clause-any_moment : goal.returns-in_err-check_room-clause-any_moment
@@ -12,7 +12,7 @@ returns-in_err-check_room-clause-any_moment g c keeps made =
     let disk = g.D.Disk in
     let old = book.keeper.frames.disk in
     no_call disk.clock disk.left disk.image old (HoldsKeptOrAll book.start book.log.items book.kept) (g.met.D.Disk.left_is_image old)
-    (either_now (disk.content old) (disk.image old) book.start book.log.items book.kept book.keeper.frames.broken book.made (book.on_disk keeps) book.history.sound made)
+    (either_now (disk.content old) (disk.image old) book.start book.log.items book.kept book.keeper.frames.broken book.made (book.on_disk keeps) book.history.sound ((book.on_disk keeps).all_made made))
 
 pub invariant_of-self-then-leaves_table : goal.invariant_of-self-then-leaves_table
 invariant_of-self-then-leaves_table g c =
@@ -59,11 +59,16 @@ invariant_of-self-in-Break-branch-3 g c =
       on_disk = λ keeps_new.
           let keeps = sym c.keep_table.ensures.keeps ∙ keeps_new in
           keep_failed (disk.content new) (disk.image new) book.start log book.kept keeper.frames.broken book.made broke
-          (λ made. at_end disk.clock disk.left disk.image old new (HoldsKeptOrAll book.start log book.kept) (λ file later there. g.met.D.Disk.image_is_left new (disk.clock old) file later there)
+          (λ made. made_after disk.clock disk.left disk.image old new book.start log book.kept (λ file later there. g.met.D.Disk.image_is_left new (disk.clock old) file later there)
           (keep_leaves disk.clock disk.left old new (disk.image old) book.start book.log.items log book.kept table
           (table_kept_after book.start book.log.items log book.table table book.kept book.keeper.frames.broken e book.history ready adds room sent)
           (replayed_after book.start book.log.items log book.table table book.kept book.keeper.frames.broken e book.history ready adds room sent)
-          ((book.on_disk keeps).holds ready made) (λ t holds. c.keep_table.ensures.any_moment t keeps holds)));
+          (holds_now (disk.content old) (disk.image old) book.start book.log.items book.kept book.keeper.frames.broken book.made (book.on_disk keeps) ready ((book.on_disk keeps).all_made made))
+          (λ t holds. c.keep_table.ensures.any_moment t keeps holds)))
+          (λ all. keep_holds (disk.image old) (disk.image new) book.start book.log.items log book.kept table
+          (table_kept_after book.start book.log.items log book.table table book.kept book.keeper.frames.broken e book.history ready adds room sent)
+          (replayed_after book.start book.log.items log book.table table book.kept book.keeper.frames.broken e book.history ready adds room sent)
+          ((book.on_disk keeps).holds ready) (λ t held. c.keep_table.ensures.either_if_made t keeps held all));
       newest = λ _ whole. let never : true ≡ false = sym broke ∙ whole in cc;
     }
 
@@ -108,7 +113,7 @@ returns-in_err-keep_table-clause-any_moment g c keeps made =
     keep_leaves disk.clock disk.left old c.keep_table.new.keeper.frames.disk (disk.image old) book.start book.log.items log book.kept table
     (table_kept_after book.start book.log.items log book.table table book.kept book.keeper.frames.broken e book.history ready adds room sent)
     (replayed_after book.start book.log.items log book.table table book.kept book.keeper.frames.broken e book.history ready adds room sent)
-    ((book.on_disk keeps).holds ready made) (λ t holds. c.keep_table.ensures.any_moment t keeps holds)
+    (holds_now (disk.content old) (disk.image old) book.start book.log.items book.kept book.keeper.frames.broken book.made (book.on_disk keeps) ready ((book.on_disk keeps).all_made made)) (λ t holds. c.keep_table.ensures.any_moment t keeps holds)
 
 pub returns-clause-any_moment : goal.returns-clause-any_moment
 returns-clause-any_moment g c keeps made =
@@ -126,4 +131,4 @@ returns-clause-any_moment g c keeps made =
     keep_leaves disk.clock disk.left old c.keep_table.new.keeper.frames.disk (disk.image old) book.start book.log.items log book.kept table
     (table_kept_after book.start book.log.items log book.table table book.kept book.keeper.frames.broken e book.history ready adds room sent)
     (replayed_after book.start book.log.items log book.table table book.kept book.keeper.frames.broken e book.history ready adds room sent)
-    ((book.on_disk keeps).holds ready made) (λ t holds. c.keep_table.ensures.any_moment t keeps holds)
+    (holds_now (disk.content old) (disk.image old) book.start book.log.items book.kept book.keeper.frames.broken book.made (book.on_disk keeps) ready ((book.on_disk keeps).all_made made)) (λ t holds. c.keep_table.ensures.any_moment t keeps holds)

@@ -1,7 +1,7 @@
-use Rattle.std.proofs.Common.{◌∙◌, refl, sym, true, false, ◌≡◌}
-use Rattle.ic_desk.specs.Kept.{HoldsKeptOrAll}
-use Rattle.ic_desk.proofs.HistoryLemmas.{broke_now}
-use Rattle.ic_desk.proofs.DiskLemmas.{either_now, keep_failed, keep_leaves, no_call, at_end}
+use Rattle.std.proofs.Common.{◌∙◌, refl, sym, ap, subst, true, false, ◌≡◌, ℕ, length, arith}
+use Rattle.ic_desk.specs.Kept.{HoldsKeptOrAll, IsHistory, table_kept}
+use Rattle.ic_desk.proofs.HistoryLemmas.{all_kept, broke_now, table_all}
+use Rattle.ic_desk.proofs.DiskLemmas.{either_now, holds_now, keep_failed, keep_holds, keep_leaves, kept_now, made_after, no_call}
 use Rattle.ic_desk.proofs.book.Book.keep.Goals as goal
 
 pub returns-in_err-check_keepable-clause-any_moment :
@@ -11,7 +11,7 @@ returns-in_err-check_keepable-clause-any_moment g c keeps made =
     let disk = g.D.Disk in
     let old = book.keeper.frames.disk in
     no_call disk.clock disk.left disk.image old (HoldsKeptOrAll book.start book.log.items book.kept) (g.met.D.Disk.left_is_image old)
-    (either_now (disk.content old) (disk.image old) book.start book.log.items book.kept book.keeper.frames.broken book.made (book.on_disk keeps) book.history.sound made)
+    (either_now (disk.content old) (disk.image old) book.start book.log.items book.kept book.keeper.frames.broken book.made (book.on_disk keeps) book.history.sound ((book.on_disk keeps).all_made made))
 
 pub invariant_of-self : goal.invariant_of-self
 invariant_of-self g c =
@@ -29,10 +29,34 @@ invariant_of-self g c =
       on_disk = λ keeps_new.
           let keeps = sym c.keep_table.ensures.keeps ∙ keeps_new in
           keep_failed (disk.content new) (disk.image new) start log book.kept keeper.frames.broken book.made broke
-          (λ made. at_end disk.clock disk.left disk.image old new (HoldsKeptOrAll start log book.kept) (λ file later there. g.met.D.Disk.image_is_left new (disk.clock old) file later there)
+          (λ made. made_after disk.clock disk.left disk.image old new start log book.kept (λ file later there. g.met.D.Disk.image_is_left new (disk.clock old) file later there)
           (keep_leaves disk.clock disk.left old new (disk.image old) start log log book.kept book.table refl is.replayed
-          ((book.on_disk keeps).holds c.in_ok-check_keepable.ensures.ok made) (λ t holds. c.keep_table.ensures.any_moment t keeps holds)));
+          (holds_now (disk.content old) (disk.image old) start log book.kept book.keeper.frames.broken book.made (book.on_disk keeps) c.in_ok-check_keepable.ensures.ok ((book.on_disk keeps).all_made made))
+          (λ t holds. c.keep_table.ensures.any_moment t keeps holds)))
+          (λ all. keep_holds (disk.image old) (disk.image new) start log log book.kept book.table refl is.replayed
+          ((book.on_disk keeps).holds c.in_ok-check_keepable.ensures.ok) (λ t held. c.keep_table.ensures.either_if_made t keeps held all));
       newest = λ _ whole. let never : true ≡ false = sym broke ∙ whole in cc;
+    }
+
+pub invariant_of-self-2 : goal.invariant_of-self-2
+invariant_of-self-2 g c =
+    let book = c.args.self.now in
+    let disk = g.D.Disk in
+    let keeper = c.keep_table.new.keeper in
+    let new = keeper.frames.disk in
+    let start = book.start in
+    let log = book.log.items in
+    let now = keeper.frames.broken in
+    let is = book.history in
+    let count : c.len-self.result ≡ length log = omega (arith, c.len-self.ensures) in
+    record {
+      history = subst (λ (n : ℕ). IsHistory start log book.table n now) (sym count) (all_kept start log book.table book.kept book.keeper.frames.broken is now c.keep_table.ensures.sound);
+      on_disk = λ keeps_new.
+          let keeps = sym c.keep_table.ensures.keeps ∙ keeps_new in
+          kept_now (disk.content new) (disk.image new) start log c.len-self.result now book.table
+          (ap (table_kept start log) count ∙ table_all start log book.table book.kept book.keeper.frames.broken is)
+          (c.in_ok-keep_table.ensures.held keeps) (c.in_ok-keep_table.ensures.holds keeps);
+      newest = λ keeps_new _. c.in_ok-keep_table.ensures.newest (sym c.keep_table.ensures.keeps ∙ keeps_new);
     }
 
 pub returns-in_err-keep_table-clause-any_moment : goal.returns-in_err-keep_table-clause-any_moment
@@ -41,7 +65,7 @@ returns-in_err-keep_table-clause-any_moment g c keeps made =
     let disk = g.D.Disk in
     let old = book.keeper.frames.disk in
     keep_leaves disk.clock disk.left old c.keep_table.new.keeper.frames.disk (disk.image old) book.start book.log.items book.log.items book.kept book.table refl book.history.replayed
-    ((book.on_disk keeps).holds c.in_ok-check_keepable.ensures.ok made) (λ t holds. c.keep_table.ensures.any_moment t keeps holds)
+    (holds_now (disk.content old) (disk.image old) book.start book.log.items book.kept book.keeper.frames.broken book.made (book.on_disk keeps) c.in_ok-check_keepable.ensures.ok ((book.on_disk keeps).all_made made)) (λ t holds. c.keep_table.ensures.any_moment t keeps holds)
 
 pub returns-clause-any_moment : goal.returns-clause-any_moment
 returns-clause-any_moment g c keeps made =
@@ -49,4 +73,4 @@ returns-clause-any_moment g c keeps made =
     let disk = g.D.Disk in
     let old = book.keeper.frames.disk in
     keep_leaves disk.clock disk.left old c.keep_table.new.keeper.frames.disk (disk.image old) book.start book.log.items book.log.items book.kept book.table refl book.history.replayed
-    ((book.on_disk keeps).holds c.in_ok-check_keepable.ensures.ok made) (λ t holds. c.keep_table.ensures.any_moment t keeps holds)
+    (holds_now (disk.content old) (disk.image old) book.start book.log.items book.kept book.keeper.frames.broken book.made (book.on_disk keeps) c.in_ok-check_keepable.ensures.ok ((book.on_disk keeps).all_made made)) (λ t holds. c.keep_table.ensures.any_moment t keeps holds)
