@@ -23,7 +23,11 @@ ghost use Rattle.ic_desk.specs.declared.faults.BookFault.TheVariants.{Device};
 ghost use Rattle.ic_desk.specs.Entries.{AreRounds, is_round, leaves_table};
 ghost use Rattle.ic_desk.specs.Kept.{HoldsKeptOrAll, IsHistory, MayBeUnkept};
 ghost use Rattle.ic_desk.specs.Refusals.{CountsBook};
+ghost use Rattle.ic_desk.specs.Book.{start_of, log_of, table_of, kept_of, keeper_of, disk_of, is_made, IsUnchanged};
 ghost use Rattle.ic_desk.specs.Lives.{Page, IsPage, AreLives, left_by, lived};
+
+use crate::Book;
+use ic_disk::Disk;
 
 /// The limit of a history.
 pub fn limits_are()
@@ -179,4 +183,17 @@ pub fn a_stop_begins_the_next_life()
 {
     ic_jobs::laws::histories_split_and_join();
     ic_slots::laws::one_is_held();
+}
+
+/// A book in which nothing has changed is the same in each of its parts, its keeper and so its disk
+/// with them.
+pub fn unchanged_is_all<D: Disk>(old: &Book<D>, new: &Book<D>)
+    ensures parts { IsUnchanged old.now new.now
+        ↔ ((start_of new.now ≡ start_of old.now) × (log_of new.now ≡ log_of old.now)
+        × (table_of new.now ≡ table_of old.now) × (kept_of new.now ≡ kept_of old.now)
+        × (keeper_of new.now ≡ keeper_of old.now) × (is_made new.now ≡ is_made old.now)) }
+    ensures disk { IsUnchanged old.now new.now → disk_of new.now ≡ disk_of old.now }
+{
+    let _ = old;
+    let _ = new;
 }
