@@ -1,3 +1,4 @@
 pub mod RunLemmas
 pub mod LineLemmas
 pub mod ServeLemmas
+pub mod StopLemmas

@@ -185,13 +185,17 @@ cut_behind law (Some text) (Some rest) (Some next) n t u v old mid line bytes r 
 abbrev pub SomeWay : Type 0
 SomeWay = (text : List ℕ) → (a : Reading) × ReadsLine text a
 
-in_first : SomeWay → (u : List JobParts) (ls : List (List ℕ)) → IsInFirst u ls u
-in_first law u [] = refl
-in_first law u (line ∷ ls) = let r = law line in record {
+-- before a line, none of its events has come
+pub in_line : SomeWay → (u : List JobParts) (line : List ℕ) → IsInLine u line u
+in_line law u line = let r = law line in record {
   reading = r.0;
   read = r.1;
   part = record { front = []; rest = events u r.0; parted = refl; leaves = refl };
 }
+
+pub in_first : SomeWay → (u : List JobParts) (ls : List (List ℕ)) → IsInFirst u ls u
+in_first law u [] = refl
+in_first law u (line ∷ ls) = in_line law u line
 
 pub in_next : SomeWay → (u v : List JobParts) (rest : Option (List ℕ)) → v ≡ u → IsInNext u rest v
 in_next law u v None same = tt

@@ -1,5 +1,5 @@
 -- What a serving speaks of in a book.
-use Rattle.std.specs.Prelude.{◌≡◌, ◌⊎◌, ℕ, ◌+◌, List, Some, length}
+use Rattle.std.specs.Prelude.{◌≡◌, ◌⊎◌, ℕ, ◌+◌, List, Some, true, length, IsTrue}
 use Rattle.ic_disk.specs.declared.disk.Disk.{Ghosts}
 use Rattle.ic_pool.specs.Flight.{FlightParts}
 use Rattle.ic_jobs.specs.Job.{JobParts}
@@ -8,7 +8,7 @@ use Rattle.ic_jobs.specs.declared.event.Event.TheVariants.{Round}
 use Rattle.ic_jobs.specs.History.{table_after}
 use Rattle.ic_jobs.specs.Landing.{due}
 use Rattle.ic_desk.specs.declared.book.Book.{Book}
-use Rattle.ic_desk.specs.Book.{start_of, log_of, table_of, kept_of}
+use Rattle.ic_desk.specs.Book.{start_of, log_of, table_of, kept_of, disk_of, is_made}
 use Rattle.ic_desk.specs.Kept.{table_kept}
 use Rattle.ic_session.specs.Parts.{IsPart, IsKeptWithin}
 
@@ -19,6 +19,11 @@ last_kept book = table_kept (start_of book) (log_of book) (kept_of book)
 -- everything in its history is kept
 abbrev pub IsAllKept : {D : Type 0} {ghosts : Ghosts D} → Book D ghosts → Type 0
 IsAllKept book = kept_of book ≡ length (log_of book)
+
+-- its disk keeps the model and is made
+abbrev pub IsOnMadeDisk : {D : Type 0} {ghosts : Ghosts D} → Book D ghosts → Type 0
+IsOnMadeDisk {D} {ghosts} book =
+    IsTrue (ghosts.keeps (disk_of book)) × (is_made book ≡ true)
 
 -- the table stays, and either the table that was kept last stays too, or it is kept now
 pub record StaysPut {D : Type 0} {ghosts : Ghosts D} (old new : Book D ghosts) : Type 0 where

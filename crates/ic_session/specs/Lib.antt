@@ -2,4 +2,5 @@ pub mod Parts
 pub mod Booked
 pub mod Faults
 pub mod Served
+pub mod Stopped
 pub mod inner

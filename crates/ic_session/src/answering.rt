@@ -4,20 +4,23 @@ ghost use Rattle.std.specs.Prelude.{◌≡◌, ◌≤◌, ◌++◌, [], ◌∷�
 ghost use Rattle.ic_desk.specs.Book.{table_of};
 ghost use Rattle.ic_jobs.specs.declared.event.Event.TheVariants.{Command as by_command};
 ghost use Rattle.ic_commands.specs.declared.line.Line.TheVariants.{Command as Asks, Run};
+ghost use Rattle.ic_text.specs.Text.{fault_text};
 ghost use Rattle.ic_lines.specs.Lines.{ended};
 ghost use Rattle.ic_lines.specs.Turns.{turns};
 ghost use Rattle.ic_lines.specs.Answers.{answer, after_line};
-ghost use Rattle.ic_session.specs.Booked.{Begins, IsAllKept};
+ghost use Rattle.ic_session.specs.Booked.{last_kept, Begins, IsAllKept};
+ghost use Rattle.ic_session.specs.Parts.{IsKeptWithin};
 ghost use Rattle.ic_session.specs.inner.Line.{IsAnswered, IsBegun};
+ghost use Rattle.ic_session.specs.inner.Moments.{Leaves, IsKeptInLine};
 ghost use Rattle.ic_session.specs.Faults.{IsOfBook};
 
 use crate::fault::ServeFault;
 use crate::rounds::make_room;
 use crate::running::run;
-use ic_commands::{Line, print_reply, read_command};
 use ic_desk::Book;
 use ic_disk::Disk;
 use ic_jobs::Command;
+use ic_commands::{Line, print_reply, read_command};
 use ic_text::{TextFault, print_fault};
 use std::alloc::{AllocError, Global};
 use std::sync::Wait;
@@ -36,15 +39,25 @@ pub(crate) fn answer_line<T: Threads + Wait, D: Disk>(
     ensures answered { IfOk result (λ bytes. IsAnswered line.now bytes.items book.old book.new) }
     ensures begun { OnErr result (IsBegun line.now book.old book.new) }
     ensures sort { IfErr result IsOfBook }
+    ensures any_moment { Leaves book.old book.new
+        (IsKeptInLine (table_of book.old) (last_kept book.old) line.now) }
 {
+    book.facts();
     ic_commands::laws::one_line_reading();
     match read_command(alloc, line) {
         Ok(Line::Blank) => Ok(Vec::new(alloc)),
         Ok(Line::Command(command)) => answer_command(alloc, book, command),
         Ok(Line::Run(count)) => answer_run(rt, alloc, book, count, workers, every),
         Err(TextFault::Memory) => Err(ServeFault::Memory),
-        Err(fault) => Ok(ended(print_fault(alloc, &fault)?)?),
+        Err(fault) => answer_refused(alloc, fault),
     }
+}
+
+fn answer_refused(alloc: Global, fault: TextFault) -> Result<Vec<u8>, ServeFault>
+    ensures answer { IfOk result (λ bytes. bytes.items ≡ ended (fault_text fault)) }
+    ensures sort { IfErr result IsOfBook }
+{
+    Ok(ended(print_fault(alloc, &fault)?)?)
 }
 
 fn answer_command<D: Disk>(
@@ -59,6 +72,8 @@ fn answer_command<D: Disk>(
     ensures kept { OnOk result (IsAllKept book.new) }
     ensures begun { OnErr result (Begins (by_command command ∷ []) book.old book.new) }
     ensures sort { IfErr result IsOfBook }
+    ensures any_moment { Leaves book.old book.new (IsKeptWithin (table_of book.old)
+        (last_kept book.old) (by_command command ∷ [])) }
 {
     make_room(alloc, book)?;
     book.facts();
@@ -83,6 +98,8 @@ fn answer_run<T: Threads + Wait, D: Disk>(
     ensures kept { OnOk result (IsAllKept book.new) }
     ensures begun { OnErr result (Begins (turns count 0 (table_of book.old)) book.old book.new) }
     ensures sort { IfErr result IsOfBook }
+    ensures any_moment { Leaves book.old book.new (IsKeptWithin (table_of book.old)
+        (last_kept book.old) (turns count 0 (table_of book.old))) }
 {
     let made = run(rt, alloc, book, count, workers, every)?;
     book.facts();

@@ -4,9 +4,10 @@ ghost use Rattle.std.specs.Prelude.{◌≡◌, ◌<◌, None, OnOk, OnErr, IfErr
 ghost use Rattle.ic_jobs.specs.declared.event.Event.TheVariants.{Round};
 ghost use Rattle.ic_jobs.specs.declared.limits.TheConstants.{MAX_JOBS};
 ghost use Rattle.ic_jobs.specs.Landing.{due, Awaits};
-ghost use Rattle.ic_desk.specs.Book.{table_of, kept_of, log_of, IsUnchanged};
+ghost use Rattle.ic_desk.specs.Book.{table_of, kept_of, log_of, keeper_of, is_made, IsUnchanged};
 ghost use Rattle.ic_session.specs.Booked.{last_kept, IsAllKept, Advances, MakesRound, StaysPut};
 ghost use Rattle.ic_session.specs.Faults.{IsOfBook};
+ghost use Rattle.ic_session.specs.inner.Moments.{Leaves, IsKeptOrNow};
 
 use crate::fault::ServeFault;
 use ic_desk::{Book, BookFault, MAX_ENTRIES};
@@ -19,11 +20,12 @@ use std::thread::Threads;
 /// Begins a new page where the history is full, so that one more event can come.
 pub(crate) fn make_room<D: Disk>(alloc: Global, book: &mut Book<D>) -> Result<(), BookFault>
     ensures stays { StaysPut book.old book.new }
+    ensures any_moment { Leaves book.old book.new (IsKeptOrNow book.old) }
 {
+    book.facts();
     if book.log().len() < MAX_ENTRIES {
         return Ok(());
     }
-    book.facts();
     book.new_page(alloc)
 }
 
@@ -33,6 +35,7 @@ pub(crate) fn keep_all<D: Disk>(book: &mut Book<D>) -> Result<(), BookFault>
     ensures kept { OnOk result (IsAllKept book.new) }
     ensures last { OnOk result (last_kept book.new ≡ table_of book.old) }
     ensures unkept { OnErr result (last_kept book.new ≡ last_kept book.old) }
+    ensures any_moment { Leaves book.old book.new (IsKeptOrNow book.old) }
 {
     book.facts();
     book.keep()
@@ -54,7 +57,9 @@ pub(crate) fn make_round<T: Threads + Wait, D: Disk>(
     ensures low { IfOk result (λ place. IfSome place (λ here. here < MAX_JOBS)) }
     ensures refused { OnErr result (StaysPut book.old book.new) }
     ensures sort { IfErr result IsOfBook }
+    ensures any_moment { Leaves book.old book.new (IsKeptOrNow book.old) }
 {
+    book.facts();
     ic_jobs::laws::what_is_due_is_awaited();
     ic_jobs::laws::due_is_the_next_running_job();
     let _jobs = book.table().jobs();
@@ -80,6 +85,8 @@ fn land_or_halt<T: Threads + Wait, D: Disk>(
     ensures advances { OnOk result (Advances (Round flight.now.name) book.old book.new) }
     ensures refused { OnErr result (IsUnchanged book.old book.new) }
     ensures sort { IfErr result IsOfBook }
+    ensures keeper { keeper_of book.new ≡ keeper_of book.old }
+    ensures made { is_made book.new ≡ is_made book.old }
 {
     book.facts();
     if flight.blocked() {

@@ -6,6 +6,7 @@ ghost use Rattle.ic_lines.specs.Turns.{turns, after_events};
 ghost use Rattle.ic_session.specs.Booked.{last_kept, Begins, IsAllKept};
 ghost use Rattle.ic_session.specs.Parts.{IsKeptWithin};
 ghost use Rattle.ic_session.specs.Faults.{IsOfBook};
+ghost use Rattle.ic_session.specs.inner.Moments.{Leaves, IsKeptOrNow};
 
 use crate::fault::ServeFault;
 use crate::rounds::{keep_all, make_round};
@@ -33,6 +34,8 @@ pub(crate) fn run<T: Threads + Wait, D: Disk>(
     ensures last { OnOk result (last_kept book.new ≡ table_of book.new) }
     ensures begun { OnErr result (Begins (turns count 0 (table_of book.old)) book.old book.new) }
     ensures sort { IfErr result IsOfBook }
+    ensures any_moment { Leaves book.old book.new (IsKeptWithin (table_of book.old)
+        (last_kept book.old) (turns count 0 (table_of book.old))) }
 {
     let made = make_rounds(rt, alloc, book, count, workers, every)?;
     keep_all(book)?;
@@ -56,7 +59,10 @@ fn make_rounds<T: Threads + Wait, D: Disk>(
         (turns count 0 (table_of book.old)) (last_kept book.new)) }
     ensures begun { OnErr result (Begins (turns count 0 (table_of book.old)) book.old book.new) }
     ensures sort { IfErr result IsOfBook }
+    ensures any_moment { Leaves book.old book.new (IsKeptWithin (table_of book.old)
+        (last_kept book.old) (turns count 0 (table_of book.old))) }
 {
+    book.facts();
     let mut place = 0;
     for made in 0..count {
         match make_round(rt, alloc, book, place, workers)? {
@@ -75,7 +81,9 @@ fn keep_each<D: Disk>(book: &mut Book<D>, made: u64, every: u64) -> Result<(), B
     ensures kept { OnOk result ((last_kept book.new ≡ last_kept book.old)
         ⊎ (last_kept book.new ≡ table_of book.old)) }
     ensures unkept { OnErr result (last_kept book.new ≡ last_kept book.old) }
+    ensures any_moment { Leaves book.old book.new (IsKeptOrNow book.old) }
 {
+    book.facts();
     if made % every == 0 {
         return keep_all(book);
     }

@@ -1,10 +1,12 @@
 //! Serving all lines of a reader over a book.
 
 ghost use Rattle.std.specs.Prelude.{◌≡◌, ◌≢◌, ◌≤◌, Err, IfSome, IfErr, OnOk};
-ghost use Rattle.ic_desk.specs.Book.{table_of};
+ghost use Rattle.ic_disk.specs.Time.{LeavesOnly};
+ghost use Rattle.ic_desk.specs.Book.{table_of, disk_of};
 ghost use Rattle.ic_lines.specs.Lines.{lines};
-ghost use Rattle.ic_session.specs.Booked.{last_kept, IsAllKept};
+ghost use Rattle.ic_session.specs.Booked.{last_kept, IsAllKept, IsOnMadeDisk};
 ghost use Rattle.ic_session.specs.Served.{AreAnswered, IsEnded, IsCut};
+ghost use Rattle.ic_session.specs.Stopped.{HoldsOne, MayStand};
 
 use crate::answering::answer_line;
 use crate::fault::ServeFault;
@@ -46,9 +48,17 @@ pub fn serve_lines<T: Threads + Wait, D: Disk, R: Read, W: Write>(
         (table_of book.old) (table_of book.new)) }
     ensures kept_at_cut { result ≡ Err ServeFault.Write
         → IsAllKept book.old → IsAllKept book.new }
+
+    // A crash at any moment leaves a table that the lines reach, or where not all was kept before,
+    // the one that was.
+    ensures any_moment { IsOnMadeDisk book.old → IfSome (R.remaining reader.old) (λ text.
+        LeavesOnly D.clock D.left (disk_of book.old) (disk_of book.new)
+        (HoldsOne (MayStand (IsAllKept book.old) (last_kept book.old)
+        (table_of book.old) (lines text)))) }
 {
     ic_commands::laws::one_line_reading();
     ic_lines::laws::lines_are_served_in_one_way();
+    book.facts();
     let mut lines = LineBuffer::new(alloc);
     for _ in 0..MAX_LINES {
         book.facts();

@@ -1,20 +1,20 @@
 -- For private functions: what one line leaves.
-use Rattle.std.specs.Prelude.{◌≡◌, ℕ, List}
+use Rattle.std.specs.Prelude.{◌≡◌, ◌⊎◌, ℕ, List}
 use Rattle.ic_disk.specs.declared.disk.Disk.{Ghosts}
 use Rattle.ic_commands.specs.LineText.{ReadsLine}
 use Rattle.ic_lines.specs.Answers.{Reading, events, answer, after_line}
 use Rattle.ic_desk.specs.declared.book.Book.{Book}
-use Rattle.ic_desk.specs.Book.{table_of}
+use Rattle.ic_desk.specs.Book.{table_of, IsUnchanged}
 use Rattle.ic_session.specs.Booked.{Begins, IsAllKept}
 
--- a line is answered, and what it leaves is kept
+-- a line is answered, and all is kept, or nothing has changed
 pub record IsAnswered {D : Type 0} {ghosts : Ghosts D} (line bytes : List ℕ)
     (old new : Book D ghosts) : Type 0 where
   pub reading : Reading
   pub read : ReadsLine line reading
   pub answer : bytes ≡ answer (table_of old) reading
   pub table : table_of new ≡ after_line (table_of old) reading
-  pub kept : IsAllKept old → IsAllKept new
+  pub kept : IsAllKept new ⊎ IsUnchanged old new
 
 -- a line was begun
 pub record IsBegun {D : Type 0} {ghosts : Ghosts D} (line : List ℕ)

@@ -6,6 +6,9 @@ use Rattle.ic_desk.specs.Entries.{command_entry}
 use Rattle.ic_session.specs.Booked.{last_kept, Begins}
 use Rattle.ic_session.proofs.RunLemmas.{kept_same, on_err}
 use Rattle.ic_session.proofs.LineLemmas.{device_or_not, begun_none, begun_one, begun_kept, after_event, kept_behind, kept_all}
+use Rattle.ic_session.specs.Parts.{IsKeptWithin}
+use Rattle.ic_session.specs.inner.Moments.{IsKeptOrNow}
+use Rattle.ic_session.proofs.StopLemmas.{kept_or_now, leaves_more, leaves_still, leaves_command}
 use Rattle.ic_session.proofs.answering.answer_command.Goals as goal
 
 pub returns-in_err-reply-clause-begun : goal.returns-in_err-reply-clause-begun
@@ -49,3 +52,37 @@ returns-in_err-ended-clause-begun g c =
     let b = begun_kept (table_of c.args.book.now) (last_kept c.args.book.now) (by_command c.args.command) (table_of c.command.new.self) (last_kept c.command.new.self)
     (moved ∙ ap (λ y. table_after y (by_command c.args.command)) s.table) all in
     on_err c.from_residual-in_err-ended.result _ (record { table = b.0; kept = b.1 })
+
+pub returns-in_err-make_room-clause-any_moment : goal.returns-in_err-make_room-clause-any_moment
+returns-in_err-make_room-clause-any_moment g c = leaves_more c.args.book.now c.make_room.new.book (IsKeptOrNow c.args.book.now)
+    (IsKeptWithin (table_of c.args.book.now) (last_kept c.args.book.now) (by_command c.args.command ∷ [])) c.make_room.ensures.any_moment
+    (kept_or_now (table_of c.args.book.now) (last_kept c.args.book.now) (by_command c.args.command ∷ []))
+
+pub returns-in_err-reply-clause-any_moment : goal.returns-in_err-reply-clause-any_moment
+returns-in_err-reply-clause-any_moment g c =
+    elim (device_or_not c.in_err-reply.field-0.0) [
+      | inl is ↦ (let added = c.in_err-reply.ensures.unanswered (ap (λ e. Err e) is) in
+          leaves_command c.args.book.now c.make_room.new.book c.command.new.self c.args.command added.0 c.make_room.ensures.any_moment c.in_ok-make_room.ensures.stays
+          c.facts.ensures.history.replayed c.facts.ensures.history.within added.1 c.command.ensures.keeps c.command.ensures.made c.command.ensures.any_moment)
+      | inr other ↦ (let u : IsUnchanged c.make_room.new.book c.command.new.self = c.in_err-reply.ensures.refused refl (λ same. other (cc)) in
+          leaves_still c.args.book.now c.make_room.new.book c.command.new.self (IsKeptWithin (table_of c.args.book.now) (last_kept c.args.book.now) (by_command c.args.command ∷ []))
+          (leaves_more c.args.book.now c.make_room.new.book (IsKeptOrNow c.args.book.now)
+          (IsKeptWithin (table_of c.args.book.now) (last_kept c.args.book.now) (by_command c.args.command ∷ [])) c.make_room.ensures.any_moment
+          (kept_or_now (table_of c.args.book.now) (last_kept c.args.book.now) (by_command c.args.command ∷ [])))
+          u.same_keeper u.same_made)
+    ]
+
+pub returns-in_err-print_reply-clause-any_moment : goal.returns-in_err-print_reply-clause-any_moment
+returns-in_err-print_reply-clause-any_moment g c =
+    leaves_command c.args.book.now c.make_room.new.book c.command.new.self c.args.command c.in_ok-reply.reply c.make_room.ensures.any_moment c.in_ok-make_room.ensures.stays
+    c.facts.ensures.history.replayed c.facts.ensures.history.within c.in_ok-reply.ensures.answered c.command.ensures.keeps c.command.ensures.made c.command.ensures.any_moment
+
+pub returns-in_err-ended-clause-any_moment : goal.returns-in_err-ended-clause-any_moment
+returns-in_err-ended-clause-any_moment g c =
+    leaves_command c.args.book.now c.make_room.new.book c.command.new.self c.args.command c.in_ok-reply.reply c.make_room.ensures.any_moment c.in_ok-make_room.ensures.stays
+    c.facts.ensures.history.replayed c.facts.ensures.history.within c.in_ok-reply.ensures.answered c.command.ensures.keeps c.command.ensures.made c.command.ensures.any_moment
+
+pub returns-clause-any_moment : goal.returns-clause-any_moment
+returns-clause-any_moment g c =
+    leaves_command c.args.book.now c.make_room.new.book c.command.new.self c.args.command c.in_ok-reply.reply c.make_room.ensures.any_moment c.in_ok-make_room.ensures.stays
+    c.facts.ensures.history.replayed c.facts.ensures.history.within c.in_ok-reply.ensures.answered c.command.ensures.keeps c.command.ensures.made c.command.ensures.any_moment

@@ -1,8 +1,15 @@
-use Rattle.std.proofs.Common.{refl, inl}
+use Rattle.std.proofs.Common.{refl, inl, inr, [], ◌∷◌, Ok}
 use Rattle.ic_desk.specs.Book.{table_of}
 use Rattle.ic_lines.specs.Answers.{events}
 use Rattle.ic_session.specs.Booked.{last_kept}
 use Rattle.ic_session.proofs.LineLemmas.{begun_none}
+use Rattle.ic_jobs.specs.declared.event.Event.TheVariants.{Command as by_command}
+use Rattle.ic_commands.specs.declared.line.Line.TheVariants.{Command as Asks, Run}
+use Rattle.ic_lines.specs.Turns.{turns}
+use Rattle.ic_session.specs.Parts.{IsKeptWithin}
+use Rattle.ic_session.specs.inner.Moments.{IsKeptInLine}
+use Rattle.ic_session.proofs.ServeLemmas.{in_line}
+use Rattle.ic_session.proofs.StopLemmas.{kept_in_line, leaves_more, leaves_nothing}
 use Rattle.ic_session.proofs.answering.answer_line.Goals as goal
 
 pub returns-in-Err-Memory-clause-begun : goal.returns-in-Err-Memory-clause-begun
@@ -10,3 +17,32 @@ returns-in-Err-Memory-clause-begun g c =
     let r = c.one_line_reading.ensures.total c.args.line.now in
     let b = begun_none (table_of c.args.book.now) (last_kept c.args.book.now) (events (table_of c.args.book.now) r.0) (table_of c.args.book.now) (last_kept c.args.book.now) refl (inl refl) in
     record { reading = r.0; read = r.1; begun = record { table = b.0; kept = b.1 } }
+
+pub returns-in-Ok-Command-clause-any_moment : goal.returns-in-Ok-Command-clause-any_moment
+returns-in-Ok-Command-clause-any_moment g c = leaves_more c.args.book.now c.answer_command.new.book
+    (IsKeptWithin (table_of c.args.book.now) (last_kept c.args.book.now) (by_command c.in-Ok-Command.command ∷ []))
+    (IsKeptInLine (table_of c.args.book.now) (last_kept c.args.book.now) c.args.line.now) c.answer_command.ensures.any_moment
+    (λ u within. kept_in_line (table_of c.args.book.now) (last_kept c.args.book.now) c.args.line.now (Ok (Asks c.in-Ok-Command.command)) u
+    (rw c.in-Ok-Command.field-0-is at c.in-Ok-Command.ensures.read) within)
+
+pub returns-in-Ok-Run-clause-any_moment : goal.returns-in-Ok-Run-clause-any_moment
+returns-in-Ok-Run-clause-any_moment g c = leaves_more c.args.book.now c.answer_run.new.book
+    (IsKeptWithin (table_of c.args.book.now) (last_kept c.args.book.now) (turns c.in-Ok-Run.count 0 (table_of c.args.book.now)))
+    (IsKeptInLine (table_of c.args.book.now) (last_kept c.args.book.now) c.args.line.now) c.answer_run.ensures.any_moment
+    (λ u within. kept_in_line (table_of c.args.book.now) (last_kept c.args.book.now) c.args.line.now (Ok (Run c.in-Ok-Run.count)) u
+    (rw c.in-Ok-Run.field-0-is at c.in-Ok-Run.ensures.read) within)
+
+pub returns-in-Err-Memory-clause-any_moment : goal.returns-in-Err-Memory-clause-any_moment
+returns-in-Err-Memory-clause-any_moment g c = leaves_nothing c.args.book.now (IsKeptInLine (table_of c.args.book.now) (last_kept c.args.book.now) c.args.line.now)
+    (g.met.D.Disk.left_is_image _) c.facts.ensures.either c.facts.ensures.history.replayed (inl refl)
+    (inr (in_line c.one_line_reading.ensures.total (table_of c.args.book.now) c.args.line.now))
+
+pub returns-in-Ok-Blank-clause-any_moment : goal.returns-in-Ok-Blank-clause-any_moment
+returns-in-Ok-Blank-clause-any_moment g c = leaves_nothing c.args.book.now (IsKeptInLine (table_of c.args.book.now) (last_kept c.args.book.now) c.args.line.now)
+    (g.met.D.Disk.left_is_image _) c.facts.ensures.either c.facts.ensures.history.replayed (inl refl)
+    (inr (in_line c.one_line_reading.ensures.total (table_of c.args.book.now) c.args.line.now))
+
+pub returns-in-Err-clause-any_moment : goal.returns-in-Err-clause-any_moment
+returns-in-Err-clause-any_moment g c = leaves_nothing c.args.book.now (IsKeptInLine (table_of c.args.book.now) (last_kept c.args.book.now) c.args.line.now)
+    (g.met.D.Disk.left_is_image _) c.facts.ensures.either c.facts.ensures.history.replayed (inl refl)
+    (inr (in_line c.one_line_reading.ensures.total (table_of c.args.book.now) c.args.line.now))

@@ -1,9 +1,11 @@
-use Rattle.std.proofs.Common.{◌≡◌, ◌<◌, ◌≤◌, ◌∙◌, sym, Some, length, arith}
+use Rattle.std.proofs.Common.{◌≡◌, ◌<◌, ◌≤◌, ◌∙◌, inl, inr, refl, sym, Some, length, arith}
 use Rattle.std.proofs.lemmas.Option.{slice_get_within}
 use Rattle.ic_jobs.specs.declared.limits.TheConstants.{MAX_JOBS}
 use Rattle.ic_jobs.specs.Landing.{due}
 use Rattle.ic_jobs.specs.Table.{IsTable}
 use Rattle.ic_desk.specs.Book.{table_of}
+use Rattle.ic_session.specs.inner.Moments.{IsKeptOrNow}
+use Rattle.ic_session.proofs.StopLemmas.{leaves_nothing, leaves_still}
 use Rattle.ic_session.proofs.rounds.make_round.Goals as goal
 
 pub returns-clause-low : goal.returns-clause-low
@@ -14,3 +16,15 @@ returns-clause-low g c =
     let few : length (table_of c.args.book.now) ≤ MAX_JOBS = (let sound : IsTable (table_of c.args.book.now) = rw c.table.ensures at c.jobs-jobs.ensures.sound in sound.few) in
     let here : c.place-place.result ≡ c.in-Some.flight.place = c.place-place.ensures.place in
     omega (arith, within, few, here)
+
+pub returns-in_err-flight-clause-any_moment : goal.returns-in_err-flight-clause-any_moment
+returns-in_err-flight-clause-any_moment g c = leaves_nothing c.args.book.now (IsKeptOrNow c.args.book.now) (g.met.D.Disk.left_is_image _) c.facts.ensures.either
+    c.facts.ensures.history.replayed (inl refl) (inr refl)
+
+pub returns-in_err-land_or_halt-clause-any_moment : goal.returns-in_err-land_or_halt-clause-any_moment
+returns-in_err-land_or_halt-clause-any_moment g c = leaves_still c.args.book.now c.make_room.new.book c.land_or_halt.new.book (IsKeptOrNow c.args.book.now)
+    c.make_room.ensures.any_moment c.land_or_halt.ensures.keeper c.land_or_halt.ensures.made
+
+pub returns-clause-any_moment : goal.returns-clause-any_moment
+returns-clause-any_moment g c = leaves_still c.args.book.now c.make_room.new.book c.land_or_halt.new.book (IsKeptOrNow c.args.book.now)
+    c.make_room.ensures.any_moment c.land_or_halt.ensures.keeper c.land_or_halt.ensures.made

@@ -1,7 +1,14 @@
 use Rattle.ic_desk.specs.Book.{table_of}
+use Rattle.ic_lines.specs.Turns.{turns}
 use Rattle.ic_session.specs.Booked.{last_kept}
+use Rattle.ic_session.specs.Parts.{IsKeptWithin}
+use Rattle.ic_session.specs.inner.Moments.{Leaves}
 use Rattle.ic_session.proofs.RunLemmas.{InRun}
 use Rattle.ic_session.proofs.running.make_rounds.Given as goal
 
+-- so many rounds were made, and a crash since the run began leaves a table within it
 abbrev pub invariant-loop-made : goal.invariant-loop-made
-invariant-loop-made g l = InRun (table_of l.fn.book) (last_kept l.fn.book) l.count l.made l.place (table_of l.book) (last_kept l.book)
+invariant-loop-made g l = record {
+  run : InRun (table_of l.fn.book) (last_kept l.fn.book) l.count l.made l.place (table_of l.book) (last_kept l.book);
+  moments : Leaves l.fn.book l.book (IsKeptWithin (table_of l.fn.book) (last_kept l.fn.book) (turns l.count 0 (table_of l.fn.book)));
+}

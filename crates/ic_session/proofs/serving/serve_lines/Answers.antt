@@ -1,4 +1,4 @@
-use Rattle.std.proofs.Common.{◌≡◌, ◌≢◌, ◌+◌, ◌∙◌, List, ℕ, Option, Ok, Err, true, false, length, arith, refl, sym, ap}
+use Rattle.std.proofs.Common.{inr, ◌≡◌, ◌≢◌, ◌+◌, ◌∙◌, List, ℕ, Option, Ok, Err, true, false, length, arith, refl, sym, ap}
 use Rattle.std.specs.Prelude.{IfSome, is_ok}
 use Rattle.std.specs.Io.KnownBytes.{Appends}
 use Rattle.ic_commands.specs.LineText.{ReadsLine}
@@ -15,21 +15,27 @@ use Rattle.ic_session.specs.declared.limits.TheConstants.{MAX_LINES}
 use Rattle.ic_lines.specs.declared.buffer.LineFault.TheVariants as line_fault
 use Rattle.ic_session.specs.inner.Progress.{Holds}
 use Rattle.ic_session.specs.inner.Line.{IsAnswered, IsBegun}
+use Rattle.ic_session.specs.inner.Moments.{Leaves, IsKeptInLine}
 use Rattle.ic_session.proofs.LineLemmas.{kept_all}
 use Rattle.ic_session.proofs.ServeLemmas.{under_first, under_more, ended_at, ended_err, cut_at, cut_behind, in_next, in_begun, kept_part, has_line, has_long_line, holds_book, holds_line, on_ok}
+use Rattle.ic_session.proofs.StopLemmas.{served_first, served_line, served_now, still_all, still_last}
 use Rattle.ic_session.proofs.serving.serve_lines.Goals as goal
 
 pub loop-init : goal.loop-init
 loop-init g c = record {
   way = under_first (g.R.Read.remaining c.args.reader.now) c.new-lines.result (table_of c.args.book.now) (g.W.Write.contents c.args.writer.now) c.new-lines.ensures.ahead;
   kept = λ all. all;
+  last = inr refl;
+  moments = served_first c.one_line_reading.ensures.total (g.R.Read.remaining c.args.reader.now) c.args.book.now (g.met.D.Disk.left_is_image _) c.facts.ensures.either
+      c.facts.ensures.history.replayed
+      (kept_all (start_of c.args.book.now) (table_of c.args.book.now) (log_of c.args.book.now) (kept_of c.args.book.now) c.facts.ensures.history.replayed);
 }
 
 pub returns-in_err-take_line-clause-ended : goal.returns-in_err-take_line-clause-ended
 returns-in_err-take_line-clause-ended g c =
     let law = c.one_line_reading.ensures.total in
     let rest = to_come c.loop.lines (g.R.Read.remaining c.loop.reader) in
-    let last = kept_all (start_of c.loop.book) (table_of c.loop.book) (log_of c.loop.book) (kept_of c.loop.book) c.facts.ensures.history.replayed in
+    let last = kept_all (start_of c.loop.book) (table_of c.loop.book) (log_of c.loop.book) (kept_of c.loop.book) c.facts-in-loop.ensures.history.replayed in
     ended_err c.from_residual.result (fault_of_line c.in_err-take_line.field-0.0) _ c.from_residual.ensures.1
     (λ other. ended_at (fault_of_line c.in_err-take_line.field-0.0) (IsAllKept c.args.book.now) (g.R.Read.remaining c.args.reader.now) rest c.loop.counter
     (table_of c.args.book.now) (table_of c.loop.book) (table_of c.loop.book) (last_kept c.loop.book)
@@ -44,7 +50,7 @@ returns-in_err-answer-clause-ended g c =
     let rest = to_come c.loop.lines (g.R.Read.remaining c.loop.reader) in
     let next = to_come c.take_line.new.self (g.R.Read.remaining c.take_line.new.reader) in
     let takes : TakesLine c.take_line.new.self.line rest next = c.in_ok-take_line.ensures.taken (ap (λ b. Ok b) c.if-not-branch.false) in
-    let last = kept_all (start_of c.loop.book) (table_of c.loop.book) (log_of c.loop.book) (kept_of c.loop.book) c.facts.ensures.history.replayed in
+    let last = kept_all (start_of c.loop.book) (table_of c.loop.book) (log_of c.loop.book) (kept_of c.loop.book) c.facts-in-loop.ensures.history.replayed in
     let begun : IsBegun c.line.result.now c.loop.book c.answer_line.new.book = c.in_err-answer.ensures.begun in
     let reads : ReadsLine c.take_line.new.self.line begun.reading = rw c.line.ensures at begun.read in
     ended_err c.from_residual-in_err-answer.result c.in_err-answer.field-0.0 _ c.from_residual-in_err-answer.ensures.1
@@ -71,6 +77,45 @@ returns-in_err-map_err-clause-cut g c = λ is.
     c.take_line.new.self.line c.in_ok-answer.answer.items answered.reading
     c.loop.invariant.way takes (c.in_ok-take_line.ensures.short done) c.loop-test.true reads answered.answer answered.table
 
+pub returns-in_err-answer-clause-any_moment : goal.returns-in_err-answer-clause-any_moment
+returns-in_err-answer-clause-any_moment g c = λ is.
+    let rest = to_come c.loop.lines (g.R.Read.remaining c.loop.reader) in
+    let next = to_come c.take_line.new.self (g.R.Read.remaining c.take_line.new.reader) in
+    let takes : TakesLine c.take_line.new.self.line rest next = c.in_ok-take_line.ensures.taken (ap (λ b. Ok b) c.if-not-branch.false) in
+    let last = kept_all (start_of c.loop.book) (table_of c.loop.book) (log_of c.loop.book) (kept_of c.loop.book) c.facts-in-loop.ensures.history.replayed in
+    let step : Leaves c.loop.book c.answer_line.new.book (IsKeptInLine (table_of c.loop.book) (last_kept c.loop.book) c.take_line.new.self.line) =
+    rw c.line.ensures at c.answer_line.ensures.any_moment in
+    served_now (g.R.Read.remaining c.args.reader.now) c.args.book.now c.answer_line.new.book (served_line c.one_line_reading.ensures.total c.args.book.now c.loop.book c.answer_line.new.book (g.R.Read.remaining c.args.reader.now) rest next c.loop.counter
+    (g.W.Write.contents c.args.writer.now) (g.W.Write.contents c.loop.writer) c.take_line.new.self.line c.loop.invariant.way takes
+    c.loop.invariant.kept c.loop.invariant.last last c.loop.invariant.moments step) is
+
+pub returns-in_err-map_err-clause-any_moment : goal.returns-in_err-map_err-clause-any_moment
+returns-in_err-map_err-clause-any_moment g c = λ is.
+    let rest = to_come c.loop.lines (g.R.Read.remaining c.loop.reader) in
+    let next = to_come c.take_line.new.self (g.R.Read.remaining c.take_line.new.reader) in
+    let takes : TakesLine c.take_line.new.self.line rest next = c.in_ok-take_line.ensures.taken (ap (λ b. Ok b) c.if-not-branch.false) in
+    let last = kept_all (start_of c.loop.book) (table_of c.loop.book) (log_of c.loop.book) (kept_of c.loop.book) c.facts-in-loop.ensures.history.replayed in
+    let step : Leaves c.loop.book c.answer_line.new.book (IsKeptInLine (table_of c.loop.book) (last_kept c.loop.book) c.take_line.new.self.line) =
+    rw c.line.ensures at c.answer_line.ensures.any_moment in
+    served_now (g.R.Read.remaining c.args.reader.now) c.args.book.now c.answer_line.new.book (served_line c.one_line_reading.ensures.total c.args.book.now c.loop.book c.answer_line.new.book (g.R.Read.remaining c.args.reader.now) rest next c.loop.counter
+    (g.W.Write.contents c.args.writer.now) (g.W.Write.contents c.loop.writer) c.take_line.new.self.line c.loop.invariant.way takes
+    c.loop.invariant.kept c.loop.invariant.last last c.loop.invariant.moments step) is
+
+pub returns-in_err-take_line-clause-any_moment : goal.returns-in_err-take_line-clause-any_moment
+returns-in_err-take_line-clause-any_moment g c = λ is. served_now (g.R.Read.remaining c.args.reader.now) c.args.book.now c.loop.book c.loop.invariant.moments is
+
+pub returns-then-not-branch-clause-any_moment : goal.returns-then-not-branch-clause-any_moment
+returns-then-not-branch-clause-any_moment g c = λ is. served_now (g.R.Read.remaining c.args.reader.now) c.args.book.now c.loop.book c.loop.invariant.moments is
+
+pub returns-in-Ok-true-clause-any_moment : goal.returns-in-Ok-true-clause-any_moment
+returns-in-Ok-true-clause-any_moment g c = λ is. served_now (g.R.Read.remaining c.args.reader.now) c.args.book.now c.loop.book c.loop.invariant.moments is
+
+pub returns-in-Ok-false-clause-any_moment : goal.returns-in-Ok-false-clause-any_moment
+returns-in-Ok-false-clause-any_moment g c = λ is. served_now (g.R.Read.remaining c.args.reader.now) c.args.book.now c.loop.book c.loop.invariant.moments is
+
+pub returns-in-Err-LongLine-clause-any_moment : goal.returns-in-Err-LongLine-clause-any_moment
+returns-in-Err-LongLine-clause-any_moment g c = λ is. served_now (g.R.Read.remaining c.args.reader.now) c.args.book.now c.loop.book c.loop.invariant.moments is
+
 pub loop-preserved : goal.loop-preserved
 loop-preserved g c =
     let rest = to_come c.loop.lines (g.R.Read.remaining c.loop.reader) in
@@ -82,13 +127,20 @@ loop-preserved g c =
     let ok : is_ok c.write_all.result ≡ true = sym c.in_ok-map_err.ensures.variant in
     let sent = on_ok c.write_all.result _ c.write_all.ensures.bytes ok in
     let written : Appends (g.W.Write.contents c.take_line.new.writer) (g.W.Write.contents c.write_all.new.self) c.in_ok-answer.answer.items = rw c.deref.ensures.value at sent in
+    let last = kept_all (start_of c.loop.book) (table_of c.loop.book) (log_of c.loop.book) (kept_of c.loop.book) c.facts-in-loop.ensures.history.replayed in
+    let step : Leaves c.loop.book c.answer_line.new.book (IsKeptInLine (table_of c.loop.book) (last_kept c.loop.book) c.take_line.new.self.line) =
+    rw c.line.ensures at c.answer_line.ensures.any_moment in
     record {
       way = under_more c.lines_are_served_in_one_way.ensures.joined (g.R.Read.remaining c.args.reader.now) rest next c.loop.counter
           (table_of c.args.book.now) (table_of c.loop.book) (table_of c.answer_line.new.book)
           (g.W.Write.contents c.args.writer.now) (g.W.Write.contents c.loop.writer) (g.W.Write.contents c.take_line.new.writer) (g.W.Write.contents c.write_all.new.self)
           c.take_line.new.self.line c.in_ok-answer.answer.items answered.reading
           c.loop.invariant.way takes (c.in_ok-take_line.ensures.short done) c.loop-test.true reads answered.answer answered.table c.take_line.ensures.kept written;
-      kept = λ all. answered.kept (c.loop.invariant.kept all);
+      kept = λ all. still_all c.loop.book c.answer_line.new.book answered.kept (c.loop.invariant.kept all);
+      last = still_last c.args.book.now c.loop.book c.answer_line.new.book answered.kept c.loop.invariant.last;
+      moments = served_line c.one_line_reading.ensures.total c.args.book.now c.loop.book c.answer_line.new.book (g.R.Read.remaining c.args.reader.now) rest next c.loop.counter
+          (g.W.Write.contents c.args.writer.now) (g.W.Write.contents c.loop.writer) c.take_line.new.self.line c.loop.invariant.way takes
+          c.loop.invariant.kept c.loop.invariant.last last c.loop.invariant.moments step;
     }
 
 pub returns-in-Ok-true-clause-ended : goal.returns-in-Ok-true-clause-ended
@@ -143,4 +195,5 @@ returns g c =
       cut = λ is. cut_at (g.R.Read.remaining c.args.reader.now) rest c.loop.counter (table_of c.args.book.now) (table_of c.loop.book)
           (g.W.Write.contents c.args.writer.now) (g.W.Write.contents c.loop.writer) c.loop.invariant.way;
       kept_at_cut = λ is. c.loop.invariant.kept;
+      any_moment = λ is. served_now (g.R.Read.remaining c.args.reader.now) c.args.book.now c.loop.book c.loop.invariant.moments is;
     }

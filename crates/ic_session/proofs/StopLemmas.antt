@@ -1,0 +1,243 @@
+-- What a crash in the midst of a call leaves, call by call.
+use Rattle.std.proofs.Common.{◌≡◌, ◌≢◌, ◌⊎◌, inl, inr, ⊎_elim, ℕ, ◌+◌, ◌<◌, ◌≤◌, List, [], ◌∷◌, ◌++◌, Option, None, Some, true, length, refl, sym, ap, subst, ◌∙◌, arith, append-nil}
+use Rattle.std.specs.Prelude.{IfSome, IsTrue}
+use Rattle.std.proofs.lemmas.Bool.{cases_lt}
+use Rattle.ic_disk.specs.declared.disk.Disk.{Ghosts}
+use Rattle.ic_disk.specs.Images.{Within}
+use Rattle.ic_disk.specs.Time.{LeavesOnly}
+use Rattle.ic_disk.specs.lemmas.Moments.{started, then_runs, leaves_weaker}
+use Rattle.ic_jobs.specs.declared.command.Command.{Command}
+use Rattle.ic_jobs.specs.declared.event.Entry.{Entry}
+use Rattle.ic_jobs.specs.declared.event.Event.{Event}
+use Rattle.ic_jobs.specs.declared.event.Event.TheVariants.{Command as by_command}
+use Rattle.ic_jobs.specs.declared.reply.Reply.{Reply}
+use Rattle.ic_jobs.specs.Job.{JobParts}
+use Rattle.ic_jobs.specs.History.{table_after, replay}
+use Rattle.ic_slots.specs.declared.keeper.Keeper.{Keeper}
+use Rattle.ic_slots.specs.Held.{HoldsTable, HoldsEitherTable}
+use Rattle.ic_slots.specs.Keeper as keeper_parts
+use Rattle.ic_commands.specs.LineText.{ReadsLine}
+use Rattle.ic_lines.specs.Lines.{lines}
+use Rattle.ic_lines.specs.Turns.{after_events, turns}
+use Rattle.ic_lines.specs.Answers.{Reading, events}
+use Rattle.ic_lines.specs.Taking.{TakesLine}
+use Rattle.ic_desk.specs.declared.book.Book.{Book}
+use Rattle.ic_desk.specs.Book.{start_of, log_of, table_of, kept_of, keeper_of, disk_of, is_made, IsUnchanged}
+use Rattle.ic_desk.specs.Entries.{AddsCommand, command_entry}
+use Rattle.ic_desk.specs.Kept.{HoldsKeptOrAll, table_kept}
+use Rattle.ic_session.specs.Booked.{last_kept, IsAllKept, IsOnMadeDisk, StaysPut}
+use Rattle.ic_session.specs.Parts.{IsPart, IsKeptWithin, IsInLine, IsInFirst}
+use Rattle.ic_session.specs.Stopped.{HoldsOne, IsReached, MayStand}
+use Rattle.ic_session.specs.inner.Moments.{Leaves, IsKeptOrNow, IsKeptInLine}
+use Rattle.ic_session.specs.inner.Progress.{IsUnderWay}
+use Rattle.ic_session.proofs.LineLemmas.{kept_behind}
+use Rattle.ic_session.proofs.RunLemmas.{InRun, run_begun}
+use Rattle.ic_session.proofs.ServeLemmas.{SomeWay, in_first}
+
+-- ---- which tables
+
+-- before any of some events
+pub kept_or_now : (t kept : List JobParts) (es : List Event) (u : List JobParts) → (u ≡ kept) ⊎ (u ≡ t) → IsKeptWithin t kept es u
+kept_or_now t kept es u (inl stays) = inl stays
+kept_or_now t kept es u (inr now) = inr (record { front = []; rest = es; parted = refl; leaves = now })
+
+-- behind all of them
+pub kept_or_all : (t kept : List JobParts) (es : List Event) (v w u : List JobParts) → v ≡ after_events t es → IsKeptWithin t kept es w
+    → (u ≡ w) ⊎ (u ≡ v) → IsKeptWithin t kept es u
+kept_or_all t kept es v w u all within (inl stays) = rw stays within
+kept_or_all t kept es v w u all within (inr now) = inr (record { front = es; rest = []; parted = sym (append-nil es); leaves = now ∙ all })
+
+-- in the midst of a run
+pub kept_in_run : (t kept : List JobParts) (count made place : ℕ) (v w u : List JobParts) → InRun t kept count made place v w
+    → (u ≡ w) ⊎ (u ≡ v) → IsKeptWithin t kept (turns count 0 t) u
+kept_in_run t kept count made place v w u run either = (run_begun t kept count made place v w v u run refl either).1
+
+-- within a line that is read so
+pub kept_in_line : (t kept : List JobParts) (line : List ℕ) (r : Reading) (u : List JobParts) → ReadsLine line r → IsKeptWithin t kept (events t r) u
+    → IsKeptInLine t kept line u
+kept_in_line t kept line r u reads (inl stays) = inl stays
+kept_in_line t kept line r u reads (inr part) = inr (record { reading = r; read = reads; part = part })
+
+replay_more : (t : List JobParts) (h : List Entry) (e : Entry) → replay t (h ++ e ∷ []) ≡ table_after (replay t h) e.event
+replay_more t [] e = refl
+replay_more t (x ∷ xs) e = replay_more (table_after t x.event) xs e
+
+all_or_not : (m n : ℕ) → (m ≡ n) ⊎ (m ≢ n)
+all_or_not m n = ⊎_elim
+    (λ less. inr (λ same. omega (arith, less, same)))
+    (λ more. ⊎_elim (λ less. inr (λ same. omega (arith, less, same))) (λ fewer. inl (omega (arith, more, fewer))) (cases_lt n m))
+    (cases_lt m n)
+
+reached_now : SomeWay → (t : List JobParts) (ls : List (List ℕ)) → IsReached t ls t
+reached_now law t ls = record {
+  front = [];
+  rest = ls;
+  answers = [];
+  between = t;
+  parted = refl;
+  served = record { readings = []; read = tt; answered = refl; leaves = refl };
+  in_line = in_first law t ls;
+}
+
+-- ---- calls
+
+module _ {D : Type 0} {ghosts : Ghosts D} where
+  pub leaves_more : (old new : Book D ghosts) (P Q : List JobParts → Type 0) → Leaves old new P → ((u : List JobParts) → P u → Q u) → Leaves old new Q
+  leaves_more old new P Q run weaker = record {
+    stays = run.stays;
+    any_moment = λ is. leaves_weaker ghosts.clock ghosts.left (disk_of old) (disk_of new) (HoldsOne P) (HoldsOne Q) (run.any_moment is)
+        (λ file holds. (holds.0, weaker holds.0 holds.1, holds.2));
+  }
+
+  -- one call after another
+  pub leaves_then : (old mid new : Book D ghosts) (P Q : List JobParts → Type 0) → Leaves old mid P → Leaves mid new Q
+      → ((u : List JobParts) → Q u → P u) → Leaves old new P
+  leaves_then old mid new P Q first second weaker = record {
+    stays = λ is. second.stays (first.stays is);
+    any_moment = λ is. then_runs ghosts.clock ghosts.left (disk_of old) (disk_of mid) (disk_of new) (HoldsOne P) (HoldsOne Q)
+        (first.any_moment is) (second.any_moment (first.stays is))
+        (λ file holds. (holds.0, weaker holds.0 holds.1, holds.2));
+  }
+
+  -- a call after which the disk is the same
+  pub leaves_still : (old mid new : Book D ghosts) (P : List JobParts → Type 0) → Leaves old mid P → keeper_of new ≡ keeper_of mid → is_made new ≡ is_made mid
+      → Leaves old new P
+  leaves_still old mid new P run keeper made =
+      let disk : disk_of new ≡ disk_of mid = ap (λ (k : Keeper D ghosts). keeper_parts.disk_of k) keeper in
+      record {
+        stays = λ is. (ap ghosts.keeps disk ∙ (run.stays is).0, made ∙ (run.stays is).1);
+        any_moment = λ is. subst (λ (d : D). LeavesOnly ghosts.clock ghosts.left (disk_of old) d (HoldsOne P)) (sym disk) (run.any_moment is);
+      }
+
+  -- a call of the book
+  pub leaves_call : (old new : Book D ghosts) (a b : List JobParts) (P : List JobParts → Type 0)
+      → ghosts.keeps (disk_of new) ≡ ghosts.keeps (disk_of old) → (is_made old ≡ true → is_made new ≡ true)
+      → (IsTrue (ghosts.keeps (disk_of old)) → is_made old ≡ true → LeavesOnly ghosts.clock ghosts.left (disk_of old) (disk_of new) (HoldsEitherTable a b))
+      → P a → P b → Leaves old new P
+  leaves_call old new a b P keeps made run first second = record {
+    stays = λ is. (keeps ∙ is.0, made is.1);
+    any_moment = λ is. leaves_weaker ghosts.clock ghosts.left (disk_of old) (disk_of new) (HoldsEitherTable a b) (HoldsOne P) (run is.0 is.1)
+        (λ file holds. ⊎_elim (λ (h : HoldsTable a file). (a, first, h)) (λ (h : HoldsTable b file). (b, second, h)) holds);
+  }
+
+  -- no call at all
+  pub leaves_nothing : (book : Book D ghosts) (P : List JobParts → Type 0)
+      → ((file : List ℕ) → ghosts.left (disk_of book) (ghosts.clock (disk_of book)) file → ghosts.image (disk_of book) file)
+      → (IsTrue (ghosts.keeps (disk_of book)) → is_made book ≡ true → Within (ghosts.image (disk_of book)) (HoldsKeptOrAll (start_of book) (log_of book) (kept_of book)))
+      → replay (start_of book) (log_of book) ≡ table_of book → P (last_kept book) → P (table_of book) → Leaves book book P
+  leaves_nothing book P law either replayed kept now =
+      let all : P (replay (start_of book) (log_of book)) = subst P (sym replayed) now in
+      record {
+        stays = λ is. is;
+        any_moment = λ is. started ghosts.clock ghosts.left (disk_of book) (HoldsOne P) (λ file left. ⊎_elim
+            (λ (h : HoldsTable (last_kept book) file). (last_kept book, kept, h))
+            (λ (h : HoldsTable (replay (start_of book) (log_of book)) file). (replay (start_of book) (log_of book), all, h))
+            (either is.0 is.1 file (law file left)));
+      }
+
+  -- a command that stands in the book
+  pub leaves_command : (old mid new : Book D ghosts) (c : Command) (r : Reply) → Leaves old mid (IsKeptOrNow old) → StaysPut old mid
+      → replay (start_of mid) (log_of mid) ≡ table_of mid → kept_of mid ≤ length (log_of mid)
+      → AddsCommand 0 c r (log_of mid) (log_of new) (table_of mid) (table_of new)
+      → ghosts.keeps (disk_of new) ≡ ghosts.keeps (disk_of mid) → (is_made mid ≡ true → is_made new ≡ true)
+      → (IsTrue (ghosts.keeps (disk_of mid)) → is_made mid ≡ true
+      → LeavesOnly ghosts.clock ghosts.left (disk_of mid) (disk_of new) (HoldsKeptOrAll (start_of mid) (log_of new) (kept_of mid)))
+      → Leaves old new (IsKeptWithin (table_of old) (last_kept old) (by_command c ∷ []))
+  leaves_command old mid new c r so_far put replayed within adds keeps made run =
+      let kept_there : table_kept (start_of mid) (log_of new) (kept_of mid) ≡ last_kept mid =
+      kept_behind (start_of mid) (start_of mid) (log_of mid) (log_of new) (command_entry 0 c r) (kept_of mid) (kept_of mid) refl adds.entry refl within in
+      let all_there : replay (start_of mid) (log_of new) ≡ table_after (table_of old) (by_command c) =
+      ap (replay (start_of mid)) adds.entry ∙ replay_more (start_of mid) (log_of mid) (command_entry 0 c r)
+      ∙ ap (λ y. table_after y (by_command c)) (replayed ∙ put.table) in
+      leaves_then old mid new (IsKeptWithin (table_of old) (last_kept old) (by_command c ∷ [])) (IsKeptWithin (table_of old) (last_kept old) (by_command c ∷ []))
+      (leaves_more old mid (IsKeptOrNow old) (IsKeptWithin (table_of old) (last_kept old) (by_command c ∷ [])) so_far
+      (kept_or_now (table_of old) (last_kept old) (by_command c ∷ [])))
+      (leaves_call mid new (table_kept (start_of mid) (log_of new) (kept_of mid)) (replay (start_of mid) (log_of new))
+      (IsKeptWithin (table_of old) (last_kept old) (by_command c ∷ [])) keeps made run
+      (subst (IsKeptWithin (table_of old) (last_kept old) (by_command c ∷ [])) (sym kept_there) (kept_or_now (table_of old) (last_kept old) (by_command c ∷ []) (last_kept mid) put.kept))
+      (inr (record { front = by_command c ∷ []; rest = []; parted = refl; leaves = all_there })))
+      (λ u is. is)
+
+  -- one step of a run
+  pub leaves_in_run : (first book new : Book D ghosts) (count made place : ℕ) → InRun (table_of first) (last_kept first) count made place (table_of book) (last_kept book)
+      → Leaves first book (IsKeptWithin (table_of first) (last_kept first) (turns count 0 (table_of first))) → Leaves book new (IsKeptOrNow book)
+      → Leaves first new (IsKeptWithin (table_of first) (last_kept first) (turns count 0 (table_of first)))
+  leaves_in_run first book new count made place run so_far step = leaves_then first book new
+      (IsKeptWithin (table_of first) (last_kept first) (turns count 0 (table_of first))) (IsKeptOrNow book) so_far step
+      (λ u either. kept_in_run (table_of first) (last_kept first) count made place (table_of book) (last_kept book) u run either)
+
+  -- ---- lines
+
+  -- where the bytes of a reader are known, a crash since the serving began leaves what the lines reach
+  abbrev pub LeavesServed : Option (List ℕ) → (first new : Book D ghosts) → Type 0
+  LeavesServed text first new = IfSome text (λ x. Leaves first new (MayStand (IsAllKept first) (last_kept first) (table_of first) (lines x)))
+
+  pub served_first : SomeWay → (text : Option (List ℕ)) (book : Book D ghosts)
+      → ((file : List ℕ) → ghosts.left (disk_of book) (ghosts.clock (disk_of book)) file → ghosts.image (disk_of book) file)
+      → (IsTrue (ghosts.keeps (disk_of book)) → is_made book ≡ true → Within (ghosts.image (disk_of book)) (HoldsKeptOrAll (start_of book) (log_of book) (kept_of book)))
+      → replay (start_of book) (log_of book) ≡ table_of book → (IsAllKept book → last_kept book ≡ table_of book) → LeavesServed text book book
+  served_first law None book images either replayed whole = tt
+  served_first law (Some x) book images either replayed whole = leaves_nothing book (MayStand (IsAllKept book) (last_kept book) (table_of book) (lines x)) images either replayed
+      (⊎_elim (λ all. inl (subst (IsReached (table_of book) (lines x)) (sym (whole all)) (reached_now law (table_of book) (lines x)))) (λ less. inr (less, refl))
+      (all_or_not (kept_of book) (length (log_of book))))
+      (inl (reached_now law (table_of book) (lines x)))
+
+  -- a table within the next line
+  pub may_stand : SomeWay → (first book : Book D ghosts) (text rest : List ℕ) (n : ℕ) (old mid : Option (List ℕ)) (line : List ℕ) (more : List (List ℕ))
+      → IsUnderWay (Some text) (Some rest) n (table_of first) (table_of book) old mid → lines rest ≡ line ∷ more
+      → (IsAllKept first → IsAllKept book) → IsAllKept book ⊎ (last_kept book ≡ last_kept first) → (IsAllKept book → last_kept book ≡ table_of book)
+      → (u : List JobParts) → IsKeptInLine (table_of book) (last_kept book) line u → MayStand (IsAllKept first) (last_kept first) (table_of first) (lines text) u
+  may_stand law first book text rest n old mid line more way takes stays last whole u is = ⊎_elim
+      (λ (same : u ≡ last_kept book). ⊎_elim
+      (λ (all : IsAllKept book). inl (at_table (same ∙ whole all)))
+      (λ (put : last_kept book ≡ last_kept first). ⊎_elim
+      (λ all. inl (at_table (same ∙ whole (stays all))))
+      (λ less. inr (less, same ∙ put))
+      (all_or_not (kept_of first) (length (log_of first))))
+      last)
+      (λ (there : IsInLine (table_of book) line u). inl (reached u (rw takes there)))
+      is
+    where
+      reached : (v : List JobParts) → IsInFirst (table_of book) (lines rest) v → IsReached (table_of first) (lines text) v
+      reached v here = record {
+        front = way.front;
+        rest = lines rest;
+        answers = way.answered.answers;
+        between = table_of book;
+        parted = way.parted;
+        served = way.answered.served;
+        in_line = here;
+      }
+
+      at_table : u ≡ table_of book → IsReached (table_of first) (lines text) u
+      at_table same = subst (IsReached (table_of first) (lines text)) (sym same) (reached (table_of book) (in_first law (table_of book) (lines rest)))
+
+  pub served_line : SomeWay → (first book new : Book D ghosts) (text rest next : Option (List ℕ)) (n : ℕ) (old mid : Option (List ℕ)) (line : List ℕ)
+      → IsUnderWay text rest n (table_of first) (table_of book) old mid → TakesLine line rest next
+      → (IsAllKept first → IsAllKept book) → IsAllKept book ⊎ (last_kept book ≡ last_kept first) → (IsAllKept book → last_kept book ≡ table_of book)
+      → LeavesServed text first book → Leaves book new (IsKeptInLine (table_of book) (last_kept book) line) → LeavesServed text first new
+  served_line law first book new None rest next n old mid line way takes stays last whole so_far step = tt
+  served_line law first book new (Some text) None next n old mid line way takes stays last whole so_far step = absurd way
+  served_line law first book new (Some text) (Some rest) None n old mid line way takes stays last whole so_far step = absurd takes
+  served_line law first book new (Some text) (Some rest) (Some next) n old mid line way takes stays last whole so_far step =
+      leaves_then first book new (MayStand (IsAllKept first) (last_kept first) (table_of first) (lines text)) (IsKeptInLine (table_of book) (last_kept book) line)
+      so_far step (may_stand law first book text rest n old mid line (lines next) way takes stays last whole)
+
+  pub served_now : (text : Option (List ℕ)) (first new : Book D ghosts) → LeavesServed text first new → IsOnMadeDisk first
+      → IfSome text (λ x. LeavesOnly ghosts.clock ghosts.left (disk_of first) (disk_of new) (HoldsOne (MayStand (IsAllKept first) (last_kept first) (table_of first) (lines x))))
+  served_now None first new run is = tt
+  served_now (Some x) first new run is = run.any_moment is
+
+  -- what a line leaves keeps
+  pub still_all : (old new : Book D ghosts) → IsAllKept new ⊎ IsUnchanged old new → IsAllKept old → IsAllKept new
+  still_all old new (inl all) was = all
+  still_all old new (inr same) was = same.same_kept ∙ was ∙ ap length (sym same.same_log)
+
+  pub still_last : (first old new : Book D ghosts) → IsAllKept new ⊎ IsUnchanged old new → IsAllKept old ⊎ (last_kept old ≡ last_kept first)
+      → IsAllKept new ⊎ (last_kept new ≡ last_kept first)
+  still_last first old new (inl all) was = inl all
+  still_last first old new (inr same) (inl was) = inl (still_all old new (inr same) was)
+  still_last first old new (inr same) (inr was) = inr (last_same ∙ was)
+    where
+      last_same : last_kept new ≡ last_kept old
+      last_same = let s = same.same_start in let l = same.same_log in let k = same.same_kept in cc
