@@ -1,4 +1,5 @@
 pub mod RunLemmas
 pub mod LineLemmas
+pub mod WriteLemmas
 pub mod ServeLemmas
 pub mod StopLemmas

@@ -15,30 +15,13 @@ use Rattle.ic_session.specs.declared.limits.TheConstants.{MAX_LINES}
 use Rattle.ic_session.specs.declared.fault.ServeFault.{ServeFault}
 use Rattle.ic_session.specs.declared.fault.ServeFault.TheVariants.{Read, Write, TooManyLines, Book, Pool, LongLine, Memory}
 use Rattle.ic_session.specs.Parts.{IsPart, IsKeptWithin, IsInLine, IsInFirst}
-use Rattle.ic_session.specs.Served.{MayBeServed, AreAnswered, SaysOf, IsEnded, IsCut}
+use Rattle.ic_session.specs.Served.{MayBeServed, AreAnswered, AppendsFront, SaysOf, IsLeftBy, IsEnded, IsCut}
 use Rattle.ic_session.specs.Faults.{IsOfBook, fault_of_line}
 use Rattle.ic_lines.specs.declared.buffer.LineFault.{LineFault}
 use Rattle.ic_lines.specs.declared.buffer.LineFault.TheVariants as line_fault
 use Rattle.std.specs.Result.{IsErrAnd}
-use Rattle.ic_session.specs.inner.Progress.{Progress, IsUnderWay, IsInNext, HasLine, Holds}
-
--- ---- what a writer holds
-
-appends_none : (c : Option (List ℕ)) → Appends c c []
-appends_none None = tt
-appends_none (Some xs) = sym (append-nil xs)
-
-pub appends_kept : (old mid new : Option (List ℕ)) (a : List ℕ) → Appends old mid a → Keeps mid new → Appends old new a
-appends_kept None mid new a p q = tt
-appends_kept (Some xs) None new a p q = absurd p
-appends_kept (Some xs) (Some ys) None a p q = absurd q
-appends_kept (Some xs) (Some ys) (Some zs) a p q = q ∙ p
-
-appends_more : (old mid new : Option (List ℕ)) (a b : List ℕ) → Appends old mid a → Appends mid new b → Appends old new (a ++ b)
-appends_more None mid new a b p q = tt
-appends_more (Some xs) None new a b p q = absurd p
-appends_more (Some xs) (Some ys) None a b p q = absurd q
-appends_more (Some xs) (Some ys) (Some zs) a b p q = q ∙ ap (λ c. c ++ b) p ∙ append_assoc xs a b
+use Rattle.ic_session.specs.inner.Progress.{Progress, IsUnderWay, IsInNext, IsLeftNext, HasLine, Holds}
+use Rattle.ic_session.proofs.WriteLemmas.{appends_none, appends_kept, appends_more, front_all, front_behind}
 
 -- ---- lines that were answered
 
@@ -136,7 +119,7 @@ says_of (Pool p) n rest front counted h = tt
 says_of Memory n rest front counted h = tt
 
 pub ended_at : (fault : ServeFault) (all : Type 0) (text rest : Option (List ℕ)) (n : ℕ) (t u v w : List JobParts) (old mid new : Option (List ℕ))
-    → IsUnderWay text rest n t u old mid → Keeps mid new → Holds fault n rest → IsInNext u rest v → (all → IsInNext u rest w)
+    → IsUnderWay text rest n t u old mid → Keeps mid new → Holds fault n rest → IsLeftNext fault u rest v → (all → IsLeftNext fault u rest w)
     → IfSome text (λ x. IsEnded fault all (lines x) t v w old new)
 ended_at fault all None rest n t u v w old mid new way kept holds here keeps = tt
 ended_at fault all (Some text) None n t u v w old mid new way kept holds here keeps = absurd way
@@ -151,32 +134,34 @@ ended_at fault all (Some text) (Some rest) n t u v w old mid new way kept holds 
   keeps = keeps;
 }
 
-pub cut_at : (text rest : Option (List ℕ)) (n : ℕ) (t u : List JobParts) (old mid : Option (List ℕ)) → IsUnderWay text rest n t u old mid
-    → IfSome text (λ x. IsCut (lines x) t u)
-cut_at None rest n t u old mid way = tt
-cut_at (Some text) None n t u old mid way = absurd way
-cut_at (Some text) (Some rest) n t u old mid way = record {
+pub cut_at : (text rest : Option (List ℕ)) (n : ℕ) (t u : List JobParts) (old mid new : Option (List ℕ)) → IsUnderWay text rest n t u old mid → Keeps mid new
+    → IfSome text (λ x. IsCut (lines x) t u old new)
+cut_at None rest n t u old mid new way kept = tt
+cut_at (Some text) None n t u old mid new way kept = absurd way
+cut_at (Some text) (Some rest) n t u old mid new way kept = record {
   front = way.front;
   rest = lines rest;
   answers = way.answered.answers;
   parted = way.parted;
   within = way.answered.within;
   served = way.answered.served;
+  written = front_all old new way.answered.answers (appends_kept old mid new way.answered.answers way.answered.written kept);
 }
 
-pub cut_behind : Joined → (text rest next : Option (List ℕ)) (n : ℕ) (t u v : List JobParts) (old mid : Option (List ℕ)) (line bytes : List ℕ) (r : Reading)
+pub cut_behind : Joined → (text rest next : Option (List ℕ)) (n : ℕ) (t u v : List JobParts) (old mid seen new : Option (List ℕ)) (line bytes : List ℕ) (r : Reading)
     → IsUnderWay text rest n t u old mid → TakesLine line rest next → length line ≤ MAX_TEXT → n < MAX_LINES
-    → ReadsLine line r → bytes ≡ answer u r → v ≡ after_line u r → IfSome text (λ x. IsCut (lines x) t v)
-cut_behind law None rest next n t u v old mid line bytes r way takes short less reads is left = tt
-cut_behind law (Some text) None next n t u v old mid line bytes r way takes short less reads is left = absurd way
-cut_behind law (Some text) (Some rest) None n t u v old mid line bytes r way takes short less reads is left = absurd takes
-cut_behind law (Some text) (Some rest) (Some next) n t u v old mid line bytes r way takes short less reads is left = record {
+    → ReadsLine line r → bytes ≡ answer u r → v ≡ after_line u r → Keeps mid seen → AppendsFront seen new bytes → IfSome text (λ x. IsCut (lines x) t v old new)
+cut_behind law None rest next n t u v old mid seen new line bytes r way takes short less reads is left kept written = tt
+cut_behind law (Some text) None next n t u v old mid seen new line bytes r way takes short less reads is left kept written = absurd way
+cut_behind law (Some text) (Some rest) None n t u v old mid seen new line bytes r way takes short less reads is left kept written = absurd takes
+cut_behind law (Some text) (Some rest) (Some next) n t u v old mid seen new line bytes r way takes short less reads is left kept written = record {
   front = way.front ++ line ∷ [];
   rest = lines next;
   answers = way.answered.answers ++ bytes;
   parted = parted_more text rest next line way.front way.parted takes;
   within = within_more way.front line n way.answered.within way.counted less short;
   served = law t u v way.front (line ∷ []) way.answered.answers bytes way.answered.served (served_line u line bytes r v reads is left);
+  written = front_behind old mid seen new way.answered.answers bytes way.answered.written kept written;
 }
 
 -- ---- where a table stands
@@ -197,9 +182,33 @@ pub in_first : SomeWay → (u : List JobParts) (ls : List (List ℕ)) → IsInFi
 in_first law u [] = refl
 in_first law u (line ∷ ls) = in_line law u line
 
-pub in_next : SomeWay → (u v : List JobParts) (rest : Option (List ℕ)) → v ≡ u → IsInNext u rest v
-in_next law u v None same = tt
-in_next law u v (Some rest) same = rw same (in_first law u (lines rest))
+left_first : SomeWay → (fault : ServeFault) (u : List JobParts) (ls : List (List ℕ)) → IsLeftBy fault u ls u
+left_first law Read u ls = refl
+left_first law Write u ls = in_first law u ls
+left_first law TooManyLines u ls = refl
+left_first law (Book b) u ls = in_first law u ls
+left_first law (Pool p) u ls = in_first law u ls
+left_first law LongLine u ls = refl
+left_first law Memory u ls = in_first law u ls
+
+-- nothing of the next line has come
+pub left_next : SomeWay → (fault : ServeFault) (u v : List JobParts) (rest : Option (List ℕ)) → v ≡ u → IsLeftNext fault u rest v
+left_next law fault u v None same = tt
+left_next law fault u v (Some rest) same = rw same (left_first law fault u (lines rest))
+
+left_within : (fault : ServeFault) (u v : List JobParts) (ls : List (List ℕ)) → IsOfBook fault → IsInFirst u ls v → IsLeftBy fault u ls v
+left_within Read u v ls of there = absurd of
+left_within Write u v ls of there = absurd of
+left_within TooManyLines u v ls of there = absurd of
+left_within (Book b) u v ls of there = there
+left_within (Pool p) u v ls of there = there
+left_within LongLine u v ls of there = absurd of
+left_within Memory u v ls of there = there
+
+-- some of the next line's events have come
+pub left_in_line : (fault : ServeFault) (u v : List JobParts) (rest : Option (List ℕ)) → IsOfBook fault → IsInNext u rest v → IsLeftNext fault u rest v
+left_in_line fault u v None of there = tt
+left_in_line fault u v (Some rest) of there = left_within fault u v (lines rest) of there
 
 pub in_begun : (u v : List JobParts) (line : List ℕ) (rest next : Option (List ℕ)) (r : Reading) → TakesLine line rest next → ReadsLine line r
     → IsPart u (events u r) v → IsInNext u rest v

@@ -7,7 +7,7 @@ use Rattle.ic_text.specs.declared.limits.TheConstants.{MAX_TEXT}
 use Rattle.ic_lines.specs.Serving.{IsServed}
 use Rattle.ic_session.specs.declared.limits.TheConstants.{MAX_LINES}
 use Rattle.ic_session.specs.declared.fault.ServeFault.{ServeFault}
-use Rattle.ic_session.specs.declared.fault.ServeFault.TheVariants.{LongLine, TooManyLines}
+use Rattle.ic_session.specs.declared.fault.ServeFault.TheVariants.{Read, LongLine, TooManyLines}
 use Rattle.ic_session.specs.Parts.{IsInFirst}
 
 -- lines that may be served: no more than there may be, and none too long
@@ -31,6 +31,14 @@ SaysOf TooManyLines front [] = ⊥
 SaysOf TooManyLines front (line ∷ rest) = length front ≡ MAX_LINES
 SaysOf _ front rest = Unit {0}
 
+-- What a fault says of a table: some events of the next line may have come to it, and none where
+-- the line wasn't taken.
+abbrev pub IsLeftBy : ServeFault → (t : List JobParts) (ls : List (List ℕ)) (u : List JobParts) → Type 0
+IsLeftBy Read t ls u = u ≡ t
+IsLeftBy LongLine t ls u = u ≡ t
+IsLeftBy TooManyLines t ls u = u ≡ t
+IsLeftBy _ t ls u = IsInFirst t ls u
+
 -- A serving was ended by a fault other than that of the writer: a front of the lines is answered,
 -- and the table is within the line behind it, as is the one that was kept last where all was kept.
 pub record IsEnded (fault : ServeFault) (all_kept : Type 0) (ls : List (List ℕ))
@@ -41,14 +49,23 @@ pub record IsEnded (fault : ServeFault) (all_kept : Type 0) (ls : List (List ℕ
   pub parted : ls ≡ front ++ rest
   pub answered : AreAnswered front t between old new
   pub says : SaysOf fault front rest
-  pub in_line : IsInFirst between rest u
-  pub keeps : all_kept → IsInFirst between rest kept
+  pub in_line : IsLeftBy fault between rest u
+  pub keeps : all_kept → IsLeftBy fault between rest kept
 
--- The writer failed: the table is that after a front of the lines.
-pub record IsCut (ls : List (List ℕ)) (t u : List JobParts) : Type 0 where
+-- a front of these bytes was written
+pub record AppendsFront (old new : Option (List ℕ)) (bytes : List ℕ) : Type 0 where
+  pub sent : List ℕ
+  pub unsent : List ℕ
+  pub parted : bytes ≡ sent ++ unsent
+  pub written : Appends old new sent
+
+-- The writer failed: the table is that after a front of the lines, and a front of what answers them
+-- was written.
+pub record IsCut (ls : List (List ℕ)) (t u : List JobParts) (old new : Option (List ℕ)) : Type 0 where
   pub front : List (List ℕ)
   pub rest : List (List ℕ)
   pub answers : List ℕ
   pub parted : ls ≡ front ++ rest
   pub within : MayBeServed front
   pub served : IsServed t front answers u
+  pub written : AppendsFront old new answers

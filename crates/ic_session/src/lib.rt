@@ -10,6 +10,7 @@ mod limits;
 mod rounds;
 mod running;
 mod serving;
+mod writing;
 
 pub use fault::ServeFault;
 pub use limits::MAX_LINES;

@@ -11,6 +11,7 @@ ghost use Rattle.ic_session.specs.Stopped.{HoldsOne, MayStand};
 use crate::answering::answer_line;
 use crate::fault::ServeFault;
 use crate::limits::MAX_LINES;
+use crate::writing::write_answer;
 use ic_desk::Book;
 use ic_disk::Disk;
 use ic_lines::{LineBuffer, LineFault};
@@ -45,7 +46,7 @@ pub fn serve_lines<T: Threads + Wait, D: Disk, R: Read, W: Write>(
         (W.contents writer.old) (W.contents writer.new))) }
     ensures cut { result ≡ Err ServeFault.Write
         → IfSome (R.remaining reader.old) (λ text. IsCut (lines text)
-        (table_of book.old) (table_of book.new)) }
+        (table_of book.old) (table_of book.new) (W.contents writer.old) (W.contents writer.new)) }
     ensures kept_at_cut { result ≡ Err ServeFault.Write
         → IsAllKept book.old → IsAllKept book.new }
 
@@ -66,7 +67,7 @@ pub fn serve_lines<T: Threads + Wait, D: Disk, R: Read, W: Write>(
             return Ok(());
         }
         let answer = answer_line(rt, alloc, book, lines.line(), workers, every)?;
-        writer.write_all(&answer).map_err(|_| ServeFault::Write)?;
+        write_answer(writer, &answer)?;
     }
     book.facts();
     match lines.take_line(reader, writer) {

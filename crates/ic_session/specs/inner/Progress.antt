@@ -7,7 +7,7 @@ use Rattle.ic_session.specs.declared.limits.TheConstants.{MAX_LINES}
 use Rattle.ic_session.specs.declared.fault.ServeFault.{ServeFault}
 use Rattle.ic_session.specs.declared.fault.ServeFault.TheVariants.{LongLine, TooManyLines}
 use Rattle.ic_session.specs.Parts.{IsInFirst}
-use Rattle.ic_session.specs.Served.{AreAnswered}
+use Rattle.ic_session.specs.Served.{AreAnswered, IsLeftBy}
 
 -- so many lines of a text were answered, and those of the rest are to come
 pub record Progress (text rest : List ℕ) (count : ℕ) (t u : List JobParts)
@@ -28,6 +28,11 @@ IsUnderWay (Some text) (Some rest) count t u old new = Progress text rest count 
 abbrev pub IsInNext : (u : List JobParts) (rest : Option (List ℕ)) (v : List JobParts) → Type 0
 IsInNext u None v = ⊤
 IsInNext u (Some rest) v = IsInFirst u (lines rest) v
+
+-- what a fault says of a table before those to come
+abbrev pub IsLeftNext : ServeFault → (u : List JobParts) (rest : Option (List ℕ)) (v : List JobParts) → Type 0
+IsLeftNext fault u None v = ⊤
+IsLeftNext fault u (Some rest) v = IsLeftBy fault u (lines rest) v
 
 -- a line is to come
 abbrev pub HasLine : Option (List ℕ) → Type 0

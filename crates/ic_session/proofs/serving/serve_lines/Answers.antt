@@ -17,7 +17,7 @@ use Rattle.ic_session.specs.inner.Progress.{Holds}
 use Rattle.ic_session.specs.inner.Line.{IsAnswered, IsBegun}
 use Rattle.ic_session.specs.inner.Moments.{Leaves, IsKeptInLine}
 use Rattle.ic_session.proofs.LineLemmas.{kept_all}
-use Rattle.ic_session.proofs.ServeLemmas.{under_first, under_more, ended_at, ended_err, cut_at, cut_behind, in_next, in_begun, kept_part, has_line, has_long_line, holds_book, holds_line, on_ok}
+use Rattle.ic_session.proofs.ServeLemmas.{under_first, under_more, ended_at, ended_err, cut_at, cut_behind, in_begun, kept_part, has_line, has_long_line, holds_book, holds_line, left_next, left_in_line}
 use Rattle.ic_session.proofs.StopLemmas.{served_first, served_line, served_now, still_all, still_last}
 use Rattle.ic_session.proofs.serving.serve_lines.Goals as goal
 
@@ -42,8 +42,13 @@ returns-in_err-take_line-clause-ended g c =
     (g.W.Write.contents c.args.writer.now) (g.W.Write.contents c.loop.writer) (g.W.Write.contents c.take_line.new.writer)
     c.loop.invariant.way c.take_line.ensures.kept
     (holds_line c.in_err-take_line.field-0.0 c.loop.counter rest (λ is. c.in_err-take_line.ensures.long (ap (λ e. Err e) is)))
-    (in_next law (table_of c.loop.book) (table_of c.loop.book) rest refl)
-    (λ all. in_next law (table_of c.loop.book) (last_kept c.loop.book) rest (last (c.loop.invariant.kept all))))
+    (left_next law (fault_of_line c.in_err-take_line.field-0.0) (table_of c.loop.book) (table_of c.loop.book) rest refl)
+    (λ all. left_next law (fault_of_line c.in_err-take_line.field-0.0) (table_of c.loop.book) (last_kept c.loop.book) rest (last (c.loop.invariant.kept all))))
+
+pub returns-in_err-take_line-clause-cut : goal.returns-in_err-take_line-clause-cut
+returns-in_err-take_line-clause-cut g c = λ is. cut_at (g.R.Read.remaining c.args.reader.now) (to_come c.loop.lines (g.R.Read.remaining c.loop.reader)) c.loop.counter
+    (table_of c.args.book.now) (table_of c.loop.book) (g.W.Write.contents c.args.writer.now) (g.W.Write.contents c.loop.writer) (g.W.Write.contents c.take_line.new.writer)
+    c.loop.invariant.way c.take_line.ensures.kept
 
 pub returns-in_err-answer-clause-ended : goal.returns-in_err-answer-clause-ended
 returns-in_err-answer-clause-ended g c =
@@ -59,13 +64,15 @@ returns-in_err-answer-clause-ended g c =
     (g.W.Write.contents c.args.writer.now) (g.W.Write.contents c.loop.writer) (g.W.Write.contents c.take_line.new.writer)
     c.loop.invariant.way c.take_line.ensures.kept
     (holds_book c.in_err-answer.field-0.0 c.loop.counter rest c.in_err-answer.ensures.sort)
-    (in_begun (table_of c.loop.book) (table_of c.answer_line.new.book) c.take_line.new.self.line rest next begun.reading takes reads begun.begun.table)
-    (λ all. in_begun (table_of c.loop.book) (last_kept c.answer_line.new.book) c.take_line.new.self.line rest next begun.reading takes reads
+    (left_in_line c.in_err-answer.field-0.0 (table_of c.loop.book) (table_of c.answer_line.new.book) rest c.in_err-answer.ensures.sort
+    (in_begun (table_of c.loop.book) (table_of c.answer_line.new.book) c.take_line.new.self.line rest next begun.reading takes reads begun.begun.table))
+    (λ all. left_in_line c.in_err-answer.field-0.0 (table_of c.loop.book) (last_kept c.answer_line.new.book) rest c.in_err-answer.ensures.sort
+    (in_begun (table_of c.loop.book) (last_kept c.answer_line.new.book) c.take_line.new.self.line rest next begun.reading takes reads
     (kept_part (table_of c.loop.book) (last_kept c.loop.book) (events (table_of c.loop.book) begun.reading) (last_kept c.answer_line.new.book)
-    (last (c.loop.invariant.kept all)) begun.begun.kept)))
+    (last (c.loop.invariant.kept all)) begun.begun.kept))))
 
-pub returns-in_err-map_err-clause-cut : goal.returns-in_err-map_err-clause-cut
-returns-in_err-map_err-clause-cut g c = λ is.
+pub returns-in_err-write_answer-clause-cut : goal.returns-in_err-write_answer-clause-cut
+returns-in_err-write_answer-clause-cut g c = λ is.
     let rest = to_come c.loop.lines (g.R.Read.remaining c.loop.reader) in
     let next = to_come c.take_line.new.self (g.R.Read.remaining c.take_line.new.reader) in
     let done = ap (λ b. Ok b) c.if-not-branch.false in
@@ -73,9 +80,11 @@ returns-in_err-map_err-clause-cut g c = λ is.
     let answered : IsAnswered c.line.result.now c.in_ok-answer.answer.items c.loop.book c.answer_line.new.book = c.in_ok-answer.ensures.answered in
     let reads : ReadsLine c.take_line.new.self.line answered.reading = rw c.line.ensures at answered.read in
     cut_behind c.lines_are_served_in_one_way.ensures.joined (g.R.Read.remaining c.args.reader.now) rest next c.loop.counter
-    (table_of c.args.book.now) (table_of c.loop.book) (table_of c.answer_line.new.book) (g.W.Write.contents c.args.writer.now) (g.W.Write.contents c.loop.writer)
+    (table_of c.args.book.now) (table_of c.loop.book) (table_of c.answer_line.new.book)
+    (g.W.Write.contents c.args.writer.now) (g.W.Write.contents c.loop.writer) (g.W.Write.contents c.take_line.new.writer) (g.W.Write.contents c.write_answer.new.writer)
     c.take_line.new.self.line c.in_ok-answer.answer.items answered.reading
-    c.loop.invariant.way takes (c.in_ok-take_line.ensures.short done) c.loop-test.true reads answered.answer answered.table
+    c.loop.invariant.way takes (c.in_ok-take_line.ensures.short done) c.loop-test.true reads answered.answer answered.table c.take_line.ensures.kept
+    (rw c.deref.ensures.value at c.in_err-write_answer.ensures.cut)
 
 pub returns-in_err-answer-clause-any_moment : goal.returns-in_err-answer-clause-any_moment
 returns-in_err-answer-clause-any_moment g c = λ is.
@@ -89,8 +98,8 @@ returns-in_err-answer-clause-any_moment g c = λ is.
     (g.W.Write.contents c.args.writer.now) (g.W.Write.contents c.loop.writer) c.take_line.new.self.line c.loop.invariant.way takes
     c.loop.invariant.kept c.loop.invariant.last last c.loop.invariant.moments step) is
 
-pub returns-in_err-map_err-clause-any_moment : goal.returns-in_err-map_err-clause-any_moment
-returns-in_err-map_err-clause-any_moment g c = λ is.
+pub returns-in_err-write_answer-clause-any_moment : goal.returns-in_err-write_answer-clause-any_moment
+returns-in_err-write_answer-clause-any_moment g c = λ is.
     let rest = to_come c.loop.lines (g.R.Read.remaining c.loop.reader) in
     let next = to_come c.take_line.new.self (g.R.Read.remaining c.take_line.new.reader) in
     let takes : TakesLine c.take_line.new.self.line rest next = c.in_ok-take_line.ensures.taken (ap (λ b. Ok b) c.if-not-branch.false) in
@@ -124,16 +133,15 @@ loop-preserved g c =
     let takes : TakesLine c.take_line.new.self.line rest next = c.in_ok-take_line.ensures.taken done in
     let answered : IsAnswered c.line.result.now c.in_ok-answer.answer.items c.loop.book c.answer_line.new.book = c.in_ok-answer.ensures.answered in
     let reads : ReadsLine c.take_line.new.self.line answered.reading = rw c.line.ensures at answered.read in
-    let ok : is_ok c.write_all.result ≡ true = sym c.in_ok-map_err.ensures.variant in
-    let sent = on_ok c.write_all.result _ c.write_all.ensures.bytes ok in
-    let written : Appends (g.W.Write.contents c.take_line.new.writer) (g.W.Write.contents c.write_all.new.self) c.in_ok-answer.answer.items = rw c.deref.ensures.value at sent in
+    let written : Appends (g.W.Write.contents c.take_line.new.writer) (g.W.Write.contents c.write_answer.new.writer) c.in_ok-answer.answer.items =
+    rw c.deref.ensures.value at c.in_ok-write_answer.ensures.written in
     let last = kept_all (start_of c.loop.book) (table_of c.loop.book) (log_of c.loop.book) (kept_of c.loop.book) c.facts-in-loop.ensures.history.replayed in
     let step : Leaves c.loop.book c.answer_line.new.book (IsKeptInLine (table_of c.loop.book) (last_kept c.loop.book) c.take_line.new.self.line) =
     rw c.line.ensures at c.answer_line.ensures.any_moment in
     record {
       way = under_more c.lines_are_served_in_one_way.ensures.joined (g.R.Read.remaining c.args.reader.now) rest next c.loop.counter
           (table_of c.args.book.now) (table_of c.loop.book) (table_of c.answer_line.new.book)
-          (g.W.Write.contents c.args.writer.now) (g.W.Write.contents c.loop.writer) (g.W.Write.contents c.take_line.new.writer) (g.W.Write.contents c.write_all.new.self)
+          (g.W.Write.contents c.args.writer.now) (g.W.Write.contents c.loop.writer) (g.W.Write.contents c.take_line.new.writer) (g.W.Write.contents c.write_answer.new.writer)
           c.take_line.new.self.line c.in_ok-answer.answer.items answered.reading
           c.loop.invariant.way takes (c.in_ok-take_line.ensures.short done) c.loop-test.true reads answered.answer answered.table c.take_line.ensures.kept written;
       kept = λ all. still_all c.loop.book c.answer_line.new.book answered.kept (c.loop.invariant.kept all);
@@ -157,8 +165,8 @@ returns-in-Ok-true-clause-ended g c = λ other.
     (g.W.Write.contents c.args.writer.now) (g.W.Write.contents c.loop.writer) (g.W.Write.contents c.take_line-2.new.writer)
     c.loop.invariant.way c.take_line-2.ensures.kept
     (full, has_line c.take_line-2.new.self.line rest next takes)
-    (in_next law (table_of c.loop.book) (table_of c.loop.book) rest refl)
-    (λ all. in_next law (table_of c.loop.book) (last_kept c.loop.book) rest (last (c.loop.invariant.kept all)))
+    (left_next law TooManyLines (table_of c.loop.book) (table_of c.loop.book) rest refl)
+    (λ all. left_next law TooManyLines (table_of c.loop.book) (last_kept c.loop.book) rest (last (c.loop.invariant.kept all)))
 
 pub returns-in-Err-LongLine-clause-ended : goal.returns-in-Err-LongLine-clause-ended
 returns-in-Err-LongLine-clause-ended g c = λ other.
@@ -172,8 +180,8 @@ returns-in-Err-LongLine-clause-ended g c = λ other.
     (g.W.Write.contents c.args.writer.now) (g.W.Write.contents c.loop.writer) (g.W.Write.contents c.take_line-2.new.writer)
     c.loop.invariant.way c.take_line-2.ensures.kept
     (full, has_long_line rest (c.take_line-2.ensures.long got))
-    (in_next law (table_of c.loop.book) (table_of c.loop.book) rest refl)
-    (λ all. in_next law (table_of c.loop.book) (last_kept c.loop.book) rest (last (c.loop.invariant.kept all)))
+    (left_next law TooManyLines (table_of c.loop.book) (table_of c.loop.book) rest refl)
+    (λ all. left_next law TooManyLines (table_of c.loop.book) (last_kept c.loop.book) rest (last (c.loop.invariant.kept all)))
 
 pub returns : goal.returns
 returns g c =
@@ -190,10 +198,10 @@ returns g c =
           (g.W.Write.contents c.args.writer.now) (g.W.Write.contents c.loop.writer) (g.W.Write.contents c.take_line-2.new.writer)
           c.loop.invariant.way c.take_line-2.ensures.kept
           holds
-          (in_next law (table_of c.loop.book) (table_of c.loop.book) rest refl)
-          (λ all. in_next law (table_of c.loop.book) (last_kept c.loop.book) rest (last (c.loop.invariant.kept all)));
+          (left_next law c.into.result (table_of c.loop.book) (table_of c.loop.book) rest refl)
+          (λ all. left_next law c.into.result (table_of c.loop.book) (last_kept c.loop.book) rest (last (c.loop.invariant.kept all)));
       cut = λ is. cut_at (g.R.Read.remaining c.args.reader.now) rest c.loop.counter (table_of c.args.book.now) (table_of c.loop.book)
-          (g.W.Write.contents c.args.writer.now) (g.W.Write.contents c.loop.writer) c.loop.invariant.way;
+          (g.W.Write.contents c.args.writer.now) (g.W.Write.contents c.loop.writer) (g.W.Write.contents c.take_line-2.new.writer) c.loop.invariant.way c.take_line-2.ensures.kept;
       kept_at_cut = λ is. c.loop.invariant.kept;
       any_moment = λ is. served_now (g.R.Read.remaining c.args.reader.now) c.args.book.now c.loop.book c.loop.invariant.moments is;
     }
