@@ -1,6 +1,6 @@
 -- What a crash in the midst of a call leaves, call by call.
-use Rattle.std.proofs.Common.{◌≡◌, ◌≢◌, ◌⊎◌, inl, inr, ⊎_elim, ℕ, ◌+◌, ◌<◌, ◌≤◌, List, [], ◌∷◌, ◌++◌, Option, None, Some, true, length, refl, sym, ap, subst, ◌∙◌, arith, append-nil}
-use Rattle.std.specs.Prelude.{IfSome, IsTrue}
+use Rattle.std.proofs.Common.{◌≡◌, ◌≢◌, ◌⊎◌, inl, inr, ⊎_elim, ℕ, ◌+◌, ◌<◌, ◌≤◌, List, [], ◌∷◌, ◌++◌, Option, None, Some, true, length, refl, sym, ap, subst, ◌∙◌, arith, append-nil, append_assoc}
+use Rattle.std.specs.Prelude.{IsTrue}
 use Rattle.std.proofs.lemmas.Bool.{cases_lt}
 use Rattle.ic_disk.specs.declared.disk.Disk.{Ghosts}
 use Rattle.ic_disk.specs.Images.{Within}
@@ -29,10 +29,12 @@ use Rattle.ic_session.specs.Booked.{last_kept, IsAllKept, IsOnMadeDisk, StaysPut
 use Rattle.ic_session.specs.Parts.{IsPart, IsKeptWithin, IsInLine, IsInFirst}
 use Rattle.ic_session.specs.Stopped.{HoldsOne, IsReached, MayStand}
 use Rattle.ic_session.specs.inner.Moments.{Leaves, IsKeptOrNow, IsKeptInLine}
-use Rattle.ic_session.specs.inner.Progress.{IsUnderWay}
+use Rattle.ic_session.specs.Served.{OfLines, MayBeServed}
+use Rattle.ic_lines.specs.Serving.{IsServed}
+use Rattle.ic_session.specs.inner.Progress.{AreFirst, IsUnderWay}
 use Rattle.ic_session.proofs.LineLemmas.{kept_behind}
 use Rattle.ic_session.proofs.RunLemmas.{InRun, run_begun}
-use Rattle.ic_session.proofs.ServeLemmas.{SomeWay, in_first}
+use Rattle.ic_session.proofs.ServeLemmas.{SomeWay, in_line, in_first, served_none, ahead, is_ahead, of_lines}
 
 -- ---- which tables
 
@@ -75,15 +77,38 @@ reached_now law t ls = record {
   answers = [];
   between = t;
   parted = refl;
-  served = record { readings = []; read = tt; answered = refl; leaves = refl };
+  within = record { few = omega arith; short = tt };
+  served = served_none t;
   in_line = in_first law t ls;
 }
+
+-- more lines come
+longer : SomeWay → (between u : List JobParts) (rest more : List (List ℕ)) → IsInFirst between rest u → IsInFirst between (rest ++ more) u
+longer law between u [] more here = subst (IsInFirst between more) (sym here) (in_first law between more)
+longer law between u (line ∷ rest) more here = here
+
+reached_longer : SomeWay → (t : List JobParts) (ls more : List (List ℕ)) (u : List JobParts) → IsReached t ls u → IsReached t (ls ++ more) u
+reached_longer law t ls more u r = record {
+  front = r.front;
+  rest = r.rest ++ more;
+  answers = r.answers;
+  between = r.between;
+  parted = ap (λ xs. xs ++ more) r.parted ∙ append_assoc r.front r.rest more;
+  within = r.within;
+  served = r.served;
+  in_line = longer law r.between u r.rest more r.in_line;
+}
+
+may_longer : SomeWay → (all : Type 0) (kept t : List JobParts) (ls more : List (List ℕ)) (u : List JobParts) → MayStand all kept t ls u → MayStand all kept t (ls ++ more) u
+may_longer law all kept t ls more u (inl r) = inl (reached_longer law t ls more u r)
+may_longer law all kept t ls more u (inr put) = inr put
 
 -- ---- calls
 
 module _ {D : Type 0} {ghosts : Ghosts D} where
   pub leaves_more : (old new : Book D ghosts) (P Q : List JobParts → Type 0) → Leaves old new P → ((u : List JobParts) → P u → Q u) → Leaves old new Q
   leaves_more old new P Q run weaker = record {
+    keeps = run.keeps;
     stays = run.stays;
     any_moment = λ is. leaves_weaker ghosts.clock ghosts.left (disk_of old) (disk_of new) (HoldsOne P) (HoldsOne Q) (run.any_moment is)
         (λ file holds. (holds.0, weaker holds.0 holds.1, holds.2));
@@ -93,6 +118,7 @@ module _ {D : Type 0} {ghosts : Ghosts D} where
   pub leaves_then : (old mid new : Book D ghosts) (P Q : List JobParts → Type 0) → Leaves old mid P → Leaves mid new Q
       → ((u : List JobParts) → Q u → P u) → Leaves old new P
   leaves_then old mid new P Q first second weaker = record {
+    keeps = second.keeps ∙ first.keeps;
     stays = λ is. second.stays (first.stays is);
     any_moment = λ is. then_runs ghosts.clock ghosts.left (disk_of old) (disk_of mid) (disk_of new) (HoldsOne P) (HoldsOne Q)
         (first.any_moment is) (second.any_moment (first.stays is))
@@ -105,6 +131,7 @@ module _ {D : Type 0} {ghosts : Ghosts D} where
   leaves_still old mid new P run keeper made =
       let disk : disk_of new ≡ disk_of mid = ap (λ (k : Keeper D ghosts). keeper_parts.disk_of k) keeper in
       record {
+        keeps = ap ghosts.keeps disk ∙ run.keeps;
         stays = λ is. (ap ghosts.keeps disk ∙ (run.stays is).0, made ∙ (run.stays is).1);
         any_moment = λ is. subst (λ (d : D). LeavesOnly ghosts.clock ghosts.left (disk_of old) d (HoldsOne P)) (sym disk) (run.any_moment is);
       }
@@ -115,6 +142,7 @@ module _ {D : Type 0} {ghosts : Ghosts D} where
       → (IsTrue (ghosts.keeps (disk_of old)) → is_made old ≡ true → LeavesOnly ghosts.clock ghosts.left (disk_of old) (disk_of new) (HoldsEitherTable a b))
       → P a → P b → Leaves old new P
   leaves_call old new a b P keeps made run first second = record {
+    keeps = keeps;
     stays = λ is. (keeps ∙ is.0, made is.1);
     any_moment = λ is. leaves_weaker ghosts.clock ghosts.left (disk_of old) (disk_of new) (HoldsEitherTable a b) (HoldsOne P) (run is.0 is.1)
         (λ file holds. ⊎_elim (λ (h : HoldsTable a file). (a, first, h)) (λ (h : HoldsTable b file). (b, second, h)) holds);
@@ -128,6 +156,7 @@ module _ {D : Type 0} {ghosts : Ghosts D} where
   leaves_nothing book P law either replayed kept now =
       let all : P (replay (start_of book) (log_of book)) = subst P (sym replayed) now in
       record {
+        keeps = refl;
         stays = λ is. is;
         any_moment = λ is. started ghosts.clock ghosts.left (disk_of book) (HoldsOne P) (λ file left. ⊎_elim
             (λ (h : HoldsTable (last_kept book) file). (last_kept book, kept, h))
@@ -168,26 +197,32 @@ module _ {D : Type 0} {ghosts : Ghosts D} where
 
   -- ---- lines
 
-  -- where the bytes of a reader are known, a crash since the serving began leaves what the lines reach
-  abbrev pub LeavesServed : Option (List ℕ) → (first new : Book D ghosts) → Type 0
-  LeavesServed text first new = IfSome text (λ x. Leaves first new (MayStand (IsAllKept first) (last_kept first) (table_of first) (lines x)))
+  -- a crash since the first book leaves what these lines reach
+  abbrev pub LeavesServed : (first new : Book D ghosts) → List (List ℕ) → Type 0
+  LeavesServed first new ls = Leaves first new (MayStand (IsAllKept first) (last_kept first) (table_of first) ls)
 
-  pub served_first : SomeWay → (text : Option (List ℕ)) (book : Book D ghosts)
+  -- so many lines were served, and what a crash leaves since the first book
+  pub record Serves (text rest : Option (List ℕ)) (count : ℕ) (first book : Book D ghosts) (old new : Option (List ℕ)) : Type 0 where
+    pub way : IsUnderWay text rest count (table_of first) (table_of book) old new
+    pub kept : IsAllKept first → IsAllKept book
+    pub last : IsAllKept book ⊎ (last_kept book ≡ last_kept first)
+    pub moments : LeavesServed first book way.front
+
+  pub stops_first : SomeWay → (book : Book D ghosts)
       → ((file : List ℕ) → ghosts.left (disk_of book) (ghosts.clock (disk_of book)) file → ghosts.image (disk_of book) file)
       → (IsTrue (ghosts.keeps (disk_of book)) → is_made book ≡ true → Within (ghosts.image (disk_of book)) (HoldsKeptOrAll (start_of book) (log_of book) (kept_of book)))
-      → replay (start_of book) (log_of book) ≡ table_of book → (IsAllKept book → last_kept book ≡ table_of book) → LeavesServed text book book
-  served_first law None book images either replayed whole = tt
-  served_first law (Some x) book images either replayed whole = leaves_nothing book (MayStand (IsAllKept book) (last_kept book) (table_of book) (lines x)) images either replayed
-      (⊎_elim (λ all. inl (subst (IsReached (table_of book) (lines x)) (sym (whole all)) (reached_now law (table_of book) (lines x)))) (λ less. inr (less, refl))
+      → replay (start_of book) (log_of book) ≡ table_of book → (IsAllKept book → last_kept book ≡ table_of book) → LeavesServed book book []
+  stops_first law book images either replayed whole = leaves_nothing book (MayStand (IsAllKept book) (last_kept book) (table_of book) []) images either replayed
+      (⊎_elim (λ all. inl (subst (IsReached (table_of book) []) (sym (whole all)) (reached_now law (table_of book) []))) (λ less. inr (less, refl))
       (all_or_not (kept_of book) (length (log_of book))))
-      (inl (reached_now law (table_of book) (lines x)))
+      (inl (reached_now law (table_of book) []))
 
   -- a table within the next line
-  pub may_stand : SomeWay → (first book : Book D ghosts) (text rest : List ℕ) (n : ℕ) (old mid : Option (List ℕ)) (line : List ℕ) (more : List (List ℕ))
-      → IsUnderWay (Some text) (Some rest) n (table_of first) (table_of book) old mid → lines rest ≡ line ∷ more
+  may_stand : SomeWay → (first book : Book D ghosts) (front : List (List ℕ)) (line answers : List ℕ)
+      → MayBeServed front → IsServed (table_of first) front answers (table_of book)
       → (IsAllKept first → IsAllKept book) → IsAllKept book ⊎ (last_kept book ≡ last_kept first) → (IsAllKept book → last_kept book ≡ table_of book)
-      → (u : List JobParts) → IsKeptInLine (table_of book) (last_kept book) line u → MayStand (IsAllKept first) (last_kept first) (table_of first) (lines text) u
-  may_stand law first book text rest n old mid line more way takes stays last whole u is = ⊎_elim
+      → (u : List JobParts) → IsKeptInLine (table_of book) (last_kept book) line u → MayStand (IsAllKept first) (last_kept first) (table_of first) (front ++ line ∷ []) u
+  may_stand law first book front line answers within served stays last whole u is = ⊎_elim
       (λ (same : u ≡ last_kept book). ⊎_elim
       (λ (all : IsAllKept book). inl (at_table (same ∙ whole all)))
       (λ (put : last_kept book ≡ last_kept first). ⊎_elim
@@ -195,38 +230,41 @@ module _ {D : Type 0} {ghosts : Ghosts D} where
       (λ less. inr (less, same ∙ put))
       (all_or_not (kept_of first) (length (log_of first))))
       last)
-      (λ (there : IsInLine (table_of book) line u). inl (reached u (rw takes there)))
+      (λ (there : IsInLine (table_of book) line u). inl (reached u there))
       is
     where
-      reached : (v : List JobParts) → IsInFirst (table_of book) (lines rest) v → IsReached (table_of first) (lines text) v
+      reached : (v : List JobParts) → IsInLine (table_of book) line v → IsReached (table_of first) (front ++ line ∷ []) v
       reached v here = record {
-        front = way.front;
-        rest = lines rest;
-        answers = way.answered.answers;
+        front = front;
+        rest = line ∷ [];
+        answers = answers;
         between = table_of book;
-        parted = way.parted;
-        served = way.answered.served;
+        parted = refl;
+        within = within;
+        served = served;
         in_line = here;
       }
 
-      at_table : u ≡ table_of book → IsReached (table_of first) (lines text) u
-      at_table same = subst (IsReached (table_of first) (lines text)) (sym same) (reached (table_of book) (in_first law (table_of book) (lines rest)))
+      at_table : u ≡ table_of book → IsReached (table_of first) (front ++ line ∷ []) u
+      at_table same = subst (IsReached (table_of first) (front ++ line ∷ [])) (sym same) (reached (table_of book) (in_line law (table_of book) line))
 
-  pub served_line : SomeWay → (first book new : Book D ghosts) (text rest next : Option (List ℕ)) (n : ℕ) (old mid : Option (List ℕ)) (line : List ℕ)
-      → IsUnderWay text rest n (table_of first) (table_of book) old mid → TakesLine line rest next
-      → (IsAllKept first → IsAllKept book) → IsAllKept book ⊎ (last_kept book ≡ last_kept first) → (IsAllKept book → last_kept book ≡ table_of book)
-      → LeavesServed text first book → Leaves book new (IsKeptInLine (table_of book) (last_kept book) line) → LeavesServed text first new
-  served_line law first book new None rest next n old mid line way takes stays last whole so_far step = tt
-  served_line law first book new (Some text) None next n old mid line way takes stays last whole so_far step = absurd way
-  served_line law first book new (Some text) (Some rest) None n old mid line way takes stays last whole so_far step = absurd takes
-  served_line law first book new (Some text) (Some rest) (Some next) n old mid line way takes stays last whole so_far step =
-      leaves_then first book new (MayStand (IsAllKept first) (last_kept first) (table_of first) (lines text)) (IsKeptInLine (table_of book) (last_kept book) line)
-      so_far step (may_stand law first book text rest n old mid line (lines next) way takes stays last whole)
+  pub stops_more : SomeWay → (text rest : Option (List ℕ)) (n : ℕ) (first book new : Book D ghosts) (old mid : Option (List ℕ)) (line : List ℕ)
+      → (s : Serves text rest n first book old mid) → (IsAllKept book → last_kept book ≡ table_of book)
+      → Leaves book new (IsKeptInLine (table_of book) (last_kept book) line) → LeavesServed first new (s.way.front ++ line ∷ [])
+  stops_more law text rest n first book new old mid line s whole step =
+      leaves_then first book new (MayStand (IsAllKept first) (last_kept first) (table_of first) (s.way.front ++ line ∷ [])) (IsKeptInLine (table_of book) (last_kept book) line)
+      (leaves_more first book (MayStand (IsAllKept first) (last_kept first) (table_of first) s.way.front) (MayStand (IsAllKept first) (last_kept first) (table_of first) (s.way.front ++ line ∷ [])) s.moments
+      (may_longer law (IsAllKept first) (last_kept first) (table_of first) s.way.front (line ∷ [])))
+      step
+      (may_stand law first book s.way.front line s.way.answered.answers s.way.answered.within s.way.answered.served s.kept s.last whole)
 
-  pub served_now : (text : Option (List ℕ)) (first new : Book D ghosts) → LeavesServed text first new → IsOnMadeDisk first
-      → IfSome text (λ x. LeavesOnly ghosts.clock ghosts.left (disk_of first) (disk_of new) (HoldsOne (MayStand (IsAllKept first) (last_kept first) (table_of first) (lines x))))
-  served_now None first new run is = tt
-  served_now (Some x) first new run is = run.any_moment is
+  pub stops_now : SomeWay → (text rest : Option (List ℕ)) (front : List (List ℕ)) (first new : Book D ghosts) → AreFirst text front rest → LeavesServed first new front → IsOnMadeDisk first
+      → OfLines text (λ ls. LeavesOnly ghosts.clock ghosts.left (disk_of first) (disk_of new) (HoldsOne (MayStand (IsAllKept first) (last_kept first) (table_of first) ls)))
+  stops_now law text rest front first new is_first run is =
+      of_lines text rest front (ahead rest) (λ ls. LeavesOnly ghosts.clock ghosts.left (disk_of first) (disk_of new) (HoldsOne (MayStand (IsAllKept first) (last_kept first) (table_of first) ls)))
+      is_first (is_ahead rest)
+      ((leaves_more first new (MayStand (IsAllKept first) (last_kept first) (table_of first) front) (MayStand (IsAllKept first) (last_kept first) (table_of first) (front ++ ahead rest)) run
+      (may_longer law (IsAllKept first) (last_kept first) (table_of first) front (ahead rest))).any_moment is)
 
   -- what a line leaves keeps
   pub still_all : (old new : Book D ghosts) → IsAllKept new ⊎ IsUnchanged old new → IsAllKept old → IsAllKept new

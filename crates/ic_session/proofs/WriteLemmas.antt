@@ -44,18 +44,18 @@ sent_kept answer rest old mid new s kept = record { sent = s.sent; parted = s.pa
 pub sent_all : (answer : List ℕ) (old now : Option (List ℕ)) → IsSent answer [] old now → Appends old now answer
 sent_all answer old now s = subst (Appends old now) (sym (s.parted ∙ append-nil s.sent)) s.written
 
-pub sent_front : (answer rest : List ℕ) (old now : Option (List ℕ)) → IsSent answer rest old now → AppendsFront old now answer
+pub sent_front : (answer rest : List ℕ) (old now : Option (List ℕ)) → IsSent answer rest old now → AppendsFront old now [] answer
 sent_front answer rest old now s = record { sent = s.sent; unsent = rest; parted = s.parted; written = s.written }
 
--- all of these bytes
-pub front_all : (old now : Option (List ℕ)) (bytes : List ℕ) → Appends old now bytes → AppendsFront old now bytes
-front_all old now bytes written = record { sent = bytes; unsent = []; parted = sym (append-nil bytes); written = written }
+-- these bytes, and none behind them
+pub front_none : (old now : Option (List ℕ)) (bytes : List ℕ) → Appends old now bytes → AppendsFront old now bytes []
+front_none old now bytes written = record { sent = []; unsent = []; parted = refl; written = subst (Appends old now) (sym (append-nil bytes)) written }
 
 -- behind bytes that were written
-pub front_behind : (old mid seen new : Option (List ℕ)) (a b : List ℕ) → Appends old mid a → Keeps mid seen → AppendsFront seen new b → AppendsFront old new (a ++ b)
+pub front_behind : (old mid seen new : Option (List ℕ)) (a b : List ℕ) → Appends old mid a → Keeps mid seen → AppendsFront seen new [] b → AppendsFront old new a b
 front_behind old mid seen new a b written kept front = record {
-  sent = a ++ front.sent;
+  sent = front.sent;
   unsent = front.unsent;
-  parted = ap (λ xs. a ++ xs) front.parted ∙ sym (append_assoc a front.sent front.unsent);
+  parted = front.parted;
   written = appends_more old seen new a front.sent (appends_kept old mid seen a written kept) front.written;
 }

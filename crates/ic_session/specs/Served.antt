@@ -1,14 +1,20 @@
 -- To be believed: what a serving leaves, by its answer.
-use Rattle.std.specs.Prelude.{◌≡◌, ℕ, ◌<◌, ◌≤◌, List, [], ◌∷◌, ◌++◌, Option, length}
+use Rattle.std.specs.Prelude.{◌≡◌, ℕ, ◌<◌, ◌≤◌, List, [], ◌∷◌, ◌++◌, Option, None, Some, length}
 use Rattle.std.specs.List.{AllByRecursion}
 use Rattle.std.specs.Io.KnownBytes.{Appends}
 use Rattle.ic_jobs.specs.Job.{JobParts}
 use Rattle.ic_text.specs.declared.limits.TheConstants.{MAX_TEXT}
+use Rattle.ic_lines.specs.Lines.{lines}
 use Rattle.ic_lines.specs.Serving.{IsServed}
 use Rattle.ic_session.specs.declared.limits.TheConstants.{MAX_LINES}
 use Rattle.ic_session.specs.declared.fault.ServeFault.{ServeFault}
 use Rattle.ic_session.specs.declared.fault.ServeFault.TheVariants.{Read, LongLine, TooManyLines}
 use Rattle.ic_session.specs.Parts.{IsInFirst}
+
+-- this is so of the lines of a reader's bytes, or where it doesn't tell them, of some lines
+abbrev pub OfLines : (bytes : Option (List ℕ)) (what : List (List ℕ) → Type 0) → Type 0
+OfLines None what = (ls : List (List ℕ)) × what ls
+OfLines (Some text) what = what (lines text)
 
 -- lines that may be served: no more than there may be, and none too long
 pub record MayBeServed (ls : List (List ℕ)) : Type 0 where
@@ -26,7 +32,7 @@ pub record AreAnswered (ls : List (List ℕ)) (t u : List JobParts)
 -- what a fault says of the lines that were answered and of those that weren't
 abbrev pub SaysOf : ServeFault → List (List ℕ) → List (List ℕ) → Type 0
 SaysOf LongLine front [] = ⊥
-SaysOf LongLine front (line ∷ rest) = MAX_TEXT < length line
+SaysOf LongLine front (line ∷ rest) = (length front < MAX_LINES) × (MAX_TEXT < length line)
 SaysOf TooManyLines front [] = ⊥
 SaysOf TooManyLines front (line ∷ rest) = length front ≡ MAX_LINES
 SaysOf _ front rest = Unit {0}
@@ -52,20 +58,25 @@ pub record IsEnded (fault : ServeFault) (all_kept : Type 0) (ls : List (List ℕ
   pub in_line : IsLeftBy fault between rest u
   pub keeps : all_kept → IsLeftBy fault between rest kept
 
--- a front of these bytes was written
-pub record AppendsFront (old new : Option (List ℕ)) (bytes : List ℕ) : Type 0 where
+-- these bytes were written, and behind them a front of these
+pub record AppendsFront (old new : Option (List ℕ)) (before behind : List ℕ) : Type 0 where
   pub sent : List ℕ
   pub unsent : List ℕ
-  pub parted : bytes ≡ sent ++ unsent
-  pub written : Appends old new sent
+  pub parted : behind ≡ sent ++ unsent
+  pub written : Appends old new (before ++ sent)
 
--- The writer failed: the table is that after a front of the lines, and a front of what answers them
--- was written.
+-- The writer failed: a front of the lines is answered, and behind them stands at most one line that
+-- is done, of whose answer a front is written.
 pub record IsCut (ls : List (List ℕ)) (t u : List JobParts) (old new : Option (List ℕ)) : Type 0 where
   pub front : List (List ℕ)
+  pub last : List (List ℕ)
   pub rest : List (List ℕ)
+  pub between : List JobParts
   pub answers : List ℕ
-  pub parted : ls ≡ front ++ rest
-  pub within : MayBeServed front
-  pub served : IsServed t front answers u
-  pub written : AppendsFront old new answers
+  pub more : List ℕ
+  pub parted : ls ≡ front ++ last ++ rest
+  pub one : length last ≤ 1
+  pub within : MayBeServed (front ++ last)
+  pub answered : IsServed t front answers between
+  pub done : IsServed between last more u
+  pub written : AppendsFront old new answers more

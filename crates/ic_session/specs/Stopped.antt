@@ -4,6 +4,7 @@ use Rattle.ic_jobs.specs.Job.{JobParts}
 use Rattle.ic_slots.specs.Held.{HoldsTable}
 use Rattle.ic_lines.specs.Serving.{IsServed}
 use Rattle.ic_session.specs.Parts.{IsInFirst}
+use Rattle.ic_session.specs.Served.{MayBeServed}
 
 -- a made file that holds one of these tables
 abbrev pub HoldsOne : (List JobParts → Type 0) → List ℕ → Type 0
@@ -17,6 +18,7 @@ pub record IsReached (t : List JobParts) (ls : List (List ℕ)) (u : List JobPar
   pub answers : List ℕ
   pub between : List JobParts
   pub parted : ls ≡ front ++ rest
+  pub within : MayBeServed front
   pub served : IsServed t front answers between
   pub in_line : IsInFirst between rest u
 

@@ -1,11 +1,12 @@
 //! Serving all lines of a reader over a book.
 
-ghost use Rattle.std.specs.Prelude.{◌≡◌, ◌≢◌, ◌≤◌, Err, IfSome, IfErr, OnOk};
+ghost use Rattle.std.specs.Prelude.{◌≡◌, ◌≢◌, ◌≤◌, Err, IfErr, OnOk};
 ghost use Rattle.ic_disk.specs.Time.{LeavesOnly};
 ghost use Rattle.ic_desk.specs.Book.{table_of, disk_of};
-ghost use Rattle.ic_lines.specs.Lines.{lines};
+ghost use Rattle.ic_lines.specs.declared.buffer.LineFault.TheVariants.{LongLine};
+ghost use Rattle.ic_session.specs.Faults.{fault_of_line};
 ghost use Rattle.ic_session.specs.Booked.{last_kept, IsAllKept, IsOnMadeDisk};
-ghost use Rattle.ic_session.specs.Served.{AreAnswered, IsEnded, IsCut};
+ghost use Rattle.ic_session.specs.Served.{OfLines, AreAnswered, IsEnded, IsCut};
 ghost use Rattle.ic_session.specs.Stopped.{HoldsOne, MayStand};
 
 use crate::answering::answer_line;
@@ -37,25 +38,26 @@ pub fn serve_lines<T: Threads + Wait, D: Disk, R: Read, W: Write>(
 ) -> Result<(), ServeFault>
     requires workers { 1 ≤ workers }
     requires every { 1 ≤ every }
-    ensures served { OnOk result (IfSome (R.remaining reader.old) (λ text. AreAnswered (lines text)
+    ensures served { OnOk result (OfLines (R.remaining reader.old) (λ ls. AreAnswered ls
         (table_of book.old) (table_of book.new) (W.contents writer.old) (W.contents writer.new))) }
     ensures kept { OnOk result (IsAllKept book.old → IsAllKept book.new) }
     ensures ended { IfErr result (λ fault. fault ≢ ServeFault.Write
-        → IfSome (R.remaining reader.old) (λ text. IsEnded fault (IsAllKept book.old) (lines text)
+        → OfLines (R.remaining reader.old) (λ ls. IsEnded fault (IsAllKept book.old) ls
         (table_of book.old) (table_of book.new) (last_kept book.new)
         (W.contents writer.old) (W.contents writer.new))) }
     ensures cut { result ≡ Err ServeFault.Write
-        → IfSome (R.remaining reader.old) (λ text. IsCut (lines text)
-        (table_of book.old) (table_of book.new) (W.contents writer.old) (W.contents writer.new)) }
+        → OfLines (R.remaining reader.old) (λ ls. IsCut ls (table_of book.old) (table_of book.new)
+        (W.contents writer.old) (W.contents writer.new)) }
     ensures kept_at_cut { result ≡ Err ServeFault.Write
         → IsAllKept book.old → IsAllKept book.new }
 
     // A crash at any moment leaves a table that the lines reach, or where not all was kept before,
     // the one that was.
-    ensures any_moment { IsOnMadeDisk book.old → IfSome (R.remaining reader.old) (λ text.
-        LeavesOnly D.clock D.left (disk_of book.old) (disk_of book.new)
-        (HoldsOne (MayStand (IsAllKept book.old) (last_kept book.old)
-        (table_of book.old) (lines text)))) }
+    ensures any_moment { IsOnMadeDisk book.old → OfLines (R.remaining reader.old) (λ ls.
+        LeavesOnly D.clock D.left (disk_of book.old) (disk_of book.new) (HoldsOne
+        (MayStand (IsAllKept book.old) (last_kept book.old) (table_of book.old) ls))) }
+    ensures keeps { D.keeps (disk_of book.new) ≡ D.keeps (disk_of book.old) }
+    ensures made { IsOnMadeDisk book.old → IsOnMadeDisk book.new }
 {
     ic_commands::laws::one_line_reading();
     ic_lines::laws::lines_are_served_in_one_way();
@@ -73,7 +75,18 @@ pub fn serve_lines<T: Threads + Wait, D: Disk, R: Read, W: Write>(
     match lines.take_line(reader, writer) {
         Ok(false) => Ok(()),
         Ok(true) => Err(ServeFault::TooManyLines),
-        Err(LineFault::LongLine) => Err(ServeFault::TooManyLines),
-        Err(fault) => Err(fault.into()),
+        Err(fault) => Err(behind_the_last(fault)),
+    }
+}
+
+/// Why no line is taken behind the last one that may be served: one that is too long is one too
+/// many.
+fn behind_the_last(fault: LineFault) -> ServeFault
+    ensures long { fault ≡ LongLine → result ≡ ServeFault.TooManyLines }
+    ensures others { fault ≢ LongLine → result ≡ fault_of_line fault }
+{
+    match fault {
+        LineFault::LongLine => ServeFault::TooManyLines,
+        fault => fault.into(),
     }
 }

@@ -1,6 +1,6 @@
 //! Writing what answers a line.
 
-ghost use Rattle.std.specs.Prelude.{◌≡◌, OnOk, OnErr, IfErr};
+ghost use Rattle.std.specs.Prelude.{◌≡◌, [], OnOk, OnErr, IfErr};
 ghost use Rattle.std.specs.Io.KnownBytes.{Appends};
 ghost use Rattle.ic_session.specs.Served.{AppendsFront};
 
@@ -12,7 +12,7 @@ pub(crate) fn write_answer<W: Write>(writer: &mut W, answer: &[u8]) -> Result<()
     ensures written { OnOk result
         (Appends (W.contents writer.old) (W.contents writer.new) answer.now) }
     ensures cut { OnErr result
-        (AppendsFront (W.contents writer.old) (W.contents writer.new) answer.now) }
+        (AppendsFront (W.contents writer.old) (W.contents writer.new) [] answer.now) }
     ensures fault { IfErr result (λ fault. fault ≡ ServeFault.Write) }
 {
     let mut rest = answer;

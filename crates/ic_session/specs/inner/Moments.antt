@@ -9,9 +9,11 @@ use Rattle.ic_session.specs.Booked.{last_kept, IsOnMadeDisk}
 use Rattle.ic_session.specs.Parts.{IsInLine}
 use Rattle.ic_session.specs.Stopped.{HoldsOne}
 
--- a made disk stays made, and a crash at any moment leaves one of these tables
+-- the disk keeps the model where it did, a made one stays made, and a crash at any moment leaves one
+-- of these tables
 pub record Leaves {D : Type 0} {ghosts : Ghosts D} (old new : Book D ghosts)
     (tables : List JobParts → Type 0) : Type 0 where
+  pub keeps : ghosts.keeps (disk_of new) ≡ ghosts.keeps (disk_of old)
   pub stays : IsOnMadeDisk old → IsOnMadeDisk new
   pub any_moment : IsOnMadeDisk old
       → LeavesOnly ghosts.clock ghosts.left (disk_of old) (disk_of new) (HoldsOne tables)
