@@ -1,3 +1,4 @@
+pub mod PartLemmas
 pub mod RunLemmas
 pub mod LineLemmas
 pub mod WriteLemmas

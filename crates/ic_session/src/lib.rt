@@ -6,6 +6,7 @@
 
 mod answering;
 mod fault;
+pub mod laws;
 mod limits;
 mod rounds;
 mod running;

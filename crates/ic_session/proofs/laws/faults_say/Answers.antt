@@ -1,0 +1,8 @@
+use Rattle.ic_session.proofs.PartLemmas.{says_long, says_many}
+use Rattle.ic_session.proofs.laws.faults_say.Goals as goal
+
+pub returns-clause-long_line : goal.returns-clause-long_line
+returns-clause-long_line c = says_long
+
+pub returns-clause-too_many_lines : goal.returns-clause-too_many_lines
+returns-clause-too_many_lines c = says_many
