@@ -1,2 +1,3 @@
 pub mod WordsLaws
 pub mod WordsExact
+pub mod Numbers

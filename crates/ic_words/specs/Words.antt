@@ -1,7 +1,8 @@
 -- What the words after the program's name ask for (this project's choice).
 use Rattle.std.specs.Prelude.{◌≡◌, ◌≢◌, ◌≤◌, ◌⊎◌, ℕ, pos, List, [], ◌∷◌, ◌++◌, Result, Ok, Err, true}
 use Rattle.std.specs.Prelude.{codes, string_bytes, Option, Some, unwrap_or, option_and_then}
-use Rattle.clap.specs.Words.{App, IsAmong, Kinds, Row, Rule, Shape, Text, first_of, new_app}
+use Rattle.std.specs.Str.Parse.{IsNumeral, digits_value, without_leading_plus}
+use Rattle.clap.specs.Words.{App, IsAmong, Kinds, Row, Rule, Shape, Text, first_of, new_app, one_of}
 use Rattle.clap.specs.Words.{new_rule, subcommand_of, with_rule, with_subcommand}
 use Rattle.clap.specs.Simple.{on_top}
 use Rattle.clap.specs.declared.builder.value_parser.ValueParser.TheVariants as parser
@@ -110,9 +111,25 @@ NamesCommand command words = (words ≡ command ∷ []) ⊎ (words ≡ command �
 abbrev pub value_met : Text → Option (Text × List Row) → Text
 value_met option met = unwrap_or (option_and_then (λ p. first_of option p.1) met) []
 
+-- the text that is read as the number of an option of a command that is met
+abbrev pub number_met : Text → Option (Text × List Row) → Text
+number_met option met = unwrap_or (option_and_then (λ p. one_of option p.1) met) []
+
+-- the text is this number in decimal digits, before which a plus may stand
+abbrev pub IsDecimal : Text → ℕ → Type 0
+IsDecimal text number = IsNumeral 10 (without_leading_plus text)
+    × (number ≡ digits_value 10 (without_leading_plus text))
+
 -- the first of the words is this command
 abbrev pub BeginsWith : List ℕ → List (List ℕ) → Type 0
 BeginsWith command words = (rest : List (List ℕ)) × (words ≡ command ∷ rest)
+
+-- this is the number of an option, from 1 to the most: where the option's text is such a number, it
+-- is that one
+abbrev pub IsNumberOf : Text → ℕ → List (List ℕ) → ℕ → Type 0
+IsNumberOf option most words number = (1 ≤ number) × (number ≤ most)
+    × ((spelt : ℕ) → IsDecimal (number_met option (subcommand_of command_line words)) spelt
+    → 1 ≤ spelt → spelt ≤ most → number ≡ spelt)
 
 -- the words name the task
 abbrev pub Names : List (List ℕ) → Task → Type 0
@@ -122,6 +139,6 @@ Names words (Create disk) = BeginsWith (codes "create") words
     × (string_bytes disk ≡ value_met (codes "disk") (subcommand_of command_line words))
 Names words (Serve disk workers every) = BeginsWith (codes "serve") words
     × (string_bytes disk ≡ value_met (codes "disk") (subcommand_of command_line words))
-    × (1 ≤ workers) × (workers ≤ 64) × (1 ≤ every) × (every ≤ 1000000)
+    × IsNumberOf (codes "workers") 64 words workers × IsNumberOf (codes "every") 1000000 words every
 Names words (Help text) = Unit {0}
 Names words (Version text) = Unit {0}

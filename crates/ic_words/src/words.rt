@@ -1,11 +1,12 @@
 //! The words after the program's name.
 
-ghost use Rattle.std.specs.Prelude.{◌≡◌, ◌≤◌, false, map, IfOk, codes, [], ◌∷◌, string_bytes};
+ghost use Rattle.std.specs.Prelude.{◌≡◌, ◌≤◌, ℕ, false, map, IfOk, codes, [], ◌∷◌, string_bytes};
 ghost use Rattle.clap.specs.Words.{app_of, fault_of, new_app, rule_of, subcommand_rows_of};
 ghost use Rattle.clap.specs.declared.builder.command.Command.TheViews.{out-Command};
 ghost use Rattle.ic_words.specs.Words.{AnswersWords, GivesHelp, GivesTask, GivesVersion, Names};
 ghost use Rattle.ic_words.specs.Words.{command_line, create_command, serve_command};
-ghost use Rattle.ic_words.specs.Words.{disk_option, every_option, workers_option, value_met};
+ghost use Rattle.ic_words.specs.Words.{disk_option, every_option, workers_option};
+ghost use Rattle.ic_words.specs.Words.{IsDecimal, number_met, value_met};
 
 use clap::error::ErrorKind;
 use clap::{Arg, ArgMatches, Command, value_parser};
@@ -123,6 +124,8 @@ fn number_of(matches: &ArgMatches, option: &str, most: u32) -> u32
     requires { 1 ≤ most }
     ensures least { 1 ≤ result }
     ensures most { result ≤ most }
+    ensures value { (number : ℕ) → IsDecimal (number_met option.now (subcommand_rows_of matches.now)) number
+        → 1 ≤ number → number ≤ most → result ≡ number }
 {
     match matches.subcommand() {
         Some((_, met)) => met.get_one::<u32>(option).unwrap_or(1).max(1).min(most),

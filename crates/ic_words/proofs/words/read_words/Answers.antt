@@ -66,7 +66,12 @@ returns-in-Some-serve c =
     let text : string_bytes c.in_ok-disk-in-Some-serve.disk ≡ c.value_of-in-Some-serve.result.now = search rules in
     record {
       answers = none;
-      named = (begins, text ∙ c.value_of-in-Some-serve.ensures ∙ ap (value_met (codes "disk")) rows, c.number_of-workers.ensures.least, c.number_of-workers.ensures.most, c.number_of-every.ensures.least, c.number_of-every.ensures.most);
+      named = (
+        begins,
+        text ∙ c.value_of-in-Some-serve.ensures ∙ ap (value_met (codes "disk")) rows,
+        (c.number_of-workers.ensures.least, c.number_of-workers.ensures.most, λ n is. c.number_of-workers.ensures.value n (rw rows is)),
+        (c.number_of-every.ensures.least, c.number_of-every.ensures.most, λ n is. c.number_of-every.ensures.value n (rw rows is)),
+      );
       settle = λ is. absurd (settle_or_serve (ap Some (sym (begins_otherwise _ _ _ begins is))));
       once = λ is. absurd (once_or_serve (ap Some (sym (begins_otherwise _ _ _ begins is))));
       help = λ is. absurd (asked_not_taken _ _ _ help_asked is none);
