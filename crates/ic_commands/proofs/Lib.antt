@@ -4,3 +4,4 @@ pub mod LineTold
 pub mod LineParts
 pub mod LineLaws
 pub mod NoMemory
+pub mod ScriptLines

@@ -2,5 +2,6 @@
 pub mod LineSource
 pub mod LineSense
 pub mod LineText
+pub mod ScriptSense
 pub mod ReplyText
 pub mod inner

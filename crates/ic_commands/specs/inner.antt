@@ -1,2 +1,3 @@
 -- For private functions: how a line is read, word by word. No public clause needs what stands here.
 pub mod Line
+pub mod ScriptLine

@@ -1,7 +1,7 @@
 //! What is proved of the definitions alone: each law is the contract of a function that does nothing, or calls the laws
 //! that it comes of.
 
-ghost use Rattle.std.specs.Prelude.{◌≡◌, ◌≢◌, ◌<◌, ◌≤◌, ◌+◌, ◌^◌, ◌&&◌, ◌||◌, ◌==◌, ℕ, List, [], ◌∷◌, ◌++◌, Result, Ok, Err, true, length, map, codes, not, nat_le, IsTrue};
+ghost use Rattle.std.specs.Prelude.{◌≡◌, ◌≢◌, ◌<◌, ◌≤◌, ◌+◌, ◌^◌, ◌&&◌, ◌||◌, ◌==◌, ℕ, List, [], ◌∷◌, ◌++◌, Option, None, Some, Result, Ok, Err, true, length, map, codes, not, nat_le, IsTrue};
 ghost use Rattle.std.specs.List.{list_all};
 ghost use Rattle.std.specs.Str.{bytes_eq};
 ghost use Rattle.std.specs.Char.{is_ascii_lowercase, is_ascii_digit};
@@ -33,6 +33,8 @@ ghost use Rattle.ic_commands.specs.declared.line.Verb.TheVariants.{Pause, Resume
 ghost use Rattle.ic_commands.specs.LineSource.{LinePhrase, submit, list, run, is_job_word, is_number, verb_text, line_words};
 ghost use Rattle.ic_commands.specs.LineSense.{submitted};
 ghost use Rattle.ic_commands.specs.LineText.{SpellsLine, ReadsLine};
+ghost use Rattle.ic_jobs.specs.declared.command.Command.{Command};
+ghost use Rattle.ic_commands.specs.ScriptSense.{without_run, ReadsScriptLine};
 ghost use Rattle.ic_commands.specs.ReplyText.{state_text, refusal_text, reply_text};
 
 /// A text spells at most one line, and it is read in just one way, never as want of memory.
@@ -131,4 +133,31 @@ pub fn answers_are()
         reply_text (Listed (jobs ++ (name, state, rounds) ∷ []))
         ≡ reply_text (Listed jobs) ++ codes " " ++ name ++ codes ":" ++ state_text state
         ++ codes ":" ++ decimal rounds }
+{}
+
+/// A line of a script is read in just one way, never as want of memory.
+pub fn one_script_line_reading()
+    ensures answer { (text : List ℕ) (a b : Result (Option Command) TextFault) →
+        ReadsScriptLine text a → ReadsScriptLine text b → a ≡ b }
+    ensures total { (text : List ℕ) →
+        (a : Result (Option Command) TextFault) × ReadsScriptLine text a }
+    ensures no_memory { (text : List ℕ) → ¬ ReadsScriptLine text (Err Memory) }
+{
+    ic_text::laws::systems_are_told_by_their_tokens();
+}
+
+/// A line that is no run is read in a script as it is read elsewhere: what is read as a command, or as nothing, is just
+/// that. A line that begins with `run` and a space is no phrase of a script, whatever follows.
+pub fn script_lines_are_lines_without_runs()
+    ensures other { (text : List ℕ) (a : Result Line TextFault) →
+        ((digits : List ℕ) → ¬ SpellsLine text (run digits)) → ReadsLine text a →
+        ReadsScriptLine text (without_run a) }
+    ensures command { (text : List ℕ) (c : Command) →
+        ReadsLine text (Ok (Asks c)) → ReadsScriptLine text (Ok (Some c)) }
+    ensures blank { (text : List ℕ) → ReadsLine text (Ok Blank) → ReadsScriptLine text (Ok None) }
+    ensures run { (text : List ℕ) (k : ℕ) →
+        ReadsLine text (Ok (Run k)) → ReadsScriptLine text (Err Syntax) }
+    ensures any_run { (rest : List ℕ) → length rest + 4 ≤ MAX_TEXT →
+        ReadsScriptLine (codes "run " ++ rest) (Err Syntax) }
+    ensures run_alone { ReadsScriptLine (codes "run") (Err Syntax) }
 {}
