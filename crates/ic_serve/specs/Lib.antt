@@ -1,3 +1,2 @@
-pub mod DiskRefusals
 pub mod Faults
 pub mod Streams

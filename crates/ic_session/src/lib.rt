@@ -2,9 +2,12 @@
 //!
 //! `serve_lines` answers commands, makes the rounds of a `run` on several threads, and keeps what
 //! the lines leave before it answers. What lines ask for and are answered is that of `ic_lines`.
+//! Why a serving ended is a `ServeFault`, and why a disk isn't created or opened a `DiskRefused`;
+//! both have the program's exit status and its line for standard error.
 #![tactic(auto)]
 
 mod answering;
+mod disk_refused;
 mod fault;
 pub mod laws;
 mod limits;
@@ -13,6 +16,7 @@ mod running;
 mod serving;
 mod writing;
 
+pub use disk_refused::DiskRefused;
 pub use fault::ServeFault;
 pub use limits::MAX_LINES;
 pub use serving::serve_lines;

@@ -4,9 +4,9 @@ use Rattle.ic_slots.specs.declared.faults.CreateFault.{CreateFault}
 use Rattle.ic_slots.specs.declared.faults.CreateFault.TheVariants as creating
 use Rattle.ic_frames.specs.declared.faults.OpenCause.{OpenCause}
 use Rattle.ic_frames.specs.declared.faults.OpenCause.TheVariants as opening
-use Rattle.ic_serve.specs.declared.disk_fault.DiskRefused.{DiskRefused}
-use Rattle.ic_serve.specs.declared.disk_fault.DiskRefused.TheVariants.{Device, NoSlot, TwoAlike}
-use Rattle.ic_serve.specs.declared.disk_fault.DiskRefused.TheVariants.{Damaged, Memory}
+use Rattle.ic_session.specs.declared.disk_refused.DiskRefused.{DiskRefused}
+use Rattle.ic_session.specs.declared.disk_refused.DiskRefused.TheVariants.{Device, NoSlot, TwoAlike}
+use Rattle.ic_session.specs.declared.disk_refused.DiskRefused.TheVariants.{Damaged, Memory}
 
 abbrev pub refused_create : CreateFault → DiskRefused
 refused_create creating.Device = Device

@@ -1,8 +1,8 @@
 //! Why a disk isn't created or opened, and what the program makes of it.
 
 ghost use Rattle.std.specs.Prelude.{◌≡◌};
-ghost use Rattle.ic_serve.specs.DiskRefusals.{refused_line};
-ghost use Rattle.ic_serve.specs.declared.disk_fault.DiskRefused.TheVariants.{Device};
+ghost use Rattle.ic_session.specs.DiskRefusals.{refused_line};
+ghost use Rattle.ic_session.specs.declared.disk_refused.DiskRefused.TheVariants.{Device};
 
 use ic_disk::DiskFault;
 use ic_slots::{CreateFault, OpenCause};
@@ -53,7 +53,7 @@ impl From<DiskFault> for DiskRefused {
 }
 
 impl From<CreateFault> for DiskRefused {
-    ghost use Rattle.ic_serve.specs.DiskRefusals.{refused_create};
+    ghost use Rattle.ic_session.specs.DiskRefusals.{refused_create};
 
     ghost from_gives = { λ fault e. e ≡ refused_create fault };
 
@@ -66,7 +66,7 @@ impl From<CreateFault> for DiskRefused {
 }
 
 impl From<OpenCause> for DiskRefused {
-    ghost use Rattle.ic_serve.specs.DiskRefusals.{refused_open};
+    ghost use Rattle.ic_session.specs.DiskRefusals.{refused_open};
 
     ghost from_gives = { λ cause e. e ≡ refused_open cause };
 
