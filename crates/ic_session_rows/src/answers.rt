@@ -17,7 +17,8 @@
 //!   and ` -> ` and what the other lines are answered behind a crash that leaves what was synced. Where the next is the
 //!   same, how many times. `slow_reads`, `slow_writes`: the same of the reader and the writer of `slow`.
 //! - `device BLOW THEN CHOICE WORKERS EVERY LINES + LINES`: in the same way each call to the disk behind the opening, with
-//!   `before` or `after`, `stop` or `on`, and a crash that leaves what was `synced` or `written`.
+//!   `before` or `after`, `stop` or `on`, and a crash that leaves what was `synced` or `written`, or `zeros`, `ones` or
+//!   `other` bytes wherever a write is pending.
 //! - `times COUNT LINE`: the same line so many times, and the answer that each has.
 //! - `feeds COUNT TEXT`: so many line feeds, and a text behind them.
 
@@ -128,6 +129,17 @@ fn cut<R: Threads + Wait>(
     cut_everywhere(server, failing, choice, &before, &behind)
 }
 
+fn choice_of(word: &str) -> Option<Choice> {
+    match word {
+        "synced" => Some(Choice::Synced),
+        "written" => Some(Choice::Written),
+        "zeros" => Some(Choice::Fill(0)),
+        "ones" => Some(Choice::Fill(1)),
+        "other" => Some(Choice::Fill(255)),
+        _ => None,
+    }
+}
+
 /// What comes of it where each call to the disk fails in turn.
 fn device<R: Threads + Wait>(rt: &R, alloc: Global, text: &str) -> Result<Vec<u8>, Trouble> {
     let (blow, rest) = first_word(text);
@@ -143,10 +155,8 @@ fn device<R: Threads + Wait>(rt: &R, alloc: Global, text: &str) -> Result<Vec<u8
         "on" => Then::GoOn,
         _ => return Err(Trouble("neither stop nor on")),
     };
-    let choice = match choice {
-        "synced" => Choice::Synced,
-        "written" => Choice::Written,
-        _ => return Err(Trouble("neither synced nor written")),
+    let Some(choice) = choice_of(choice) else {
+        return Err(Trouble("no such crash"));
     };
     let (server, text) = server_of(rt, alloc, rest);
     cut(&server, Failing::Device(blow, then), choice, text)
