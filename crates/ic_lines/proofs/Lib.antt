@@ -2,3 +2,5 @@ pub mod LineLemmas
 pub mod TurnLemmas
 pub mod ServingLemmas
 pub mod TakingLemmas
+pub mod ScriptLemmas
+pub mod ScriptLaws

@@ -1,6 +1,6 @@
 //! Laws of the definitions that the contracts of this crate and of those above cite.
 
-ghost use Rattle.std.specs.Prelude.{◌≡◌, ◌↔◌, ◌+◌, ◌<◌, ◌≤◌, ℕ, List, [], ◌∷◌, ◌++◌, Ok, Err, None, Some, false, true, length, map, take, codes};
+ghost use Rattle.std.specs.Prelude.{◌≡◌, ◌↔◌, ◌+◌, ◌<◌, ◌≤◌, ℕ, List, [], ◌∷◌, ◌++◌, Option, Result, Ok, Err, None, Some, false, true, length, map, take, codes};
 ghost use Rattle.std.specs.List.{flat_map, list_all, AllByRecursion};
 ghost use Rattle.std.specs.Fmt.{decimal};
 ghost use Rattle.ic_pool.specs.Flight.{FlightParts};
@@ -25,6 +25,12 @@ ghost use Rattle.ic_lines.specs.Lines.{has_feed, ended, lines};
 ghost use Rattle.ic_lines.specs.Turns.{turns, after_events};
 ghost use Rattle.ic_lines.specs.Answers.{Reading, after, out};
 ghost use Rattle.ic_lines.specs.Serving.{IsServed};
+ghost use Rattle.std.specs.List.{filter_map};
+ghost use Rattle.ic_text.specs.declared.fault.TextFault.TheVariants.{Limit, Memory};
+ghost use Rattle.ic_commands.specs.ScriptSense.{ReadsScriptLine};
+ghost use Rattle.ic_lines.specs.declared.script.ScriptFault.{ScriptFault};
+ghost use Rattle.ic_lines.specs.declared.script.TheConstants.{MAX_SCRIPT};
+ghost use Rattle.ic_lines.specs.Script.{AreAsked, ReadsScript};
 
 /// A line is what stands before a line feed, and the last one needs none where it has a byte. No
 /// line has a line feed in it. The lines of a text that ends with a line feed, each with its line
@@ -113,4 +119,63 @@ pub fn runs_are_legal()
 {
     ic_jobs::laws::what_is_due_is_awaited();
     ic_jobs::laws::events_leave_tables();
+}
+
+/// A script is read in just one way, never as want of memory, and never as more commands than a script may have.
+pub fn scripts_are_read_in_one_way()
+    ensures answer { (text : List ℕ) (a b : Result (List Command) ScriptFault) →
+        ReadsScript text a → ReadsScript text b → a ≡ b }
+    ensures total { (text : List ℕ) →
+        (a : Result (List Command) ScriptFault) × ReadsScript text a }
+    ensures no_memory { (text : List ℕ) (line : ℕ) →
+        ¬ ReadsScript text (Err (record { line = line; fault = Memory })) }
+    ensures few { (text : List ℕ) (found : List Command) →
+        ReadsScript text (Ok found) → length found ≤ MAX_SCRIPT }
+    ensures limit { MAX_SCRIPT ≡ 65536 }
+{
+    ic_commands::laws::one_script_line_reading();
+}
+
+/// A script without a fault is read as the commands of its lines in order; a blank line gives none, and no lines give
+/// none.
+pub fn scripts_hold_the_commands_of_their_lines()
+    ensures commands { (text : List ℕ) (asked : List (Option Command)) →
+        AreAsked (lines text) asked → length (filter_map (λ c. c) asked) ≤ MAX_SCRIPT →
+        ReadsScript text (Ok (filter_map (λ c. c) asked)) }
+    ensures nothing { ReadsScript [] (Ok []) }
+    ensures blank { (line : List ℕ) → length line ≤ MAX_TEXT → list_all is_blank line ≡ true →
+        has_feed line ≡ false → ReadsScript (ended line) (Ok []) }
+{
+    ic_commands::laws::commands_ask();
+    ic_commands::laws::script_lines_are_lines_without_runs();
+}
+
+/// The first fault of a script is that of its first line with one, which is numbered from 1, blank lines counted; a
+/// command behind as many as a script may have is a limit. What stands behind that line says nothing.
+pub fn scripts_are_refused_at_their_first_fault()
+    ensures first { (text line : List ℕ) (before behind : List (List ℕ))
+        (asked : List (Option Command)) (fault : TextFault) →
+        lines text ≡ before ++ line ∷ behind → AreAsked before asked →
+        length (filter_map (λ c. c) asked) ≤ MAX_SCRIPT → ReadsScriptLine line (Err fault) →
+        ReadsScript text (Err (record { line = length before + 1; fault = fault })) }
+    ensures too_many { (text line : List ℕ) (before behind : List (List ℕ))
+        (asked : List (Option Command)) (command : Command) →
+        lines text ≡ before ++ line ∷ behind → AreAsked before asked →
+        length (filter_map (λ c. c) asked) ≡ MAX_SCRIPT →
+        ReadsScriptLine line (Ok (Some command)) →
+        ReadsScript text (Err (record { line = length before + 1; fault = Limit })) }
+{
+    ic_commands::laws::one_script_line_reading();
+}
+
+/// Scripts one behind the other: their commands one behind the other, where they are not too many; and a fault of the
+/// first stays the first fault.
+pub fn scripts_are_joined_at_a_line_feed()
+    ensures commands { (text more : List ℕ) (a b : List Command) →
+        ReadsScript (ended text) (Ok a) → ReadsScript more (Ok b) →
+        length a + length b ≤ MAX_SCRIPT → ReadsScript (ended text ++ more) (Ok (a ++ b)) }
+    ensures fault { (text more : List ℕ) (fault : ScriptFault) →
+        ReadsScript (ended text) (Err fault) → ReadsScript (ended text ++ more) (Err fault) }
+{
+    ic_commands::laws::one_script_line_reading();
 }
