@@ -28,7 +28,7 @@ use Rattle.ic_desk.specs.Kept.{HoldsKeptOrAll, table_kept}
 use Rattle.ic_session.specs.Booked.{last_kept, IsAllKept, IsOnMadeDisk, StaysPut}
 use Rattle.ic_session.specs.Parts.{IsPart, IsKeptWithin, IsInLine, IsInFirst}
 use Rattle.ic_session.specs.Stopped.{HoldsOne, IsReached, MayStand}
-use Rattle.ic_session.specs.inner.Moments.{Leaves, IsKeptOrNow, IsKeptInLine}
+use Rattle.ic_session.specs.Moments.{Leaves, IsKeptOrNow, IsKeptInLine}
 use Rattle.ic_session.specs.Served.{OfLines, MayBeServed}
 use Rattle.ic_lines.specs.Serving.{IsServed}
 use Rattle.ic_session.specs.inner.Progress.{AreFirst, IsUnderWay}

@@ -4,4 +4,6 @@ pub mod Faults
 pub mod DiskRefusals
 pub mod Served
 pub mod Stopped
+pub mod Moments
+pub mod Answered
 pub mod inner

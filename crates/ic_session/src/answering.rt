@@ -10,8 +10,8 @@ ghost use Rattle.ic_lines.specs.Turns.{turns};
 ghost use Rattle.ic_lines.specs.Answers.{answer, after_line};
 ghost use Rattle.ic_session.specs.Booked.{last_kept, Begins, IsAllKept};
 ghost use Rattle.ic_session.specs.Parts.{IsKeptWithin};
-ghost use Rattle.ic_session.specs.inner.Line.{IsAnswered, IsBegun};
-ghost use Rattle.ic_session.specs.inner.Moments.{Leaves, IsKeptInLine};
+ghost use Rattle.ic_session.specs.Answered.{IsAnswered, IsBegun};
+ghost use Rattle.ic_session.specs.Moments.{Leaves, IsKeptInLine};
 ghost use Rattle.ic_session.specs.Faults.{IsOfBook};
 
 use crate::fault::ServeFault;
@@ -26,8 +26,13 @@ use std::alloc::{AllocError, Global};
 use std::sync::Wait;
 use std::thread::Threads;
 
-/// What a line is answered. What it leaves is kept before it is answered.
-pub(crate) fn answer_line<T: Threads + Wait, D: Disk>(
+/// Does what a line asks, and answers what is to be written for it, for a loop of one's own. At Ok
+/// all is kept, unless nothing has changed: so no byte of an answer is there before what its line
+/// leaves is kept. At `Err` some of the line's events may stand in the book.
+///
+/// Rounds are made by so many workers, and kept after each `every` of them and at the end. The line
+/// has no line feed. A refused line is answered by its refusal; a blank one by nothing.
+pub fn answer_line<T: Threads + Wait, D: Disk>(
     rt: &T,
     alloc: Global,
     book: &mut Book<D>,
@@ -35,10 +40,13 @@ pub(crate) fn answer_line<T: Threads + Wait, D: Disk>(
     workers: usize,
     every: u64,
 ) -> Result<Vec<u8>, ServeFault>
-    requires { 1 ≤ every }
+    requires workers { 1 ≤ workers }
+    requires every { 1 ≤ every }
     ensures answered { IfOk result (λ bytes. IsAnswered line.now bytes.items book.old book.new) }
     ensures begun { OnErr result (IsBegun line.now book.old book.new) }
     ensures sort { IfErr result IsOfBook }
+
+    // A crash at any moment leaves the table that was kept before the line, or one within it.
     ensures any_moment { Leaves book.old book.new
         (IsKeptInLine (table_of book.old) (last_kept book.old) line.now) }
 {

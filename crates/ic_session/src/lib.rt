@@ -1,7 +1,8 @@
 //! Serving lines over a book: each line that a reader gives is answered to a writer.
 //!
-//! `serve_lines` answers commands, makes the rounds of a `run` on several threads, and keeps what
-//! the lines leave before it answers. What lines ask for and are answered is that of `ic_lines`.
+//! `answer_line` does what one line asks and keeps what it leaves: it answers a command, and makes
+//! the rounds of a `run` on several threads. `serve_lines` takes lines from a reader, has each
+//! answered, and writes the answer. What lines ask for and are answered is that of `ic_lines`.
 //! Why a serving ended is a `ServeFault`, and why a disk isn't created or opened a `DiskRefused`;
 //! both have the program's exit status and its line for standard error.
 #![tactic(auto)]
@@ -16,6 +17,7 @@ mod running;
 mod serving;
 mod writing;
 
+pub use answering::answer_line;
 pub use disk_refused::DiskRefused;
 pub use fault::ServeFault;
 pub use limits::MAX_LINES;

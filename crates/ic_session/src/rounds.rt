@@ -1,13 +1,14 @@
 //! One round over a book.
 
-ghost use Rattle.std.specs.Prelude.{◌≡◌, ◌<◌, None, OnOk, OnErr, IfErr, IfOk, IfSome, IfNone};
+ghost use Rattle.std.specs.Prelude.{◌≡◌, ◌<◌, length, None, OnOk, OnErr, IfErr, IfOk, IfSome, IfNone};
 ghost use Rattle.ic_jobs.specs.declared.event.Event.TheVariants.{Round};
 ghost use Rattle.ic_jobs.specs.declared.limits.TheConstants.{MAX_JOBS};
 ghost use Rattle.ic_jobs.specs.Landing.{due, Awaits};
+ghost use Rattle.ic_desk.specs.declared.limits.TheConstants.{MAX_ENTRIES};
 ghost use Rattle.ic_desk.specs.Book.{table_of, kept_of, log_of, keeper_of, is_made, IsUnchanged};
 ghost use Rattle.ic_session.specs.Booked.{last_kept, IsAllKept, Advances, MakesRound, StaysPut};
 ghost use Rattle.ic_session.specs.Faults.{IsOfBook};
-ghost use Rattle.ic_session.specs.inner.Moments.{Leaves, IsKeptOrNow};
+ghost use Rattle.ic_session.specs.Moments.{Leaves, IsKeptOrNow};
 
 use crate::fault::ServeFault;
 use ic_desk::{Book, BookFault, MAX_ENTRIES};
@@ -20,6 +21,7 @@ use std::thread::Threads;
 /// Begins a new page where the history is full, so that one more event can come.
 pub(crate) fn make_room<D: Disk>(alloc: Global, book: &mut Book<D>) -> Result<(), BookFault>
     ensures stays { StaysPut book.old book.new }
+    ensures room { length (log_of book.old) < MAX_ENTRIES → IsUnchanged book.old book.new }
     ensures any_moment { Leaves book.old book.new (IsKeptOrNow book.old) }
 {
     book.facts();

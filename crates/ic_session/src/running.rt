@@ -6,7 +6,7 @@ ghost use Rattle.ic_lines.specs.Turns.{turns, after_events};
 ghost use Rattle.ic_session.specs.Booked.{last_kept, Begins, IsAllKept};
 ghost use Rattle.ic_session.specs.Parts.{IsKeptWithin};
 ghost use Rattle.ic_session.specs.Faults.{IsOfBook};
-ghost use Rattle.ic_session.specs.inner.Moments.{Leaves, IsKeptOrNow};
+ghost use Rattle.ic_session.specs.Moments.{Leaves, IsKeptOrNow};
 
 use crate::fault::ServeFault;
 use crate::rounds::{keep_all, make_round};

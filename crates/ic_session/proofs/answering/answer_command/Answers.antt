@@ -7,7 +7,7 @@ use Rattle.ic_session.specs.Booked.{last_kept, Begins}
 use Rattle.ic_session.proofs.RunLemmas.{kept_same, on_err}
 use Rattle.ic_session.proofs.LineLemmas.{device_or_not, begun_none, begun_one, begun_kept, after_event, kept_behind, kept_all}
 use Rattle.ic_session.specs.Parts.{IsKeptWithin}
-use Rattle.ic_session.specs.inner.Moments.{IsKeptOrNow}
+use Rattle.ic_session.specs.Moments.{IsKeptOrNow}
 use Rattle.ic_session.proofs.StopLemmas.{kept_or_now, leaves_more, leaves_still, leaves_command}
 use Rattle.ic_session.proofs.answering.answer_command.Goals as goal
 

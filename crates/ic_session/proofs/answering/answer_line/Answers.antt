@@ -7,7 +7,7 @@ use Rattle.ic_jobs.specs.declared.event.Event.TheVariants.{Command as by_command
 use Rattle.ic_commands.specs.declared.line.Line.TheVariants.{Command as Asks, Run}
 use Rattle.ic_lines.specs.Turns.{turns}
 use Rattle.ic_session.specs.Parts.{IsKeptWithin}
-use Rattle.ic_session.specs.inner.Moments.{IsKeptInLine}
+use Rattle.ic_session.specs.Moments.{IsKeptInLine}
 use Rattle.ic_session.proofs.ServeLemmas.{in_line}
 use Rattle.ic_session.proofs.StopLemmas.{kept_in_line, leaves_more, leaves_nothing}
 use Rattle.ic_session.proofs.answering.answer_line.Goals as goal

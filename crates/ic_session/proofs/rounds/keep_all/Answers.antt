@@ -2,7 +2,7 @@ use Rattle.std.proofs.Common.{◌≡◌, inl, inr, refl}
 use Rattle.ic_desk.specs.Book.{start_of, log_of}
 use Rattle.ic_jobs.specs.History.{replay}
 use Rattle.ic_session.specs.Booked.{last_kept}
-use Rattle.ic_session.specs.inner.Moments.{IsKeptOrNow}
+use Rattle.ic_session.specs.Moments.{IsKeptOrNow}
 use Rattle.ic_session.proofs.StopLemmas.{leaves_call}
 use Rattle.ic_session.proofs.rounds.keep_all.Goals as goal
 

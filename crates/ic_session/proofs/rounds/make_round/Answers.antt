@@ -4,7 +4,7 @@ use Rattle.ic_jobs.specs.declared.limits.TheConstants.{MAX_JOBS}
 use Rattle.ic_jobs.specs.Landing.{due}
 use Rattle.ic_jobs.specs.Table.{IsTable}
 use Rattle.ic_desk.specs.Book.{table_of}
-use Rattle.ic_session.specs.inner.Moments.{IsKeptOrNow}
+use Rattle.ic_session.specs.Moments.{IsKeptOrNow}
 use Rattle.ic_session.proofs.StopLemmas.{leaves_nothing, leaves_still}
 use Rattle.ic_session.proofs.rounds.make_round.Goals as goal
 

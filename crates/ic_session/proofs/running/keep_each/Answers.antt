@@ -1,5 +1,5 @@
 use Rattle.std.proofs.Common.{inl, inr, refl}
-use Rattle.ic_session.specs.inner.Moments.{IsKeptOrNow}
+use Rattle.ic_session.specs.Moments.{IsKeptOrNow}
 use Rattle.ic_session.proofs.StopLemmas.{leaves_nothing}
 use Rattle.ic_session.proofs.running.keep_each.Goals as goal
 

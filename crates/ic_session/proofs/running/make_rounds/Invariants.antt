@@ -2,7 +2,7 @@ use Rattle.ic_desk.specs.Book.{table_of}
 use Rattle.ic_lines.specs.Turns.{turns}
 use Rattle.ic_session.specs.Booked.{last_kept}
 use Rattle.ic_session.specs.Parts.{IsKeptWithin}
-use Rattle.ic_session.specs.inner.Moments.{Leaves}
+use Rattle.ic_session.specs.Moments.{Leaves}
 use Rattle.ic_session.proofs.RunLemmas.{InRun}
 use Rattle.ic_session.proofs.running.make_rounds.Given as goal
 

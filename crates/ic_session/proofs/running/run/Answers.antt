@@ -4,7 +4,7 @@ use Rattle.ic_lines.specs.Turns.{turns}
 use Rattle.ic_session.specs.Booked.{last_kept}
 use Rattle.ic_session.proofs.RunLemmas.{run_ended, on_err}
 use Rattle.ic_session.specs.Parts.{IsKeptWithin}
-use Rattle.ic_session.specs.inner.Moments.{IsKeptOrNow}
+use Rattle.ic_session.specs.Moments.{IsKeptOrNow}
 use Rattle.ic_session.proofs.StopLemmas.{kept_or_all, leaves_then}
 use Rattle.ic_session.proofs.running.run.Goals as goal
 

@@ -10,8 +10,8 @@ use Rattle.ic_session.specs.declared.fault.ServeFault.{ServeFault}
 use Rattle.ic_session.specs.declared.fault.ServeFault.TheVariants.{TooManyLines}
 use Rattle.ic_session.specs.declared.limits.TheConstants.{MAX_LINES}
 use Rattle.ic_lines.specs.declared.buffer.LineFault.TheVariants as line_fault
-use Rattle.ic_session.specs.inner.Line.{IsAnswered, IsBegun}
-use Rattle.ic_session.specs.inner.Moments.{Leaves, IsKeptInLine}
+use Rattle.ic_session.specs.Answered.{IsAnswered, IsBegun}
+use Rattle.ic_session.specs.Moments.{Leaves, IsKeptInLine}
 use Rattle.ic_session.proofs.LineLemmas.{kept_all}
 use Rattle.ic_session.proofs.ServeLemmas.{under_first, under_more, over, ahead, taken, first_more, ended_at, ended_err, cut_at, cut_behind, kept_part, left_first, left_within, says_book, not_taken, none_behind}
 use Rattle.ic_session.proofs.StopLemmas.{stops_first, stops_more, stops_now, still_all, still_last}

@@ -1,4 +1,4 @@
--- For private functions: what one line leaves.
+-- To be believed: what one line is answered, and what it leaves.
 use Rattle.std.specs.Prelude.{◌≡◌, ◌⊎◌, ℕ, List}
 use Rattle.ic_disk.specs.declared.disk.Disk.{Ghosts}
 use Rattle.ic_commands.specs.LineText.{ReadsLine}
@@ -16,7 +16,8 @@ pub record IsAnswered {D : Type 0} {ghosts : Ghosts D} (line bytes : List ℕ)
   pub table : table_of new ≡ after_line (table_of old) reading
   pub kept : IsAllKept new ⊎ IsUnchanged old new
 
--- a line was begun
+-- A line was begun: a front of its events has come to the table, and one no longer is kept, where
+-- not the table that was kept before it is.
 pub record IsBegun {D : Type 0} {ghosts : Ghosts D} (line : List ℕ)
     (old new : Book D ghosts) : Type 0 where
   pub reading : Reading

@@ -1,4 +1,4 @@
--- For private functions: what a crash in the midst of a call leaves.
+-- To be believed: what a crash in the midst of a call leaves.
 use Rattle.std.specs.Prelude.{◌≡◌, ◌⊎◌, ℕ, List}
 use Rattle.ic_disk.specs.declared.disk.Disk.{Ghosts}
 use Rattle.ic_disk.specs.Time.{LeavesOnly}
