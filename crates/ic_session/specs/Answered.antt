@@ -16,8 +16,7 @@ pub record IsAnswered {D : Type 0} {ghosts : Ghosts D} (line bytes : List ℕ)
   pub table : table_of new ≡ after_line (table_of old) reading
   pub kept : IsAllKept new ⊎ IsUnchanged old new
 
--- A line was begun: a front of its events has come to the table, and one no longer is kept, where
--- not the table that was kept before it is.
+-- a line was begun: a front of its events has come to the table
 pub record IsBegun {D : Type 0} {ghosts : Ghosts D} (line : List ℕ)
     (old new : Book D ghosts) : Type 0 where
   pub reading : Reading
