@@ -1,5 +1,5 @@
 -- Tables between the events of a line, and what faults say and leave.
-use Rattle.std.proofs.Common.{◌≡◌, ◌⊎◌, inl, inr, ℕ, zero, suc, ◌<◌, ◌≤◌, List, [], ◌∷◌, ◌++◌, length, take, drop, refl, sym, ap, subst, ◌∙◌, arith, length-append}
+use Rattle.std.proofs.Common.{Bool, true, ◌≡◌, ◌⊎◌, inl, inr, ℕ, zero, suc, ◌<◌, ◌≤◌, List, [], ◌∷◌, ◌++◌, length, take, drop, refl, sym, ap, subst, ◌∙◌, arith, length-append}
 use Rattle.std.proofs.lemmas.List.{take-append-drop, take_all}
 use Rattle.std.proofs.Math.Seq.{take-append_seam}
 use Rattle.ic_jobs.specs.Job.{JobParts}
@@ -10,8 +10,10 @@ use Rattle.ic_lines.specs.Turns.{turns, after_events}
 use Rattle.ic_lines.specs.Answers.{Reading, events}
 use Rattle.ic_session.specs.declared.fault.ServeFault.{ServeFault}
 use Rattle.ic_session.specs.declared.fault.ServeFault.TheVariants.{Read, Write, TooManyLines, Book, Pool, LongLine, Memory}
-use Rattle.ic_session.specs.Parts.{IsPart, IsInLine, IsInFirst}
+use Rattle.ic_session.specs.Parts.{IsPart, IsKeptWithin, IsInLine, IsInFirst}
+use Rattle.ic_session.specs.Moments.{IsKeptInLine}
 use Rattle.ic_session.specs.Served.{SaysOf, IsLeftBy}
+use Rattle.ic_session.specs.Stopped.{IsReached, MayStand}
 
 -- ---- fronts of events
 
@@ -81,6 +83,10 @@ line_to law t u line r reads h = subst (λ (x : Reading). IsPart t (events t x) 
 pub line_from : (t u : List JobParts) (line : List ℕ) (r : Reading) → ReadsLine line r → IsPart t (events t r) u → IsInLine t line u
 line_from t u line r reads part = record { reading = r; read = reads; part = part }
 
+pub kept_from : (t kept u : List JobParts) (line : List ℕ) (r : Reading) → ReadsLine line r → IsKeptWithin t kept (events t r) u → IsKeptInLine t kept line u
+kept_from t kept u line r reads (inl same) = inl same
+kept_from t kept u line r reads (inr part) = inr (line_from t u line r reads part)
+
 first_from : SomeWay → (t u : List JobParts) (ls : List (List ℕ)) → u ≡ t → IsInFirst t ls u
 first_from law t u [] same = same
 first_from law t u (line ∷ more) same =
@@ -98,11 +104,21 @@ left_within law LongLine t u ls left = first_from law t u ls left
 left_within law Memory t u ls left = left
 
 pub says_long : (front rest : List (List ℕ)) → SaysOf LongLine front rest
-    → (line : List ℕ) × (more : List (List ℕ)) × (rest ≡ line ∷ more) × (262144 < length line)
+    → (line : List ℕ) × (more : List (List ℕ)) × (rest ≡ line ∷ more) × (length front < 1000000) × (262144 < length line)
 says_long front [] says = absurd says
-says_long front (line ∷ more) says = (line, more, refl, says)
+says_long front (line ∷ more) says = (line, more, refl, says.0, says.1)
 
 pub says_many : (front rest : List (List ℕ)) → SaysOf TooManyLines front rest
     → (line : List ℕ) × (more : List (List ℕ)) × (rest ≡ line ∷ more) × (length front ≡ 1000000)
 says_many front [] says = absurd says
 says_many front (line ∷ more) says = (line, more, refl, says)
+
+-- ---- stops
+
+pub stands_all : (kept t u : List JobParts) (ls : List (List ℕ)) → MayStand (true ≡ true) kept t ls u → IsReached t ls u
+stands_all kept t u ls (inl reached) = reached
+stands_all kept t u ls (inr other) = absurd (other.0 refl)
+
+pub stands_else : (all : Bool) (kept t u : List JobParts) (ls : List (List ℕ)) → MayStand (all ≡ true) kept t ls u → IsReached t ls u ⊎ (u ≡ kept)
+stands_else all kept t u ls (inl reached) = inl reached
+stands_else all kept t u ls (inr other) = inr other.1

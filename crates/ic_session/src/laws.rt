@@ -1,30 +1,35 @@
 //! Laws of the definitions that the contracts of this crate cite.
 
-ghost use Rattle.std.specs.Prelude.{◌≡◌, ◌≢◌, ◌⊎◌, ◌↔◌, ◌<◌, ◌≤◌, ℕ, List, [], ◌∷◌, ◌++◌, Bool, true, Option, Some, Ok, Err, length, map, take, codes};
+ghost use Rattle.std.specs.Prelude.{IsTrue, ◌≡◌, ◌≢◌, ◌⊎◌, ◌↔◌, ◌<◌, ◌≤◌, ℕ, List, [], ◌∷◌, ◌++◌, Bool, true, Option, None, Some, Ok, Err, length, map, take, codes};
 ghost use Rattle.std.specs.List.{AllByRecursion};
 ghost use Rattle.std.specs.Io.KnownBytes.{Appends};
+ghost use Rattle.ic_disk.specs.Time.{LeavesOnly};
 ghost use Rattle.ic_pool.specs.declared.fault.PoolFault.{PoolFault};
 ghost use Rattle.ic_jobs.specs.declared.command.Command.{Command};
 ghost use Rattle.ic_jobs.specs.declared.event.Event.{Event};
 ghost use Rattle.ic_jobs.specs.declared.event.Event.TheVariants.{Command as by_command};
 ghost use Rattle.ic_jobs.specs.Job.{JobParts};
 ghost use Rattle.ic_jobs.specs.History.{table_after, replay};
+ghost use Rattle.ic_slots.specs.Held.{HoldsTable};
 ghost use Rattle.ic_text.specs.declared.fault.TextFault.{TextFault};
 ghost use Rattle.ic_commands.specs.declared.line.Line.TheVariants.{Blank, Command as Asks, Run};
 ghost use Rattle.ic_commands.specs.LineText.{ReadsLine};
 ghost use Rattle.ic_lines.specs.declared.buffer.LineFault.TheVariants as line_fault;
-ghost use Rattle.ic_lines.specs.Lines.{ended};
+ghost use Rattle.ic_lines.specs.Lines.{ended, lines};
 ghost use Rattle.ic_lines.specs.Turns.{turns, after_events};
 ghost use Rattle.ic_lines.specs.Serving.{IsServed};
 ghost use Rattle.ic_desk.specs.declared.faults.BookFault.TheVariants as book_fault;
-ghost use Rattle.ic_desk.specs.Book.{start_of, log_of, table_of, kept_of};
+ghost use Rattle.ic_desk.specs.Book.{start_of, log_of, table_of, kept_of, disk_of, is_made, IsUnchanged};
 ghost use Rattle.ic_session.specs.declared.fault.ServeFault.{ServeFault};
 ghost use Rattle.ic_session.specs.declared.fault.ServeFault.TheVariants.{Read, Write, TooManyLines, Book as by_book, Pool, LongLine, Memory};
 ghost use Rattle.ic_session.specs.declared.limits.TheConstants.{MAX_LINES};
-ghost use Rattle.ic_session.specs.Booked.{last_kept, IsAllKept};
+ghost use Rattle.ic_session.specs.Answered.{IsAnswered, IsBegun};
+ghost use Rattle.ic_session.specs.Booked.{last_kept, IsAllKept, IsOnMadeDisk};
 ghost use Rattle.ic_session.specs.Faults.{fault_of_line, fault_line, IsOfBook};
+ghost use Rattle.ic_session.specs.Moments.{Leaves, IsKeptInLine};
 ghost use Rattle.ic_session.specs.Parts.{IsPart, IsKeptWithin, IsInLine, IsInFirst};
-ghost use Rattle.ic_session.specs.Served.{MayBeServed, AreAnswered, AppendsFront, SaysOf, IsLeftBy, IsEnded, IsCut};
+ghost use Rattle.ic_session.specs.Served.{OfLines, MayBeServed, AreAnswered, AppendsFront, SaysOf, IsLeftBy, IsEnded, IsCut};
+ghost use Rattle.ic_session.specs.Stopped.{IsReached, MayStand};
 
 use ic_desk::Book;
 use ic_disk::Disk;
@@ -64,6 +69,15 @@ pub fn tables_within_a_line_are()
     ic_lines::laws::runs_are_rounds_in_turn();
 }
 
+/// What is said of a reader's lines is said of those of its bytes, where it tells them, and of some
+/// lines where it doesn't.
+pub fn lines_are_those_of_the_reader()
+    ensures known { (text : List ℕ) (p : List (List ℕ) → Bool)
+        → OfLines (Some text) (λ ls. p ls ≡ true) ↔ (p (lines text) ≡ true) }
+    ensures unknown { (p : List (List ℕ) → Bool)
+        → OfLines None (λ ls. p ls ≡ true) ↔ ((ls : List (List ℕ)) × (p ls ≡ true)) }
+{}
+
 /// Lines that are answered are at most 1,000,000, each of at most 262,144 bytes. What answers them
 /// is appended to what was written, and this in just one way: no two tables or texts are left.
 pub fn answers_are_appended()
@@ -82,12 +96,12 @@ pub fn answers_are_appended()
     ic_lines::laws::lines_are_served_in_one_way();
 }
 
-/// `LongLine` says that the line behind those that are answered has more than 262,144 bytes, and
-/// `TooManyLines` that 1,000,000 lines are answered and one more is to come.
+/// `LongLine` says that fewer than 1,000,000 lines are answered and that the line behind them has
+/// more than 262,144 bytes, and `TooManyLines` that 1,000,000 are answered and one more is to come.
 pub fn faults_say()
     ensures long_line { (front rest : List (List ℕ)) → SaysOf LongLine front rest
         → (line : List ℕ) × (more : List (List ℕ)) × (rest ≡ line ∷ more)
-        × (262144 < length line) }
+        × (length front < 1000000) × (262144 < length line) }
     ensures too_many_lines { (front rest : List (List ℕ)) → SaysOf TooManyLines front rest
         → (line : List ℕ) × (more : List (List ℕ)) × (rest ≡ line ∷ more)
         × (length front ≡ 1000000) }
@@ -127,8 +141,9 @@ pub fn a_fault_ends_a_serving()
     ensures long_line { (all : Bool) (ls : List (List ℕ)) (t u kept : List JobParts)
         (old new : Option (List ℕ)) → IsEnded LongLine (all ≡ true) ls t u kept old new
         → (front : List (List ℕ)) × (line : List ℕ) × (more : List (List ℕ))
-        × (answers : List ℕ) × (ls ≡ front ++ line ∷ more) × (262144 < length line)
-        × IsServed t front answers u × Appends old new answers × (all ≡ true → kept ≡ u) }
+        × (answers : List ℕ) × (ls ≡ front ++ line ∷ more) × (length front < 1000000)
+        × (262144 < length line) × IsServed t front answers u × Appends old new answers
+        × (all ≡ true → kept ≡ u) }
     ensures too_many_lines { (all : Bool) (ls : List (List ℕ)) (t u kept : List JobParts)
         (old new : Option (List ℕ)) → IsEnded TooManyLines (all ≡ true) ls t u kept old new
         → (front : List (List ℕ)) × (line : List ℕ) × (more : List (List ℕ))
@@ -138,21 +153,27 @@ pub fn a_fault_ends_a_serving()
     ic_commands::laws::one_line_reading();
 }
 
-/// A failing writer ends a serving behind a front of the lines, too. A front of what answers them
-/// was written.
+/// A failing writer ends a serving behind a front of the lines, which are done. All of them are
+/// answered but at most the last one, of whose answer a front was written.
 pub fn a_failing_writer_cuts_a_serving()
-    ensures sent { (bytes a b : List ℕ) → AppendsFront (Some a) (Some b) bytes
-        → (n : ℕ) × (n ≤ length bytes) × (b ≡ a ++ take n bytes) }
-    ensures cut { (ls : List (List ℕ)) (t u : List JobParts) (old new : Option (List ℕ))
+    ensures sent { (before behind a b : List ℕ) → AppendsFront (Some a) (Some b) before behind
+        → (n : ℕ) × (n ≤ length behind) × (b ≡ a ++ (before ++ take n behind)) }
+    ensures answered { (ls : List (List ℕ)) (t u : List JobParts) (old new : Option (List ℕ))
+        → IsCut ls t u old new
+        → (front : List (List ℕ)) × (last : List (List ℕ)) × (rest : List (List ℕ))
+        × (answers : List ℕ) × (more : List ℕ) × (v : List JobParts)
+        × (ls ≡ front ++ last ++ rest) × (length last ≤ 1) × IsServed t front answers v
+        × IsServed v last more u × AppendsFront old new answers more }
+    ensures done { (ls : List (List ℕ)) (t u : List JobParts) (old new : Option (List ℕ))
         → IsCut ls t u old new
         → (front : List (List ℕ)) × (rest : List (List ℕ)) × (answers : List ℕ)
-        × (ls ≡ front ++ rest) × IsServed t front answers u × AppendsFront old new answers }
-    ensures within { (ls : List (List ℕ)) (t u : List JobParts) (old new : Option (List ℕ))
-        → IsCut ls t u old new → (front : List (List ℕ)) × (rest : List (List ℕ))
-        × (ls ≡ front ++ rest) × MayBeServed front }
-{}
+        × (ls ≡ front ++ rest) × MayBeServed front × IsServed t front answers u }
+{
+    ic_lines::laws::lines_are_served_in_one_way();
+}
 
-/// All of a book is kept where each of its entries is; its table is then the one that was kept last.
+/// All of a book is kept where each of its entries is; then its table is the one that was kept
+/// last.
 pub fn all_is_kept_where_each_entry_is<D: Disk>(book: &Book<D>)
     ensures all { IsAllKept book.now ↔ (kept_of book.now ≡ length (log_of book.now)) }
     ensures last { last_kept book.now
@@ -161,6 +182,52 @@ pub fn all_is_kept_where_each_entry_is<D: Disk>(book: &Book<D>)
 {
     book.facts();
 }
+
+/// A line that is answered is served: this answers it, and it leaves this table; and all is kept,
+/// or nothing has changed. Where a line was only begun, the table is within it, and what is kept is
+/// what was kept before it, or within it too.
+pub fn a_line_is_answered_as_it_is_served<D: Disk>(before: &Book<D>, behind: &Book<D>)
+    ensures served { (line bytes : List ℕ) → IsAnswered line bytes before.now behind.now
+        → IsServed (table_of before.now) (line ∷ []) bytes (table_of behind.now) }
+    ensures kept { (line bytes : List ℕ) → IsAnswered line bytes before.now behind.now
+        → IsAllKept behind.now ⊎ IsUnchanged before.now behind.now }
+    ensures begun { (line : List ℕ) → IsBegun line before.now behind.now
+        → IsInLine (table_of before.now) line (table_of behind.now) }
+    ensures kept_within { (line : List ℕ) → IsBegun line before.now behind.now
+        → IsKeptInLine (table_of before.now) (last_kept before.now) line (last_kept behind.now) }
+    ensures within { (t kept u : List JobParts) (line : List ℕ) → IsKeptInLine t kept line u
+        ↔ ((u ≡ kept) ⊎ IsInLine t line u) }
+{}
+
+/// What a stop in the midst of a call leaves is told of a disk that keeps the model and is made: a
+/// file that holds one of these tables. Behind the call it keeps the model where it did before, and
+/// is made.
+pub fn a_stop_leaves_one_of_these_tables<D: Disk>(before: &Book<D>, behind: &Book<D>)
+    ensures made { IsOnMadeDisk before.now
+        ↔ (IsTrue (D.keeps (disk_of before.now)) × (is_made before.now ≡ true)) }
+    ensures any_moment { (p : List JobParts → Bool) → Leaves before.now behind.now (λ t. p t ≡ true)
+        → IsOnMadeDisk before.now
+        → LeavesOnly D.clock D.left (disk_of before.now) (disk_of behind.now)
+        (λ file. (t : List JobParts) × (p t ≡ true) × HoldsTable t file) }
+    ensures stays { (p : List JobParts → Bool) → Leaves before.now behind.now (λ t. p t ≡ true)
+        → IsOnMadeDisk before.now → IsOnMadeDisk behind.now }
+    ensures keeps { (p : List JobParts → Bool) → Leaves before.now behind.now (λ t. p t ≡ true)
+        → D.keeps (disk_of behind.now) ≡ D.keeps (disk_of before.now) }
+{}
+
+/// A stop in the midst of a serving leaves a table that lines reach: a front of them is served, and
+/// the table is within the line behind them. Only where not all was kept when it began, the table
+/// may be the one that was.
+pub fn a_stop_is_within_the_lines()
+    ensures reached { (t u : List JobParts) (ls : List (List ℕ)) → IsReached t ls u
+        → (front : List (List ℕ)) × (rest : List (List ℕ)) × (answers : List ℕ)
+        × (v : List JobParts) × (ls ≡ front ++ rest) × MayBeServed front
+        × IsServed t front answers v × IsInFirst v rest u }
+    ensures all_kept { (kept t u : List JobParts) (ls : List (List ℕ))
+        → MayStand (true ≡ true) kept t ls u → IsReached t ls u }
+    ensures others { (all : Bool) (kept t u : List JobParts) (ls : List (List ℕ))
+        → MayStand (all ≡ true) kept t ls u → IsReached t ls u ⊎ (u ≡ kept) }
+{}
 
 /// The line on standard error of each fault.
 pub fn words_are()

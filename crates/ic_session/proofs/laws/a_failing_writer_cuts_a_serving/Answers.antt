@@ -3,13 +3,21 @@ use Rattle.std.proofs.Math.Seq.{take-append_seam}
 use Rattle.ic_session.proofs.laws.a_failing_writer_cuts_a_serving.Goals as goal
 
 pub returns-clause-sent : goal.returns-clause-sent
-returns-clause-sent c = λ bytes text more is.
+returns-clause-sent c = λ before behind text more is.
     let sum = ap length is.parted ∙ length-append is.sent is.unsent in
     let front = ap (take (length is.sent)) is.parted ∙ take-append_seam is.sent is.unsent in
-    (length is.sent, omega (arith, sum), is.written ∙ ap (λ sent. text ++ sent) (sym front))
+    (length is.sent, omega (arith, sum), is.written ∙ ap (λ sent. text ++ (before ++ sent)) (sym front))
 
-pub returns-clause-cut : goal.returns-clause-cut
-returns-clause-cut c = λ ls t u old new is. (is.front, is.rest, is.answers, is.parted, is.served, is.written)
+pub returns-clause-answered : goal.returns-clause-answered
+returns-clause-answered c = λ ls t u old new is.
+    (is.front, is.last, is.rest, is.answers, is.more, is.between, is.parted, is.one, is.answered, is.done, is.written)
 
-pub returns-clause-within : goal.returns-clause-within
-returns-clause-within c = λ ls t u old new is. (is.front, is.rest, is.parted, is.within)
+pub returns-clause-done : goal.returns-clause-done
+returns-clause-done c = λ ls t u old new is. (
+  is.front ++ is.last,
+  is.rest,
+  is.answers ++ is.more,
+  is.parted,
+  is.within,
+  c.lines_are_served_in_one_way.ensures.joined t is.between u is.front is.last is.answers is.more is.answered is.done,
+)

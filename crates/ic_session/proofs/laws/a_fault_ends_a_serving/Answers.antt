@@ -37,6 +37,7 @@ returns-clause-long_line c = λ all ls t u kept old new is.
       is.answered.answers,
       is.parted ∙ ap (λ rest. is.front ++ rest) says.2,
       says.3,
+      says.4,
       subst (IsServed t is.front is.answered.answers) (sym is.in_line) is.answered.served,
       is.answered.written,
       λ yes. is.keeps yes ∙ sym is.in_line,
