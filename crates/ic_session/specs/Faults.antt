@@ -4,6 +4,7 @@ use Rattle.ic_lines.specs.declared.buffer.LineFault.TheVariants as line
 use Rattle.std.specs.Prelude.{ℕ, List, [], ◌∷◌, ◌++◌, codes}
 use Rattle.ic_desk.specs.declared.faults.BookFault.{BookFault}
 use Rattle.ic_desk.specs.declared.faults.BookFault.TheVariants as book
+use Rattle.ic_pool.specs.declared.fault.PoolFault.TheVariants as pool
 use Rattle.ic_session.specs.declared.fault.ServeFault.{ServeFault}
 use Rattle.ic_session.specs.declared.fault.ServeFault.TheVariants.{Read, Write, TooManyLines, Book, Pool, LongLine, Memory}
 
@@ -23,6 +24,16 @@ IsOfBook (Book fault) = Unit {0}
 IsOfBook (Pool fault) = Unit {0}
 IsOfBook LongLine = ⊥
 IsOfBook Memory = Unit {0}
+
+-- Not a fault that no serving has: its log has room, it has workers, and a round that can't be made
+-- is a halt.
+abbrev pub MayCome : ServeFault → Type 0
+MayCome (Book book.LogFull) = ⊥
+MayCome (Pool pool.NoWorkers) = ⊥
+MayCome (Pool pool.RoundsOut) = ⊥
+MayCome (Pool pool.Overgrown) = ⊥
+MayCome (Pool pool.NamesOut) = ⊥
+MayCome _ = Unit {0}
 
 -- the words that tell why a call on a book was refused (this project's choice)
 abbrev pub book_word : BookFault → List ℕ

@@ -12,7 +12,7 @@ ghost use Rattle.ic_session.specs.Booked.{last_kept, Begins, IsAllKept};
 ghost use Rattle.ic_session.specs.Parts.{IsKeptWithin};
 ghost use Rattle.ic_session.specs.Answered.{IsAnswered, IsBegun};
 ghost use Rattle.ic_session.specs.Moments.{Leaves, IsKeptInLine};
-ghost use Rattle.ic_session.specs.Faults.{IsOfBook};
+ghost use Rattle.ic_session.specs.Faults.{IsOfBook, MayCome};
 
 use crate::fault::ServeFault;
 use crate::rounds::make_room;
@@ -45,6 +45,7 @@ pub fn answer_line<T: Threads + Wait, D: Disk>(
     ensures answered { IfOk result (λ bytes. IsAnswered line.now bytes.items book.old book.new) }
     ensures begun { OnErr result (IsBegun line.now book.old book.new) }
     ensures sort { IfErr result IsOfBook }
+    ensures causes { IfErr result MayCome }
 
     // A crash at any moment leaves the table that was kept before the line, or one within it.
     ensures any_moment { Leaves book.old book.new
@@ -64,6 +65,7 @@ pub fn answer_line<T: Threads + Wait, D: Disk>(
 fn answer_refused(alloc: Global, fault: TextFault) -> Result<Vec<u8>, ServeFault>
     ensures answer { IfOk result (λ bytes. bytes.items ≡ ended (fault_text fault)) }
     ensures sort { IfErr result IsOfBook }
+    ensures causes { IfErr result MayCome }
 {
     Ok(ended(print_fault(alloc, &fault)?)?)
 }
@@ -80,6 +82,7 @@ fn answer_command<D: Disk>(
     ensures kept { OnOk result (IsAllKept book.new) }
     ensures begun { OnErr result (Begins (by_command command ∷ []) book.old book.new) }
     ensures sort { IfErr result IsOfBook }
+    ensures causes { IfErr result MayCome }
     ensures any_moment { Leaves book.old book.new (IsKeptWithin (table_of book.old)
         (last_kept book.old) (by_command command ∷ [])) }
 {
@@ -98,7 +101,8 @@ fn answer_run<T: Threads + Wait, D: Disk>(
     workers: usize,
     every: u64,
 ) -> Result<Vec<u8>, ServeFault>
-    requires { 1 ≤ every }
+    requires workers { 1 ≤ workers }
+    requires every { 1 ≤ every }
     ensures answer { IfOk result (λ bytes.
         bytes.items ≡ answer (table_of book.old) (Ok (Run count))) }
     ensures table { OnOk result
@@ -106,6 +110,7 @@ fn answer_run<T: Threads + Wait, D: Disk>(
     ensures kept { OnOk result (IsAllKept book.new) }
     ensures begun { OnErr result (Begins (turns count 0 (table_of book.old)) book.old book.new) }
     ensures sort { IfErr result IsOfBook }
+    ensures causes { IfErr result MayCome }
     ensures any_moment { Leaves book.old book.new (IsKeptWithin (table_of book.old)
         (last_kept book.old) (turns count 0 (table_of book.old))) }
 {

@@ -1,13 +1,13 @@
 //! One round over a book.
 
-ghost use Rattle.std.specs.Prelude.{◌≡◌, ◌<◌, length, None, OnOk, OnErr, IfErr, IfOk, IfSome, IfNone};
+ghost use Rattle.std.specs.Prelude.{◌≡◌, ◌<◌, ◌≤◌, length, None, OnOk, OnErr, IfErr, IfOk, IfSome, IfNone};
 ghost use Rattle.ic_jobs.specs.declared.event.Event.TheVariants.{Round};
 ghost use Rattle.ic_jobs.specs.declared.limits.TheConstants.{MAX_JOBS};
 ghost use Rattle.ic_jobs.specs.Landing.{due, Awaits};
 ghost use Rattle.ic_desk.specs.declared.limits.TheConstants.{MAX_ENTRIES};
 ghost use Rattle.ic_desk.specs.Book.{table_of, kept_of, log_of, keeper_of, is_made, IsUnchanged};
 ghost use Rattle.ic_session.specs.Booked.{last_kept, IsAllKept, Advances, MakesRound, StaysPut};
-ghost use Rattle.ic_session.specs.Faults.{IsOfBook};
+ghost use Rattle.ic_session.specs.Faults.{IsOfBook, MayCome};
 ghost use Rattle.ic_session.specs.Moments.{Leaves, IsKeptOrNow};
 
 use crate::fault::ServeFault;
@@ -21,6 +21,8 @@ use std::thread::Threads;
 /// Begins a new page where the history is full, so that one more event can come.
 pub(crate) fn make_room<D: Disk>(alloc: Global, book: &mut Book<D>) -> Result<(), BookFault>
     ensures stays { StaysPut book.old book.new }
+    ensures causes { IfErr result (λ fault. MayCome (ServeFault.Book fault)) }
+    ensures spare { OnOk result (length (log_of book.new) < MAX_ENTRIES) }
     ensures room { length (log_of book.old) < MAX_ENTRIES → IsUnchanged book.old book.new }
     ensures any_moment { Leaves book.old book.new (IsKeptOrNow book.old) }
 {
@@ -37,6 +39,7 @@ pub(crate) fn keep_all<D: Disk>(book: &mut Book<D>) -> Result<(), BookFault>
     ensures kept { OnOk result (IsAllKept book.new) }
     ensures last { OnOk result (last_kept book.new ≡ table_of book.old) }
     ensures unkept { OnErr result (last_kept book.new ≡ last_kept book.old) }
+    ensures causes { IfErr result (λ fault. MayCome (ServeFault.Book fault)) }
     ensures any_moment { Leaves book.old book.new (IsKeptOrNow book.old) }
 {
     book.facts();
@@ -52,6 +55,7 @@ pub(crate) fn make_round<T: Threads + Wait, D: Disk>(
     after: usize,
     workers: usize,
 ) -> Result<Option<usize>, ServeFault>
+    requires { 1 ≤ workers }
     ensures idle { IfOk result (λ place. IfNone place (due (table_of book.old) after ≡ None)) }
     ensures stays { IfOk result (λ place. IfNone place (IsUnchanged book.old book.new)) }
     ensures made { IfOk result (λ place. IfSome place (λ here.
@@ -59,6 +63,7 @@ pub(crate) fn make_round<T: Threads + Wait, D: Disk>(
     ensures low { IfOk result (λ place. IfSome place (λ here. here < MAX_JOBS)) }
     ensures refused { OnErr result (StaysPut book.old book.new) }
     ensures sort { IfErr result IsOfBook }
+    ensures causes { IfErr result MayCome }
     ensures any_moment { Leaves book.old book.new (IsKeptOrNow book.old) }
 {
     book.facts();
@@ -82,11 +87,14 @@ fn land_or_halt<T: Threads + Wait, D: Disk>(
     flight: &Flight,
     workers: usize,
 ) -> Result<(), ServeFault>
-    requires { Awaits (table_of book.old) flight.now.name flight.now.rules flight.now.config
+    requires workers { 1 ≤ workers }
+    requires room { length (log_of book.old) < MAX_ENTRIES }
+    requires awaits { Awaits (table_of book.old) flight.now.name flight.now.rules flight.now.config
         flight.now.rounds }
     ensures advances { OnOk result (Advances (Round flight.now.name) book.old book.new) }
     ensures refused { OnErr result (IsUnchanged book.old book.new) }
     ensures sort { IfErr result IsOfBook }
+    ensures causes { IfErr result MayCome }
     ensures keeper { keeper_of book.new ≡ keeper_of book.old }
     ensures made { is_made book.new ≡ is_made book.old }
 {

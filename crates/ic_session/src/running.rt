@@ -5,7 +5,7 @@ ghost use Rattle.ic_desk.specs.Book.{table_of};
 ghost use Rattle.ic_lines.specs.Turns.{turns, after_events};
 ghost use Rattle.ic_session.specs.Booked.{last_kept, Begins, IsAllKept};
 ghost use Rattle.ic_session.specs.Parts.{IsKeptWithin};
-ghost use Rattle.ic_session.specs.Faults.{IsOfBook};
+ghost use Rattle.ic_session.specs.Faults.{IsOfBook, MayCome};
 ghost use Rattle.ic_session.specs.Moments.{Leaves, IsKeptOrNow};
 
 use crate::fault::ServeFault;
@@ -26,7 +26,8 @@ pub(crate) fn run<T: Threads + Wait, D: Disk>(
     workers: usize,
     every: u64,
 ) -> Result<u64, ServeFault>
-    requires { 1 ≤ every }
+    requires workers { 1 ≤ workers }
+    requires every { 1 ≤ every }
     ensures count { IfOk result (λ made. made ≡ length (turns count 0 (table_of book.old))) }
     ensures table { OnOk result
         (table_of book.new ≡ after_events (table_of book.old) (turns count 0 (table_of book.old))) }
@@ -34,6 +35,7 @@ pub(crate) fn run<T: Threads + Wait, D: Disk>(
     ensures last { OnOk result (last_kept book.new ≡ table_of book.new) }
     ensures begun { OnErr result (Begins (turns count 0 (table_of book.old)) book.old book.new) }
     ensures sort { IfErr result IsOfBook }
+    ensures causes { IfErr result MayCome }
     ensures any_moment { Leaves book.old book.new (IsKeptWithin (table_of book.old)
         (last_kept book.old) (turns count 0 (table_of book.old))) }
 {
@@ -51,7 +53,8 @@ fn make_rounds<T: Threads + Wait, D: Disk>(
     workers: usize,
     every: u64,
 ) -> Result<u64, ServeFault>
-    requires { 1 ≤ every }
+    requires workers { 1 ≤ workers }
+    requires every { 1 ≤ every }
     ensures count { IfOk result (λ made. made ≡ length (turns count 0 (table_of book.old))) }
     ensures table { OnOk result
         (table_of book.new ≡ after_events (table_of book.old) (turns count 0 (table_of book.old))) }
@@ -59,6 +62,7 @@ fn make_rounds<T: Threads + Wait, D: Disk>(
         (turns count 0 (table_of book.old)) (last_kept book.new)) }
     ensures begun { OnErr result (Begins (turns count 0 (table_of book.old)) book.old book.new) }
     ensures sort { IfErr result IsOfBook }
+    ensures causes { IfErr result MayCome }
     ensures any_moment { Leaves book.old book.new (IsKeptWithin (table_of book.old)
         (last_kept book.old) (turns count 0 (table_of book.old))) }
 {
@@ -81,6 +85,7 @@ fn keep_each<D: Disk>(book: &mut Book<D>, made: u64, every: u64) -> Result<(), B
     ensures kept { OnOk result ((last_kept book.new ≡ last_kept book.old)
         ⊎ (last_kept book.new ≡ table_of book.old)) }
     ensures unkept { OnErr result (last_kept book.new ≡ last_kept book.old) }
+    ensures causes { IfErr result (λ fault. MayCome (ServeFault.Book fault)) }
     ensures any_moment { Leaves book.old book.new (IsKeptOrNow book.old) }
 {
     book.facts();

@@ -4,7 +4,7 @@ ghost use Rattle.std.specs.Prelude.{◌≡◌, ◌≢◌, ◌≤◌, Err, IfErr,
 ghost use Rattle.ic_disk.specs.Time.{LeavesOnly};
 ghost use Rattle.ic_desk.specs.Book.{table_of, disk_of};
 ghost use Rattle.ic_lines.specs.declared.buffer.LineFault.TheVariants.{LongLine};
-ghost use Rattle.ic_session.specs.Faults.{fault_of_line};
+ghost use Rattle.ic_session.specs.Faults.{MayCome, fault_of_line};
 ghost use Rattle.ic_session.specs.Booked.{last_kept, IsAllKept, IsOnMadeDisk};
 ghost use Rattle.ic_session.specs.Served.{OfLines, AreAnswered, IsEnded, IsCut};
 ghost use Rattle.ic_session.specs.Stopped.{HoldsOne, MayStand};
@@ -45,6 +45,7 @@ pub fn serve_lines<T: Threads + Wait, D: Disk, R: Read, W: Write>(
         → OfLines (R.remaining reader.old) (λ ls. IsEnded fault (IsAllKept book.old) ls
         (table_of book.old) (table_of book.new) (last_kept book.new)
         (W.contents writer.old) (W.contents writer.new))) }
+    ensures causes { IfErr result MayCome }
     ensures cut { result ≡ Err ServeFault.Write
         → OfLines (R.remaining reader.old) (λ ls. IsCut ls (table_of book.old) (table_of book.new)
         (W.contents writer.old) (W.contents writer.new)) }
@@ -84,6 +85,7 @@ pub fn serve_lines<T: Threads + Wait, D: Disk, R: Read, W: Write>(
 fn behind_the_last(fault: LineFault) -> ServeFault
     ensures long { fault ≡ LongLine → result ≡ ServeFault.TooManyLines }
     ensures others { fault ≢ LongLine → result ≡ fault_of_line fault }
+    ensures causes { MayCome result }
 {
     match fault {
         LineFault::LongLine => ServeFault::TooManyLines,

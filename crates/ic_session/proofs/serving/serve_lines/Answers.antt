@@ -185,6 +185,7 @@ returns g c =
     record {
       served = tt;
       kept = tt;
+      causes = c.behind_the_last.ensures.causes;
       ended = λ other. ended_at c.behind_the_last.result (IsAllKept c.args.book.now) (g.R.Read.remaining c.args.reader.now) rest c.loop.counter
     (table_of c.args.book.now) (table_of c.loop.book) (table_of c.loop.book) (last_kept c.loop.book)
     (g.W.Write.contents c.args.writer.now) (g.W.Write.contents c.loop.writer) (g.W.Write.contents c.take_line-2.new.writer) none.more
