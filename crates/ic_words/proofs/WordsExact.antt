@@ -18,7 +18,7 @@ both_empty [] b e = (refl, e)
 both_empty (k ∷ ks) b e = cc
 
 -- what asks for help, and for the version
-abbrev help : Rule
+abbrev pub help : Rule
 help = with_index 1 (filled help_rule)
 
 abbrev version : Rule
@@ -145,7 +145,7 @@ level_words base leaf (v ∷ vs) none e =
 abbrev top : Shape
 top = (built command_line).top
 
-abbrev below : ℕ → Shape
+abbrev pub below : ℕ → Shape
 below k = unwrap_or (slice_get (built command_line).subs k) top
 
 -- behind the name of a command each word is one of its own
@@ -165,7 +165,7 @@ unfolding walked
 once_stops words = stopped_with (codes "once") [] words
 
 -- words without a mistake have none at the level of their command
-level_free : (words : List Text) → fault_of command_line words ≡ []
+pub level_free : (words : List Text) → fault_of command_line words ≡ []
     → entered_fault (built command_line) (walk (rules false) (names_below false) nothing_held words).stopped ≡ []
 level_free words e = (both_empty _ _ (both_empty _ _ e).1).0
 

@@ -111,7 +111,7 @@ NamesCommand command words = (words ≡ command ∷ []) ⊎ (words ≡ command �
 abbrev pub value_met : Text → Option (Text × List Row) → Text
 value_met option met = unwrap_or (option_and_then (λ p. first_of option p.1) met) []
 
--- the text that is read as the number of an option of a command that is met
+-- the text that the parser reads as the number of an option of a command that is met, or none
 abbrev pub number_met : Text → Option (Text × List Row) → Text
 number_met option met = unwrap_or (option_and_then (λ p. one_of option p.1) met) []
 
@@ -124,12 +124,12 @@ IsDecimal text number = IsNumeral 10 (without_leading_plus text)
 abbrev pub BeginsWith : List ℕ → List (List ℕ) → Type 0
 BeginsWith command words = (rest : List (List ℕ)) × (words ≡ command ∷ rest)
 
--- this is the number of an option, from 1 to the most: where the option's text is such a number, it
--- is that one
+-- this is the number that the text of an option spells, the default's where it isn't given; it lies
+-- between 1 and the most
 abbrev pub IsNumberOf : Text → ℕ → List (List ℕ) → ℕ → Type 0
-IsNumberOf option most words number = (1 ≤ number) × (number ≤ most)
-    × ((spelt : ℕ) → IsDecimal (number_met option (subcommand_of command_line words)) spelt
-    → 1 ≤ spelt → spelt ≤ most → number ≡ spelt)
+IsNumberOf option most words number =
+    IsDecimal (value_met option (subcommand_of command_line words)) number
+    × (1 ≤ number) × (number ≤ most)
 
 -- the words name the task
 abbrev pub Names : List (List ℕ) → Task → Type 0

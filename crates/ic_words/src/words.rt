@@ -119,7 +119,8 @@ fn value_of<'a>(matches: &ArgMatches<'a>, option: &str) -> &'a str
     }
 }
 
-/// The number that is the value of an option of the command that was met, in its range.
+/// The number that is the value of an option of the command that was met, in its range. The parser has refused any other
+/// value, so the bounds here change nothing.
 fn number_of(matches: &ArgMatches, option: &str, most: u32) -> u32
     requires { 1 ≤ most }
     ensures least { 1 ≤ result }

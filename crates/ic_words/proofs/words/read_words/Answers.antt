@@ -1,8 +1,9 @@
-use Rattle.std.proofs.Common.{◌≡◌, ◌∙◌, sym, ap, codes, Some, rules}
+use Rattle.std.proofs.Common.{◌≡◌, ◌∙◌, sym, ap, codes, map, Some, rules}
 use Rattle.std.specs.Prelude.{string_bytes}
 use Rattle.ic_words.specs.Words.{value_met}
 use Rattle.ic_words.proofs.WordsLaws.{create_named, serve_named, rows_met, settle_or_create, once_or_create, settle_or_serve, once_or_serve, begins_otherwise, mistake_made, none_made, taken_alone, settle_taken, once_taken, help_asked, version_asked, asked_alone, asked_not_taken, command_met, settle_named, once_named, none_other, no_other_alone}
 use Rattle.ic_words.proofs.words.read_words.Goals.{in_default-via-in-Some+in_default, in_default-via-in_default}
+use Rattle.ic_words.proofs.ServeNumbers.{number_named, serve_numbers}
 use Rattle.ic_words.proofs.words.read_words.Goals as goal
 
 pub returns-in-Some-settle-clause-answers : goal.returns-in-Some-settle-clause-answers
@@ -63,14 +64,16 @@ returns-in-Some-serve c =
     let met = command_met _ _ c.in-Ok.matches c.in_ok-command.ensures c.in-Ok.ensures.kinds c.in-Ok.ensures.matches in
     let begins = serve_named _ _ _ c.in-Some-serve.field-0 met c.subcommand_name.ensures c.in-Some-serve.is c.in-Some-serve.is-serve in
     let rows = rows_met _ _ c.in-Ok.matches c.in_ok-command.ensures c.in-Ok.ensures.matches in
+    let words = map string_bytes c.args.words.now in
+    let spelt = serve_numbers words none begins in
     let text : string_bytes c.in_ok-disk-in-Some-serve.disk ≡ c.value_of-in-Some-serve.result.now = search rules in
     record {
       answers = none;
       named = (
         begins,
         text ∙ c.value_of-in-Some-serve.ensures ∙ ap (value_met (codes "disk")) rows,
-        (c.number_of-workers.ensures.least, c.number_of-workers.ensures.most, λ n is. c.number_of-workers.ensures.value n (rw rows is)),
-        (c.number_of-every.ensures.least, c.number_of-every.ensures.most, λ n is. c.number_of-every.ensures.value n (rw rows is)),
+        number_named _ _ _ words _ spelt.0 rows c.number_of-workers.ensures.value,
+        number_named _ _ _ words _ spelt.1 rows c.number_of-every.ensures.value,
       );
       settle = λ is. absurd (settle_or_serve (ap Some (sym (begins_otherwise _ _ _ begins is))));
       once = λ is. absurd (once_or_serve (ap Some (sym (begins_otherwise _ _ _ begins is))));
