@@ -2,35 +2,41 @@
 
 use ic_notation::Trouble;
 use ic_serve::{Task, WordsFault, read_words};
-use std::alloc::Global;
+use std::alloc::{AllocError, Global};
 
-/// What words ask for, or that they are refused; and whether a text that comes with it has the last word, which isn't one
-/// of those that are read.
+/// What words ask for, with all that comes with it. Of help and of a refusal it is told whether the text has the part
+/// that stands behind ` ~ `, which isn't one of the words.
 pub fn words(alloc: Global, line: &str) -> Result<Vec<u8>, Trouble> {
     let (line, part) = line.rsplit_once(" ~ ").unwrap_or((line, ""));
     let mut words = Vec::new(alloc);
     for word in line.split_whitespace() {
         words.push(String::from_str(alloc, word)?)?;
     }
-    let (name, text) = match read_words(alloc, &words) {
-        Ok(Task::Settle) => ("settle", String::new(alloc)),
-        Ok(Task::Once) => ("once", String::new(alloc)),
-        Ok(Task::Create { disk }) => ("create", disk),
+    let answer = match read_words(alloc, &words) {
+        Ok(Task::Settle) => String::from_str(alloc, "settle")?,
+        Ok(Task::Once) => String::from_str(alloc, "once")?,
+        Ok(Task::Create { disk }) => format!(in alloc; "create {disk}")?,
         Ok(
             Task::Serve {
                 disk,
                 workers,
                 every,
             },
-        ) => ("serve", format!(in alloc; "{disk} {workers} {every}")?),
-        Ok(Task::Help(text)) => ("help", text),
-        Ok(Task::Version(text)) => ("version", text),
-        Err(WordsFault::Words(text)) => ("refused", text),
-        Err(WordsFault::Memory) => ("memory", String::new(alloc)),
+        ) => format!(in alloc; "serve {disk} {workers} {every}")?,
+        Ok(Task::Help(text)) => of_part(alloc, "help", &text, part)?,
+        Ok(Task::Version(text)) => format!(in alloc; "version {text}")?,
+        Err(WordsFault::Words(text)) => of_part(alloc, "refused", &text, part)?,
+        Err(WordsFault::Memory) => return Err(Trouble("no memory")),
     };
-    let mut answer = Vec::from_slice(alloc, name.as_bytes())?;
-    if text.contains(part) {
-        answer.extend_from_slice(b" with it")?;
-    }
-    Ok(answer)
+    Ok(answer.into_bytes())
+}
+
+/// A word, and whether a text has a part.
+fn of_part(alloc: Global, word: &str, text: &str, part: &str) -> Result<String, AllocError> {
+    let with = if text.contains(part) {
+        "with"
+    } else {
+        "without"
+    };
+    format!(in alloc; "{word} {with} it")
 }
