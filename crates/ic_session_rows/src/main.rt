@@ -8,6 +8,7 @@
 mod answers;
 mod cuts;
 mod disks;
+mod faults;
 mod lines;
 mod serving;
 mod streams;
