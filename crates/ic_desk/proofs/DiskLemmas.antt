@@ -46,7 +46,7 @@ either_told a b file sound either = ⊎_elim
 
 -- ---- what is on the disk
 
-module _ (content : List ℕ) (image : List ℕ → Type 0) (start : List JobParts) (log : List Entry) (kept : ℕ) (broken made : Bool) (is : IsOnDisk content image start log kept broken made) where
+module _ (content : List ℕ) (image : List ℕ → Type 0) (start : List JobParts) (log : List Entry) (kept : ℕ) (broken : Bool) (is : IsOnDisk content image start log kept broken) where
   -- each image holds the table that is kept
   pub holds_now : broken ≡ false → Within image IsMade → Within image (HoldsTable (table_kept start log kept))
   holds_now ready all file there = record { made = all file there; held = is.holds ready file there }
@@ -57,12 +57,10 @@ module _ (content : List ℕ) (image : List ℕ → Type 0) (start : List JobPar
 
   -- what is kept stays the same table, and nothing has broken
   pub same_kept : broken ≡ false → (new_start : List JobParts) (new_log : List Entry) (new_kept : ℕ)
-      → table_kept new_start new_log new_kept ≡ table_kept start log kept → IsOnDisk content image new_start new_log new_kept broken made
+      → table_kept new_start new_log new_kept ≡ table_kept start log kept → IsOnDisk content image new_start new_log new_kept broken
   same_kept ready new_start new_log new_kept same = record {
     held = λ whole. subst (λ (t : List JobParts). IsHeld (the_table t) content) (sym same) (is.held whole);
     holds = λ whole file there. subst (λ (t : List JobParts). IsHeld (the_table t) file) (sym same) (is.holds whole file there);
-    made_is = is.made_is;
-    all_made = is.all_made;
     either = λ all file there. ∣ inl (subst (λ (t : List JobParts). HoldsTable t file) (sym same) (holds_now ready all file there)) ∣₁;
   }
 
@@ -72,24 +70,20 @@ module _ (content : List ℕ) (image : List ℕ → Type 0) (start : List JobPar
 
 -- a table was kept
 pub kept_now : (content : List ℕ) (image : List ℕ → Type 0) (start : List JobParts) (log : List Entry) (kept : ℕ) (broken : Bool) (table : List JobParts)
-    → table_kept start log kept ≡ table → IsHeld (the_table table) content → Within image (HoldsTable table) → IsOnDisk content image start log kept broken true
+    → table_kept start log kept ≡ table → IsHeld (the_table table) content → Within image (HoldsTable table) → IsOnDisk content image start log kept broken
 kept_now content image start log kept broken table same held holds =
     let all = subst (λ (t : List JobParts). Within image (HoldsTable t)) (sym same) holds in record {
       held = λ _. subst (λ (t : List JobParts). IsHeld (the_table t) content) (sym same) held;
       holds = λ _ file there. (all file there).held;
-      made_is = λ _ _. refl;
-      all_made = λ _ file there. (all file there).made;
       either = λ _ file there. ∣ inl (all file there) ∣₁;
     }
 
 -- a keep has failed
-pub keep_failed : (content : List ℕ) (image : List ℕ → Type 0) (start : List JobParts) (log : List Entry) (kept : ℕ) (broken made : Bool)
-    → broken ≡ true → (made ≡ true → Within image IsMade) → (Within image IsMade → Within image (HoldsKeptOrAll start log kept)) → IsOnDisk content image start log kept broken made
-keep_failed content image start log kept broken made broke each either = record {
+pub keep_failed : (content : List ℕ) (image : List ℕ → Type 0) (start : List JobParts) (log : List Entry) (kept : ℕ) (broken : Bool)
+    → broken ≡ true → (Within image IsMade → Within image (HoldsKeptOrAll start log kept)) → IsOnDisk content image start log kept broken
+keep_failed content image start log kept broken broke either = record {
   held = λ whole. let never : true ≡ false = sym broke ∙ whole in cc;
   holds = λ whole. let never : true ≡ false = sym broke ∙ whole in cc;
-  made_is = λ whole. let never : true ≡ false = sym broke ∙ whole in cc;
-  all_made = each;
   either = λ all file there. ∣ either all file there ∣₁;
 }
 

@@ -39,10 +39,6 @@ is_broken book = keeper.is_broken book.keeper
 abbrev pub number_of : {D : Type 0} {ghosts : Ghosts D} → Book D ghosts → ℕ
 number_of book = keeper.number_of book.keeper
 
--- both heads of the slots lay within the disk when it was opened, or a table was kept since
-abbrev pub is_made : {D : Type 0} {ghosts : Ghosts D} → Book D ghosts → Bool
-is_made book = book.made
-
 -- nothing has changed
 pub record IsUnchanged {D : Type 0} {ghosts : Ghosts D} (old new : Book D ghosts) : Type 0 where
   pub same_start : start_of new ≡ start_of old
@@ -50,4 +46,3 @@ pub record IsUnchanged {D : Type 0} {ghosts : Ghosts D} (old new : Book D ghosts
   pub same_table : table_of new ≡ table_of old
   pub same_kept : kept_of new ≡ kept_of old
   pub same_keeper : keeper_of new ≡ keeper_of old
-  pub same_made : is_made new ≡ is_made old

@@ -1,5 +1,5 @@
 -- What a book keeps: its history in memory, and a table on its disk. This project's choice.
-use Rattle.std.specs.Prelude.{◌≡◌, ℕ, ◌-◌, ◌≤◌, List, Bool, true, false, length, take, drop}
+use Rattle.std.specs.Prelude.{◌≡◌, ℕ, ◌-◌, ◌≤◌, List, Bool, false, length, take, drop}
 use Rattle.std.specs.List.{AllByRecursion}
 use Rattle.ic_disk.specs.Images.{Within}
 use Rattle.ic_jobs.specs.declared.event.Entry.{Entry}
@@ -40,13 +40,10 @@ pub record IsHistory (start : List JobParts) (log : List Entry) (table : List Jo
   pub sound : IsTable (table_kept start log kept)
 
 -- What a book keeps on a disk that keeps the model: what reads give and what a crash may leave.
--- Where the book is broken that is said only if each image is made. `made` says that both heads of
--- the slots lie within the disk.
+-- Where the book is broken that is said only if each image is made.
 pub record IsOnDisk (content : List ℕ) (image : List ℕ → Type 0) (start : List JobParts)
-    (log : List Entry) (kept : ℕ) (broken made : Bool) : Type 0 where
+    (log : List Entry) (kept : ℕ) (broken : Bool) : Type 0 where
   pub held : broken ≡ false → IsHeld (the_table (table_kept start log kept)) content
   pub holds : broken ≡ false → Within image (IsHeld (the_table (table_kept start log kept)))
-  pub made_is : broken ≡ false → IsMade content → made ≡ true
-  pub all_made : made ≡ true → Within image IsMade
   pub either : Within image IsMade
       → (file : List ℕ) → image file → ∥ HoldsKeptOrAll start log kept file ∥₁

@@ -37,18 +37,15 @@ pub struct Book<D: Disk> {
     table: Table,
     kept: usize,
     keeper: Keeper<D>,
-    // Whether both heads of the slots lay within the disk when it was opened, or a table was kept
-    // since.
-    made: bool,
     ghost history: { IsHistory start log.items table kept
         (keeper_parts.is_broken keeper) } by { IsHistory-prop start log.items table kept
             (keeper_parts.is_broken keeper) },
     ghost on_disk: { IsTrue (D.keeps (keeper_parts.disk_of keeper))
         → IsOnDisk (D.content (keeper_parts.disk_of keeper))
         (D.image (keeper_parts.disk_of keeper)) start log.items kept
-        (keeper_parts.is_broken keeper) made } by { Π_prop (λ _. IsOnDisk-prop
+        (keeper_parts.is_broken keeper) } by { Π_prop (λ _. IsOnDisk-prop
             (D.content (keeper_parts.disk_of keeper)) (D.image (keeper_parts.disk_of keeper))
-            start log.items kept (keeper_parts.is_broken keeper) made) },
+            start log.items kept (keeper_parts.is_broken keeper)) },
     ghost newest: { IsTrue (D.keeps (keeper_parts.disk_of keeper))
         → keeper_parts.is_broken keeper ≡ false
         → IsOnNewest (keeper_parts.frames_of keeper)
@@ -58,7 +55,7 @@ pub struct Book<D: Disk> {
 }
 
 impl<D: Disk> Book<D> {
-    ghost use Rattle.ic_desk.specs.Book.{start_of, log_of, table_of, kept_of, keeper_of, disk_of, is_broken, number_of, is_made, IsUnchanged};
+    ghost use Rattle.ic_desk.specs.Book.{start_of, log_of, table_of, kept_of, keeper_of, disk_of, is_broken, number_of, IsUnchanged};
     ghost use Rattle.ic_desk.specs.Opened.{disk_after, outcome_of};
 
     /// Finds the table that a disk holds. The book begins with it, and with an empty log. It begins
@@ -78,8 +75,6 @@ impl<D: Disk> Book<D> {
         ensures log { IfOk result (λ book. log_of book ≡ []) }
         ensures kept { IfOk result (λ book. kept_of book ≡ 0) }
         ensures ready { IfOk result (λ book. is_broken book ≡ false) }
-        ensures made { IsTrue (D.keeps disk) → IfOk result (λ book.
-            (is_made book ≡ true) ↔ IsMade (D.content disk)) }
 
         // A crash at any moment leaves an image from before. At Ok there is one, what reads give.
         ensures any_moment { IsTrue (D.keeps disk)
@@ -87,14 +82,15 @@ impl<D: Disk> Book<D> {
         ensures same { IsTrue (D.keeps disk) → D.content (disk_after result) ≡ D.content disk }
         ensures settled { IsTrue (D.keeps disk)
             → OnOk result (Only (D.content disk) (D.image (disk_after result))) }
+        ensures made { IsTrue (D.keeps disk) → IsMade (D.content disk)
+            → OnOk result (Within (D.image (disk_after result)) IsMade) }
 
-        // So it is wherever no call to the disk has failed: a sync has come before.
+        // It is the only one wherever no call to the disk has failed: a sync has come before.
         ensures synced { IsTrue (D.keeps disk) → ¬ IsErrOf (outcome_of result) OpenCause.Device
             → Only (D.content disk) (D.image (disk_after result)) }
     {
         match Keeper::open(alloc, disk) {
             Ok((keeper, table)) => {
-                let made = keeper.made();
                 match table.copy(alloc) {
                     Ok(start) => Ok(Book {
                         start,
@@ -102,7 +98,6 @@ impl<D: Disk> Book<D> {
                         table,
                         kept: 0,
                         keeper,
-                        made,
                     }),
                     Err(_) => Err(OpenFault {
                         disk: keeper.close(),
@@ -156,14 +151,6 @@ impl<D: Disk> Book<D> {
         self.keeper.worn()
     }
 
-    /// Whether both heads of the slots lay within the disk when it was opened, or a table was kept
-    /// since. So it is where `create` has answered.
-    pub fn made(&self) -> bool
-        ensures { result ≡ is_made self.now }
-    {
-        self.made
-    }
-
     /// What the type of a book says. It reads nothing.
     pub fn facts(&self)
         // Replaying the log on the opening table gives the table and each reply. Behind what is
@@ -176,12 +163,8 @@ impl<D: Disk> Book<D> {
         // image is made.
         ensures on_disk { IsTrue (D.keeps (disk_of self.now)) → IsOnDisk
             (D.content (disk_of self.now)) (D.image (disk_of self.now))
-            (start_of self.now) (log_of self.now) (kept_of self.now)
-            (is_broken self.now) (is_made self.now) }
-        ensures either { IsTrue (D.keeps (disk_of self.now)) → is_made self.now ≡ true
-            → Within (D.image (disk_of self.now))
-            (HoldsKeptOrAll (start_of self.now) (log_of self.now) (kept_of self.now)) }
-        ensures kept { IsTrue (D.keeps (disk_of self.now))
+            (start_of self.now) (log_of self.now) (kept_of self.now) (is_broken self.now) }
+        ensures either { IsTrue (D.keeps (disk_of self.now))
             → Within (D.image (disk_of self.now)) IsMade
             → Within (D.image (disk_of self.now))
             (HoldsKeptOrAll (start_of self.now) (log_of self.now) (kept_of self.now)) }
@@ -190,10 +173,6 @@ impl<D: Disk> Book<D> {
         ensures newest { IsTrue (D.keeps (disk_of self.now)) → is_broken self.now ≡ false
             → IsOnNewest (keeper_parts.frames_of (keeper_of self.now))
             (D.content (disk_of self.now)) }
-
-        // `made` says of a book that isn't broken that each image of its disk is made.
-        ensures made { IsTrue (D.keeps (disk_of self.now)) → is_broken self.now ≡ false
-            → (is_made self.now ≡ true) ↔ Within (D.image (disk_of self.now)) IsMade }
     {}
 
     /// Does what a client's command asks and keeps what it leaves, with all that came before it. At
@@ -229,12 +208,17 @@ impl<D: Disk> Book<D> {
         ensures unkept { IsErrOf result BookFault.Device → kept_of self.new ≡ kept_of self.old }
 
         ensures start { start_of self.new ≡ start_of self.old }
-        ensures made { is_made self.old ≡ true → is_made self.new ≡ true }
-        ensures made_now { IfOk result (λ answer. leaves_table answer ≡ false
-            → is_made self.new ≡ true) }
+
+        // A made disk stays made, and is made once a change is answered.
+        ensures made { IsTrue (D.keeps (disk_of self.old))
+            → Within (D.image (disk_of self.old)) IsMade
+            → Within (D.image (disk_of self.new)) IsMade }
+        ensures made_now { IsTrue (D.keeps (disk_of self.old)) → IfOk result (λ answer.
+            leaves_table answer ≡ false → Within (D.image (disk_of self.new)) IsMade) }
 
         // A crash at any moment leaves the table that was kept, or the one after the command.
-        ensures any_moment { IsTrue (D.keeps (disk_of self.old)) → is_made self.old ≡ true
+        ensures any_moment { IsTrue (D.keeps (disk_of self.old))
+            → Within (D.image (disk_of self.old)) IsMade
             → LeavesOnly D.clock D.left (disk_of self.old) (disk_of self.new)
             (HoldsKeptOrAll (start_of self.old) (log_of self.new) (kept_of self.old)) }
 
@@ -256,7 +240,6 @@ impl<D: Disk> Book<D> {
         }
         keep_table(&mut self.keeper, &self.table)?;
         self.kept = self.log.len();
-        self.made = true;
         Ok(answer)
     }
 
@@ -320,10 +303,13 @@ impl<D: Disk> Book<D> {
         ensures start { start_of self.new ≡ start_of self.old }
         ensures kept { kept_of self.new ≡ kept_of self.old }
         ensures keeper { keeper_of self.new ≡ keeper_of self.old }
-        ensures made { is_made self.new ≡ is_made self.old }
+        ensures made { IsTrue (D.keeps (disk_of self.old))
+            → Within (D.image (disk_of self.old)) IsMade
+            → Within (D.image (disk_of self.new)) IsMade }
 
         // A crash at any moment leaves the table that was kept, or the one after all.
-        ensures any_moment { IsTrue (D.keeps (disk_of self.old)) → is_made self.old ≡ true
+        ensures any_moment { IsTrue (D.keeps (disk_of self.old))
+            → Within (D.image (disk_of self.old)) IsMade
             → LeavesOnly D.clock D.left (disk_of self.old) (disk_of self.new)
             (HoldsKeptOrAll (start_of self.old) (log_of self.new) (kept_of self.old)) }
     {
@@ -363,10 +349,13 @@ impl<D: Disk> Book<D> {
         ensures start { start_of self.new ≡ start_of self.old }
         ensures kept { kept_of self.new ≡ kept_of self.old }
         ensures keeper { keeper_of self.new ≡ keeper_of self.old }
-        ensures made { is_made self.new ≡ is_made self.old }
+        ensures made { IsTrue (D.keeps (disk_of self.old))
+            → Within (D.image (disk_of self.old)) IsMade
+            → Within (D.image (disk_of self.new)) IsMade }
 
         // A crash at any moment leaves the table that was kept, or the one after all.
-        ensures any_moment { IsTrue (D.keeps (disk_of self.old)) → is_made self.old ≡ true
+        ensures any_moment { IsTrue (D.keeps (disk_of self.old))
+            → Within (D.image (disk_of self.old)) IsMade
             → LeavesOnly D.clock D.left (disk_of self.old) (disk_of self.new)
             (HoldsKeptOrAll (start_of self.old) (log_of self.new) (kept_of self.old)) }
     {
@@ -399,16 +388,22 @@ impl<D: Disk> Book<D> {
         ensures start { start_of self.new ≡ start_of self.old }
         ensures log { log_of self.new ≡ log_of self.old }
         ensures table { table_of self.new ≡ table_of self.old }
-        ensures made { is_made self.old ≡ true → is_made self.new ≡ true }
-        ensures made_now { kept_of self.old < length (log_of self.old)
-            → OnOk result (is_made self.new ≡ true) }
+
+        // A made disk stays made, and is made once a table is kept.
+        ensures made { IsTrue (D.keeps (disk_of self.old))
+            → Within (D.image (disk_of self.old)) IsMade
+            → Within (D.image (disk_of self.new)) IsMade }
+        ensures made_now { IsTrue (D.keeps (disk_of self.old))
+            → kept_of self.old < length (log_of self.old)
+            → OnOk result (Within (D.image (disk_of self.new)) IsMade) }
 
         // At Ok reads give the table.
         ensures held { IsTrue (D.keeps (disk_of self.old)) → OnOk result
             (IsHeld (the_table (table_of self.new)) (D.content (disk_of self.new))) }
 
         // A crash at any moment leaves the table that was kept, or the one that is kept now.
-        ensures any_moment { IsTrue (D.keeps (disk_of self.old)) → is_made self.old ≡ true
+        ensures any_moment { IsTrue (D.keeps (disk_of self.old))
+            → Within (D.image (disk_of self.old)) IsMade
             → LeavesOnly D.clock D.left (disk_of self.old) (disk_of self.new)
             (HoldsKeptOrAll (start_of self.old) (log_of self.old) (kept_of self.old)) }
 
@@ -423,7 +418,6 @@ impl<D: Disk> Book<D> {
         }
         keep_table(&mut self.keeper, &self.table)?;
         self.kept = self.log.len();
-        self.made = true;
         Ok(())
     }
 
@@ -449,9 +443,14 @@ impl<D: Disk> Book<D> {
         ensures kept { OnOk result (kept_of self.new ≡ 0) }
         ensures ready { OnOk result (is_broken self.new ≡ false) }
         ensures table { table_of self.new ≡ table_of self.old }
-        ensures made { is_made self.old ≡ true → is_made self.new ≡ true }
-        ensures made_now { kept_of self.old < length (log_of self.old)
-            → OnOk result (is_made self.new ≡ true) }
+
+        // A made disk stays made, and is made once a table is kept.
+        ensures made { IsTrue (D.keeps (disk_of self.old))
+            → Within (D.image (disk_of self.old)) IsMade
+            → Within (D.image (disk_of self.new)) IsMade }
+        ensures made_now { IsTrue (D.keeps (disk_of self.old))
+            → kept_of self.old < length (log_of self.old)
+            → OnOk result (Within (D.image (disk_of self.new)) IsMade) }
 
         // After `Device` the page is the old one.
         ensures same_start { OnErr result (start_of self.new ≡ start_of self.old) }
@@ -463,7 +462,8 @@ impl<D: Disk> Book<D> {
             (IsHeld (the_table (table_of self.new)) (D.content (disk_of self.new))) }
 
         // A crash at any moment leaves the table that was kept, or the one that is kept now.
-        ensures any_moment { IsTrue (D.keeps (disk_of self.old)) → is_made self.old ≡ true
+        ensures any_moment { IsTrue (D.keeps (disk_of self.old))
+            → Within (D.image (disk_of self.old)) IsMade
             → LeavesOnly D.clock D.left (disk_of self.old) (disk_of self.new)
             (HoldsKeptOrAll (start_of self.old) (log_of self.old) (kept_of self.old)) }
 
@@ -507,7 +507,7 @@ impl<D: Disk> Book<D> {
 
         // A crash now leaves the table that was kept, or where the book is broken that or the one
         // after all.
-        ensures images { IsTrue (D.keeps result) → is_made self ≡ true
+        ensures images { IsTrue (D.keeps result) → Within (D.image result) IsMade
             → Within (D.image result)
             (HoldsKeptOrAll (start_of self) (log_of self) (kept_of self)) }
         ensures held { IsTrue (D.keeps result) → is_broken self ≡ false

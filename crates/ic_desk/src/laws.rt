@@ -23,7 +23,7 @@ ghost use Rattle.ic_desk.specs.declared.faults.BookFault.TheVariants.{Device};
 ghost use Rattle.ic_desk.specs.Entries.{AreRounds, is_round, leaves_table};
 ghost use Rattle.ic_desk.specs.Kept.{HoldsKeptOrAll, IsHistory, MayBeUnkept};
 ghost use Rattle.ic_desk.specs.Refusals.{CountsBook};
-ghost use Rattle.ic_desk.specs.Book.{start_of, log_of, table_of, kept_of, keeper_of, disk_of, is_made, IsUnchanged};
+ghost use Rattle.ic_desk.specs.Book.{start_of, log_of, table_of, kept_of, keeper_of, disk_of, IsUnchanged};
 ghost use Rattle.ic_desk.specs.Lives.{Page, IsPage, AreLives, left_by, lived};
 
 use crate::Book;
@@ -191,7 +191,7 @@ pub fn unchanged_is_all<D: Disk>(old: &Book<D>, new: &Book<D>)
     ensures parts { IsUnchanged old.now new.now
         ↔ ((start_of new.now ≡ start_of old.now) × (log_of new.now ≡ log_of old.now)
         × (table_of new.now ≡ table_of old.now) × (kept_of new.now ≡ kept_of old.now)
-        × (keeper_of new.now ≡ keeper_of old.now) × (is_made new.now ≡ is_made old.now)) }
+        × (keeper_of new.now ≡ keeper_of old.now)) }
     ensures disk { IsUnchanged old.now new.now → disk_of new.now ≡ disk_of old.now }
 {
     let _ = old;

@@ -28,7 +28,3 @@ is_closed f = f.closed
 -- its number and body are written behind the closed gate
 abbrev pub is_staged : {D : Type 0} {ghosts : Ghosts D} → Frames D ghosts → Bool
 is_staged f = f.staged
-
--- both heads lay within the disk when it was opened, or a body was written since
-abbrev pub is_made : {D : Type 0} {ghosts : Ghosts D} → Frames D ghosts → Bool
-is_made f = f.made

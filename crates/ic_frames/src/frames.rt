@@ -46,7 +46,7 @@ pub struct Frames<D: Disk> {
 }
 
 impl<D: Disk> Frames<D> {
-    ghost use Rattle.ic_frames.specs.Frames.{disk_of, target_of, number_of, is_broken, is_closed, is_staged, is_made};
+    ghost use Rattle.ic_frames.specs.Frames.{disk_of, target_of, number_of, is_broken, is_closed, is_staged};
     ghost use Rattle.ic_frames.specs.Opened.{disk_after, outcome_of, IsOnNewest};
 
     /// Finds the newest body of a disk. It begins with a sync, and changes nothing. The frame has the
@@ -65,8 +65,6 @@ impl<D: Disk> Frames<D> {
         // What it says of the newest slot is so.
         ensures newest { IsTrue (D.keeps disk) → IfOk result (λ opened.
             IsOnNewest opened.frames (D.content disk)) }
-        ensures made { IsTrue (D.keeps disk) → IfOk result (λ opened.
-            (is_made opened.frames ≡ true) ↔ IsMade (D.content disk)) }
 
         ensures ready { IfOk result (λ opened. is_broken opened.frames ≡ false) }
         ensures room { IfOk result (λ opened. 13 + 3036421 ≤ vec_capacity opened.frame) }
@@ -382,13 +380,6 @@ impl<D: Disk> Frames<D> {
         ensures { IsTrue result ↔ (number_of self.now ≡ 2 ^ 64 - 1) }
     {
         self.number == u64::MAX
-    }
-
-    /// Whether both heads lay within the disk when it was opened, or a body was written since.
-    pub fn made(&self) -> bool
-        ensures { result ≡ is_made self.now }
-    {
-        self.made
     }
 
     /// The disk.

@@ -13,6 +13,7 @@ use Rattle.ic_jobs.specs.declared.event.Event.TheVariants.{Command as by_command
 use Rattle.ic_jobs.specs.declared.reply.Reply.{Reply}
 use Rattle.ic_jobs.specs.Job.{JobParts}
 use Rattle.ic_jobs.specs.History.{table_after, replay}
+use Rattle.ic_frames.specs.Fields.{IsMade}
 use Rattle.ic_slots.specs.declared.keeper.Keeper.{Keeper}
 use Rattle.ic_slots.specs.Held.{HoldsTable, HoldsEitherTable}
 use Rattle.ic_slots.specs.Keeper as keeper_parts
@@ -22,7 +23,7 @@ use Rattle.ic_lines.specs.Turns.{after_events, turns}
 use Rattle.ic_lines.specs.Answers.{Reading, events}
 use Rattle.ic_lines.specs.Taking.{TakesLine}
 use Rattle.ic_desk.specs.declared.book.Book.{Book}
-use Rattle.ic_desk.specs.Book.{start_of, log_of, table_of, kept_of, keeper_of, disk_of, is_made, IsUnchanged}
+use Rattle.ic_desk.specs.Book.{start_of, log_of, table_of, kept_of, keeper_of, disk_of, IsUnchanged}
 use Rattle.ic_desk.specs.Entries.{AddsCommand, command_entry}
 use Rattle.ic_desk.specs.Kept.{HoldsKeptOrAll, table_kept}
 use Rattle.ic_session.specs.Booked.{last_kept, IsAllKept, IsOnMadeDisk, StaysPut}
@@ -126,24 +127,24 @@ module _ {D : Type 0} {ghosts : Ghosts D} where
   }
 
   -- a call after which the disk is the same
-  pub leaves_still : (old mid new : Book D ghosts) (P : List JobParts → Type 0) → Leaves old mid P → keeper_of new ≡ keeper_of mid → is_made new ≡ is_made mid
+  pub leaves_still : (old mid new : Book D ghosts) (P : List JobParts → Type 0) → Leaves old mid P → keeper_of new ≡ keeper_of mid
       → Leaves old new P
-  leaves_still old mid new P run keeper made =
+  leaves_still old mid new P run keeper =
       let disk : disk_of new ≡ disk_of mid = ap (λ (k : Keeper D ghosts). keeper_parts.disk_of k) keeper in
       record {
         keeps = ap ghosts.keeps disk ∙ run.keeps;
-        stays = λ is. (ap ghosts.keeps disk ∙ (run.stays is).0, made ∙ (run.stays is).1);
+        stays = λ is. (ap ghosts.keeps disk ∙ (run.stays is).0, subst (λ (d : D). Within (ghosts.image d) IsMade) (sym disk) (run.stays is).1);
         any_moment = λ is. subst (λ (d : D). LeavesOnly ghosts.clock ghosts.left (disk_of old) d (HoldsOne P)) (sym disk) (run.any_moment is);
       }
 
   -- a call of the book
   pub leaves_call : (old new : Book D ghosts) (a b : List JobParts) (P : List JobParts → Type 0)
-      → ghosts.keeps (disk_of new) ≡ ghosts.keeps (disk_of old) → (is_made old ≡ true → is_made new ≡ true)
-      → (IsTrue (ghosts.keeps (disk_of old)) → is_made old ≡ true → LeavesOnly ghosts.clock ghosts.left (disk_of old) (disk_of new) (HoldsEitherTable a b))
+      → ghosts.keeps (disk_of new) ≡ ghosts.keeps (disk_of old) → (IsTrue (ghosts.keeps (disk_of old)) → Within (ghosts.image (disk_of old)) IsMade → Within (ghosts.image (disk_of new)) IsMade)
+      → (IsTrue (ghosts.keeps (disk_of old)) → Within (ghosts.image (disk_of old)) IsMade → LeavesOnly ghosts.clock ghosts.left (disk_of old) (disk_of new) (HoldsEitherTable a b))
       → P a → P b → Leaves old new P
   leaves_call old new a b P keeps made run first second = record {
     keeps = keeps;
-    stays = λ is. (keeps ∙ is.0, made is.1);
+    stays = λ is. (keeps ∙ is.0, made is.0 is.1);
     any_moment = λ is. leaves_weaker ghosts.clock ghosts.left (disk_of old) (disk_of new) (HoldsEitherTable a b) (HoldsOne P) (run is.0 is.1)
         (λ file holds. ⊎_elim (λ (h : HoldsTable a file). (a, first, h)) (λ (h : HoldsTable b file). (b, second, h)) holds);
   }
@@ -151,7 +152,7 @@ module _ {D : Type 0} {ghosts : Ghosts D} where
   -- no call at all
   pub leaves_nothing : (book : Book D ghosts) (P : List JobParts → Type 0)
       → ((file : List ℕ) → ghosts.left (disk_of book) (ghosts.clock (disk_of book)) file → ghosts.image (disk_of book) file)
-      → (IsTrue (ghosts.keeps (disk_of book)) → is_made book ≡ true → Within (ghosts.image (disk_of book)) (HoldsKeptOrAll (start_of book) (log_of book) (kept_of book)))
+      → (IsTrue (ghosts.keeps (disk_of book)) → Within (ghosts.image (disk_of book)) IsMade → Within (ghosts.image (disk_of book)) (HoldsKeptOrAll (start_of book) (log_of book) (kept_of book)))
       → replay (start_of book) (log_of book) ≡ table_of book → P (last_kept book) → P (table_of book) → Leaves book book P
   leaves_nothing book P law either replayed kept now =
       let all : P (replay (start_of book) (log_of book)) = subst P (sym replayed) now in
@@ -168,8 +169,8 @@ module _ {D : Type 0} {ghosts : Ghosts D} where
   pub leaves_command : (old mid new : Book D ghosts) (c : Command) (r : Reply) → Leaves old mid (IsKeptOrNow old) → StaysPut old mid
       → replay (start_of mid) (log_of mid) ≡ table_of mid → kept_of mid ≤ length (log_of mid)
       → AddsCommand 0 c r (log_of mid) (log_of new) (table_of mid) (table_of new)
-      → ghosts.keeps (disk_of new) ≡ ghosts.keeps (disk_of mid) → (is_made mid ≡ true → is_made new ≡ true)
-      → (IsTrue (ghosts.keeps (disk_of mid)) → is_made mid ≡ true
+      → ghosts.keeps (disk_of new) ≡ ghosts.keeps (disk_of mid) → (IsTrue (ghosts.keeps (disk_of mid)) → Within (ghosts.image (disk_of mid)) IsMade → Within (ghosts.image (disk_of new)) IsMade)
+      → (IsTrue (ghosts.keeps (disk_of mid)) → Within (ghosts.image (disk_of mid)) IsMade
       → LeavesOnly ghosts.clock ghosts.left (disk_of mid) (disk_of new) (HoldsKeptOrAll (start_of mid) (log_of new) (kept_of mid)))
       → Leaves old new (IsKeptWithin (table_of old) (last_kept old) (by_command c ∷ []))
   leaves_command old mid new c r so_far put replayed within adds keeps made run =
@@ -210,7 +211,7 @@ module _ {D : Type 0} {ghosts : Ghosts D} where
 
   pub stops_first : SomeWay → (book : Book D ghosts)
       → ((file : List ℕ) → ghosts.left (disk_of book) (ghosts.clock (disk_of book)) file → ghosts.image (disk_of book) file)
-      → (IsTrue (ghosts.keeps (disk_of book)) → is_made book ≡ true → Within (ghosts.image (disk_of book)) (HoldsKeptOrAll (start_of book) (log_of book) (kept_of book)))
+      → (IsTrue (ghosts.keeps (disk_of book)) → Within (ghosts.image (disk_of book)) IsMade → Within (ghosts.image (disk_of book)) (HoldsKeptOrAll (start_of book) (log_of book) (kept_of book)))
       → replay (start_of book) (log_of book) ≡ table_of book → (IsAllKept book → last_kept book ≡ table_of book) → LeavesServed book book []
   stops_first law book images either replayed whole = leaves_nothing book (MayStand (IsAllKept book) (last_kept book) (table_of book) []) images either replayed
       (⊎_elim (λ all. inl (subst (IsReached (table_of book) []) (sym (whole all)) (reached_now law (table_of book) []))) (λ less. inr (less, refl))

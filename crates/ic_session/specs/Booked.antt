@@ -1,6 +1,8 @@
 -- What a serving speaks of in a book.
-use Rattle.std.specs.Prelude.{◌≡◌, ◌⊎◌, ℕ, ◌+◌, List, Some, true, length, IsTrue}
+use Rattle.std.specs.Prelude.{◌≡◌, ◌⊎◌, ℕ, ◌+◌, List, Some, length, IsTrue}
 use Rattle.ic_disk.specs.declared.disk.Disk.{Ghosts}
+use Rattle.ic_disk.specs.Images.{Within}
+use Rattle.ic_frames.specs.Fields.{IsMade}
 use Rattle.ic_pool.specs.Flight.{FlightParts}
 use Rattle.ic_jobs.specs.Job.{JobParts}
 use Rattle.ic_jobs.specs.declared.event.Event.{Event}
@@ -8,7 +10,7 @@ use Rattle.ic_jobs.specs.declared.event.Event.TheVariants.{Round}
 use Rattle.ic_jobs.specs.History.{table_after}
 use Rattle.ic_jobs.specs.Landing.{due}
 use Rattle.ic_desk.specs.declared.book.Book.{Book}
-use Rattle.ic_desk.specs.Book.{start_of, log_of, table_of, kept_of, disk_of, is_made}
+use Rattle.ic_desk.specs.Book.{start_of, log_of, table_of, kept_of, disk_of}
 use Rattle.ic_desk.specs.Kept.{table_kept}
 use Rattle.ic_session.specs.Parts.{IsPart, IsKeptWithin}
 
@@ -23,7 +25,7 @@ IsAllKept book = kept_of book ≡ length (log_of book)
 -- its disk keeps the model and is made
 abbrev pub IsOnMadeDisk : {D : Type 0} {ghosts : Ghosts D} → Book D ghosts → Type 0
 IsOnMadeDisk {D} {ghosts} book =
-    IsTrue (ghosts.keeps (disk_of book)) × (is_made book ≡ true)
+    IsTrue (ghosts.keeps (disk_of book)) × Within (ghosts.image (disk_of book)) IsMade
 
 -- the table stays, and either the table that was kept last stays too, or it is kept now
 pub record StaysPut {D : Type 0} {ghosts : Ghosts D} (old new : Book D ghosts) : Type 0 where

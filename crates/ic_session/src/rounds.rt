@@ -5,7 +5,7 @@ ghost use Rattle.ic_jobs.specs.declared.event.Event.TheVariants.{Round};
 ghost use Rattle.ic_jobs.specs.declared.limits.TheConstants.{MAX_JOBS};
 ghost use Rattle.ic_jobs.specs.Landing.{due, Awaits};
 ghost use Rattle.ic_desk.specs.declared.limits.TheConstants.{MAX_ENTRIES};
-ghost use Rattle.ic_desk.specs.Book.{table_of, kept_of, log_of, keeper_of, is_made, IsUnchanged};
+ghost use Rattle.ic_desk.specs.Book.{table_of, kept_of, log_of, keeper_of, IsUnchanged};
 ghost use Rattle.ic_session.specs.Booked.{last_kept, IsAllKept, Advances, MakesRound, StaysPut};
 ghost use Rattle.ic_session.specs.Faults.{IsOfBook, MayCome};
 ghost use Rattle.ic_session.specs.Moments.{Leaves, IsKeptOrNow};
@@ -96,7 +96,6 @@ fn land_or_halt<T: Threads + Wait, D: Disk>(
     ensures sort { IfErr result IsOfBook }
     ensures causes { IfErr result MayCome }
     ensures keeper { keeper_of book.new ≡ keeper_of book.old }
-    ensures made { is_made book.new ≡ is_made book.old }
 {
     book.facts();
     if flight.blocked() {

@@ -33,7 +33,3 @@ is_closed keeper = frames.is_closed keeper.frames
 -- its number and a table are written behind the closed gate
 abbrev pub is_staged : {D : Type 0} {ghosts : Ghosts D} → Keeper D ghosts → Bool
 is_staged keeper = frames.is_staged keeper.frames
-
--- both heads lay within the disk when it was opened, or a table was written since
-abbrev pub is_made : {D : Type 0} {ghosts : Ghosts D} → Keeper D ghosts → Bool
-is_made keeper = frames.is_made keeper.frames

@@ -32,7 +32,7 @@ pub struct Keeper<D: Disk> {
 }
 
 impl<D: Disk> Keeper<D> {
-    ghost use Rattle.ic_slots.specs.Keeper.{frames_of, disk_of, target_of, number_of, is_broken, is_closed, is_staged, is_made};
+    ghost use Rattle.ic_slots.specs.Keeper.{frames_of, disk_of, target_of, number_of, is_broken, is_closed, is_staged};
     ghost use Rattle.ic_slots.specs.Opened.{disk_after, outcome_of};
 
     /// Finds the table that a disk holds, and makes the room for all later keeps. It begins with a
@@ -51,8 +51,6 @@ impl<D: Disk> Keeper<D> {
         // What it says of the newest slot is so.
         ensures newest { IsTrue (D.keeps disk) → IfOk result (λ opened.
             IsOnNewest (frames_of opened.0) (D.content disk)) }
-        ensures made { IsTrue (D.keeps disk) → IfOk result (λ opened.
-            (is_made opened.0 ≡ true) ↔ IsMade (D.content disk)) }
         ensures ready { IfOk result (λ opened. is_broken opened.0 ≡ false) }
 
         // A crash at any moment leaves an image from before. At Ok there is one, what reads give.
@@ -300,13 +298,6 @@ impl<D: Disk> Keeper<D> {
         ensures { IsTrue result ↔ (number_of self.now ≡ 2 ^ 64 - 1) }
     {
         self.frames.worn()
-    }
-
-    /// Whether both heads lay within the disk when it was opened, or a table was written since.
-    pub fn made(&self) -> bool
-        ensures { result ≡ is_made self.now }
-    {
-        self.frames.made()
     }
 
     /// The disk.

@@ -72,9 +72,9 @@ Held-set = hlevel (numbers-set, ⊎_set)
 pub HoldsTable-prop : (t : List JobParts) (file : List ℕ) → IsProp (HoldsTable t file)
 HoldsTable-prop t file = hlevel (IsTable-prop, Held-set, props)
 
-pub IsOnDisk-prop : (content : List ℕ) (image : List ℕ → Type 0) (start : List JobParts) (log : List Entry) (kept : ℕ) (broken made : Bool)
-    → IsProp (IsOnDisk content image start log kept broken made)
-IsOnDisk-prop content image start log kept broken made = hlevel (IsTable-prop, HoldsTable-prop, Held-set, props)
+pub IsOnDisk-prop : (content : List ℕ) (image : List ℕ → Type 0) (start : List JobParts) (log : List Entry) (kept : ℕ) (broken : Bool)
+    → IsProp (IsOnDisk content image start log kept broken)
+IsOnDisk-prop content image start log kept broken = hlevel (IsTable-prop, HoldsTable-prop, Held-set, props)
 
 pub IsOnNewest-prop : {D : Type 0} {ghosts : Ghosts D} (frames : Frames D ghosts) (file : List ℕ) → IsProp (IsOnNewest frames file)
 IsOnNewest-prop frames file = hlevel props

@@ -4,8 +4,8 @@ use Rattle.ic_desk.proofs.laws.unchanged_is_all.Goals as goal
 
 pub returns-clause-parts : goal.returns-clause-parts
 returns-clause-parts g c = (
-  λ is. (is.same_start, is.same_log, is.same_table, is.same_kept, is.same_keeper, is.same_made),
-  λ all. record { same_start = all.0; same_log = all.1; same_table = all.2; same_kept = all.3; same_keeper = all.4; same_made = all.5 },
+  λ is. (is.same_start, is.same_log, is.same_table, is.same_kept, is.same_keeper),
+  λ all. record { same_start = all.0; same_log = all.1; same_table = all.2; same_kept = all.3; same_keeper = all.4 },
 )
 
 pub returns-clause-disk : goal.returns-clause-disk

@@ -69,7 +69,7 @@ returns-in_err-reply-clause-any_moment g c =
           (leaves_more c.args.book.now c.make_room.new.book (IsKeptOrNow c.args.book.now)
           (IsKeptWithin (table_of c.args.book.now) (last_kept c.args.book.now) (by_command c.args.command ∷ [])) c.make_room.ensures.any_moment
           (kept_or_now (table_of c.args.book.now) (last_kept c.args.book.now) (by_command c.args.command ∷ [])))
-          u.same_keeper u.same_made)
+          u.same_keeper)
     ]
 
 pub returns-in_err-print_reply-clause-any_moment : goal.returns-in_err-print_reply-clause-any_moment

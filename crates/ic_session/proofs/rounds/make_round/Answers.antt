@@ -23,8 +23,8 @@ returns-in_err-flight-clause-any_moment g c = leaves_nothing c.args.book.now (Is
 
 pub returns-in_err-land_or_halt-clause-any_moment : goal.returns-in_err-land_or_halt-clause-any_moment
 returns-in_err-land_or_halt-clause-any_moment g c = leaves_still c.args.book.now c.make_room.new.book c.land_or_halt.new.book (IsKeptOrNow c.args.book.now)
-    c.make_room.ensures.any_moment c.land_or_halt.ensures.keeper c.land_or_halt.ensures.made
+    c.make_room.ensures.any_moment c.land_or_halt.ensures.keeper
 
 pub returns-clause-any_moment : goal.returns-clause-any_moment
 returns-clause-any_moment g c = leaves_still c.args.book.now c.make_room.new.book c.land_or_halt.new.book (IsKeptOrNow c.args.book.now)
-    c.make_room.ensures.any_moment c.land_or_halt.ensures.keeper c.land_or_halt.ensures.made
+    c.make_room.ensures.any_moment c.land_or_halt.ensures.keeper

@@ -7,4 +7,4 @@ returns-clause-images g c keeps made =
     let disk = g.D.Disk in
     let old = book.keeper.frames.disk in
     let same = c.close.ensures in
-    rw same (either_now (disk.content old) (disk.image old) book.start book.log.items book.kept book.keeper.frames.broken book.made (book.on_disk (rw same at keeps)) book.history.sound ((book.on_disk (rw same at keeps)).all_made made))
+    rw same (either_now (disk.content old) (disk.image old) book.start book.log.items book.kept book.keeper.frames.broken (book.on_disk (rw same at keeps)) book.history.sound (rw same at made))

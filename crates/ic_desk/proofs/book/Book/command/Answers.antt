@@ -12,7 +12,7 @@ returns-in_err-check_room-clause-any_moment g c keeps made =
     let disk = g.D.Disk in
     let old = book.keeper.frames.disk in
     no_call disk.clock disk.left disk.image old (HoldsKeptOrAll book.start book.log.items book.kept) (g.met.D.Disk.left_is_image old)
-    (either_now (disk.content old) (disk.image old) book.start book.log.items book.kept book.keeper.frames.broken book.made (book.on_disk keeps) book.history.sound ((book.on_disk keeps).all_made made))
+    (either_now (disk.content old) (disk.image old) book.start book.log.items book.kept book.keeper.frames.broken (book.on_disk keeps) book.history.sound made)
 
 pub invariant_of-self-then-leaves_table : goal.invariant_of-self-then-leaves_table
 invariant_of-self-then-leaves_table g c =
@@ -33,7 +33,7 @@ invariant_of-self-then-leaves_table g c =
     let count : c.len-self.result ≡ length log = omega (arith, c.len-self.ensures) in
     record {
       history = idle_after book.start book.log.items log book.table table book.kept book.keeper.frames.broken e book.history ready adds room sent c.len-self.result count same all;
-      on_disk = λ keeps. same_kept (disk.content old) (disk.image old) book.start book.log.items book.kept book.keeper.frames.broken book.made (book.on_disk keeps) ready book.start log c.len-self.result
+      on_disk = λ keeps. same_kept (disk.content old) (disk.image old) book.start book.log.items book.kept book.keeper.frames.broken (book.on_disk keeps) ready book.start log c.len-self.result
           (same_table_after book.start book.log.items log book.table table book.kept book.keeper.frames.broken e book.history ready adds room sent c.len-self.result count same all);
       newest = book.newest;
     }
@@ -58,13 +58,7 @@ invariant_of-self-in-Break-branch-3 g c =
       history = left_unkept book.start book.log.items log book.table table book.kept book.keeper.frames.broken e book.history ready adds room sent keeper.frames.broken broke;
       on_disk = λ keeps_new.
           let keeps = sym c.keep_table.ensures.keeps ∙ keeps_new in
-          keep_failed (disk.content new) (disk.image new) book.start log book.kept keeper.frames.broken book.made broke
-          (λ made. made_after disk.clock disk.left disk.image old new book.start log book.kept (λ file later there. g.met.D.Disk.image_is_left new (disk.clock old) file later there)
-          (keep_leaves disk.clock disk.left old new (disk.image old) book.start book.log.items log book.kept table
-          (table_kept_after book.start book.log.items log book.table table book.kept book.keeper.frames.broken e book.history ready adds room sent)
-          (replayed_after book.start book.log.items log book.table table book.kept book.keeper.frames.broken e book.history ready adds room sent)
-          (holds_now (disk.content old) (disk.image old) book.start book.log.items book.kept book.keeper.frames.broken book.made (book.on_disk keeps) ready ((book.on_disk keeps).all_made made))
-          (λ t holds. c.keep_table.ensures.any_moment t keeps holds)))
+          keep_failed (disk.content new) (disk.image new) book.start log book.kept keeper.frames.broken broke
           (λ all. keep_holds (disk.image old) (disk.image new) book.start book.log.items log book.kept table
           (table_kept_after book.start book.log.items log book.table table book.kept book.keeper.frames.broken e book.history ready adds room sent)
           (replayed_after book.start book.log.items log book.table table book.kept book.keeper.frames.broken e book.history ready adds room sent)
@@ -113,7 +107,7 @@ returns-in_err-keep_table-clause-any_moment g c keeps made =
     keep_leaves disk.clock disk.left old c.keep_table.new.keeper.frames.disk (disk.image old) book.start book.log.items log book.kept table
     (table_kept_after book.start book.log.items log book.table table book.kept book.keeper.frames.broken e book.history ready adds room sent)
     (replayed_after book.start book.log.items log book.table table book.kept book.keeper.frames.broken e book.history ready adds room sent)
-    (holds_now (disk.content old) (disk.image old) book.start book.log.items book.kept book.keeper.frames.broken book.made (book.on_disk keeps) ready ((book.on_disk keeps).all_made made)) (λ t holds. c.keep_table.ensures.any_moment t keeps holds)
+    (holds_now (disk.content old) (disk.image old) book.start book.log.items book.kept book.keeper.frames.broken (book.on_disk keeps) ready made) (λ t holds. c.keep_table.ensures.any_moment t keeps holds)
 
 pub returns-clause-any_moment : goal.returns-clause-any_moment
 returns-clause-any_moment g c keeps made =
@@ -131,4 +125,16 @@ returns-clause-any_moment g c keeps made =
     keep_leaves disk.clock disk.left old c.keep_table.new.keeper.frames.disk (disk.image old) book.start book.log.items log book.kept table
     (table_kept_after book.start book.log.items log book.table table book.kept book.keeper.frames.broken e book.history ready adds room sent)
     (replayed_after book.start book.log.items log book.table table book.kept book.keeper.frames.broken e book.history ready adds room sent)
-    (holds_now (disk.content old) (disk.image old) book.start book.log.items book.kept book.keeper.frames.broken book.made (book.on_disk keeps) ready ((book.on_disk keeps).all_made made)) (λ t holds. c.keep_table.ensures.any_moment t keeps holds)
+    (holds_now (disk.content old) (disk.image old) book.start book.log.items book.kept book.keeper.frames.broken (book.on_disk keeps) ready made) (λ t holds. c.keep_table.ensures.any_moment t keeps holds)
+
+pub returns-in_err-keep_table-clause-made : goal.returns-in_err-keep_table-clause-made
+returns-in_err-keep_table-clause-made g c keeps all =
+    let book = c.args.self.now in
+    let disk = g.D.Disk in
+    let old = book.keeper.frames.disk in
+    let new = c.keep_table.new.keeper.frames.disk in
+    made_after disk.clock disk.left disk.image old new book.start c.enter_command.new.log.items book.kept (λ file later there. g.met.D.Disk.image_is_left new (disk.clock old) file later there)
+    (returns-in_err-keep_table-clause-any_moment g c keeps all)
+
+pub returns-clause-made : goal.returns-clause-made
+returns-clause-made g c keeps all file there = (c.in_ok-keep_table.ensures.holds keeps file there).made

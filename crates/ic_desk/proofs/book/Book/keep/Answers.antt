@@ -11,7 +11,7 @@ returns-in_err-check_keepable-clause-any_moment g c keeps made =
     let disk = g.D.Disk in
     let old = book.keeper.frames.disk in
     no_call disk.clock disk.left disk.image old (HoldsKeptOrAll book.start book.log.items book.kept) (g.met.D.Disk.left_is_image old)
-    (either_now (disk.content old) (disk.image old) book.start book.log.items book.kept book.keeper.frames.broken book.made (book.on_disk keeps) book.history.sound ((book.on_disk keeps).all_made made))
+    (either_now (disk.content old) (disk.image old) book.start book.log.items book.kept book.keeper.frames.broken (book.on_disk keeps) book.history.sound made)
 
 pub invariant_of-self : goal.invariant_of-self
 invariant_of-self g c =
@@ -28,11 +28,7 @@ invariant_of-self g c =
       history = broke_now start log book.table book.kept book.keeper.frames.broken is keeper.frames.broken broke;
       on_disk = λ keeps_new.
           let keeps = sym c.keep_table.ensures.keeps ∙ keeps_new in
-          keep_failed (disk.content new) (disk.image new) start log book.kept keeper.frames.broken book.made broke
-          (λ made. made_after disk.clock disk.left disk.image old new start log book.kept (λ file later there. g.met.D.Disk.image_is_left new (disk.clock old) file later there)
-          (keep_leaves disk.clock disk.left old new (disk.image old) start log log book.kept book.table refl is.replayed
-          (holds_now (disk.content old) (disk.image old) start log book.kept book.keeper.frames.broken book.made (book.on_disk keeps) c.in_ok-check_keepable.ensures.ok ((book.on_disk keeps).all_made made))
-          (λ t holds. c.keep_table.ensures.any_moment t keeps holds)))
+          keep_failed (disk.content new) (disk.image new) start log book.kept keeper.frames.broken broke
           (λ all. keep_holds (disk.image old) (disk.image new) start log log book.kept book.table refl is.replayed
           ((book.on_disk keeps).holds c.in_ok-check_keepable.ensures.ok) (λ t held. c.keep_table.ensures.either_if_made t keeps held all));
       newest = λ _ whole. let never : true ≡ false = sym broke ∙ whole in cc;
@@ -65,7 +61,7 @@ returns-in_err-keep_table-clause-any_moment g c keeps made =
     let disk = g.D.Disk in
     let old = book.keeper.frames.disk in
     keep_leaves disk.clock disk.left old c.keep_table.new.keeper.frames.disk (disk.image old) book.start book.log.items book.log.items book.kept book.table refl book.history.replayed
-    (holds_now (disk.content old) (disk.image old) book.start book.log.items book.kept book.keeper.frames.broken book.made (book.on_disk keeps) c.in_ok-check_keepable.ensures.ok ((book.on_disk keeps).all_made made)) (λ t holds. c.keep_table.ensures.any_moment t keeps holds)
+    (holds_now (disk.content old) (disk.image old) book.start book.log.items book.kept book.keeper.frames.broken (book.on_disk keeps) c.in_ok-check_keepable.ensures.ok made) (λ t holds. c.keep_table.ensures.any_moment t keeps holds)
 
 pub returns-clause-any_moment : goal.returns-clause-any_moment
 returns-clause-any_moment g c keeps made =
@@ -73,4 +69,16 @@ returns-clause-any_moment g c keeps made =
     let disk = g.D.Disk in
     let old = book.keeper.frames.disk in
     keep_leaves disk.clock disk.left old c.keep_table.new.keeper.frames.disk (disk.image old) book.start book.log.items book.log.items book.kept book.table refl book.history.replayed
-    (holds_now (disk.content old) (disk.image old) book.start book.log.items book.kept book.keeper.frames.broken book.made (book.on_disk keeps) c.in_ok-check_keepable.ensures.ok ((book.on_disk keeps).all_made made)) (λ t holds. c.keep_table.ensures.any_moment t keeps holds)
+    (holds_now (disk.content old) (disk.image old) book.start book.log.items book.kept book.keeper.frames.broken (book.on_disk keeps) c.in_ok-check_keepable.ensures.ok made) (λ t holds. c.keep_table.ensures.any_moment t keeps holds)
+
+pub returns-in_err-keep_table-clause-made : goal.returns-in_err-keep_table-clause-made
+returns-in_err-keep_table-clause-made g c keeps all =
+    let book = c.args.self.now in
+    let disk = g.D.Disk in
+    let old = book.keeper.frames.disk in
+    let new = c.keep_table.new.keeper.frames.disk in
+    made_after disk.clock disk.left disk.image old new book.start book.log.items book.kept (λ file later there. g.met.D.Disk.image_is_left new (disk.clock old) file later there)
+    (returns-in_err-keep_table-clause-any_moment g c keeps all)
+
+pub returns-clause-made : goal.returns-clause-made
+returns-clause-made g c keeps all file there = (c.in_ok-keep_table.ensures.holds keeps file there).made

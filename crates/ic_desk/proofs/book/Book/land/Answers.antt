@@ -12,7 +12,7 @@ returns-in_err-check_room-clause-any_moment g c keeps made =
     let disk = g.D.Disk in
     let old = book.keeper.frames.disk in
     no_call disk.clock disk.left disk.image old (HoldsKeptOrAll book.start book.log.items book.kept) (g.met.D.Disk.left_is_image old)
-    (either_now (disk.content old) (disk.image old) book.start book.log.items book.kept book.keeper.frames.broken book.made (book.on_disk keeps) book.history.sound ((book.on_disk keeps).all_made made))
+    (either_now (disk.content old) (disk.image old) book.start book.log.items book.kept book.keeper.frames.broken (book.on_disk keeps) book.history.sound made)
 
 pub invariant_of-self : goal.invariant_of-self
 invariant_of-self g c =
@@ -27,7 +27,7 @@ invariant_of-self g c =
     let is = entered c.enter_played.result e book.log.items log book.table table c.enter_played.ensures.moved c.enter_played.ensures.same_log c.enter_played.ensures.same_table in
     record {
       history = round_entered book.start book.log.items log book.table table book.kept book.keeper.frames.broken e book.history ready room (λ _. refl) refl is;
-      on_disk = λ keeps. same_kept (disk.content old) (disk.image old) book.start book.log.items book.kept book.keeper.frames.broken book.made (book.on_disk keeps) ready book.start log book.kept
+      on_disk = λ keeps. same_kept (disk.content old) (disk.image old) book.start book.log.items book.kept book.keeper.frames.broken (book.on_disk keeps) ready book.start log book.kept
           (table_kept_entered book.start book.log.items log book.table table book.kept book.keeper.frames.broken e book.history ready room (λ _. refl) refl is);
       newest = book.newest;
     }
@@ -45,7 +45,7 @@ returns-in_err-enter_played-clause-any_moment g c keeps made =
     let room = c.in_ok-check_room.ensures.ok.1 in
     let is = entered c.enter_played.result e book.log.items log book.table table c.enter_played.ensures.moved c.enter_played.ensures.same_log c.enter_played.ensures.same_table in
     no_call disk.clock disk.left disk.image old (HoldsKeptOrAll book.start log book.kept) (g.met.D.Disk.left_is_image old)
-    (kept_alone (disk.content old) (disk.image old) book.start book.log.items book.kept book.keeper.frames.broken book.made (book.on_disk keeps) ready ((book.on_disk keeps).all_made made) log
+    (kept_alone (disk.content old) (disk.image old) book.start book.log.items book.kept book.keeper.frames.broken (book.on_disk keeps) ready made log
     (table_kept_entered book.start book.log.items log book.table table book.kept book.keeper.frames.broken e book.history ready room (λ _. refl) refl is))
 
 pub returns-clause-any_moment :
@@ -61,5 +61,5 @@ returns-clause-any_moment g c keeps made =
     let room = c.in_ok-check_room.ensures.ok.1 in
     let is = entered c.enter_played.result e book.log.items log book.table table c.enter_played.ensures.moved c.enter_played.ensures.same_log c.enter_played.ensures.same_table in
     no_call disk.clock disk.left disk.image old (HoldsKeptOrAll book.start log book.kept) (g.met.D.Disk.left_is_image old)
-    (kept_alone (disk.content old) (disk.image old) book.start book.log.items book.kept book.keeper.frames.broken book.made (book.on_disk keeps) ready ((book.on_disk keeps).all_made made) log
+    (kept_alone (disk.content old) (disk.image old) book.start book.log.items book.kept book.keeper.frames.broken (book.on_disk keeps) ready made log
     (table_kept_entered book.start book.log.items log book.table table book.kept book.keeper.frames.broken e book.history ready room (λ _. refl) refl is))

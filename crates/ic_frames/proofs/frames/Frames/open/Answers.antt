@@ -1,4 +1,4 @@
-use Rattle.std.proofs.Common.{◌≡◌, ◌∙◌, ◌<◌, ◌≤◌, sym, subst, refl, arith, List, ℕ, Bool, true, false, length}
+use Rattle.std.proofs.Common.{◌≡◌, ◌∙◌, sym, subst, List, ℕ, false}
 use Rattle.ic_frames.specs.declared.slot.Slot.{Slot}
 use Rattle.ic_frames.specs.Places.{place}
 use Rattle.ic_frames.specs.Fields.{number}
@@ -33,14 +33,3 @@ returns-in-Ok-clause-newest g c keeps =
       shut = chosen.shut;
       opened = λ e. (chosen.older e).0;
     }
-
--- what isn't short is made
-made_unless_short : (made : Bool) (n : ℕ) → (made ≡ false → n < 4194317) → 4194317 ≤ n → made ≡ true
-made_unless_short true n short long = refl
-made_unless_short false n short long = let less : n < 4194317 = short refl in absurd (omega arith)
-
-pub returns-in-Ok-clause-made : goal.returns-in-Ok-clause-made
-returns-in-Ok-clause-made g c keeps =
-    let file = g.D.Disk.content c.args.disk in
-    let found = c.in-Ok.ensures.found keeps in
-    (found.made, made_unless_short c.in-Ok.found.made (length file) found.not_made)
