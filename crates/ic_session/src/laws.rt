@@ -19,7 +19,9 @@ ghost use Rattle.ic_lines.specs.Lines.{ended, lines};
 ghost use Rattle.ic_lines.specs.Turns.{turns, after_events};
 ghost use Rattle.ic_lines.specs.Serving.{IsServed};
 ghost use Rattle.ic_desk.specs.declared.faults.BookFault.TheVariants as book_fault;
-ghost use Rattle.ic_desk.specs.Book.{start_of, log_of, table_of, kept_of, disk_of, is_made, IsUnchanged};
+ghost use Rattle.ic_disk.specs.Images.{Within};
+ghost use Rattle.ic_frames.specs.Fields.{IsMade};
+ghost use Rattle.ic_desk.specs.Book.{start_of, log_of, table_of, kept_of, disk_of, IsUnchanged};
 ghost use Rattle.ic_session.specs.declared.fault.ServeFault.{ServeFault};
 ghost use Rattle.ic_session.specs.declared.fault.ServeFault.TheVariants.{Read, Write, TooManyLines, Book as by_book, Pool, LongLine, Memory};
 ghost use Rattle.ic_session.specs.declared.limits.TheConstants.{MAX_LINES};
@@ -204,7 +206,7 @@ pub fn a_line_is_answered_as_it_is_served<D: Disk>(before: &Book<D>, behind: &Bo
 /// is made.
 pub fn a_stop_leaves_one_of_these_tables<D: Disk>(before: &Book<D>, behind: &Book<D>)
     ensures made { IsOnMadeDisk before.now
-        ↔ (IsTrue (D.keeps (disk_of before.now)) × (is_made before.now ≡ true)) }
+        ↔ (IsTrue (D.keeps (disk_of before.now)) × Within (D.image (disk_of before.now)) IsMade) }
     ensures any_moment { (p : List JobParts → Bool) → Leaves before.now behind.now (λ t. p t ≡ true)
         → IsOnMadeDisk before.now
         → LeavesOnly D.clock D.left (disk_of before.now) (disk_of behind.now)
