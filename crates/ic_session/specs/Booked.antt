@@ -1,4 +1,4 @@
--- What a serving speaks of in a book.
+-- To be believed, but for what private functions say: what a serving speaks of in a book.
 use Rattle.std.specs.Prelude.{◌≡◌, ◌⊎◌, ℕ, ◌+◌, List, Some, length, IsTrue}
 use Rattle.ic_disk.specs.declared.disk.Disk.{Ghosts}
 use Rattle.ic_disk.specs.Images.{Within}
@@ -27,6 +27,8 @@ abbrev pub IsOnMadeDisk : {D : Type 0} {ghosts : Ghosts D} → Book D ghosts →
 IsOnMadeDisk {D} {ghosts} book =
     IsTrue (ghosts.keeps (disk_of book)) × Within (ghosts.image (disk_of book)) IsMade
 
+-- ---- for private functions
+
 -- the table stays, and either the table that was kept last stays too, or it is kept now
 pub record StaysPut {D : Type 0} {ghosts : Ghosts D} (old new : Book D ghosts) : Type 0 where
   pub table : table_of new ≡ table_of old
@@ -43,6 +45,8 @@ pub record MakesRound {D : Type 0} {ghosts : Ghosts D} (after place : ℕ) (old 
   pub is_due : due (table_of old) after ≡ Some flight
   pub here : place ≡ flight.place
   pub advances : Advances (Round flight.name) old new
+
+-- ---- of a line that is begun
 
 -- some events were begun: a front of them has come to the table, and one no longer is kept
 pub record Begins {D : Type 0} {ghosts : Ghosts D} (es : List Event) (old new : Book D ghosts) : Type 0 where

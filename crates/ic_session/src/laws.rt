@@ -4,7 +4,10 @@ ghost use Rattle.std.specs.Prelude.{IsTrue, ◌≡◌, ◌≢◌, ◌⊎◌, ◌
 ghost use Rattle.std.specs.List.{AllByRecursion};
 ghost use Rattle.std.specs.Io.KnownBytes.{Appends};
 ghost use Rattle.ic_disk.specs.Time.{LeavesOnly};
+ghost use Rattle.ic_frames.specs.declared.faults.OpenCause.TheVariants as opening;
+ghost use Rattle.ic_slots.specs.declared.faults.CreateFault.TheVariants as creating;
 ghost use Rattle.ic_pool.specs.declared.fault.PoolFault.{PoolFault};
+ghost use Rattle.ic_pool.specs.declared.fault.PoolFault.TheVariants as pool_fault;
 ghost use Rattle.ic_jobs.specs.declared.command.Command.{Command};
 ghost use Rattle.ic_jobs.specs.declared.event.Event.{Event};
 ghost use Rattle.ic_jobs.specs.declared.event.Event.TheVariants.{Command as by_command};
@@ -24,10 +27,12 @@ ghost use Rattle.ic_frames.specs.Fields.{IsMade};
 ghost use Rattle.ic_desk.specs.Book.{start_of, log_of, table_of, kept_of, disk_of, IsUnchanged};
 ghost use Rattle.ic_session.specs.declared.fault.ServeFault.{ServeFault};
 ghost use Rattle.ic_session.specs.declared.fault.ServeFault.TheVariants.{Read, Write, TooManyLines, Book as by_book, Pool, LongLine, Memory};
+ghost use Rattle.ic_session.specs.declared.disk_refused.DiskRefused.TheVariants as refused;
 ghost use Rattle.ic_session.specs.declared.limits.TheConstants.{MAX_LINES};
 ghost use Rattle.ic_session.specs.Answered.{IsAnswered, IsBegun};
 ghost use Rattle.ic_session.specs.Booked.{last_kept, IsAllKept, IsOnMadeDisk};
-ghost use Rattle.ic_session.specs.Faults.{fault_of_line, fault_line, IsOfBook};
+ghost use Rattle.ic_session.specs.DiskRefusals.{refused_create, refused_open, refused_line};
+ghost use Rattle.ic_session.specs.Faults.{fault_of_line, fault_line, IsOfBook, MayCome};
 ghost use Rattle.ic_session.specs.Moments.{Leaves, IsKeptInLine};
 ghost use Rattle.ic_session.specs.Parts.{IsPart, IsKeptWithin, IsInLine, IsInFirst};
 ghost use Rattle.ic_session.specs.Served.{OfLines, MayBeServed, AreAnswered, AppendsFront, SaysOf, IsLeftBy, IsEnded, IsCut};
@@ -100,6 +105,7 @@ pub fn answers_are_appended()
 
 /// `LongLine` says that fewer than 1,000,000 lines are answered and that the line behind them has
 /// more than 262,144 bytes, and `TooManyLines` that 1,000,000 are answered and one more is to come.
+/// Some faults of the book and of the pool never come.
 pub fn faults_say()
     ensures long_line { (front rest : List (List ℕ)) → SaysOf LongLine front rest
         → (line : List ℕ) × (more : List (List ℕ)) × (rest ≡ line ∷ more)
@@ -109,6 +115,9 @@ pub fn faults_say()
         × (length front ≡ 1000000) }
     ensures of_book { (fault : ServeFault) → IsOfBook fault
         → (fault ≢ Read) × (fault ≢ Write) × (fault ≢ TooManyLines) × (fault ≢ LongLine) }
+    ensures never { AllByRecursion (λ fault. ¬ MayCome fault) (by_book book_fault.LogFull
+        ∷ Pool pool_fault.NoWorkers ∷ Pool pool_fault.RoundsOut ∷ Pool pool_fault.Overgrown
+        ∷ Pool pool_fault.NamesOut ∷ []) }
     ensures of_line { map fault_of_line
         (line_fault.Read ∷ line_fault.Write ∷ line_fault.LongLine ∷ line_fault.Memory ∷ [])
         ≡ Read ∷ Write ∷ LongLine ∷ Memory ∷ [] }
@@ -244,4 +253,20 @@ pub fn words_are()
     ensures pool { (fault : PoolFault) → fault_line (Pool fault) ≡ ended (codes "icserve: pool") }
     ensures long_line { fault_line LongLine ≡ ended (codes "icserve: long line") }
     ensures memory { fault_line Memory ≡ ended (codes "icserve: memory") }
+{}
+
+/// Why a disk isn't created or opened, by what its calls answer; and the line on standard error of
+/// each reason.
+pub fn refused_disks_are()
+    ensures create { map refused_create (creating.Device ∷ creating.Memory ∷ [])
+        ≡ refused.Device ∷ refused.Memory ∷ [] }
+    ensures open { map refused_open (opening.Device ∷ opening.NoSlot ∷ opening.TwoAlike
+        ∷ opening.Damaged ∷ opening.Memory ∷ [])
+        ≡ refused.Device ∷ refused.NoSlot ∷ refused.TwoAlike ∷ refused.Damaged ∷ refused.Memory
+        ∷ [] }
+    ensures device { refused_line refused.Device ≡ ended (codes "icserve: device") }
+    ensures no_slot { refused_line refused.NoSlot ≡ ended (codes "icserve: no slot") }
+    ensures two_alike { refused_line refused.TwoAlike ≡ ended (codes "icserve: two alike") }
+    ensures damaged { refused_line refused.Damaged ≡ ended (codes "icserve: damaged") }
+    ensures memory { refused_line refused.Memory ≡ ended (codes "icserve: memory") }
 {}

@@ -6,3 +6,6 @@ returns-clause-long_line c = says_long
 
 pub returns-clause-too_many_lines : goal.returns-clause-too_many_lines
 returns-clause-too_many_lines c = says_many
+
+pub returns-clause-never : goal.returns-clause-never
+returns-clause-never c = (λ h. h, (λ h. h, (λ h. h, (λ h. h, (λ h. h, tt)))))

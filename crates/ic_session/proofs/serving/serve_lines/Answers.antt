@@ -27,7 +27,7 @@ loop-init g c = record {
 }
 
 pub returns-in_err-take_line-clause-ended : goal.returns-in_err-take_line-clause-ended
-returns-in_err-take_line-clause-ended g c = 
+returns-in_err-take_line-clause-ended g c =
     let rest = to_come c.loop.lines (g.R.Read.remaining c.loop.reader) in
     let last = kept_all (start_of c.loop.book) (table_of c.loop.book) (log_of c.loop.book) (kept_of c.loop.book) c.facts-in-loop.ensures.history.replayed in
     let none = not_taken c.in_err-take_line.field-0.0 rest c.loop.invariant.way.front
@@ -59,7 +59,7 @@ returns-then-not-branch-clause-any_moment g c = λ is. stops_now c.one_line_read
     c.args.book.now c.loop.book c.loop.invariant.way.first c.loop.invariant.moments is
 
 pub returns-in_err-answer-clause-ended : goal.returns-in_err-answer-clause-ended
-returns-in_err-answer-clause-ended g c = 
+returns-in_err-answer-clause-ended g c =
     let rest = to_come c.loop.lines (g.R.Read.remaining c.loop.reader) in
     let next = to_come c.take_line.new.self (g.R.Read.remaining c.take_line.new.reader) in
     let done = ap (λ b. Ok b) c.if-not-branch.false in
@@ -75,8 +75,12 @@ returns-in_err-answer-clause-ended g c =
     (left_within c.in_err-answer.field-0.0 (table_of c.loop.book) (table_of c.answer_line.new.book) (c.take_line.new.self.line ∷ ahead next) c.in_err-answer.ensures.sort
     (record { reading = begun.reading; read = reads; part = begun.begun.table }))
     (λ all. left_within c.in_err-answer.field-0.0 (table_of c.loop.book) (last_kept c.answer_line.new.book) (c.take_line.new.self.line ∷ ahead next) c.in_err-answer.ensures.sort
-    (record { reading = begun.reading; read = reads; part = kept_part (table_of c.loop.book) (last_kept c.loop.book) (events (table_of c.loop.book) begun.reading) (last_kept c.answer_line.new.book)
-    (last (c.loop.invariant.kept all)) begun.begun.kept })))
+    (record {
+      reading = begun.reading;
+      read = reads;
+      part = kept_part (table_of c.loop.book) (last_kept c.loop.book) (events (table_of c.loop.book) begun.reading) (last_kept c.answer_line.new.book)
+          (last (c.loop.invariant.kept all)) begun.begun.kept;
+    })))
 
 pub returns-in_err-answer-clause-any_moment : goal.returns-in_err-answer-clause-any_moment
 returns-in_err-answer-clause-any_moment g c = λ is.
@@ -122,7 +126,7 @@ returns-in_err-write_answer-clause-any_moment g c = λ is.
     c.args.book.now c.answer_line.new.book (first_more (g.R.Read.remaining c.args.reader.now) rest next c.loop.invariant.way.front c.take_line.new.self.line c.loop.invariant.way.first takes) stops is
 
 pub loop-preserved : goal.loop-preserved
-loop-preserved g c = 
+loop-preserved g c =
     let rest = to_come c.loop.lines (g.R.Read.remaining c.loop.reader) in
     let next = to_come c.take_line.new.self (g.R.Read.remaining c.take_line.new.reader) in
     let done = ap (λ b. Ok b) c.if-not-branch.false in
@@ -187,16 +191,16 @@ returns g c =
       kept = tt;
       causes = c.behind_the_last.ensures.causes;
       ended = λ other. ended_at c.behind_the_last.result (IsAllKept c.args.book.now) (g.R.Read.remaining c.args.reader.now) rest c.loop.counter
-    (table_of c.args.book.now) (table_of c.loop.book) (table_of c.loop.book) (last_kept c.loop.book)
-    (g.W.Write.contents c.args.writer.now) (g.W.Write.contents c.loop.writer) (g.W.Write.contents c.take_line-2.new.writer) none.more
-    c.loop.invariant.way c.take_line-2.ensures.kept none.coming none.says
-    (left_first c.one_line_reading.ensures.total c.behind_the_last.result (table_of c.loop.book) (table_of c.loop.book) none.more refl)
-    (λ all. left_first c.one_line_reading.ensures.total c.behind_the_last.result (table_of c.loop.book) (last_kept c.loop.book) none.more (last (c.loop.invariant.kept all)));
+          (table_of c.args.book.now) (table_of c.loop.book) (table_of c.loop.book) (last_kept c.loop.book)
+          (g.W.Write.contents c.args.writer.now) (g.W.Write.contents c.loop.writer) (g.W.Write.contents c.take_line-2.new.writer) none.more
+          c.loop.invariant.way c.take_line-2.ensures.kept none.coming none.says
+          (left_first c.one_line_reading.ensures.total c.behind_the_last.result (table_of c.loop.book) (table_of c.loop.book) none.more refl)
+          (λ all. left_first c.one_line_reading.ensures.total c.behind_the_last.result (table_of c.loop.book) (last_kept c.loop.book) none.more (last (c.loop.invariant.kept all)));
       cut = λ is. cut_at (g.R.Read.remaining c.args.reader.now) rest c.loop.counter (table_of c.args.book.now) (table_of c.loop.book)
           (g.W.Write.contents c.args.writer.now) (g.W.Write.contents c.loop.writer) (g.W.Write.contents c.take_line-2.new.writer) c.loop.invariant.way c.take_line-2.ensures.kept;
       kept_at_cut = λ is. c.loop.invariant.kept;
       any_moment = λ is. stops_now c.one_line_reading.ensures.total (g.R.Read.remaining c.args.reader.now) (to_come c.loop.lines (g.R.Read.remaining c.loop.reader)) c.loop.invariant.way.front
-    c.args.book.now c.loop.book c.loop.invariant.way.first c.loop.invariant.moments is;
+          c.args.book.now c.loop.book c.loop.invariant.way.first c.loop.invariant.moments is;
       keeps = c.loop.invariant.moments.keeps;
       made = c.loop.invariant.moments.stays;
     }
