@@ -4,6 +4,7 @@ use crate::bytes::{is_table, spoiled, table_of};
 use crate::jobs::script;
 use crate::lines::{asked, reply};
 use crate::pool::{counted, played_at_once, refused, rounds_by_any, rounds_by_yielding};
+use crate::scripts;
 use ic_notation::{Row, Trouble, expanded};
 use std::alloc::Global;
 use std::sync::Wait;
@@ -40,11 +41,12 @@ fn by_workers<R: Threads + Wait + Clock + Sync>(
     }
 }
 
-/// What is answered to a line, to a reply, or to bytes.
+/// What is answered to a line, a script, a reply, or bytes.
 fn of_text(alloc: Global, row: &Row<'_>) -> Result<Vec<u8>, Trouble> {
     let text = expanded(alloc, row.text)?;
     match row.kind {
         "line" => asked(alloc, &text),
+        "read_script" => scripts::read(alloc, &text),
         "reply" => reply(alloc, &text),
         "bytes" => table_of(alloc, &text),
         "is_table" => is_table(alloc, &text),

@@ -21,7 +21,8 @@ pub fn asked(alloc: Global, text: &[u8]) -> Result<Vec<u8>, Trouble> {
     }
 }
 
-fn commanded(alloc: Global, command: Command) -> Result<Vec<u8>, Trouble> {
+/// A command in one spelling.
+pub fn commanded(alloc: Global, command: Command) -> Result<Vec<u8>, Trouble> {
     match command {
         Command::Submit(name, system) => submitted(alloc, name, system),
         Command::Pause(name) => about(alloc, b"pause ", name),

@@ -1,4 +1,4 @@
-//! The worked rows of jobs: command lines, the job table, rounds by workers, and tables as bytes. Each line of standard
+//! The worked rows of jobs: command lines, scripts, the job table, rounds by workers, and tables as bytes. Each line of standard
 //! input has a row's name, what is asked, and the answer that it must have.
 //!
 //! A line that is empty, or begins with `--`, says nothing. Printed is each row with another answer, and how many rows
@@ -10,6 +10,7 @@ mod bytes;
 mod jobs;
 mod lines;
 mod pool;
+mod scripts;
 
 use crate::answers::answer;
 use ic_notation::Row;
