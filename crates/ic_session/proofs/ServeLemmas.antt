@@ -1,5 +1,5 @@
 -- The lines of a reader, one after the other.
-use Rattle.std.proofs.Common.{◌≡◌, ◌≢◌, ◌⊎◌, inl, inr, ℕ, ◌+◌, ◌<◌, ◌≤◌, List, [], ◌∷◌, ◌++◌, Option, None, Some, Result, Ok, Err, length, refl, sym, ap, ap₂, subst, ◌∙◌, arith, append-nil, append_assoc, length-append}
+use Rattle.std.proofs.Common.{Bool, false, ◌≡◌, ◌≢◌, ◌⊎◌, inl, inr, ℕ, ◌+◌, ◌<◌, ◌≤◌, List, [], ◌∷◌, ◌++◌, Option, None, Some, Result, Ok, Err, length, refl, sym, ap, ap₂, subst, ◌∙◌, arith, append-nil, append_assoc, length-append}
 use Rattle.std.specs.Prelude.{IfErr, replicate}
 use Rattle.std.proofs.lemmas.List.{length-replicate}
 use Rattle.std.specs.List.{AllByRecursion}
@@ -17,7 +17,7 @@ use Rattle.ic_session.specs.declared.fault.ServeFault.{ServeFault}
 use Rattle.ic_session.specs.declared.fault.ServeFault.TheVariants.{Read, Write, TooManyLines, Book, Pool, LongLine, Memory}
 use Rattle.ic_session.specs.Parts.{IsPart, IsKeptWithin, IsInLine, IsInFirst}
 use Rattle.ic_session.specs.Served.{OfLines, MayBeServed, AreAnswered, AppendsFront, SaysOf, IsLeftBy, IsEnded, IsCut}
-use Rattle.ic_session.specs.Faults.{IsOfBook, fault_of_line}
+use Rattle.ic_session.specs.Faults.{IsOfBook, CountsServe, StaysReady, fault_of_line}
 use Rattle.ic_lines.specs.declared.buffer.LineFault.{LineFault}
 use Rattle.ic_lines.specs.declared.buffer.LineFault.TheVariants as line_fault
 use Rattle.std.specs.Result.{IsErrAnd}
@@ -295,6 +295,36 @@ none_behind line_fault.Memory f rest front many others full long = let is = othe
 pub kept_part : (u kept : List JobParts) (es : List Event) (w : List JobParts) → kept ≡ u → IsKeptWithin u kept es w → IsPart u es w
 kept_part u kept es w all (inl same) = record { front = []; rest = es; parted = refl; leaves = same ∙ all }
 kept_part u kept es w all (inr part) = part
+
+-- no failure of the disk is counted where no line is taken
+pub counts_line : (e : LineFault) (old new : ℕ) → new ≡ old → CountsServe {T = Unit {0}} (Err (fault_of_line e)) old new
+counts_line line_fault.Read old new same = same
+counts_line line_fault.Write old new same = same
+counts_line line_fault.LongLine old new same = same
+counts_line line_fault.Memory old new same = same
+
+pub counts_behind : (e : LineFault) (f : ServeFault) (old new : ℕ) → (e ≡ line_fault.LongLine → f ≡ TooManyLines) → (e ≢ line_fault.LongLine → f ≡ fault_of_line e)
+    → new ≡ old → CountsServe {T = Unit {0}} (Err f) old new
+counts_behind line_fault.LongLine f old new many others same = let is = many refl in rw is same
+counts_behind line_fault.Read f old new many others same = let is = others (λ e. cc) in rw is same
+counts_behind line_fault.Write f old new many others same = let is = others (λ e. cc) in rw is same
+counts_behind line_fault.Memory f old new many others same = let is = others (λ e. cc) in rw is same
+
+-- nor is the book broken
+pub ready_behind : (e : LineFault) (f : ServeFault) (broken : Bool) (number : ℕ) → (e ≡ line_fault.LongLine → f ≡ TooManyLines) → (e ≢ line_fault.LongLine → f ≡ fault_of_line e)
+    → broken ≡ false → StaysReady f broken number
+ready_behind line_fault.LongLine f broken number many others same = let is = many refl in rw is same
+ready_behind line_fault.Read f broken number many others same = let is = others (λ e. cc) in rw is same
+ready_behind line_fault.Write f broken number many others same = let is = others (λ e. cc) in rw is same
+ready_behind line_fault.Memory f broken number many others same = let is = others (λ e. cc) in rw is same
+
+pub counts_memory : {T : Type 0} (r : Result T ServeFault) (n : ℕ) → IfErr r (λ f. f ≡ Memory) → CountsServe r n n
+counts_memory (Ok v) n is = refl
+counts_memory (Err f) n is = rw is refl
+
+pub ready_memory : {T : Type 0} (r : Result T ServeFault) (broken : Bool) (number : ℕ) → IfErr r (λ f. f ≡ Memory) → broken ≡ false → IfErr r (λ f. StaysReady f broken number)
+ready_memory (Ok v) broken number is same = tt
+ready_memory (Err f) broken number is same = rw is same
 
 pub ended_err : {T : Type 0} (r : Result T ServeFault) (f : ServeFault) (P : ServeFault → Type 0) → IsErrAnd r (λ x. x ≡ f) → (f ≢ Write → P f)
     → IfErr r (λ x. x ≢ Write → P x)

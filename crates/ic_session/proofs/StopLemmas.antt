@@ -1,5 +1,5 @@
 -- What a crash in the midst of a call leaves, call by call.
-use Rattle.std.proofs.Common.{◌≡◌, ◌≢◌, ◌⊎◌, inl, inr, ⊎_elim, ℕ, ◌+◌, ◌<◌, ◌≤◌, List, [], ◌∷◌, ◌++◌, Option, None, Some, true, length, refl, sym, ap, subst, ◌∙◌, arith, append-nil, append_assoc}
+use Rattle.std.proofs.Common.{false, ◌≡◌, ◌≢◌, ◌⊎◌, inl, inr, ⊎_elim, ℕ, ◌+◌, ◌<◌, ◌≤◌, List, [], ◌∷◌, ◌++◌, Option, None, Some, true, length, refl, sym, ap, subst, ◌∙◌, arith, append-nil, append_assoc}
 use Rattle.std.specs.Prelude.{IsTrue}
 use Rattle.std.proofs.lemmas.Bool.{cases_lt}
 use Rattle.ic_disk.specs.declared.disk.Disk.{Ghosts}
@@ -23,7 +23,7 @@ use Rattle.ic_lines.specs.Turns.{after_events, turns}
 use Rattle.ic_lines.specs.Answers.{Reading, events}
 use Rattle.ic_lines.specs.Taking.{TakesLine}
 use Rattle.ic_desk.specs.declared.book.Book.{Book}
-use Rattle.ic_desk.specs.Book.{start_of, log_of, table_of, kept_of, keeper_of, disk_of, IsUnchanged}
+use Rattle.ic_desk.specs.Book.{is_broken, start_of, log_of, table_of, kept_of, keeper_of, disk_of, IsUnchanged}
 use Rattle.ic_desk.specs.Entries.{AddsCommand, command_entry}
 use Rattle.ic_desk.specs.Kept.{HoldsKeptOrAll, table_kept}
 use Rattle.ic_session.specs.Booked.{last_kept, IsAllKept, IsOnMadeDisk, StaysPut}
@@ -71,7 +71,7 @@ all_or_not m n = ⊎_elim
     (λ more. ⊎_elim (λ less. inr (λ same. omega (arith, less, same))) (λ fewer. inl (omega (arith, more, fewer))) (cases_lt n m))
     (cases_lt m n)
 
-reached_now : SomeWay → (t : List JobParts) (ls : List (List ℕ)) → IsReached t ls t
+pub reached_now : SomeWay → (t : List JobParts) (ls : List (List ℕ)) → IsReached t ls t
 reached_now law t ls = record {
   front = [];
   rest = ls;
@@ -88,7 +88,7 @@ longer : SomeWay → (between u : List JobParts) (rest more : List (List ℕ)) �
 longer law between u [] more here = subst (IsInFirst between more) (sym here) (in_first law between more)
 longer law between u (line ∷ rest) more here = here
 
-reached_longer : SomeWay → (t : List JobParts) (ls more : List (List ℕ)) (u : List JobParts) → IsReached t ls u → IsReached t (ls ++ more) u
+pub reached_longer : SomeWay → (t : List JobParts) (ls more : List (List ℕ)) (u : List JobParts) → IsReached t ls u → IsReached t (ls ++ more) u
 reached_longer law t ls more u r = record {
   front = r.front;
   rest = r.rest ++ more;
@@ -206,6 +206,8 @@ module _ {D : Type 0} {ghosts : Ghosts D} where
   pub record Serves (text rest : Option (List ℕ)) (count : ℕ) (first book : Book D ghosts) (old new : Option (List ℕ)) : Type 0 where
     pub way : IsUnderWay text rest count (table_of first) (table_of book) old new
     pub kept : IsAllKept first → IsAllKept book
+    pub counted : ghosts.failures (disk_of book) ≡ ghosts.failures (disk_of first)
+    pub ready : is_broken first ≡ false → is_broken book ≡ false
     pub last : IsAllKept book ⊎ (last_kept book ≡ last_kept first)
     pub moments : LeavesServed first book way.front
 

@@ -1,8 +1,9 @@
 -- What the faults of a serving are made of.
 use Rattle.ic_lines.specs.declared.buffer.LineFault.{LineFault}
 use Rattle.ic_lines.specs.declared.buffer.LineFault.TheVariants as line
-use Rattle.std.specs.Prelude.{ℕ, List, [], ◌∷◌, ◌++◌, codes}
+use Rattle.std.specs.Prelude.{◌≡◌, ◌-◌, ◌^◌, ℕ, Bool, true, false, List, [], ◌∷◌, ◌++◌, Result, Ok, Err, codes}
 use Rattle.ic_desk.specs.declared.faults.BookFault.{BookFault}
+use Rattle.ic_desk.specs.Refusals.{CountsBook}
 use Rattle.ic_desk.specs.declared.faults.BookFault.TheVariants as book
 use Rattle.ic_pool.specs.declared.fault.PoolFault.TheVariants as pool
 use Rattle.ic_session.specs.declared.fault.ServeFault.{ServeFault}
@@ -34,6 +35,25 @@ MayCome (Pool pool.RoundsOut) = ⊥
 MayCome (Pool pool.Overgrown) = ⊥
 MayCome (Pool pool.NamesOut) = ⊥
 MayCome _ = Unit {0}
+
+-- What a fault says of a book that wasn't broken, and of the number of its newest slot: only `Device`
+-- breaks it, `Broken` isn't told of it, and at `Worn` the numbers are used up.
+abbrev pub StaysReady : ServeFault → (broken : Bool) (number : ℕ) → Type 0
+StaysReady (Book book.Device) broken number = broken ≡ true
+StaysReady (Book book.Broken) broken number = ⊥
+StaysReady (Book book.Worn) broken number = (broken ≡ false) × (number ≡ 2 ^ 64 - 1)
+StaysReady _ broken number = broken ≡ false
+
+-- one failure more of the disk is counted where the book tells of one, and none otherwise
+abbrev pub CountsServe : {T : Type 0} → Result T ServeFault → (old new : ℕ) → Type 0
+CountsServe (Ok value) old new = new ≡ old
+CountsServe (Err Read) old new = new ≡ old
+CountsServe (Err Write) old new = new ≡ old
+CountsServe (Err TooManyLines) old new = new ≡ old
+CountsServe (Err (Book fault)) old new = CountsBook {T = Unit {0}} (Err fault) old new
+CountsServe (Err (Pool fault)) old new = new ≡ old
+CountsServe (Err LongLine) old new = new ≡ old
+CountsServe (Err Memory) old new = new ≡ old
 
 -- the words that tell why a call on a book was refused (this project's choice)
 abbrev pub book_word : BookFault → List ℕ

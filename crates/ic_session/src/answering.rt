@@ -1,7 +1,7 @@
 //! Answering one line over a book.
 
-ghost use Rattle.std.specs.Prelude.{◌≡◌, ◌≤◌, ◌++◌, [], ◌∷◌, Ok, OnOk, OnErr, IfErr, IfOk};
-ghost use Rattle.ic_desk.specs.Book.{table_of};
+ghost use Rattle.std.specs.Prelude.{false, ◌≡◌, ◌≤◌, ◌++◌, [], ◌∷◌, Ok, OnOk, OnErr, IfErr, IfOk};
+ghost use Rattle.ic_desk.specs.Book.{is_broken, number_of, disk_of, table_of};
 ghost use Rattle.ic_jobs.specs.declared.event.Event.TheVariants.{Command as by_command};
 ghost use Rattle.ic_commands.specs.declared.line.Line.TheVariants.{Command as Asks, Run};
 ghost use Rattle.ic_text.specs.Text.{fault_text};
@@ -12,7 +12,7 @@ ghost use Rattle.ic_session.specs.Booked.{last_kept, Begins, IsAllKept};
 ghost use Rattle.ic_session.specs.Parts.{IsKeptWithin};
 ghost use Rattle.ic_session.specs.Answered.{IsAnswered, IsBegun};
 ghost use Rattle.ic_session.specs.Moments.{Leaves, IsKeptInLine};
-ghost use Rattle.ic_session.specs.Faults.{IsOfBook, MayCome};
+ghost use Rattle.ic_session.specs.Faults.{IsOfBook, MayCome, CountsServe, StaysReady};
 
 use crate::fault::ServeFault;
 use crate::rounds::make_room;
@@ -31,7 +31,7 @@ use std::thread::Threads;
 /// leaves is kept. At `Err` some of the line's events may stand in the book.
 ///
 /// Rounds are made by so many workers, and kept after each `every` of them and at the end. The line
-/// has no line feed. A refused line is answered by its refusal; a blank one by nothing.
+/// is given without its line feed. A refused line is answered by its refusal, a blank one by nothing.
 pub fn answer_line<T: Threads + Wait, D: Disk>(
     rt: &T,
     alloc: Global,
@@ -46,6 +46,11 @@ pub fn answer_line<T: Threads + Wait, D: Disk>(
     ensures begun { OnErr result (IsBegun line.now book.old book.new) }
     ensures sort { IfErr result IsOfBook }
     ensures causes { IfErr result MayCome }
+    ensures counted { CountsServe result
+        (D.failures (disk_of book.old)) (D.failures (disk_of book.new)) }
+    ensures ready { is_broken book.old ≡ false → OnOk result (is_broken book.new ≡ false) }
+    ensures breaks { is_broken book.old ≡ false → IfErr result (λ fault.
+        StaysReady fault (is_broken book.new) (number_of book.new)) }
 
     // A crash at any moment leaves the table that was kept before the line, or one within it.
     ensures any_moment { Leaves book.old book.new
@@ -66,6 +71,7 @@ fn answer_refused(alloc: Global, fault: TextFault) -> Result<Vec<u8>, ServeFault
     ensures answer { IfOk result (λ bytes. bytes.items ≡ ended (fault_text fault)) }
     ensures sort { IfErr result IsOfBook }
     ensures causes { IfErr result MayCome }
+    ensures fault { IfErr result (λ fault. fault ≡ ServeFault.Memory) }
 {
     Ok(ended(print_fault(alloc, &fault)?)?)
 }
@@ -83,6 +89,11 @@ fn answer_command<D: Disk>(
     ensures begun { OnErr result (Begins (by_command command ∷ []) book.old book.new) }
     ensures sort { IfErr result IsOfBook }
     ensures causes { IfErr result MayCome }
+    ensures counted { CountsServe result
+        (D.failures (disk_of book.old)) (D.failures (disk_of book.new)) }
+    ensures ready { is_broken book.old ≡ false → OnOk result (is_broken book.new ≡ false) }
+    ensures breaks { is_broken book.old ≡ false → IfErr result (λ fault.
+        StaysReady fault (is_broken book.new) (number_of book.new)) }
     ensures any_moment { Leaves book.old book.new (IsKeptWithin (table_of book.old)
         (last_kept book.old) (by_command command ∷ [])) }
 {
@@ -111,6 +122,11 @@ fn answer_run<T: Threads + Wait, D: Disk>(
     ensures begun { OnErr result (Begins (turns count 0 (table_of book.old)) book.old book.new) }
     ensures sort { IfErr result IsOfBook }
     ensures causes { IfErr result MayCome }
+    ensures counted { CountsServe result
+        (D.failures (disk_of book.old)) (D.failures (disk_of book.new)) }
+    ensures ready { is_broken book.old ≡ false → OnOk result (is_broken book.new ≡ false) }
+    ensures breaks { is_broken book.old ≡ false → IfErr result (λ fault.
+        StaysReady fault (is_broken book.new) (number_of book.new)) }
     ensures any_moment { Leaves book.old book.new (IsKeptWithin (table_of book.old)
         (last_kept book.old) (turns count 0 (table_of book.old))) }
 {

@@ -15,6 +15,7 @@ mod limits;
 mod rounds;
 mod running;
 mod serving;
+pub mod stop_laws;
 mod writing;
 
 pub use answering::answer_line;

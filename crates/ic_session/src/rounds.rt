@@ -1,13 +1,14 @@
 //! One round over a book.
 
-ghost use Rattle.std.specs.Prelude.{◌≡◌, ◌<◌, ◌≤◌, length, None, OnOk, OnErr, IfErr, IfOk, IfSome, IfNone};
+ghost use Rattle.std.specs.Prelude.{false, ◌≡◌, ◌<◌, ◌≤◌, length, None, OnOk, OnErr, IfErr, IfOk, IfSome, IfNone};
 ghost use Rattle.ic_jobs.specs.declared.event.Event.TheVariants.{Round};
 ghost use Rattle.ic_jobs.specs.declared.limits.TheConstants.{MAX_JOBS};
 ghost use Rattle.ic_jobs.specs.Landing.{due, Awaits};
 ghost use Rattle.ic_desk.specs.declared.limits.TheConstants.{MAX_ENTRIES};
-ghost use Rattle.ic_desk.specs.Book.{table_of, kept_of, log_of, keeper_of, IsUnchanged};
+ghost use Rattle.ic_desk.specs.Book.{is_broken, number_of, disk_of, table_of, kept_of, log_of, keeper_of, IsUnchanged};
 ghost use Rattle.ic_session.specs.Booked.{last_kept, IsAllKept, Advances, MakesRound, StaysPut};
-ghost use Rattle.ic_session.specs.Faults.{IsOfBook, MayCome};
+ghost use Rattle.ic_desk.specs.Refusals.{CountsBook};
+ghost use Rattle.ic_session.specs.Faults.{IsOfBook, MayCome, CountsServe, StaysReady};
 ghost use Rattle.ic_session.specs.Moments.{Leaves, IsKeptOrNow};
 
 use crate::fault::ServeFault;
@@ -22,6 +23,11 @@ use std::thread::Threads;
 pub(crate) fn make_room<D: Disk>(alloc: Global, book: &mut Book<D>) -> Result<(), BookFault>
     ensures stays { StaysPut book.old book.new }
     ensures causes { IfErr result (λ fault. MayCome (ServeFault.Book fault)) }
+    ensures counted { CountsBook result
+        (D.failures (disk_of book.old)) (D.failures (disk_of book.new)) }
+    ensures ready { is_broken book.old ≡ false → OnOk result (is_broken book.new ≡ false) }
+    ensures breaks { is_broken book.old ≡ false → IfErr result (λ fault.
+        StaysReady (ServeFault.Book fault) (is_broken book.new) (number_of book.new)) }
     ensures spare { OnOk result (length (log_of book.new) < MAX_ENTRIES) }
     ensures room { length (log_of book.old) < MAX_ENTRIES → IsUnchanged book.old book.new }
     ensures any_moment { Leaves book.old book.new (IsKeptOrNow book.old) }
@@ -40,6 +46,11 @@ pub(crate) fn keep_all<D: Disk>(book: &mut Book<D>) -> Result<(), BookFault>
     ensures last { OnOk result (last_kept book.new ≡ table_of book.old) }
     ensures unkept { OnErr result (last_kept book.new ≡ last_kept book.old) }
     ensures causes { IfErr result (λ fault. MayCome (ServeFault.Book fault)) }
+    ensures counted { CountsBook result
+        (D.failures (disk_of book.old)) (D.failures (disk_of book.new)) }
+    ensures ready { is_broken book.old ≡ false → OnOk result (is_broken book.new ≡ false) }
+    ensures breaks { is_broken book.old ≡ false → IfErr result (λ fault.
+        StaysReady (ServeFault.Book fault) (is_broken book.new) (number_of book.new)) }
     ensures any_moment { Leaves book.old book.new (IsKeptOrNow book.old) }
 {
     book.facts();
@@ -64,6 +75,11 @@ pub(crate) fn make_round<T: Threads + Wait, D: Disk>(
     ensures refused { OnErr result (StaysPut book.old book.new) }
     ensures sort { IfErr result IsOfBook }
     ensures causes { IfErr result MayCome }
+    ensures counted { CountsServe result
+        (D.failures (disk_of book.old)) (D.failures (disk_of book.new)) }
+    ensures ready { is_broken book.old ≡ false → OnOk result (is_broken book.new ≡ false) }
+    ensures breaks { is_broken book.old ≡ false → IfErr result (λ fault.
+        StaysReady fault (is_broken book.new) (number_of book.new)) }
     ensures any_moment { Leaves book.old book.new (IsKeptOrNow book.old) }
 {
     book.facts();
@@ -95,6 +111,11 @@ fn land_or_halt<T: Threads + Wait, D: Disk>(
     ensures refused { OnErr result (IsUnchanged book.old book.new) }
     ensures sort { IfErr result IsOfBook }
     ensures causes { IfErr result MayCome }
+    ensures counted { CountsServe result
+        (D.failures (disk_of book.old)) (D.failures (disk_of book.new)) }
+    ensures ready { is_broken book.old ≡ false → OnOk result (is_broken book.new ≡ false) }
+    ensures breaks { is_broken book.old ≡ false → IfErr result (λ fault.
+        StaysReady fault (is_broken book.new) (number_of book.new)) }
     ensures keeper { keeper_of book.new ≡ keeper_of book.old }
 {
     book.facts();

@@ -1,11 +1,12 @@
 //! The rounds of a run over a book.
 
-ghost use Rattle.std.specs.Prelude.{◌≡◌, ◌≤◌, ◌⊎◌, OnOk, OnErr, IfErr, IfOk, length};
-ghost use Rattle.ic_desk.specs.Book.{table_of};
+ghost use Rattle.std.specs.Prelude.{false, ◌≡◌, ◌≤◌, ◌⊎◌, OnOk, OnErr, IfErr, IfOk, length};
+ghost use Rattle.ic_desk.specs.Book.{is_broken, number_of, disk_of, table_of};
 ghost use Rattle.ic_lines.specs.Turns.{turns, after_events};
 ghost use Rattle.ic_session.specs.Booked.{last_kept, Begins, IsAllKept};
 ghost use Rattle.ic_session.specs.Parts.{IsKeptWithin};
-ghost use Rattle.ic_session.specs.Faults.{IsOfBook, MayCome};
+ghost use Rattle.ic_desk.specs.Refusals.{CountsBook};
+ghost use Rattle.ic_session.specs.Faults.{IsOfBook, MayCome, CountsServe, StaysReady};
 ghost use Rattle.ic_session.specs.Moments.{Leaves, IsKeptOrNow};
 
 use crate::fault::ServeFault;
@@ -36,6 +37,11 @@ pub(crate) fn run<T: Threads + Wait, D: Disk>(
     ensures begun { OnErr result (Begins (turns count 0 (table_of book.old)) book.old book.new) }
     ensures sort { IfErr result IsOfBook }
     ensures causes { IfErr result MayCome }
+    ensures counted { CountsServe result
+        (D.failures (disk_of book.old)) (D.failures (disk_of book.new)) }
+    ensures ready { is_broken book.old ≡ false → OnOk result (is_broken book.new ≡ false) }
+    ensures breaks { is_broken book.old ≡ false → IfErr result (λ fault.
+        StaysReady fault (is_broken book.new) (number_of book.new)) }
     ensures any_moment { Leaves book.old book.new (IsKeptWithin (table_of book.old)
         (last_kept book.old) (turns count 0 (table_of book.old))) }
 {
@@ -63,6 +69,11 @@ fn make_rounds<T: Threads + Wait, D: Disk>(
     ensures begun { OnErr result (Begins (turns count 0 (table_of book.old)) book.old book.new) }
     ensures sort { IfErr result IsOfBook }
     ensures causes { IfErr result MayCome }
+    ensures counted { CountsServe result
+        (D.failures (disk_of book.old)) (D.failures (disk_of book.new)) }
+    ensures ready { is_broken book.old ≡ false → OnOk result (is_broken book.new ≡ false) }
+    ensures breaks { is_broken book.old ≡ false → IfErr result (λ fault.
+        StaysReady fault (is_broken book.new) (number_of book.new)) }
     ensures any_moment { Leaves book.old book.new (IsKeptWithin (table_of book.old)
         (last_kept book.old) (turns count 0 (table_of book.old))) }
 {
@@ -86,6 +97,11 @@ fn keep_each<D: Disk>(book: &mut Book<D>, made: u64, every: u64) -> Result<(), B
         ⊎ (last_kept book.new ≡ table_of book.old)) }
     ensures unkept { OnErr result (last_kept book.new ≡ last_kept book.old) }
     ensures causes { IfErr result (λ fault. MayCome (ServeFault.Book fault)) }
+    ensures counted { CountsBook result
+        (D.failures (disk_of book.old)) (D.failures (disk_of book.new)) }
+    ensures ready { is_broken book.old ≡ false → OnOk result (is_broken book.new ≡ false) }
+    ensures breaks { is_broken book.old ≡ false → IfErr result (λ fault.
+        StaysReady (ServeFault.Book fault) (is_broken book.new) (number_of book.new)) }
     ensures any_moment { Leaves book.old book.new (IsKeptOrNow book.old) }
 {
     book.facts();

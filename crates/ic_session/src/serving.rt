@@ -1,10 +1,10 @@
 //! Serving all lines of a reader over a book.
 
-ghost use Rattle.std.specs.Prelude.{◌≡◌, ◌≢◌, ◌≤◌, Err, IfErr, OnOk};
+ghost use Rattle.std.specs.Prelude.{false, ◌≡◌, ◌≢◌, ◌≤◌, Err, IfErr, OnOk};
 ghost use Rattle.ic_disk.specs.Time.{LeavesOnly};
-ghost use Rattle.ic_desk.specs.Book.{table_of, disk_of};
+ghost use Rattle.ic_desk.specs.Book.{is_broken, number_of, table_of, disk_of};
 ghost use Rattle.ic_lines.specs.declared.buffer.LineFault.TheVariants.{LongLine};
-ghost use Rattle.ic_session.specs.Faults.{MayCome, fault_of_line};
+ghost use Rattle.ic_session.specs.Faults.{MayCome, CountsServe, StaysReady, fault_of_line};
 ghost use Rattle.ic_session.specs.Booked.{last_kept, IsAllKept, IsOnMadeDisk};
 ghost use Rattle.ic_session.specs.Served.{OfLines, AreAnswered, IsEnded, IsCut};
 ghost use Rattle.ic_session.specs.Stopped.{HoldsOne, MayStand};
@@ -46,6 +46,11 @@ pub fn serve_lines<T: Threads + Wait, D: Disk, R: Read, W: Write>(
         (table_of book.old) (table_of book.new) (last_kept book.new)
         (W.contents writer.old) (W.contents writer.new))) }
     ensures causes { IfErr result MayCome }
+    ensures counted { CountsServe result
+        (D.failures (disk_of book.old)) (D.failures (disk_of book.new)) }
+    ensures ready { is_broken book.old ≡ false → OnOk result (is_broken book.new ≡ false) }
+    ensures breaks { is_broken book.old ≡ false → IfErr result (λ fault.
+        StaysReady fault (is_broken book.new) (number_of book.new)) }
     ensures cut { result ≡ Err ServeFault.Write
         → OfLines (R.remaining reader.old) (λ ls. IsCut ls (table_of book.old) (table_of book.new)
         (W.contents writer.old) (W.contents writer.new)) }

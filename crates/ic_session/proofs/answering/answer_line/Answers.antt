@@ -1,5 +1,5 @@
 use Rattle.std.proofs.Common.{refl, inl, inr, [], ◌∷◌, Ok}
-use Rattle.ic_desk.specs.Book.{table_of}
+use Rattle.ic_desk.specs.Book.{table_of, disk_of, is_broken, number_of}
 use Rattle.ic_lines.specs.Answers.{events}
 use Rattle.ic_session.specs.Booked.{last_kept}
 use Rattle.ic_session.proofs.LineLemmas.{begun_none}
@@ -8,7 +8,7 @@ use Rattle.ic_commands.specs.declared.line.Line.TheVariants.{Command as Asks, Ru
 use Rattle.ic_lines.specs.Turns.{turns}
 use Rattle.ic_session.specs.Parts.{IsKeptWithin}
 use Rattle.ic_session.specs.Moments.{IsKeptInLine}
-use Rattle.ic_session.proofs.ServeLemmas.{in_line}
+use Rattle.ic_session.proofs.ServeLemmas.{in_line, counts_memory, ready_memory}
 use Rattle.ic_session.proofs.StopLemmas.{kept_in_line, leaves_more, leaves_nothing}
 use Rattle.ic_session.proofs.answering.answer_line.Goals as goal
 
@@ -46,3 +46,9 @@ pub returns-in-Err-clause-any_moment : goal.returns-in-Err-clause-any_moment
 returns-in-Err-clause-any_moment g c = leaves_nothing c.args.book.now (IsKeptInLine (table_of c.args.book.now) (last_kept c.args.book.now) c.args.line.now)
     (g.met.D.Disk.left_is_image _) c.facts.ensures.either c.facts.ensures.history.replayed (inl refl)
     (inr (in_line c.one_line_reading.ensures.total (table_of c.args.book.now) c.args.line.now))
+
+pub returns-in-Err-clause-counted : goal.returns-in-Err-clause-counted
+returns-in-Err-clause-counted g c = counts_memory c.answer_refused.result (g.D.Disk.failures (disk_of c.args.book.now)) c.answer_refused.ensures.fault
+
+pub returns-in-Err-clause-breaks : goal.returns-in-Err-clause-breaks
+returns-in-Err-clause-breaks g c = λ is. ready_memory c.answer_refused.result (is_broken c.args.book.now) (number_of c.args.book.now) c.answer_refused.ensures.fault is

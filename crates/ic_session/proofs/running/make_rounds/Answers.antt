@@ -13,6 +13,8 @@ use Rattle.ic_session.proofs.running.make_rounds.Goals as goal
 pub loop-made-init : goal.loop-made-init
 loop-made-init g c = record {
   run = at_first (table_of c.args.book.now) (last_kept c.args.book.now) c.args.count;
+  counted = refl;
+  ready = λ is. is;
   moments = leaves_nothing c.args.book.now (IsKeptWithin (table_of c.args.book.now) (last_kept c.args.book.now) (turns c.args.count 0 (table_of c.args.book.now)))
       (g.met.D.Disk.left_is_image _) c.facts.ensures.either c.facts.ensures.history.replayed (inl refl)
       (inr (record { front = []; rest = turns c.args.count 0 (table_of c.args.book.now); parted = refl; leaves = refl }));
@@ -85,6 +87,8 @@ loop-made-preserved g c =
       run = rw m.here (keep_or_not (table_of c.args.book.now) (last_kept c.args.book.now) c.args.count (c.loop-made.made + 1) (m.flight.place + 1)
           (table_of c.make_round.new.book) (last_kept c.make_round.new.book) (table_of c.keep_each.new.book) (last_kept c.keep_each.new.book)
           more c.keep_each.ensures.table c.in_ok-keep_each.ensures.kept);
+      counted = c.in_ok-keep_each.ensures.counted ∙ c.in_ok-make_round.ensures.counted ∙ c.loop-made.invariant.counted;
+      ready = λ is. c.in_ok-keep_each.ensures.ready (c.in_ok-make_round.ensures.ready (c.loop-made.invariant.ready is));
       moments = leaves_in_run c.args.book.now c.make_round.new.book c.keep_each.new.book c.args.count (c.loop-made.made + 1) (m.flight.place + 1) more
           (leaves_in_run c.args.book.now c.loop-made.book c.make_round.new.book c.args.count c.loop-made.made c.loop-made.place
           c.loop-made.invariant.run c.loop-made.invariant.moments c.make_round.ensures.any_moment)

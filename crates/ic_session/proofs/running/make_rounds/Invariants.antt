@@ -1,4 +1,5 @@
-use Rattle.ic_desk.specs.Book.{table_of}
+use Rattle.std.proofs.Common.{◌≡◌, false}
+use Rattle.ic_desk.specs.Book.{table_of, disk_of, is_broken}
 use Rattle.ic_lines.specs.Turns.{turns}
 use Rattle.ic_session.specs.Booked.{last_kept}
 use Rattle.ic_session.specs.Parts.{IsKeptWithin}
@@ -10,5 +11,7 @@ use Rattle.ic_session.proofs.running.make_rounds.Given as goal
 abbrev pub invariant-loop-made : goal.invariant-loop-made
 invariant-loop-made g l = record {
   run : InRun (table_of l.fn.book) (last_kept l.fn.book) l.count l.made l.place (table_of l.book) (last_kept l.book);
+  counted : g.D.Disk.failures (disk_of l.book) ≡ g.D.Disk.failures (disk_of l.fn.book);
+  ready : is_broken l.fn.book ≡ false → is_broken l.book ≡ false;
   moments : Leaves l.fn.book l.book (IsKeptWithin (table_of l.fn.book) (last_kept l.fn.book) (turns l.count 0 (table_of l.fn.book)));
 }

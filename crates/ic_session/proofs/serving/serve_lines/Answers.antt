@@ -3,7 +3,7 @@ use Rattle.std.specs.Io.KnownBytes.{Appends}
 use Rattle.ic_commands.specs.LineText.{ReadsLine}
 use Rattle.ic_lines.specs.Answers.{events}
 use Rattle.ic_lines.specs.Taking.{to_come, TakesLine}
-use Rattle.ic_desk.specs.Book.{table_of, start_of, log_of, kept_of}
+use Rattle.ic_desk.specs.Book.{is_broken, number_of, table_of, disk_of, start_of, log_of, kept_of}
 use Rattle.ic_session.specs.Booked.{last_kept, IsAllKept}
 use Rattle.ic_session.specs.Faults.{fault_of_line}
 use Rattle.ic_session.specs.declared.fault.ServeFault.{ServeFault}
@@ -13,7 +13,7 @@ use Rattle.ic_lines.specs.declared.buffer.LineFault.TheVariants as line_fault
 use Rattle.ic_session.specs.Answered.{IsAnswered, IsBegun}
 use Rattle.ic_session.specs.Moments.{Leaves, IsKeptInLine}
 use Rattle.ic_session.proofs.LineLemmas.{kept_all}
-use Rattle.ic_session.proofs.ServeLemmas.{under_first, under_more, over, ahead, taken, first_more, ended_at, ended_err, cut_at, cut_behind, kept_part, left_first, left_within, says_book, not_taken, none_behind}
+use Rattle.ic_session.proofs.ServeLemmas.{under_first, under_more, over, ahead, taken, first_more, ended_at, ended_err, cut_at, cut_behind, kept_part, left_first, left_within, says_book, not_taken, none_behind, counts_behind, ready_behind}
 use Rattle.ic_session.proofs.StopLemmas.{stops_first, stops_more, stops_now, still_all, still_last}
 use Rattle.ic_session.proofs.serving.serve_lines.Goals as goal
 
@@ -21,6 +21,8 @@ pub loop-init : goal.loop-init
 loop-init g c = record {
   way = under_first (g.R.Read.remaining c.args.reader.now) c.new-lines.result (table_of c.args.book.now) (g.W.Write.contents c.args.writer.now) c.new-lines.ensures.ahead;
   kept = λ all. all;
+  counted = refl;
+  ready = λ is. is;
   last = inr refl;
   moments = stops_first c.one_line_reading.ensures.total c.args.book.now (g.met.D.Disk.left_is_image _) c.facts.ensures.either c.facts.ensures.history.replayed
       (kept_all (start_of c.args.book.now) (table_of c.args.book.now) (log_of c.args.book.now) (kept_of c.args.book.now) c.facts.ensures.history.replayed);
@@ -147,6 +149,8 @@ loop-preserved g c =
           c.take_line.new.self.line c.in_ok-answer.answer.items answered.reading
           c.loop.invariant.way takes (c.in_ok-take_line.ensures.short done) c.loop-test.true reads answered.answer answered.table c.take_line.ensures.kept written;
       kept = λ all. still_all c.loop.book c.answer_line.new.book answered.kept (c.loop.invariant.kept all);
+      counted = c.in_ok-answer.ensures.counted ∙ c.loop.invariant.counted;
+      ready = λ is. c.in_ok-answer.ensures.ready (c.loop.invariant.ready is);
       last = still_last c.args.book.now c.loop.book c.answer_line.new.book answered.kept c.loop.invariant.last;
       moments = stops;
     }
@@ -190,6 +194,11 @@ returns g c =
       served = tt;
       kept = tt;
       causes = c.behind_the_last.ensures.causes;
+      counted = counts_behind c.in-Err.fault c.behind_the_last.result (g.D.Disk.failures (disk_of c.args.book.now)) (g.D.Disk.failures (disk_of c.loop.book))
+          c.behind_the_last.ensures.long c.behind_the_last.ensures.others c.loop.invariant.counted;
+      ready = λ is. tt;
+      breaks = λ is. ready_behind c.in-Err.fault c.behind_the_last.result (is_broken c.loop.book) (number_of c.loop.book)
+          c.behind_the_last.ensures.long c.behind_the_last.ensures.others (c.loop.invariant.ready is);
       ended = λ other. ended_at c.behind_the_last.result (IsAllKept c.args.book.now) (g.R.Read.remaining c.args.reader.now) rest c.loop.counter
           (table_of c.args.book.now) (table_of c.loop.book) (table_of c.loop.book) (last_kept c.loop.book)
           (g.W.Write.contents c.args.writer.now) (g.W.Write.contents c.loop.writer) (g.W.Write.contents c.take_line-2.new.writer) none.more
