@@ -1,5 +1,5 @@
 -- What a crash in the midst of a call leaves, call by call.
-use Rattle.std.proofs.Common.{false, ◌≡◌, ◌≢◌, ◌⊎◌, inl, inr, ⊎_elim, ℕ, ◌+◌, ◌<◌, ◌≤◌, List, [], ◌∷◌, ◌++◌, Option, None, Some, true, length, refl, sym, ap, subst, ◌∙◌, arith, append-nil, append_assoc}
+use Rattle.std.proofs.Common.{false, Ok, Err, ◌≡◌, ◌≢◌, ◌⊎◌, inl, inr, ⊎_elim, ℕ, ◌+◌, ◌<◌, ◌≤◌, List, [], ◌∷◌, ◌++◌, Option, None, Some, true, length, refl, sym, ap, subst, ◌∙◌, arith, append-nil, append_assoc}
 use Rattle.std.specs.Prelude.{IsTrue}
 use Rattle.std.proofs.lemmas.Bool.{cases_lt}
 use Rattle.ic_disk.specs.declared.disk.Disk.{Ghosts}
@@ -18,6 +18,7 @@ use Rattle.ic_slots.specs.declared.keeper.Keeper.{Keeper}
 use Rattle.ic_slots.specs.Held.{HoldsTable, HoldsEitherTable}
 use Rattle.ic_slots.specs.Keeper as keeper_parts
 use Rattle.ic_commands.specs.LineText.{ReadsLine}
+use Rattle.ic_commands.specs.declared.line.Line.TheVariants.{Blank, Run, Command as Asks}
 use Rattle.ic_lines.specs.Lines.{lines}
 use Rattle.ic_lines.specs.Turns.{after_events, turns}
 use Rattle.ic_lines.specs.Answers.{Reading, events}
@@ -27,6 +28,7 @@ use Rattle.ic_desk.specs.Book.{is_broken, start_of, log_of, table_of, kept_of, k
 use Rattle.ic_desk.specs.Entries.{AddsCommand, command_entry}
 use Rattle.ic_desk.specs.Kept.{HoldsKeptOrAll, table_kept}
 use Rattle.ic_session.specs.Booked.{last_kept, IsAllKept, IsOnMadeDisk, StaysPut}
+use Rattle.ic_session.specs.Answered.{IsKeptFor}
 use Rattle.ic_session.specs.Parts.{IsPart, IsKeptWithin, IsInLine, IsInFirst}
 use Rattle.ic_session.specs.Stopped.{HoldsOne, IsReached, MayStand}
 use Rattle.ic_session.specs.Moments.{Leaves, IsKeptOrNow, IsKeptInLine}
@@ -270,6 +272,13 @@ module _ {D : Type 0} {ghosts : Ghosts D} where
       (may_longer law (IsAllKept first) (last_kept first) (table_of first) front (ahead rest))).any_moment is)
 
   -- what a line leaves keeps
+  -- all is kept, or nothing has changed
+  pub kept_or_same : (r : Reading) (old new : Book D ghosts) → IsKeptFor r old new → IsAllKept new ⊎ IsUnchanged old new
+  kept_or_same (Ok Blank) old new is = inr is
+  kept_or_same (Ok (Asks command)) old new is = inl is
+  kept_or_same (Ok (Run count)) old new is = inl is
+  kept_or_same (Err fault) old new is = inr is
+
   pub still_all : (old new : Book D ghosts) → IsAllKept new ⊎ IsUnchanged old new → IsAllKept old → IsAllKept new
   still_all old new (inl all) was = all
   still_all old new (inr same) was = same.same_kept ∙ was ∙ ap length (sym same.same_log)

@@ -1,9 +1,9 @@
 //! Laws of the definitions that the contracts of this crate cite.
 
-ghost use Rattle.std.specs.Prelude.{IsTrue, ◌≡◌, ◌≢◌, ◌⊎◌, ◌↔◌, ◌<◌, ◌≤◌, ℕ, List, [], ◌∷◌, ◌++◌, Bool, true, Option, None, Some, Ok, Err, length, map, take, codes};
+ghost use Rattle.std.specs.Prelude.{IsTrue, false, ◌-◌, ◌^◌, ◌≡◌, ◌≢◌, ◌⊎◌, ◌↔◌, ◌<◌, ◌≤◌, ℕ, List, [], ◌∷◌, ◌++◌, Bool, true, Option, None, Some, Ok, Err, length, map, take, codes};
 ghost use Rattle.std.specs.List.{AllByRecursion};
 ghost use Rattle.std.specs.Io.KnownBytes.{Appends};
-ghost use Rattle.ic_disk.specs.Time.{LeavesOnly};
+ghost use Rattle.ic_disk.specs.Time.{LeavesOnly, OneMore};
 ghost use Rattle.ic_frames.specs.declared.faults.OpenCause.TheVariants as opening;
 ghost use Rattle.ic_slots.specs.declared.faults.CreateFault.TheVariants as creating;
 ghost use Rattle.ic_pool.specs.declared.fault.PoolFault.{PoolFault};
@@ -32,7 +32,7 @@ ghost use Rattle.ic_session.specs.declared.limits.TheConstants.{MAX_LINES};
 ghost use Rattle.ic_session.specs.Answered.{IsAnswered, IsBegun};
 ghost use Rattle.ic_session.specs.Booked.{last_kept, IsAllKept, IsOnMadeDisk};
 ghost use Rattle.ic_session.specs.DiskRefusals.{refused_create, refused_open, refused_line};
-ghost use Rattle.ic_session.specs.Faults.{fault_of_line, fault_line, IsOfBook, MayCome};
+ghost use Rattle.ic_session.specs.Faults.{fault_of_line, fault_line, IsOfBook, MayCome, CountsServe, StaysReady};
 ghost use Rattle.ic_session.specs.Moments.{Leaves, IsKeptInLine};
 ghost use Rattle.ic_session.specs.Parts.{IsPart, IsKeptWithin, IsInLine, IsInFirst};
 ghost use Rattle.ic_session.specs.Served.{OfLines, MayBeServed, AreAnswered, AppendsFront, SaysOf, IsLeftBy, IsEnded, IsCut};
@@ -202,12 +202,36 @@ pub fn a_line_is_answered_as_it_is_served<D: Disk>(before: &Book<D>, behind: &Bo
         → IsServed (table_of before.now) (line ∷ []) bytes (table_of behind.now) }
     ensures kept { (line bytes : List ℕ) → IsAnswered line bytes before.now behind.now
         → IsAllKept behind.now ⊎ IsUnchanged before.now behind.now }
+    ensures command { (line bytes : List ℕ) (c : Command) → ReadsLine line (Ok (Asks c))
+        → IsAnswered line bytes before.now behind.now → IsAllKept behind.now }
+    ensures run { (line bytes : List ℕ) (k : ℕ) → ReadsLine line (Ok (Run k))
+        → IsAnswered line bytes before.now behind.now → IsAllKept behind.now }
     ensures begun { (line : List ℕ) → IsBegun line before.now behind.now
         → IsInLine (table_of before.now) line (table_of behind.now) }
     ensures kept_within { (line : List ℕ) → IsBegun line before.now behind.now
         → IsKeptInLine (table_of before.now) (last_kept before.now) line (last_kept behind.now) }
     ensures within { (t kept u : List JobParts) (line : List ℕ) → IsKeptInLine t kept line u
         ↔ ((u ≡ kept) ⊎ IsInLine t line u) }
+{
+    ic_commands::laws::one_line_reading();
+}
+
+/// `Device` says that one failure more of the disk was counted, or that the count stands at its end,
+/// and no other fault does. Only `Device` breaks a book; `Broken` is told of none that wasn't broken,
+/// and `Worn` only where the numbers of the slots are used up.
+pub fn causes_say()
+    ensures device { (old new : ℕ) → CountsServe {T = Unit {0}} (Err (by_book book_fault.Device)) old new
+        ↔ OneMore old new }
+    ensures others { (fault : ServeFault) (old new : ℕ) → fault ≢ by_book book_fault.Device
+        → CountsServe {T = Unit {0}} (Err fault) old new → new ≡ old }
+    ensures breaks { (broken : Bool) (number : ℕ)
+        → StaysReady (by_book book_fault.Device) broken number ↔ (broken ≡ true) }
+    ensures stays { (fault : ServeFault) (broken : Bool) (number : ℕ)
+        → fault ≢ by_book book_fault.Device → StaysReady fault broken number → broken ≡ false }
+    ensures broken { (broken : Bool) (number : ℕ)
+        → ¬ StaysReady (by_book book_fault.Broken) broken number }
+    ensures worn { (broken : Bool) (number : ℕ)
+        → StaysReady (by_book book_fault.Worn) broken number → number ≡ 2 ^ 64 - 1 }
 {}
 
 /// What a stop in the midst of a call leaves is told of a disk that keeps the model and is made: a

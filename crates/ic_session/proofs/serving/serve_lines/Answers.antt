@@ -14,7 +14,7 @@ use Rattle.ic_session.specs.Answered.{IsAnswered, IsBegun}
 use Rattle.ic_session.specs.Moments.{Leaves, IsKeptInLine}
 use Rattle.ic_session.proofs.LineLemmas.{kept_all}
 use Rattle.ic_session.proofs.ServeLemmas.{under_first, under_more, over, ahead, taken, first_more, ended_at, ended_err, cut_at, cut_behind, kept_part, left_first, left_within, says_book, not_taken, none_behind, counts_behind, ready_behind}
-use Rattle.ic_session.proofs.StopLemmas.{stops_first, stops_more, stops_now, still_all, still_last}
+use Rattle.ic_session.proofs.StopLemmas.{stops_first, stops_more, stops_now, kept_or_same, still_all, still_last}
 use Rattle.ic_session.proofs.serving.serve_lines.Goals as goal
 
 pub loop-init : goal.loop-init
@@ -148,10 +148,10 @@ loop-preserved g c =
           (g.W.Write.contents c.args.writer.now) (g.W.Write.contents c.loop.writer) (g.W.Write.contents c.take_line.new.writer) (g.W.Write.contents c.write_answer.new.writer)
           c.take_line.new.self.line c.in_ok-answer.answer.items answered.reading
           c.loop.invariant.way takes (c.in_ok-take_line.ensures.short done) c.loop-test.true reads answered.answer answered.table c.take_line.ensures.kept written;
-      kept = λ all. still_all c.loop.book c.answer_line.new.book answered.kept (c.loop.invariant.kept all);
+      kept = λ all. still_all c.loop.book c.answer_line.new.book (kept_or_same answered.reading c.loop.book c.answer_line.new.book answered.kept) (c.loop.invariant.kept all);
       counted = c.in_ok-answer.ensures.counted ∙ c.loop.invariant.counted;
       ready = λ is. c.in_ok-answer.ensures.ready (c.loop.invariant.ready is);
-      last = still_last c.args.book.now c.loop.book c.answer_line.new.book answered.kept c.loop.invariant.last;
+      last = still_last c.args.book.now c.loop.book c.answer_line.new.book (kept_or_same answered.reading c.loop.book c.answer_line.new.book answered.kept) c.loop.invariant.last;
       moments = stops;
     }
 
