@@ -11,7 +11,7 @@ use Rattle.ic_term.specs.Symbol.{Symbol, is_symbol_text, fits_limits, has_arity,
 use Rattle.ic_rules.specs.JobName.{is_job_name}
 use Rattle.ic_rules.specs.Rule.{Rule}
 use Rattle.ic_rules.specs.RuleSet.{IsRuleOver}
-use Rattle.ic_rules.specs.FitLaws.{first_unfit-None}
+use Rattle.ic_rules.specs.lemmas.FitLaws.{first_unfit-None}
 use Rattle.ic_jobs.specs.declared.state.State.{State}
 use Rattle.ic_jobs.specs.declared.state.State.TheVariants.{Running, Paused, Done, Halted}
 use Rattle.ic_codec.specs.Headings.{state_byte, heading_bytes, heading_of}

@@ -9,7 +9,7 @@ use Rattle.ic_rules.specs.Renaming.{first_occurrences}
 use Rattle.ic_rules.specs.Rule.{Rule, rule_names, rule_nodes, IsNumbered}
 use Rattle.ic_rules.specs.RuleSet.{Rules, IsRuleSet, built}
 use Rattle.ic_rules.specs.Refusals.{IsTaken}
-use Rattle.ic_rules.specs.NumberingLaws.{map-numbered-same}
+use Rattle.ic_rules.specs.lemmas.NumberingLaws.{map-numbered-same}
 use Rattle.ic_codec.specs.Numbers.{two_bytes}
 use Rattle.ic_codec.specs.Terms.{tree_bytes}
 use Rattle.ic_codec.specs.inner.Forms.{HasBytes, HasRuleBytes}

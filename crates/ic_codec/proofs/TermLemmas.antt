@@ -9,7 +9,7 @@ use Rattle.std.proofs.lemmas.List.Sums.{sum_by-cons, get_or-le-sum_by}
 use Rattle.ic_term.specs.declared.term.Term.{Term}
 use Rattle.ic_term.specs.declared.term.Cell.{Cell, out-Cell}
 use Rattle.ic_term.specs.Term.{tree, cell_tree}
-use Rattle.ic_term.specs.TermLaws.{cell_tree-out}
+use Rattle.ic_term.specs.lemmas.TermLaws.{cell_tree-out}
 use Rattle.ic_term.specs.Tree.{Tree, name, agent, Trees, no_trees, more_trees, names, names_of, nodes, nodes_of, trees_of, list_of}
 use Rattle.ic_term.specs.Symbol.{Symbol, has_arity, is_tree_over, are_trees_over}
 use Rattle.ic_codec.specs.Numbers.{eight_bytes}

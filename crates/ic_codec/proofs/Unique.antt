@@ -12,8 +12,8 @@ use Rattle.ic_term.specs.Configuration.{Configuration, IsConfiguration}
 use Rattle.ic_rules.specs.Renaming.{first_behind, first_occurrences}
 use Rattle.ic_rules.specs.Rule.{Rule, rule_names, rule_nodes, IsNumbered, IsRule}
 use Rattle.ic_rules.specs.RuleSet.{Rules, IsRuleSet, IsRuleOver}
-use Rattle.ic_rules.specs.FitLaws.{first_unfit-None}
-use Rattle.ic_rules.specs.NumberingLaws.{Among, each_among, length-range}
+use Rattle.ic_rules.specs.lemmas.FitLaws.{first_unfit-None}
+use Rattle.ic_rules.specs.lemmas.NumberingLaws.{Among, each_among, length-range}
 use Rattle.ic_jobs.specs.declared.state.State.{State}
 use Rattle.ic_jobs.specs.declared.state.State.TheVariants.{Running, Paused, Done, Halted}
 use Rattle.ic_jobs.specs.State.{state_numbered}

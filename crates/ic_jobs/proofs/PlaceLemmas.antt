@@ -6,10 +6,10 @@ use Rattle.std.specs.Str.{bytes_eq}
 use Rattle.std.specs.Bool.{Decides}
 use Rattle.std.specs.Cmp.{unsigned_Decides}
 use Rattle.std.specs.Option.{option_map, option_and_then}
-use Rattle.ic_term.specs.Configuration.{Configuration}
-use Rattle.ic_term.specs.ConfigurationEq.{configuration_eq, configuration_eq-Decides}
+use Rattle.ic_term.specs.Configuration.{Configuration, configuration_eq}
+use Rattle.ic_term.specs.lemmas.ConfigurationEq.{configuration_eq-Decides}
 use Rattle.ic_rules.specs.RuleSet.{Rules, rules_eq}
-use Rattle.ic_rules.specs.RuleLaws.{rules_eq-Decides}
+use Rattle.ic_rules.specs.lemmas.RuleLaws.{rules_eq-Decides}
 use Rattle.ic_rules.specs.System.{SystemParts}
 use Rattle.ic_round.specs.Rounds.{fits, round}
 use Rattle.ic_pool.specs.Flight.{FlightParts, is_blocked}

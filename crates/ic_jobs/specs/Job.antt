@@ -1,16 +1,18 @@
 -- A job of the table.
-use Rattle.std.specs.Prelude.{◌≡◌, ℕ, ◌+◌, ◌≤◌, ◌↔◌, ◌&&◌, List, Bool, IsTrue, nat_lt, if◌then◌else◌, refl}
+use Rattle.std.specs.Prelude.{◌≡◌, ℕ, ◌+◌, ◌≤◌, ◌==◌, ◌↔◌, ◌&&◌, List, Bool, IsTrue, nat_lt, if◌then◌else◌, refl}
+use Rattle.std.specs.Str.{bytes_eq}
+use Rattle.std.specs.Cmp.Lexicographic.{pointwise}
 use Rattle.std.specs.Coded.{Coded, code_by, coded×, coded_ℕ, coded_list}
 use Rattle.ic_term.specs.Symbol.{AreSymbols, is_over}
-use Rattle.ic_term.specs.Configuration.{Configuration, IsConfiguration, coded_configuration}
+use Rattle.ic_term.specs.Configuration.{Configuration, IsConfiguration, configuration_eq, coded_configuration}
 use Rattle.ic_rules.specs.JobName.{is_job_name}
-use Rattle.ic_rules.specs.RuleSet.{Rules, IsRuleSet, coded_rules}
+use Rattle.ic_rules.specs.RuleSet.{Rules, IsRuleSet, rules_eq, coded_rules}
 use Rattle.ic_rules.specs.System.{SystemParts}
 use Rattle.ic_round.specs.Rounds.{fits, round, IsQuiet}
 use Rattle.ic_pool.specs.declared.limits.TheConstants.{MAX_ROUNDS}
 use Rattle.ic_jobs.specs.declared.state.State.{State}
 use Rattle.ic_jobs.specs.declared.state.State.TheVariants.{Running, Paused, Done, Halted}
-use Rattle.ic_jobs.specs.State.{coded_state}
+use Rattle.ic_jobs.specs.State.{state_eq, coded_state}
 use Rattle.ic_round.specs.Quiet.{is_quiet}
 
 -- A job: its name, its rules and configuration, how many rounds it has made, and its state.
@@ -60,6 +62,16 @@ moved j = record j {
 -- a job in another state
 abbrev pub in_state : State → JobParts → JobParts
 in_state s j = record j { state = s }
+
+-- whether two jobs are the same
+abbrev pub job_eq : JobParts → JobParts → Bool
+job_eq j k =
+    bytes_eq j.name k.name && j.rounds == k.rounds && state_eq j.state k.state
+    && configuration_eq j.config k.config && rules_eq j.rules k.rules
+
+-- whether two tables have the same jobs in the same order
+abbrev pub table_eq : List JobParts → List JobParts → Bool
+table_eq = pointwise job_eq
 
 -- a job is stored as the tuple of its fields
 abbrev pub coded_job : Coded JobParts

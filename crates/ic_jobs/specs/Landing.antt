@@ -2,8 +2,7 @@
 use Rattle.std.specs.Prelude.{◌≡◌, ℕ, ◌==◌, ◌&&◌, Bool, List, Option, Some, drop, slice_get, option_and_then}
 use Rattle.std.specs.List.{position_from}
 use Rattle.std.specs.Option.{option_map, option_or}
-use Rattle.ic_term.specs.Configuration.{Configuration}
-use Rattle.ic_term.specs.ConfigurationEq.{configuration_eq}
+use Rattle.ic_term.specs.Configuration.{Configuration, configuration_eq}
 use Rattle.ic_rules.specs.RuleSet.{Rules, rules_eq}
 use Rattle.ic_pool.specs.Flight.{FlightParts}
 use Rattle.ic_jobs.specs.declared.state.State.TheVariants.{Running}

@@ -1,6 +1,5 @@
 pub mod State
 pub mod Job
-pub mod JobLaws
 pub mod Table
 pub mod Shown
 pub mod Memory
@@ -12,3 +11,4 @@ pub mod Landing
 pub mod Turns
 pub mod History
 pub mod Life
+pub mod lemmas

@@ -1,5 +1,5 @@
 -- The states of a job.
-use Rattle.std.specs.Prelude.{◌≡◌, ℕ, zero, suc, Bool, true, false, refl}
+use Rattle.std.specs.Prelude.{◌≡◌, ℕ, zero, suc, ◌==◌, Bool, true, false, refl}
 use Rattle.std.specs.Coded.{Coded, code_by, coded_ℕ}
 use Rattle.ic_jobs.specs.declared.state.State.{State}
 use Rattle.ic_jobs.specs.declared.state.State.TheVariants.{Running, Paused, Done, Halted}
@@ -28,6 +28,10 @@ state_number Running = 0
 state_number Paused = 1
 state_number Done = 2
 state_number Halted = 3
+
+-- whether two states are one
+abbrev pub state_eq : State → State → Bool
+state_eq s r = state_number s == state_number r
 
 abbrev pub state_numbered : ℕ → State
 state_numbered zero = Running

@@ -228,7 +228,8 @@ impl Job {
 
 impl PartialEq for Job {
     ghost use Rattle.std.specs.Cmp.{partial_equiv_from_equiv};
-    ghost use Rattle.ic_jobs.specs.JobLaws.{job_eq, job_eq-equivalence};
+    ghost use Rattle.ic_jobs.specs.lemmas.JobLaws.{job_eq-equivalence};
+    ghost use Rattle.ic_jobs.specs.Job.{job_eq};
 
     ghost eq = { job_eq };
 
@@ -244,7 +245,7 @@ impl PartialEq for Job {
 }
 
 impl Eq for Job {
-    ghost use Rattle.ic_jobs.specs.JobLaws.{job_eq-equivalence};
+    ghost use Rattle.ic_jobs.specs.lemmas.JobLaws.{job_eq-equivalence};
 
     ghost laws = { job_eq-equivalence };
 }

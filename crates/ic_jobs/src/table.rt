@@ -91,7 +91,8 @@ impl Table {
 
 impl PartialEq for Table {
     ghost use Rattle.std.specs.Cmp.{partial_equiv_from_equiv};
-    ghost use Rattle.ic_jobs.specs.JobLaws.{table_eq, table_eq-equivalence};
+    ghost use Rattle.ic_jobs.specs.lemmas.JobLaws.{table_eq-equivalence};
+    ghost use Rattle.ic_jobs.specs.Job.{table_eq};
 
     ghost eq = { table_eq };
 
@@ -103,7 +104,7 @@ impl PartialEq for Table {
 }
 
 impl Eq for Table {
-    ghost use Rattle.ic_jobs.specs.JobLaws.{table_eq-equivalence};
+    ghost use Rattle.ic_jobs.specs.lemmas.JobLaws.{table_eq-equivalence};
 
     ghost laws = { table_eq-equivalence };
 }

@@ -14,7 +14,7 @@ use Rattle.ic_settle.specs.Sides.{other_side, bound_by}
 use Rattle.ic_round.specs.SingleSteps.{others}
 use Rattle.ic_round.specs.inner.Replacing.{Applies, applied_at}
 use Rattle.ic_settle.specs.declared.applicability.Applicable.{Applicable}
-use Rattle.ic_settle.specs.StepLaws.{once_outside, configuration_kept, over_kept}
+use Rattle.ic_settle.specs.lemmas.StepLaws.{once_outside, configuration_kept, over_kept}
 use Rattle.ic_round.proofs.ListLemmas.{map_remove}
 use Rattle.ic_round.proofs.StandsAt.{stands}
 

@@ -19,8 +19,8 @@ use Rattle.ic_round.specs.SingleSteps.{interacted_by, interacted, is_within}
 use Rattle.ic_round.specs.StepAnswers.{stepped_within}
 use Rattle.ic_round.specs.inner.Replacing.{fired_at}
 use Rattle.ic_round.specs.declared.steps.StepFault.TheVariants.{Limit}
-use Rattle.ic_settle.specs.SubstitutionLaws.{and_both}
-use Rattle.ic_settle.specs.MiddleLaws.{nodes-middle, over-middle}
+use Rattle.ic_settle.specs.lemmas.SubstitutionLaws.{and_both}
+use Rattle.ic_settle.specs.lemmas.MiddleLaws.{nodes-middle, over-middle}
 use Rattle.ic_round.specs.lemmas.FiredNames.{Fires, fires}
 use Rattle.ic_round.specs.lemmas.ActiveRules.{active_by, nodes-any_base}
 use Rattle.ic_round.specs.lemmas.SoundRules.{sound_rule}

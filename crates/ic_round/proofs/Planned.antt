@@ -12,7 +12,7 @@ use Rattle.ic_round.specs.Works.{PlainWork, work_at, works_from, suits, suits_ru
 use Rattle.ic_round.specs.lemmas.SoundRules.{HasSoundRule}
 use Rattle.ic_round.specs.declared.work.Work.{Work}
 use Rattle.ic_round.specs.WorkViews.{work_of}
-use Rattle.ic_settle.specs.SubstitutionLaws.{and_both}
+use Rattle.ic_settle.specs.lemmas.SubstitutionLaws.{and_both}
 use Rattle.ic_round.proofs.Separating.{active_within}
 use Rattle.ic_round.specs.lemmas.FiredNames.{next_grows}
 

@@ -10,7 +10,7 @@ use Rattle.ic_settle.specs.NameSteps.{Binds}
 use Rattle.ic_round.specs.Firing.{Active, active_pair}
 use Rattle.ic_round.specs.Steps.{Interaction, Indirection, Collect}
 use Rattle.ic_round.specs.SingleSteps.{interacted_by, interacted, others, bound_at, indirected, collected}
-use Rattle.ic_settle.specs.ChoiceLaws.{binding_binds, binding_some}
+use Rattle.ic_settle.specs.lemmas.ChoiceLaws.{binding_binds, binding_some}
 use Rattle.ic_round.proofs.StandsAt.{stands, stands_there, stands_others}
 
 -- ---- interaction

@@ -11,8 +11,8 @@ use Rattle.ic_term.specs.declared.term.Equation.{Equation}
 use Rattle.ic_term.specs.declared.limits.TheConstants.{MAX_NEXT}
 use Rattle.ic_term.specs.Tree.{Tree, name, agent, Trees, no_trees, more_trees, names, names_of, Pair}
 use Rattle.ic_term.specs.Term.{tree, cell_tree, pair}
-use Rattle.ic_term.specs.TermLaws.{cell_tree-out}
-use Rattle.ic_term.specs.TreeLaws.{list_of-trees_of}
+use Rattle.ic_term.specs.lemmas.TermLaws.{cell_tree-out}
+use Rattle.ic_term.specs.lemmas.TreeLaws.{list_of-trees_of}
 use Rattle.ic_rules.specs.Renaming.{renamed, renamed_trees}
 use Rattle.ic_rules.specs.Rule.{Rule, IsRule, rule_names}
 use Rattle.ic_round.specs.Instance.{inst}
@@ -20,7 +20,7 @@ use Rattle.ic_round.specs.Firing.{arguments, against, products, products_by}
 use Rattle.ic_round.specs.Works.{PlainWork, is_agent_of, suits, suits_rule}
 use Rattle.ic_round.proofs.Words.{u64_MAX}
 use Rattle.std.proofs.lemmas.Bool.{and_parts}
-use Rattle.ic_settle.specs.SubstitutionLaws.{All-front, All-back}
+use Rattle.ic_settle.specs.lemmas.SubstitutionLaws.{All-front, All-back}
 use Rattle.ic_round.specs.lemmas.FreshNames.{rule_below}
 
 pub is_agent_of-cell : (s n : ℕ) (cell : Cell) → is_agent_of s n (cell_tree cell) ≡ ((out-Cell cell).sym == s && length (out-Cell cell).args.items == n)

@@ -4,7 +4,7 @@ use Rattle.std.specs.List.{list_any}
 use Rattle.std.specs.Option.{option_map_or}
 use Rattle.std.specs.Coded.{Coded, code_by, coded×, coded_ℕ, coded_list, coded_option}
 use Rattle.ic_term.specs.Tree.{Tree, Pair}
-use Rattle.ic_term.specs.TreeLaws.{coded_tree, coded_pair}
+use Rattle.ic_term.specs.lemmas.TreeLaws.{coded_tree, coded_pair}
 use Rattle.ic_term.specs.Configuration.{Configuration}
 use Rattle.ic_rules.specs.Rule.{Rule}
 use Rattle.ic_round.specs.Firing.{active_pair, fired}

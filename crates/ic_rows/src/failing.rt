@@ -1,7 +1,7 @@
 //! Readers and writers that give or take little at a time, or fail on the way, for both streams of the program.
 
 use ic_notation::{Trouble, decimal};
-use ic_serve::{StreamFault, once_stream, settle_stream};
+use ic_streams::{StreamFault, once_stream, settle_stream};
 use std::alloc::Global;
 use std::io::{self, ErrorKind, Read, Write};
 

@@ -2,7 +2,7 @@
 
 use ic_notation::Trouble;
 use ic_round::RoundFault;
-use ic_serve::StreamFault;
+use ic_streams::StreamFault;
 use ic_text::{TextFault, print_fault};
 use std::alloc::Global;
 

@@ -1,7 +1,7 @@
 //! What the program does with a text, without the program: its streams over bytes in memory.
 
 use ic_notation::Trouble;
-use ic_serve::{StreamFault, once_stream, settle_stream};
+use ic_streams::{StreamFault, once_stream, settle_stream};
 use std::alloc::Global;
 
 /// What settling a text writes, without the line feed; or the exit status and the line of its refusal.

@@ -5,7 +5,7 @@ use Rattle.std.proofs.lemmas.List.{take_more, take-append-drop}
 use Rattle.std.specs.Cmp.{unsigned_Decides}
 use Rattle.std.specs.List.{list_any, range_with_len}
 use Rattle.ic_rules.specs.Renaming.{first_behind, first_occurrences}
-use Rattle.ic_rules.specs.NumberingLaws.{length-range}
+use Rattle.ic_rules.specs.lemmas.NumberingLaws.{length-range}
 use Rattle.ic_rules.proofs.FirstPlaces.{first_behind-append, grows}
 
 -- a number is among those from one on

@@ -7,7 +7,7 @@ use Rattle.ic_rules.specs.Renaming.{first_behind, first_occurrences, number_amon
 use Rattle.ic_rules.specs.Rule.{Rule, same_pair}
 use Rattle.ic_rules.specs.RuleSet.{repeated_behind, first_repeated}
 use Rattle.ic_rules.specs.FirstRepeated.{IsFirstRepeated}
-use Rattle.ic_rules.specs.NumberingLaws.{self_eq}
+use Rattle.ic_rules.specs.lemmas.NumberingLaws.{self_eq}
 
 -- whether a name is there
 abbrev is_in : ℕ → List ℕ → Bool

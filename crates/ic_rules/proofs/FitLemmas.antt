@@ -3,16 +3,16 @@ use Rattle.std.proofs.Common.{◌≡◌, ℕ, List, [], ◌∷◌, ◌++◌, Opt
 use Rattle.std.proofs.lemmas.List.{length-map}
 use Rattle.ic_term.specs.Symbol.{Symbol, has_arity}
 use Rattle.ic_term.specs.Tree.{trees_of}
-use Rattle.ic_term.specs.TreeLaws.{list_of-trees_of}
+use Rattle.ic_term.specs.lemmas.TreeLaws.{list_of-trees_of}
 use Rattle.ic_term.specs.Term.{tree, cell_tree}
-use Rattle.ic_term.specs.TermLaws.{cell_tree-out}
+use Rattle.ic_term.specs.lemmas.TermLaws.{cell_tree-out}
 use Rattle.ic_term.specs.declared.term.Cell.{Cell, out-Cell}
 use Rattle.std.specs.List.{flat_map}
 use Rattle.ic_term.specs.declared.term.Term.{Term}
 use Rattle.ic_rules.specs.Rule.{agents, agents_of, rule_agents}
 use Rattle.ic_rules.specs.Written.{written}
 use Rattle.ic_rules.specs.RuleSet.{unfit_among}
-use Rattle.ic_rules.specs.FitLaws.{or_else, unfit_among-append}
+use Rattle.ic_rules.specs.lemmas.FitLaws.{or_else, unfit_among-append}
 
 -- the agents of an agent: itself, and those of its arguments
 pub agents-cell : (cell : Cell) → agents (cell_tree cell) ≡ ((out-Cell cell).sym, length (out-Cell cell).args.items) ∷ agents_of (trees_of (map tree (out-Cell cell).args.items))

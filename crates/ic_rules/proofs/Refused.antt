@@ -5,7 +5,7 @@ use Rattle.ic_term.specs.Symbol.{Symbol, has_arity}
 use Rattle.ic_rules.specs.Renaming.{are_paired}
 use Rattle.ic_rules.specs.Rule.{Rule, rule_names, rule_agents, numbered, is_lopsided}
 use Rattle.ic_rules.specs.RuleSet.{Rules, are_few, unfit_among, first_unfit, first_uncounted, first_repeated, first_lopsided, unless, built}
-use Rattle.ic_rules.specs.FitLaws.{first_unfit-None}
+use Rattle.ic_rules.specs.lemmas.FitLaws.{first_unfit-None}
 use Rattle.ic_rules.specs.Refusals.{IsFirst, IsFirstUnfit, AreCounted, IsRefusal, IsTaken}
 use Rattle.ic_rules.specs.declared.rule_set.RuleFault.{RuleFault}
 use Rattle.ic_rules.specs.declared.rule_set.RuleFault.TheVariants.{Limit, Arity, NameCount, Twice, Lopsided, Memory}

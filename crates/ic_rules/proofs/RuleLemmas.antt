@@ -6,9 +6,9 @@ use Rattle.std.specs.Cmp.{unsigned_Decides}
 use Rattle.ic_term.specs.Tree.{Tree, names}
 use Rattle.ic_rules.specs.Renaming.{renamed, number_among, first_occurrences, are_paired}
 use Rattle.ic_rules.specs.Rule.{Rule, IsRule, is_lopsided, rule_names}
-use Rattle.ic_rules.specs.Arguments.{firsts_in, is_own_swap}
-use Rattle.ic_rules.specs.RenamingLaws.{flat_names-renamed}
-use Rattle.ic_rules.specs.NumberingLaws.{are_paired-numbered, first_occurrences-numbered}
+use Rattle.ic_rules.specs.inner.Arguments.{firsts_in, is_own_swap}
+use Rattle.ic_rules.specs.lemmas.RenamingLaws.{flat_names-renamed}
+use Rattle.ic_rules.specs.lemmas.NumberingLaws.{are_paired-numbered, first_occurrences-numbered}
 
 -- the test of the code is that of the definition
 pub lopsided_test : (r : Rule) → (r.left == r.right && not (is_own_swap r.left_args r.right_args r.names)) ≡ is_lopsided r

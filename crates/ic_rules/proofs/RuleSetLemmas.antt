@@ -16,8 +16,8 @@ use Rattle.ic_rules.specs.Rule.{Rule, stands_for, same_pair, agents, agents_of, 
 use Rattle.ic_rules.specs.RuleSet.{repeated_behind, first_repeated, first_unfit, unfit_among, are_few, IsRuleSet, IsRuleFor, rule_for, found_or, has_pair}
 use Rattle.std.proofs.lemmas.List.Sums.{sum_by-append}
 use Rattle.ic_rules.specs.Written.{written}
-use Rattle.ic_rules.specs.Places.{ArePlaces, pair_eq}
-use Rattle.ic_rules.specs.FindLaws.{any_of_two}
+use Rattle.ic_rules.specs.inner.Places.{ArePlaces, pair_eq}
+use Rattle.ic_rules.specs.lemmas.FindLaws.{any_of_two}
 
 abbrev pub Places : Type 0
 Places = HashMap SymbolPair ℕ (BuildHasherDefault FoldHasher)

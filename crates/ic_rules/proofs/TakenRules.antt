@@ -9,7 +9,7 @@ use Rattle.ic_rules.specs.Rule.{Rule, IsRule, IsNumbered, rule_names, numbered, 
 use Rattle.ic_rules.specs.RuleSet.{Rules, IsRuleSet, are_few, first_unfit, first_uncounted, first_repeated, first_lopsided, unless, built}
 use Rattle.ic_rules.specs.declared.rule_set.RuleFault.{RuleFault}
 use Rattle.ic_rules.specs.declared.rule_set.RuleFault.TheVariants.{Limit, Arity, NameCount, Twice, Lopsided}
-use Rattle.ic_rules.specs.NumberingLaws.{map-numbered-same, numbered-IsNumbered}
+use Rattle.ic_rules.specs.lemmas.NumberingLaws.{map-numbered-same, numbered-IsNumbered}
 use Rattle.ic_rules.proofs.RuleLemmas.{numbered_is_rule}
 use Rattle.ic_rules.proofs.RuleSetLemmas.{IsRuleSet-numbered}
 

@@ -4,14 +4,9 @@ pub mod Rule
 pub mod RuleFault
 pub mod RuleSet
 pub mod Written
-pub mod Places
-pub mod Arguments
-pub mod RuleLaws
-pub mod RenamingLaws
-pub mod NumberingLaws
-pub mod FitLaws
-pub mod FindLaws
 pub mod System
 pub mod FirstRepeated
 pub mod Mirror
 pub mod Refusals
+pub mod lemmas
+pub mod inner

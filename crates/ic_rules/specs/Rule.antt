@@ -3,7 +3,7 @@ use Rattle.std.specs.List.{flat_map, range_with_len}
 use Rattle.std.specs.Cmp.Lexicographic.{pointwise}
 use Rattle.std.specs.Coded.{Coded, code_by, coded×, coded_ℕ, coded_list}
 use Rattle.ic_term.specs.Tree.{Tree, name, agent, Trees, no_trees, more_trees, trees_of, list_of, nodes, names, tree_eq}
-use Rattle.ic_term.specs.TreeLaws.{coded_tree}
+use Rattle.ic_term.specs.lemmas.TreeLaws.{coded_tree}
 use Rattle.ic_rules.specs.Renaming.{renamed, first_occurrences, number_among, are_paired}
 
 -- An interaction rule `A(t1,..,tn)><B(u1,..,um)` as plain data (Lafont 1990): its symbols by number, its

@@ -4,7 +4,7 @@ ghost use Rattle.std.specs.Cmp.Lexicographic.{pointwise};
 ghost use Rattle.ic_term.specs.Tree.{names, tree_eq};
 ghost use Rattle.ic_term.specs.Term.{tree};
 ghost use Rattle.ic_rules.specs.Renaming.{are_paired, renamed, number_among};
-ghost use Rattle.ic_rules.specs.Arguments.{firsts_of, is_own_swap};
+ghost use Rattle.ic_rules.specs.inner.Arguments.{firsts_of, is_own_swap};
 
 use crate::renaming::{first_occurrences, names_of, number_terms};
 use ic_term::{Cell, Term};
@@ -120,7 +120,7 @@ impl Rule {
 impl PartialEq for Rule {
     ghost use Rattle.std.specs.Cmp.{partial_equiv_from_equiv};
     ghost use Rattle.ic_rules.specs.Rule.{rule_eq};
-    ghost use Rattle.ic_rules.specs.RuleLaws.{rule_eq-equivalence};
+    ghost use Rattle.ic_rules.specs.lemmas.RuleLaws.{rule_eq-equivalence};
 
     ghost eq = { rule_eq };
 
@@ -136,7 +136,7 @@ impl PartialEq for Rule {
 }
 
 impl Eq for Rule {
-    ghost use Rattle.ic_rules.specs.RuleLaws.{rule_eq-equivalence};
+    ghost use Rattle.ic_rules.specs.lemmas.RuleLaws.{rule_eq-equivalence};
 
     ghost laws = { rule_eq-equivalence };
 }

@@ -4,7 +4,7 @@ ghost use Rattle.ic_rules.specs.Rule.{rule_nodes, numbered, IsRule};
 ghost use Rattle.ic_rules.specs.RuleSet.{are_few, first_uncounted, first_repeated, first_lopsided};
 ghost use Rattle.ic_rules.specs.RuleFault.{IsTwice, IsLopsided};
 ghost use Rattle.ic_rules.specs.Written.{written};
-ghost use Rattle.ic_rules.specs.Places.{ArePlaces, pair_eq};
+ghost use Rattle.ic_rules.specs.inner.Places.{ArePlaces, pair_eq};
 ghost use Rattle.std.specs.HashMap.{get};
 ghost use Rattle.ic_rules.specs.declared.rule_set.RuleFault.TheVariants.{Memory};
 
@@ -74,7 +74,7 @@ impl Model for RuleSet {
 
     ghost coded = { coded_rules };
 
-    ghost use Rattle.ic_rules.specs.Places.{ArePlaces};
+    ghost use Rattle.ic_rules.specs.inner.Places.{ArePlaces};
 
     ghost view = { λ s. record { symbols = s.symbols; rules = s.rules.items } };
 
@@ -153,7 +153,7 @@ impl RuleSet {
 impl PartialEq for RuleSet {
     ghost use Rattle.std.specs.Cmp.{partial_equiv_from_equiv};
     ghost use Rattle.ic_rules.specs.RuleSet.{rules_eq};
-    ghost use Rattle.ic_rules.specs.RuleLaws.{rules_eq-equivalence};
+    ghost use Rattle.ic_rules.specs.lemmas.RuleLaws.{rules_eq-equivalence};
 
     ghost eq = { rules_eq };
 
@@ -165,7 +165,7 @@ impl PartialEq for RuleSet {
 }
 
 impl Eq for RuleSet {
-    ghost use Rattle.ic_rules.specs.RuleLaws.{rules_eq-equivalence};
+    ghost use Rattle.ic_rules.specs.lemmas.RuleLaws.{rules_eq-equivalence};
 
     ghost laws = { rules_eq-equivalence };
 }

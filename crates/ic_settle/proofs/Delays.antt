@@ -6,8 +6,8 @@ use Rattle.ic_term.specs.declared.term.Term.{Term}
 use Rattle.ic_term.specs.Tree.{Tree, name, agent, Trees, trees_of, Pair, names, pair_names}
 use Rattle.ic_term.specs.Configuration.{occurrences}
 use Rattle.ic_settle.specs.Settling.{Binding, subst}
-use Rattle.ic_settle.specs.Waiting.{look, IsTaken, IsAdded, put_each, put_each_pair, bound, here, IsDelayed, Resolves, Rebuilds, RebuildsTerms, RebuildsPairs}
-use Rattle.ic_settle.specs.SubstitutionLaws.{occurrences-append, occurrences-cons, subst-absent}
+use Rattle.ic_settle.specs.inner.Waiting.{look, IsTaken, IsAdded, put_each, put_each_pair, bound, here, IsDelayed, Resolves, Rebuilds, RebuildsTerms, RebuildsPairs}
+use Rattle.ic_settle.specs.lemmas.SubstitutionLaws.{occurrences-append, occurrences-cons, subst-absent}
 use Rattle.ic_settle.proofs.PutEach.{names_of-trees_of, put_each-agent, put_each-unbound, bound-cons}
 
 one_if : (b : Bool) (m : ℕ) → (b ≡ true → m ≡ 1) → (b ≡ false → m ≡ 0) → m ≡ cond b 1 0

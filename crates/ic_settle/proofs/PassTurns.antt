@@ -9,8 +9,8 @@ use Rattle.ic_term.specs.Configuration.{Configuration, names_in}
 use Rattle.ic_settle.specs.declared.applicability.Applicable.{Applicable}
 use Rattle.ic_settle.specs.declared.containers.Outlet.{Outlet}
 use Rattle.ic_settle.specs.Sides.{other_side}
-use Rattle.ic_settle.specs.Waiting.{look, IsAdded, Resolves}
-use Rattle.ic_settle.specs.Containers.{IsRoot, IsChosen, elsewhere, outlet, applicable_of, redirected}
+use Rattle.ic_settle.specs.inner.Waiting.{look, IsAdded, Resolves}
+use Rattle.ic_settle.specs.inner.Containers.{IsRoot, IsChosen, elsewhere, outlet, applicable_of, redirected}
 use Rattle.ic_settle.proofs.Spots.{some_same}
 use Rattle.ic_settle.proofs.Passing.{IsPassing, IsResolved, resolved-next, passing-skip, passing-bind, bound_new}
 

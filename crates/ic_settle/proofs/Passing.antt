@@ -15,13 +15,13 @@ use Rattle.ic_settle.specs.Settling.{Binding, Choice, occurs, subst_pair, subst_
 use Rattle.ic_settle.specs.NameSteps.{Binds}
 use Rattle.ic_settle.specs.Sides.{other_side, bound_by}
 use Rattle.ic_settle.specs.Bindings.{is_name, replacement, replaced_by, replaced_in, replaced, bound_sides}
-use Rattle.ic_settle.specs.Waiting.{look, put_each, put_each_pair, bound, here, IsDelayed, IsTop, IsAdded, Resolves}
-use Rattle.ic_settle.specs.Containers.{IsRoot, noted_from, elsewhere, outlet, applicable_of, redirected}
-use Rattle.ic_settle.specs.Passing.{put_in, IsPassed}
-use Rattle.ic_settle.specs.SubstitutionLaws.{occurrences-append}
-use Rattle.ic_settle.specs.MiddleLaws.{occurrences-middle}
-use Rattle.ic_settle.specs.StepLaws.{occurrences-binds, once_outside, itself_once}
-use Rattle.ic_settle.specs.ChoiceLaws.{binding_binds, first_choice-passed}
+use Rattle.ic_settle.specs.inner.Waiting.{look, put_each, put_each_pair, bound, here, IsDelayed, IsTop, IsAdded, Resolves}
+use Rattle.ic_settle.specs.inner.Containers.{IsRoot, noted_from, elsewhere, outlet, applicable_of, redirected}
+use Rattle.ic_settle.specs.inner.Passing.{put_in, IsPassed}
+use Rattle.ic_settle.specs.lemmas.SubstitutionLaws.{occurrences-append}
+use Rattle.ic_settle.specs.lemmas.MiddleLaws.{occurrences-middle}
+use Rattle.ic_settle.specs.lemmas.StepLaws.{occurrences-binds, once_outside, itself_once}
+use Rattle.ic_settle.specs.lemmas.ChoiceLaws.{binding_binds, first_choice-passed}
 use Rattle.ic_settle.proofs.Settles.{Settles, choice_here, settles-start, settles-skip, settles-step, settles-end}
 use Rattle.ic_settle.proofs.Replaced.{zip_middle, remove_middle, stopped}
 use Rattle.ic_settle.proofs.PutEach.{put_each-unbound, map_put, map_put_pair, map_put_none, map_put_pair_none, bound-cons, counted_no, occurrences-exact_pair, occurrences-exact_in}

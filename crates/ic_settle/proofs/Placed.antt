@@ -2,9 +2,9 @@
 use Rattle.std.proofs.Common.{◌≡◌, ℕ, zero, suc, ◌+◌, ◌≤◌, ◌==◌, List, [], ◌∷◌, ◌++◌, true, false, cond, Option, None, Some, refl, sym, ◌∙◌, ap, append-nil, arith}
 use Rattle.ic_term.specs.Configuration.{occurrences}
 use Rattle.ic_settle.specs.Settling.{subst, subst_all}
-use Rattle.ic_settle.specs.SubstitutionLaws.{occurrences-append, subst_all-absent}
+use Rattle.ic_settle.specs.lemmas.SubstitutionLaws.{occurrences-append, subst_all-absent}
 use Rattle.ic_term.specs.Tree.{Tree, name, agent, Trees, no_trees, more_trees, trees_of, names, names_of}
-use Rattle.ic_settle.specs.Placing.{placed, placed_all, placed_terms}
+use Rattle.ic_settle.specs.inner.Placing.{placed, placed_all, placed_terms}
 
 -- a list behind what is done
 abbrev pub behind : {A : Type 0} → List A → List A × Option Tree → List A × Option Tree

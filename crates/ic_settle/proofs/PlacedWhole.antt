@@ -3,9 +3,9 @@ use Rattle.std.proofs.Common.{◌≡◌, ℕ, suc, ◌≤◌, List, [], ◌∷�
 use Rattle.ic_term.specs.Tree.{Tree, more_trees, Pair}
 use Rattle.ic_term.specs.Configuration.{names_in, occurrences}
 use Rattle.ic_settle.specs.Settling.{subst, subst_pair}
-use Rattle.ic_settle.specs.Placing.{placed, placed_all, placed_terms, placed_pair, placed_pairs}
+use Rattle.ic_settle.specs.inner.Placing.{placed, placed_all, placed_terms, placed_pair, placed_pairs}
 use Rattle.ic_settle.proofs.Placed.{placed_all-once}
-use Rattle.ic_settle.specs.WholeLaws.{sides, whole, names_of-whole, subst_all-whole, length-map_subst}
+use Rattle.ic_settle.specs.lemmas.WholeLaws.{sides, whole, names_of-whole, subst_all-whole, length-map_subst}
 
 placed_all-sides : (x : ℕ) (held : Option Tree) (es : List Pair)
     → placed_all x held (sides es) ≡ (sides (placed_pairs x held es).0, (placed_pairs x held es).1)

@@ -7,13 +7,13 @@ use Rattle.std.proofs.lemmas.List.Sums.{sum_by-cons}
 use Rattle.ic_term.specs.declared.term.Term.{Term}
 use Rattle.ic_term.specs.declared.term.Cell.{Cell, out-Cell}
 use Rattle.ic_term.specs.Term.{tree, cell_tree}
-use Rattle.ic_term.specs.TermLaws.{cell_tree-out}
+use Rattle.ic_term.specs.lemmas.TermLaws.{cell_tree-out}
 use Rattle.ic_term.specs.Tree.{Tree, name, agent, Trees, no_trees, more_trees, trees_of, Pair, names, names_of, nodes, nodes_of, pair_names}
 use Rattle.ic_term.specs.Configuration.{names_in, occurrences}
 use Rattle.ic_settle.specs.Settling.{Binding, subst, subst_all, subst_pair}
-use Rattle.ic_settle.specs.Waiting.{put_each, put_each_pair, bound}
-use Rattle.ic_settle.specs.SubstitutionLaws.{occurrences-append, occurrences-cons}
-use Rattle.ic_settle.specs.WholeLaws.{whole, names_of-whole, subst_all-whole}
+use Rattle.ic_settle.specs.inner.Waiting.{put_each, put_each_pair, bound}
+use Rattle.ic_settle.specs.lemmas.SubstitutionLaws.{occurrences-append, occurrences-cons}
+use Rattle.ic_settle.specs.lemmas.WholeLaws.{whole, names_of-whole, subst_all-whole}
 
 -- ---- arguments as lists
 

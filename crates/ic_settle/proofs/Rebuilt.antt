@@ -4,8 +4,8 @@ use Rattle.std.specs.List.{flat_map}
 use Rattle.ic_term.specs.declared.term.Term.{Term}
 use Rattle.ic_term.specs.Tree.{Tree, Pair, pair_names}
 use Rattle.ic_term.specs.Configuration.{Configuration}
-use Rattle.ic_settle.specs.Waiting.{IsDelayed, RebuildsTerms, RebuildsPairs}
-use Rattle.ic_settle.specs.Passing.{put_in, IsPassed}
+use Rattle.ic_settle.specs.inner.Waiting.{IsDelayed, RebuildsTerms, RebuildsPairs}
+use Rattle.ic_settle.specs.inner.Passing.{put_in, IsPassed}
 
 pub rebuilt : (c : Configuration) (kept : List Pair) (es es' es'' : List (ℕ × Term)) (given ts : List Tree) (ps : List Pair) (next : ℕ) (s : IsPassed c kept es)
     → given ≡ c.interface → next ≡ c.next → RebuildsTerms es es' given ts → RebuildsPairs es' es'' kept ps

@@ -13,8 +13,8 @@ use Rattle.ic_term.specs.Configuration.{Configuration, IsConfiguration, names_in
 use Rattle.ic_term.specs.Symbol.{Symbol, is_over}
 use Rattle.ic_settle.specs.Settling.{Binding, Choice, binding, first_choice, subst, subst_pair, subst_in, settled}
 use Rattle.ic_settle.specs.NameSteps.{NameStep, NameSteps, no_step, one_more}
-use Rattle.ic_settle.specs.ChoiceLaws.{NoneApplicable, binding_binds, binding_some, first_choice-passed, none_more, none_kept, none_at, settled-step, settled-stop}
-use Rattle.ic_settle.specs.StepLaws.{once_outside, configuration_kept, over_kept}
+use Rattle.ic_settle.specs.lemmas.ChoiceLaws.{NoneApplicable, binding_binds, binding_some, first_choice-passed, none_more, none_kept, none_at, settled-step, settled-stop}
+use Rattle.ic_settle.specs.lemmas.StepLaws.{once_outside, configuration_kept, over_kept}
 
 -- The configuration d is reached from c by steps and has the same settled configuration; none of the equations
 -- before a place has an applicable side.

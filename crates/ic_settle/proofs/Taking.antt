@@ -8,7 +8,7 @@ use Rattle.ic_term.specs.declared.term.Term.{Term}
 use Rattle.ic_term.specs.Term.{tree}
 use Rattle.ic_term.specs.Tree.{names, nodes}
 use Rattle.ic_term.specs.Configuration.{occurrences}
-use Rattle.ic_settle.specs.Waiting.{look, held, nodes_kept, IsTaken, IsAdded}
+use Rattle.ic_settle.specs.inner.Waiting.{look, held, nodes_kept, IsTaken, IsAdded}
 use Rattle.ic_settle.proofs.Entries.{swap_removed, newly_added}
 
 inward : (b : Bool) (p o : Option Term) → option_map tree (cond b p o) ≡ cond b (option_map tree p) (option_map tree o)

@@ -1,14 +1,6 @@
 pub mod Settling
 pub mod NameSteps
-pub mod Placing
 pub mod Sides
-pub mod SubstitutionLaws
-pub mod WholeLaws
-pub mod MiddleLaws
-pub mod StepLaws
-pub mod ChoiceLaws
 pub mod Bindings
-pub mod Waiting
-pub mod Containers
-pub mod Passing
-pub mod Ended
+pub mod lemmas
+pub mod inner

@@ -1,7 +1,7 @@
 ghost use Rattle.std.specs.Prelude.{◌≡◌, ◌+◌, ◌≤◌, [], None, MatchOption, IfOk, OnOk, map};
 ghost use Rattle.ic_term.specs.Tree.{nodes};
 ghost use Rattle.ic_term.specs.Term.{tree, cell_tree, pair};
-ghost use Rattle.ic_settle.specs.Waiting.{look, nodes_kept, IsTaken, IsAdded, Resolves, Rebuilds, RebuildsArguments, RebuildsTerms, RebuildsPairs};
+ghost use Rattle.ic_settle.specs.inner.Waiting.{look, nodes_kept, IsTaken, IsAdded, Resolves, Rebuilds, RebuildsArguments, RebuildsTerms, RebuildsPairs};
 
 use ic_term::{Cell, Equation, Term};
 use indexmap::IndexMap;

@@ -2,7 +2,7 @@ ghost use Rattle.std.specs.Prelude.{◌≡◌, ◌≤◌, map};
 ghost use Rattle.ic_term.specs.Term.{tree, cell_tree, pair};
 ghost use Rattle.ic_term.specs.Configuration.{names_in, occurrences};
 ghost use Rattle.ic_settle.specs.Settling.{subst, subst_pair};
-ghost use Rattle.ic_settle.specs.Placing.{placed, placed_terms, placed_pairs, held_tree};
+ghost use Rattle.ic_settle.specs.inner.Placing.{placed, placed_terms, placed_pairs, held_tree};
 
 use ic_term::{Cell, Equation, Term};
 

@@ -2,7 +2,7 @@
 use Rattle.std.proofs.Common.{◌≡◌, ◌≢◌, suc, Bool, true, false, ◌==◌, List, [], ◌∷◌, ◌&&◌, length, map, slice_get, refl, sym, ap, ◌∙◌}
 use Rattle.std.proofs.lemmas.List.{length-map}
 use Rattle.ic_term.specs.Tree.{Tree, trees_of, tree_eq, trees_eq}
-use Rattle.ic_term.specs.TreeLaws.{list_of-trees_of}
+use Rattle.ic_term.specs.lemmas.TreeLaws.{list_of-trees_of}
 use Rattle.ic_term.specs.Term.{tree, cell_tree, term_step, cell_step}
 use Rattle.ic_term.specs.Symbol.{Symbol, has_arity, is_tree_over, are_trees_over}
 use Rattle.ic_term.specs.declared.term.Cell.{Cell, out-Cell, fold_out-Cell}

@@ -1,8 +1,9 @@
 use Rattle.std.specs.Prelude.{◌≡◌, ℕ, ◌+◌, ◌<◌, ◌≤◌, ◌==◌, List, [], ◌∷◌, ◌++◌, Bool, ◌&&◌, Option, None, Some, Result, Ok, Err, length, sum_by, count_by, nat_le, nat_lt, if◌then◌else◌, max, refl}
 use Rattle.std.specs.List.{flat_map, list_all, AllByRecursion}
 use Rattle.std.specs.Coded.{Coded, code_by, coded×, coded_ℕ, coded_list}
-use Rattle.ic_term.specs.Tree.{Tree, Pair, nodes, names, pair_nodes, pair_names}
-use Rattle.ic_term.specs.TreeLaws.{coded_tree, coded_pair}
+use Rattle.std.specs.Cmp.Lexicographic.{pointwise}
+use Rattle.ic_term.specs.Tree.{Tree, Pair, nodes, names, pair_nodes, pair_names, tree_eq, pair_eq}
+use Rattle.ic_term.specs.lemmas.TreeLaws.{coded_tree, coded_pair}
 use Rattle.ic_term.specs.declared.limits.TheConstants.{MAX_NODES, MAX_INTERFACE, MAX_NEXT}
 use Rattle.ic_term.specs.declared.config.ConfigFault.{ConfigFault}
 use Rattle.ic_term.specs.declared.config.ConfigFault.TheVariants.{Limit, Name}
@@ -85,6 +86,11 @@ one_above (n ∷ ns) = max (n + 1) (one_above ns)
 -- terms and equations as a configuration whose `next` is one above its greatest name
 abbrev pub configured : List Tree → List Pair → Configuration
 configured ts es = record { interface = ts; equations = es; next = one_above (names_in ts es) }
+
+-- the same terms and equations, in the same order, and the same `next`
+abbrev pub configuration_eq : Configuration → Configuration → Bool
+configuration_eq c d =
+    c.next == d.next && pointwise tree_eq c.interface d.interface && pointwise pair_eq c.equations d.equations
 
 -- a configuration is stored as the tuple of its fields
 abbrev pub coded_configuration : Coded Configuration

@@ -8,7 +8,8 @@ use crate::term::{Equation, Term};
 
 impl PartialEq for Config {
     ghost use Rattle.std.specs.Cmp.{partial_equiv_from_equiv};
-    ghost use Rattle.ic_term.specs.ConfigurationEq.{configuration_eq, configuration_eq-equivalence};
+    ghost use Rattle.ic_term.specs.lemmas.ConfigurationEq.{configuration_eq-equivalence};
+    ghost use Rattle.ic_term.specs.Configuration.{configuration_eq};
 
     ghost eq = { configuration_eq };
 
@@ -22,7 +23,7 @@ impl PartialEq for Config {
 }
 
 impl Eq for Config {
-    ghost use Rattle.ic_term.specs.ConfigurationEq.{configuration_eq-equivalence};
+    ghost use Rattle.ic_term.specs.lemmas.ConfigurationEq.{configuration_eq-equivalence};
 
     ghost laws = { configuration_eq-equivalence };
 }

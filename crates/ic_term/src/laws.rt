@@ -4,8 +4,7 @@ ghost use Rattle.std.specs.Prelude.{◌≡◌, ℕ, ◌+◌, ◌<◌, ◌≤◌,
 ghost use Rattle.std.specs.List.{list_any, AllByRecursion};
 ghost use Rattle.ic_term.specs.Tree.{Tree, Pair, tree_eq, pair_eq};
 ghost use Rattle.ic_term.specs.declared.limits.TheConstants.{MAX_NODES, MAX_INTERFACE, MAX_NEXT, MAX_SYMBOLS, MAX_SYMBOL_TEXT, MAX_ARITY};
-ghost use Rattle.ic_term.specs.ConfigurationEq.{configuration_eq};
-ghost use Rattle.ic_term.specs.Configuration.{Configuration, IsConfiguration, IsFirstThird, occurrences, one_above, restored, third_occurrence};
+ghost use Rattle.ic_term.specs.Configuration.{configuration_eq, Configuration, IsConfiguration, IsFirstThird, occurrences, one_above, restored, third_occurrence};
 ghost use Rattle.ic_term.specs.Symbol.{Symbol, AreSymbols, is_symbol_text, numbered, with_symbol, symbols_eq};
 
 /// The limits of configurations and of symbols.

@@ -4,7 +4,7 @@ ghost use Rattle.std.specs.List.{list_all};
 ghost use Rattle.ic_term.specs.Symbol.{is_symbol_text, numbered, with_symbol, Answers, symbol_text, symbol_arity, has_arity};
 ghost use Rattle.std.specs.Cmp.{partial_equiv_from_equiv};
 ghost use Rattle.ic_term.specs.Symbol.{symbol_eq, symbols_eq, AreSymbols};
-ghost use Rattle.ic_term.specs.SymbolLaws.{symbols_eq-equivalence};
+ghost use Rattle.ic_term.specs.lemmas.SymbolLaws.{symbols_eq-equivalence};
 ghost use Rattle.ic_term.specs.declared.symbols.SymbolFault.TheVariants.{Memory};
 
 use crate::limits::{MAX_ARITY, MAX_SYMBOL_TEXT, MAX_SYMBOLS};

@@ -2,7 +2,7 @@ ghost use Rattle.std.specs.Prelude.{◌≡◌, ◌++◌, min, IfOk, OnErr, OnOk}
 ghost use Rattle.ic_term.specs.Tree.{nodes, names, tree_eq, pair_names, pair_nodes, pair_eq};
 ghost use Rattle.std.specs.Cmp.{on_per, on_equiv, partial_equiv_from_equiv};
 ghost use Rattle.ic_term.specs.Term.{tree, cell_tree, pair};
-ghost use Rattle.ic_term.specs.TreeLaws.{tree_eq-equivalence, pair_eq-equivalence};
+ghost use Rattle.ic_term.specs.lemmas.TreeLaws.{tree_eq-equivalence, pair_eq-equivalence};
 
 use std::alloc::{AllocError, Global};
 

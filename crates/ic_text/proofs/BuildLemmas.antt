@@ -7,7 +7,7 @@ use Rattle.ic_term.specs.declared.term.Term.{Term}
 use Rattle.ic_term.specs.declared.term.Cell.{Cell, out-Cell}
 use Rattle.ic_term.specs.Tree.{Tree, agent, trees_of, list_of, names}
 use Rattle.ic_term.specs.Term.{tree, cell_tree}
-use Rattle.ic_term.specs.TermLaws.{cell_tree-out}
+use Rattle.ic_term.specs.lemmas.TermLaws.{cell_tree-out}
 use Rattle.ic_rules.specs.Renaming.{first_occurrences}
 use Rattle.ic_rules.specs.Written.{written}
 use Rattle.ic_text.specs.declared.number.Item.{Item}

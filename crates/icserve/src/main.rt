@@ -3,8 +3,8 @@
 
 use ic_desk::Book;
 use ic_disk::FileDisk;
-use ic_serve::{StreamFault, Task, WordsFault, once_stream, read_words, settle_stream};
-use ic_session::{DiskRefused, ServeFault, serve_lines};
+use ic_streams::{StreamFault, Task, WordsFault, once_stream, read_words, settle_stream};
+use ic_serving::{DiskRefused, ServeFault, serve_lines};
 use std::alloc::AllocError;
 use std::env;
 use std::fs::File;

@@ -10,14 +10,14 @@ use Rattle.ic_term.specs.Symbol.{Symbol, has_arity, is_tree_over, are_trees_over
 use Rattle.ic_rules.specs.Renaming.{renamed, renamed_trees}
 use Rattle.ic_rules.specs.Rule.{Rule, rule_nodes}
 use Rattle.ic_rules.specs.RuleSet.{first_unfit, rule_for, stands_turned}
-use Rattle.ic_rules.specs.FitLaws.{rule_over_at}
-use Rattle.ic_rules.specs.FindLaws.{rule_for-found}
+use Rattle.ic_rules.specs.lemmas.FitLaws.{rule_over_at}
+use Rattle.ic_rules.specs.lemmas.FindLaws.{rule_for-found}
 use Rattle.ic_round.specs.Instance.{inst}
 use Rattle.ic_round.specs.Firing.{Active, oriented, rule_of_sides, active_pair, arguments, against, products, products_by, count_of, names_taken, fired_pair, fired_from, next_behind}
 use Rattle.ic_round.specs.Works.{is_agent_of}
 use Rattle.ic_round.specs.inner.Sizes.{fired_nodes}
 use Rattle.std.proofs.lemmas.Bool.{and_parts}
-use Rattle.ic_settle.specs.SubstitutionLaws.{and_both}
+use Rattle.ic_settle.specs.lemmas.SubstitutionLaws.{and_both}
 
 -- ---- arities
 

@@ -5,7 +5,7 @@ use Rattle.std.specs.List.{list_any, position_from}
 use Rattle.ic_term.specs.Tree.{Tree, name, agent, Trees}
 use Rattle.ic_rules.specs.Rule.{Rule, stands_for}
 use Rattle.ic_rules.specs.RuleSet.{rule_for, found_or, has_pair}
-use Rattle.ic_rules.specs.FindLaws.{any_of_two, rule_for-found}
+use Rattle.ic_rules.specs.lemmas.FindLaws.{any_of_two, rule_for-found}
 use Rattle.ic_round.specs.Firing.{Active, oriented, active_pair}
 use Rattle.ic_round.specs.Turning.{IsTurnedRight}
 

@@ -7,8 +7,8 @@ use Rattle.ic_term.specs.Configuration.{Configuration}
 use Rattle.ic_rules.specs.Rule.{Rule}
 use Rattle.ic_rules.specs.RuleSet.{Rules, IsRuleSet}
 use Rattle.std.proofs.lemmas.Bool.{and_parts}
-use Rattle.ic_settle.specs.SubstitutionLaws.{and_both}
-use Rattle.ic_settle.specs.MiddleLaws.{over-middle}
+use Rattle.ic_settle.specs.lemmas.SubstitutionLaws.{and_both}
+use Rattle.ic_settle.specs.lemmas.MiddleLaws.{over-middle}
 use Rattle.std.specs.Option.{option_map_or}
 use Rattle.ic_round.specs.Naming.{HasNames}
 use Rattle.ic_round.specs.Firing.{products_by, fired_pair, names_taken, count_of}

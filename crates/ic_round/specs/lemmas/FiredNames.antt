@@ -8,11 +8,11 @@ use Rattle.std.specs.Option.{option_map_or}
 use Rattle.ic_term.specs.Tree.{Tree, name, agent, Trees, no_trees, more_trees, list_of, names, names_of, Pair, pair_names}
 use Rattle.ic_term.specs.Configuration.{Configuration, IsConfiguration, names_in, occurrences}
 use Rattle.ic_rules.specs.Rule.{Rule, IsRule, rule_names}
-use Rattle.ic_rules.specs.RenamingLaws.{flat_names-renamed}
+use Rattle.ic_rules.specs.lemmas.RenamingLaws.{flat_names-renamed}
 use Rattle.ic_round.specs.Instance.{inst}
 use Rattle.ic_round.specs.Firing.{Active, oriented, rule_of_sides, active_pair, arguments, against, products, products_by, count_of, names_taken, fired_pair, fired_from, next_behind, fired}
 use Rattle.ic_round.specs.lemmas.SoundRules.{HasSoundRule}
-use Rattle.ic_settle.specs.SubstitutionLaws.{occurrences-append, All-append, All-front, All-back}
+use Rattle.ic_settle.specs.lemmas.SubstitutionLaws.{occurrences-append, All-append, All-front, All-back}
 use Rattle.ic_round.specs.lemmas.FreshNames.{absent_below, absent_above, from_base, below_top, rule_below, rule_twice, copy_twice}
 
 pub All-mono : (P Q : ℕ → Type 0) → ((n : ℕ) → P n → Q n) → (ns : List ℕ) → AllByRecursion P ns → AllByRecursion Q ns

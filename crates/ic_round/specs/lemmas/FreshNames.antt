@@ -8,9 +8,9 @@ use Rattle.std.proofs.lemmas.List.Sums.{sum_by-cons}
 use Rattle.ic_term.specs.Configuration.{occurrences}
 use Rattle.ic_rules.specs.Renaming.{are_paired, first_occurrences}
 use Rattle.ic_rules.specs.Rule.{Rule, IsRule, rule_names}
-use Rattle.ic_rules.specs.NumberingLaws.{each_among, Among}
+use Rattle.ic_rules.specs.lemmas.NumberingLaws.{each_among, Among}
 use Rattle.ic_settle.specs.Settling.{occurs}
-use Rattle.ic_settle.specs.SubstitutionLaws.{occurrences_none}
+use Rattle.ic_settle.specs.lemmas.SubstitutionLaws.{occurrences_none}
 
 pub occurrences-cons : (n m : ℕ) (ms : List ℕ) → occurrences n (m ∷ ms) ≡ cond (m == n) 1 0 + occurrences n ms
 occurrences-cons n m ms = sum_by-cons _ m ms

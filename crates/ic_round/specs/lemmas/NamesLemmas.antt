@@ -8,10 +8,10 @@ use Rattle.ic_term.specs.Configuration.{Configuration, names_in, occurrences}
 use Rattle.ic_rules.specs.Rule.{Rule}
 use Rattle.ic_settle.specs.Settling.{subst, subst_all, subst_pair}
 use Rattle.ic_settle.specs.NameSteps.{NameStep}
-use Rattle.ic_settle.specs.SubstitutionLaws.{occurrences-append, All-append, All-front, All-back, All-subst_all}
-use Rattle.ic_settle.specs.WholeLaws.{whole, names_of-whole, subst_all-whole}
-use Rattle.ic_settle.specs.MiddleLaws.{occurrences-middle, All-middle}
-use Rattle.ic_settle.specs.StepLaws.{occurrences-binds, occurrences-subst_in, All-binds, once_outside}
+use Rattle.ic_settle.specs.lemmas.SubstitutionLaws.{occurrences-append, All-append, All-front, All-back, All-subst_all}
+use Rattle.ic_settle.specs.lemmas.WholeLaws.{whole, names_of-whole, subst_all-whole}
+use Rattle.ic_settle.specs.lemmas.MiddleLaws.{occurrences-middle, All-middle}
+use Rattle.ic_settle.specs.lemmas.StepLaws.{occurrences-binds, occurrences-subst_in, All-binds, once_outside}
 use Rattle.ic_round.specs.Naming.{HasNames}
 use Rattle.ic_round.specs.lemmas.FreshNames.{absent_above}
 use Rattle.ic_round.specs.lemmas.FiredNames.{Fires, All-mono}

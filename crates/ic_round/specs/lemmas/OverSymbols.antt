@@ -9,11 +9,11 @@ use Rattle.ic_term.specs.Configuration.{Configuration}
 use Rattle.ic_rules.specs.Renaming.{renamed, renamed_trees}
 use Rattle.ic_rules.specs.Rule.{Rule}
 use Rattle.ic_rules.specs.RuleSet.{first_unfit}
-use Rattle.ic_rules.specs.FitLaws.{rule_over_at}
+use Rattle.ic_rules.specs.lemmas.FitLaws.{rule_over_at}
 use Rattle.ic_round.specs.Instance.{inst}
 use Rattle.ic_round.specs.Firing.{Active, active_pair, arguments, against, products, products_by, names_taken, fired_pair, fired_from, fired}
 use Rattle.std.proofs.lemmas.Bool.{and_parts}
-use Rattle.ic_settle.specs.SubstitutionLaws.{and_both}
+use Rattle.ic_settle.specs.lemmas.SubstitutionLaws.{and_both}
 use Rattle.ic_round.specs.lemmas.FiredNames.{SidesOf, active_sides_of}
 
 same_count : (f : ℕ → ℕ) (ts : Trees) → length (list_of (renamed_trees f ts)) ≡ length (list_of ts)

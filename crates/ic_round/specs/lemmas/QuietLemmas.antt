@@ -12,8 +12,8 @@ use Rattle.ic_round.specs.Steps.{Step, StandsAt, interaction, indirection, colle
 use Rattle.ic_round.specs.Rounds.{IsQuiet}
 use Rattle.ic_round.specs.Quiet.{is_inert, is_settled, is_quiet}
 use Rattle.std.proofs.lemmas.Bool.{and_parts}
-use Rattle.ic_settle.specs.SubstitutionLaws.{and_both}
-use Rattle.ic_settle.specs.ChoiceLaws.{binding_some}
+use Rattle.ic_settle.specs.lemmas.SubstitutionLaws.{and_both}
+use Rattle.ic_settle.specs.lemmas.ChoiceLaws.{binding_some}
 use Rattle.ic_round.specs.lemmas.NameStepLemmas.{name_step, in_either, in_first}
 use Rattle.ic_round.specs.lemmas.SettledLemmas.{choice_step}
 

@@ -4,8 +4,8 @@ use Rattle.ic_term.specs.Symbol.{Symbol, is_over}
 use Rattle.ic_term.specs.Configuration.{Configuration, IsConfiguration, names_in}
 use Rattle.ic_settle.specs.Settling.{Choice, first_choice, applied, settled_in, settled}
 use Rattle.ic_settle.specs.NameSteps.{NameStep}
-use Rattle.ic_settle.specs.ChoiceLaws.{is_choice, binding_binds}
-use Rattle.ic_settle.specs.StepLaws.{configuration_kept, over_kept}
+use Rattle.ic_settle.specs.lemmas.ChoiceLaws.{is_choice, binding_binds}
+use Rattle.ic_settle.specs.lemmas.StepLaws.{configuration_kept, over_kept}
 
 -- a choice is a step of the calculus
 pub choice_step : (c : Configuration) (choice : Choice) → first_choice c.interface [] c.equations ≡ Some choice

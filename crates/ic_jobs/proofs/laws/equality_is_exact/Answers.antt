@@ -1,4 +1,4 @@
-use Rattle.ic_jobs.specs.JobLaws.{job_eq-Decides, table_eq-Decides}
+use Rattle.ic_jobs.specs.lemmas.JobLaws.{job_eq-Decides, table_eq-Decides}
 use Rattle.ic_jobs.proofs.laws.equality_is_exact.Goals as goal
 
 pub returns-clause-jobs : goal.returns-clause-jobs

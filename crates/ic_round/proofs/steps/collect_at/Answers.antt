@@ -9,7 +9,7 @@ use Rattle.ic_round.specs.Steps.{Collect}
 use Rattle.ic_round.specs.SingleSteps.{others, bound_at}
 use Rattle.ic_round.specs.StepAnswers.{stepped}
 use Rattle.ic_round.proofs.Applying.{pair_at, applies_copy}
-use Rattle.ic_settle.specs.ChoiceLaws.{binding_binds}
+use Rattle.ic_settle.specs.lemmas.ChoiceLaws.{binding_binds}
 use Rattle.ic_round.specs.lemmas.NameStepLemmas.{in_first}
 use Rattle.ic_round.proofs.StepLemmas.{collected-at, collected-unbound, no_collect}
 use Rattle.std.proofs.Common.{None, Some}

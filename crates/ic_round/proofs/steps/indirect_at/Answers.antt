@@ -9,7 +9,7 @@ use Rattle.ic_round.specs.Steps.{Indirection}
 use Rattle.ic_round.specs.SingleSteps.{others, bound_at}
 use Rattle.ic_round.specs.StepAnswers.{stepped}
 use Rattle.ic_round.proofs.Applying.{pair_at, applies_copy, others_of}
-use Rattle.ic_settle.specs.ChoiceLaws.{binding_binds}
+use Rattle.ic_settle.specs.lemmas.ChoiceLaws.{binding_binds}
 use Rattle.ic_round.proofs.ListLemmas.{take_rest}
 use Rattle.ic_round.specs.lemmas.NameStepLemmas.{in_either}
 use Rattle.ic_round.proofs.StepLemmas.{indirected-at, indirected-unbound, no_indirection}

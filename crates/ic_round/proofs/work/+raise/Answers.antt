@@ -1,10 +1,10 @@
 use Rattle.std.proofs.Common.{◌≡◌, ℕ, ◌+◌, arith, ap, sym, ◌∙◌, map, min}
 use Rattle.std.proofs.lemmas.Grind.{common_steps}
-use Rattle.ic_term.specs.TermLaws.{cell_tree-roll, cell_tree-out}
+use Rattle.ic_term.specs.lemmas.TermLaws.{cell_tree-roll, cell_tree-out}
 use Rattle.ic_term.specs.Tree.{agent, trees_of}
 use Rattle.ic_term.specs.Term.{tree}
 use Rattle.ic_rules.specs.Renaming.{renamed}
-use Rattle.ic_rules.specs.RenamingLaws.{renamed_trees-trees_of}
+use Rattle.ic_rules.specs.lemmas.RenamingLaws.{renamed_trees-trees_of}
 use Rattle.ic_round.proofs.Words.{u64_MAX}
 use Rattle.ic_round.proofs.work.+raise.Goals as goal
 

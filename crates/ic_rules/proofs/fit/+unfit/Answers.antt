@@ -4,7 +4,7 @@ use Rattle.ic_term.specs.Term.{tree}
 use Rattle.ic_term.specs.Symbol.{has_arity}
 use Rattle.ic_rules.specs.Rule.{agents, agents_of}
 use Rattle.ic_rules.specs.RuleSet.{unfit_among}
-use Rattle.ic_rules.specs.FitLaws.{or_else}
+use Rattle.ic_rules.specs.lemmas.FitLaws.{or_else}
 use Rattle.ic_rules.proofs.FitLemmas.{agents-cell, unfit_among-arguments}
 use Rattle.ic_rules.proofs.fit.+unfit.Goals as goal
 

@@ -3,7 +3,7 @@ use Rattle.std.specs.List.{flat_map}
 use Rattle.ic_rules.specs.Rule.{rule_agents}
 use Rattle.ic_rules.specs.RuleSet.{unfit_among}
 use Rattle.ic_rules.specs.Written.{written}
-use Rattle.ic_rules.specs.FitLaws.{or_else}
+use Rattle.ic_rules.specs.lemmas.FitLaws.{or_else}
 use Rattle.ic_rules.proofs.FitLemmas.{unfit_among-rules}
 use Rattle.ic_rules.proofs.fit.first_unfit.Goals as goal
 

@@ -2,7 +2,7 @@ use Rattle.std.proofs.Common.{ap, ◌∙◌, sym}
 use Rattle.ic_term.specs.Term.{cell_tree}
 use Rattle.ic_rules.specs.Rule.{agents}
 use Rattle.ic_rules.specs.RuleSet.{unfit_among}
-use Rattle.ic_rules.specs.FitLaws.{or_else, unfit_among-append}
+use Rattle.ic_rules.specs.lemmas.FitLaws.{or_else, unfit_among-append}
 use Rattle.ic_rules.proofs.FitLemmas.{agents-written}
 use Rattle.ic_rules.proofs.fit.unfit_in_rule.Goals as goal
 

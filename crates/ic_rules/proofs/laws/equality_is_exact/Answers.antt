@@ -1,4 +1,4 @@
-use Rattle.ic_rules.specs.RuleLaws.{rule_eq-Decides, rules_eq-Decides}
+use Rattle.ic_rules.specs.lemmas.RuleLaws.{rule_eq-Decides, rules_eq-Decides}
 use Rattle.ic_rules.proofs.laws.equality_is_exact.Goals as goal
 
 pub returns-clause-rules : goal.returns-clause-rules

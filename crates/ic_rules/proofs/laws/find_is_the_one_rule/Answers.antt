@@ -1,4 +1,4 @@
-use Rattle.ic_rules.specs.FindLaws.{rule_for-found, rule_for-none, single_pair}
+use Rattle.ic_rules.specs.lemmas.FindLaws.{rule_for-found, rule_for-none, single_pair}
 use Rattle.ic_rules.proofs.laws.find_is_the_one_rule.Goals as goal
 
 pub returns-clause-found : goal.returns-clause-found

@@ -1,4 +1,4 @@
-use Rattle.ic_rules.specs.NumberingLaws.{numbered-exactly}
+use Rattle.ic_rules.specs.lemmas.NumberingLaws.{numbered-exactly}
 use Rattle.ic_rules.proofs.TakenRules.{left_as_written}
 use Rattle.ic_rules.proofs.laws.numbered_rules_stay.Goals as goal
 

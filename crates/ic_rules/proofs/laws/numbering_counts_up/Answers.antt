@@ -1,4 +1,4 @@
-use Rattle.ic_rules.specs.NumberingLaws.{first_occurrences-numbered, are_paired-numbered}
+use Rattle.ic_rules.specs.lemmas.NumberingLaws.{first_occurrences-numbered, are_paired-numbered}
 use Rattle.ic_rules.proofs.laws.numbering_counts_up.Goals as goal
 
 pub returns-clause-order : goal.returns-clause-order

@@ -1,10 +1,10 @@
 use Rattle.std.proofs.Common.{◌≡◌, arith, rules, ap, sym, ◌∙◌, map}
 use Rattle.std.proofs.lemmas.Grind.{common_steps}
-use Rattle.ic_term.specs.TermLaws.{tree-Name, cell_tree-roll, cell_tree-out}
+use Rattle.ic_term.specs.lemmas.TermLaws.{tree-Name, cell_tree-roll, cell_tree-out}
 use Rattle.ic_term.specs.Tree.{name, agent, trees_of}
 use Rattle.ic_term.specs.Term.{tree}
 use Rattle.ic_rules.specs.Renaming.{number_among, renamed}
-use Rattle.ic_rules.specs.RenamingLaws.{renamed_trees-trees_of}
+use Rattle.ic_rules.specs.lemmas.RenamingLaws.{renamed_trees-trees_of}
 use Rattle.ic_rules.proofs.RenamingLemmas.{place_or_length}
 use Rattle.ic_rules.proofs.renaming.+number.Goals as goal
 

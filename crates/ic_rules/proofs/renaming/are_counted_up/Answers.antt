@@ -2,7 +2,7 @@ use Rattle.std.proofs.Common.{◌≡◌, ◌+◌, ◌<◌, ◌≤◌, length, ta
 use Rattle.std.proofs.Math.Seq.{take-length}
 use Rattle.std.specs.List.{range_with_len}
 use Rattle.ic_rules.specs.Renaming.{first_occurrences}
-use Rattle.ic_rules.specs.NumberingLaws.{length-range}
+use Rattle.ic_rules.specs.lemmas.NumberingLaws.{length-range}
 use Rattle.ic_rules.proofs.CountedUp.{counted_again, counted_next, passed_over}
 use Rattle.ic_rules.proofs.renaming.are_counted_up.Goals as goal
 use Rattle.ic_rules.proofs.renaming.are_counted_up.Goals.{then-name-next-2, else-name-next-2}

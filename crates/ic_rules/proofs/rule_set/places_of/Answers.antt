@@ -4,7 +4,7 @@ use Rattle.std.specs.List.{list_any}
 use Rattle.ic_rules.specs.declared.rule_set.SymbolPair.{SymbolPair}
 use Rattle.ic_rules.specs.Rule.{same_pair}
 use Rattle.ic_rules.specs.Written.{written}
-use Rattle.ic_rules.specs.Places.{pair_eq}
+use Rattle.ic_rules.specs.inner.Places.{pair_eq}
 use Rattle.ic_rules.proofs.RuleSetLemmas.{pair_there, repeated_here, repeated_later, places_next, none_of_either}
 use Rattle.ic_rules.proofs.rule_set.places_of.Goals as goal
 

@@ -1,7 +1,7 @@
 use Rattle.std.proofs.Common.{◌≡◌, map, drop, take}
 use Rattle.ic_rules.specs.RuleSet.{repeated_behind, first_repeated}
 use Rattle.ic_rules.specs.Written.{written}
-use Rattle.ic_rules.specs.Places.{ArePlaces}
+use Rattle.ic_rules.specs.inner.Places.{ArePlaces}
 use Rattle.ic_rules.proofs.rule_set.places_of.Given as goal
 
 -- the map has the places of the rules so far, none of whose pairs comes twice

@@ -2,7 +2,7 @@ use Rattle.std.proofs.Common.{◌∙◌, ap}
 use Rattle.std.specs.Prelude.{nat_eq}
 use Rattle.indexmap.specs.IndexMap.{get}
 use Rattle.ic_term.specs.Term.{tree}
-use Rattle.ic_term.specs.TermLaws.{tree-Name}
+use Rattle.ic_term.specs.lemmas.TermLaws.{tree-Name}
 use Rattle.ic_settle.proofs.Deciding.{outlet_second}
 use Rattle.ic_settle.proofs.containers.find_outlet.Goals as goal
 

@@ -8,7 +8,7 @@ use Rattle.ic_term.specs.declared.term.Equation.{Equation}
 use Rattle.ic_term.specs.Tree.{Pair}
 use Rattle.ic_term.specs.Term.{tree, pair}
 use Rattle.ic_settle.specs.declared.applicability.Applicable.{Applicable}
-use Rattle.ic_settle.specs.Containers.{noted_from}
+use Rattle.ic_settle.specs.inner.Containers.{noted_from}
 use Rattle.ic_settle.proofs.Links.{own-linked}
 use Rattle.ic_settle.proofs.Spots.{placed-within}
 use Rattle.ic_settle.proofs.Passing.{IsPassing, passing-start, passing-end}

@@ -3,7 +3,7 @@ use Rattle.std.specs.Prelude.{nat_eq}
 use Rattle.std.specs.Vec.Iter.{into_iter_items, into_iter_len}
 use Rattle.indexmap.specs.IndexMap.{get}
 use Rattle.ic_term.specs.Term.{pair}
-use Rattle.ic_settle.specs.Containers.{IsLinked, AreUnlinkedFrom, AreKnown}
+use Rattle.ic_settle.specs.inner.Containers.{IsLinked, AreUnlinkedFrom, AreKnown}
 use Rattle.ic_settle.proofs.Passing.{IsPassing}
 use Rattle.ic_settle.proofs.pass.pass.Given as goal
 

@@ -5,8 +5,8 @@ use Rattle.ic_term.specs.Symbol.{Symbol, is_over}
 use Rattle.ic_term.specs.Configuration.{Configuration, IsConfiguration}
 use Rattle.ic_term.specs.Term.{tree, pair}
 use Rattle.ic_settle.specs.NameSteps.{NameStep, NameSteps}
-use Rattle.ic_settle.specs.Passing.{put_in}
-use Rattle.ic_settle.specs.Waiting.{RebuildsPairs}
+use Rattle.ic_settle.specs.inner.Passing.{put_in}
+use Rattle.ic_settle.specs.inner.Waiting.{RebuildsPairs}
 use Rattle.ic_settle.proofs.Rebuilt.{rebuilt}
 use Rattle.ic_settle.proofs.settling.settle.Goals as goal
 

@@ -1,9 +1,9 @@
 use Rattle.std.proofs.Common.{◌≡◌, ◌≤◌, ◌∙◌, ap, map, length, arith}
 use Rattle.std.proofs.lemmas.List.{take_all, drop_all, with_items_is}
 use Rattle.ic_term.specs.declared.term.Term.TheVariants.{outs-Agent}
-use Rattle.ic_term.specs.TermLaws.{tree-Agent, cell_tree-out, cell_tree-roll}
+use Rattle.ic_term.specs.lemmas.TermLaws.{tree-Agent, cell_tree-out, cell_tree-roll}
 use Rattle.ic_term.specs.Term.{tree}
-use Rattle.ic_settle.specs.Placing.{held_tree}
+use Rattle.ic_settle.specs.inner.Placing.{held_tree}
 use Rattle.ic_settle.proofs.Placed.{placed-agent}
 use Rattle.ic_settle.proofs.substitution.+put.Goals as goal
 

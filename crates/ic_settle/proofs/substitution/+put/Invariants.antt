@@ -1,6 +1,6 @@
 use Rattle.std.proofs.Common.{◌≡◌, drop, map, take}
 use Rattle.ic_term.specs.Term.{tree}
-use Rattle.ic_settle.specs.Placing.{placed_terms, held_tree}
+use Rattle.ic_settle.specs.inner.Placing.{placed_terms, held_tree}
 use Rattle.ic_settle.proofs.Placed.{behind}
 use Rattle.ic_settle.proofs.substitution.+put.Given as goal
 

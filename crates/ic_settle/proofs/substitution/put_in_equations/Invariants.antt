@@ -1,6 +1,6 @@
 use Rattle.std.proofs.Common.{◌≡◌, drop, map, take}
 use Rattle.ic_term.specs.Term.{pair}
-use Rattle.ic_settle.specs.Placing.{placed_pairs, held_tree}
+use Rattle.ic_settle.specs.inner.Placing.{placed_pairs, held_tree}
 use Rattle.ic_settle.proofs.Placed.{behind}
 use Rattle.ic_settle.proofs.substitution.put_in_equations.Given as goal
 

@@ -1,6 +1,6 @@
-use Rattle.ic_term.specs.ConfigurationEq.{configuration_eq-Decides}
-use Rattle.ic_term.specs.TreeLaws.{tree_eq-Decides, pair_eq-Decides}
-use Rattle.ic_term.specs.SymbolLaws.{symbols_eq-Decides}
+use Rattle.ic_term.specs.lemmas.ConfigurationEq.{configuration_eq-Decides}
+use Rattle.ic_term.specs.lemmas.TreeLaws.{tree_eq-Decides, pair_eq-Decides}
+use Rattle.ic_term.specs.lemmas.SymbolLaws.{symbols_eq-Decides}
 use Rattle.ic_term.proofs.laws.equality_is_exact.Goals as goal
 
 pub returns-clause-terms : goal.returns-clause-terms

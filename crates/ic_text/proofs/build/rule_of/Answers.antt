@@ -1,6 +1,6 @@
 use Rattle.std.proofs.Common.{◌≡◌, sym, ap, ◌∙◌}
 use Rattle.ic_term.specs.Term.{tree, cell_tree}
-use Rattle.ic_term.specs.TermLaws.{tree-Agent}
+use Rattle.ic_term.specs.lemmas.TermLaws.{tree-Agent}
 use Rattle.ic_text.specs.inner.Built.{rule_in}
 use Rattle.ic_text.proofs.BuildLemmas.{written-agents}
 use Rattle.ic_text.proofs.build.rule_of.Goals as goal

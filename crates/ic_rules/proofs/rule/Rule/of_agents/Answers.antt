@@ -1,6 +1,6 @@
 use Rattle.std.proofs.Common.{sym, ◌∙◌, map, length}
 use Rattle.ic_rules.specs.Renaming.{renamed, number_among}
-use Rattle.ic_rules.specs.Arguments.{firsts_of}
+use Rattle.ic_rules.specs.inner.Arguments.{firsts_of}
 use Rattle.ic_term.specs.Term.{tree}
 use Rattle.ic_rules.specs.Rule.{Rule}
 use Rattle.ic_rules.proofs.RuleLemmas.{lopsided_test, numbered_is_rule}

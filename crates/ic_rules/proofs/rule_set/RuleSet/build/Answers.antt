@@ -3,7 +3,7 @@ use Rattle.std.specs.List.{AllByRecursion}
 use Rattle.ic_rules.specs.Rule.{Rule, IsRule, numbered}
 use Rattle.ic_rules.specs.RuleSet.{are_few, first_unfit, first_repeated, IsRuleSet}
 use Rattle.ic_rules.specs.Written.{written}
-use Rattle.ic_rules.specs.Places.{ArePlaces}
+use Rattle.ic_rules.specs.inner.Places.{ArePlaces}
 use Rattle.ic_rules.proofs.RuleSetLemmas.{IsRuleSet-numbered, ArePlaces-numbered}
 use Rattle.ic_rules.proofs.rule_set.RuleSet.build.Goals as goal
 

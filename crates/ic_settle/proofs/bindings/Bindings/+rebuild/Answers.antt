@@ -7,8 +7,8 @@ use Rattle.ic_term.specs.declared.term.Term.{Term}
 use Rattle.ic_term.specs.declared.term.Term.TheVariants.{Name, Agent}
 use Rattle.ic_term.specs.Tree.{Tree, agent, trees_of, nodes}
 use Rattle.ic_term.specs.Term.{tree, cell_tree}
-use Rattle.ic_term.specs.TermLaws.{tree-Name, tree-Agent, cell_tree-out, cell_tree-roll}
-use Rattle.ic_settle.specs.Waiting.{Resolves, Rebuilds}
+use Rattle.ic_term.specs.lemmas.TermLaws.{tree-Name, tree-Agent, cell_tree-out, cell_tree-roll}
+use Rattle.ic_settle.specs.inner.Waiting.{Resolves, Rebuilds}
 use Rattle.ic_settle.proofs.Delays.{RebuildsSoFar, rebuilds-name, rebuilds-agent, rebuilds-end}
 use Rattle.ic_settle.proofs.PutEach.{cell-nodes}
 use Rattle.ic_settle.proofs.bindings.Bindings.+rebuild.Goals as goal

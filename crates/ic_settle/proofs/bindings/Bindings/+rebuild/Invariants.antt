@@ -1,7 +1,7 @@
 use Rattle.std.proofs.Common.{◌+◌, ◌*◌, ◌≤◌, map, take, drop}
 use Rattle.ic_term.specs.Tree.{nodes}
 use Rattle.ic_term.specs.Term.{tree, cell_tree}
-use Rattle.ic_settle.specs.Waiting.{nodes_kept}
+use Rattle.ic_settle.specs.inner.Waiting.{nodes_kept}
 use Rattle.ic_settle.proofs.Delays.{RebuildsSoFar}
 use Rattle.ic_settle.proofs.bindings.Bindings.+rebuild.Given as goal
 

@@ -4,7 +4,7 @@ use Rattle.std.proofs.lemmas.List.{map-append, take_more_set, drop-set-lt}
 use Rattle.ic_term.specs.declared.term.Equation.{Equation}
 use Rattle.ic_term.specs.Tree.{Pair}
 use Rattle.ic_term.specs.Term.{tree, pair}
-use Rattle.ic_settle.specs.Waiting.{Rebuilds}
+use Rattle.ic_settle.specs.inner.Waiting.{Rebuilds}
 use Rattle.ic_settle.proofs.Delays.{RebuildsPairsSoFar, pairs-more}
 use Rattle.ic_settle.proofs.ListLemmas.{drop_at}
 use Rattle.ic_settle.proofs.bindings.Bindings.rebuild_equations.Goals as goal

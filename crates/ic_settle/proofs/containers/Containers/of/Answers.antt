@@ -5,7 +5,7 @@ use Rattle.std.specs.List.{flat_map}
 use Rattle.std.specs.Map.{lookup}
 use Rattle.ic_term.specs.Tree.{names}
 use Rattle.ic_term.specs.Term.{tree, pair}
-use Rattle.ic_settle.specs.Containers.{noted_in, noted_equations}
+use Rattle.ic_settle.specs.inner.Containers.{noted_in, noted_equations}
 use Rattle.ic_settle.proofs.Spots.{noted_behind}
 use Rattle.ic_settle.proofs.containers.Containers.of.Goals as goal
 

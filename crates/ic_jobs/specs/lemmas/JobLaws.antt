@@ -1,0 +1,57 @@
+-- The tests of equality of jobs and of tables are equality.
+use Rattle.std.specs.Prelude.{◌≡◌, ℕ, ◌==◌, List, Bool, true, false, ◌&&◌, refl}
+use Rattle.std.specs.Bool.{Decides}
+use Rattle.std.specs.Cmp.{IsEquivalence, decided, unsigned_Decides}
+use Rattle.std.specs.Cmp.Lexicographic.{bytes_decides, pointwise, pointwise_decides}
+use Rattle.std.specs.Str.{bytes_eq}
+use Rattle.std.proofs.Common.{sym, ◌∙◌, ap}
+use Rattle.ic_term.specs.lemmas.ConfigurationEq.{configuration_eq-Decides}
+use Rattle.ic_term.specs.Configuration.{configuration_eq}
+use Rattle.ic_rules.specs.RuleSet.{rules_eq}
+use Rattle.ic_rules.specs.lemmas.RuleLaws.{rules_eq-Decides}
+use Rattle.ic_jobs.specs.declared.state.State.{State}
+use Rattle.ic_jobs.specs.State.{state_number, state_eq, state_numbered, state_numbered-number}
+use Rattle.ic_jobs.specs.Job.{JobParts, job_eq, table_eq}
+
+and_parts : (a b : Bool) → (a && b) ≡ true → (a ≡ true) × (b ≡ true)
+and_parts true b e = (refl, e)
+and_parts false b e = cc
+
+both : (a b : Bool) → a ≡ true → b ≡ true → (a && b) ≡ true
+both a b ea eb = rw (ea, eb) refl
+
+state_eq-true : (s r : State) → state_eq s r ≡ true → s ≡ r
+state_eq-true s r e =
+    sym (state_numbered-number s) ∙ ap state_numbered ((unsigned_Decides (state_number s) (state_number r)).0 e) ∙ state_numbered-number r
+
+job_eq-true : (j k : JobParts) → job_eq j k ≡ true → j ≡ k
+job_eq-true j k e =
+    let last = and_parts _ (rules_eq j.rules k.rules) e in
+    let configs = and_parts _ (configuration_eq j.config k.config) last.0 in
+    let states = and_parts _ (state_eq j.state k.state) configs.0 in
+    let first = and_parts (bytes_eq j.name k.name) (j.rounds == k.rounds) states.0 in
+    let name = (bytes_decides j.name k.name).0 first.0 in
+    let rounds = (unsigned_Decides j.rounds k.rounds).0 first.1 in
+    let state = state_eq-true j.state k.state states.1 in
+    let config = (configuration_eq-Decides j.config k.config).0 configs.1 in
+    let rules = (rules_eq-Decides j.rules k.rules).0 last.1 in
+    λ i. record { name = name i; rules = rules i; config = config i; rounds = rounds i; state = state i }
+
+job_eq-refl : (j : JobParts) → job_eq j j ≡ true
+job_eq-refl j =
+    both _ _ (both _ _ (both _ _ (both _ _ ((bytes_decides j.name j.name).1 refl) ((unsigned_Decides j.rounds j.rounds).1 refl))
+    ((unsigned_Decides (state_number j.state) (state_number j.state)).1 refl))
+    ((configuration_eq-Decides j.config j.config).1 refl))
+    ((rules_eq-Decides j.rules j.rules).1 refl)
+
+pub job_eq-Decides : (j k : JobParts) → Decides (job_eq j k) (j ≡ k)
+job_eq-Decides j k = (job_eq-true j k, λ e. ap (job_eq j) (sym e) ∙ job_eq-refl j)
+
+pub table_eq-Decides : (t u : List JobParts) → Decides (table_eq t u) (t ≡ u)
+table_eq-Decides t u = pointwise_decides job_eq-Decides t u
+
+pub job_eq-equivalence : IsEquivalence job_eq
+job_eq-equivalence = decided job_eq job_eq-Decides
+
+pub table_eq-equivalence : IsEquivalence table_eq
+table_eq-equivalence = decided table_eq table_eq-Decides

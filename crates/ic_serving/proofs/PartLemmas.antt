@@ -1,0 +1,124 @@
+-- Tables between the events of a line, and what faults say and leave.
+use Rattle.std.proofs.Common.{Bool, true, ◌≡◌, ◌⊎◌, inl, inr, ℕ, zero, suc, ◌<◌, ◌≤◌, List, [], ◌∷◌, ◌++◌, length, take, drop, refl, sym, ap, subst, ◌∙◌, arith, length-append}
+use Rattle.std.proofs.lemmas.List.{take-append-drop, take_all}
+use Rattle.std.proofs.Math.Seq.{take-append_seam}
+use Rattle.ic_jobs.specs.Job.{JobParts}
+use Rattle.ic_jobs.specs.declared.event.Event.{Event}
+use Rattle.ic_jobs.specs.History.{table_after}
+use Rattle.ic_commands.specs.LineText.{ReadsLine}
+use Rattle.ic_lines.specs.Turns.{turns, after_events}
+use Rattle.ic_lines.specs.Answers.{Reading, events}
+use Rattle.ic_serving.specs.declared.fault.ServeFault.{ServeFault}
+use Rattle.ic_serving.specs.declared.fault.ServeFault.TheVariants.{Read, Write, TooManyLines, Book, Pool, LongLine, Memory}
+use Rattle.ic_serving.specs.Parts.{IsPart, IsKeptWithin, IsInLine, IsInFirst}
+use Rattle.ic_serving.specs.Moments.{IsKeptInLine}
+use Rattle.ic_serving.specs.Served.{SaysOf, IsLeftBy}
+use Rattle.ic_serving.specs.Stopped.{IsReached, MayStand}
+
+-- ---- fronts of events
+
+pub part_to : (t u : List JobParts) (es : List Event) → IsPart t es u → (n : ℕ) × (n ≤ length es) × (u ≡ after_events t (take n es))
+part_to t u es p =
+    let sum = ap length p.parted ∙ length-append p.front p.rest in
+    let front : take (length p.front) es ≡ p.front = ap (take (length p.front)) p.parted ∙ take-append_seam p.front p.rest in
+    (length p.front, omega (arith, sum), p.leaves ∙ ap (after_events t) (sym front))
+
+pub part_from : (t u : List JobParts) (es : List Event) → (n : ℕ) × (n ≤ length es) × (u ≡ after_events t (take n es)) → IsPart t es u
+part_from t u es h = record { front = take h.0 es; rest = drop h.0 es; parted = sym (take-append-drop h.0 es); leaves = h.2 }
+
+one_of : (t u : List JobParts) (e : Event) (n : ℕ) → u ≡ after_events t (take n (e ∷ [])) → (u ≡ t) ⊎ (u ≡ table_after t e)
+one_of t u e zero is = inl is
+one_of t u e (suc m) is = inr (is ∙ ap (after_events t) (take_all (suc m) (e ∷ []) (omega arith)))
+
+pub one_to : (t u : List JobParts) (e : Event) → IsPart t (e ∷ []) u → (u ≡ t) ⊎ (u ≡ table_after t e)
+one_to t u e p = let h = part_to t u (e ∷ []) p in one_of t u e h.0 h.2
+
+pub one_from : (t u : List JobParts) (e : Event) → (u ≡ t) ⊎ (u ≡ table_after t e) → IsPart t (e ∷ []) u
+one_from t u e (inl same) = record { front = []; rest = e ∷ []; parted = refl; leaves = same }
+one_from t u e (inr moved) = record { front = e ∷ []; rest = []; parted = refl; leaves = moved }
+
+pub none_to : (t u : List JobParts) → IsPart t [] u → u ≡ t
+none_to t u p = let h = part_to t u [] p in h.2 ∙ ap (after_events t) (take_all h.0 [] (omega arith))
+
+pub none_from : (t u : List JobParts) (es : List Event) → u ≡ t → IsPart t es u
+none_from t u es same = record { front = []; rest = es; parted = refl; leaves = same }
+
+-- a run has no more rounds than it is asked for
+abbrev pub FewLaw : Type 0
+FewLaw = (k place : ℕ) (t : List JobParts) → length (turns k place t) ≤ k
+
+-- a front of a run is a shorter run
+abbrev pub FrontLaw : Type 0
+FrontLaw = (k n place : ℕ) (t : List JobParts) → n ≤ k → take n (turns k place t) ≡ turns n place t
+
+pub run_to : FewLaw → FrontLaw → (t u : List JobParts) (k : ℕ) → IsPart t (turns k 0 t) u → (n : ℕ) × (n ≤ k) × (u ≡ after_events t (turns n 0 t))
+run_to few front t u k p =
+    let h = part_to t u (turns k 0 t) p in
+    let below = h.1 in
+    let short = few k 0 t in
+    let fits : h.0 ≤ k = omega (arith, below, short) in
+    (h.0, fits, h.2 ∙ ap (after_events t) (front k h.0 0 t fits))
+
+pub run_from : FrontLaw → (t u : List JobParts) (k : ℕ) → (n : ℕ) × (n ≤ k) × (u ≡ after_events t (turns n 0 t)) → IsPart t (turns k 0 t) u
+run_from front t u k h = record {
+  front = turns h.0 0 t;
+  rest = drop h.0 (turns k 0 t);
+  parted = sym (take-append-drop h.0 (turns k 0 t)) ∙ ap (λ es. es ++ drop h.0 (turns k 0 t)) (front k h.0 0 t h.1);
+  leaves = h.2;
+}
+
+-- ---- tables within a line
+
+-- a line is read in one way
+abbrev pub OneWay : Type 0
+OneWay = (text : List ℕ) (a b : Reading) → ReadsLine text a → ReadsLine text b → a ≡ b
+
+-- each line is read somehow
+abbrev pub SomeWay : Type 0
+SomeWay = (text : List ℕ) → (a : Reading) × ReadsLine text a
+
+pub line_to : OneWay → (t u : List JobParts) (line : List ℕ) (r : Reading) → ReadsLine line r → IsInLine t line u → IsPart t (events t r) u
+line_to law t u line r reads h = subst (λ (x : Reading). IsPart t (events t x) u) (law line h.reading r h.read reads) h.part
+
+pub line_from : (t u : List JobParts) (line : List ℕ) (r : Reading) → ReadsLine line r → IsPart t (events t r) u → IsInLine t line u
+line_from t u line r reads part = record { reading = r; read = reads; part = part }
+
+pub kept_from : (t kept u : List JobParts) (line : List ℕ) (r : Reading) → ReadsLine line r → IsKeptWithin t kept (events t r) u → IsKeptInLine t kept line u
+kept_from t kept u line r reads (inl same) = inl same
+kept_from t kept u line r reads (inr part) = inr (line_from t u line r reads part)
+
+first_from : SomeWay → (t u : List JobParts) (ls : List (List ℕ)) → u ≡ t → IsInFirst t ls u
+first_from law t u [] same = same
+first_from law t u (line ∷ more) same =
+    let r = law line in line_from t u line r.0 r.1 (none_from t u (events t r.0) same)
+
+-- ---- faults
+
+pub left_within : SomeWay → (fault : ServeFault) (t u : List JobParts) (ls : List (List ℕ)) → IsLeftBy fault t ls u → IsInFirst t ls u
+left_within law Read t u ls left = first_from law t u ls left
+left_within law Write t u ls left = left
+left_within law TooManyLines t u ls left = first_from law t u ls left
+left_within law (Book fault) t u ls left = left
+left_within law (Pool fault) t u ls left = left
+left_within law LongLine t u ls left = first_from law t u ls left
+left_within law Memory t u ls left = left
+
+pub says_long : (front rest : List (List ℕ)) → SaysOf LongLine front rest
+    → (line : List ℕ) × (more : List (List ℕ)) × (rest ≡ line ∷ more) × (length front < 1000000) × (262144 < length line)
+says_long front [] says = absurd says
+says_long front (line ∷ more) says = (line, more, refl, says.0, says.1)
+
+pub says_many : (front rest : List (List ℕ)) → SaysOf TooManyLines front rest
+    → (line : List ℕ) × (more : List (List ℕ)) × (rest ≡ line ∷ more) × (length front ≡ 1000000)
+says_many front [] says = absurd says
+says_many front (line ∷ more) says = (line, more, refl, says)
+
+-- ---- stops
+
+pub stands_all : (kept t u : List JobParts) (ls : List (List ℕ)) → MayStand (true ≡ true) kept t ls u → IsReached t ls u
+stands_all kept t u ls (inl reached) = reached
+stands_all kept t u ls (inr other) = absurd (other.0 refl)
+
+pub stands_else : (all : Bool) (kept t u : List JobParts) (ls : List (List ℕ)) → MayStand (all ≡ true) kept t ls u → IsReached t ls u ⊎ (u ≡ kept)
+stands_else all kept t u ls (inl reached) = inl reached
+stands_else all kept t u ls (inr other) = inr other.1

@@ -1,0 +1,332 @@
+-- The lines of a reader, one after the other.
+use Rattle.std.proofs.Common.{Bool, false, ◌≡◌, ◌≢◌, ◌⊎◌, inl, inr, ℕ, ◌+◌, ◌<◌, ◌≤◌, List, [], ◌∷◌, ◌++◌, Option, None, Some, Result, Ok, Err, length, refl, sym, ap, ap₂, subst, ◌∙◌, arith, append-nil, append_assoc, length-append}
+use Rattle.std.specs.Prelude.{IfErr, replicate}
+use Rattle.std.proofs.lemmas.List.{length-replicate}
+use Rattle.std.specs.List.{AllByRecursion}
+use Rattle.std.specs.Io.KnownBytes.{Appends, Keeps}
+use Rattle.ic_jobs.specs.Job.{JobParts}
+use Rattle.ic_jobs.specs.declared.event.Event.{Event}
+use Rattle.ic_commands.specs.LineText.{ReadsLine}
+use Rattle.ic_text.specs.declared.limits.TheConstants.{MAX_TEXT}
+use Rattle.ic_lines.specs.Lines.{lines}
+use Rattle.ic_lines.specs.Answers.{Reading, events, answer, after_line}
+use Rattle.ic_lines.specs.Serving.{IsServed}
+use Rattle.ic_lines.specs.Taking.{BufferParts, to_come, TakesLine, HasNoLine, HasLongLine, IsTooLong}
+use Rattle.ic_serving.specs.declared.limits.TheConstants.{MAX_LINES}
+use Rattle.ic_serving.specs.declared.fault.ServeFault.{ServeFault}
+use Rattle.ic_serving.specs.declared.fault.ServeFault.TheVariants.{Read, Write, TooManyLines, Book, Pool, LongLine, Memory}
+use Rattle.ic_serving.specs.Parts.{IsPart, IsKeptWithin, IsInLine, IsInFirst}
+use Rattle.ic_serving.specs.Served.{OfLines, MayBeServed, AreAnswered, AppendsFront, SaysOf, IsLeftBy, IsEnded, IsCut}
+use Rattle.ic_serving.specs.Faults.{IsOfBook, CountsServe, StaysReady, fault_of_line}
+use Rattle.ic_lines.specs.declared.buffer.LineFault.{LineFault}
+use Rattle.ic_lines.specs.declared.buffer.LineFault.TheVariants as line_fault
+use Rattle.std.specs.Result.{IsErrAnd}
+use Rattle.ic_serving.specs.inner.Progress.{AreFirst, AreToCome, IsUnderWay}
+use Rattle.ic_serving.proofs.WriteLemmas.{appends_none, appends_kept, appends_more, front_none, front_behind}
+
+-- ---- lines that were answered
+
+-- lines behind other lines are served from the table that those leave
+abbrev pub Joined : Type 0
+Joined = (t u v : List JobParts) (ls more : List (List ℕ)) (a b : List ℕ) → IsServed t ls a u → IsServed u more b v → IsServed t (ls ++ more) (a ++ b) v
+
+pub served_line : (t : List JobParts) (line bytes : List ℕ) (r : Reading) (u : List JobParts) → ReadsLine line r → bytes ≡ answer t r → u ≡ after_line t r
+    → IsServed t (line ∷ []) bytes u
+served_line t line bytes r u reads is left = record {
+  readings = r ∷ [];
+  read = (reads, tt);
+  answered = is ∙ sym (append-nil (answer t r));
+  leaves = left;
+}
+
+pub served_none : (t : List JobParts) → IsServed t [] [] t
+served_none t = record { readings = []; read = tt; answered = refl; leaves = refl }
+
+short_both : (a b : List (List ℕ)) → AllByRecursion (λ line. length line ≤ MAX_TEXT) a → AllByRecursion (λ line. length line ≤ MAX_TEXT) b
+    → AllByRecursion (λ line. length line ≤ MAX_TEXT) (a ++ b)
+short_both [] b p q = q
+short_both (l ∷ ls) b p q = (p.0, short_both ls b p.1 q)
+
+pub within_more : (front : List (List ℕ)) (line : List ℕ) (n : ℕ) → MayBeServed front → length front ≡ n → n < MAX_LINES → length line ≤ MAX_TEXT
+    → MayBeServed (front ++ line ∷ [])
+within_more front line n w counted less short = record {
+  few = omega (arith, counted, less, length-append front (line ∷ []));
+  short = short_both front (line ∷ []) w.short (short, tt);
+}
+
+-- ---- the lines of a reader
+
+-- the lines of what is to come, as far as it is told
+abbrev pub ahead : Option (List ℕ) → List (List ℕ)
+ahead None = []
+ahead (Some rest) = lines rest
+
+pub is_ahead : (rest : Option (List ℕ)) → AreToCome rest (ahead rest)
+is_ahead None = tt
+is_ahead (Some rest) = refl
+
+pub none_ahead : (rest : Option (List ℕ)) → HasNoLine rest → AreToCome rest []
+none_ahead None none = tt
+none_ahead (Some rest) none = none
+
+pub taken : (line : List ℕ) (rest next : Option (List ℕ)) → TakesLine line rest next → AreToCome rest (line ∷ ahead next)
+taken line None next takes = tt
+taken line (Some rest) None takes = absurd takes
+taken line (Some rest) (Some next) takes = takes
+
+-- a line that is too long is to come; where the reader doesn't tell its bytes, some such line
+pub record ComesLong (rest : Option (List ℕ)) : Type 0 where
+  pub line : List ℕ
+  pub more : List (List ℕ)
+  pub coming : AreToCome rest (line ∷ more)
+  pub long : MAX_TEXT < length line
+
+pub comes_long : (rest : Option (List ℕ)) → HasLongLine rest → ComesLong rest
+comes_long None long = record {
+  line = replicate (MAX_TEXT + 1) 0;
+  more = [];
+  coming = tt;
+  long = omega (arith, length-replicate {A = ℕ} (MAX_TEXT + 1) 0);
+}
+comes_long (Some rest) long = record { line = long.line; more = long.rest; coming = long.first; long = long.long }
+
+-- what is so of the first lines and of those to come is so of the lines of the reader
+pub of_lines : (text rest : Option (List ℕ)) (front more : List (List ℕ)) (what : List (List ℕ) → Type 0) → AreFirst text front rest → AreToCome rest more
+    → what (front ++ more) → OfLines text what
+of_lines None rest front more what first coming is = (front ++ more, is)
+of_lines (Some text) None front more what first coming is = absurd first
+of_lines (Some text) (Some rest) front more what first coming is = subst what (sym (first ∙ ap (λ ls. front ++ ls) coming)) is
+
+pub first_none : (text : Option (List ℕ)) (b : BufferParts) → b.ahead ≡ [] → AreFirst text [] (to_come b text)
+first_none None b none = tt
+first_none (Some text) b none = ap (λ xs. lines (xs ++ text)) (sym none)
+
+pub first_more : (text rest next : Option (List ℕ)) (front : List (List ℕ)) (line : List ℕ) → AreFirst text front rest → TakesLine line rest next
+    → AreFirst text (front ++ line ∷ []) next
+first_more None rest next front line first takes = tt
+first_more (Some text) None next front line first takes = absurd first
+first_more (Some text) (Some rest) None front line first takes = absurd takes
+first_more (Some text) (Some rest) (Some next) front line first takes =
+    first ∙ ap (λ ls. front ++ ls) takes ∙ sym (append_assoc front (line ∷ []) (lines next))
+
+-- ---- lines that were answered so far
+
+abbrev pub under_first : (text : Option (List ℕ)) (b : BufferParts) (t : List JobParts) (c : Option (List ℕ)) → b.ahead ≡ []
+    → IsUnderWay text (to_come b text) 0 t t c c
+under_first text b t c none = record {
+  front = [];
+  first = first_none text b none;
+  counted = refl;
+  answered = record {
+    within = record { few = omega arith; short = tt };
+    answers = [];
+    served = served_none t;
+    written = appends_none c;
+  };
+}
+
+abbrev pub under_more : Joined → (text rest next : Option (List ℕ)) (n : ℕ) (t u v : List JobParts) (old mid seen new : Option (List ℕ)) (line bytes : List ℕ) (r : Reading)
+    → IsUnderWay text rest n t u old mid → TakesLine line rest next → length line ≤ MAX_TEXT → n < MAX_LINES
+    → ReadsLine line r → bytes ≡ answer u r → v ≡ after_line u r → Keeps mid seen → Appends seen new bytes
+    → IsUnderWay text next (n + 1) t v old new
+under_more law text rest next n t u v old mid seen new line bytes r way takes short less reads is left kept written =
+    let counted = way.counted in
+    record {
+      front = way.front ++ line ∷ [];
+      first = first_more text rest next way.front line way.first takes;
+      counted = omega (arith, counted, length-append way.front (line ∷ []));
+      answered = record {
+        within = within_more way.front line n way.answered.within way.counted less short;
+        answers = way.answered.answers ++ bytes;
+        served = law t u v way.front (line ∷ []) way.answered.answers bytes way.answered.served (served_line u line bytes r v reads is left);
+        written = appends_more old seen new way.answered.answers bytes (appends_kept old mid seen way.answered.answers way.answered.written kept) written;
+      };
+    }
+
+answered_kept : (ls : List (List ℕ)) (t u : List JobParts) (old mid new : Option (List ℕ)) → AreAnswered ls t u old mid → Keeps mid new → AreAnswered ls t u old new
+answered_kept ls t u old mid new a kept = record {
+  within = a.within;
+  answers = a.answers;
+  served = a.served;
+  written = appends_kept old mid new a.answers a.written kept;
+}
+
+pub over : (text rest : Option (List ℕ)) (n : ℕ) (t u : List JobParts) (old mid new : Option (List ℕ)) → IsUnderWay text rest n t u old mid → HasNoLine rest → Keeps mid new
+    → OfLines text (λ ls. AreAnswered ls t u old new)
+over text rest n t u old mid new way none kept = of_lines text rest way.front [] (λ ls. AreAnswered ls t u old new) way.first (none_ahead rest none)
+    (subst (λ (ls : List (List ℕ)). AreAnswered ls t u old new) (sym (append-nil way.front)) (answered_kept way.front t u old mid new way.answered kept))
+
+-- ---- a fault
+
+pub ended_at : (fault : ServeFault) (all : Type 0) (text rest : Option (List ℕ)) (n : ℕ) (t u v w : List JobParts) (old mid new : Option (List ℕ)) (more : List (List ℕ))
+    → (way : IsUnderWay text rest n t u old mid) → Keeps mid new → AreToCome rest more → SaysOf fault way.front more → IsLeftBy fault u more v → (all → IsLeftBy fault u more w)
+    → OfLines text (λ ls. IsEnded fault all ls t v w old new)
+ended_at fault all text rest n t u v w old mid new more way kept coming says here keeps =
+    of_lines text rest way.front more (λ ls. IsEnded fault all ls t v w old new) way.first coming (record {
+      front = way.front;
+      rest = more;
+      between = u;
+      parted = refl;
+      answered = answered_kept way.front t u old mid new way.answered kept;
+      says = says;
+      in_line = here;
+      keeps = keeps;
+    })
+
+cut_before : (text rest : Option (List ℕ)) (n : ℕ) (t u : List JobParts) (old mid new : Option (List ℕ)) (behind : List (List ℕ)) → IsUnderWay text rest n t u old mid → Keeps mid new
+    → AreToCome rest behind → OfLines text (λ ls. IsCut ls t u old new)
+cut_before text rest n t u old mid new behind way kept coming = of_lines text rest way.front behind (λ ls. IsCut ls t u old new) way.first coming (record {
+  front = way.front;
+  last = [];
+  rest = behind;
+  between = u;
+  answers = way.answered.answers;
+  more = [];
+  parted = sym (append_assoc way.front [] behind);
+  one = omega arith;
+  within = subst MayBeServed (sym (append-nil way.front)) way.answered.within;
+  answered = way.answered.served;
+  done = served_none u;
+  written = front_none old new way.answered.answers (appends_kept old mid new way.answered.answers way.answered.written kept);
+})
+
+pub cut_at : (text rest : Option (List ℕ)) (n : ℕ) (t u : List JobParts) (old mid new : Option (List ℕ)) → IsUnderWay text rest n t u old mid → Keeps mid new
+    → OfLines text (λ ls. IsCut ls t u old new)
+cut_at text rest n t u old mid new way kept = cut_before text rest n t u old mid new (ahead rest) way kept (is_ahead rest)
+
+cut_in_line : (text rest : Option (List ℕ)) (n : ℕ) (t u v : List JobParts) (old mid seen new : Option (List ℕ)) (line bytes : List ℕ) (r : Reading) (behind : List (List ℕ))
+    → IsUnderWay text rest n t u old mid → AreToCome rest (line ∷ behind) → length line ≤ MAX_TEXT → n < MAX_LINES
+    → ReadsLine line r → bytes ≡ answer u r → v ≡ after_line u r → Keeps mid seen → AppendsFront seen new [] bytes → OfLines text (λ ls. IsCut ls t v old new)
+cut_in_line text rest n t u v old mid seen new line bytes r behind way coming short less reads is left kept written =
+    of_lines text rest way.front (line ∷ behind) (λ ls. IsCut ls t v old new) way.first coming (record {
+      front = way.front;
+      last = line ∷ [];
+      rest = behind;
+      between = u;
+      answers = way.answered.answers;
+      more = bytes;
+      parted = sym (append_assoc way.front (line ∷ []) behind);
+      one = omega arith;
+      within = within_more way.front line n way.answered.within way.counted less short;
+      answered = way.answered.served;
+      done = served_line u line bytes r v reads is left;
+      written = front_behind old mid seen new way.answered.answers bytes way.answered.written kept written;
+    })
+
+pub cut_behind : (text rest next : Option (List ℕ)) (n : ℕ) (t u v : List JobParts) (old mid seen new : Option (List ℕ)) (line bytes : List ℕ) (r : Reading)
+    → IsUnderWay text rest n t u old mid → TakesLine line rest next → length line ≤ MAX_TEXT → n < MAX_LINES
+    → ReadsLine line r → bytes ≡ answer u r → v ≡ after_line u r → Keeps mid seen → AppendsFront seen new [] bytes → OfLines text (λ ls. IsCut ls t v old new)
+cut_behind text rest next n t u v old mid seen new line bytes r way takes short less reads is left kept written =
+    cut_in_line text rest n t u v old mid seen new line bytes r (ahead next) way (taken line rest next takes) short less reads is left kept written
+
+-- ---- where a table stands
+
+-- each line is read somehow
+abbrev pub SomeWay : Type 0
+SomeWay = (text : List ℕ) → (a : Reading) × ReadsLine text a
+
+-- before a line, none of its events has come
+pub in_line : SomeWay → (u : List JobParts) (line : List ℕ) → IsInLine u line u
+in_line law u line = let r = law line in record {
+  reading = r.0;
+  read = r.1;
+  part = record { front = []; rest = events u r.0; parted = refl; leaves = refl };
+}
+
+pub in_first : SomeWay → (u : List JobParts) (ls : List (List ℕ)) → IsInFirst u ls u
+in_first law u [] = refl
+in_first law u (line ∷ ls) = in_line law u line
+
+-- nothing of the next line has come
+pub left_first : SomeWay → (fault : ServeFault) (u v : List JobParts) (ls : List (List ℕ)) → v ≡ u → IsLeftBy fault u ls v
+left_first law Read u v ls same = same
+left_first law Write u v ls same = rw same (in_first law u ls)
+left_first law TooManyLines u v ls same = same
+left_first law (Book b) u v ls same = rw same (in_first law u ls)
+left_first law (Pool p) u v ls same = rw same (in_first law u ls)
+left_first law LongLine u v ls same = same
+left_first law Memory u v ls same = rw same (in_first law u ls)
+
+-- some of its events have come
+pub left_within : (fault : ServeFault) (u v : List JobParts) (ls : List (List ℕ)) → IsOfBook fault → IsInFirst u ls v → IsLeftBy fault u ls v
+left_within Read u v ls of there = absurd of
+left_within Write u v ls of there = absurd of
+left_within TooManyLines u v ls of there = absurd of
+left_within (Book b) u v ls of there = there
+left_within (Pool p) u v ls of there = there
+left_within LongLine u v ls of there = absurd of
+left_within Memory u v ls of there = there
+
+pub says_book : (fault : ServeFault) (front more : List (List ℕ)) → IsOfBook fault → SaysOf fault front more
+says_book (Book b) front more of = tt
+says_book (Pool p) front more of = tt
+says_book Memory front more of = tt
+says_book Read front more of = absurd of
+says_book Write front more of = absurd of
+says_book TooManyLines front more of = absurd of
+says_book LongLine front more of = absurd of
+
+-- no line was taken, and these are to come
+pub record NotTaken (f : ServeFault) (rest : Option (List ℕ)) (front : List (List ℕ)) : Type 0 where
+  pub more : List (List ℕ)
+  pub coming : AreToCome rest more
+  pub says : SaysOf f front more
+
+pub not_taken : (e : LineFault) (rest : Option (List ℕ)) (front : List (List ℕ)) → (e ≡ line_fault.LongLine → (length front < MAX_LINES) × HasLongLine rest) → NotTaken (fault_of_line e) rest front
+not_taken line_fault.Read rest front long = record { more = ahead rest; coming = is_ahead rest; says = tt }
+not_taken line_fault.Write rest front long = record { more = ahead rest; coming = is_ahead rest; says = tt }
+not_taken line_fault.LongLine rest front long =
+    let is = long refl in
+    let comes = comes_long rest is.1 in
+    record { more = comes.line ∷ comes.more; coming = comes.coming; says = (is.0, comes.long) }
+not_taken line_fault.Memory rest front long = record { more = ahead rest; coming = is_ahead rest; says = tt }
+
+-- nor behind the last line that may be served
+pub none_behind : (e : LineFault) (f : ServeFault) (rest : Option (List ℕ)) (front : List (List ℕ)) → (e ≡ line_fault.LongLine → f ≡ TooManyLines) → (e ≢ line_fault.LongLine → f ≡ fault_of_line e)
+    → length front ≡ MAX_LINES → (e ≡ line_fault.LongLine → HasLongLine rest) → NotTaken f rest front
+none_behind line_fault.LongLine f rest front many others full long =
+    let comes = comes_long rest (long refl) in
+    record { more = comes.line ∷ comes.more; coming = comes.coming; says = (let is = many refl in rw is full) }
+none_behind line_fault.Read f rest front many others full long = let is = others (λ e. cc) in record { more = ahead rest; coming = is_ahead rest; says = rw is tt }
+none_behind line_fault.Write f rest front many others full long = let is = others (λ e. cc) in record { more = ahead rest; coming = is_ahead rest; says = rw is tt }
+none_behind line_fault.Memory f rest front many others full long = let is = others (λ e. cc) in record { more = ahead rest; coming = is_ahead rest; says = rw is tt }
+
+-- where all was kept, the table that was kept last is before the events or after a front of them
+pub kept_part : (u kept : List JobParts) (es : List Event) (w : List JobParts) → kept ≡ u → IsKeptWithin u kept es w → IsPart u es w
+kept_part u kept es w all (inl same) = record { front = []; rest = es; parted = refl; leaves = same ∙ all }
+kept_part u kept es w all (inr part) = part
+
+-- no failure of the disk is counted where no line is taken
+pub counts_line : (e : LineFault) (old new : ℕ) → new ≡ old → CountsServe {T = Unit {0}} (Err (fault_of_line e)) old new
+counts_line line_fault.Read old new same = same
+counts_line line_fault.Write old new same = same
+counts_line line_fault.LongLine old new same = same
+counts_line line_fault.Memory old new same = same
+
+pub counts_behind : (e : LineFault) (f : ServeFault) (old new : ℕ) → (e ≡ line_fault.LongLine → f ≡ TooManyLines) → (e ≢ line_fault.LongLine → f ≡ fault_of_line e)
+    → new ≡ old → CountsServe {T = Unit {0}} (Err f) old new
+counts_behind line_fault.LongLine f old new many others same = let is = many refl in rw is same
+counts_behind line_fault.Read f old new many others same = let is = others (λ e. cc) in rw is same
+counts_behind line_fault.Write f old new many others same = let is = others (λ e. cc) in rw is same
+counts_behind line_fault.Memory f old new many others same = let is = others (λ e. cc) in rw is same
+
+-- nor is the book broken
+pub ready_behind : (e : LineFault) (f : ServeFault) (broken : Bool) (number : ℕ) → (e ≡ line_fault.LongLine → f ≡ TooManyLines) → (e ≢ line_fault.LongLine → f ≡ fault_of_line e)
+    → broken ≡ false → StaysReady f broken number
+ready_behind line_fault.LongLine f broken number many others same = let is = many refl in rw is same
+ready_behind line_fault.Read f broken number many others same = let is = others (λ e. cc) in rw is same
+ready_behind line_fault.Write f broken number many others same = let is = others (λ e. cc) in rw is same
+ready_behind line_fault.Memory f broken number many others same = let is = others (λ e. cc) in rw is same
+
+pub counts_memory : {T : Type 0} (r : Result T ServeFault) (n : ℕ) → IfErr r (λ f. f ≡ Memory) → CountsServe r n n
+counts_memory (Ok v) n is = refl
+counts_memory (Err f) n is = rw is refl
+
+pub ready_memory : {T : Type 0} (r : Result T ServeFault) (broken : Bool) (number : ℕ) → IfErr r (λ f. f ≡ Memory) → broken ≡ false → IfErr r (λ f. StaysReady f broken number)
+ready_memory (Ok v) broken number is same = tt
+ready_memory (Err f) broken number is same = rw is same
+
+pub ended_err : {T : Type 0} (r : Result T ServeFault) (f : ServeFault) (P : ServeFault → Type 0) → IsErrAnd r (λ x. x ≡ f) → (f ≢ Write → P f)
+    → IfErr r (λ x. x ≢ Write → P x)
+ended_err (Ok v) f P is p = tt
+ended_err (Err x) f P is p = let same : x ≡ f = is in λ other. rw same (p (λ w. other (same ∙ w)))

@@ -1,0 +1,293 @@
+-- What a crash in the midst of a call leaves, call by call.
+use Rattle.std.proofs.Common.{false, Ok, Err, ◌≡◌, ◌≢◌, ◌⊎◌, inl, inr, ⊎_elim, ℕ, ◌+◌, ◌<◌, ◌≤◌, List, [], ◌∷◌, ◌++◌, Option, None, Some, true, length, refl, sym, ap, subst, ◌∙◌, arith, append-nil, append_assoc}
+use Rattle.std.specs.Prelude.{IsTrue}
+use Rattle.std.proofs.lemmas.Bool.{cases_lt}
+use Rattle.ic_disk.specs.declared.disk.Disk.{Ghosts}
+use Rattle.ic_disk.specs.Images.{Within}
+use Rattle.ic_disk.specs.Time.{LeavesOnly}
+use Rattle.ic_disk.specs.lemmas.Moments.{started, then_runs, leaves_weaker}
+use Rattle.ic_jobs.specs.declared.command.Command.{Command}
+use Rattle.ic_jobs.specs.declared.event.Entry.{Entry}
+use Rattle.ic_jobs.specs.declared.event.Event.{Event}
+use Rattle.ic_jobs.specs.declared.event.Event.TheVariants.{Command as by_command}
+use Rattle.ic_jobs.specs.declared.reply.Reply.{Reply}
+use Rattle.ic_jobs.specs.Job.{JobParts}
+use Rattle.ic_jobs.specs.History.{table_after, replay}
+use Rattle.ic_frames.specs.Fields.{IsMade}
+use Rattle.ic_slots.specs.declared.keeper.Keeper.{Keeper}
+use Rattle.ic_slots.specs.Held.{HoldsTable, HoldsEitherTable}
+use Rattle.ic_slots.specs.Keeper as keeper_parts
+use Rattle.ic_commands.specs.LineText.{ReadsLine}
+use Rattle.ic_commands.specs.declared.line.Line.TheVariants.{Blank, Run, Command as Asks}
+use Rattle.ic_lines.specs.Lines.{lines}
+use Rattle.ic_lines.specs.Turns.{after_events, turns}
+use Rattle.ic_lines.specs.Answers.{Reading, events}
+use Rattle.ic_lines.specs.Taking.{TakesLine}
+use Rattle.ic_desk.specs.declared.book.Book.{Book}
+use Rattle.ic_desk.specs.Book.{is_broken, start_of, log_of, table_of, kept_of, keeper_of, disk_of, IsUnchanged}
+use Rattle.ic_desk.specs.Entries.{AddsCommand, command_entry}
+use Rattle.ic_desk.specs.Kept.{HoldsKeptOrAll, table_kept}
+use Rattle.ic_serving.specs.Booked.{last_kept, IsAllKept, IsOnMadeDisk, StaysPut}
+use Rattle.ic_serving.specs.Answered.{IsKeptFor}
+use Rattle.ic_serving.specs.Parts.{IsPart, IsKeptWithin, IsInLine, IsInFirst}
+use Rattle.ic_serving.specs.Stopped.{HoldsOne, IsReached, MayStand}
+use Rattle.ic_serving.specs.Moments.{Leaves, IsKeptOrNow, IsKeptInLine}
+use Rattle.ic_serving.specs.Served.{OfLines, MayBeServed}
+use Rattle.ic_lines.specs.Serving.{IsServed}
+use Rattle.ic_serving.specs.inner.Progress.{AreFirst, IsUnderWay}
+use Rattle.ic_serving.proofs.LineLemmas.{kept_behind}
+use Rattle.ic_serving.proofs.RunLemmas.{InRun, run_begun}
+use Rattle.ic_serving.proofs.ServeLemmas.{SomeWay, in_line, in_first, served_none, ahead, is_ahead, of_lines}
+
+-- ---- which tables
+
+-- before any of some events
+pub kept_or_now : (t kept : List JobParts) (es : List Event) (u : List JobParts) → (u ≡ kept) ⊎ (u ≡ t) → IsKeptWithin t kept es u
+kept_or_now t kept es u (inl stays) = inl stays
+kept_or_now t kept es u (inr now) = inr (record { front = []; rest = es; parted = refl; leaves = now })
+
+-- behind all of them
+pub kept_or_all : (t kept : List JobParts) (es : List Event) (v w u : List JobParts) → v ≡ after_events t es → IsKeptWithin t kept es w
+    → (u ≡ w) ⊎ (u ≡ v) → IsKeptWithin t kept es u
+kept_or_all t kept es v w u all within (inl stays) = rw stays within
+kept_or_all t kept es v w u all within (inr now) = inr (record { front = es; rest = []; parted = sym (append-nil es); leaves = now ∙ all })
+
+-- in the midst of a run
+pub kept_in_run : (t kept : List JobParts) (count made place : ℕ) (v w u : List JobParts) → InRun t kept count made place v w
+    → (u ≡ w) ⊎ (u ≡ v) → IsKeptWithin t kept (turns count 0 t) u
+kept_in_run t kept count made place v w u run either = (run_begun t kept count made place v w v u run refl either).1
+
+-- within a line that is read so
+pub kept_in_line : (t kept : List JobParts) (line : List ℕ) (r : Reading) (u : List JobParts) → ReadsLine line r → IsKeptWithin t kept (events t r) u
+    → IsKeptInLine t kept line u
+kept_in_line t kept line r u reads (inl stays) = inl stays
+kept_in_line t kept line r u reads (inr part) = inr (record { reading = r; read = reads; part = part })
+
+replay_more : (t : List JobParts) (h : List Entry) (e : Entry) → replay t (h ++ e ∷ []) ≡ table_after (replay t h) e.event
+replay_more t [] e = refl
+replay_more t (x ∷ xs) e = replay_more (table_after t x.event) xs e
+
+all_or_not : (m n : ℕ) → (m ≡ n) ⊎ (m ≢ n)
+all_or_not m n = ⊎_elim
+    (λ less. inr (λ same. omega (arith, less, same)))
+    (λ more. ⊎_elim (λ less. inr (λ same. omega (arith, less, same))) (λ fewer. inl (omega (arith, more, fewer))) (cases_lt n m))
+    (cases_lt m n)
+
+pub reached_now : SomeWay → (t : List JobParts) (ls : List (List ℕ)) → IsReached t ls t
+reached_now law t ls = record {
+  front = [];
+  rest = ls;
+  answers = [];
+  between = t;
+  parted = refl;
+  within = record { few = omega arith; short = tt };
+  served = served_none t;
+  in_line = in_first law t ls;
+}
+
+-- more lines come
+longer : SomeWay → (between u : List JobParts) (rest more : List (List ℕ)) → IsInFirst between rest u → IsInFirst between (rest ++ more) u
+longer law between u [] more here = subst (IsInFirst between more) (sym here) (in_first law between more)
+longer law between u (line ∷ rest) more here = here
+
+pub reached_longer : SomeWay → (t : List JobParts) (ls more : List (List ℕ)) (u : List JobParts) → IsReached t ls u → IsReached t (ls ++ more) u
+reached_longer law t ls more u r = record {
+  front = r.front;
+  rest = r.rest ++ more;
+  answers = r.answers;
+  between = r.between;
+  parted = ap (λ xs. xs ++ more) r.parted ∙ append_assoc r.front r.rest more;
+  within = r.within;
+  served = r.served;
+  in_line = longer law r.between u r.rest more r.in_line;
+}
+
+may_longer : SomeWay → (all : Type 0) (kept t : List JobParts) (ls more : List (List ℕ)) (u : List JobParts) → MayStand all kept t ls u → MayStand all kept t (ls ++ more) u
+may_longer law all kept t ls more u (inl r) = inl (reached_longer law t ls more u r)
+may_longer law all kept t ls more u (inr put) = inr put
+
+-- ---- calls
+
+module _ {D : Type 0} {ghosts : Ghosts D} where
+  pub leaves_more : (old new : Book D ghosts) (P Q : List JobParts → Type 0) → Leaves old new P → ((u : List JobParts) → P u → Q u) → Leaves old new Q
+  leaves_more old new P Q run weaker = record {
+    keeps = run.keeps;
+    stays = run.stays;
+    any_moment = λ is. leaves_weaker ghosts.clock ghosts.left (disk_of old) (disk_of new) (HoldsOne P) (HoldsOne Q) (run.any_moment is)
+        (λ file holds. (holds.0, weaker holds.0 holds.1, holds.2));
+  }
+
+  -- one call after another
+  pub leaves_then : (old mid new : Book D ghosts) (P Q : List JobParts → Type 0) → Leaves old mid P → Leaves mid new Q
+      → ((u : List JobParts) → Q u → P u) → Leaves old new P
+  leaves_then old mid new P Q first second weaker = record {
+    keeps = second.keeps ∙ first.keeps;
+    stays = λ is. second.stays (first.stays is);
+    any_moment = λ is. then_runs ghosts.clock ghosts.left (disk_of old) (disk_of mid) (disk_of new) (HoldsOne P) (HoldsOne Q)
+        (first.any_moment is) (second.any_moment (first.stays is))
+        (λ file holds. (holds.0, weaker holds.0 holds.1, holds.2));
+  }
+
+  -- a call after which the disk is the same
+  pub leaves_still : (old mid new : Book D ghosts) (P : List JobParts → Type 0) → Leaves old mid P → keeper_of new ≡ keeper_of mid
+      → Leaves old new P
+  leaves_still old mid new P run keeper =
+      let disk : disk_of new ≡ disk_of mid = ap (λ (k : Keeper D ghosts). keeper_parts.disk_of k) keeper in
+      record {
+        keeps = ap ghosts.keeps disk ∙ run.keeps;
+        stays = λ is. (ap ghosts.keeps disk ∙ (run.stays is).0, subst (λ (d : D). Within (ghosts.image d) IsMade) (sym disk) (run.stays is).1);
+        any_moment = λ is. subst (λ (d : D). LeavesOnly ghosts.clock ghosts.left (disk_of old) d (HoldsOne P)) (sym disk) (run.any_moment is);
+      }
+
+  -- a call of the book
+  pub leaves_call : (old new : Book D ghosts) (a b : List JobParts) (P : List JobParts → Type 0)
+      → ghosts.keeps (disk_of new) ≡ ghosts.keeps (disk_of old) → (IsTrue (ghosts.keeps (disk_of old)) → Within (ghosts.image (disk_of old)) IsMade → Within (ghosts.image (disk_of new)) IsMade)
+      → (IsTrue (ghosts.keeps (disk_of old)) → Within (ghosts.image (disk_of old)) IsMade → LeavesOnly ghosts.clock ghosts.left (disk_of old) (disk_of new) (HoldsEitherTable a b))
+      → P a → P b → Leaves old new P
+  leaves_call old new a b P keeps made run first second = record {
+    keeps = keeps;
+    stays = λ is. (keeps ∙ is.0, made is.0 is.1);
+    any_moment = λ is. leaves_weaker ghosts.clock ghosts.left (disk_of old) (disk_of new) (HoldsEitherTable a b) (HoldsOne P) (run is.0 is.1)
+        (λ file holds. ⊎_elim (λ (h : HoldsTable a file). (a, first, h)) (λ (h : HoldsTable b file). (b, second, h)) holds);
+  }
+
+  -- no call at all
+  pub leaves_nothing : (book : Book D ghosts) (P : List JobParts → Type 0)
+      → ((file : List ℕ) → ghosts.left (disk_of book) (ghosts.clock (disk_of book)) file → ghosts.image (disk_of book) file)
+      → (IsTrue (ghosts.keeps (disk_of book)) → Within (ghosts.image (disk_of book)) IsMade → Within (ghosts.image (disk_of book)) (HoldsKeptOrAll (start_of book) (log_of book) (kept_of book)))
+      → replay (start_of book) (log_of book) ≡ table_of book → P (last_kept book) → P (table_of book) → Leaves book book P
+  leaves_nothing book P law either replayed kept now =
+      let all : P (replay (start_of book) (log_of book)) = subst P (sym replayed) now in
+      record {
+        keeps = refl;
+        stays = λ is. is;
+        any_moment = λ is. started ghosts.clock ghosts.left (disk_of book) (HoldsOne P) (λ file left. ⊎_elim
+            (λ (h : HoldsTable (last_kept book) file). (last_kept book, kept, h))
+            (λ (h : HoldsTable (replay (start_of book) (log_of book)) file). (replay (start_of book) (log_of book), all, h))
+            (either is.0 is.1 file (law file left)));
+      }
+
+  -- a command that stands in the book
+  pub leaves_command : (old mid new : Book D ghosts) (c : Command) (r : Reply) → Leaves old mid (IsKeptOrNow old) → StaysPut old mid
+      → replay (start_of mid) (log_of mid) ≡ table_of mid → kept_of mid ≤ length (log_of mid)
+      → AddsCommand 0 c r (log_of mid) (log_of new) (table_of mid) (table_of new)
+      → ghosts.keeps (disk_of new) ≡ ghosts.keeps (disk_of mid) → (IsTrue (ghosts.keeps (disk_of mid)) → Within (ghosts.image (disk_of mid)) IsMade → Within (ghosts.image (disk_of new)) IsMade)
+      → (IsTrue (ghosts.keeps (disk_of mid)) → Within (ghosts.image (disk_of mid)) IsMade
+      → LeavesOnly ghosts.clock ghosts.left (disk_of mid) (disk_of new) (HoldsKeptOrAll (start_of mid) (log_of new) (kept_of mid)))
+      → Leaves old new (IsKeptWithin (table_of old) (last_kept old) (by_command c ∷ []))
+  leaves_command old mid new c r so_far put replayed within adds keeps made run =
+      let kept_there : table_kept (start_of mid) (log_of new) (kept_of mid) ≡ last_kept mid =
+      kept_behind (start_of mid) (start_of mid) (log_of mid) (log_of new) (command_entry 0 c r) (kept_of mid) (kept_of mid) refl adds.entry refl within in
+      let all_there : replay (start_of mid) (log_of new) ≡ table_after (table_of old) (by_command c) =
+      ap (replay (start_of mid)) adds.entry ∙ replay_more (start_of mid) (log_of mid) (command_entry 0 c r)
+      ∙ ap (λ y. table_after y (by_command c)) (replayed ∙ put.table) in
+      leaves_then old mid new (IsKeptWithin (table_of old) (last_kept old) (by_command c ∷ [])) (IsKeptWithin (table_of old) (last_kept old) (by_command c ∷ []))
+      (leaves_more old mid (IsKeptOrNow old) (IsKeptWithin (table_of old) (last_kept old) (by_command c ∷ [])) so_far
+      (kept_or_now (table_of old) (last_kept old) (by_command c ∷ [])))
+      (leaves_call mid new (table_kept (start_of mid) (log_of new) (kept_of mid)) (replay (start_of mid) (log_of new))
+      (IsKeptWithin (table_of old) (last_kept old) (by_command c ∷ [])) keeps made run
+      (subst (IsKeptWithin (table_of old) (last_kept old) (by_command c ∷ [])) (sym kept_there) (kept_or_now (table_of old) (last_kept old) (by_command c ∷ []) (last_kept mid) put.kept))
+      (inr (record { front = by_command c ∷ []; rest = []; parted = refl; leaves = all_there })))
+      (λ u is. is)
+
+  -- one step of a run
+  pub leaves_in_run : (first book new : Book D ghosts) (count made place : ℕ) → InRun (table_of first) (last_kept first) count made place (table_of book) (last_kept book)
+      → Leaves first book (IsKeptWithin (table_of first) (last_kept first) (turns count 0 (table_of first))) → Leaves book new (IsKeptOrNow book)
+      → Leaves first new (IsKeptWithin (table_of first) (last_kept first) (turns count 0 (table_of first)))
+  leaves_in_run first book new count made place run so_far step = leaves_then first book new
+      (IsKeptWithin (table_of first) (last_kept first) (turns count 0 (table_of first))) (IsKeptOrNow book) so_far step
+      (λ u either. kept_in_run (table_of first) (last_kept first) count made place (table_of book) (last_kept book) u run either)
+
+  -- ---- lines
+
+  -- a crash since the first book leaves what these lines reach
+  abbrev pub LeavesServed : (first new : Book D ghosts) → List (List ℕ) → Type 0
+  LeavesServed first new ls = Leaves first new (MayStand (IsAllKept first) (last_kept first) (table_of first) ls)
+
+  -- so many lines were served, and what a crash leaves since the first book
+  pub record Serves (text rest : Option (List ℕ)) (count : ℕ) (first book : Book D ghosts) (old new : Option (List ℕ)) : Type 0 where
+    pub way : IsUnderWay text rest count (table_of first) (table_of book) old new
+    pub kept : IsAllKept first → IsAllKept book
+    pub counted : ghosts.failures (disk_of book) ≡ ghosts.failures (disk_of first)
+    pub ready : is_broken first ≡ false → is_broken book ≡ false
+    pub last : IsAllKept book ⊎ (last_kept book ≡ last_kept first)
+    pub moments : LeavesServed first book way.front
+
+  pub stops_first : SomeWay → (book : Book D ghosts)
+      → ((file : List ℕ) → ghosts.left (disk_of book) (ghosts.clock (disk_of book)) file → ghosts.image (disk_of book) file)
+      → (IsTrue (ghosts.keeps (disk_of book)) → Within (ghosts.image (disk_of book)) IsMade → Within (ghosts.image (disk_of book)) (HoldsKeptOrAll (start_of book) (log_of book) (kept_of book)))
+      → replay (start_of book) (log_of book) ≡ table_of book → (IsAllKept book → last_kept book ≡ table_of book) → LeavesServed book book []
+  stops_first law book images either replayed whole = leaves_nothing book (MayStand (IsAllKept book) (last_kept book) (table_of book) []) images either replayed
+      (⊎_elim (λ all. inl (subst (IsReached (table_of book) []) (sym (whole all)) (reached_now law (table_of book) []))) (λ less. inr (less, refl))
+      (all_or_not (kept_of book) (length (log_of book))))
+      (inl (reached_now law (table_of book) []))
+
+  -- a table within the next line
+  may_stand : SomeWay → (first book : Book D ghosts) (front : List (List ℕ)) (line answers : List ℕ)
+      → MayBeServed front → IsServed (table_of first) front answers (table_of book)
+      → (IsAllKept first → IsAllKept book) → IsAllKept book ⊎ (last_kept book ≡ last_kept first) → (IsAllKept book → last_kept book ≡ table_of book)
+      → (u : List JobParts) → IsKeptInLine (table_of book) (last_kept book) line u → MayStand (IsAllKept first) (last_kept first) (table_of first) (front ++ line ∷ []) u
+  may_stand law first book front line answers within served stays last whole u is = ⊎_elim
+      (λ (same : u ≡ last_kept book). ⊎_elim
+      (λ (all : IsAllKept book). inl (at_table (same ∙ whole all)))
+      (λ (put : last_kept book ≡ last_kept first). ⊎_elim
+      (λ all. inl (at_table (same ∙ whole (stays all))))
+      (λ less. inr (less, same ∙ put))
+      (all_or_not (kept_of first) (length (log_of first))))
+      last)
+      (λ (there : IsInLine (table_of book) line u). inl (reached u there))
+      is
+    where
+      reached : (v : List JobParts) → IsInLine (table_of book) line v → IsReached (table_of first) (front ++ line ∷ []) v
+      reached v here = record {
+        front = front;
+        rest = line ∷ [];
+        answers = answers;
+        between = table_of book;
+        parted = refl;
+        within = within;
+        served = served;
+        in_line = here;
+      }
+
+      at_table : u ≡ table_of book → IsReached (table_of first) (front ++ line ∷ []) u
+      at_table same = subst (IsReached (table_of first) (front ++ line ∷ [])) (sym same) (reached (table_of book) (in_line law (table_of book) line))
+
+  pub stops_more : SomeWay → (text rest : Option (List ℕ)) (n : ℕ) (first book new : Book D ghosts) (old mid : Option (List ℕ)) (line : List ℕ)
+      → (s : Serves text rest n first book old mid) → (IsAllKept book → last_kept book ≡ table_of book)
+      → Leaves book new (IsKeptInLine (table_of book) (last_kept book) line) → LeavesServed first new (s.way.front ++ line ∷ [])
+  stops_more law text rest n first book new old mid line s whole step =
+      leaves_then first book new (MayStand (IsAllKept first) (last_kept first) (table_of first) (s.way.front ++ line ∷ [])) (IsKeptInLine (table_of book) (last_kept book) line)
+      (leaves_more first book (MayStand (IsAllKept first) (last_kept first) (table_of first) s.way.front) (MayStand (IsAllKept first) (last_kept first) (table_of first) (s.way.front ++ line ∷ [])) s.moments
+      (may_longer law (IsAllKept first) (last_kept first) (table_of first) s.way.front (line ∷ [])))
+      step
+      (may_stand law first book s.way.front line s.way.answered.answers s.way.answered.within s.way.answered.served s.kept s.last whole)
+
+  pub stops_now : SomeWay → (text rest : Option (List ℕ)) (front : List (List ℕ)) (first new : Book D ghosts) → AreFirst text front rest → LeavesServed first new front → IsOnMadeDisk first
+      → OfLines text (λ ls. LeavesOnly ghosts.clock ghosts.left (disk_of first) (disk_of new) (HoldsOne (MayStand (IsAllKept first) (last_kept first) (table_of first) ls)))
+  stops_now law text rest front first new is_first run is =
+      of_lines text rest front (ahead rest) (λ ls. LeavesOnly ghosts.clock ghosts.left (disk_of first) (disk_of new) (HoldsOne (MayStand (IsAllKept first) (last_kept first) (table_of first) ls)))
+      is_first (is_ahead rest)
+      ((leaves_more first new (MayStand (IsAllKept first) (last_kept first) (table_of first) front) (MayStand (IsAllKept first) (last_kept first) (table_of first) (front ++ ahead rest)) run
+      (may_longer law (IsAllKept first) (last_kept first) (table_of first) front (ahead rest))).any_moment is)
+
+  -- what a line leaves keeps
+  -- all is kept, or nothing has changed
+  pub kept_or_same : (r : Reading) (old new : Book D ghosts) → IsKeptFor r old new → IsAllKept new ⊎ IsUnchanged old new
+  kept_or_same (Ok Blank) old new is = inr is
+  kept_or_same (Ok (Asks command)) old new is = inl is
+  kept_or_same (Ok (Run count)) old new is = inl is
+  kept_or_same (Err fault) old new is = inr is
+
+  pub still_all : (old new : Book D ghosts) → IsAllKept new ⊎ IsUnchanged old new → IsAllKept old → IsAllKept new
+  still_all old new (inl all) was = all
+  still_all old new (inr same) was = same.same_kept ∙ was ∙ ap length (sym same.same_log)
+
+  pub still_last : (first old new : Book D ghosts) → IsAllKept new ⊎ IsUnchanged old new → IsAllKept old ⊎ (last_kept old ≡ last_kept first)
+      → IsAllKept new ⊎ (last_kept new ≡ last_kept first)
+  still_last first old new (inl all) was = inl all
+  still_last first old new (inr same) (inl was) = inl (still_all old new (inr same) was)
+  still_last first old new (inr same) (inr was) = inr (last_same ∙ was)
+    where
+      last_same : last_kept new ≡ last_kept old
+      last_same = let s = same.same_start in let l = same.same_log in let k = same.same_kept in cc

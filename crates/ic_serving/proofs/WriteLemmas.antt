@@ -1,0 +1,61 @@
+-- What a writer holds.
+use Rattle.std.proofs.Common.{◌≡◌, ℕ, ◌-◌, List, [], ◌++◌, Option, None, Some, length, take, drop, sym, ap, subst, ◌∙◌, append-nil, append_assoc, take-append-drop, refl}
+use Rattle.std.proofs.lemmas.List.{take_rest}
+use Rattle.std.specs.Io.KnownBytes.{Appends, Keeps}
+use Rattle.ic_serving.specs.Served.{AppendsFront}
+
+pub appends_none : (c : Option (List ℕ)) → Appends c c []
+appends_none None = tt
+appends_none (Some xs) = sym (append-nil xs)
+
+pub appends_kept : (old mid new : Option (List ℕ)) (a : List ℕ) → Appends old mid a → Keeps mid new → Appends old new a
+appends_kept None mid new a p q = tt
+appends_kept (Some xs) None new a p q = absurd p
+appends_kept (Some xs) (Some ys) None a p q = absurd q
+appends_kept (Some xs) (Some ys) (Some zs) a p q = q ∙ p
+
+pub appends_more : (old mid new : Option (List ℕ)) (a b : List ℕ) → Appends old mid a → Appends mid new b → Appends old new (a ++ b)
+appends_more None mid new a b p q = tt
+appends_more (Some xs) None new a b p q = absurd p
+appends_more (Some xs) (Some ys) None a b p q = absurd q
+appends_more (Some xs) (Some ys) (Some zs) a b p q = q ∙ ap (λ c. c ++ b) p ∙ append_assoc xs a b
+
+-- a front of an answer is written, and this is the rest of it
+pub record IsSent (answer rest : List ℕ) (old now : Option (List ℕ)) : Type 0 where
+  pub sent : List ℕ
+  pub parted : answer ≡ sent ++ rest
+  pub written : Appends old now sent
+
+pub sent_none : (answer : List ℕ) (c : Option (List ℕ)) → IsSent answer answer c c
+sent_none answer c = record { sent = []; parted = refl; written = appends_none c }
+
+pub sent_more : (answer rest : List ℕ) (n : ℕ) (old mid new : Option (List ℕ)) → IsSent answer rest old mid → Appends mid new (take n rest)
+    → IsSent answer (take (length rest - n) (drop n rest)) old new
+sent_more answer rest n old mid new s more = record {
+  sent = s.sent ++ take n rest;
+  parted = s.parted ∙ ap (λ l. s.sent ++ l) (sym (take-append-drop n rest)) ∙ sym (append_assoc s.sent (take n rest) (drop n rest))
+      ∙ ap (λ l. (s.sent ++ take n rest) ++ l) (sym (take_rest rest n));
+  written = appends_more old mid new s.sent (take n rest) s.written more;
+}
+
+pub sent_kept : (answer rest : List ℕ) (old mid new : Option (List ℕ)) → IsSent answer rest old mid → Keeps mid new → IsSent answer rest old new
+sent_kept answer rest old mid new s kept = record { sent = s.sent; parted = s.parted; written = appends_kept old mid new s.sent s.written kept }
+
+pub sent_all : (answer : List ℕ) (old now : Option (List ℕ)) → IsSent answer [] old now → Appends old now answer
+sent_all answer old now s = subst (Appends old now) (sym (s.parted ∙ append-nil s.sent)) s.written
+
+pub sent_front : (answer rest : List ℕ) (old now : Option (List ℕ)) → IsSent answer rest old now → AppendsFront old now [] answer
+sent_front answer rest old now s = record { sent = s.sent; unsent = rest; parted = s.parted; written = s.written }
+
+-- these bytes, and none behind them
+pub front_none : (old now : Option (List ℕ)) (bytes : List ℕ) → Appends old now bytes → AppendsFront old now bytes []
+front_none old now bytes written = record { sent = []; unsent = []; parted = refl; written = subst (Appends old now) (sym (append-nil bytes)) written }
+
+-- behind bytes that were written
+pub front_behind : (old mid seen new : Option (List ℕ)) (a b : List ℕ) → Appends old mid a → Keeps mid seen → AppendsFront seen new [] b → AppendsFront old new a b
+front_behind old mid seen new a b written kept front = record {
+  sent = front.sent;
+  unsent = front.unsent;
+  parted = front.parted;
+  written = appends_more old seen new a front.sent (appends_kept old mid seen a written kept) front.written;
+}

@@ -1,0 +1,88 @@
+use Rattle.std.proofs.Common.{◌≡◌, ◌⊎◌, inl, inr, Err, refl, ap, sym, ◌∙◌, [], ◌∷◌}
+use Rattle.ic_jobs.specs.declared.event.Event.TheVariants.{Command as by_command}
+use Rattle.ic_jobs.specs.History.{table_after}
+use Rattle.ic_desk.specs.Book.{table_of, start_of, log_of, kept_of, IsUnchanged}
+use Rattle.ic_desk.specs.Entries.{command_entry}
+use Rattle.ic_serving.specs.Booked.{last_kept, Begins}
+use Rattle.ic_serving.proofs.RunLemmas.{kept_same, on_err}
+use Rattle.ic_serving.proofs.LineLemmas.{device_or_not, begun_none, begun_one, begun_kept, after_event, kept_behind, kept_all}
+use Rattle.ic_serving.specs.Parts.{IsKeptWithin}
+use Rattle.ic_serving.specs.Moments.{IsKeptOrNow}
+use Rattle.ic_serving.proofs.StopLemmas.{kept_or_now, leaves_more, leaves_still, leaves_command}
+use Rattle.ic_serving.proofs.answering.answer_command.Goals as goal
+
+pub returns-in_err-reply-clause-begun : goal.returns-in_err-reply-clause-begun
+returns-in_err-reply-clause-begun g c =
+    let s = c.in_ok-make_room.ensures.stays in
+    elim (device_or_not c.in_err-reply.field-0.0) [
+      | inl is ↦ (let err = ap (λ e. Err e) is in
+          let added = c.in_err-reply.ensures.unanswered err in
+          let moved = after_event (table_of c.make_room.new.book) (table_of c.command.new.self) (by_command c.args.command) added.0 added.1.event in
+          let same : last_kept c.command.new.self ≡ last_kept c.make_room.new.book = kept_behind (start_of c.make_room.new.book) (start_of c.command.new.self)
+          (log_of c.make_room.new.book) (log_of c.command.new.self) (command_entry 0 c.args.command added.0) (kept_of c.make_room.new.book) (kept_of c.command.new.self)
+          c.command.ensures.start added.1.entry (c.in_err-reply.ensures.unkept err) c.facts.ensures.history.within in
+          let b = begun_one (table_of c.args.book.now) (last_kept c.args.book.now) (by_command c.args.command) (table_of c.command.new.self) (last_kept c.command.new.self)
+          (moved ∙ ap (λ y. table_after y (by_command c.args.command)) s.table) (rw same s.kept) in
+          on_err c.from_residual-in_err-reply.result _ (record { table = b.0; kept = b.1 }))
+      | inr other ↦ (let u : IsUnchanged c.make_room.new.book c.command.new.self = c.in_err-reply.ensures.refused refl (λ same. other (cc)) in
+          let same : last_kept c.command.new.self ≡ last_kept c.make_room.new.book = kept_same (start_of c.make_room.new.book) (start_of c.command.new.self)
+          (log_of c.make_room.new.book) (log_of c.command.new.self) (kept_of c.make_room.new.book) (kept_of c.command.new.self)
+          u.same_start u.same_log u.same_kept in
+          let b = begun_none (table_of c.args.book.now) (last_kept c.args.book.now) (by_command c.args.command ∷ []) (table_of c.command.new.self) (last_kept c.command.new.self)
+          (u.same_table ∙ s.table) (rw same s.kept) in
+          on_err c.from_residual-in_err-reply.result _ (record { table = b.0; kept = b.1 }))
+    ]
+
+pub returns-in_err-print_reply-clause-begun : goal.returns-in_err-print_reply-clause-begun
+returns-in_err-print_reply-clause-begun g c =
+    let s = c.in_ok-make_room.ensures.stays in
+    let moved = after_event (table_of c.make_room.new.book) (table_of c.command.new.self) (by_command c.args.command) c.in_ok-reply.reply c.in_ok-reply.ensures.answered.event in
+    let all = kept_all (start_of c.command.new.self) (table_of c.command.new.self) (log_of c.command.new.self) (kept_of c.command.new.self)
+    c.facts-2.ensures.history.replayed c.in_ok-reply.ensures.kept in
+    let b = begun_kept (table_of c.args.book.now) (last_kept c.args.book.now) (by_command c.args.command) (table_of c.command.new.self) (last_kept c.command.new.self)
+    (moved ∙ ap (λ y. table_after y (by_command c.args.command)) s.table) all in
+    on_err c.from_residual-in_err-print_reply.result _ (record { table = b.0; kept = b.1 })
+
+pub returns-in_err-ended-clause-begun : goal.returns-in_err-ended-clause-begun
+returns-in_err-ended-clause-begun g c =
+    let s = c.in_ok-make_room.ensures.stays in
+    let moved = after_event (table_of c.make_room.new.book) (table_of c.command.new.self) (by_command c.args.command) c.in_ok-reply.reply c.in_ok-reply.ensures.answered.event in
+    let all = kept_all (start_of c.command.new.self) (table_of c.command.new.self) (log_of c.command.new.self) (kept_of c.command.new.self)
+    c.facts-2.ensures.history.replayed c.in_ok-reply.ensures.kept in
+    let b = begun_kept (table_of c.args.book.now) (last_kept c.args.book.now) (by_command c.args.command) (table_of c.command.new.self) (last_kept c.command.new.self)
+    (moved ∙ ap (λ y. table_after y (by_command c.args.command)) s.table) all in
+    on_err c.from_residual-in_err-ended.result _ (record { table = b.0; kept = b.1 })
+
+pub returns-in_err-make_room-clause-any_moment : goal.returns-in_err-make_room-clause-any_moment
+returns-in_err-make_room-clause-any_moment g c = leaves_more c.args.book.now c.make_room.new.book (IsKeptOrNow c.args.book.now)
+    (IsKeptWithin (table_of c.args.book.now) (last_kept c.args.book.now) (by_command c.args.command ∷ [])) c.make_room.ensures.any_moment
+    (kept_or_now (table_of c.args.book.now) (last_kept c.args.book.now) (by_command c.args.command ∷ []))
+
+pub returns-in_err-reply-clause-any_moment : goal.returns-in_err-reply-clause-any_moment
+returns-in_err-reply-clause-any_moment g c =
+    elim (device_or_not c.in_err-reply.field-0.0) [
+      | inl is ↦ (let added = c.in_err-reply.ensures.unanswered (ap (λ e. Err e) is) in
+          leaves_command c.args.book.now c.make_room.new.book c.command.new.self c.args.command added.0 c.make_room.ensures.any_moment c.in_ok-make_room.ensures.stays
+          c.facts.ensures.history.replayed c.facts.ensures.history.within added.1 c.command.ensures.keeps c.command.ensures.made c.command.ensures.any_moment)
+      | inr other ↦ (let u : IsUnchanged c.make_room.new.book c.command.new.self = c.in_err-reply.ensures.refused refl (λ same. other (cc)) in
+          leaves_still c.args.book.now c.make_room.new.book c.command.new.self (IsKeptWithin (table_of c.args.book.now) (last_kept c.args.book.now) (by_command c.args.command ∷ []))
+          (leaves_more c.args.book.now c.make_room.new.book (IsKeptOrNow c.args.book.now)
+          (IsKeptWithin (table_of c.args.book.now) (last_kept c.args.book.now) (by_command c.args.command ∷ [])) c.make_room.ensures.any_moment
+          (kept_or_now (table_of c.args.book.now) (last_kept c.args.book.now) (by_command c.args.command ∷ [])))
+          u.same_keeper)
+    ]
+
+pub returns-in_err-print_reply-clause-any_moment : goal.returns-in_err-print_reply-clause-any_moment
+returns-in_err-print_reply-clause-any_moment g c =
+    leaves_command c.args.book.now c.make_room.new.book c.command.new.self c.args.command c.in_ok-reply.reply c.make_room.ensures.any_moment c.in_ok-make_room.ensures.stays
+    c.facts.ensures.history.replayed c.facts.ensures.history.within c.in_ok-reply.ensures.answered c.command.ensures.keeps c.command.ensures.made c.command.ensures.any_moment
+
+pub returns-in_err-ended-clause-any_moment : goal.returns-in_err-ended-clause-any_moment
+returns-in_err-ended-clause-any_moment g c =
+    leaves_command c.args.book.now c.make_room.new.book c.command.new.self c.args.command c.in_ok-reply.reply c.make_room.ensures.any_moment c.in_ok-make_room.ensures.stays
+    c.facts.ensures.history.replayed c.facts.ensures.history.within c.in_ok-reply.ensures.answered c.command.ensures.keeps c.command.ensures.made c.command.ensures.any_moment
+
+pub returns-clause-any_moment : goal.returns-clause-any_moment
+returns-clause-any_moment g c =
+    leaves_command c.args.book.now c.make_room.new.book c.command.new.self c.args.command c.in_ok-reply.reply c.make_room.ensures.any_moment c.in_ok-make_room.ensures.stays
+    c.facts.ensures.history.replayed c.facts.ensures.history.within c.in_ok-reply.ensures.answered c.command.ensures.keeps c.command.ensures.made c.command.ensures.any_moment

@@ -1,0 +1,11 @@
+use Rattle.std.proofs.Common.{◌≡◌, inl, inr, refl}
+use Rattle.ic_desk.specs.Book.{start_of, log_of}
+use Rattle.ic_jobs.specs.History.{replay}
+use Rattle.ic_serving.specs.Booked.{last_kept}
+use Rattle.ic_serving.specs.Moments.{IsKeptOrNow}
+use Rattle.ic_serving.proofs.StopLemmas.{leaves_call}
+use Rattle.ic_serving.proofs.rounds.keep_all.Goals as goal
+
+pub returns-clause-any_moment : goal.returns-clause-any_moment
+returns-clause-any_moment g c = leaves_call c.args.book.now c.keep.new.self (last_kept c.args.book.now) (replay (start_of c.args.book.now) (log_of c.args.book.now))
+    (IsKeptOrNow c.args.book.now) c.keep.ensures.keeps c.keep.ensures.made c.keep.ensures.any_moment (inl refl) (inr c.facts.ensures.history.replayed)

@@ -1,0 +1,30 @@
+use Rattle.std.proofs.Common.{◌≡◌, ◌<◌, ◌≤◌, ◌∙◌, inl, inr, refl, sym, Some, length, arith}
+use Rattle.std.proofs.lemmas.Option.{slice_get_within}
+use Rattle.ic_jobs.specs.declared.limits.TheConstants.{MAX_JOBS}
+use Rattle.ic_jobs.specs.Landing.{due}
+use Rattle.ic_jobs.specs.Table.{IsTable}
+use Rattle.ic_desk.specs.Book.{table_of}
+use Rattle.ic_serving.specs.Moments.{IsKeptOrNow}
+use Rattle.ic_serving.proofs.StopLemmas.{leaves_nothing, leaves_still}
+use Rattle.ic_serving.proofs.rounds.make_round.Goals as goal
+
+pub returns-clause-low : goal.returns-clause-low
+returns-clause-low g c =
+    let is : due (table_of c.args.book.now) c.args.after ≡ Some c.in-Some.flight = sym c.in_ok-flight.ensures.due ∙ c.in-Some.is in
+    let at = (c.due_is_the_next_running_job.ensures.job (table_of c.args.book.now) c.args.after c.in-Some.flight is).runs in
+    let within = slice_get_within (table_of c.args.book.now) c.in-Some.flight.place at.job at.there in
+    let few : length (table_of c.args.book.now) ≤ MAX_JOBS = (let sound : IsTable (table_of c.args.book.now) = rw c.table.ensures at c.jobs-jobs.ensures.sound in sound.few) in
+    let here : c.place-place.result ≡ c.in-Some.flight.place = c.place-place.ensures.place in
+    omega (arith, within, few, here)
+
+pub returns-in_err-flight-clause-any_moment : goal.returns-in_err-flight-clause-any_moment
+returns-in_err-flight-clause-any_moment g c = leaves_nothing c.args.book.now (IsKeptOrNow c.args.book.now) (g.met.D.Disk.left_is_image _) c.facts.ensures.either
+    c.facts.ensures.history.replayed (inl refl) (inr refl)
+
+pub returns-in_err-land_or_halt-clause-any_moment : goal.returns-in_err-land_or_halt-clause-any_moment
+returns-in_err-land_or_halt-clause-any_moment g c = leaves_still c.args.book.now c.make_room.new.book c.land_or_halt.new.book (IsKeptOrNow c.args.book.now)
+    c.make_room.ensures.any_moment c.land_or_halt.ensures.keeper
+
+pub returns-clause-any_moment : goal.returns-clause-any_moment
+returns-clause-any_moment g c = leaves_still c.args.book.now c.make_room.new.book c.land_or_halt.new.book (IsKeptOrNow c.args.book.now)
+    c.make_room.ensures.any_moment c.land_or_halt.ensures.keeper

@@ -1,0 +1,96 @@
+use Rattle.std.proofs.Common.{◌≡◌, ◌+◌, ℕ, [], None, inl, inr, sym, ap, refl, ◌∙◌}
+use Rattle.ic_jobs.specs.Job.{JobParts}
+use Rattle.ic_jobs.specs.Landing.{due}
+use Rattle.ic_desk.specs.Book.{table_of, start_of, log_of, kept_of, IsUnchanged}
+use Rattle.ic_serving.specs.Booked.{last_kept, MakesRound}
+use Rattle.ic_serving.proofs.RunLemmas.{InRun, IsRun, at_first, one_more, keep_or_not, kept_same, run_idle, run_full, run_begun, on_err}
+use Rattle.ic_lines.specs.Turns.{turns}
+use Rattle.ic_serving.specs.Parts.{IsKeptWithin}
+use Rattle.ic_serving.proofs.StopLemmas.{leaves_nothing, leaves_in_run}
+use Rattle.ic_serving.proofs.running.make_rounds.Given as given
+use Rattle.ic_serving.proofs.running.make_rounds.Goals as goal
+
+pub loop-made-init : goal.loop-made-init
+loop-made-init g c = record {
+  run = at_first (table_of c.args.book.now) (last_kept c.args.book.now) c.args.count;
+  counted = refl;
+  ready = λ is. is;
+  moments = leaves_nothing c.args.book.now (IsKeptWithin (table_of c.args.book.now) (last_kept c.args.book.now) (turns c.args.count 0 (table_of c.args.book.now)))
+      (g.met.D.Disk.left_is_image _) c.facts.ensures.either c.facts.ensures.history.replayed (inl refl)
+      (inr (record { front = []; rest = turns c.args.count 0 (table_of c.args.book.now); parted = refl; leaves = refl }));
+}
+
+pub returns-in_err-make_round-clause-any_moment : goal.returns-in_err-make_round-clause-any_moment
+returns-in_err-make_round-clause-any_moment g c = leaves_in_run c.args.book.now c.loop-made.book c.make_round.new.book c.args.count c.loop-made.made c.loop-made.place
+    c.loop-made.invariant.run c.loop-made.invariant.moments c.make_round.ensures.any_moment
+
+pub returns-in-None-clause-any_moment : goal.returns-in-None-clause-any_moment
+returns-in-None-clause-any_moment g c = leaves_in_run c.args.book.now c.loop-made.book c.make_round.new.book c.args.count c.loop-made.made c.loop-made.place
+    c.loop-made.invariant.run c.loop-made.invariant.moments c.make_round.ensures.any_moment
+
+pub returns-in_err-make_round-clause-begun : goal.returns-in_err-make_round-clause-begun
+returns-in_err-make_round-clause-begun g c =
+    let s = c.in_err-make_round.ensures.refused in
+    let b = run_begun (table_of c.args.book.now) (last_kept c.args.book.now) c.args.count c.loop-made.made c.loop-made.place
+    (table_of c.loop-made.book) (last_kept c.loop-made.book) (table_of c.make_round.new.book) (last_kept c.make_round.new.book) c.loop-made.invariant.run s.table s.kept in
+    on_err c.from_residual.result _ (record { table = b.0; kept = b.1 })
+
+idle : (g : given.Over) (c : goal.In-None g) → IsRun (table_of c.args.book.now) (last_kept c.args.book.now) c.args.count c.loop-made.made
+    (table_of c.make_round.new.book) (last_kept c.make_round.new.book)
+idle g c =
+    let none : due (table_of c.loop-made.book) c.loop-made.place ≡ None = rw c.in-None.is at c.in_ok-make_round.ensures.idle in
+    let stays : IsUnchanged c.loop-made.book c.make_round.new.book = rw c.in-None.is at c.in_ok-make_round.ensures.stays in
+    run_idle (table_of c.args.book.now) (last_kept c.args.book.now) c.args.count c.loop-made.made c.loop-made.place
+    (table_of c.loop-made.book) (last_kept c.loop-made.book) (table_of c.make_round.new.book) (last_kept c.make_round.new.book)
+    c.loop-made.invariant.run none stays.same_table
+    (kept_same (start_of c.loop-made.book) (start_of c.make_round.new.book) (log_of c.loop-made.book) (log_of c.make_round.new.book)
+    (kept_of c.loop-made.book) (kept_of c.make_round.new.book) stays.same_start stays.same_log stays.same_kept)
+
+pub returns-in-None-clause-count : goal.returns-in-None-clause-count
+returns-in-None-clause-count g c = (idle g c).counted
+
+pub returns-in-None-clause-table : goal.returns-in-None-clause-table
+returns-in-None-clause-table g c = (idle g c).leaves
+
+pub returns-in-None-clause-within : goal.returns-in-None-clause-within
+returns-in-None-clause-within g c = (idle g c).keeps
+
+pub returns-in_err-keep_each-clause-begun : goal.returns-in_err-keep_each-clause-begun
+returns-in_err-keep_each-clause-begun g c =
+    let m : MakesRound c.loop-made.place c.in-Some.last c.loop-made.book c.make_round.new.book = rw c.in-Some.is at c.in_ok-make_round.ensures.made in
+    let more = one_more (table_of c.args.book.now) (last_kept c.args.book.now) c.args.count c.loop-made.made c.loop-made.place
+    (table_of c.loop-made.book) (last_kept c.loop-made.book) (table_of c.make_round.new.book) (last_kept c.make_round.new.book)
+    m.flight c.loop-made.invariant.run c.loop-made-test.true m.is_due m.advances.table m.advances.kept in
+    let b = run_begun (table_of c.args.book.now) (last_kept c.args.book.now) c.args.count (c.loop-made.made + 1) (m.flight.place + 1)
+    (table_of c.make_round.new.book) (last_kept c.make_round.new.book) (table_of c.keep_each.new.book) (last_kept c.keep_each.new.book)
+    more c.keep_each.ensures.table (inl c.in_err-keep_each.ensures.unkept) in
+    on_err c.from_residual-in_err-keep_each.result _ (record { table = b.0; kept = b.1 })
+
+pub returns-in_err-keep_each-clause-any_moment : goal.returns-in_err-keep_each-clause-any_moment
+returns-in_err-keep_each-clause-any_moment g c =
+    let m : MakesRound c.loop-made.place c.in-Some.last c.loop-made.book c.make_round.new.book = rw c.in-Some.is at c.in_ok-make_round.ensures.made in
+    let more = one_more (table_of c.args.book.now) (last_kept c.args.book.now) c.args.count c.loop-made.made c.loop-made.place
+    (table_of c.loop-made.book) (last_kept c.loop-made.book) (table_of c.make_round.new.book) (last_kept c.make_round.new.book)
+    m.flight c.loop-made.invariant.run c.loop-made-test.true m.is_due m.advances.table m.advances.kept in
+    leaves_in_run c.args.book.now c.make_round.new.book c.keep_each.new.book c.args.count (c.loop-made.made + 1) (m.flight.place + 1) more
+    (leaves_in_run c.args.book.now c.loop-made.book c.make_round.new.book c.args.count c.loop-made.made c.loop-made.place
+    c.loop-made.invariant.run c.loop-made.invariant.moments c.make_round.ensures.any_moment)
+    c.keep_each.ensures.any_moment
+
+pub loop-made-preserved : goal.loop-made-preserved
+loop-made-preserved g c =
+    let m : MakesRound c.loop-made.place c.in-Some.last c.loop-made.book c.make_round.new.book = rw c.in-Some.is at c.in_ok-make_round.ensures.made in
+    let more = one_more (table_of c.args.book.now) (last_kept c.args.book.now) c.args.count c.loop-made.made c.loop-made.place
+    (table_of c.loop-made.book) (last_kept c.loop-made.book) (table_of c.make_round.new.book) (last_kept c.make_round.new.book)
+    m.flight c.loop-made.invariant.run c.loop-made-test.true m.is_due m.advances.table m.advances.kept in
+    record {
+      run = rw m.here (keep_or_not (table_of c.args.book.now) (last_kept c.args.book.now) c.args.count (c.loop-made.made + 1) (m.flight.place + 1)
+          (table_of c.make_round.new.book) (last_kept c.make_round.new.book) (table_of c.keep_each.new.book) (last_kept c.keep_each.new.book)
+          more c.keep_each.ensures.table c.in_ok-keep_each.ensures.kept);
+      counted = c.in_ok-keep_each.ensures.counted ∙ c.in_ok-make_round.ensures.counted ∙ c.loop-made.invariant.counted;
+      ready = λ is. c.in_ok-keep_each.ensures.ready (c.in_ok-make_round.ensures.ready (c.loop-made.invariant.ready is));
+      moments = leaves_in_run c.args.book.now c.make_round.new.book c.keep_each.new.book c.args.count (c.loop-made.made + 1) (m.flight.place + 1) more
+          (leaves_in_run c.args.book.now c.loop-made.book c.make_round.new.book c.args.count c.loop-made.made c.loop-made.place
+          c.loop-made.invariant.run c.loop-made.invariant.moments c.make_round.ensures.any_moment)
+          c.keep_each.ensures.any_moment;
+    }

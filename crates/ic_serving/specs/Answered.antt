@@ -1,0 +1,33 @@
+-- To be believed: what one line is answered, and what it leaves.
+use Rattle.std.specs.Prelude.{◌≡◌, ℕ, List, Ok, Err}
+use Rattle.ic_disk.specs.declared.disk.Disk.{Ghosts}
+use Rattle.ic_commands.specs.LineText.{ReadsLine}
+use Rattle.ic_commands.specs.declared.line.Line.TheVariants.{Blank, Command, Run}
+use Rattle.ic_lines.specs.Answers.{Reading, events, answer, after_line}
+use Rattle.ic_desk.specs.declared.book.Book.{Book}
+use Rattle.ic_desk.specs.Book.{table_of, IsUnchanged}
+use Rattle.ic_serving.specs.Booked.{Begins, IsAllKept}
+
+-- what is kept where a line is answered: all, behind a command and a run; a blank line and a refused
+-- one change nothing
+abbrev pub IsKeptFor : {D : Type 0} {ghosts : Ghosts D} → Reading → (old new : Book D ghosts) → Type 0
+IsKeptFor (Ok Blank) old new = IsUnchanged old new
+IsKeptFor (Ok (Command command)) old new = IsAllKept new
+IsKeptFor (Ok (Run count)) old new = IsAllKept new
+IsKeptFor (Err fault) old new = IsUnchanged old new
+
+-- a line is answered, and what it leaves is kept
+pub record IsAnswered {D : Type 0} {ghosts : Ghosts D} (line bytes : List ℕ)
+    (old new : Book D ghosts) : Type 0 where
+  pub reading : Reading
+  pub read : ReadsLine line reading
+  pub answer : bytes ≡ answer (table_of old) reading
+  pub table : table_of new ≡ after_line (table_of old) reading
+  pub kept : IsKeptFor reading old new
+
+-- a line was begun: a front of its events has come to the table
+pub record IsBegun {D : Type 0} {ghosts : Ghosts D} (line : List ℕ)
+    (old new : Book D ghosts) : Type 0 where
+  pub reading : Reading
+  pub read : ReadsLine line reading
+  pub begun : Begins (events (table_of old) reading) old new

@@ -1,0 +1,54 @@
+-- To be believed, but for what private functions say: what a serving speaks of in a book.
+use Rattle.std.specs.Prelude.{◌≡◌, ◌⊎◌, ℕ, ◌+◌, List, Some, length, IsTrue}
+use Rattle.ic_disk.specs.declared.disk.Disk.{Ghosts}
+use Rattle.ic_disk.specs.Images.{Within}
+use Rattle.ic_frames.specs.Fields.{IsMade}
+use Rattle.ic_pool.specs.Flight.{FlightParts}
+use Rattle.ic_jobs.specs.Job.{JobParts}
+use Rattle.ic_jobs.specs.declared.event.Event.{Event}
+use Rattle.ic_jobs.specs.declared.event.Event.TheVariants.{Round}
+use Rattle.ic_jobs.specs.History.{table_after}
+use Rattle.ic_jobs.specs.Landing.{due}
+use Rattle.ic_desk.specs.declared.book.Book.{Book}
+use Rattle.ic_desk.specs.Book.{start_of, log_of, table_of, kept_of, disk_of}
+use Rattle.ic_desk.specs.Kept.{table_kept}
+use Rattle.ic_serving.specs.Parts.{IsPart, IsKeptWithin}
+
+-- the table that was kept last
+abbrev pub last_kept : {D : Type 0} {ghosts : Ghosts D} → Book D ghosts → List JobParts
+last_kept book = table_kept (start_of book) (log_of book) (kept_of book)
+
+-- everything in its history is kept
+abbrev pub IsAllKept : {D : Type 0} {ghosts : Ghosts D} → Book D ghosts → Type 0
+IsAllKept book = kept_of book ≡ length (log_of book)
+
+-- its disk keeps the model and is made
+abbrev pub IsOnMadeDisk : {D : Type 0} {ghosts : Ghosts D} → Book D ghosts → Type 0
+IsOnMadeDisk {D} {ghosts} book =
+    IsTrue (ghosts.keeps (disk_of book)) × Within (ghosts.image (disk_of book)) IsMade
+
+-- ---- for private functions
+
+-- the table stays, and either the table that was kept last stays too, or it is kept now
+pub record StaysPut {D : Type 0} {ghosts : Ghosts D} (old new : Book D ghosts) : Type 0 where
+  pub table : table_of new ≡ table_of old
+  pub kept : (last_kept new ≡ last_kept old) ⊎ (last_kept new ≡ table_of old)
+
+-- one event comes to the table, and none of it is kept but what was there before
+pub record Advances {D : Type 0} {ghosts : Ghosts D} (e : Event) (old new : Book D ghosts) : Type 0 where
+  pub table : table_of new ≡ table_after (table_of old) e
+  pub kept : (last_kept new ≡ last_kept old) ⊎ (last_kept new ≡ table_of old)
+
+-- a round is made, or its job is halted: that of the job that is due, whose place this is
+pub record MakesRound {D : Type 0} {ghosts : Ghosts D} (after place : ℕ) (old new : Book D ghosts) : Type 0 where
+  pub flight : FlightParts
+  pub is_due : due (table_of old) after ≡ Some flight
+  pub here : place ≡ flight.place
+  pub advances : Advances (Round flight.name) old new
+
+-- ---- of a line that is begun
+
+-- some events were begun: a front of them has come to the table, and one no longer is kept
+pub record Begins {D : Type 0} {ghosts : Ghosts D} (es : List Event) (old new : Book D ghosts) : Type 0 where
+  pub table : IsPart (table_of old) es (table_of new)
+  pub kept : IsKeptWithin (table_of old) (last_kept old) es (last_kept new)

@@ -1,0 +1,27 @@
+-- To be believed: what a crash in the midst of a call leaves.
+use Rattle.std.specs.Prelude.{◌≡◌, ◌⊎◌, ℕ, List}
+use Rattle.ic_disk.specs.declared.disk.Disk.{Ghosts}
+use Rattle.ic_disk.specs.Time.{LeavesOnly}
+use Rattle.ic_jobs.specs.Job.{JobParts}
+use Rattle.ic_desk.specs.declared.book.Book.{Book}
+use Rattle.ic_desk.specs.Book.{disk_of, table_of}
+use Rattle.ic_serving.specs.Booked.{last_kept, IsOnMadeDisk}
+use Rattle.ic_serving.specs.Parts.{IsInLine}
+use Rattle.ic_serving.specs.Stopped.{HoldsOne}
+
+-- the disk keeps the model where it did, a made one stays made, and a crash at any moment leaves one
+-- of these tables
+pub record Leaves {D : Type 0} {ghosts : Ghosts D} (old new : Book D ghosts)
+    (tables : List JobParts → Type 0) : Type 0 where
+  pub keeps : ghosts.keeps (disk_of new) ≡ ghosts.keeps (disk_of old)
+  pub stays : IsOnMadeDisk old → IsOnMadeDisk new
+  pub any_moment : IsOnMadeDisk old
+      → LeavesOnly ghosts.clock ghosts.left (disk_of old) (disk_of new) (HoldsOne tables)
+
+-- the table, or the one that was kept last
+abbrev pub IsKeptOrNow : {D : Type 0} {ghosts : Ghosts D} → Book D ghosts → List JobParts → Type 0
+IsKeptOrNow book u = (u ≡ last_kept book) ⊎ (u ≡ table_of book)
+
+-- the table that was kept before a line, or one within it
+abbrev pub IsKeptInLine : (t kept : List JobParts) (line : List ℕ) (u : List JobParts) → Type 0
+IsKeptInLine t kept line u = (u ≡ kept) ⊎ IsInLine t line u

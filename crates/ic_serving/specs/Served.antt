@@ -1,0 +1,82 @@
+-- To be believed: what a serving leaves, by its answer.
+use Rattle.std.specs.Prelude.{◌≡◌, ℕ, ◌<◌, ◌≤◌, List, [], ◌∷◌, ◌++◌, Option, None, Some, length}
+use Rattle.std.specs.List.{AllByRecursion}
+use Rattle.std.specs.Io.KnownBytes.{Appends}
+use Rattle.ic_jobs.specs.Job.{JobParts}
+use Rattle.ic_text.specs.declared.limits.TheConstants.{MAX_TEXT}
+use Rattle.ic_lines.specs.Lines.{lines}
+use Rattle.ic_lines.specs.Serving.{IsServed}
+use Rattle.ic_serving.specs.declared.limits.TheConstants.{MAX_LINES}
+use Rattle.ic_serving.specs.declared.fault.ServeFault.{ServeFault}
+use Rattle.ic_serving.specs.declared.fault.ServeFault.TheVariants.{Read, LongLine, TooManyLines}
+use Rattle.ic_serving.specs.Parts.{IsInFirst}
+
+-- this is so of the lines of a reader's bytes, or where it doesn't tell them, of some lines
+abbrev pub OfLines : (bytes : Option (List ℕ)) (what : List (List ℕ) → Type 0) → Type 0
+OfLines None what = (ls : List (List ℕ)) × what ls
+OfLines (Some text) what = what (lines text)
+
+-- lines that may be served: no more than there may be, and none too long
+pub record MayBeServed (ls : List (List ℕ)) : Type 0 where
+  pub few : length ls ≤ MAX_LINES
+  pub short : AllByRecursion (λ line. length line ≤ MAX_TEXT) ls
+
+-- Lines were served from one table to another, and what answers them was written.
+pub record AreAnswered (ls : List (List ℕ)) (t u : List JobParts)
+    (old new : Option (List ℕ)) : Type 0 where
+  pub within : MayBeServed ls
+  pub answers : List ℕ
+  pub served : IsServed t ls answers u
+  pub written : Appends old new answers
+
+-- what a fault says of the lines that were answered and of those that weren't
+abbrev pub SaysOf : ServeFault → List (List ℕ) → List (List ℕ) → Type 0
+SaysOf LongLine front [] = ⊥
+SaysOf LongLine front (line ∷ rest) = (length front < MAX_LINES) × (MAX_TEXT < length line)
+SaysOf TooManyLines front [] = ⊥
+SaysOf TooManyLines front (line ∷ rest) = length front ≡ MAX_LINES
+SaysOf _ front rest = Unit {0}
+
+-- What a fault says of a table: some events of the next line may have come to it, and none where
+-- the line wasn't taken.
+abbrev pub IsLeftBy : ServeFault → (t : List JobParts) (ls : List (List ℕ)) (u : List JobParts) → Type 0
+IsLeftBy Read t ls u = u ≡ t
+IsLeftBy LongLine t ls u = u ≡ t
+IsLeftBy TooManyLines t ls u = u ≡ t
+IsLeftBy _ t ls u = IsInFirst t ls u
+
+-- A serving was ended by a fault other than that of the writer: a front of the lines is answered,
+-- and the table is within the line behind it, as is the one that was kept last where all was kept.
+pub record IsEnded (fault : ServeFault) (all_kept : Type 0) (ls : List (List ℕ))
+    (t u kept : List JobParts) (old new : Option (List ℕ)) : Type 0 where
+  pub front : List (List ℕ)
+  pub rest : List (List ℕ)
+  pub between : List JobParts
+  pub parted : ls ≡ front ++ rest
+  pub answered : AreAnswered front t between old new
+  pub says : SaysOf fault front rest
+  pub in_line : IsLeftBy fault between rest u
+  pub keeps : all_kept → IsLeftBy fault between rest kept
+
+-- these bytes were written, and behind them a front of these
+pub record AppendsFront (old new : Option (List ℕ)) (before behind : List ℕ) : Type 0 where
+  pub sent : List ℕ
+  pub unsent : List ℕ
+  pub parted : behind ≡ sent ++ unsent
+  pub written : Appends old new (before ++ sent)
+
+-- The writer failed: a front of the lines is answered, and behind them stands at most one line that
+-- is done, of whose answer a front is written.
+pub record IsCut (ls : List (List ℕ)) (t u : List JobParts) (old new : Option (List ℕ)) : Type 0 where
+  pub front : List (List ℕ)
+  pub last : List (List ℕ)
+  pub rest : List (List ℕ)
+  pub between : List JobParts
+  pub answers : List ℕ
+  pub more : List ℕ
+  pub parted : ls ≡ front ++ last ++ rest
+  pub one : length last ≤ 1
+  pub within : MayBeServed (front ++ last)
+  pub answered : IsServed t front answers between
+  pub done : IsServed between last more u
+  pub written : AppendsFront old new answers more

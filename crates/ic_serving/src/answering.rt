@@ -1,0 +1,147 @@
+//! Answering one line over a book.
+
+ghost use Rattle.std.specs.Prelude.{false, ◌≡◌, ◌≤◌, ◌++◌, [], ◌∷◌, Ok, OnOk, OnErr, IfErr, IfOk};
+ghost use Rattle.ic_desk.specs.Book.{is_broken, number_of, disk_of, table_of};
+ghost use Rattle.ic_jobs.specs.declared.event.Event.TheVariants.{Command as by_command};
+ghost use Rattle.ic_commands.specs.declared.line.Line.TheVariants.{Command as Asks, Run};
+ghost use Rattle.ic_text.specs.Text.{fault_text};
+ghost use Rattle.ic_lines.specs.Lines.{ended};
+ghost use Rattle.ic_lines.specs.Turns.{turns};
+ghost use Rattle.ic_lines.specs.Answers.{answer, after_line};
+ghost use Rattle.ic_serving.specs.Booked.{last_kept, Begins, IsAllKept};
+ghost use Rattle.ic_serving.specs.Parts.{IsKeptWithin};
+ghost use Rattle.ic_serving.specs.Answered.{IsAnswered, IsBegun};
+ghost use Rattle.ic_serving.specs.Moments.{Leaves, IsKeptInLine};
+ghost use Rattle.ic_serving.specs.Faults.{IsOfBook, MayCome, CountsServe, StaysReady};
+
+use crate::fault::ServeFault;
+use crate::rounds::make_room;
+use crate::running::run;
+use ic_commands::{Line, print_reply, read_command};
+use ic_desk::Book;
+use ic_disk::Disk;
+use ic_jobs::Command;
+use ic_text::{TextFault, print_fault};
+use std::alloc::{AllocError, Global};
+use std::sync::Wait;
+use std::thread::Threads;
+
+/// Does what a line asks, and answers what is to be written for it, for a loop of one's own. At Ok
+/// all is kept, unless nothing has changed: so no byte of an answer is there before what its line
+/// leaves is kept. At `Err` some of the line's events may stand in the book.
+///
+/// Rounds are made by so many workers, and kept after each `every` of them and at the end. The line
+/// is given without its line feed. A refused line is answered by its refusal, a blank one by nothing.
+pub fn answer_line<T: Threads + Wait, D: Disk>(
+    rt: &T,
+    alloc: Global,
+    book: &mut Book<D>,
+    line: &[u8],
+    workers: usize,
+    every: u64,
+) -> Result<Vec<u8>, ServeFault>
+    requires workers { 1 ≤ workers }
+    requires every { 1 ≤ every }
+    ensures answered { IfOk result (λ bytes. IsAnswered line.now bytes.items book.old book.new) }
+    ensures begun { OnErr result (IsBegun line.now book.old book.new) }
+    ensures sort { IfErr result IsOfBook }
+    ensures causes { IfErr result MayCome }
+    ensures counted { CountsServe result
+        (D.failures (disk_of book.old)) (D.failures (disk_of book.new)) }
+    ensures ready { is_broken book.old ≡ false → OnOk result (is_broken book.new ≡ false) }
+    ensures breaks { is_broken book.old ≡ false → IfErr result (λ fault.
+        StaysReady fault (is_broken book.new) (number_of book.new)) }
+
+    // A crash at any moment leaves the table that was kept before the line, or one within it.
+    ensures any_moment { Leaves book.old book.new
+        (IsKeptInLine (table_of book.old) (last_kept book.old) line.now) }
+{
+    book.facts();
+    ic_commands::laws::one_line_reading();
+    match read_command(alloc, line) {
+        Ok(Line::Blank) => Ok(Vec::new(alloc)),
+        Ok(Line::Command(command)) => answer_command(alloc, book, command),
+        Ok(Line::Run(count)) => answer_run(rt, alloc, book, count, workers, every),
+        Err(TextFault::Memory) => Err(ServeFault::Memory),
+        Err(fault) => answer_refused(alloc, fault),
+    }
+}
+
+fn answer_refused(alloc: Global, fault: TextFault) -> Result<Vec<u8>, ServeFault>
+    ensures answer { IfOk result (λ bytes. bytes.items ≡ ended (fault_text fault)) }
+    ensures sort { IfErr result IsOfBook }
+    ensures causes { IfErr result MayCome }
+    ensures fault { IfErr result (λ fault. fault ≡ ServeFault.Memory) }
+{
+    Ok(ended(print_fault(alloc, &fault)?)?)
+}
+
+fn answer_command<D: Disk>(
+    alloc: Global,
+    book: &mut Book<D>,
+    command: Command,
+) -> Result<Vec<u8>, ServeFault>
+    ensures answer { IfOk result (λ bytes.
+        bytes.items ≡ answer (table_of book.old) (Ok (Asks command))) }
+    ensures table { OnOk result
+        (table_of book.new ≡ after_line (table_of book.old) (Ok (Asks command))) }
+    ensures kept { OnOk result (IsAllKept book.new) }
+    ensures begun { OnErr result (Begins (by_command command ∷ []) book.old book.new) }
+    ensures sort { IfErr result IsOfBook }
+    ensures causes { IfErr result MayCome }
+    ensures counted { CountsServe result
+        (D.failures (disk_of book.old)) (D.failures (disk_of book.new)) }
+    ensures ready { is_broken book.old ≡ false → OnOk result (is_broken book.new ≡ false) }
+    ensures breaks { is_broken book.old ≡ false → IfErr result (λ fault.
+        StaysReady fault (is_broken book.new) (number_of book.new)) }
+    ensures any_moment { Leaves book.old book.new (IsKeptWithin (table_of book.old)
+        (last_kept book.old) (by_command command ∷ [])) }
+{
+    make_room(alloc, book)?;
+    book.facts();
+    let reply = book.command(alloc, 0, command)?;
+    book.facts();
+    Ok(ended(print_reply(alloc, &reply)?)?)
+}
+
+fn answer_run<T: Threads + Wait, D: Disk>(
+    rt: &T,
+    alloc: Global,
+    book: &mut Book<D>,
+    count: u64,
+    workers: usize,
+    every: u64,
+) -> Result<Vec<u8>, ServeFault>
+    requires workers { 1 ≤ workers }
+    requires every { 1 ≤ every }
+    ensures answer { IfOk result (λ bytes.
+        bytes.items ≡ answer (table_of book.old) (Ok (Run count))) }
+    ensures table { OnOk result
+        (table_of book.new ≡ after_line (table_of book.old) (Ok (Run count))) }
+    ensures kept { OnOk result (IsAllKept book.new) }
+    ensures begun { OnErr result (Begins (turns count 0 (table_of book.old)) book.old book.new) }
+    ensures sort { IfErr result IsOfBook }
+    ensures causes { IfErr result MayCome }
+    ensures counted { CountsServe result
+        (D.failures (disk_of book.old)) (D.failures (disk_of book.new)) }
+    ensures ready { is_broken book.old ≡ false → OnOk result (is_broken book.new ≡ false) }
+    ensures breaks { is_broken book.old ≡ false → IfErr result (λ fault.
+        StaysReady fault (is_broken book.new) (number_of book.new)) }
+    ensures any_moment { Leaves book.old book.new (IsKeptWithin (table_of book.old)
+        (last_kept book.old) (turns count 0 (table_of book.old))) }
+{
+    let made = run(rt, alloc, book, count, workers, every)?;
+    book.facts();
+    let mut line = b"ran ".to_vec(alloc)?;
+    line.extend_from_slice(made.to_string(alloc)?.as_bytes())?;
+    Ok(ended(line)?)
+}
+
+/// A line with its line feed.
+fn ended(line: Vec<u8>) -> Result<Vec<u8>, AllocError>
+    ensures { IfOk result (λ bytes. bytes.items ≡ ended line.items) }
+{
+    let mut line = line;
+    line.push(b'\n')?;
+    Ok(line)
+}

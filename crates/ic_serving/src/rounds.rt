@@ -1,0 +1,129 @@
+//! One round over a book.
+
+ghost use Rattle.std.specs.Prelude.{false, ◌≡◌, ◌<◌, ◌≤◌, length, None, OnOk, OnErr, IfErr, IfOk, IfSome, IfNone};
+ghost use Rattle.ic_jobs.specs.declared.event.Event.TheVariants.{Round};
+ghost use Rattle.ic_jobs.specs.declared.limits.TheConstants.{MAX_JOBS};
+ghost use Rattle.ic_jobs.specs.Landing.{due, Awaits};
+ghost use Rattle.ic_desk.specs.declared.limits.TheConstants.{MAX_ENTRIES};
+ghost use Rattle.ic_desk.specs.Book.{is_broken, number_of, disk_of, table_of, kept_of, log_of, keeper_of, IsUnchanged};
+ghost use Rattle.ic_serving.specs.Booked.{last_kept, IsAllKept, Advances, MakesRound, StaysPut};
+ghost use Rattle.ic_desk.specs.Refusals.{CountsBook};
+ghost use Rattle.ic_serving.specs.Faults.{IsOfBook, MayCome, CountsServe, StaysReady};
+ghost use Rattle.ic_serving.specs.Moments.{Leaves, IsKeptOrNow};
+
+use crate::fault::ServeFault;
+use ic_desk::{Book, BookFault, MAX_ENTRIES};
+use ic_disk::Disk;
+use ic_pool::{Flight, OpenGate, play};
+use std::alloc::Global;
+use std::sync::Wait;
+use std::thread::Threads;
+
+/// Begins a new page where the history is full, so that one more event can come.
+pub(crate) fn make_room<D: Disk>(alloc: Global, book: &mut Book<D>) -> Result<(), BookFault>
+    ensures stays { StaysPut book.old book.new }
+    ensures causes { IfErr result (λ fault. MayCome (ServeFault.Book fault)) }
+    ensures counted { CountsBook result
+        (D.failures (disk_of book.old)) (D.failures (disk_of book.new)) }
+    ensures ready { is_broken book.old ≡ false → OnOk result (is_broken book.new ≡ false) }
+    ensures breaks { is_broken book.old ≡ false → IfErr result (λ fault.
+        StaysReady (ServeFault.Book fault) (is_broken book.new) (number_of book.new)) }
+    ensures spare { OnOk result (length (log_of book.new) < MAX_ENTRIES) }
+    ensures room { length (log_of book.old) < MAX_ENTRIES → IsUnchanged book.old book.new }
+    ensures any_moment { Leaves book.old book.new (IsKeptOrNow book.old) }
+{
+    book.facts();
+    if book.log().len() < MAX_ENTRIES {
+        return Ok(());
+    }
+    book.new_page(alloc)
+}
+
+/// Keeps what isn't kept.
+pub(crate) fn keep_all<D: Disk>(book: &mut Book<D>) -> Result<(), BookFault>
+    ensures table { table_of book.new ≡ table_of book.old }
+    ensures kept { OnOk result (IsAllKept book.new) }
+    ensures last { OnOk result (last_kept book.new ≡ table_of book.old) }
+    ensures unkept { OnErr result (last_kept book.new ≡ last_kept book.old) }
+    ensures causes { IfErr result (λ fault. MayCome (ServeFault.Book fault)) }
+    ensures counted { CountsBook result
+        (D.failures (disk_of book.old)) (D.failures (disk_of book.new)) }
+    ensures ready { is_broken book.old ≡ false → OnOk result (is_broken book.new ≡ false) }
+    ensures breaks { is_broken book.old ≡ false → IfErr result (λ fault.
+        StaysReady (ServeFault.Book fault) (is_broken book.new) (number_of book.new)) }
+    ensures any_moment { Leaves book.old book.new (IsKeptOrNow book.old) }
+{
+    book.facts();
+    book.keep()
+}
+
+/// Makes the round of the job that is due from a place on, or halts it where it can't make one. Its
+/// place, or none where nothing is due.
+pub(crate) fn make_round<T: Threads + Wait, D: Disk>(
+    rt: &T,
+    alloc: Global,
+    book: &mut Book<D>,
+    after: usize,
+    workers: usize,
+) -> Result<Option<usize>, ServeFault>
+    requires { 1 ≤ workers }
+    ensures idle { IfOk result (λ place. IfNone place (due (table_of book.old) after ≡ None)) }
+    ensures stays { IfOk result (λ place. IfNone place (IsUnchanged book.old book.new)) }
+    ensures made { IfOk result (λ place. IfSome place (λ here.
+        MakesRound after here book.old book.new)) }
+    ensures low { IfOk result (λ place. IfSome place (λ here. here < MAX_JOBS)) }
+    ensures refused { OnErr result (StaysPut book.old book.new) }
+    ensures sort { IfErr result IsOfBook }
+    ensures causes { IfErr result MayCome }
+    ensures counted { CountsServe result
+        (D.failures (disk_of book.old)) (D.failures (disk_of book.new)) }
+    ensures ready { is_broken book.old ≡ false → OnOk result (is_broken book.new ≡ false) }
+    ensures breaks { is_broken book.old ≡ false → IfErr result (λ fault.
+        StaysReady fault (is_broken book.new) (number_of book.new)) }
+    ensures any_moment { Leaves book.old book.new (IsKeptOrNow book.old) }
+{
+    book.facts();
+    ic_jobs::laws::what_is_due_is_awaited();
+    ic_jobs::laws::due_is_the_next_running_job();
+    let _jobs = book.table().jobs();
+    let Some(flight) = book.due(after)? else {
+        return Ok(None);
+    };
+    make_room(alloc, book)?;
+    let place = flight.place();
+    land_or_halt(rt, alloc, book, &flight, workers)?;
+    Ok(Some(place))
+}
+
+/// Makes a round that the book awaits and lands it, or halts its job where it can't be made.
+fn land_or_halt<T: Threads + Wait, D: Disk>(
+    rt: &T,
+    alloc: Global,
+    book: &mut Book<D>,
+    flight: &Flight,
+    workers: usize,
+) -> Result<(), ServeFault>
+    requires workers { 1 ≤ workers }
+    requires room { length (log_of book.old) < MAX_ENTRIES }
+    requires awaits { Awaits (table_of book.old) flight.now.name flight.now.rules flight.now.config
+        flight.now.rounds }
+    ensures advances { OnOk result (Advances (Round flight.now.name) book.old book.new) }
+    ensures refused { OnErr result (IsUnchanged book.old book.new) }
+    ensures sort { IfErr result IsOfBook }
+    ensures causes { IfErr result MayCome }
+    ensures counted { CountsServe result
+        (D.failures (disk_of book.old)) (D.failures (disk_of book.new)) }
+    ensures ready { is_broken book.old ≡ false → OnOk result (is_broken book.new ≡ false) }
+    ensures breaks { is_broken book.old ≡ false → IfErr result (λ fault.
+        StaysReady fault (is_broken book.new) (number_of book.new)) }
+    ensures keeper { keeper_of book.new ≡ keeper_of book.old }
+{
+    book.facts();
+    if flight.blocked() {
+        book.halt(flight)?;
+    } else {
+        let played = play(rt, alloc, flight, workers, &OpenGate)?;
+        book.land(played)?;
+    }
+    Ok(())
+}

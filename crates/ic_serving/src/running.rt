@@ -1,0 +1,112 @@
+//! The rounds of a run over a book.
+
+ghost use Rattle.std.specs.Prelude.{false, ◌≡◌, ◌≤◌, ◌⊎◌, OnOk, OnErr, IfErr, IfOk, length};
+ghost use Rattle.ic_desk.specs.Book.{is_broken, number_of, disk_of, table_of};
+ghost use Rattle.ic_lines.specs.Turns.{turns, after_events};
+ghost use Rattle.ic_serving.specs.Booked.{last_kept, Begins, IsAllKept};
+ghost use Rattle.ic_serving.specs.Parts.{IsKeptWithin};
+ghost use Rattle.ic_desk.specs.Refusals.{CountsBook};
+ghost use Rattle.ic_serving.specs.Faults.{IsOfBook, MayCome, CountsServe, StaysReady};
+ghost use Rattle.ic_serving.specs.Moments.{Leaves, IsKeptOrNow};
+
+use crate::fault::ServeFault;
+use crate::rounds::{keep_all, make_round};
+use ic_desk::{Book, BookFault};
+use ic_disk::Disk;
+use std::alloc::Global;
+use std::sync::Wait;
+use std::thread::Threads;
+
+/// Makes at most so many rounds of running jobs in turn, and keeps what they leave: after each
+/// `every` rounds and halts, and at the end. How many there were.
+pub(crate) fn run<T: Threads + Wait, D: Disk>(
+    rt: &T,
+    alloc: Global,
+    book: &mut Book<D>,
+    count: u64,
+    workers: usize,
+    every: u64,
+) -> Result<u64, ServeFault>
+    requires workers { 1 ≤ workers }
+    requires every { 1 ≤ every }
+    ensures count { IfOk result (λ made. made ≡ length (turns count 0 (table_of book.old))) }
+    ensures table { OnOk result
+        (table_of book.new ≡ after_events (table_of book.old) (turns count 0 (table_of book.old))) }
+    ensures kept { OnOk result (IsAllKept book.new) }
+    ensures last { OnOk result (last_kept book.new ≡ table_of book.new) }
+    ensures begun { OnErr result (Begins (turns count 0 (table_of book.old)) book.old book.new) }
+    ensures sort { IfErr result IsOfBook }
+    ensures causes { IfErr result MayCome }
+    ensures counted { CountsServe result
+        (D.failures (disk_of book.old)) (D.failures (disk_of book.new)) }
+    ensures ready { is_broken book.old ≡ false → OnOk result (is_broken book.new ≡ false) }
+    ensures breaks { is_broken book.old ≡ false → IfErr result (λ fault.
+        StaysReady fault (is_broken book.new) (number_of book.new)) }
+    ensures any_moment { Leaves book.old book.new (IsKeptWithin (table_of book.old)
+        (last_kept book.old) (turns count 0 (table_of book.old))) }
+{
+    let made = make_rounds(rt, alloc, book, count, workers, every)?;
+    keep_all(book)?;
+    Ok(made)
+}
+
+/// The same, without the keep at the end.
+fn make_rounds<T: Threads + Wait, D: Disk>(
+    rt: &T,
+    alloc: Global,
+    book: &mut Book<D>,
+    count: u64,
+    workers: usize,
+    every: u64,
+) -> Result<u64, ServeFault>
+    requires workers { 1 ≤ workers }
+    requires every { 1 ≤ every }
+    ensures count { IfOk result (λ made. made ≡ length (turns count 0 (table_of book.old))) }
+    ensures table { OnOk result
+        (table_of book.new ≡ after_events (table_of book.old) (turns count 0 (table_of book.old))) }
+    ensures within { OnOk result (IsKeptWithin (table_of book.old) (last_kept book.old)
+        (turns count 0 (table_of book.old)) (last_kept book.new)) }
+    ensures begun { OnErr result (Begins (turns count 0 (table_of book.old)) book.old book.new) }
+    ensures sort { IfErr result IsOfBook }
+    ensures causes { IfErr result MayCome }
+    ensures counted { CountsServe result
+        (D.failures (disk_of book.old)) (D.failures (disk_of book.new)) }
+    ensures ready { is_broken book.old ≡ false → OnOk result (is_broken book.new ≡ false) }
+    ensures breaks { is_broken book.old ≡ false → IfErr result (λ fault.
+        StaysReady fault (is_broken book.new) (number_of book.new)) }
+    ensures any_moment { Leaves book.old book.new (IsKeptWithin (table_of book.old)
+        (last_kept book.old) (turns count 0 (table_of book.old))) }
+{
+    book.facts();
+    let mut place = 0;
+    for made in 0..count {
+        match make_round(rt, alloc, book, place, workers)? {
+            None => return Ok(made),
+            Some(last) => place = last + 1,
+        }
+        keep_each(book, made + 1, every)?;
+    }
+    Ok(count)
+}
+
+/// Keeps what isn't kept, where the number of rounds is a multiple of `every`.
+fn keep_each<D: Disk>(book: &mut Book<D>, made: u64, every: u64) -> Result<(), BookFault>
+    requires { 1 ≤ every }
+    ensures table { table_of book.new ≡ table_of book.old }
+    ensures kept { OnOk result ((last_kept book.new ≡ last_kept book.old)
+        ⊎ (last_kept book.new ≡ table_of book.old)) }
+    ensures unkept { OnErr result (last_kept book.new ≡ last_kept book.old) }
+    ensures causes { IfErr result (λ fault. MayCome (ServeFault.Book fault)) }
+    ensures counted { CountsBook result
+        (D.failures (disk_of book.old)) (D.failures (disk_of book.new)) }
+    ensures ready { is_broken book.old ≡ false → OnOk result (is_broken book.new ≡ false) }
+    ensures breaks { is_broken book.old ≡ false → IfErr result (λ fault.
+        StaysReady (ServeFault.Book fault) (is_broken book.new) (number_of book.new)) }
+    ensures any_moment { Leaves book.old book.new (IsKeptOrNow book.old) }
+{
+    book.facts();
+    if made % every == 0 {
+        return keep_all(book);
+    }
+    Ok(())
+}

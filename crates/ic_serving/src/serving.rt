@@ -1,0 +1,99 @@
+//! Serving all lines of a reader over a book.
+
+ghost use Rattle.std.specs.Prelude.{false, ◌≡◌, ◌≢◌, ◌≤◌, Err, IfErr, OnOk};
+ghost use Rattle.ic_disk.specs.Time.{LeavesOnly};
+ghost use Rattle.ic_desk.specs.Book.{is_broken, number_of, table_of, disk_of};
+ghost use Rattle.ic_lines.specs.declared.buffer.LineFault.TheVariants.{LongLine};
+ghost use Rattle.ic_serving.specs.Faults.{MayCome, CountsServe, StaysReady, fault_of_line};
+ghost use Rattle.ic_serving.specs.Booked.{last_kept, IsAllKept, IsOnMadeDisk};
+ghost use Rattle.ic_serving.specs.Served.{OfLines, AreAnswered, IsEnded, IsCut};
+ghost use Rattle.ic_serving.specs.Stopped.{HoldsOne, MayStand};
+
+use crate::answering::answer_line;
+use crate::fault::ServeFault;
+use crate::limits::MAX_LINES;
+use crate::writing::write_answer;
+use ic_desk::Book;
+use ic_disk::Disk;
+use ic_lines::{LineBuffer, LineFault};
+use std::alloc::Global;
+use std::io::{Read, Write};
+use std::sync::Wait;
+use std::thread::Threads;
+
+/// Serves the lines of the reader over the book. Rounds are made by so many workers and kept after
+/// each `every` of them; what a line leaves is kept before the line is answered. An answer is flushed
+/// before the reader is waited for.
+///
+/// At a fault the lines before are answered, but for a fault of the writer; the line at which it came
+/// isn't, though some of its events may stand in the book.
+pub fn serve_lines<T: Threads + Wait, D: Disk, R: Read, W: Write>(
+    rt: &T,
+    alloc: Global,
+    book: &mut Book<D>,
+    reader: &mut R,
+    writer: &mut W,
+    workers: usize,
+    every: u64,
+) -> Result<(), ServeFault>
+    requires workers { 1 ≤ workers }
+    requires every { 1 ≤ every }
+    ensures served { OnOk result (OfLines (R.remaining reader.old) (λ ls. AreAnswered ls
+        (table_of book.old) (table_of book.new) (W.contents writer.old) (W.contents writer.new))) }
+    ensures kept { OnOk result (IsAllKept book.old → IsAllKept book.new) }
+    ensures ended { IfErr result (λ fault. fault ≢ ServeFault.Write
+        → OfLines (R.remaining reader.old) (λ ls. IsEnded fault (IsAllKept book.old) ls
+        (table_of book.old) (table_of book.new) (last_kept book.new)
+        (W.contents writer.old) (W.contents writer.new))) }
+    ensures causes { IfErr result MayCome }
+    ensures counted { CountsServe result
+        (D.failures (disk_of book.old)) (D.failures (disk_of book.new)) }
+    ensures ready { is_broken book.old ≡ false → OnOk result (is_broken book.new ≡ false) }
+    ensures breaks { is_broken book.old ≡ false → IfErr result (λ fault.
+        StaysReady fault (is_broken book.new) (number_of book.new)) }
+    ensures cut { result ≡ Err ServeFault.Write
+        → OfLines (R.remaining reader.old) (λ ls. IsCut ls (table_of book.old) (table_of book.new)
+        (W.contents writer.old) (W.contents writer.new)) }
+    ensures kept_at_cut { result ≡ Err ServeFault.Write
+        → IsAllKept book.old → IsAllKept book.new }
+
+    // A crash at any moment leaves a table that the lines reach, or where not all was kept before,
+    // the one that was.
+    ensures any_moment { IsOnMadeDisk book.old → OfLines (R.remaining reader.old) (λ ls.
+        LeavesOnly D.clock D.left (disk_of book.old) (disk_of book.new) (HoldsOne
+        (MayStand (IsAllKept book.old) (last_kept book.old) (table_of book.old) ls))) }
+    ensures keeps { D.keeps (disk_of book.new) ≡ D.keeps (disk_of book.old) }
+    ensures made { IsOnMadeDisk book.old → IsOnMadeDisk book.new }
+{
+    ic_commands::laws::one_line_reading();
+    ic_lines::laws::lines_are_served_in_one_way();
+    book.facts();
+    let mut lines = LineBuffer::new(alloc);
+    for _ in 0..MAX_LINES {
+        book.facts();
+        if !lines.take_line(reader, writer)? {
+            return Ok(());
+        }
+        let answer = answer_line(rt, alloc, book, lines.line(), workers, every)?;
+        write_answer(writer, &answer)?;
+    }
+    book.facts();
+    match lines.take_line(reader, writer) {
+        Ok(false) => Ok(()),
+        Ok(true) => Err(ServeFault::TooManyLines),
+        Err(fault) => Err(behind_the_last(fault)),
+    }
+}
+
+/// Why no line is taken behind the last one that may be served: one that is too long is one too
+/// many.
+fn behind_the_last(fault: LineFault) -> ServeFault
+    ensures long { fault ≡ LongLine → result ≡ ServeFault.TooManyLines }
+    ensures others { fault ≢ LongLine → result ≡ fault_of_line fault }
+    ensures causes { MayCome result }
+{
+    match fault {
+        LineFault::LongLine => ServeFault::TooManyLines,
+        fault => fault.into(),
+    }
+}

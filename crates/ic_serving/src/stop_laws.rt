@@ -1,0 +1,39 @@
+//! Laws of the definitions that say what a stop in a serving leaves.
+
+ghost use Rattle.std.specs.Prelude.{◌≡◌, ◌↔◌, ◌<◌, ℕ, List, [], ◌∷◌, ◌++◌, length};
+ghost use Rattle.ic_jobs.specs.Job.{JobParts};
+ghost use Rattle.ic_frames.specs.Fields.{IsMade};
+ghost use Rattle.ic_slots.specs.Held.{IsHeld, the_table};
+ghost use Rattle.ic_lines.specs.Serving.{IsServed};
+ghost use Rattle.ic_serving.specs.Parts.{IsInLine};
+ghost use Rattle.ic_serving.specs.Served.{MayBeServed};
+ghost use Rattle.ic_serving.specs.Stopped.{HoldsOne, IsReached, MayStand};
+
+/// Lines reach the table before them, those within the first line, and the one that all of them
+/// leave; more lines reach no less. No lines reach nothing else, one line nothing but the tables
+/// within it, and a line that is too long nothing behind it.
+pub fn lines_reach_tables()
+    ensures before { (t : List JobParts) (ls : List (List ℕ)) → IsReached t ls t }
+    ensures none { (t u : List JobParts) → IsReached t [] u ↔ (u ≡ t) }
+    ensures one { (t u : List JobParts) (line : List ℕ)
+        → IsReached t (line ∷ []) u ↔ IsInLine t line u }
+    ensures all { (t u : List JobParts) (ls : List (List ℕ)) (answers : List ℕ)
+        → MayBeServed ls → IsServed t ls answers u → IsReached t ls u }
+    ensures longer { (t u : List JobParts) (ls more : List (List ℕ))
+        → IsReached t ls u → IsReached t (ls ++ more) u }
+    ensures too_long { (t u : List JobParts) (line : List ℕ) (more : List (List ℕ))
+        → 262144 < length line → IsReached t (line ∷ more) u → IsInLine t line u }
+{
+    ic_commands::laws::one_line_reading();
+}
+
+/// What a stop leaves is made, and whoever opens it begins with a table that may stand.
+pub fn a_stop_is_opened()
+    ensures made { (m n : ℕ) (kept t : List JobParts) (ls : List (List ℕ)) (file : List ℕ)
+        → HoldsOne (MayStand (m ≡ n) kept t ls) file → IsMade file }
+    ensures opened { (m n : ℕ) (kept t next : List JobParts) (ls : List (List ℕ)) (file : List ℕ)
+        → HoldsOne (MayStand (m ≡ n) kept t ls) file → IsHeld (the_table next) file
+        → MayStand (m ≡ n) kept t ls next }
+{
+    ic_slots::laws::one_is_held();
+}

@@ -1,0 +1,125 @@
+//! Lines that are served on a disk in memory.
+
+use crate::disks::{new_disk, newest, opened, reopened, worn};
+use crate::streams::{FailingReader, FailingWriter, Pace};
+use ic_desk::Book;
+use ic_disk::{Choice, Disk};
+use ic_notation::{Trouble, decimal};
+use ic_serving::serve_lines;
+use std::alloc::Global;
+use std::io::{Read, Write};
+use std::sync::Wait;
+use std::thread::Threads;
+
+/// By how many workers lines are served, and after how many rounds is kept.
+#[derive(Drop)]
+pub struct Server<'a, R> {
+    rt: &'a R,
+    pub alloc: Global,
+    workers: usize,
+    every: u64,
+}
+
+impl<'a, R: Threads + Wait> Server<'a, R> {
+    pub fn new(rt: &'a R, alloc: Global, workers: usize, every: usize) -> Server<'a, R> {
+        Server {
+            rt,
+            alloc,
+            workers,
+            every: every as u64,
+        }
+    }
+
+    /// Serves what a reader gives over a book. Answered is the line of a fault, or nothing.
+    pub fn serve<D: Disk, I: Read, O: Write>(
+        &self,
+        book: &mut Book<D>,
+        reader: &mut I,
+        writer: &mut O,
+    ) -> Result<Vec<u8>, Trouble> {
+        let workers = self.workers.max(1);
+        let every = self.every.max(1);
+        match serve_lines(self.rt, self.alloc, book, reader, writer, workers, every) {
+            Ok(()) => Ok(Vec::new(self.alloc)),
+            Err(fault) => Ok(fault.line(self.alloc)?),
+        }
+    }
+
+    /// What is written for a text over a book, and the line of a fault.
+    pub fn written<D: Disk>(&self, book: &mut Book<D>, text: &[u8]) -> Result<Vec<u8>, Trouble> {
+        let mut reader = text;
+        let mut output = Vec::new(self.alloc);
+        let mut fault = self.serve(book, &mut reader, &mut output)?;
+        output.append(&mut fault)?;
+        Ok(output)
+    }
+
+    /// What is written for a text on a new disk.
+    pub fn on_new_disk(&self, text: &[u8]) -> Result<Vec<u8>, Trouble> {
+        let mut book = opened(self.alloc, new_disk(self.alloc)?)?;
+        self.written(&mut book, text)
+    }
+
+    /// What is written for a text on a new disk, and for another on what a crash then leaves of it.
+    pub fn again(&self, text: &[u8], more: &[u8]) -> Result<Vec<u8>, Trouble> {
+        let mut book = opened(self.alloc, new_disk(self.alloc)?)?;
+        let mut output = self.written(&mut book, text)?;
+        let mut book = reopened(self.alloc, book.close(), Choice::Synced)?;
+        output.append(&mut self.written(&mut book, more)?)?;
+        Ok(output)
+    }
+
+    /// What is written for a text on a new disk, by a reader and a writer that go slowly.
+    pub fn slowly(&self, text: &[u8]) -> Result<Vec<u8>, Trouble> {
+        let mut book = opened(self.alloc, new_disk(self.alloc)?)?;
+        let mut reader = FailingReader::new(text, Pace::Slow, 0);
+        let mut writer = FailingWriter::new(self.alloc, Pace::Slow, 0, 0);
+        let mut fault = self.serve(&mut book, &mut reader, &mut writer)?;
+        let mut output = writer.into_flushed();
+        output.append(&mut fault)?;
+        Ok(output)
+    }
+
+    /// What is written for a text on a disk that another text has left and whose numbers are used up, and whether the disk is
+    /// as it was.
+    pub fn on_worn_disk(&self, before: &[u8], text: &[u8]) -> Result<Vec<u8>, Trouble> {
+        let mut book = opened(self.alloc, new_disk(self.alloc)?)?;
+        self.written(&mut book, before)?;
+        let disk = worn(self.alloc, &book.close())?;
+        let bytes = disk.bytes().to_vec(self.alloc)?;
+        let mut book = opened(self.alloc, disk)?;
+        let mut output = self.written(&mut book, text)?;
+        if book.close().bytes() == bytes.as_slice() {
+            output.extend_from_slice(b"the disk is as it was\n")?;
+        }
+        Ok(output)
+    }
+
+    /// What the book has after a text was served on a new disk: how many entries, how many of them kept, and how many jobs at
+    /// the start; and whether each entry has the sender 0.
+    pub fn history(&self, text: &[u8]) -> Result<Vec<u8>, Trouble> {
+        let mut book = opened(self.alloc, new_disk(self.alloc)?)?;
+        self.written(&mut book, text)?;
+        let entries = book.log().len();
+        let kept = book.kept();
+        let jobs = book.start().jobs().len();
+        let senders = if book.log().iter().all(|entry| entry.who == 0) {
+            "0"
+        } else {
+            "others"
+        };
+        let line = format!(in self.alloc;
+            "entries {entries}, kept {kept}, jobs before {jobs}, sender {senders}"
+        )?;
+        Ok(line.into_bytes())
+    }
+
+    /// The number of the newest slot after a text was served on a new disk.
+    pub fn newest_slot(&self, text: &[u8]) -> Result<Vec<u8>, Trouble> {
+        let mut book = opened(self.alloc, new_disk(self.alloc)?)?;
+        self.written(&mut book, text)?;
+        let mut line = Vec::new(self.alloc);
+        decimal(&mut line, newest(&book.close()))?;
+        Ok(line)
+    }
+}

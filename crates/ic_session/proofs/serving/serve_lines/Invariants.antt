@@ -1,7 +1,0 @@
-use Rattle.ic_lines.specs.Taking.{to_come}
-use Rattle.ic_session.proofs.StopLemmas.{Serves}
-use Rattle.ic_session.proofs.serving.serve_lines.Given as goal
-
-abbrev pub invariant-loop : goal.invariant-loop
-invariant-loop g l = Serves (g.R.Read.remaining l.fn.reader) (to_come l.lines (g.R.Read.remaining l.reader)) l.counter
-    l.fn.book l.book (g.W.Write.contents l.fn.writer) (g.W.Write.contents l.writer)

@@ -1,5 +1,0 @@
-use Rattle.ic_session.proofs.WriteLemmas.{IsSent}
-use Rattle.ic_session.proofs.writing.write_answer.Given as goal
-
-abbrev pub invariant-loop : goal.invariant-loop
-invariant-loop g l = IsSent l.initial.rest l.rest (g.W.Write.contents l.fn.writer) (g.W.Write.contents l.writer)

@@ -1,0 +1,6 @@
+-- What is proved of the definitions of specs/, for proofs of this crate and of those above.
+pub mod SubstitutionLaws
+pub mod WholeLaws
+pub mod MiddleLaws
+pub mod StepLaws
+pub mod ChoiceLaws

@@ -1,0 +1,92 @@
+-- What a stream is answered (this project's choice).
+use Rattle.std.specs.Prelude.{◌≡◌, ◌≢◌, ◌≤◌, ◌+◌, ℕ, List, [], ◌∷◌, ◌++◌, true, length}
+use Rattle.std.specs.Prelude.{Option, Result, Ok, Err}
+use Rattle.std.specs.Io.KnownBytes.{Appends, Consumes, IsAtEnd}
+use Rattle.ic_term.specs.Symbol.{Symbol}
+use Rattle.ic_term.specs.Configuration.{Configuration}
+use Rattle.ic_rules.specs.System.{SystemParts}
+use Rattle.ic_text.specs.Text.{Reads, printed}
+use Rattle.ic_text.specs.SystemText.{ReadsSystem}
+use Rattle.ic_text.specs.declared.limits.TheConstants.{MAX_TEXT}
+use Rattle.ic_text.specs.declared.fault.TextFault.TheVariants as text
+use Rattle.ic_round.specs.Settling.{settled}
+use Rattle.ic_round.specs.Rounds.{round, fits, unless_unfit}
+use Rattle.ic_round.specs.declared.round_fault.RoundFault.{RoundFault}
+use Rattle.ic_streams.specs.declared.fault.StreamFault.{StreamFault}
+use Rattle.ic_streams.specs.declared.fault.StreamFault.TheVariants.{Read, Text, Round, Memory, Write}
+
+-- the line of a configuration: its text and a line feed
+abbrev pub line_of : List Symbol → Configuration → List ℕ
+line_of symbols c = printed symbols c ++ 10 ∷ []
+
+-- a text is read as a configuration, and its line is that one settled
+pub record SettlesTo (input line : List ℕ) : Type 0 where
+  pub symbols : List Symbol
+  pub configuration : Configuration
+  pub reads : Reads input (Ok (symbols, configuration))
+  pub prints : line ≡ line_of symbols (settled configuration)
+
+-- a text is read as a system that fits, and its line is the configuration after one round
+pub record RoundsTo (input line : List ℕ) : Type 0 where
+  pub system : SystemParts
+  pub reads : ReadsSystem input (Ok system)
+  pub fits : fits system.rules.rules system.config ≡ true
+  pub prints : line ≡ line_of system.rules.symbols (round system.rules.rules system.config)
+
+-- the configuration of a system after one round, or why it isn't made
+abbrev pub round_of : SystemParts → Result Configuration RoundFault
+round_of s = unless_unfit s.rules.rules s.config (round s.rules.rules s.config)
+
+-- a text is read as a system whose round is refused with this fault
+pub record IsUnfit (input : List ℕ) (fault : RoundFault) : Type 0 where
+  pub system : SystemParts
+  pub reads : ReadsSystem input (Ok system)
+  pub refused : round_of system ≡ Err fault
+
+-- what a stream answers to a text: a line or a refusal
+abbrev pub Answering : Type 1
+Answering = List ℕ → Result (List ℕ) StreamFault → Type 0
+
+-- the answers of settling
+abbrev pub Settles : Answering
+Settles input (Ok line) = SettlesTo input line
+Settles input (Err (Text fault)) = Reads input (Err fault) × (fault ≢ text.Memory)
+Settles input (Err _) = ⊥
+
+-- the answers of one round
+abbrev pub Rounds : Answering
+Rounds input (Ok line) = RoundsTo input line
+Rounds input (Err (Text fault)) = ReadsSystem input (Err fault) × (fault ≢ text.Memory)
+Rounds input (Err (Round fault)) = IsUnfit input fault
+Rounds input (Err _) = ⊥
+
+-- the line of a text is appended to what was written
+abbrev pub Writes : Answering → List ℕ → Option (List ℕ) → Option (List ℕ) → Type 0
+Writes Answers input old new = (line : List ℕ) × Answers input (Ok line) × Appends old new line
+
+-- what a fault says of the text: its refusal, or that it has a line, or nothing
+abbrev pub FaultOf : Answering → List ℕ → StreamFault → Type 0
+FaultOf Answers input Write = (line : List ℕ) × Answers input (Ok line)
+FaultOf Answers input Read = Unit {0}
+FaultOf Answers input Memory = Unit {0}
+FaultOf Answers input fault = Answers input (Err fault)
+
+-- these bytes are taken, which are all there are or one more than a text may have
+abbrev pub TakesIt : List ℕ → Option (List ℕ) → Option (List ℕ) → Type 0
+TakesIt input old new = Consumes old new input × (length input ≤ MAX_TEXT + 1)
+    × (length input ≤ MAX_TEXT → IsAtEnd new)
+
+abbrev pub TakesText : Option (List ℕ) → Option (List ℕ) → Type 0
+TakesText old new = (input : List ℕ) × TakesIt input old new
+
+-- no more bytes are taken than one more than a text may have
+abbrev pub TakesSome : Option (List ℕ) → Option (List ℕ) → Type 0
+TakesSome old new = (input : List ℕ) × Consumes old new input × (length input ≤ MAX_TEXT + 1)
+
+-- what is taken from the reader at a fault
+abbrev pub TakesAt : StreamFault → Option (List ℕ) → Option (List ℕ) → Type 0
+TakesAt (Text fault) old new = TakesText old new
+TakesAt (Round fault) old new = TakesText old new
+TakesAt Write old new = TakesText old new
+TakesAt Read old new = TakesSome old new
+TakesAt Memory old new = TakesSome old new
