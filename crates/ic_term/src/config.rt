@@ -1,3 +1,5 @@
+//! Configurations: how they are made, taken apart and copied, and why terms and equations are none.
+
 ghost use Rattle.std.specs.Prelude.{◌≡◌, ℕ, ◌++◌, ◌<◌, ◌≤◌, ◌&&◌, ◌↔◌, ◌⊎◌, map, min, length, sum_by, true, false, nat_le, nat_lt, IfOk, IfErr, IsTrue, OnOk};
 ghost use Rattle.std.specs.List.{list_all, flat_map};
 ghost use Rattle.ic_term.specs.Tree.{nodes, names as names_of_term, pair_nodes, pair_names};

@@ -1,10 +1,13 @@
+//! Whether two configurations are the same.
+
 ghost use Rattle.std.specs.Prelude.{◌≡◌, map};
 ghost use Rattle.std.specs.Cmp.Lexicographic.{pointwise};
-ghost use Rattle.ic_term.specs.Tree.{tree_eq, pair_eq};
-ghost use Rattle.ic_term.specs.Term.{tree, pair};
+ghost use Rattle.ic_term.specs.Tree.{pair_eq};
+ghost use Rattle.ic_term.specs.Term.{pair};
 
 use crate::config::Config;
-use crate::term::{Equation, Term};
+use crate::term::Equation;
+use crate::terms::same_terms;
 
 impl PartialEq for Config {
     ghost use Rattle.std.specs.Cmp.{partial_equiv_from_equiv};
@@ -26,12 +29,6 @@ impl Eq for Config {
     ghost use Rattle.ic_term.specs.lemmas.ConfigurationEq.{configuration_eq-equivalence};
 
     ghost laws = { configuration_eq-equivalence };
-}
-
-fn same_terms(left: &[Term], right: &[Term]) -> bool
-    ensures { result ≡ pointwise tree_eq (map tree left.now) (map tree right.now) }
-{
-    left == right
 }
 
 fn same_equations(left: &[Equation], right: &[Equation]) -> bool

@@ -1,3 +1,5 @@
+//! Names that occur too often.
+
 ghost use Rattle.std.specs.Prelude.{◌≡◌, IfOk};
 ghost use Rattle.ic_term.specs.Configuration.{third_occurrence};
 

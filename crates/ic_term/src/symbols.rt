@@ -1,3 +1,5 @@
+//! Symbols with their arities, and how they get their numbers.
+
 ghost use Rattle.std.specs.Prelude.{◌≡◌, ◌<◌, ◌↔◌, ◌==◌, ◌||◌, length, IsTrue, if◌then◌else◌, is_ok, option_map, slice_get, Some, IfSome, []};
 ghost use Rattle.std.specs.Char.{is_ascii_uppercase, is_ascii_digit, is_ascii_alphanumeric};
 ghost use Rattle.std.specs.List.{list_all};

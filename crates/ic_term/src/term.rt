@@ -1,3 +1,5 @@
+//! Terms, agents and equations: their nodes, names and copies, and whether two are the same.
+
 ghost use Rattle.std.specs.Prelude.{◌≡◌, ◌++◌, min, IfOk, OnErr, OnOk};
 ghost use Rattle.ic_term.specs.Tree.{nodes, names, tree_eq, pair_names, pair_nodes, pair_eq};
 ghost use Rattle.std.specs.Cmp.{on_per, on_equiv, partial_equiv_from_equiv};
@@ -143,7 +145,7 @@ impl PartialEq for Term {
     ghost laws = { on_per tree (partial_equiv_from_equiv tree_eq-equivalence) };
 
     fn eq(&self, other: &Term) -> bool {
-        same_terms(self, other)
+        same_term(self, other)
     }
 }
 
@@ -157,7 +159,7 @@ impl PartialEq for Cell {
     ghost laws = { on_per cell_tree (partial_equiv_from_equiv tree_eq-equivalence) };
 
     fn eq(&self, other: &Cell) -> bool {
-        same_cells(self, other)
+        same_cell(self, other)
     }
 }
 
@@ -180,18 +182,18 @@ impl Eq for Equation {
 }
 
 #[cycle(same)]
-fn same_terms(left: &Term, right: &Term) -> bool
+fn same_term(left: &Term, right: &Term) -> bool
     ensures { result ≡ tree_eq (tree left.now) (tree right.now) }
 {
     match (left, right) {
         (Term::Name(left), Term::Name(right)) => left == right,
-        (Term::Agent(left), Term::Agent(right)) => same_cells(left, right),
+        (Term::Agent(left), Term::Agent(right)) => same_cell(left, right),
         _ => false,
     }
 }
 
 #[cycle(same)]
-fn same_cells(left: &Cell, right: &Cell) -> bool
+fn same_cell(left: &Cell, right: &Cell) -> bool
     ensures { result ≡ tree_eq (cell_tree left.now) (cell_tree right.now) }
 {
     if left.sym != right.sym {
@@ -201,7 +203,7 @@ fn same_cells(left: &Cell, right: &Cell) -> bool
         return false;
     }
     for i in 0..left.args.len() {
-        if !same_terms(&left.args[i], &right.args[i]) {
+        if !same_term(&left.args[i], &right.args[i]) {
             return false;
         }
     }

@@ -2,7 +2,8 @@
 
 ghost use Rattle.std.specs.Prelude.{◌≡◌, ◌++◌, map, min, sum_by, IfOk, OnOk};
 ghost use Rattle.std.specs.List.{flat_map};
-ghost use Rattle.ic_term.specs.Tree.{nodes, names};
+ghost use Rattle.std.specs.Cmp.Lexicographic.{pointwise};
+ghost use Rattle.ic_term.specs.Tree.{nodes, names, tree_eq};
 ghost use Rattle.ic_term.specs.Term.{tree};
 
 use crate::term::Term;
@@ -47,4 +48,11 @@ pub fn copy_terms(alloc: Global, terms: &[Term]) -> Result<Vec<Term>, AllocError
         copies.push(term.copy(alloc)?)?;
     }
     Ok(copies)
+}
+
+/// Whether two lists have the same terms, in the same order.
+pub fn same_terms(left: &[Term], right: &[Term]) -> bool
+    ensures { result ≡ pointwise tree_eq (map tree left.now) (map tree right.now) }
+{
+    left == right
 }

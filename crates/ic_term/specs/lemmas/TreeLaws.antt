@@ -1,13 +1,14 @@
 -- Lemmas, which no clause is read by: how terms as plain data are stored, their arguments as lists, and that the
 -- test of equality is equality.
-use Rattle.std.specs.Prelude.{◌≡◌, ◌==◌, List, [], ◌∷◌, Bool, true, false, ◌&&◌, refl}
+use Rattle.std.specs.Prelude.{◌≡◌, ◌+◌, ◌==◌, List, [], ◌∷◌, Bool, true, false, ◌&&◌, sum_by, refl}
 use Rattle.std.specs.Bool.{Decides}
 use Rattle.std.specs.Cmp.{IsEquivalence, decided, unsigned_Decides}
 use Rattle.std.specs.Coded.{Coded, code_by, coded×}
 use Rattle.std.proofs.lemmas.Bool.{and_parts}
+use Rattle.std.proofs.lemmas.List.Sums.{sum_by-cons}
 use Rattle.std.proofs.Common.{sym, ◌∙◌, ap}
 use base.Stored.{Gv, gnil, gnum, gcons}
-use Rattle.ic_term.specs.Tree.{Tree, name, agent, Trees, no_trees, more_trees, list_of, trees_of, Pair, tree_eq, trees_eq, pair_eq}
+use Rattle.ic_term.specs.Tree.{Tree, name, agent, Trees, no_trees, more_trees, list_of, trees_of, nodes, nodes_of, Pair, tree_eq, trees_eq, pair_eq}
 
 abbrev mutual
   tree_code : Tree → Gv
@@ -47,6 +48,11 @@ coded_pair = code_by (Tree × Tree) (coded× coded_tree coded_tree) (λ p. (p.le
 pub list_of-trees_of : (ts : List Tree) → list_of (trees_of ts) ≡ ts
 list_of-trees_of [] = refl
 list_of-trees_of (t ∷ ts) = ap (λ us. t ∷ us) (list_of-trees_of ts)
+
+-- the nodes of an agent's arguments are those of the list
+pub nodes_of-trees_of : (ts : List Tree) → nodes_of (trees_of ts) ≡ sum_by nodes ts
+nodes_of-trees_of [] = refl
+nodes_of-trees_of (t ∷ ts) = ap (λ n. nodes t + n) (nodes_of-trees_of ts) ∙ sym (sum_by-cons nodes t ts)
 
 mutual
   pub tree_eq-refl : (t : Tree) → tree_eq t t ≡ true

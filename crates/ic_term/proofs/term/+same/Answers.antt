@@ -2,8 +2,8 @@ use Rattle.std.proofs.Common.{◌≢◌, length, sym, ◌∙◌}
 use Rattle.ic_term.proofs.TreeLemmas.{tree_eq-lengths}
 use Rattle.ic_term.proofs.term.+same.Goals as goal
 
-pub same_cells-returns-then-len : goal.same_cells-returns-then-len
-same_cells-returns-then-len t c =
+pub same_cell-returns-then-len : goal.same_cell-returns-then-len
+same_cell-returns-then-len t c =
     let xs = c.args.left.now.args in
     let ys = c.args.right.now.args in
     let apart : length xs.items ≢ length ys.items =
