@@ -2,7 +2,8 @@
 use Rattle.std.proofs.Common.{◌≡◌, ℕ, ◌-◌, ◌≤◌, IsTrue, List, [], ◌∷◌, ◌++◌, length, replicate, refl, ap, arith}
 use Rattle.std.proofs.lemmas.Grind.{common_steps}
 use Rattle.std.proofs.Math.Seq.{take-append_seam}
-use Rattle.ic_rules.specs.JobName.{is_job_name, IsKept}
+use Rattle.ic_rules.specs.JobName.{is_job_name}
+use Rattle.ic_rules.specs.inner.JobName.{IsKept}
 
 pub kept : (text zeros : List ℕ) → IsTrue (is_job_name text) → zeros ≡ replicate (16 - length text) 0 → IsKept (text ++ zeros) (length text)
 kept text zeros name are = record {

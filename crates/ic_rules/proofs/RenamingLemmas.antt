@@ -1,8 +1,7 @@
 -- Places of elements, and tests of the elements left.
-use Rattle.std.proofs.Common.{◌≡◌, ℕ, suc, ◌+◌, ◌<◌, ◌≤◌, Bool, true, false, not, List, [], ◌∷◌, ◌&&◌, None, Some, length, map, get_or, drop, unwrap_or, cond, nat_lt, refl, ap, arith, drop-cons, add-one}
+use Rattle.std.proofs.Common.{◌≡◌, ℕ, suc, ◌+◌, ◌<◌, ◌≤◌, Bool, true, false, not, List, [], ◌∷◌, None, Some, length, get_or, drop, unwrap_or, cond, nat_lt, refl, arith, drop-cons, add-one}
 use Rattle.std.proofs.lemmas.Grind.{common_steps}
 use Rattle.std.specs.List.{list_all, position, position_or_len, prefix_len}
-use Rattle.std.specs.Cmp.Lexicographic.{pointwise}
 
 prefix_len-le : {X : Type 0} (p : X → Bool) (xs : List X) → prefix_len p xs ≤ length xs
 prefix_len-le p [] = omega arith
@@ -25,10 +24,3 @@ list_all-here p ns i within fails = rw (drop-cons ns i 0, fails) refl
 
 pub list_all-more : (p : ℕ → Bool) (ns : List ℕ) (i : ℕ) → i < length ns → p (get_or ns i 0) ≡ true → list_all p (drop i ns) ≡ list_all p (drop (i + 1) ns)
 list_all-more p ns i within passes = rw (drop-cons ns i 0, passes, add-one i) refl
-
--- a test of two lists through a function
-pub pointwise-map : {X Y : Type 0} (e : Y → Y → Bool) (f : X → Y) (xs ys : List X) → pointwise (λ x y. e (f x) (f y)) xs ys ≡ pointwise e (map f xs) (map f ys)
-pointwise-map e f [] [] = refl
-pointwise-map e f [] (y ∷ ys) = refl
-pointwise-map e f (x ∷ xs) [] = refl
-pointwise-map e f (x ∷ xs) (y ∷ ys) = ap (λ b. e (f x) (f y) && b) (pointwise-map e f xs ys)

@@ -1,3 +1,5 @@
+//! Whether the agents of rules are over symbols: each known, with as many arguments as its arity.
+
 ghost use Rattle.std.specs.Prelude.{◌≡◌, map};
 ghost use Rattle.std.specs.List.{flat_map};
 ghost use Rattle.ic_term.specs.Term.{tree, cell_tree};

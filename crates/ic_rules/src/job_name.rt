@@ -1,7 +1,9 @@
-ghost use Rattle.std.specs.Prelude.{◌≡◌, ◌↔◌, ◌==◌, ◌||◌, ◌&&◌, IsTrue, IsSome, IfSome, Some, None, if◌then◌else◌, nat_le, length};
+//! Names of jobs.
+
+ghost use Rattle.std.specs.Prelude.{◌≡◌, ◌↔◌, ◌==◌, ◌||◌, IsTrue, IsSome, IfSome};
 ghost use Rattle.std.specs.Char.{is_ascii_lowercase, is_ascii_digit};
 ghost use Rattle.std.specs.List.{list_all};
-ghost use Rattle.ic_rules.specs.JobName.{is_job_name};
+ghost use Rattle.ic_rules.specs.JobName.{is_job_word, is_job_name};
 
 use std::marker::Model;
 
@@ -11,14 +13,14 @@ pub const MAX_JOB_NAME: usize = 16;
 /// A job's name. It is kept inside the value, so it is copied without memory.
 #[derive(Clone, Copy, Debug, PartialEq, Eq)]
 pub struct JobName {
-    bytes: [u8; 16],
+    bytes: [u8; MAX_JOB_NAME],
     len: usize,
 }
 
 impl Model for JobName {
     ghost use Rattle.std.specs.Prelude.{List, ℕ, take, length};
     ghost use Rattle.std.proofs.Common.{sym};
-    ghost use Rattle.ic_rules.specs.JobName.{IsKept, padded};
+    ghost use Rattle.ic_rules.specs.inner.JobName.{IsKept, padded};
 
     ghost Value = { List ℕ };
 
@@ -56,14 +58,20 @@ impl JobName {
     }
 }
 
+/// Whether a text is a job's name.
 fn is_name(text: &[u8]) -> bool
     ensures { result ≡ is_job_name text.now }
 {
+    is_job_word(text) && text.len() <= MAX_JOB_NAME
+}
+
+/// Whether a text is a job's name but for its length.
+pub fn is_job_word(text: &[u8]) -> bool
+    ensures { result ≡ is_job_word text.now }
+{
     match text.split_first() {
         None => false,
-        Some((first, rest)) => {
-            first.is_ascii_lowercase() && are_name_bytes(rest) && text.len() <= MAX_JOB_NAME
-        }
+        Some((first, rest)) => first.is_ascii_lowercase() && are_name_bytes(rest),
     }
 }
 

@@ -1,10 +1,11 @@
 //! Laws of the definitions that the contracts of this crate cite.
 
-ghost use Rattle.std.specs.Prelude.{◌≡◌, ◌↔◌, ℕ, ◌==◌, List, [], Bool, None, Some, Ok, Err, ◌∷◌, ◌++◌, true, false, slice_get, length, map, IsTrue};
+ghost use Rattle.std.specs.Prelude.{◌≡◌, ◌↔◌, ℕ, ◌+◌, ◌==◌, List, [], Bool, None, Some, Ok, Err, ◌∷◌, ◌++◌, true, false, slice_get, length, map, IsTrue};
 ghost use Rattle.std.specs.List.{list_any, range_with_len, AllByRecursion};
+ghost use Rattle.ic_term.specs.Tree.{name, agent, no_trees, trees_of, nodes};
 ghost use Rattle.ic_term.specs.Symbol.{Symbol};
 ghost use Rattle.ic_rules.specs.Renaming.{first_occurrences, number_among, are_paired};
-ghost use Rattle.ic_rules.specs.Rule.{Rule, rule_eq, numbered, is_lopsided, IsNumbered};
+ghost use Rattle.ic_rules.specs.Rule.{Rule, rule_eq, rule_nodes, numbered, is_lopsided, IsNumbered};
 ghost use Rattle.ic_rules.specs.Mirror.{IsOwnMirror};
 ghost use Rattle.ic_rules.specs.Refusals.{IsRefusal, IsTaken};
 ghost use Rattle.ic_rules.specs.declared.rule_set.RuleFault.{RuleFault};
@@ -28,6 +29,21 @@ pub fn find_is_the_one_rule()
 pub fn limits_are()
     ensures rules { MAX_RULES ≡ 256 }
     ensures nodes { MAX_RULE_NODES ≡ 2048 }
+{}
+
+/// The nodes of a rule are those of the arguments of both its sides, however deep they nest: as terms, its two agents have
+/// two nodes more.
+pub fn rule_nodes_are_those_of_both_sides()
+    ensures agents { (r : Rule) → nodes (agent r.left (trees_of r.left_args))
+        + nodes (agent r.right (trees_of r.right_args)) ≡ rule_nodes r + 2 }
+    ensures nested { rule_nodes
+        (record {
+          left = 0;
+          right = 1;
+          left_args = name 0 ∷ [];
+          right_args = agent 2 (trees_of (agent 3 no_trees ∷ name 0 ∷ [])) ∷ [];
+          names = 1;
+        }) ≡ 4 }
 {}
 
 /// What `RuleSet::build` takes as they are, are exactly the rule sets; and the rule for which it answers `Twice` has a pair

@@ -14,7 +14,7 @@ mod rule;
 mod rule_set;
 mod system;
 
-pub use job_name::{JobName, MAX_JOB_NAME};
+pub use job_name::{JobName, MAX_JOB_NAME, is_job_word};
 pub use limits::{MAX_RULE_NODES, MAX_RULES};
 pub use renaming::has_numbered_names;
 pub use rule::Rule;

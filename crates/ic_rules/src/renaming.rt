@@ -1,3 +1,5 @@
+//! Names of rules, and their numbers by first occurrence.
+
 ghost use Rattle.std.specs.Prelude.{◌≡◌, ◌↔◌, ◌++◌, ℕ, map, length, unwrap_or, IfOk, OnOk, IsTrue};
 ghost use Rattle.std.specs.List.{flat_map, range_with_len};
 ghost use Rattle.std.specs.Ordering.{nat_cmp};

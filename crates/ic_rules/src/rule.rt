@@ -1,13 +1,14 @@
+//! Rules: their agents with the names numbered, and whether one is lopsided.
+
 ghost use Rattle.std.specs.Prelude.{◌≡◌, ◌++◌, ◌==◌, ◌&&◌, map, length, IfOk, IfSome, IsNone, IsTrue, ◌↔◌, not, true, false};
 ghost use Rattle.std.specs.List.{flat_map};
-ghost use Rattle.std.specs.Cmp.Lexicographic.{pointwise};
-ghost use Rattle.ic_term.specs.Tree.{names, tree_eq};
+ghost use Rattle.ic_term.specs.Tree.{names};
 ghost use Rattle.ic_term.specs.Term.{tree};
 ghost use Rattle.ic_rules.specs.Renaming.{are_paired, renamed, number_among};
 ghost use Rattle.ic_rules.specs.inner.Arguments.{firsts_of, is_own_swap};
 
 use crate::renaming::{first_occurrences, names_of, number_terms};
-use ic_term::{Cell, Term};
+use ic_term::{Cell, Term, same_terms};
 use std::alloc::{AllocError, Global};
 use std::marker::Model;
 
@@ -180,12 +181,6 @@ fn is_own_swap(alloc: Global, arguments: &Arguments) -> Result<bool, AllocError>
         && same_terms(&arguments.right, &swap.right)
         && arguments.names == swap.names;
     Ok(same)
-}
-
-fn same_terms(left: &[Term], right: &[Term]) -> bool
-    ensures { result ≡ pointwise tree_eq (map tree left.now) (map tree right.now) }
-{
-    left == right
 }
 
 /// Whether a rule of a symbol with itself isn't its own swap.

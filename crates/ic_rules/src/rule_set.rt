@@ -1,8 +1,10 @@
+//! Rule sets: how they are built, why rules make none, and the rule of two symbols.
+
 ghost use Rattle.std.specs.Prelude.{◌≡◌, ◌≤◌, length, map, min, sum_by, None, is_some, ◌||◌, IfOk, IfErr, OnOk};
 ghost use Rattle.std.specs.List.{AllByRecursion};
 ghost use Rattle.ic_rules.specs.Rule.{rule_nodes, numbered, IsRule};
 ghost use Rattle.ic_rules.specs.RuleSet.{are_few, first_uncounted, first_repeated, first_lopsided};
-ghost use Rattle.ic_rules.specs.RuleFault.{IsTwice, IsLopsided};
+ghost use Rattle.ic_rules.specs.inner.RuleFault.{IsTwice, IsLopsided};
 ghost use Rattle.ic_rules.specs.Written.{written};
 ghost use Rattle.ic_rules.specs.inner.Places.{ArePlaces, pair_eq};
 ghost use Rattle.std.specs.HashMap.{get};

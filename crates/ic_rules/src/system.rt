@@ -1,3 +1,5 @@
+//! Systems: rules with a configuration over their symbols.
+
 ghost use Rattle.std.specs.Prelude.{◌≡◌, ◌↔◌, IsTrue, IsSome, IfSome, IfOk};
 ghost use Rattle.std.specs.Arc.{arc_value};
 ghost use Rattle.ic_term.specs.Symbol.{is_over};
