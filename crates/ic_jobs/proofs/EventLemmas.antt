@@ -18,7 +18,8 @@ use Rattle.ic_jobs.specs.Job.{JobParts, IsJob, begun, can_move, moved, in_state}
 use Rattle.ic_jobs.specs.Table.{IsTable, is_named, job_named, with_changed, without}
 use Rattle.ic_jobs.specs.Events.{Outcome, outcome, submitted, unless_missing, paused, resumed, after_command, after_round, where_running, apply}
 use Rattle.ic_jobs.specs.History.{table_after}
-use Rattle.ic_jobs.specs.Submitted.{IsEvent, IsCommand, IsSubmit, mentions}
+use Rattle.ic_jobs.specs.Commands.{IsEvent, IsCommand, IsSubmit}
+use Rattle.ic_jobs.specs.Names.{mentions}
 use Rattle.ic_jobs.proofs.JobLemmas.{IsJob-in_state, IsJob-moved, IsJob-begun}
 use Rattle.ic_jobs.proofs.TableLemmas.{All-split, StandsAlone, named_stands, changed_alone, without_alone, IsTable-with, IsTable-without, IsTable-push}
 use Rattle.ic_jobs.proofs.TableLookups.{job_named-changed_other, job_named-without_other, job_named-append}

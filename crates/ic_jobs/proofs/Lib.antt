@@ -9,3 +9,5 @@ pub mod DistinctLemmas
 pub mod TurnLemmas
 pub mod TransitionLemmas
 pub mod NameOrder
+pub mod MemoryLemmas
+pub mod MentionLemmas

@@ -1,8 +1,5 @@
 -- The names of a table after an event, in their order.
-use Rattle.std.proofs.Common.{◌≡◌, ℕ, List, [], ◌∷◌, ◌++◌, Bool, true, false, cond, not, Option, None, Some, is_some, nat_lt, length, refl, ap, subst, ◌∙◌}
-use Rattle.std.specs.List.{filter}
-use Rattle.std.specs.Option.{option_map_or}
-use Rattle.std.specs.Str.{bytes_eq}
+use Rattle.std.proofs.Common.{◌≡◌, ℕ, List, [], ◌∷◌, ◌++◌, Bool, true, false, cond, not, Option, None, Some, is_some, nat_lt, length, refl, sym, ap, subst, ◌∙◌}
 use Rattle.ic_rules.specs.System.{SystemParts}
 use Rattle.ic_jobs.specs.declared.limits.TheConstants.{MAX_JOBS}
 use Rattle.ic_jobs.specs.declared.state.State.TheVariants as state
@@ -18,7 +15,7 @@ use Rattle.ic_jobs.specs.Job.{JobParts, begun, can_move, moved, in_state}
 use Rattle.ic_jobs.specs.Table.{job_names, is_named, job_named, with_changed, without}
 use Rattle.ic_jobs.specs.Shown.{shown}
 use Rattle.ic_jobs.specs.Events.{Outcome, outcome, refused, unless_missing, paused, resumed, after_command, after_round, where_running, apply}
-use Rattle.ic_jobs.specs.History.{table_after}
+use Rattle.ic_jobs.specs.Names.{but, names_after}
 use Rattle.ic_jobs.proofs.TableLookups.{KeepsName}
 use Rattle.ic_jobs.proofs.TableLemmas.{names-append}
 
@@ -26,88 +23,81 @@ named_so : (change : JobParts → JobParts) (j : JobParts) (b : Bool) → KeepsN
 named_so change j true keeps = keeps j
 named_so change j false keeps = refl
 
-pub names_changed : (n : List ℕ) (change : JobParts → JobParts) (t : List JobParts) → KeepsName change → job_names (with_changed n change t) ≡ job_names t
+names_changed : (n : List ℕ) (change : JobParts → JobParts) (t : List JobParts) → KeepsName change → job_names (with_changed n change t) ≡ job_names t
 names_changed n change [] keeps = refl
 names_changed n change (j ∷ js) keeps = λ i. named_so change j (is_named n j) keeps i ∷ names_changed n change js keeps i
-
--- the names but one
-abbrev pub but : List ℕ → List (List ℕ) → List (List ℕ)
-but n names = filter (λ m. not (bytes_eq n m)) names
 
 left_at : (n : List ℕ) (j : JobParts) (rest : List JobParts) (names : List (List ℕ)) (b : Bool) → job_names rest ≡ names
     → job_names (cond b (j ∷ rest) rest) ≡ cond b (j.name ∷ names) names
 left_at n j rest names true e = ap (λ (ns : List (List ℕ)). j.name ∷ ns) e
 left_at n j rest names false e = e
 
-pub names_without : (n : List ℕ) (t : List JobParts) → job_names (without n t) ≡ but n (job_names t)
+names_without : (n : List ℕ) (t : List JobParts) → job_names (without n t) ≡ but n (job_names t)
 names_without n [] = refl
 names_without n (j ∷ js) = left_at n j (without n js) (but n (job_names js)) (not (is_named n j)) (names_without n js)
 
--- ---- what keeps all names
+-- ---- the names after an event
 
-pause_names_at : (t : List JobParts) (n : List ℕ) (o : Option JobParts) → job_names (unless_missing t (paused t n) o).table ≡ job_names t
-pause_names_at t n None = refl
-pause_names_at t n (Some j) = at (is_running j.state)
+abbrev NamesSo : List JobParts → Event → Outcome → Type 0
+NamesSo t e o = job_names o.table ≡ names_after (job_names t) e o.reply
+
+submit_names : (t : List JobParts) (n : List ℕ) (s : SystemParts) (taken room : Bool)
+    → NamesSo t (by_command (Submit n s)) (cond taken (refused t Taken) (cond room (outcome (t ++ begun n s ∷ []) Accepted) (refused t Full)))
+submit_names t n s true room = refl
+submit_names t n s false true = names-append t (begun n s ∷ [])
+submit_names t n s false false = refl
+
+pause_names : (t : List JobParts) (n : List ℕ) (o : Option JobParts) → NamesSo t (by_command (Pause n)) (unless_missing t (paused t n) o)
+pause_names t n None = refl
+pause_names t n (Some j) = at (is_running j.state)
   where
-    at : (b : Bool) → job_names (cond b (outcome (with_changed n (in_state state.Paused) t) Okay) (refused t NotRunning)).table ≡ job_names t
+    at : (b : Bool) → NamesSo t (by_command (Pause n)) (cond b (outcome (with_changed n (in_state state.Paused) t) Okay) (refused t NotRunning))
     at true = names_changed n (in_state state.Paused) t (λ k. refl)
     at false = refl
 
-pub pause_names : (t : List JobParts) (n : List ℕ) → job_names (table_after t (by_command (Pause n))) ≡ job_names t
-pause_names t n = pause_names_at t n (job_named n t)
-
-resume_names_at : (t : List JobParts) (n : List ℕ) (o : Option JobParts) → job_names (unless_missing t (resumed t n) o).table ≡ job_names t
-resume_names_at t n None = refl
-resume_names_at t n (Some j) = at (is_paused j.state)
+resume_names : (t : List JobParts) (n : List ℕ) (o : Option JobParts) → NamesSo t (by_command (Resume n)) (unless_missing t (resumed t n) o)
+resume_names t n None = refl
+resume_names t n (Some j) = at (is_paused j.state)
   where
-    at : (b : Bool) → job_names (cond b (outcome (with_changed n (in_state state.Running) t) Okay) (refused t NotPaused)).table ≡ job_names t
+    at : (b : Bool) → NamesSo t (by_command (Resume n)) (cond b (outcome (with_changed n (in_state state.Running) t) Okay) (refused t NotPaused))
     at true = names_changed n (in_state state.Running) t (λ k. refl)
     at false = refl
 
-pub resume_names : (t : List JobParts) (n : List ℕ) → job_names (table_after t (by_command (Resume n))) ≡ job_names t
-resume_names t n = resume_names_at t n (job_named n t)
+cancel_names : (t : List JobParts) (n : List ℕ) (o : Option JobParts) → NamesSo t (by_command (Cancel n)) (unless_missing t (λ j. outcome (without n t) Okay) o)
+cancel_names t n None = refl
+cancel_names t n (Some j) = names_without n t
 
-round_names_at : (t : List JobParts) (n : List ℕ) (o : Option JobParts)
-    → job_names (option_map_or (λ p. p.table) (where_running (after_round t n) o) t) ≡ job_names t
-round_names_at t n None = refl
-round_names_at t n (Some j) = at (is_running j.state) (can_move j)
+fetch_names : (t : List JobParts) (n : List ℕ) (o : Option JobParts) → NamesSo t (by_command (Fetch n)) (unless_missing t (λ j. outcome t (Shown (shown j))) o)
+fetch_names t n None = refl
+fetch_names t n (Some j) = refl
+
+command_names : (t : List JobParts) (c : Command) → NamesSo t (by_command c) (after_command t c)
+command_names t (Submit n s) = submit_names t n s (is_some (job_named n t)) (nat_lt (length t) MAX_JOBS)
+command_names t (Pause n) = pause_names t n (job_named n t)
+command_names t (Resume n) = resume_names t n (job_named n t)
+command_names t (Cancel n) = cancel_names t n (job_named n t)
+command_names t (Fetch n) = fetch_names t n (job_named n t)
+command_names t list_jobs = refl
+
+round_names : (t : List JobParts) (n : List ℕ) (p : Outcome) (o : Option JobParts) → where_running (after_round t n) o ≡ Some p → NamesSo t (Round n) p
+round_names t n p None is = cc
+round_names t n p (Some j) is = at (is_running j.state) (can_move j) is
   where
     at : (running can : Bool)
-        → job_names (option_map_or (λ p. p.table) (cond running (Some (cond can (outcome (with_changed n moved t) Moved) (outcome (with_changed n (in_state state.Halted) t) Halted))) None) t)
-        ≡ job_names t
-    at true true = names_changed n moved t (λ k. refl)
-    at true false = names_changed n (in_state state.Halted) t (λ k. refl)
-    at false can = refl
+        → cond running (Some (cond can (outcome (with_changed n moved t) Moved) (outcome (with_changed n (in_state state.Halted) t) Halted))) None ≡ Some p
+        → NamesSo t (Round n) p
+    at true true e =
+        let same : outcome (with_changed n moved t) Moved ≡ p = cc in
+        ap (λ (o : Outcome). job_names o.table) (sym same) ∙ names_changed n moved t (λ k. refl)
+    at true false e =
+        let same : outcome (with_changed n (in_state state.Halted) t) Halted ≡ p = cc in
+        ap (λ (o : Outcome). job_names o.table) (sym same) ∙ names_changed n (in_state state.Halted) t (λ k. refl)
+    at false can e = cc
 
-pub round_names : (t : List JobParts) (n : List ℕ) → job_names (table_after t (Round n)) ≡ job_names t
-round_names t n = round_names_at t n (job_named n t)
-
--- ---- an accepted submit, a cancel
-
-pub accepted_at : (t : List JobParts) (n : List ℕ) (s : SystemParts) (taken room : Bool)
-    → let o = cond taken (refused t Taken) (cond room (outcome (t ++ begun n s ∷ []) Accepted) (refused t Full)) in
-    o.reply ≡ Accepted → job_names o.table ≡ job_names t ++ n ∷ []
-accepted_at t n s true room e = cc
-accepted_at t n s false true e = names-append t (begun n s ∷ [])
-accepted_at t n s false false e = cc
-
-pub accepted_names : (t : List JobParts) (n : List ℕ) (s : SystemParts) (o : Outcome) → apply t (by_command (Submit n s)) ≡ Some o
-    → o.reply ≡ Accepted → job_names o.table ≡ job_names t ++ n ∷ []
-accepted_names t n s o is =
-    let same : after_command t (Submit n s) ≡ o = cc in
-    subst (λ (p : Outcome). p.reply ≡ Accepted → job_names p.table ≡ job_names t ++ n ∷ []) same
-    (accepted_at t n s (is_some (job_named n t)) (nat_lt (length t) MAX_JOBS))
-
-cancelled_at : (t : List JobParts) (n : List ℕ) (o : Option JobParts)
-    → let p = unless_missing t (λ j. outcome (without n t) Okay) o in p.reply ≡ Okay → job_names p.table ≡ but n (job_names t)
-cancelled_at t n None e = cc
-cancelled_at t n (Some j) e = names_without n t
-
-pub cancelled_names : (t : List JobParts) (n : List ℕ) (o : Outcome) → apply t (by_command (Cancel n)) ≡ Some o
-    → o.reply ≡ Okay → job_names o.table ≡ but n (job_names t)
-cancelled_names t n o is =
-    let same : after_command t (Cancel n) ≡ o = cc in
-    subst (λ (p : Outcome). p.reply ≡ Okay → job_names p.table ≡ but n (job_names t)) same (cancelled_at t n (job_named n t))
+pub event_names_so : (t : List JobParts) (e : Event) (o : Outcome) → apply t e ≡ Some o → NamesSo t e o
+event_names_so t (by_command c) o is =
+    let same : after_command t c ≡ o = cc in subst (λ (p : Outcome). NamesSo t (by_command c) p) same (command_names t c)
+event_names_so t (Round n) o is = round_names t n o (job_named n t) is
 
 -- ---- what is refused changes nothing
 

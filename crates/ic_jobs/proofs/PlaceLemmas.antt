@@ -112,6 +112,34 @@ missing_here t what o e = ap (unless_missing t what) (sym e)
 pub job_is : (name : List ℕ) (t : List JobParts) (i : ℕ) (d : JobParts) (f : FoundAt name t i d) → d ≡ get_or t i d → d ≡ f.job
 job_is name t i d f e = e ∙ f.is
 
+pub same_job : (a b : JobParts) (o : Option JobParts) → o ≡ Some a → o ≡ Some b → a ≡ b
+same_job a b o e f = let h : Some a ≡ Some b = sym e ∙ f in cc
+
+-- the place of a name in an equal list
+pub found_in : {t u : List JobParts} {name : List ℕ} {i : ℕ} → u ≡ t → IsTable t → Some i ≡ position_from (is_named name) 0 u → (d : JobParts) → FoundAt name t i d
+found_in {t = t} {u = u} {name = name} {i = i} tables is place d =
+    found_at name t i d is (ap (λ (l : List JobParts). position_from (is_named name) 0 l) (sym tables) ∙ sym place)
+
+-- The job of a name, at its place, and what was read there.
+pub record ReadAt (name : List ℕ) (t : List JobParts) (i : ℕ) (d : JobParts) : Type 0 where
+  pub found : FoundAt name t i d
+  pub same : d ≡ found.job
+
+pub read_at : {t u : List JobParts} {name : List ℕ} {i : ℕ} {d : JobParts} → u ≡ t → IsTable t → Some i ≡ position_from (is_named name) 0 u → d ≡ get_or t i d
+    → ReadAt name t i d
+read_at {t = t} {u = u} {name = name} {i = i} {d = d} tables is place read =
+    let f = found_in tables is place d in record { found = f; same = job_is name t i d f read }
+
+-- what was read twice is one job
+pub read_twice : {t : List JobParts} {name : List ℕ} {i : ℕ} {d e : JobParts} → ReadAt name t i d → ReadAt name t i e → d ≡ e
+read_twice {t = t} {name = name} a b =
+    a.same ∙ same_job a.found.job b.found.job (job_named name t) a.found.there b.found.there ∙ sym b.same
+
+-- a name that has no place, in an equal list, has no job
+pub nothing_at : {t u : List JobParts} (name : List ℕ) → u ≡ t → None ≡ position_from (is_named name) 0 u → job_named name t ≡ None
+nothing_at {t = t} {u = u} name tables none =
+    no_place name t (ap (λ (l : List JobParts). position_from (is_named name) 0 l) (sym tables) ∙ sym none)
+
 told : (t : List JobParts) (what : JobParts → Outcome) (o : Option JobParts) (j : JobParts) → o ≡ Some j → unless_missing t what o ≡ what j
 told t what o j e = ap (unless_missing t what) e
 
@@ -232,9 +260,6 @@ running_is state.Paused e = cc
 running_is state.Done e = cc
 running_is state.Halted e = cc
 
-pub same_job : (a b : JobParts) (o : Option JobParts) → o ≡ Some a → o ≡ Some b → a ≡ b
-same_job a b o e f = let h : Some a ≡ Some b = sym e ∙ f in cc
-
 -- a job that was found and looked at is awaited exactly where it runs and agrees
 pub awaited_here : (name : List ℕ) (t : List JobParts) (i : ℕ) (d : JobParts) (f : FoundAt name t i d) (rules : Rules) (config : Configuration) (rounds : ℕ) → d ≡ f.job
     → is_running d.state ≡ true → agrees d rules config rounds ≡ true → Awaits t name rules config rounds
@@ -318,3 +343,18 @@ pub round_kept : (p : PlayedParts) (j : JobParts) → IsPlayed p → Agrees j p.
 round_kept p j is same =
     let rules = same.same_rules in let config = same.same_config in
     is.made ∙ sym (λ i. round (rules i).rules (config i))
+
+-- The awaited job, at its place, and what was read there.
+pub record AwaitedAt (name : List ℕ) (t : List JobParts) (i : ℕ) (d : JobParts) (rules : Rules) (config : Configuration) (rounds : ℕ) : Type 0 where
+  pub found : FoundAt name t i d
+  pub same : d ≡ found.job
+  pub runs : is_running found.job.state ≡ true
+  pub agrees : Agrees found.job rules config rounds
+
+pub awaited_at : {t u : List JobParts} {n m : List ℕ} {r q : Rules} {a b : Configuration} {k l : ℕ} {i : ℕ} {d : JobParts} → t ≡ u → n ≡ m → r ≡ q → a ≡ b → k ≡ l
+    → IsTable u → position_from (is_named n) 0 t ≡ Some i → Awaits t n r a k → d ≡ get_or u i d → AwaitedAt m u i d q b l
+awaited_at {t = t} {u = u} {n = n} {m = m} {q = q} {b = b} {l = l} {i = i} {d = d} tables names rules configs rounds is place awaits read =
+    let here : position_from (is_named m) 0 u ≡ Some i = sym (λ j. position_from (is_named (names j)) 0 (tables j)) ∙ place in
+    let f = found_at m u i d is here in
+    let job = awaited_is m u i d f q b l (along tables names rules configs rounds awaits) in
+    record { found = f; same = job_is m u i d f read; runs = job.0; agrees = job.1 }

@@ -1,6 +1,5 @@
 -- What events make of the state of a job.
-use Rattle.std.proofs.Common.{◌≡◌, ℕ, ◌<◌, ◌≤◌, List, [], ◌∷◌, ◌++◌, Bool, true, false, cond, Option, None, Some, is_some, nat_lt, length, refl, ap, ◌∙◌}
-use Rattle.std.proofs.lemmas.Bool.{lt-ltb, le-ltb}
+use Rattle.std.proofs.Common.{◌≡◌, ℕ, List, [], ◌∷◌, ◌++◌, Bool, true, false, cond, Option, None, Some, is_some, nat_lt, length, refl, ap, ◌∙◌}
 use Rattle.std.specs.Option.{option_map, option_or}
 use Rattle.std.specs.Str.{bytes_eq}
 use Rattle.std.specs.Cmp.Lexicographic.{bytes_decides}
@@ -14,7 +13,7 @@ use Rattle.ic_jobs.specs.declared.limits.TheConstants.{MAX_JOBS}
 use Rattle.ic_jobs.specs.declared.state.State.{State}
 use Rattle.ic_jobs.specs.declared.state.State.TheVariants as state
 use Rattle.ic_jobs.specs.declared.command.Command.{Command}
-use Rattle.ic_jobs.specs.declared.command.Command.TheVariants.{Submit, Pause, Resume, Cancel, Fetch}
+use Rattle.ic_jobs.specs.declared.command.Command.TheVariants.{Submit, Pause, Resume, Cancel, Fetch, List as list_jobs}
 use Rattle.ic_jobs.specs.declared.reply.Reply.{Reply}
 use Rattle.ic_jobs.specs.declared.reply.Reply.TheVariants.{Accepted, Okay, Shown, Refused, Moved, Halted}
 use Rattle.ic_jobs.specs.declared.reply.Refusal.TheVariants.{Taken, Full, NoJob, NotRunning, NotPaused}
@@ -25,7 +24,7 @@ use Rattle.ic_jobs.specs.Job.{JobParts, begun, open_state, can_move, moved, in_s
 use Rattle.ic_jobs.specs.Table.{job_named, with_changed, without}
 use Rattle.ic_jobs.specs.Shown.{shown}
 use Rattle.ic_jobs.specs.Events.{Outcome, outcome, refused, unless_missing, paused, resumed, after_command, after_round, where_running, apply}
-use Rattle.ic_jobs.specs.Transitions.{state_of, Leads}
+use Rattle.ic_jobs.specs.Transitions.{state_of, Leads, row, submit_row, pause_row, resume_row, cancel_row, fetch_reply, round_row_in, round_row, LeadsBy, LeadsWhere, CommandLeads, EventLeads}
 use Rattle.ic_jobs.proofs.TableLookups.{KeepsName, job_named-changed, job_named-without, job_named-append}
 
 abbrev state_in : Option JobParts → Option State
@@ -44,18 +43,6 @@ found_with (Some j) s e = record { job = j; there = refl; is = let same : j.stat
 none_with : (o : Option JobParts) → state_in o ≡ None → o ≡ None
 none_with None e = refl
 none_with (Some j) e = cc
-
-not_running : (s : State) → ¬ (s ≡ state.Running) → is_running s ≡ false
-not_running state.Running apart = absurd (apart refl)
-not_running state.Paused apart = refl
-not_running state.Done apart = refl
-not_running state.Halted apart = refl
-
-not_paused : (s : State) → ¬ (s ≡ state.Paused) → is_paused s ≡ false
-not_paused state.Running apart = refl
-not_paused state.Paused apart = absurd (apart refl)
-not_paused state.Done apart = refl
-not_paused state.Halted apart = refl
 
 leads : (t : List JobParts) (e : Event) (o : Outcome) (r : Reply) (n : List ℕ) (s : Option State)
     → apply t e ≡ Some o → o.reply ≡ r → state_of n o.table ≡ s → Leads t e r n s
@@ -82,28 +69,28 @@ begun_last t n s none =
     let same : bytes_eq n n ≡ true = (bytes_decides n n).1 refl in
     job_named-append n t (begun n s) ∙ (λ i. option_or (none i) (cond (same i) (Some (begun n s)) None))
 
-pub submit_leads : (t : List JobParts) (n : List ℕ) (s : SystemParts) → state_of n t ≡ None → length t < 32
+submit_leads : (t : List JobParts) (n : List ℕ) (s : SystemParts) → state_of n t ≡ None → nat_lt (length t) MAX_JOBS ≡ true
     → Leads t (by_command (Submit n s)) Accepted n (Some (open_state s.rules s.config))
 submit_leads t n s e few =
     let none = none_with (job_named n t) e in
     commanded t (Submit n s) (t ++ begun n s ∷ []) Accepted n _
-    (submits t n s false true (ap is_some none) (lt-ltb (length t) MAX_JOBS few)) (ap state_in (begun_last t n s none))
+    (submits t n s false true (ap is_some none) few) (ap state_in (begun_last t n s none))
 
-pub taken_leads : (t : List JobParts) (n : List ℕ) (s : SystemParts) (was : State) → state_of n t ≡ Some was
+taken_leads : (t : List JobParts) (n : List ℕ) (s : SystemParts) (was : State) → state_of n t ≡ Some was
     → Leads t (by_command (Submit n s)) (Refused Taken) n (Some was)
 taken_leads t n s was e =
     let f = found_with (job_named n t) was e in
     commanded t (Submit n s) t (Refused Taken) n (Some was) (submits t n s true (nat_lt (length t) MAX_JOBS) (ap is_some f.there) refl) e
 
-pub full_leads : (t : List JobParts) (n : List ℕ) (s : SystemParts) → state_of n t ≡ None → 32 ≤ length t
+full_leads : (t : List JobParts) (n : List ℕ) (s : SystemParts) → state_of n t ≡ None → nat_lt (length t) MAX_JOBS ≡ false
     → Leads t (by_command (Submit n s)) (Refused Full) n None
 full_leads t n s e many =
     let none = none_with (job_named n t) e in
-    commanded t (Submit n s) t (Refused Full) n None (submits t n s false false (ap is_some none) (le-ltb (length t) MAX_JOBS many)) e
+    commanded t (Submit n s) t (Refused Full) n None (submits t n s false false (ap is_some none) many) e
 
 -- ---- pause and resume
 
-pub pause_leads : (t : List JobParts) (n : List ℕ) → state_of n t ≡ Some state.Running → Leads t (by_command (Pause n)) Okay n (Some state.Paused)
+pause_leads : (t : List JobParts) (n : List ℕ) → state_of n t ≡ Some state.Running → Leads t (by_command (Pause n)) Okay n (Some state.Paused)
 pause_leads t n e =
     let f = found_with (job_named n t) state.Running e in
     let u : List JobParts = with_changed n (in_state state.Paused) t in
@@ -111,16 +98,16 @@ pause_leads t n e =
     (ap (unless_missing t (paused t n)) f.there ∙ ap (λ (s : State). cond (is_running s) (outcome u Okay) (refused t NotRunning)) f.is)
     (changed_state n (in_state state.Paused) t f.job (λ k. refl) f.there)
 
-pub no_pause_leads : (t : List JobParts) (n : List ℕ) (was : State) → state_of n t ≡ Some was → ¬ (was ≡ state.Running)
+no_pause_leads : (t : List JobParts) (n : List ℕ) (was : State) → state_of n t ≡ Some was → is_running was ≡ false
     → Leads t (by_command (Pause n)) (Refused NotRunning) n (Some was)
 no_pause_leads t n was e apart =
     let f = found_with (job_named n t) was e in
     let u : List JobParts = with_changed n (in_state state.Paused) t in
     commanded t (Pause n) t (Refused NotRunning) n (Some was)
     (ap (unless_missing t (paused t n)) f.there
-    ∙ ap (λ (b : Bool). cond b (outcome u Okay) (refused t NotRunning)) (ap is_running f.is ∙ not_running was apart)) e
+    ∙ ap (λ (b : Bool). cond b (outcome u Okay) (refused t NotRunning)) (ap is_running f.is ∙ apart)) e
 
-pub resume_leads : (t : List JobParts) (n : List ℕ) → state_of n t ≡ Some state.Paused → Leads t (by_command (Resume n)) Okay n (Some state.Running)
+resume_leads : (t : List JobParts) (n : List ℕ) → state_of n t ≡ Some state.Paused → Leads t (by_command (Resume n)) Okay n (Some state.Running)
 resume_leads t n e =
     let f = found_with (job_named n t) state.Paused e in
     let u : List JobParts = with_changed n (in_state state.Running) t in
@@ -128,41 +115,35 @@ resume_leads t n e =
     (ap (unless_missing t (resumed t n)) f.there ∙ ap (λ (s : State). cond (is_paused s) (outcome u Okay) (refused t NotPaused)) f.is)
     (changed_state n (in_state state.Running) t f.job (λ k. refl) f.there)
 
-pub no_resume_leads : (t : List JobParts) (n : List ℕ) (was : State) → state_of n t ≡ Some was → ¬ (was ≡ state.Paused)
+no_resume_leads : (t : List JobParts) (n : List ℕ) (was : State) → state_of n t ≡ Some was → is_paused was ≡ false
     → Leads t (by_command (Resume n)) (Refused NotPaused) n (Some was)
 no_resume_leads t n was e apart =
     let f = found_with (job_named n t) was e in
     let u : List JobParts = with_changed n (in_state state.Running) t in
     commanded t (Resume n) t (Refused NotPaused) n (Some was)
     (ap (unless_missing t (resumed t n)) f.there
-    ∙ ap (λ (b : Bool). cond b (outcome u Okay) (refused t NotPaused)) (ap is_paused f.is ∙ not_paused was apart)) e
+    ∙ ap (λ (b : Bool). cond b (outcome u Okay) (refused t NotPaused)) (ap is_paused f.is ∙ apart)) e
 
--- ---- cancel and fetch, and names of no job
+-- ---- cancel, and names of no job
 
-pub cancel_leads : (t : List JobParts) (n : List ℕ) (was : State) → state_of n t ≡ Some was → Leads t (by_command (Cancel n)) Okay n None
+cancel_leads : (t : List JobParts) (n : List ℕ) (was : State) → state_of n t ≡ Some was → Leads t (by_command (Cancel n)) Okay n None
 cancel_leads t n was e =
     let f = found_with (job_named n t) was e in
     commanded t (Cancel n) (without n t) Okay n None (ap (unless_missing t (λ j. outcome (without n t) Okay)) f.there) (ap state_in (job_named-without n t))
-
-pub fetched : (t : List JobParts) (n : List ℕ) (j : JobParts) → job_named n t ≡ Some j → apply t (by_command (Fetch n)) ≡ Some (outcome t (Shown (shown j)))
-fetched t n j there = ap (λ (o : Option JobParts). Some (unless_missing t (λ k. outcome t (Shown (shown k))) o)) there
 
 missing : (t : List JobParts) (n : List ℕ) (c : Command) (what : JobParts → Outcome) → after_command t c ≡ unless_missing t what (job_named n t)
     → state_of n t ≡ None → Leads t (by_command c) (Refused NoJob) n None
 missing t n c what is e =
     commanded t c t (Refused NoJob) n None (is ∙ ap (unless_missing t what) (none_with (job_named n t) e)) e
 
-pub none_to_pause : (t : List JobParts) (n : List ℕ) → state_of n t ≡ None → Leads t (by_command (Pause n)) (Refused NoJob) n None
+none_to_pause : (t : List JobParts) (n : List ℕ) → state_of n t ≡ None → Leads t (by_command (Pause n)) (Refused NoJob) n None
 none_to_pause t n e = missing t n (Pause n) (paused t n) refl e
 
-pub none_to_resume : (t : List JobParts) (n : List ℕ) → state_of n t ≡ None → Leads t (by_command (Resume n)) (Refused NoJob) n None
+none_to_resume : (t : List JobParts) (n : List ℕ) → state_of n t ≡ None → Leads t (by_command (Resume n)) (Refused NoJob) n None
 none_to_resume t n e = missing t n (Resume n) (resumed t n) refl e
 
-pub none_to_cancel : (t : List JobParts) (n : List ℕ) → state_of n t ≡ None → Leads t (by_command (Cancel n)) (Refused NoJob) n None
+none_to_cancel : (t : List JobParts) (n : List ℕ) → state_of n t ≡ None → Leads t (by_command (Cancel n)) (Refused NoJob) n None
 none_to_cancel t n e = missing t n (Cancel n) (λ j. outcome (without n t) Okay) refl e
-
-pub none_to_fetch : (t : List JobParts) (n : List ℕ) → state_of n t ≡ None → Leads t (by_command (Fetch n)) (Refused NoJob) n None
-none_to_fetch t n e = missing t n (Fetch n) (λ j. outcome t (Shown (shown j))) refl e
 
 -- ---- rounds
 
@@ -173,25 +154,82 @@ rounds t n j can there running able =
     ∙ ap (λ (s : State). cond (is_running s) (Some (after_round t n j)) None) running
     ∙ ap (λ (b : Bool). Some (cond b (outcome (with_changed n moved t) Moved) (outcome (with_changed n (in_state state.Halted) t) Halted))) able
 
-pub round_leads : (t : List JobParts) (n : List ℕ) (j : JobParts) → job_named n t ≡ Some j → j.state ≡ state.Running → can_move j ≡ true
+round_leads : (t : List JobParts) (n : List ℕ) (j : JobParts) → job_named n t ≡ Some j → j.state ≡ state.Running → can_move j ≡ true
     → Leads t (Round n) Moved n (Some (open_state j.rules (round j.rules.rules j.config)))
 round_leads t n j there running able =
     leads t (Round n) (outcome (with_changed n moved t) Moved) Moved n _ (rounds t n j true there running able) refl
     (changed_state n moved t j (λ k. refl) there)
 
-pub halt_leads : (t : List JobParts) (n : List ℕ) (j : JobParts) → job_named n t ≡ Some j → j.state ≡ state.Running → can_move j ≡ false
+halt_leads : (t : List JobParts) (n : List ℕ) (j : JobParts) → job_named n t ≡ Some j → j.state ≡ state.Running → can_move j ≡ false
     → Leads t (Round n) Halted n (Some state.Halted)
 halt_leads t n j there running able =
     leads t (Round n) (outcome (with_changed n (in_state state.Halted) t) Halted) Halted n _ (rounds t n j false there running able) refl
     (changed_state n (in_state state.Halted) t j (λ k. refl) there)
 
-none_running : (what : JobParts → Outcome) (o : Option JobParts) → ¬ (state_in o ≡ Some state.Running) → where_running what o ≡ None
-none_running what None apart = refl
-none_running what (Some j) apart =
-    ap (λ (b : Bool). cond b (Some (what j)) None) (not_running j.state (λ e. apart (ap (λ (s : State). Some s) e)))
+-- a job that doesn't run makes no round
+idle : (t : List JobParts) (n : List ℕ) (j : JobParts) (s : State) → job_named n t ≡ Some j → j.state ≡ s → is_running s ≡ false → apply t (Round n) ≡ None
+idle t n j s there is apart =
+    ap (where_running (after_round t n)) there
+    ∙ ap (λ (b : Bool). cond b (Some (after_round t n j)) None) (ap is_running is ∙ apart)
 
-pub no_round : (t : List JobParts) (n : List ℕ) → ¬ (state_of n t ≡ Some state.Running) → apply t (Round n) ≡ None
-no_round t n apart = none_running (after_round t n) (job_named n t) apart
+-- ---- the tables, row by row
+
+submit_rows : (t : List JobParts) (n : List ℕ) (s : SystemParts) (was : Option State) (room : Bool) → state_of n t ≡ was → nat_lt (length t) MAX_JOBS ≡ room
+    → LeadsBy t (by_command (Submit n s)) n (submit_row (open_state s.rules s.config) was room)
+submit_rows t n s (Some was) room e left = taken_leads t n s was e
+submit_rows t n s None true e left = submit_leads t n s e left
+submit_rows t n s None false e left = full_leads t n s e left
+
+pause_rows : (t : List JobParts) (n : List ℕ) (was : Option State) → state_of n t ≡ was → LeadsBy t (by_command (Pause n)) n (pause_row was)
+pause_rows t n None e = none_to_pause t n e
+pause_rows t n (Some state.Running) e = pause_leads t n e
+pause_rows t n (Some state.Paused) e = no_pause_leads t n state.Paused e refl
+pause_rows t n (Some state.Done) e = no_pause_leads t n state.Done e refl
+pause_rows t n (Some state.Halted) e = no_pause_leads t n state.Halted e refl
+
+resume_rows : (t : List JobParts) (n : List ℕ) (was : Option State) → state_of n t ≡ was → LeadsBy t (by_command (Resume n)) n (resume_row was)
+resume_rows t n None e = none_to_resume t n e
+resume_rows t n (Some state.Running) e = no_resume_leads t n state.Running e refl
+resume_rows t n (Some state.Paused) e = resume_leads t n e
+resume_rows t n (Some state.Done) e = no_resume_leads t n state.Done e refl
+resume_rows t n (Some state.Halted) e = no_resume_leads t n state.Halted e refl
+
+cancel_rows : (t : List JobParts) (n : List ℕ) (was : Option State) → state_of n t ≡ was → LeadsBy t (by_command (Cancel n)) n (cancel_row was)
+cancel_rows t n None e = none_to_cancel t n e
+cancel_rows t n (Some was) e = cancel_leads t n was e
+
+fetches : (t : List JobParts) (o : Option JobParts) → unless_missing t (λ j. outcome t (Shown (shown j))) o ≡ outcome t (fetch_reply o)
+fetches t None = refl
+fetches t (Some j) = refl
+
+command_leads : (t : List JobParts) (c : Command) → CommandLeads t c
+command_leads t (Submit n s) = submit_rows t n s (state_of n t) (nat_lt (length t) MAX_JOBS) refl refl
+command_leads t (Pause n) = pause_rows t n (state_of n t) refl
+command_leads t (Resume n) = resume_rows t n (state_of n t) refl
+command_leads t (Cancel n) = cancel_rows t n (state_of n t) refl
+command_leads t (Fetch n) = ap (λ (o : Outcome). Some o) (fetches t (job_named n t))
+command_leads t list_jobs = refl
+
+running_rows : (t : List JobParts) (n : List ℕ) (j : JobParts) (can : Bool) → job_named n t ≡ Some j → j.state ≡ state.Running → can_move j ≡ can
+    → LeadsWhere t (Round n) n (cond can (Some (row Moved (Some (open_state j.rules (round j.rules.rules j.config))))) (Some (row Halted (Some state.Halted))))
+running_rows t n j true there running able = round_leads t n j there running able
+running_rows t n j false there running able = halt_leads t n j there running able
+
+round_rows_in : (t : List JobParts) (n : List ℕ) (j : JobParts) (s : State) → job_named n t ≡ Some j → j.state ≡ s → LeadsWhere t (Round n) n (round_row_in s j)
+round_rows_in t n j state.Running there is = running_rows t n j (can_move j) there is refl
+round_rows_in t n j state.Paused there is = idle t n j state.Paused there is refl
+round_rows_in t n j state.Done there is = idle t n j state.Done there is refl
+round_rows_in t n j state.Halted there is = idle t n j state.Halted there is refl
+
+round_rows : (t : List JobParts) (n : List ℕ) (o : Option JobParts) → job_named n t ≡ o → LeadsWhere t (Round n) n (round_row o)
+round_rows t n None e = ap (where_running (after_round t n)) e
+round_rows t n (Some j) e = round_rows_in t n j j.state e refl
+
+pub event_leads : (t : List JobParts) (e : Event) → EventLeads t e
+event_leads t (by_command c) = command_leads t c
+event_leads t (Round n) = round_rows t n (job_named n t) refl
+
+-- ---- the state of a job that isn't kept from running
 
 false_unless_true : (b : Bool) → ¬ (b ≡ true) → b ≡ false
 false_unless_true true apart = absurd (apart refl)

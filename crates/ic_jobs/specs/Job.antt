@@ -12,7 +12,8 @@ use Rattle.ic_round.specs.Rounds.{fits, round, IsQuiet}
 use Rattle.ic_pool.specs.declared.limits.TheConstants.{MAX_ROUNDS}
 use Rattle.ic_jobs.specs.declared.state.State.{State}
 use Rattle.ic_jobs.specs.declared.state.State.TheVariants.{Running, Paused, Done, Halted}
-use Rattle.ic_jobs.specs.State.{state_eq, coded_state}
+use Rattle.ic_jobs.specs.State.{state_eq}
+use Rattle.ic_jobs.specs.lemmas.StateLaws.{coded_state}
 use Rattle.ic_round.specs.Quiet.{is_quiet}
 
 -- A job: its name, its rules and configuration, how many rounds it has made, and its state.

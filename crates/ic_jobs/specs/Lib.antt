@@ -5,7 +5,9 @@ pub mod Shown
 pub mod Memory
 pub mod Refusal
 pub mod Events
-pub mod Submitted
+pub mod Commands
+pub mod Replies
+pub mod Names
 pub mod Transitions
 pub mod Landing
 pub mod Turns

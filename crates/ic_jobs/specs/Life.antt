@@ -7,13 +7,14 @@ use Rattle.ic_term.specs.Configuration.{Configuration}
 use Rattle.ic_rules.specs.RuleSet.{Rules}
 use Rattle.ic_rules.specs.System.{SystemParts}
 use Rattle.ic_round.specs.Rounds.{iterate}
-use Rattle.ic_jobs.specs.declared.command.Command.TheVariants.{Submit, Cancel}
+use Rattle.ic_jobs.specs.declared.command.Command.{Command}
+use Rattle.ic_jobs.specs.declared.command.Command.TheVariants.{Submit, Pause, Resume, Cancel, Fetch, List as list_jobs}
 use Rattle.ic_jobs.specs.declared.reply.Reply.{Reply}
-use Rattle.ic_jobs.specs.declared.reply.Reply.TheVariants.{Accepted, Okay, Moved}
 use Rattle.ic_jobs.specs.declared.event.Event.{Event}
 use Rattle.ic_jobs.specs.declared.event.Event.TheVariants.{Command as by_command, Round}
 use Rattle.ic_jobs.specs.declared.event.Entry.{Entry}
 use Rattle.ic_jobs.specs.Job.{JobParts}
+use Rattle.ic_jobs.specs.Replies.{is_accepted, is_okay, is_moved}
 
 -- A job's rules, the configuration that it began with, and how many rounds it has made.
 pub record Life : Type 0 where
@@ -21,20 +22,48 @@ pub record Life : Type 0 where
   pub began : Configuration
   pub rounds : ℕ
 
+-- the system that a command submits under a name
+abbrev pub command_begins : List ℕ → Command → Option SystemParts
+command_begins name (Submit n system) = if bytes_eq name n then Some system else None
+command_begins name (Pause n) = None
+command_begins name (Resume n) = None
+command_begins name (Cancel n) = None
+command_begins name (Fetch n) = None
+command_begins name list_jobs = None
+
+abbrev pub event_begins : List ℕ → Event → Option SystemParts
+event_begins name (by_command c) = command_begins name c
+event_begins name (Round n) = None
+
 -- the system of an accepted submit of a name
 abbrev pub begins : List ℕ → Event → Reply → Option SystemParts
-begins name (by_command (Submit n system)) Accepted = if bytes_eq name n then Some system else None
-begins name _ _ = None
+begins name e r = if is_accepted r then event_begins name e else None
+
+-- a command takes out the job of a name
+abbrev pub command_ends : List ℕ → Command → Bool
+command_ends name (Submit n system) = false
+command_ends name (Pause n) = false
+command_ends name (Resume n) = false
+command_ends name (Cancel n) = bytes_eq name n
+command_ends name (Fetch n) = false
+command_ends name list_jobs = false
+
+abbrev pub event_ends : List ℕ → Event → Bool
+event_ends name (by_command c) = command_ends name c
+event_ends name (Round n) = false
 
 -- the job of a name is cancelled
 abbrev pub ends : List ℕ → Event → Reply → Bool
-ends name (by_command (Cancel n)) Okay = bytes_eq name n
-ends name _ _ = false
+ends name e r = if is_okay r then event_ends name e else false
+
+-- an event is a round of the job of a name
+abbrev pub event_moves : List ℕ → Event → Bool
+event_moves name (by_command c) = false
+event_moves name (Round n) = bytes_eq name n
 
 -- the job of a name makes a round
 abbrev pub moves : List ℕ → Event → Reply → Bool
-moves name (Round n) Moved = bytes_eq name n
-moves name _ _ = false
+moves name e r = if is_moved r then event_moves name e else false
 
 -- The last beginning of a job: its system, and the entries since.
 pub record Beginning : Type 0 where

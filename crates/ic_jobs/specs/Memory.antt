@@ -14,6 +14,7 @@ takes_memory (Cancel name) = false
 takes_memory (Fetch name) = true
 takes_memory list_jobs = true
 
+-- a copy of a command takes memory of a submit alone
 abbrev pub is_submit : Command → Bool
 is_submit (Submit name system) = true
 is_submit (Pause name) = false
@@ -22,7 +23,7 @@ is_submit (Cancel name) = false
 is_submit (Fetch name) = false
 is_submit list_jobs = false
 
--- a reply that tells of jobs
+-- a copy of a reply takes memory where it tells of jobs
 abbrev pub tells_jobs : Reply → Bool
 tells_jobs Accepted = false
 tells_jobs Okay = false

@@ -4,7 +4,7 @@ use Rattle.std.specs.Coded.{Coded, code_by, coded×, coded_ℕ, coded_list}
 use Rattle.ic_term.specs.Configuration.{Configuration, coded_configuration}
 use Rattle.ic_rules.specs.RuleSet.{Rules, coded_rules}
 use Rattle.ic_jobs.specs.declared.state.State.{State}
-use Rattle.ic_jobs.specs.State.{coded_state}
+use Rattle.ic_jobs.specs.lemmas.StateLaws.{coded_state}
 use Rattle.ic_jobs.specs.Job.{JobParts}
 
 -- A job as a reply shows it.

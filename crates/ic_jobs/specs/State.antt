@@ -1,6 +1,5 @@
 -- The states of a job.
-use Rattle.std.specs.Prelude.{◌≡◌, ℕ, zero, suc, ◌==◌, Bool, true, false, refl}
-use Rattle.std.specs.Coded.{Coded, code_by, coded_ℕ}
+use Rattle.std.specs.Prelude.{ℕ, zero, suc, ◌==◌, Bool, true, false}
 use Rattle.ic_jobs.specs.declared.state.State.{State}
 use Rattle.ic_jobs.specs.declared.state.State.TheVariants.{Running, Paused, Done, Halted}
 
@@ -33,17 +32,9 @@ state_number Halted = 3
 abbrev pub state_eq : State → State → Bool
 state_eq s r = state_number s == state_number r
 
+-- the state of a number
 abbrev pub state_numbered : ℕ → State
 state_numbered zero = Running
 state_numbered (suc zero) = Paused
 state_numbered (suc (suc zero)) = Done
 state_numbered (suc (suc (suc n))) = Halted
-
-pub state_numbered-number : (s : State) → state_numbered (state_number s) ≡ s
-state_numbered-number Running = refl
-state_numbered-number Paused = refl
-state_numbered-number Done = refl
-state_numbered-number Halted = refl
-
-abbrev pub coded_state : Coded State
-coded_state = code_by ℕ coded_ℕ state_number state_numbered state_numbered-number

@@ -1,12 +1,21 @@
--- The state of a job before and after an event.
-use Rattle.std.specs.Prelude.{◌≡◌, ℕ, List, Option, Some}
+-- What an event answers, and the state of the job of its name before and after it.
+use Rattle.std.specs.Prelude.{◌≡◌, ℕ, List, Bool, true, false, Option, None, Some, length, nat_lt, if◌then◌else◌}
 use Rattle.std.specs.Option.{option_map}
+use Rattle.ic_round.specs.Rounds.{round}
+use Rattle.ic_jobs.specs.declared.limits.TheConstants.{MAX_JOBS}
 use Rattle.ic_jobs.specs.declared.state.State.{State}
+use Rattle.ic_jobs.specs.declared.state.State.TheVariants as state
+use Rattle.ic_jobs.specs.declared.command.Command.{Command}
+use Rattle.ic_jobs.specs.declared.command.Command.TheVariants.{Submit, Pause, Resume, Cancel, Fetch, List as list_jobs}
 use Rattle.ic_jobs.specs.declared.event.Event.{Event}
+use Rattle.ic_jobs.specs.declared.event.Event.TheVariants.{Command as by_command, Round}
 use Rattle.ic_jobs.specs.declared.reply.Reply.{Reply}
-use Rattle.ic_jobs.specs.Job.{JobParts}
+use Rattle.ic_jobs.specs.declared.reply.Reply.TheVariants.{Accepted, Okay, Shown, Listed, Refused, Moved, Halted}
+use Rattle.ic_jobs.specs.declared.reply.Refusal.TheVariants.{Taken, Full, NoJob, NotRunning, NotPaused}
+use Rattle.ic_jobs.specs.Job.{JobParts, open_state, can_move}
 use Rattle.ic_jobs.specs.Table.{job_named}
-use Rattle.ic_jobs.specs.Events.{Outcome, apply}
+use Rattle.ic_jobs.specs.Shown.{shown, listed}
+use Rattle.ic_jobs.specs.Events.{Outcome, outcome, apply}
 
 -- the state of the job of a name, where there is one
 abbrev pub state_of : List ℕ → List JobParts → Option State
@@ -20,3 +29,84 @@ pub record Leads (t : List JobParts) (e : Event) (r : Reply) (name : List ℕ)
   pub defined : apply t e ≡ Some outcome
   pub replied : outcome.reply ≡ r
   pub left : state_of name outcome.table ≡ after
+
+-- A row of the tables below: a reply, and the state that the job is left in, where there is one.
+pub record Row : Type 0 where
+  pub reply : Reply
+  pub after : Option State
+
+abbrev pub row : Reply → Option State → Row
+row r s = record { reply = r; after = s }
+
+-- a submit of a job that begins in this state, by the state before and whether the table has room
+abbrev pub submit_row : State → Option State → Bool → Row
+submit_row begins (Some was) room = row (Refused Taken) (Some was)
+submit_row begins None true = row Accepted (Some begins)
+submit_row begins None false = row (Refused Full) None
+
+-- a pause, by the state before
+abbrev pub pause_row : Option State → Row
+pause_row None = row (Refused NoJob) None
+pause_row (Some state.Running) = row Okay (Some state.Paused)
+pause_row (Some state.Paused) = row (Refused NotRunning) (Some state.Paused)
+pause_row (Some state.Done) = row (Refused NotRunning) (Some state.Done)
+pause_row (Some state.Halted) = row (Refused NotRunning) (Some state.Halted)
+
+-- a resume, by the state before
+abbrev pub resume_row : Option State → Row
+resume_row None = row (Refused NoJob) None
+resume_row (Some state.Running) = row (Refused NotPaused) (Some state.Running)
+resume_row (Some state.Paused) = row Okay (Some state.Running)
+resume_row (Some state.Done) = row (Refused NotPaused) (Some state.Done)
+resume_row (Some state.Halted) = row (Refused NotPaused) (Some state.Halted)
+
+-- a cancel, by the state before
+abbrev pub cancel_row : Option State → Row
+cancel_row None = row (Refused NoJob) None
+cancel_row (Some was) = row Okay None
+
+-- what a fetch answers, by the job
+abbrev pub fetch_reply : Option JobParts → Reply
+fetch_reply None = Refused NoJob
+fetch_reply (Some j) = Shown (shown j)
+
+-- a round of a job in this state; none is defined of one that doesn't run
+abbrev pub round_row_in : State → JobParts → Option Row
+round_row_in state.Running j =
+    if can_move j
+    then Some (row Moved (Some (open_state j.rules (round j.rules.rules j.config))))
+    else Some (row Halted (Some state.Halted))
+round_row_in state.Paused j = None
+round_row_in state.Done j = None
+round_row_in state.Halted j = None
+
+-- a round, by its job
+abbrev pub round_row : Option JobParts → Option Row
+round_row None = None
+round_row (Some j) = round_row_in j.state j
+
+-- an event goes as a row says of the job of a name
+abbrev pub LeadsBy : List JobParts → Event → List ℕ → Row → Type 0
+LeadsBy t e name w = Leads t e w.reply name w.after
+
+-- an event goes as a row says, or isn't defined where there is no row
+abbrev pub LeadsWhere : List JobParts → Event → List ℕ → Option Row → Type 0
+LeadsWhere t e name None = apply t e ≡ None
+LeadsWhere t e name (Some w) = LeadsBy t e name w
+
+-- what is said of each command; fetch and list leave the whole table
+abbrev pub CommandLeads : List JobParts → Command → Type 0
+CommandLeads t (Submit n s) =
+    LeadsBy t (by_command (Submit n s)) n
+    (submit_row (open_state s.rules s.config) (state_of n t) (nat_lt (length t) MAX_JOBS))
+CommandLeads t (Pause n) = LeadsBy t (by_command (Pause n)) n (pause_row (state_of n t))
+CommandLeads t (Resume n) = LeadsBy t (by_command (Resume n)) n (resume_row (state_of n t))
+CommandLeads t (Cancel n) = LeadsBy t (by_command (Cancel n)) n (cancel_row (state_of n t))
+CommandLeads t (Fetch n) =
+    apply t (by_command (Fetch n)) ≡ Some (outcome t (fetch_reply (job_named n t)))
+CommandLeads t list_jobs = apply t (by_command list_jobs) ≡ Some (outcome t (Listed (listed t)))
+
+-- what is said of each event
+abbrev pub EventLeads : List JobParts → Event → Type 0
+EventLeads t (by_command c) = CommandLeads t c
+EventLeads t (Round n) = LeadsWhere t (Round n) n (round_row (job_named n t))

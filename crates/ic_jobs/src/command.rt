@@ -1,5 +1,7 @@
+//! Commands: what a client asks of a job table.
+
 ghost use Rattle.std.specs.Prelude.{◌≡◌, IfOk, OnErr, IsTrue};
-ghost use Rattle.ic_jobs.specs.Submitted.{IsSubmit};
+ghost use Rattle.ic_jobs.specs.Commands.{IsSubmit};
 
 use ic_rules::{JobName, System};
 use std::alloc::{AllocError, Global};
@@ -19,7 +21,7 @@ pub enum Command {
 
 impl Command {
     ghost use Rattle.ic_jobs.specs.Memory.{is_submit};
-    ghost use Rattle.ic_jobs.specs.Submitted.{IsEvent};
+    ghost use Rattle.ic_jobs.specs.Commands.{IsEvent};
     ghost use Rattle.ic_jobs.specs.declared.event.Event.TheVariants.{Command as by_command};
 
     /// A copy, equal to its source. Only a submit's takes memory.
@@ -46,6 +48,7 @@ impl Command {
 fn keeps_submit(name: &JobName, system: &System)
     ensures { IsSubmit name.now system.now }
 {
+    // Read for the proof: what each type keeps is known once a part of it was read.
     let (rules, config) = (system.rules(), system.config());
     let (_text, _count, _next) = (name.as_bytes(), rules.symbols().len(), config.next());
 }

@@ -1,3 +1,5 @@
+//! Events of a job table, and the entries of its history.
+
 use crate::command::Command;
 use crate::reply::Reply;
 use ic_rules::JobName;

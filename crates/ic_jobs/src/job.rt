@@ -1,3 +1,5 @@
+//! A job of the table.
+
 ghost use Rattle.std.specs.Prelude.{◌≡◌, IfOk};
 ghost use Rattle.std.specs.Arc.{arc_value};
 ghost use Rattle.ic_jobs.specs.Job.{open_state};
@@ -81,7 +83,7 @@ impl Job {
           state = state;
         }) }
     {
-        // What the types of the parts keep, the job keeps too.
+        // Read for the proof: what the types of the parts keep, the job keeps too.
         let (_text, _count, _next) = (name.as_bytes(), rules.symbols().len(), config.next());
         if rounds > MAX_ROUNDS || !over(rules.symbols(), &config) {
             return None;
@@ -105,6 +107,7 @@ impl Job {
     {
         let (rules, config) = system.into_parts();
         let symbols = rules.symbols();
+        // Read for the proof: what the types of the parts keep, the job keeps too.
         let (_text, _count, _next) = (name.as_bytes(), symbols.len(), config.next());
         let state = open_state(&rules, &config);
         Job {

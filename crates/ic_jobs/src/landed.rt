@@ -1,3 +1,5 @@
+//! What became of a round that came to a table.
+
 /// What became of a round that was made or can't be made.
 #[derive(Clone, Copy, Debug, PartialEq, Eq)]
 pub enum Landed {

@@ -1,30 +1,32 @@
 //! Laws of the definitions that the contracts of this crate cite.
 
-ghost use Rattle.std.specs.Prelude.{◌≡◌, ◌↔◌, ◌<◌, ◌≤◌, ℕ, List, [], ◌∷◌, ◌++◌, None, Some, IfSome, IsTrue, true, false, not, length, map, filter};
-ghost use Rattle.std.specs.Str.{bytes_eq};
+ghost use Rattle.std.specs.Prelude.{◌≡◌, ◌↔◌, ◌⊎◌, ◌<◌, ◌≤◌, ℕ, List, [], ◌∷◌, ◌++◌, None, Some, IfSome, IsTrue, true, false, length, slice_get};
+ghost use Rattle.std.specs.List.{Contains};
 ghost use Rattle.ic_term.specs.Configuration.{Configuration};
 ghost use Rattle.ic_rules.specs.RuleSet.{Rules};
 ghost use Rattle.ic_rules.specs.System.{SystemParts};
-ghost use Rattle.ic_round.specs.Rounds.{round, IsQuiet};
+ghost use Rattle.ic_round.specs.Rounds.{IsQuiet};
 ghost use Rattle.ic_pool.specs.Flight.{FlightParts};
 ghost use Rattle.ic_jobs.specs.declared.state.State.{State};
-ghost use Rattle.ic_jobs.specs.declared.state.State.TheVariants.{Running, Paused, Done, Halted};
-ghost use Rattle.ic_jobs.specs.declared.command.Command.TheVariants.{Submit, Pause, Resume, Cancel, Fetch, List as list_jobs};
-ghost use Rattle.ic_jobs.specs.declared.reply.Reply.TheVariants.{Accepted, Okay, Shown, Listed, Refused, Moved};
-ghost use Rattle.ic_jobs.specs.declared.reply.Reply.TheVariants as reply;
+ghost use Rattle.ic_jobs.specs.declared.state.State.TheVariants.{Running, Done};
+ghost use Rattle.ic_jobs.specs.declared.command.Command.{Command};
+ghost use Rattle.ic_jobs.specs.declared.command.Command.TheVariants.{Submit};
+ghost use Rattle.ic_jobs.specs.declared.reply.Reply.{Reply};
+ghost use Rattle.ic_jobs.specs.declared.reply.Reply.TheVariants.{Shown, Listed, Refused};
 ghost use Rattle.ic_jobs.specs.declared.reply.Refusal.{Refusal};
-ghost use Rattle.ic_jobs.specs.declared.reply.Refusal.TheVariants.{Taken, Full, NoJob, NotRunning, NotPaused};
 ghost use Rattle.ic_jobs.specs.declared.event.Event.{Event};
-ghost use Rattle.ic_jobs.specs.declared.event.Event.TheVariants.{Command as by_command, Round};
+ghost use Rattle.ic_jobs.specs.declared.event.Event.TheVariants.{Round};
 ghost use Rattle.ic_jobs.specs.declared.event.Entry.{Entry};
 ghost use Rattle.ic_jobs.specs.declared.limits.TheConstants.{MAX_JOBS};
-ghost use Rattle.ic_jobs.specs.Job.{JobParts, open_state, can_move, job_eq, table_eq};
+ghost use Rattle.ic_jobs.specs.Job.{JobParts, open_state, job_eq, table_eq};
 ghost use Rattle.ic_jobs.specs.Table.{IsTable, job_names, job_named};
-ghost use Rattle.ic_jobs.specs.Shown.{shown, listed};
-ghost use Rattle.ic_jobs.specs.Events.{Outcome, IsAnswered, outcome, apply};
-ghost use Rattle.ic_jobs.specs.Transitions.{state_of, Leads};
+ghost use Rattle.ic_jobs.specs.Shown.{ShownParts, shown, listed};
+ghost use Rattle.ic_jobs.specs.Events.{Outcome, IsAnswered, after_command, apply};
+ghost use Rattle.ic_jobs.specs.Commands.{IsEvent};
+ghost use Rattle.ic_jobs.specs.Replies.{is_accepted, is_okay};
+ghost use Rattle.ic_jobs.specs.Names.{mentions, event_names, names_after};
+ghost use Rattle.ic_jobs.specs.Transitions.{EventLeads};
 ghost use Rattle.ic_jobs.specs.Memory.{takes_memory, is_submit, tells_jobs};
-ghost use Rattle.ic_jobs.specs.Submitted.{IsEvent, mentions};
 ghost use Rattle.ic_jobs.specs.History.{table_after, replay, IsLegal};
 ghost use Rattle.ic_jobs.specs.Landing.{due, Awaits};
 ghost use Rattle.ic_jobs.specs.Turns.{RunsAt, IsFlightOf, HasFlight};
@@ -79,111 +81,66 @@ pub fn other_jobs_stay()
         → job_named name (table_after t e) ≡ job_named name t }
 {}
 
-/// An event of a name mentions this name and no other. A list mentions none. Every round is an
-/// event, as every command is (`Command::copy`).
+/// An event mentions exactly its own names. Every round is an event, as every command is
+/// (`Command::copy`).
 pub fn events_mention_their_names()
-    ensures submit { (name n : List ℕ) (s : SystemParts)
-        → IsTrue (mentions name (by_command (Submit n s))) ↔ (name ≡ n) }
-    ensures pause { (name n : List ℕ) → IsTrue (mentions name (by_command (Pause n))) ↔ (name ≡ n) }
-    ensures resume { (name n : List ℕ)
-        → IsTrue (mentions name (by_command (Resume n))) ↔ (name ≡ n) }
-    ensures cancel { (name n : List ℕ)
-        → IsTrue (mentions name (by_command (Cancel n))) ↔ (name ≡ n) }
-    ensures fetch { (name n : List ℕ) → IsTrue (mentions name (by_command (Fetch n))) ↔ (name ≡ n) }
-    ensures list { (name : List ℕ) → mentions name (by_command list_jobs) ≡ false }
-    ensures round { (name n : List ℕ) → IsTrue (mentions name (Round n)) ↔ (name ≡ n) }
+    ensures names { (name : List ℕ) (e : Event)
+        → IsTrue (mentions name e) ↔ Contains (event_names e) name }
     ensures rounds { (n : List ℕ) → IsEvent (Round n) }
 {}
 
-/// What a command answers, and the state in which it leaves the job of its name, by the state
-/// before. Fetch and list leave the table as it is.
-pub fn commands_change_states_so()
-    ensures submitted { (t : List JobParts) (n : List ℕ) (s : SystemParts)
-        → state_of n t ≡ None → length t < 32
-        → Leads t (by_command (Submit n s)) Accepted n (Some (open_state s.rules s.config)) }
-    ensures taken { (t : List JobParts) (n : List ℕ) (s : SystemParts) (was : State)
-        → state_of n t ≡ Some was
-        → Leads t (by_command (Submit n s)) (Refused Taken) n (Some was) }
-    ensures full { (t : List JobParts) (n : List ℕ) (s : SystemParts)
-        → state_of n t ≡ None → 32 ≤ length t
-        → Leads t (by_command (Submit n s)) (Refused Full) n None }
-    ensures paused { (t : List JobParts) (n : List ℕ) → state_of n t ≡ Some Running
-        → Leads t (by_command (Pause n)) Okay n (Some Paused) }
-    ensures not_running { (t : List JobParts) (n : List ℕ) (was : State)
-        → state_of n t ≡ Some was → ¬ (was ≡ Running)
-        → Leads t (by_command (Pause n)) (Refused NotRunning) n (Some was) }
-    ensures resumed { (t : List JobParts) (n : List ℕ) → state_of n t ≡ Some Paused
-        → Leads t (by_command (Resume n)) Okay n (Some Running) }
-    ensures not_paused { (t : List JobParts) (n : List ℕ) (was : State)
-        → state_of n t ≡ Some was → ¬ (was ≡ Paused)
-        → Leads t (by_command (Resume n)) (Refused NotPaused) n (Some was) }
-    ensures cancelled { (t : List JobParts) (n : List ℕ) (was : State)
-        → state_of n t ≡ Some was → Leads t (by_command (Cancel n)) Okay n None }
-    ensures fetched { (t : List JobParts) (n : List ℕ) (j : JobParts)
-        → job_named n t ≡ Some j → apply t (by_command (Fetch n))
-        ≡ Some (outcome t (Shown (shown j))) }
-    ensures listed { (t : List JobParts) → apply t (by_command list_jobs)
-        ≡ Some (outcome t (Listed (listed t))) }
-    ensures no_pause { (t : List JobParts) (n : List ℕ) → state_of n t ≡ None
-        → Leads t (by_command (Pause n)) (Refused NoJob) n None }
-    ensures no_resume { (t : List JobParts) (n : List ℕ) → state_of n t ≡ None
-        → Leads t (by_command (Resume n)) (Refused NoJob) n None }
-    ensures no_cancel { (t : List JobParts) (n : List ℕ) → state_of n t ≡ None
-        → Leads t (by_command (Cancel n)) (Refused NoJob) n None }
-    ensures no_fetch { (t : List JobParts) (n : List ℕ) → state_of n t ≡ None
-        → Leads t (by_command (Fetch n)) (Refused NoJob) n None }
-{}
-
-/// What a round answers, and the state in which it leaves its job. A round is an event of a running
-/// job alone. A job that isn't kept from running is done where its configuration is quiet, and else
-/// runs.
-pub fn rounds_change_states_so()
-    ensures moved { (t : List JobParts) (n : List ℕ) (j : JobParts) → job_named n t ≡ Some j
-        → j.state ≡ Running → can_move j ≡ true
-        → Leads t (Round n) Moved n (Some (open_state j.rules (round j.rules.rules j.config))) }
-    ensures halted { (t : List JobParts) (n : List ℕ) (j : JobParts) → job_named n t ≡ Some j
-        → j.state ≡ Running → can_move j ≡ false → Leads t (Round n) reply.Halted n (Some Halted) }
-    ensures of_running_jobs { (t : List JobParts) (n : List ℕ)
-        → ¬ (state_of n t ≡ Some Running) → apply t (Round n) ≡ None }
+/// What each event answers, and the state in which it leaves the job of its name, go by the tables
+/// of specs/Transitions: row by row for each command, and for a round, which is an event of a
+/// running job alone. A job that isn't kept from running is done where its configuration is quiet,
+/// and else runs.
+pub fn events_change_states_so()
+    ensures events { (t : List JobParts) (e : Event) → EventLeads t e }
     ensures done { (rules : Rules) (c : Configuration)
         → IsQuiet rules.rules c → open_state rules c ≡ Done }
     ensures running { (rules : Rules) (c : Configuration)
         → ¬ IsQuiet rules.rules c → open_state rules c ≡ Running }
 {}
 
-/// Pause, resume and cancel take no memory; a copy of a command takes some of a submit alone, and a
-/// copy of a reply of one that tells of jobs.
+/// A command that is answered with a new job, or with what it tells of jobs, is one that takes
+/// memory; one that is answered `Okay` takes none. A copy of a command takes memory of a submit
+/// alone, and a copy of a reply of one that tells of jobs.
 pub fn memory_is_taken_by()
-    ensures commands { (n : List ℕ) → map takes_memory
-        (Pause n ∷ Resume n ∷ Cancel n ∷ Fetch n ∷ list_jobs ∷ [])
-        ≡ false ∷ false ∷ false ∷ true ∷ true ∷ [] }
-    ensures submits { (n : List ℕ) (s : SystemParts) → takes_memory (Submit n s) ≡ true }
-    ensures copies { (n : List ℕ) → map is_submit
-        (Pause n ∷ Resume n ∷ Cancel n ∷ Fetch n ∷ list_jobs ∷ [])
-        ≡ false ∷ false ∷ false ∷ false ∷ false ∷ [] }
-    ensures replies { (r : Refusal) → map tells_jobs
-        (Accepted ∷ Okay ∷ Refused r ∷ Moved ∷ reply.Halted ∷ [])
-        ≡ false ∷ false ∷ false ∷ false ∷ false ∷ [] }
+    ensures submitting { (t : List JobParts) (c : Command)
+        → is_accepted (after_command t c).reply ≡ true → takes_memory c ≡ true }
+    ensures telling { (t : List JobParts) (c : Command)
+        → tells_jobs (after_command t c).reply ≡ true → takes_memory c ≡ true }
+    ensures changing { (t : List JobParts) (c : Command)
+        → is_okay (after_command t c).reply ≡ true → takes_memory c ≡ false }
+    ensures copies { (c : Command)
+        → IsTrue (is_submit c) ↔ ((n : List ℕ) × (s : SystemParts) × (c ≡ Submit n s)) }
+    ensures replies { (r : Reply) → IsTrue (tells_jobs r)
+        ↔ (((s : ShownParts) × (r ≡ Shown s))
+        ⊎ ((l : List (List ℕ × State × ℕ)) × (r ≡ Listed l))) }
 {}
 
 /// The names of a table stand in the order of submission: an accepted submit puts its name last, a
 /// cancel takes its name out, and any other event leaves all names as they are. What is refused
 /// leaves the whole table.
 pub fn names_keep_their_order()
-    ensures accepted { (t : List JobParts) (n : List ℕ) (s : SystemParts) (o : Outcome)
-        → apply t (by_command (Submit n s)) ≡ Some o → o.reply ≡ Accepted
-        → job_names o.table ≡ job_names t ++ n ∷ [] }
-    ensures cancelled { (t : List JobParts) (n : List ℕ) (o : Outcome)
-        → apply t (by_command (Cancel n)) ≡ Some o → o.reply ≡ Okay
-        → job_names o.table ≡ filter (λ m. not (bytes_eq n m)) (job_names t) }
-    ensures pause { (t : List JobParts) (n : List ℕ)
-        → job_names (table_after t (by_command (Pause n))) ≡ job_names t }
-    ensures resume { (t : List JobParts) (n : List ℕ)
-        → job_names (table_after t (by_command (Resume n))) ≡ job_names t }
-    ensures round { (t : List JobParts) (n : List ℕ)
-        → job_names (table_after t (Round n)) ≡ job_names t }
+    ensures names { (t : List JobParts) (e : Event) (o : Outcome)
+        → apply t e ≡ Some o → job_names o.table ≡ names_after (job_names t) e o.reply }
     ensures refused { (t : List JobParts) (e : Event) (o : Outcome) (r : Refusal)
         → apply t e ≡ Some o → o.reply ≡ Refused r → o.table ≡ t }
+{}
+
+/// A shown job has the name, state, rounds, rules and configuration of the job. A list has a line
+/// for each job, at its place, with its name, state and rounds.
+pub fn jobs_are_told_so()
+    ensures shown { (j : JobParts) → shown j ≡ record {
+      name = j.name;
+      state = j.state;
+      rounds = j.rounds;
+      rules = j.rules;
+      config = j.config;
+    } }
+    ensures lines { (t : List JobParts) → length (listed t) ≡ length t }
+    ensures line { (t : List JobParts) (k : ℕ) (j : JobParts) → slice_get t k ≡ Some j
+        → slice_get (listed t) k ≡ Some (j.name, j.state, j.rounds) }
 {}
 
 /// The tests of equality tell exactly whether two jobs, or two tables, are the same.

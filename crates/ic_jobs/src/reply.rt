@@ -1,3 +1,5 @@
+//! Replies: what an event answers, and why a command is refused.
+
 ghost use Rattle.std.specs.Prelude.{◌≡◌, IfOk, OnErr, IsTrue};
 
 use crate::shown::{JobList, ShownJob};

@@ -1,3 +1,5 @@
+//! What replies tell of jobs.
+
 ghost use Rattle.std.specs.Prelude.{◌≡◌, IfOk, length, slice_get, Some};
 ghost use Rattle.std.specs.Arc.{arc_value};
 

@@ -1,3 +1,5 @@
+//! The states of a job.
+
 /// The state of a job.
 #[derive(Clone, Copy, Debug, PartialEq, Eq)]
 pub enum State {

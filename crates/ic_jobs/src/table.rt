@@ -1,3 +1,5 @@
+//! The job table: its jobs, how it is restored, copied and compared.
+
 ghost use Rattle.std.specs.Prelude.{◌≡◌, IfOk};
 
 mod commands;

@@ -10,7 +10,8 @@ use Rattle.ic_term.specs.Configuration.{configuration_eq}
 use Rattle.ic_rules.specs.RuleSet.{rules_eq}
 use Rattle.ic_rules.specs.lemmas.RuleLaws.{rules_eq-Decides}
 use Rattle.ic_jobs.specs.declared.state.State.{State}
-use Rattle.ic_jobs.specs.State.{state_number, state_eq, state_numbered, state_numbered-number}
+use Rattle.ic_jobs.specs.State.{state_number, state_eq, state_numbered}
+use Rattle.ic_jobs.specs.lemmas.StateLaws.{state_numbered-number}
 use Rattle.ic_jobs.specs.Job.{JobParts, job_eq, table_eq}
 
 and_parts : (a b : Bool) → (a && b) ≡ true → (a ≡ true) × (b ≡ true)

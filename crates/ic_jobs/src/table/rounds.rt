@@ -1,3 +1,5 @@
+//! Rounds of a table: which is due, and what lands.
+
 ghost use Rattle.std.specs.Prelude.{◌≡◌, ◌↔◌, IfOk, IsTrue, Some};
 ghost use Rattle.ic_pool.specs.Flight.{is_blocked};
 ghost use Rattle.ic_jobs.specs.declared.event.Event.TheVariants.{Round};

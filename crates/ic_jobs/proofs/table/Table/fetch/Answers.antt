@@ -1,24 +1,16 @@
-use Rattle.std.proofs.Common.{◌≡◌, List, Some, None, ap, sym, subst, refl, ◌∙◌, arith}
-use Rattle.std.specs.List.{position_from}
-use Rattle.ic_jobs.specs.declared.command.Command.TheVariants.{Pause, Resume, Cancel, Fetch}
-use Rattle.ic_jobs.specs.declared.reply.Reply.TheVariants.{Okay, Shown}
+use Rattle.std.proofs.Common.{◌≡◌, List, subst, ◌∙◌}
+use Rattle.ic_jobs.specs.declared.command.Command.TheVariants.{Fetch}
+use Rattle.ic_jobs.specs.declared.reply.Reply.TheVariants.{Shown}
 use Rattle.ic_jobs.specs.Job.{JobParts}
-use Rattle.ic_jobs.specs.Table.{IsTable, is_named, job_named}
 use Rattle.ic_jobs.specs.Events.{outcome, after_command}
-use Rattle.ic_jobs.proofs.PlaceLemmas.{found_at, no_place, missing_here, job_is, fetch_done}
+use Rattle.ic_jobs.proofs.PlaceLemmas.{read_at, nothing_at, missing_here, fetch_done}
 use Rattle.ic_jobs.proofs.table.Table.fetch.Goals as goal
 
 pub returns-in_default : goal.returns-in_default
-returns-in_default c =
-    let none : position_from (is_named c.args.name) 0 c.args.self.now ≡ None =
-    ap (λ (l : List JobParts). position_from (is_named c.args.name) 0 l) (sym c.self.view_is ∙ sym c.deref.ensures.value) ∙ sym c.in_default.ensures.place in
-    missing_here c.args.self.now _ _ (no_place c.args.name c.args.self.now none)
+returns-in_default c = missing_here c.args.self.now _ _ (nothing_at c.args.name (c.deref.ensures.value ∙ c.self.view_is) c.in_default.ensures.place)
 
 pub returns : goal.returns
 returns c =
-    let place : position_from (is_named c.args.name) 0 c.self.inside.jobs.items ≡ Some c.in-Some.place =
-    ap (λ (l : List JobParts). position_from (is_named c.args.name) 0 l) (sym c.deref.ensures.value) ∙ sym c.in-Some.ensures.place in
-    let f = found_at c.args.name c.self.inside.jobs.items c.in-Some.place c.index.result.now c.self.invariant place in
-    let same = job_is _ _ _ _ f c.index.ensures in
+    let read = read_at c.deref.ensures.value c.self.invariant c.in-Some.ensures.place c.index.ensures in
     subst (λ (t : List JobParts). outcome t (Shown c.in_ok-shown.shown) ≡ after_command t (Fetch c.args.name)) c.self.view_is
-    (fetch_done c.args.name c.self.inside.jobs.items c.in-Some.place _ c.in_ok-shown.shown f same c.in_ok-shown.ensures)
+    (fetch_done c.args.name c.self.inside.jobs.items c.in-Some.place _ c.in_ok-shown.shown read.found read.same c.in_ok-shown.ensures)

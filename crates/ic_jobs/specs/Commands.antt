@@ -1,6 +1,5 @@
--- Which commands and events there are, and which jobs they mention.
-use Rattle.std.specs.Prelude.{ℕ, List, Bool, false, IsTrue}
-use Rattle.std.specs.Str.{bytes_eq}
+-- What commands and events keep.
+use Rattle.std.specs.Prelude.{ℕ, List, IsTrue}
 use Rattle.ic_term.specs.Symbol.{AreSymbols, is_over}
 use Rattle.ic_term.specs.Configuration.{IsConfiguration}
 use Rattle.ic_rules.specs.JobName.{is_job_name}
@@ -32,17 +31,3 @@ IsCommand list_jobs = Unit {0}
 abbrev pub IsEvent : Event → Type 0
 IsEvent (by_command c) = IsCommand c
 IsEvent (Round name) = Unit {0}
-
--- a command is about the job of a name
-abbrev pub command_mentions : List ℕ → Command → Bool
-command_mentions name (Submit n system) = bytes_eq name n
-command_mentions name (Pause n) = bytes_eq name n
-command_mentions name (Resume n) = bytes_eq name n
-command_mentions name (Cancel n) = bytes_eq name n
-command_mentions name (Fetch n) = bytes_eq name n
-command_mentions name list_jobs = false
-
--- an event is about the job of a name
-abbrev pub mentions : List ℕ → Event → Bool
-mentions name (by_command c) = command_mentions name c
-mentions name (Round n) = bytes_eq name n

@@ -1,0 +1,5 @@
+use Rattle.ic_jobs.proofs.TransitionLemmas.{event_leads, open_where_quiet, open_where_not}
+use Rattle.ic_jobs.proofs.laws.events_change_states_so.Goals as goal
+
+pub returns : goal.returns
+returns c = record { events = event_leads; done = open_where_quiet; running = open_where_not }
