@@ -13,23 +13,24 @@ use Rattle.ic_jobs.specs.Table.{IsTable}
 use Rattle.ic_jobs.specs.Events.{Outcome, apply, outcome}
 use Rattle.ic_jobs.specs.History.{replay, table_after, reply_to, IsLegal}
 use Rattle.ic_desk.specs.declared.limits.TheConstants.{MAX_ENTRIES}
-use Rattle.ic_desk.specs.Entries.{Adds, AreRounds, IsSentByNobody, IsStale, command_entry, is_round}
+use Rattle.ic_desk.specs.Entries.{Adds, AreRounds, IsSentByNobody, command_entry, is_round}
+use Rattle.ic_desk.specs.inner.Entering.{IsStale}
 use Rattle.ic_desk.specs.Kept.{IsHistory, MayBeUnkept, table_kept}
 
 all_push : {X : Type 0} (P : X → Type 0) (xs : List X) (x : X) → AllByRecursion P xs → P x → AllByRecursion P (xs ++ x ∷ [])
 all_push P [] x all here = (here, tt)
 all_push P (y ∷ xs) x all here = (all.0, all_push P xs x all.1 here)
 
-replay-push : (t : List JobParts) (es : List Entry) (e : Entry) → replay t (es ++ e ∷ []) ≡ table_after (replay t es) e.event
+pub replay-push : (t : List JobParts) (es : List Entry) (e : Entry) → replay t (es ++ e ∷ []) ≡ table_after (replay t es) e.event
 replay-push t [] e = refl
 replay-push t (x ∷ es) e = replay-push (table_after t x.event) es e
 
-IsLegal-push : (t : List JobParts) (es : List Entry) (e : Entry) → IsLegal t es → reply_to (replay t es) e.event ≡ Some e.reply → IsLegal t (es ++ e ∷ [])
+pub IsLegal-push : (t : List JobParts) (es : List Entry) (e : Entry) → IsLegal t es → reply_to (replay t es) e.event ≡ Some e.reply → IsLegal t (es ++ e ∷ [])
 IsLegal-push t [] e legal here = (here, tt)
 IsLegal-push t (x ∷ es) e legal here = (legal.0, IsLegal-push (table_after t x.event) es e legal.1 here)
 
 -- all but the last of a list with one more
-but_last_push : {X : Type 0} (xs : List X) (x : X) → take (length (xs ++ x ∷ []) - 1) (xs ++ x ∷ []) ≡ xs
+pub but_last_push : {X : Type 0} (xs : List X) (x : X) → take (length (xs ++ x ∷ []) - 1) (xs ++ x ∷ []) ≡ xs
 but_last_push {X} xs x =
     let short : length (xs ++ x ∷ []) - 1 ≡ length xs = omega (arith, length_push xs x) in
     ap (λ (n : ℕ). take n (xs ++ x ∷ [])) short ∙ take-append-le (length xs) xs (x ∷ []) (omega arith) ∙ take_all (length xs) xs (omega arith)

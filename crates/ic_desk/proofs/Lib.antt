@@ -1,5 +1,7 @@
 pub mod LivesLemmas
 pub mod HistoryLemmas
 pub mod DiskLemmas
+pub mod BookLemmas
 pub mod AnswerLemmas
 pub mod StopLemmas
+pub mod EntryLemmas

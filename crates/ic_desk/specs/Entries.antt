@@ -1,12 +1,10 @@
 -- Entries of a history: what a command and a round add to it. This project's choice.
-use Rattle.std.specs.Prelude.{◌≡◌, ℕ, List, [], ◌∷◌, ◌++◌, Bool, true, false, Some, Result, Ok, Err, IsTrue}
+use Rattle.std.specs.Prelude.{◌≡◌, ◌⊎◌, ℕ, List, [], ◌∷◌, ◌++◌, Bool, true, false, Some, IsTrue}
 use Rattle.std.specs.List.{AllByRecursion}
 use Rattle.ic_jobs.specs.declared.command.Command.{Command}
 use Rattle.ic_jobs.specs.declared.event.Event.{Event}
 use Rattle.ic_jobs.specs.declared.event.Event.TheVariants.{Command as by_command, Round}
 use Rattle.ic_jobs.specs.declared.event.Entry.{Entry}
-use Rattle.ic_jobs.specs.declared.landed.Landed.{Landed}
-use Rattle.ic_jobs.specs.declared.landed.Landed.TheVariants as landed
 use Rattle.ic_jobs.specs.declared.reply.Reply.{Reply}
 use Rattle.ic_jobs.specs.declared.reply.Reply.TheVariants.{Accepted, Okay, Shown, Listed, Refused, Moved, Halted}
 use Rattle.ic_jobs.specs.Job.{JobParts}
@@ -30,6 +28,13 @@ command_entry who command reply = record { who = who; event = by_command command
 abbrev pub round_entry : List ℕ → Reply → Entry
 round_entry name reply = record { who = 0; event = Round name; reply = reply }
 
+-- A round's entry: sent by nobody, and answered by what became of its job.
+pub record IsRoundEntry (e : Entry) : Type 0 where
+  pub name : List ℕ
+  pub event : e.event ≡ Round name
+  pub who : e.who ≡ 0
+  pub reply : (e.reply ≡ Moved) ⊎ (e.reply ≡ Halted)
+
 -- One entry more, whose event leaves the new table and is answered by the entry's reply.
 pub record Adds (e : Entry) (old_log new_log : List Entry) (old new : List JobParts) : Type 0 where
   pub entry : new_log ≡ old_log ++ e ∷ []
@@ -44,12 +49,6 @@ abbrev pub AddsRound : (name : List ℕ) (reply : Reply)
     (old_log new_log : List Entry) (old new : List JobParts) → Type 0
 AddsRound name reply old_log new_log old new =
     Adds (round_entry name reply) old_log new_log old new
-
--- a refusal, or a stale round
-abbrev pub IsStale : {E : Type 0} → Result Landed E → Type 0
-IsStale (Ok landed.Moved) = ⊥
-IsStale (Ok landed.Stale) = Unit {0}
-IsStale (Err fault) = Unit {0}
 
 -- a reply to a command that leaves the table as it is
 abbrev pub leaves_table : Reply → Bool

@@ -4,4 +4,6 @@ pub mod Entries
 pub mod Refusals
 pub mod Book
 pub mod Opened
+pub mod Calls
 pub mod lemmas
+pub mod inner

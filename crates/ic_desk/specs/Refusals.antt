@@ -1,11 +1,15 @@
 -- Which refusals a book's calls have, and that a fault of the disk is told exactly where a failure
 -- was counted.
-use Rattle.std.specs.Prelude.{◌≡◌, ℕ, Result, Ok, Err}
+use Rattle.std.specs.Prelude.{◌≡◌, ℕ, List, [], ◌∷◌, Result, Ok, Err}
 use Rattle.ic_disk.specs.Time.{OneMore}
 use Rattle.ic_frames.specs.declared.faults.KeepFault.{KeepFault}
 use Rattle.ic_frames.specs.declared.faults.KeepFault.TheVariants as keeping
-use Rattle.ic_desk.specs.declared.faults.BookFault.{BookFault}
-use Rattle.ic_desk.specs.declared.faults.BookFault.TheVariants.{Broken, LogFull, Worn, Memory, Device}
+use Rattle.ic_desk.specs.declared.fault.BookFault.{BookFault}
+use Rattle.ic_desk.specs.declared.fault.BookFault.TheVariants.{Broken, LogFull, Worn, Memory, Device}
+
+-- all refusals, in the order of their lasting numbers
+abbrev pub all_book_faults : List BookFault
+all_book_faults = Broken ∷ LogFull ∷ Worn ∷ Memory ∷ Device ∷ []
 
 -- the lasting numbers of the refusals
 abbrev pub fault_number : BookFault → ℕ

@@ -1,9 +1,11 @@
-// Entries that are added to a history, with the change of the table that they tell.
+//! Entries that are added to a history, with the change of the table that they tell.
+
 ghost use Rattle.std.specs.Prelude.{◌≡◌, ◌<◌, ◌++◌, ◌∷◌, [], IfOk, OnErr, IsTrue, vec_len, vec_capacity};
 ghost use Rattle.ic_pool.specs.Flight.{is_blocked};
 ghost use Rattle.ic_jobs.specs.Landing.{Awaits};
 ghost use Rattle.ic_jobs.specs.declared.reply.Reply.TheVariants as reply;
-ghost use Rattle.ic_desk.specs.Entries.{AddsCommand, AddsRound, IsStale, round_entry};
+ghost use Rattle.ic_desk.specs.Entries.{AddsCommand, round_entry};
+ghost use Rattle.ic_desk.specs.inner.Entering.{EntersRound};
 
 use ic_jobs::{Command, Entry, Event, Landed, Reply, Table};
 use ic_pool::{Flight, Played};
@@ -50,16 +52,9 @@ pub(crate) fn enter_played(
     table: &mut Table,
     played: Played,
 ) -> Result<Landed, AllocError>
-    ensures moved { IfOk result (λ landed. landed ≡ Landed.Moved → AddsRound played.name reply.Moved
-        log.old.items log.new.items table.old table.new) }
-    ensures awaited { IfOk result (λ landed. landed ≡ Landed.Moved
-        → Awaits table.old played.name played.rules played.before played.rounds) }
-    ensures stale { IfOk result (λ landed. landed ≡ Landed.Stale
-        → ¬ Awaits table.old played.name played.rules played.before played.rounds) }
-    ensures wanted { OnErr result
-        (Awaits table.old played.name played.rules played.before played.rounds) }
-    ensures same_log { IsStale result → log.new.items ≡ log.old.items }
-    ensures same_table { IsStale result → table.new ≡ table.old }
+    ensures { EntersRound (round_entry played.name reply.Moved)
+        (Awaits table.old played.name played.rules played.before played.rounds)
+        result log.old.items log.new.items table.old table.new }
 {
     let name = played.name();
     if !table.awaits(name, played.rules(), played.before(), played.rounds()) {
@@ -78,17 +73,10 @@ pub(crate) fn enter_halted(
     flight: &Flight,
 ) -> Result<Landed, AllocError>
     requires { IsTrue (is_blocked flight.now) }
-    ensures moved { IfOk result (λ landed. landed ≡ Landed.Moved
-        → AddsRound flight.now.name reply.Halted
-        log.old.items log.new.items table.old table.new) }
-    ensures awaited { IfOk result (λ landed. landed ≡ Landed.Moved → Awaits table.old
-        flight.now.name flight.now.rules flight.now.config flight.now.rounds) }
-    ensures stale { IfOk result (λ landed. landed ≡ Landed.Stale → ¬ Awaits table.old
-        flight.now.name flight.now.rules flight.now.config flight.now.rounds) }
-    ensures wanted { OnErr result (Awaits table.old
-        flight.now.name flight.now.rules flight.now.config flight.now.rounds) }
-    ensures same_log { IsStale result → log.new.items ≡ log.old.items }
-    ensures same_table { IsStale result → table.new ≡ table.old }
+    ensures { EntersRound (round_entry flight.now.name reply.Halted)
+        (Awaits table.old
+        flight.now.name flight.now.rules flight.now.config flight.now.rounds)
+        result log.old.items log.new.items table.old table.new }
 {
     let name = flight.name();
     if !table.awaits(name, flight.rules(), flight.config(), flight.rounds()) {

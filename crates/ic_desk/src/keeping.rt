@@ -1,4 +1,5 @@
-// Keeping a table.
+//! Keeping a table.
+
 ghost use Rattle.std.specs.Prelude.{◌≡◌, ◌≢◌, ◌+◌, ◌-◌, ◌^◌, ◌≤◌, List, true, false, IsTrue, OnOk, OnErr, IfErr};
 ghost use Rattle.ic_disk.specs.Images.{Within};
 ghost use Rattle.ic_disk.specs.Time.{LeavesOnly};

@@ -1,14 +1,15 @@
 //! Laws of the definitions that the contracts of this crate cite.
 
-ghost use Rattle.std.specs.Prelude.{◌≡◌, ◌⊎◌, ◌↔◌, ◌+◌, ◌-◌, ◌^◌, ◌≤◌, ℕ, List, [], ◌∷◌, ◌++◌, Bool, true, false, Some, IsSome, Result, Err, IsErrOf, length, take, drop};
+ghost use Rattle.std.specs.Prelude.{◌≡◌, ◌⊎◌, ◌↔◌, ◌+◌, ◌-◌, ◌^◌, ◌≤◌, ℕ, List, [], ◌∷◌, ◌++◌, Bool, true, false, Some, IsSome, IsTrue, Result, Err, IsErrOf, Contains, length, map, take, drop};
 ghost use Rattle.std.specs.List.{sum_by};
+ghost use Rattle.ic_disk.specs.Images.{Within};
 ghost use Rattle.ic_round.specs.Rounds.{iterate};
 ghost use Rattle.ic_jobs.specs.declared.command.Command.{Command};
 ghost use Rattle.ic_jobs.specs.declared.event.Entry.{Entry};
 ghost use Rattle.ic_jobs.specs.declared.event.Event.TheVariants.{Command as by_command, Round};
 ghost use Rattle.ic_jobs.specs.declared.reply.Refusal.{Refusal};
 ghost use Rattle.ic_jobs.specs.declared.reply.Reply.{Reply};
-ghost use Rattle.ic_jobs.specs.declared.reply.Reply.TheVariants.{Accepted, Okay, Shown, Listed, Refused, Moved, Halted};
+ghost use Rattle.ic_jobs.specs.declared.reply.Reply.TheVariants.{Shown, Listed, Refused};
 ghost use Rattle.ic_jobs.specs.declared.state.State.{State};
 ghost use Rattle.ic_jobs.specs.Events.{apply, outcome};
 ghost use Rattle.ic_jobs.specs.Shown.{ShownParts};
@@ -17,12 +18,14 @@ ghost use Rattle.ic_jobs.specs.Table.{job_named};
 ghost use Rattle.ic_jobs.specs.History.{replay, IsLegal};
 ghost use Rattle.ic_jobs.specs.Life.{Life, life, IsAsLived};
 ghost use Rattle.ic_desk.specs.declared.limits.TheConstants.{MAX_ENTRIES};
+ghost use Rattle.ic_frames.specs.Fields.{IsMade};
 ghost use Rattle.ic_slots.specs.Held.{HoldsTable, IsHeld, the_table};
-ghost use Rattle.ic_desk.specs.declared.faults.BookFault.{BookFault};
-ghost use Rattle.ic_desk.specs.declared.faults.BookFault.TheVariants.{Device};
-ghost use Rattle.ic_desk.specs.Entries.{AreRounds, is_round, leaves_table};
+ghost use Rattle.ic_desk.specs.declared.fault.BookFault.{BookFault};
+ghost use Rattle.ic_desk.specs.declared.fault.BookFault.TheVariants.{Device};
+ghost use Rattle.ic_desk.specs.Entries.{AddsCommand, AddsRound, AreRounds, IsRoundEntry, IsSentByNobody, leaves_table};
 ghost use Rattle.ic_desk.specs.Kept.{HoldsKeptOrAll, IsHistory, MayBeUnkept};
-ghost use Rattle.ic_desk.specs.Refusals.{CountsBook};
+ghost use Rattle.ic_desk.specs.Refusals.{CountsBook, all_book_faults, fault_number};
+ghost use Rattle.ic_desk.specs.Calls.{LeavesKeptOrAll};
 ghost use Rattle.ic_desk.specs.Book.{start_of, log_of, table_of, kept_of, keeper_of, disk_of, IsUnchanged};
 ghost use Rattle.ic_desk.specs.Lives.{Page, IsPage, AreLives, left_by, lived};
 
@@ -43,27 +46,63 @@ pub fn a_failure_is_counted()
         → CountsBook result old new → ¬ IsErrOf result Device → new ≡ old }
 {}
 
-/// A reply that shows or lists jobs, or refuses, leaves the table. All other replies tell a change.
+/// The lasting numbers of the faults.
+pub fn numbers_are_lasting()
+    ensures all { (fault : BookFault) → Contains all_book_faults fault }
+    ensures numbers { map fault_number all_book_faults ≡ 1 ∷ 2 ∷ 3 ∷ 4 ∷ 5 ∷ [] }
+{}
+
+/// A reply that shows or lists jobs, or refuses, leaves the table, and no other does so by itself.
 pub fn some_replies_leave_the_table()
     ensures stays { (t new : List JobParts) (c : Command) (r : Reply)
         → apply t (by_command c) ≡ Some (outcome new r) → leaves_table r ≡ true → new ≡ t }
-    ensures shown { (job : ShownParts) → leaves_table (Shown job) ≡ true }
-    ensures listed { (jobs : List (List ℕ × State × ℕ)) → leaves_table (Listed jobs) ≡ true }
-    ensures refused { (refusal : Refusal) → leaves_table (Refused refusal) ≡ true }
-    ensures accepted { leaves_table Accepted ≡ false }
-    ensures okay { leaves_table Okay ≡ false }
-    ensures moved { leaves_table Moved ≡ false }
-    ensures halted { leaves_table Halted ≡ false }
+    ensures which { (r : Reply) → (leaves_table r ≡ true)
+        ↔ (((job : ShownParts) × (r ≡ Shown job))
+        ⊎ (((jobs : List (List ℕ × State × ℕ)) × (r ≡ Listed jobs))
+        ⊎ ((refusal : Refusal) × (r ≡ Refused refusal)))) }
 {}
 
-/// Behind what is kept stand rounds alone where the book isn't broken. Where it is, one last entry
-/// of any kind may stand behind them.
+/// A command or a round adds one entry to a history: that of a command has who sent it and its
+/// reply, that of a round was sent by nobody. The history is legal with it, and leaves the new table.
+pub fn an_entry_is_added()
+    ensures command { (start t : List JobParts) (h k : List Entry) (who : ℕ) (c : Command)
+        (r : Reply) → IsLegal start h → AddsCommand who c r h k (replay start h) t
+        ↔ ((k ≡ h ++ record { who = who; event = by_command c; reply = r } ∷ [])
+        × IsLegal start k × (replay start k ≡ t)) }
+    ensures round { (start t : List JobParts) (h k : List Entry) (name : List ℕ) (r : Reply)
+        → IsLegal start h → AddsRound name r h k (replay start h) t
+        ↔ ((k ≡ h ++ record { who = 0; event = Round name; reply = r } ∷ [])
+        × IsLegal start k × (replay start k ≡ t)) }
+{}
+
+/// Each entry of a book that is of a round was sent by nobody, and answered by what became of its
+/// job. Behind what is kept stand such entries alone, save one last entry of any kind where a call
+/// to the disk has failed.
 pub fn rounds_stand_behind()
-    ensures command { (c : Command) → is_round (by_command c) ≡ false }
-    ensures round { (name : List ℕ) → is_round (Round name) ≡ true }
+    ensures unbroken { (start : List JobParts) (log : List Entry) (table : List JobParts)
+        (kept : ℕ) (front back : List Entry) (e : Entry) → IsHistory start log table kept false
+        → drop kept log ≡ front ++ e ∷ back → IsRoundEntry e }
+    ensures broken { (start : List JobParts) (log : List Entry) (table : List JobParts)
+        (kept : ℕ) (front back : List Entry) (e last : Entry)
+        → IsHistory start log table kept true
+        → drop kept log ≡ (front ++ e ∷ back) ++ last ∷ [] → IsRoundEntry e }
+    ensures anywhere { (start : List JobParts) (log : List Entry) (table : List JobParts)
+        (kept : ℕ) (broken : Bool) (front back : List Entry) (e : Entry) (name : List ℕ)
+        → IsHistory start log table kept broken → log ≡ front ++ e ∷ back
+        → e.event ≡ Round name → IsRoundEntry e }
+{}
+
+/// What the words on entries behind `kept` come to: rounds alone, or one last entry of any kind
+/// behind them, and rounds that are sent by nobody.
+pub fn rounds_are_told_so()
     ensures unbroken { (es : List Entry) → MayBeUnkept false es ↔ AreRounds es }
     ensures broken { (es : List Entry) (e : Entry)
         → MayBeUnkept true (es ++ e ∷ []) ↔ AreRounds es }
+    ensures rounds { (es : List Entry) → AreRounds es
+        ↔ ((front back : List Entry) (e : Entry) → es ≡ front ++ e ∷ back
+        → (name : List ℕ) × (e.event ≡ Round name)) }
+    ensures nobody { (e : Entry) → IsSentByNobody e
+        ↔ ((name : List ℕ) → e.event ≡ Round name → e.who ≡ 0) }
 {}
 
 /// A page is a log that is legal from its table, with as many entries kept as the stop left or
@@ -80,6 +119,23 @@ pub fn a_stop_leaves_a_page()
         → (k : ℕ) × IsPage (record { start = start; log = log; kept = kept; stop = k })
         × HoldsTable (replay start (take k log)) file }
 {}
+
+/// A crash in a call on a made disk leaves the table after some front of the entries that the call
+/// would have in its log, with all that were kept when it began. The disk stays made.
+pub fn a_crash_in_a_call_leaves_a_front<D: Disk>(old: &Book<D>, new: &Book<D>)
+    ensures front { (log : List Entry) (file : List ℕ) → LeavesKeptOrAll log old.now new.now
+        → IsTrue (D.keeps (disk_of old.now)) → Within (D.image (disk_of old.now)) IsMade
+        → D.left (disk_of new.now) (D.clock (disk_of old.now)) file
+        → kept_of old.now ≤ length log
+        → (k : ℕ) × (kept_of old.now ≤ k) × (k ≤ length log)
+        × HoldsTable (replay (start_of old.now) (take k log)) file }
+    ensures stays { (log : List Entry) → LeavesKeptOrAll log old.now new.now
+        → IsTrue (D.keeps (disk_of old.now)) → Within (D.image (disk_of old.now)) IsMade
+        → IsTrue (D.keeps (disk_of new.now)) × Within (D.image (disk_of new.now)) IsMade }
+{
+    let _ = old;
+    let _ = new;
+}
 
 /// Over any number of lives, what the stops left of all logs but the last, joined in order, is one
 /// history. It is legal from the empty table, and the last life opened with the table that it

@@ -10,12 +10,12 @@
 
 mod book;
 mod enter;
-mod faults;
+mod fault;
 mod keeping;
 pub mod laws;
 mod limits;
 
 pub use book::Book;
-pub use faults::BookFault;
+pub use fault::BookFault;
 pub use ic_slots::{OpenCause, OpenFault};
 pub use limits::MAX_ENTRIES;

@@ -1,7 +1,7 @@
 use Rattle.std.proofs.Common.{◌≡◌, ◌⊎◌, inl, inr, ⊎_elim, ◌+◌, ◌-◌, ◌^◌, ℕ, Result, Ok, Err, IsErrOf, refl}
 use Rattle.ic_disk.specs.Time.{OneMore}
-use Rattle.ic_desk.specs.declared.faults.BookFault.{BookFault}
-use Rattle.ic_desk.specs.declared.faults.BookFault.TheVariants.{Broken, LogFull, Worn, Memory, Device}
+use Rattle.ic_desk.specs.declared.fault.BookFault.{BookFault}
+use Rattle.ic_desk.specs.declared.fault.BookFault.TheVariants.{Broken, LogFull, Worn, Memory, Device}
 use Rattle.ic_desk.specs.Refusals.{CountsBook}
 use Rattle.ic_desk.proofs.laws.a_failure_is_counted.Goals as goal
 

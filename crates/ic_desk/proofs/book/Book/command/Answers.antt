@@ -1,18 +1,13 @@
 use Rattle.std.proofs.Common.{◌≡◌, ◌∙◌, length, sym, arith, true, false}
 use Rattle.ic_desk.specs.Entries.{command_entry}
-use Rattle.ic_desk.specs.Kept.{HoldsKeptOrAll}
 use Rattle.ic_desk.proofs.AnswerLemmas.{told_stays}
 use Rattle.ic_desk.proofs.HistoryLemmas.{all_kept_after, command_sent, idle_after, left_unkept, length_after, replayed_after, same_table_after, table_all_after, table_kept_after}
-use Rattle.ic_desk.proofs.DiskLemmas.{either_now, holds_now, keep_failed, keep_holds, keep_leaves, kept_now, made_after, no_call, same_kept}
+use Rattle.ic_desk.proofs.DiskLemmas.{keep_failed, keep_holds, kept_now, same_kept}
+use Rattle.ic_desk.proofs.BookLemmas.{unchanged, written}
 use Rattle.ic_desk.proofs.book.Book.command.Goals as goal
 
-pub returns-in_err-check_room-clause-any_moment : goal.returns-in_err-check_room-clause-any_moment
-returns-in_err-check_room-clause-any_moment g c keeps made =
-    let book = c.args.self.now in
-    let disk = g.D.Disk in
-    let old = book.keeper.frames.disk in
-    no_call disk.clock disk.left disk.image old (HoldsKeptOrAll book.start book.log.items book.kept) (g.met.D.Disk.left_is_image old)
-    (either_now (disk.content old) (disk.image old) book.start book.log.items book.kept book.keeper.frames.broken (book.on_disk keeps) book.history.sound made)
+pub returns-in_err-check_room-clause-crash : goal.returns-in_err-check_room-clause-crash
+returns-in_err-check_room-clause-crash g c = unchanged g.met.D.Disk.left_is_image c.args.self.now
 
 pub invariant_of-self-then-leaves_table : goal.invariant_of-self-then-leaves_table
 invariant_of-self-then-leaves_table g c =
@@ -91,50 +86,38 @@ invariant_of-self-2 g c =
       newest = λ keeps_new _. c.in_ok-keep_table.ensures.newest (sym c.keep_table.ensures.keeps ∙ keeps_new);
     }
 
-pub returns-in_err-keep_table-clause-any_moment : goal.returns-in_err-keep_table-clause-any_moment
-returns-in_err-keep_table-clause-any_moment g c keeps made =
+pub returns-in_err-keep_table-clause-crash : goal.returns-in_err-keep_table-clause-crash
+returns-in_err-keep_table-clause-crash g c =
     let book = c.args.self.now in
     let disk = g.D.Disk in
-    let old = book.keeper.frames.disk in
-    let answer = c.in_ok-answer.answer in
-    let e = command_entry c.args.who c.args.command answer in
-    let log = c.enter_command.new.log.items in
-    let table = c.enter_command.new.table in
-    let ready = c.in_ok-check_room.ensures.ok.0 in
-    let room = c.in_ok-check_room.ensures.ok.1 in
-    let adds = c.in_ok-answer.ensures.added in
-    let sent = command_sent c.args.who c.args.command answer in
-    keep_leaves disk.clock disk.left old c.keep_table.new.keeper.frames.disk (disk.image old) book.start book.log.items log book.kept table
-    (table_kept_after book.start book.log.items log book.table table book.kept book.keeper.frames.broken e book.history ready adds room sent)
-    (replayed_after book.start book.log.items log book.table table book.kept book.keeper.frames.broken e book.history ready adds room sent)
-    (holds_now (disk.content old) (disk.image old) book.start book.log.items book.kept book.keeper.frames.broken (book.on_disk keeps) ready made) (λ t holds. c.keep_table.ensures.any_moment t keeps holds)
-
-pub returns-clause-any_moment : goal.returns-clause-any_moment
-returns-clause-any_moment g c keeps made =
-    let book = c.args.self.now in
-    let disk = g.D.Disk in
-    let old = book.keeper.frames.disk in
-    let answer = c.in_ok-answer.answer in
-    let e = command_entry c.args.who c.args.command answer in
-    let log = c.enter_command.new.log.items in
-    let table = c.enter_command.new.table in
-    let ready = c.in_ok-check_room.ensures.ok.0 in
-    let room = c.in_ok-check_room.ensures.ok.1 in
-    let adds = c.in_ok-answer.ensures.added in
-    let sent = command_sent c.args.who c.args.command answer in
-    keep_leaves disk.clock disk.left old c.keep_table.new.keeper.frames.disk (disk.image old) book.start book.log.items log book.kept table
-    (table_kept_after book.start book.log.items log book.table table book.kept book.keeper.frames.broken e book.history ready adds room sent)
-    (replayed_after book.start book.log.items log book.table table book.kept book.keeper.frames.broken e book.history ready adds room sent)
-    (holds_now (disk.content old) (disk.image old) book.start book.log.items book.kept book.keeper.frames.broken (book.on_disk keeps) ready made) (λ t holds. c.keep_table.ensures.any_moment t keeps holds)
-
-pub returns-in_err-keep_table-clause-made : goal.returns-in_err-keep_table-clause-made
-returns-in_err-keep_table-clause-made g c keeps all =
-    let book = c.args.self.now in
-    let disk = g.D.Disk in
-    let old = book.keeper.frames.disk in
     let new = c.keep_table.new.keeper.frames.disk in
-    made_after disk.clock disk.left disk.image old new book.start c.enter_command.new.log.items book.kept (λ file later there. g.met.D.Disk.image_is_left new (disk.clock old) file later there)
-    (returns-in_err-keep_table-clause-any_moment g c keeps all)
+    let answer = c.in_ok-answer.answer in
+    let e = command_entry c.args.who c.args.command answer in
+    let log = c.enter_command.new.log.items in
+    let table = c.enter_command.new.table in
+    let ready = c.in_ok-check_room.ensures.ok.0 in
+    let room = c.in_ok-check_room.ensures.ok.1 in
+    let adds = c.in_ok-answer.ensures.added in
+    let sent = command_sent c.args.who c.args.command answer in
+    written log book _ table ready
+    (table_kept_after book.start book.log.items log book.table table book.kept book.keeper.frames.broken e book.history ready adds room sent)
+    (replayed_after book.start book.log.items log book.table table book.kept book.keeper.frames.broken e book.history ready adds room sent)
+    (λ file later there. g.met.D.Disk.image_is_left new (disk.clock book.keeper.frames.disk) file later there) c.keep_table.ensures.keeps (λ t is holds. c.keep_table.ensures.any_moment t is holds)
 
-pub returns-clause-made : goal.returns-clause-made
-returns-clause-made g c keeps all file there = (c.in_ok-keep_table.ensures.holds keeps file there).made
+pub returns-clause-crash : goal.returns-clause-crash
+returns-clause-crash g c =
+    let book = c.args.self.now in
+    let disk = g.D.Disk in
+    let new = c.keep_table.new.keeper.frames.disk in
+    let answer = c.in_ok-answer.answer in
+    let e = command_entry c.args.who c.args.command answer in
+    let log = c.enter_command.new.log.items in
+    let table = c.enter_command.new.table in
+    let ready = c.in_ok-check_room.ensures.ok.0 in
+    let room = c.in_ok-check_room.ensures.ok.1 in
+    let adds = c.in_ok-answer.ensures.added in
+    let sent = command_sent c.args.who c.args.command answer in
+    written log book _ table ready
+    (table_kept_after book.start book.log.items log book.table table book.kept book.keeper.frames.broken e book.history ready adds room sent)
+    (replayed_after book.start book.log.items log book.table table book.kept book.keeper.frames.broken e book.history ready adds room sent)
+    (λ file later there. g.met.D.Disk.image_is_left new (disk.clock book.keeper.frames.disk) file later there) c.keep_table.ensures.keeps (λ t is holds. c.keep_table.ensures.any_moment t is holds)

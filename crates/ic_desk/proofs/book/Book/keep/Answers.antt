@@ -1,17 +1,12 @@
 use Rattle.std.proofs.Common.{◌∙◌, refl, sym, ap, subst, true, false, ◌≡◌, ℕ, length, arith}
-use Rattle.ic_desk.specs.Kept.{HoldsKeptOrAll, IsHistory, table_kept}
+use Rattle.ic_desk.specs.Kept.{IsHistory, table_kept}
 use Rattle.ic_desk.proofs.HistoryLemmas.{all_kept, broke_now, table_all}
-use Rattle.ic_desk.proofs.DiskLemmas.{either_now, holds_now, keep_failed, keep_holds, keep_leaves, kept_now, made_after, no_call}
+use Rattle.ic_desk.proofs.DiskLemmas.{keep_failed, keep_holds, kept_now}
+use Rattle.ic_desk.proofs.BookLemmas.{unchanged, written}
 use Rattle.ic_desk.proofs.book.Book.keep.Goals as goal
 
-pub returns-in_err-check_keepable-clause-any_moment :
-    goal.returns-in_err-check_keepable-clause-any_moment
-returns-in_err-check_keepable-clause-any_moment g c keeps made =
-    let book = c.args.self.now in
-    let disk = g.D.Disk in
-    let old = book.keeper.frames.disk in
-    no_call disk.clock disk.left disk.image old (HoldsKeptOrAll book.start book.log.items book.kept) (g.met.D.Disk.left_is_image old)
-    (either_now (disk.content old) (disk.image old) book.start book.log.items book.kept book.keeper.frames.broken (book.on_disk keeps) book.history.sound made)
+pub returns-in_err-check_keepable-clause-crash : goal.returns-in_err-check_keepable-clause-crash
+returns-in_err-check_keepable-clause-crash g c = unchanged g.met.D.Disk.left_is_image c.args.self.now
 
 pub invariant_of-self : goal.invariant_of-self
 invariant_of-self g c =
@@ -55,30 +50,18 @@ invariant_of-self-2 g c =
       newest = λ keeps_new _. c.in_ok-keep_table.ensures.newest (sym c.keep_table.ensures.keeps ∙ keeps_new);
     }
 
-pub returns-in_err-keep_table-clause-any_moment : goal.returns-in_err-keep_table-clause-any_moment
-returns-in_err-keep_table-clause-any_moment g c keeps made =
+pub returns-in_err-keep_table-clause-crash : goal.returns-in_err-keep_table-clause-crash
+returns-in_err-keep_table-clause-crash g c =
     let book = c.args.self.now in
     let disk = g.D.Disk in
-    let old = book.keeper.frames.disk in
-    keep_leaves disk.clock disk.left old c.keep_table.new.keeper.frames.disk (disk.image old) book.start book.log.items book.log.items book.kept book.table refl book.history.replayed
-    (holds_now (disk.content old) (disk.image old) book.start book.log.items book.kept book.keeper.frames.broken (book.on_disk keeps) c.in_ok-check_keepable.ensures.ok made) (λ t holds. c.keep_table.ensures.any_moment t keeps holds)
-
-pub returns-clause-any_moment : goal.returns-clause-any_moment
-returns-clause-any_moment g c keeps made =
-    let book = c.args.self.now in
-    let disk = g.D.Disk in
-    let old = book.keeper.frames.disk in
-    keep_leaves disk.clock disk.left old c.keep_table.new.keeper.frames.disk (disk.image old) book.start book.log.items book.log.items book.kept book.table refl book.history.replayed
-    (holds_now (disk.content old) (disk.image old) book.start book.log.items book.kept book.keeper.frames.broken (book.on_disk keeps) c.in_ok-check_keepable.ensures.ok made) (λ t holds. c.keep_table.ensures.any_moment t keeps holds)
-
-pub returns-in_err-keep_table-clause-made : goal.returns-in_err-keep_table-clause-made
-returns-in_err-keep_table-clause-made g c keeps all =
-    let book = c.args.self.now in
-    let disk = g.D.Disk in
-    let old = book.keeper.frames.disk in
     let new = c.keep_table.new.keeper.frames.disk in
-    made_after disk.clock disk.left disk.image old new book.start book.log.items book.kept (λ file later there. g.met.D.Disk.image_is_left new (disk.clock old) file later there)
-    (returns-in_err-keep_table-clause-any_moment g c keeps all)
+    written book.log.items book _ book.table c.in_ok-check_keepable.ensures.ok refl book.history.replayed
+    (λ file later there. g.met.D.Disk.image_is_left new (disk.clock book.keeper.frames.disk) file later there) c.keep_table.ensures.keeps (λ t is holds. c.keep_table.ensures.any_moment t is holds)
 
-pub returns-clause-made : goal.returns-clause-made
-returns-clause-made g c keeps all file there = (c.in_ok-keep_table.ensures.holds keeps file there).made
+pub returns-clause-crash : goal.returns-clause-crash
+returns-clause-crash g c =
+    let book = c.args.self.now in
+    let disk = g.D.Disk in
+    let new = c.keep_table.new.keeper.frames.disk in
+    written book.log.items book _ book.table c.in_ok-check_keepable.ensures.ok refl book.history.replayed
+    (λ file later there. g.met.D.Disk.image_is_left new (disk.clock book.keeper.frames.disk) file later there) c.keep_table.ensures.keeps (λ t is holds. c.keep_table.ensures.any_moment t is holds)

@@ -1,6 +1,7 @@
-// Why a call on a book was refused.
+//! Why a call on a book was refused.
+
 ghost use Rattle.std.specs.Prelude.{◌≡◌};
-ghost use Rattle.ic_desk.specs.declared.faults.BookFault.TheVariants.{Memory};
+ghost use Rattle.ic_desk.specs.declared.fault.BookFault.TheVariants.{Memory};
 ghost use Rattle.ic_desk.specs.Refusals.{book_fault};
 
 use ic_slots::KeepFault;

@@ -1,0 +1,29 @@
+//! Landing a round that was made.
+
+ghost use Rattle.ic_jobs.specs.declared.reply.Reply.TheVariants as reply;
+ghost use Rattle.ic_jobs.specs.Landing.{Awaits};
+ghost use Rattle.ic_desk.specs.Entries.{round_entry};
+ghost use Rattle.ic_desk.specs.Book.{log_of, table_of};
+ghost use Rattle.ic_desk.specs.Calls.{LeavesKeptOrAll, RefusesRound, TakesRound};
+
+use super::Book;
+use crate::BookFault;
+use crate::enter::enter_played;
+use ic_disk::Disk;
+use ic_jobs::Landed;
+use ic_pool::Played;
+
+impl<D: Disk> Book<D> {
+    /// Puts a round that was made, if its job is still as it was before the round; else the round
+    /// is stale, and nothing has changed. It isn't kept yet.
+    pub fn land(&mut self, played: Played) -> Result<Landed, BookFault>
+        ensures fault { RefusesRound result self.old self.new }
+        ensures round { TakesRound (round_entry played.name reply.Moved)
+            (Awaits (table_of self.old) played.name played.rules played.before played.rounds)
+            result self.old self.new }
+        ensures crash { LeavesKeptOrAll (log_of self.new) self.old self.new }
+    {
+        self.check_room()?;
+        Ok(enter_played(&mut self.log, &mut self.table, played)?)
+    }
+}
