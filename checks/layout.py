@@ -1,0 +1,120 @@
+#!/usr/bin/env python3
+"""Checks what no prover sees: where that stands which a reader has to believe, and how the docs read.
+
+Runs at the top of the repository. Prints the file and line of each fault, and last how many checks passed.
+"""
+
+import re
+import sys
+from pathlib import Path
+
+
+def lines_of(*patterns):
+    """Each line of these files, with its file and number."""
+    for path in sorted(it for pattern in patterns for it in Path(".").glob(pattern)):
+        for number, line in enumerate(path.read_text().split("\n"), 1):
+            yield path, number, line
+
+
+def sources():
+    return lines_of("crates/*/src/**/*.rt", "crates/*/specs/**/*.antt", "crates/*/proofs/**/*.antt")
+
+
+def proofs_are_cited_at_home():
+    """No crate cites another's proofs, nor what stands in its specs/inner."""
+    for path, number, line in sources():
+        for crate, part in re.findall(r"Rattle\.(ic_\w+)\.(proofs|specs\.inner)\b", line):
+            if crate != path.parts[1]:
+                yield path, number, f"cites {part} of {crate}"
+
+
+def definitions_stand_by_themselves():
+    """What stands right in specs/ is definitions, and rests on definitions. A value `coded_..` may stand beside them."""
+    for path, number, line in lines_of("crates/*/specs/*.antt"):
+        rests = re.match(r"use Rattle\.ic_\w+\.specs\.(?:lemmas|inner)\b[^{]*\{?([^}]*)", line)
+        if rests and not all(it.strip().startswith("coded_") for it in rests[1].split(",")):
+            yield path, number, "rests on what is proved of definitions"
+        lemma = re.match(r"(?!use |--)(?:pub )?([^\s:]+) +:(?: |$)", line)
+        values = re.findall(r"(?m)^coded_.*(?:\n .*)*", path.read_text()) if lemma else []
+        if lemma and not lemma[1].startswith("coded_") and not any(lemma[1] in it for it in values):
+            yield path, number, f"{lemma[1]} is no definition: its place is specs/lemmas or specs/inner"
+
+
+def public_clauses_cite_definitions():
+    """No clause of a public function of a library cites what stands in specs/inner."""
+    public, inner, owner, is_clause = set(), set(), "", False
+    for path, number, line in lines_of("crates/*/src/**/*.rt"):
+        if number == 1:
+            root = Path(*path.parts[:3], "lib.rt")
+            shown = re.findall(r"pub (?:use|mod) ([^;]*);", root.read_text() if root.exists() else "")
+            public, inner, owner, is_clause = set(re.findall(r"\w+", " ".join(shown))), set(), "", False
+        uses = re.match(r"\s*ghost use Rattle\.\w+\.specs\.inner\.\w+\.\{(.*)\};", line)
+        inner |= {it.strip() for it in uses[1].split(",")} if uses else set()
+        block = re.match(r"impl(?:<.*?>)? (?:.* for )?(\w+)|\}", line)
+        owner = block[1] or "" if block else owner
+        function = re.match(r"\s*(pub )?fn (\w+)", line)
+        if function:
+            is_clause = bool(function[1] and {owner or function[2], path.stem} & public)
+        for name in sorted(inner & set(re.findall(r"[\w-]+", line)) if is_clause and not function else []):
+            yield path, number, f"a public clause cites {name} of specs/inner"
+        is_clause = is_clause and not re.match(r"\s*\{ ?\}?$", line) and not re.search(r"\) .*\{$", line)
+
+
+def files_say_what_they_hold():
+    """Each file of src/ begins with a line `//!`."""
+    for path, number, line in lines_of("crates/*/src/**/*.rt"):
+        if number == 1 and not line.startswith("//!"):
+            yield path, number, "doesn't begin with a line //!"
+
+
+def the_longest_form_is_said_once():
+    """How many bytes a table's form has at most is a number where the constant is defined, and nowhere else."""
+    for path, number, line in sources():
+        if re.search(r"\b3_?036_?421\b", line) and not re.search(r"\bconst MAX_BYTES\b", line):
+            yield path, number, "says MAX_BYTES as a number"
+
+
+def texts(path):
+    """The paragraphs, headings, items of lists and cells of tables of a page, each as its words with their lines."""
+    found, is_code, is_open = [], False, False
+    for _, number, line in lines_of(str(path)):
+        is_fence = line.startswith("```")
+        is_code ^= is_fence
+        marked = re.match(r"(#+|[-*>]|\d+\.) |\|", line.strip())
+        is_more = is_open and not marked
+        is_open = bool(line.strip()) and not (is_code or is_fence or (line.startswith("    ") and not is_open))
+        cells = re.split(r"(?<!\\)\|", re.sub(r"`[^`]*`", "code", line))
+        for words in [[(number, it) for it in cell.split()] for cell in cells if is_open]:
+            found = found[:-1] + [found[-1] + words] if is_more else found + [words]
+    return found
+
+
+def sentences_are_short():
+    """A sentence of the docs has at most 40 words; what stands between backquotes is one word."""
+    for path in [*sorted(Path(".").glob("*.md")), *sorted(Path("docs").glob("*.md"))]:
+        for words in texts(path):
+            first, count = 0, 0
+            for place, (number, word) in enumerate(words, 1):
+                first, count = first or number, count + bool(re.search(r"\w", word))
+                if re.search(r"[.?!][)\"*]*$", word) or place == len(words):
+                    if count > 40:
+                        yield path, first, f"a sentence of {count} words"
+                    first, count = 0, 0
+
+
+def main():
+    checks = [proofs_are_cited_at_home, definitions_stand_by_themselves, public_clauses_cite_definitions]
+    checks += [files_say_what_they_hold, the_longest_form_is_said_once, sentences_are_short]
+    failed = 0
+    for check in checks:
+        faults = list(check())
+        for path, number, text in faults:
+            print(f"{path}:{number}: {text}")
+        failed += bool(faults)
+        print(f"layout: {check.__name__.replace('_', ' ')}: {'FAILED' if faults else 'ok'}")
+    print(f"{len(checks) - failed} passed, {failed} failed")
+    return 1 if failed else 0
+
+
+if __name__ == "__main__":
+    sys.exit(main())
