@@ -3,6 +3,8 @@
 use Rattle.std.specs.Prelude.{ℕ, ◌+◌, ◌==◌, ◌≤◌, Bool, ◌&&◌, nat_le, List, length, slice_index}
 use Rattle.std.specs.Int.{w32, w64, from_be_bytes}
 use Rattle.ic_disk.specs.Content.{bytes_at}
+use Rattle.ic_frames.specs.declared.frame.TheConstants.{HEAD, MAX_BODY}
+use Rattle.ic_frames.specs.declared.slot.TheConstants.{SECOND_AT}
 
 -- the gate of the slot that begins at this place
 abbrev pub gate : ℕ → List ℕ → ℕ
@@ -26,8 +28,8 @@ is_open at file = nat_le (at + 13) (length file) && (gate at file == 1)
 
 -- its body is no longer than a body may be, and lies within the file
 unfoldable pub is_whole : ℕ → List ℕ → Bool
-is_whole at file = nat_le (size at file) 3036421 && nat_le (at + 13 + size at file) (length file)
+is_whole at file = nat_le (size at file) MAX_BODY && nat_le (at + 13 + size at file) (length file)
 
 -- both heads lie within the file
 abbrev pub IsMade : List ℕ → Type 0
-IsMade file = 4194317 ≤ length file
+IsMade file = SECOND_AT + HEAD ≤ length file

@@ -8,4 +8,6 @@ pub mod Faults
 pub mod Numbers
 pub mod Frames
 pub mod Opened
+pub mod Keeping
+pub mod Crashes
 pub mod inner

@@ -1,4 +1,5 @@
-// The first body of a disk.
+//! The first body of a disk.
+
 ghost use Rattle.std.specs.Prelude.{◌≡◌, ◌+◌, ◌≤◌, length, drop, replicate, IsTrue, OnOk};
 ghost use Rattle.ic_disk.specs.Content.{laid};
 ghost use Rattle.ic_disk.specs.Images.{Within};
@@ -7,6 +8,7 @@ ghost use Rattle.ic_frames.specs.Layout.{slot_bytes};
 ghost use Rattle.ic_frames.specs.Places.{place};
 ghost use Rattle.ic_frames.specs.Held.{Holds, IsClosedIn, body_held, the_body};
 ghost use Rattle.ic_frames.specs.Staged.{IsStaged};
+ghost use Rattle.ic_frames.specs.declared.frame.TheConstants.{MAX_BODY};
 
 use crate::frame::fill_head;
 use crate::writes::{write_frame, write_gate};
@@ -18,7 +20,7 @@ use ic_disk::{Disk, DiskFault};
 /// frame is filled in. After a refusal it is to be done again.
 pub fn create<D: Disk>(disk: &mut D, frame: &mut [u8]) -> Result<(), DiskFault>
     requires head { 13 ≤ length frame.old }
-    requires short { length frame.old ≤ 13 + 3036421 }
+    requires short { length frame.old ≤ 13 + MAX_BODY }
 
     ensures keeps { D.keeps disk.new ≡ D.keeps disk.old }
     ensures counted { CountsFailure result (D.failures disk.old) (D.failures disk.new) }

@@ -1,4 +1,5 @@
-// Why a call was refused.
+//! Why a call was refused.
+
 ghost use Rattle.std.specs.Prelude.{◌≡◌};
 ghost use Rattle.ic_frames.specs.declared.faults.KeepFault.TheVariants.{Device as KeepDevice};
 ghost use Rattle.ic_frames.specs.declared.faults.OpenCause.TheVariants.{Device as OpenDevice, Memory};

@@ -1,4 +1,5 @@
-// What is found in a disk.
+//! What is found in a disk.
+
 use crate::Slot;
 
 // What the head of an open slot says.

@@ -1,4 +1,5 @@
-// A frame: the bytes of a slot, a head and then a body.
+//! A frame: the bytes of a slot, a head and then a body.
+
 ghost use Rattle.std.specs.Prelude.{◌≡◌, ◌+◌, ◌≤◌, ◌<◌, ◌^◌, length, drop};
 ghost use Rattle.ic_frames.specs.inner.Standing.{IsFrame};
 
@@ -11,7 +12,7 @@ pub const MAX_BODY: usize = 3_036_421;
 // Writes the head of a frame: a closed gate, this number and the length of the body behind it.
 pub(crate) fn fill_head(frame: &mut [u8], number: u64)
     requires head { 13 ≤ length frame.old }
-    requires short { length frame.old ≤ 13 + 3036421 }
+    requires short { length frame.old ≤ 13 + MAX_BODY }
     ensures { IsFrame number (drop 13 frame.old) frame.new }
 {
     let size = (frame.len() - HEAD) as u32;

@@ -1,22 +1,18 @@
-// Two frames that are kept: a body, and the place for the next.
-ghost use Rattle.std.specs.Prelude.{◌≡◌, ◌⊎◌, ◌↔◌, ◌+◌, ◌-◌, ◌^◌, ◌<◌, ◌≤◌, ℕ, List, Bool, true, false, [], ◌∷◌, length, drop, IsTrue, OnOk, IsErr, IsErrOf, IfOk, IfErr, vec_capacity};
-ghost use Rattle.ic_disk.specs.Images.{Only, Within};
-ghost use Rattle.ic_disk.specs.Time.{LeavesOnly};
-ghost use Rattle.ic_disk.specs.Content.{laid};
-ghost use Rattle.ic_frames.specs.Places.{place, other};
-ghost use Rattle.ic_frames.specs.Fields.{IsMade};
-ghost use Rattle.ic_frames.specs.Layout.{behind_gate, slot_bytes};
-ghost use Rattle.ic_frames.specs.Held.{HasBody, Holds, HoldsEither, IsClosedIn, body_held, the_body};
+//! Two frames that are kept: a body, and the place for the next.
+
+ghost use Rattle.std.specs.Prelude.{◌≡◌, ◌⊎◌, ◌↔◌, ◌+◌, ◌-◌, ◌^◌, ◌<◌, ◌≤◌, Bool, true, false, length, drop, IsTrue, OnOk, IsErr, IsErrOf, IfOk, IfErr, vec_capacity};
+ghost use Rattle.ic_frames.specs.Held.{HasBody, Holds, body_held, the_body};
 ghost use Rattle.ic_frames.specs.Staged.{IsStaged};
 ghost use Rattle.ic_frames.specs.inner.Standing.{IsKept};
-ghost use Rattle.ic_frames.specs.Faults.{CountsKeep, CountsOpen};
-ghost use Rattle.ic_frames.specs.Opening.{Answers};
+ghost use Rattle.ic_frames.specs.Faults.{CountsOpen};
+ghost use Rattle.ic_frames.specs.Opening.{Answers, LeavesAsFound};
+ghost use Rattle.ic_frames.specs.declared.frame.TheConstants.{MAX_BODY};
 
 use crate::found::Found;
 use crate::frame::fill_head;
 use crate::opening::find;
 use crate::writes::{write_frame, write_gate};
-use crate::{KeepFault, OpenCause, OpenFault, Opened, Slot};
+use crate::{KeepFault, OpenFault, Opened, Slot};
 use ic_disk::Disk;
 use std::alloc::Global;
 
@@ -46,16 +42,14 @@ pub struct Frames<D: Disk> {
 }
 
 impl<D: Disk> Frames<D> {
-    ghost use Rattle.ic_frames.specs.Frames.{disk_of, target_of, number_of, is_broken, is_closed, is_staged};
+    ghost use Rattle.ic_frames.specs.Frames.{disk_of, number_of, is_broken, is_closed, is_staged};
+    ghost use Rattle.ic_frames.specs.Keeping.{ClosesGate, FaultLeaves, OpensGate, TakesTurns, WritesBody, WritesSlot};
+    ghost use Rattle.ic_frames.specs.Crashes.{CrashInClosing, CrashInKeeping, CrashInOpening, CrashInWriting};
     ghost use Rattle.ic_frames.specs.Opened.{disk_after, outcome_of, IsOnNewest};
 
     /// Finds the newest body of a disk. It begins with a sync, and changes nothing. The frame has the
     /// body, and room for the longest. A fault hands the disk back.
     pub fn open(alloc: Global, mut disk: D) -> Result<Opened<D>, OpenFault<D>>
-        ensures keeps { D.keeps (disk_after result) ≡ D.keeps disk }
-        ensures counted { CountsOpen (outcome_of result)
-            (D.failures disk) (D.failures (disk_after result)) }
-
         // It answers by what reads give.
         ensures opened { IsTrue (D.keeps disk) → IfOk result (λ opened.
             body_held (D.content disk) ≡ the_body (drop 13 opened.frame.items)) }
@@ -65,21 +59,15 @@ impl<D: Disk> Frames<D> {
         // What it says of the newest slot is so.
         ensures newest { IsTrue (D.keeps disk) → IfOk result (λ opened.
             IsOnNewest opened.frames (D.content disk)) }
-
         ensures ready { IfOk result (λ opened. is_broken opened.frames ≡ false) }
-        ensures room { IfOk result (λ opened. 13 + 3036421 ≤ vec_capacity opened.frame) }
+
+        ensures room { IfOk result (λ opened. 13 + MAX_BODY ≤ vec_capacity opened.frame) }
         ensures head { IfOk result (λ opened. 13 ≤ length opened.frame.items) }
 
-        // A crash at any moment leaves an image from before. At Ok there is one, what reads give.
-        ensures any_moment { IsTrue (D.keeps disk)
-            → LeavesOnly D.clock D.left disk (disk_after result) (D.image disk) }
-        ensures same { IsTrue (D.keeps disk) → D.content (disk_after result) ≡ D.content disk }
-        ensures settled { IsTrue (D.keeps disk)
-            → OnOk result (Only (D.content disk) (D.image (disk_after result))) }
-
-        // Whatever else it answers than that the disk has failed, a sync has come before.
-        ensures synced { IsTrue (D.keeps disk) → ¬ IsErrOf (outcome_of result) OpenCause.Device
-            → Only (D.content disk) (D.image (disk_after result)) }
+        ensures crash { LeavesAsFound D.keeps D.content D.image D.clock D.left
+            (outcome_of result) disk (disk_after result) }
+        ensures counted { CountsOpen (outcome_of result)
+            (D.failures disk) (D.failures (disk_after result)) }
     {
         match find(alloc, &mut disk) {
             Ok(found) => {
@@ -123,42 +111,9 @@ impl<D: Disk> Frames<D> {
 
     /// Closes the gate of the slot that is written next. Where it is closed no call is made.
     pub fn close_gate(&mut self) -> Result<(), KeepFault>
-        ensures keeps { D.keeps (disk_of self.new) ≡ D.keeps (disk_of self.old) }
-
-        // Refusals, in this order.
-        ensures broken { IsErrOf result KeepFault.Broken ↔ (is_broken self.old ≡ true) }
-        ensures worn { IsErrOf result KeepFault.Worn
-            ↔ ((is_broken self.old ≡ false) × (number_of self.old ≡ 2 ^ 64 - 1)) }
-        ensures counted { CountsKeep result
-            (D.failures (disk_of self.old)) (D.failures (disk_of self.new)) }
-        ensures breaks { IsErrOf result KeepFault.Device → is_broken self.new ≡ true }
-        ensures refused { IsErr result → ¬ IsErrOf result KeepFault.Device
-            → self.new ≡ self.old }
-
-        ensures closed { OnOk result (is_closed self.new ≡ true) }
-        ensures staged { is_staged self.new ≡ is_staged self.old }
-        ensures ready { OnOk result (is_broken self.new ≡ false) }
-        ensures target { target_of self.new ≡ target_of self.old }
-        ensures number { number_of self.new ≡ number_of self.old }
-        ensures idle { is_closed self.old ≡ true → disk_of self.new ≡ disk_of self.old }
-        ensures calls { D.clock (disk_of self.new) ≤ D.clock (disk_of self.old) + 2 }
-
-        // An open gate is written as 0.
-        ensures written { IsTrue (D.keeps (disk_of self.old)) → is_closed self.old ≡ false
-            → OnOk result (D.content (disk_of self.new)
-            ≡ laid (place (target_of self.old)) (0 ∷ []) (D.content (disk_of self.old))) }
-
-        // A crash at any moment leaves the body that was kept, and at Ok the slot is closed.
-        ensures any_moment { (kept : List ℕ) → IsTrue (D.keeps (disk_of self.old))
-            → Within (D.image (disk_of self.old)) (Holds kept)
-            → LeavesOnly D.clock D.left (disk_of self.old) (disk_of self.new) (Holds kept) }
-        ensures shut { IsTrue (D.keeps (disk_of self.old)) → OnOk result
-            (Within (D.image (disk_of self.new)) (IsClosedIn (target_of self.old))) }
-
-        // Whatever it answers, a body that each image had, made or not, each has after it.
-        ensures stays { (kept : List ℕ) → IsTrue (D.keeps (disk_of self.old))
-            → Within (D.image (disk_of self.old)) (HasBody kept)
-            → Within (D.image (disk_of self.new)) (HasBody kept) }
+        ensures fault { FaultLeaves result self.old self.new }
+        ensures closes { ClosesGate result self.old self.new }
+        ensures crash { CrashInClosing Holds HasBody result self.old self.new }
     {
         self.check_usable()?;
         let closed = self.closed;
@@ -177,61 +132,16 @@ impl<D: Disk> Frames<D> {
     pub fn write_body(&mut self, frame: &mut [u8]) -> Result<(), KeepFault>
         requires closed { is_closed self.old ≡ true }
         requires head { 13 ≤ length frame.old }
-        requires short { length frame.old ≤ 13 + 3036421 }
+        requires short { length frame.old ≤ 13 + MAX_BODY }
 
-        ensures keeps { D.keeps (disk_of self.new) ≡ D.keeps (disk_of self.old) }
+        ensures fault { FaultLeaves result self.old self.new }
+        ensures writes { WritesBody (drop 13 frame.old) result self.old self.new }
+        ensures crash { CrashInWriting Holds HasBody IsStaged (drop 13 frame.old)
+            result self.old self.new }
 
-        // Refusals, in this order.
-        ensures broken { IsErrOf result KeepFault.Broken ↔ (is_broken self.old ≡ true) }
-        ensures worn { IsErrOf result KeepFault.Worn
-            ↔ ((is_broken self.old ≡ false) × (number_of self.old ≡ 2 ^ 64 - 1)) }
-        ensures counted { CountsKeep result
-            (D.failures (disk_of self.old)) (D.failures (disk_of self.new)) }
-        ensures breaks { IsErrOf result KeepFault.Device → is_broken self.new ≡ true }
-        ensures refused { IsErr result → ¬ IsErrOf result KeepFault.Device
-            → self.new ≡ self.old }
-
+        ensures same_body { drop 13 frame.new ≡ drop 13 frame.old }
         ensures same_frame { IsErr result → ¬ IsErrOf result KeepFault.Device
             → frame.new ≡ frame.old }
-
-        ensures staged { OnOk result (is_staged self.new ≡ true) }
-        ensures closed { is_closed self.new ≡ is_closed self.old }
-        ensures same_body { drop 13 frame.new ≡ drop 13 frame.old }
-        ensures ready { OnOk result (is_broken self.new ≡ false) }
-        ensures target { target_of self.new ≡ target_of self.old }
-        ensures number { number_of self.new ≡ number_of self.old }
-        ensures calls { D.clock (disk_of self.new) ≤ D.clock (disk_of self.old) + 2 }
-
-        // At Ok the number, the length and the body are written behind the gate. Where the disk
-        // wasn't made, a 0 is written before them.
-        ensures written { IsTrue (D.keeps (disk_of self.old))
-            → IsMade (D.content (disk_of self.old)) → OnOk result (D.content (disk_of self.new)
-            ≡ laid (place (target_of self.old) + 1)
-            (behind_gate (number_of self.old + 1) (drop 13 frame.old))
-            (D.content (disk_of self.old))) }
-        ensures written_whole { IsTrue (D.keeps (disk_of self.old))
-            → ¬ IsMade (D.content (disk_of self.old)) → OnOk result (D.content (disk_of self.new)
-            ≡ laid (place (target_of self.old))
-            (0 ∷ behind_gate (number_of self.old + 1) (drop 13 frame.old))
-            (D.content (disk_of self.old))) }
-
-        // A crash at any moment leaves the body that was kept, and at Ok the next is whole behind
-        // the gate.
-        ensures any_moment { (kept : List ℕ) → IsTrue (D.keeps (disk_of self.old))
-            → Within (D.image (disk_of self.old)) (Holds kept)
-            → LeavesOnly D.clock D.left (disk_of self.old) (disk_of self.new) (Holds kept) }
-        ensures whole { IsTrue (D.keeps (disk_of self.old)) → OnOk result
-            (Within (D.image (disk_of self.new))
-            (IsStaged (target_of self.new) (number_of self.new + 1) (drop 13 frame.old))) }
-
-        // On a disk that isn't made too: whatever it answers, a body that each image had each holds
-        // after it, if each is made then. At Ok each is.
-        ensures holds_if_made { (kept : List ℕ) → IsTrue (D.keeps (disk_of self.old))
-            → Within (D.image (disk_of self.old)) (HasBody kept)
-            → Within (D.image (disk_of self.new)) IsMade
-            → Within (D.image (disk_of self.new)) (Holds kept) }
-        ensures made { IsTrue (D.keeps (disk_of self.old)) → OnOk result
-            (Within (D.image (disk_of self.new)) IsMade) }
     {
         self.check_usable()?;
         fill_head(frame, self.number + 1);
@@ -248,46 +158,10 @@ impl<D: Disk> Frames<D> {
     pub fn open_gate(&mut self) -> Result<(), KeepFault>
         requires { is_staged self.old ≡ true }
 
-        ensures keeps { D.keeps (disk_of self.new) ≡ D.keeps (disk_of self.old) }
-
-        // Refusals, in this order.
-        ensures broken { IsErrOf result KeepFault.Broken ↔ (is_broken self.old ≡ true) }
-        ensures worn { IsErrOf result KeepFault.Worn
-            ↔ ((is_broken self.old ≡ false) × (number_of self.old ≡ 2 ^ 64 - 1)) }
-        ensures counted { CountsKeep result
-            (D.failures (disk_of self.old)) (D.failures (disk_of self.new)) }
-        ensures breaks { IsErrOf result KeepFault.Device → is_broken self.new ≡ true }
-        ensures refused { IsErr result → ¬ IsErrOf result KeepFault.Device
-            → self.new ≡ self.old }
-
-        ensures ready { OnOk result (is_broken self.new ≡ false) }
-        ensures closed { OnOk result (is_closed self.new ≡ false) }
-        ensures staged { OnOk result (is_staged self.new ≡ false) }
-        ensures target { OnOk result (target_of self.new ≡ other (target_of self.old)) }
-        ensures number { OnOk result (number_of self.new ≡ number_of self.old + 1) }
-        ensures target_stays { IsErr result → target_of self.new ≡ target_of self.old }
-        ensures number_stays { IsErr result → number_of self.new ≡ number_of self.old }
-        ensures calls { D.clock (disk_of self.new) ≤ D.clock (disk_of self.old) + 2 }
-
-        // At Ok the gate is written as 1, and its slot is the newest in each image.
-        ensures written { IsTrue (D.keeps (disk_of self.old)) → OnOk result
-            (D.content (disk_of self.new)
-            ≡ laid (place (target_of self.old)) (1 ∷ []) (D.content (disk_of self.old))) }
-        ensures newest { IsTrue (D.keeps (disk_of self.old)) → OnOk result
-            (Within (D.image (disk_of self.new)) (IsOnNewest self.new)) }
-
-        // A crash at any moment leaves the body that was kept or the one that is staged, and at Ok
-        // the latter alone.
-        ensures any_moment { (kept next : List ℕ) → IsTrue (D.keeps (disk_of self.old))
-            → Within (D.image (disk_of self.old)) (Holds kept)
-            → Within (D.image (disk_of self.old))
-            (IsStaged (target_of self.old) (number_of self.old + 1) next)
-            → LeavesOnly D.clock D.left (disk_of self.old) (disk_of self.new)
-            (HoldsEither kept next) }
-        ensures holds { (next : List ℕ) → IsTrue (D.keeps (disk_of self.old))
-            → Within (D.image (disk_of self.old))
-            (IsStaged (target_of self.old) (number_of self.old + 1) next)
-            → OnOk result (Within (D.image (disk_of self.new)) (Holds next)) }
+        ensures fault { FaultLeaves result self.old self.new }
+        ensures turns { TakesTurns result self.old self.new }
+        ensures opens { OpensGate result self.old self.new }
+        ensures crash { CrashInOpening Holds IsStaged result self.old self.new }
     {
         self.check_usable()?;
         self.broken = true;
@@ -304,64 +178,17 @@ impl<D: Disk> Frames<D> {
     /// Puts the body of this frame in the place of the one that is kept. It takes no memory.
     pub fn keep(&mut self, frame: &mut [u8]) -> Result<(), KeepFault>
         requires head { 13 ≤ length frame.old }
-        requires short { length frame.old ≤ 13 + 3036421 }
+        requires short { length frame.old ≤ 13 + MAX_BODY }
 
-        ensures keeps { D.keeps (disk_of self.new) ≡ D.keeps (disk_of self.old) }
-
-        // Refusals, in this order.
-        ensures broken { IsErrOf result KeepFault.Broken ↔ (is_broken self.old ≡ true) }
-        ensures worn { IsErrOf result KeepFault.Worn
-            ↔ ((is_broken self.old ≡ false) × (number_of self.old ≡ 2 ^ 64 - 1)) }
-        ensures counted { CountsKeep result
-            (D.failures (disk_of self.old)) (D.failures (disk_of self.new)) }
-        ensures breaks { IsErrOf result KeepFault.Device → is_broken self.new ≡ true }
-        ensures refused { IsErr result → ¬ IsErrOf result KeepFault.Device
-            → self.new ≡ self.old }
-
-        ensures same_frame { IsErr result → ¬ IsErrOf result KeepFault.Device
-            → frame.new ≡ frame.old }
-
-        ensures ready { OnOk result (is_broken self.new ≡ false) }
-        ensures closed { OnOk result (is_closed self.new ≡ false) }
-        ensures staged { OnOk result (is_staged self.new ≡ false) }
-        ensures target { OnOk result (target_of self.new ≡ other (target_of self.old)) }
-        ensures number { OnOk result (number_of self.new ≡ number_of self.old + 1) }
-        ensures target_stays { IsErr result → target_of self.new ≡ target_of self.old }
-        ensures number_stays { IsErr result → number_of self.new ≡ number_of self.old }
+        ensures fault { FaultLeaves result self.old self.new }
+        ensures turns { TakesTurns result self.old self.new }
+        ensures slot { WritesSlot (drop 13 frame.old) result self.old self.new }
+        ensures crash { CrashInKeeping Holds HasBody (drop 13 frame.old)
+            result self.old self.new }
 
         ensures same_body { drop 13 frame.new ≡ drop 13 frame.old }
-
-        // It makes at most six calls, and four over a closed slot.
-        ensures calls { D.clock (disk_of self.new) ≤ D.clock (disk_of self.old) + 6 }
-        ensures few_calls { is_closed self.old ≡ true
-            → D.clock (disk_of self.new) ≤ D.clock (disk_of self.old) + 4 }
-
-        // At Ok the slot's bytes are written, and it is the newest in each image.
-        ensures written { IsTrue (D.keeps (disk_of self.old)) → OnOk result
-            (D.content (disk_of self.new) ≡ laid (place (target_of self.old))
-            (slot_bytes (number_of self.old + 1) (drop 13 frame.old))
-            (D.content (disk_of self.old))) }
-        ensures newest { IsTrue (D.keeps (disk_of self.old)) → OnOk result
-            (Within (D.image (disk_of self.new)) (IsOnNewest self.new)) }
-
-        // A crash at any moment leaves the body that was kept or the next one.
-        ensures any_moment { (kept : List ℕ) → IsTrue (D.keeps (disk_of self.old))
-            → Within (D.image (disk_of self.old)) (Holds kept)
-            → LeavesOnly D.clock D.left (disk_of self.old) (disk_of self.new)
-            (HoldsEither kept (drop 13 frame.old)) }
-
-        // On a disk that isn't made too: whatever it answers, where each image had one body, each
-        // holds that or the next one after it, if each is made then.
-        ensures either_if_made { (kept : List ℕ) → IsTrue (D.keeps (disk_of self.old))
-            → Within (D.image (disk_of self.old)) (HasBody kept)
-            → Within (D.image (disk_of self.new)) IsMade
-            → Within (D.image (disk_of self.new)) (HoldsEither kept (drop 13 frame.old)) }
-
-        // At Ok it leaves the next one, and so do reads.
-        ensures holds { IsTrue (D.keeps (disk_of self.old)) → OnOk result
-            (Within (D.image (disk_of self.new)) (Holds (drop 13 frame.old))) }
-        ensures held { IsTrue (D.keeps (disk_of self.old)) → OnOk result
-            (body_held (D.content (disk_of self.new)) ≡ the_body (drop 13 frame.old)) }
+        ensures same_frame { IsErr result → ¬ IsErrOf result KeepFault.Device
+            → frame.new ≡ frame.old }
     {
         self.close_gate()?;
         self.write_body(frame)?;

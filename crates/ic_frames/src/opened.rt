@@ -1,4 +1,5 @@
-// What an opening hands out.
+//! What an opening hands out.
+
 use crate::Frames;
 use ic_disk::Disk;
 

@@ -1,4 +1,5 @@
-// Finding the newest body of a disk.
+//! Finding the newest body of a disk.
+
 ghost use Rattle.std.specs.Prelude.{◌≡◌, ◌⊎◌, ◌+◌, ◌≤◌, ◌<◌, ℕ, List, true, false, length, drop, IsTrue, IfOk, IfErr, IsErrOf, OnOk, OnErr, vec_capacity};
 ghost use Rattle.ic_disk.specs.Content.{bytes_at};
 ghost use Rattle.ic_disk.specs.Images.{Only};
@@ -91,9 +92,9 @@ fn newest_of(first: Option<Head>, second: Option<Head>) -> Result<Newest, OpenCa
 // length. Where it isn't, the other slot isn't tried: it is older.
 fn whole_of(newest: Newest, len: u64) -> Result<Newest, OpenCause>
     ensures same { IfOk result (λ whole. whole ≡ newest) }
-    ensures ok { IfOk result (λ whole. (whole.head.size ≤ 3036421)
+    ensures ok { IfOk result (λ whole. (whole.head.size ≤ MAX_BODY)
         × (place whole.slot + 13 + whole.head.size ≤ len)) }
-    ensures err { OnErr result ((3036421 < newest.head.size)
+    ensures err { OnErr result ((MAX_BODY < newest.head.size)
         ⊎ (len < place newest.slot + 13 + newest.head.size)) }
     ensures cause { IfErr result IsDamage }
 {
@@ -111,7 +112,7 @@ fn read_frame<D: Disk>(
     slot: Slot,
     size: usize,
 ) -> Result<Vec<u8>, OpenCause>
-    requires short { size ≤ 3036421 }
+    requires short { size ≤ MAX_BODY }
     requires within { IsTrue (D.keeps disk.old)
         → place slot + 13 + size ≤ length (D.content disk.old) }
     ensures keeps { D.keeps disk.new ≡ D.keeps disk.old }
@@ -119,7 +120,7 @@ fn read_frame<D: Disk>(
     ensures body { IsTrue (D.keeps disk.old) → IfOk result (λ frame. drop 13 frame.items
         ≡ bytes_at (place slot + 13) size (D.content disk.old)) }
     ensures long { IfOk result (λ frame. length frame.items ≡ 13 + size) }
-    ensures room { IfOk result (λ frame. 13 + 3036421 ≤ vec_capacity frame) }
+    ensures room { IfOk result (λ frame. 13 + MAX_BODY ≤ vec_capacity frame) }
     ensures cause { IfErr result IsOfCalls }
     ensures reads { IsTrue (D.keeps disk.old)
         → OnlyReads D.content D.image D.clock D.left disk.old disk.new }
@@ -162,7 +163,7 @@ pub(crate) fn find<D: Disk>(alloc: Global, disk: &mut D) -> Result<Found, OpenCa
         → OnOk result (Only (D.content disk.old) (D.image disk.new)) }
     ensures synced { IsTrue (D.keeps disk.old) → ¬ IsErrOf result OpenCause.Device
         → Only (D.content disk.old) (D.image disk.new) }
-    ensures room { IfOk result (λ found. 13 + 3036421 ≤ vec_capacity found.frame) }
+    ensures room { IfOk result (λ found. 13 + MAX_BODY ≤ vec_capacity found.frame) }
     ensures head { IfOk result (λ found. 13 ≤ length found.frame.items) }
     ensures refused { IsTrue (D.keeps disk.old)
         → IfErr result (λ cause. Answers cause (body_held (D.content disk.old))) }

@@ -1,4 +1,5 @@
-// The two slots of a disk.
+//! The two slots of a disk.
+
 ghost use Rattle.std.specs.Prelude.{◌≡◌};
 
 /// One of the two slots of a disk.

@@ -1,4 +1,5 @@
-// Writes to one slot, each of them on the disk for good before the next call.
+//! Writes to one slot, each of them on the disk for good before the next call.
+
 ghost use Rattle.std.specs.Prelude.{◌≡◌, ◌⊎◌, ◌+◌, ◌-◌, ◌≤◌, [], ◌∷◌, length, drop, IsTrue, OnOk, OnErr};
 ghost use Rattle.ic_disk.specs.Content.{laid};
 ghost use Rattle.ic_disk.specs.Images.{Only, TornFrom, Within};

@@ -1,5 +1,5 @@
 -- What is said of bodies, said of the tables of which they are the byte form.
-use Rattle.std.proofs.Common.{inl, inr, ⊎_elim, ℕ, List, Result, Ok, Err, OnOk}
+use Rattle.std.proofs.Common.{◌≡◌, inl, inr, ⊎_elim, ℕ, ◌+◌, List, Result, Ok, Err, OnOk, subst}
 use Rattle.ic_disk.specs.Images.{Within}
 use Rattle.ic_disk.specs.Time.{LeavesOnly}
 use Rattle.ic_disk.specs.lemmas.Moments.{leaves_weaker}
@@ -7,6 +7,7 @@ use Rattle.ic_jobs.specs.Job.{JobParts}
 use Rattle.ic_jobs.specs.Table.{IsTable}
 use Rattle.ic_codec.specs.Tables.{table_bytes}
 use Rattle.ic_frames.specs.declared.slot.Slot.{Slot}
+use Rattle.ic_frames.specs.Places.{other}
 use Rattle.ic_frames.specs.Held.{HasBody, Holds, HoldsEither}
 use Rattle.ic_frames.specs.Staged.{IsStaged}
 use Rattle.ic_slots.specs.Held.{HoldsTable, HoldsEitherTable, IsHeld, IsStagedTable, the_table}
@@ -49,3 +50,14 @@ on_ok (Err fault) P Q f is = tt
 -- What holds at Ok of the byte form holds of the table.
 pub ok_holds : {T E : Type 0} (r : Result T E) (t : List JobParts) (image : List ℕ → Type 0) → IsTable t → OnOk r (Within image (Holds (table_bytes t))) → OnOk r (Within image (HoldsTable t))
 ok_holds r t image sound holds = on_ok r (Within image (Holds (table_bytes t))) (Within image (HoldsTable t)) (λ all file there. table_holds t file sound (all file there)) holds
+
+-- also of what reads give
+pub ok_held : {T E : Type 0} (r : Result T E) (t : List JobParts) (file : List ℕ) → IsTable t → OnOk r (HasBody (table_bytes t) file) → OnOk r (IsHeld (the_table t) file)
+ok_held r t file sound held = on_ok r (HasBody (table_bytes t) file) (IsHeld (the_table t) file) (λ is. (sound, is)) held
+
+-- and of the slot that is written next
+pub ok_staged : {T E : Type 0} (r : Result T E) (newest : Slot) (n : ℕ) (t : List JobParts) (body : List ℕ) (image : List ℕ → Type 0) → IsTable t → body ≡ table_bytes t
+    → OnOk r (Within image (IsStaged (other newest) (n + 1) body)) → OnOk r (Within image (IsStagedTable (other newest) (n + 1) t))
+ok_staged r newest n t body image sound same staged =
+    on_ok r (Within image (IsStaged (other newest) (n + 1) body)) (Within image (IsStagedTable (other newest) (n + 1) t))
+    (λ all file there. (sound, subst (λ (b : List ℕ). IsStaged (other newest) (n + 1) b file) same (all file there))) staged

@@ -29,6 +29,10 @@ IsHeld no_slot file = body_held file ≡ no_open_slot
 IsHeld two_alike file = body_held file ≡ two_alike_slots
 IsHeld damaged file = (body_held file ≡ damaged_slot) ⊎ HoldsNoTable file
 
+-- the file holds this table, made or not
+abbrev pub HasTable : (t : List JobParts) (file : List ℕ) → Type 0
+HasTable t file = IsHeld (the_table t) file
+
 -- a made file that holds this table
 pub record HoldsTable (t : List JobParts) (file : List ℕ) : Type 0 where
   pub made : IsMade file

@@ -1,4 +1,5 @@
-// The empty table on a disk.
+//! The empty table on a disk.
+
 ghost use Rattle.std.specs.Prelude.{◌≡◌, ◌+◌, ◌≤◌, [], replicate, IsTrue, IsErrOf, OnOk};
 ghost use Rattle.ic_codec.specs.Tables.{table_bytes};
 ghost use Rattle.ic_disk.specs.Content.{laid};

@@ -1,4 +1,5 @@
-// Why a disk wasn't created.
+//! Why a disk wasn't created.
+
 ghost use Rattle.std.specs.Prelude.{◌≡◌};
 ghost use Rattle.ic_slots.specs.declared.faults.CreateFault.TheVariants.{Device, Memory};
 

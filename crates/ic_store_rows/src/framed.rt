@@ -13,7 +13,7 @@ pub const SECOND: usize = SECOND_AT as usize;
 // A frame with this body, its head to be filled in.
 fn frame_of(alloc: Global, body: &[u8]) -> Result<Vec<u8>, AllocError>
     ensures head { IfOk result (λ frame. 13 ≤ length frame.items) }
-    ensures short { IfOk result (λ frame. length frame.items ≤ 13 + 3036421) }
+    ensures short { IfOk result (λ frame. length frame.items ≤ 13 + MAX_BODY) }
 {
     let mut frame = Vec::from_slice(alloc, &[0; HEAD])?;
     if body.len() <= MAX_BODY {

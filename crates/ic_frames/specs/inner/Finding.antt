@@ -1,6 +1,8 @@
 -- What is found in a disk that is opened. Inner: private functions cite it.
-use Rattle.std.specs.Prelude.{◌≡◌, ℕ, ◌<◌, true, false, List, length, drop, Option, None, Some, Result, Ok, Err}
+use Rattle.std.specs.Prelude.{◌≡◌, ℕ, ◌+◌, ◌<◌, true, false, List, length, drop, Option, None, Some, Result, Ok, Err}
 use Rattle.ic_frames.specs.declared.slot.Slot.{Slot}
+use Rattle.ic_frames.specs.declared.slot.TheConstants.{SECOND_AT}
+use Rattle.ic_frames.specs.declared.frame.TheConstants.{HEAD}
 use Rattle.ic_frames.specs.declared.found.Head.{Head}
 use Rattle.ic_frames.specs.declared.found.Newest.{Newest}
 use Rattle.ic_frames.specs.declared.found.Found.{Found}
@@ -44,7 +46,7 @@ pub record IsFound (found : Found) (file : List ℕ) : Type 0 where
   pub whole : is_whole (place found.newest.slot) file ≡ true
   pub body_is : body (place found.newest.slot) file ≡ drop 13 found.frame.items
   pub made : found.made ≡ true → IsMade file
-  pub not_made : found.made ≡ false → length file < 4194317
+  pub not_made : found.made ≡ false → length file < SECOND_AT + HEAD
 
 -- a refusal that says something of the slots alone
 abbrev pub IsOfSlots : OpenCause → Type 0

@@ -1,6 +1,8 @@
 -- How the two slots stand on a disk while it is kept. Inner: private fields and functions cite it.
 use Rattle.std.specs.Prelude.{◌≡◌, ℕ, ◌+◌, ◌<◌, Bool, true, false, List, ◌∷◌, length, drop}
 use Rattle.ic_frames.specs.declared.slot.Slot.{Slot}
+use Rattle.ic_frames.specs.declared.slot.TheConstants.{SECOND_AT}
+use Rattle.ic_frames.specs.declared.frame.TheConstants.{HEAD}
 use Rattle.ic_frames.specs.Places.{place, other}
 use Rattle.ic_frames.specs.Fields.{gate, number, size, body, is_open, is_whole, IsMade}
 use Rattle.ic_frames.specs.Staged.{IsStaged}
@@ -24,7 +26,7 @@ pub record IsKept (content : List ℕ) (image : List ℕ → Type 0) (newest : S
       → IsStaged (other newest) (n + 1) (body (place (other newest)) content) file
   pub staged_in : staged ≡ true → (closed ≡ true) × (made ≡ true)
   pub all_made : made ≡ true → (file : List ℕ) → image file → IsMade file
-  pub not_made : made ≡ false → (length content < 4194317) × (closed ≡ true)
+  pub not_made : made ≡ false → (length content < SECOND_AT + HEAD) × (closed ≡ true)
 
 -- the bytes of a closed frame with this number and body
 pub record IsFrame (n : ℕ) (held frame : List ℕ) : Type 0 where
