@@ -1,6 +1,6 @@
 //! What is proved of the definitions alone: each law is the contract of a function that does nothing.
 
-ghost use Rattle.std.specs.Prelude.{◌≡◌, ◌≢◌, ◌↔◌, ◌<◌, ◌≤◌, ◌+◌, ◌*◌, ◌^◌, ◌&&◌, ◌||◌, ◌==◌, ℕ, Bool, List, [], ◌∷◌, ◌++◌, Result, Ok, Err, Some, None, true, false, length, map, codes, not, slice_get, nat_le, IsTrue};
+ghost use Rattle.std.specs.Prelude.{◌≡◌, ◌≢◌, ◌↔◌, ◌<◌, ◌≤◌, ◌+◌, ◌*◌, ◌^◌, ◌&&◌, ◌||◌, ◌==◌, ℕ, Bool, List, [], ◌∷◌, ◌++◌, Result, Ok, Err, Some, None, true, false, length, map, codes, not, slice_get, nat_le, Contains, IsTrue};
 ghost use Rattle.std.specs.List.{filter, flat_map, list_any, list_all, AllByRecursion};
 ghost use Rattle.std.specs.Str.{bytes_eq};
 ghost use Rattle.std.specs.Char.{is_ascii_alphanumeric, is_ascii_lowercase, is_ascii_digit};
@@ -13,7 +13,8 @@ ghost use Rattle.ic_text.specs.Source.{Phrase, IsPhrase, phrase_words, phrase_sy
 ghost use Rattle.ic_text.specs.SystemSource.{SystemPhrase, IsSystemPhrase, system_words, system_symbols, rule_symbols};
 ghost use Rattle.ic_text.specs.SystemSense.{system_table};
 ghost use Rattle.ic_text.specs.SystemText.{SpellsSystem, ReadsSystem};
-ghost use Rattle.ic_text.specs.Text.{Spells, Reads, phrase_of, printed, text_of};
+ghost use Rattle.ic_text.specs.Text.{Spells, Reads, phrase_of, printed, text_of, fault_text};
+ghost use Rattle.ic_text.specs.FaultNumber.{all_faults, fault_number};
 ghost use Rattle.ic_text.specs.Sense.{symbols_after};
 ghost use Rattle.ic_text.specs.Token.{Token, word, mark, is_blank, is_word_byte, mark_byte, mark_of, tokens_at, followed, tokens, words_among};
 ghost use Rattle.ic_text.specs.declared.token.Mark.{Mark};
@@ -52,6 +53,23 @@ pub fn systems_are_told_by_their_tokens()
 pub fn limits_are()
     ensures text { MAX_TEXT ≡ 262144 }
     ensures name { MAX_NAME ≡ 4294967295 }
+{}
+
+/// The lasting numbers of the refusals, which are all that there are.
+pub fn numbers_are_lasting()
+    ensures all { (fault : TextFault) →
+        (rule : ℕ) × (name : ℕ) × Contains (all_faults rule name) fault }
+    ensures numbers { (rule name : ℕ) → map fault_number (all_faults rule name)
+        ≡ 1 ∷ 2 ∷ 3 ∷ 4 ∷ 5 ∷ 6 ∷ 7 ∷ 8 ∷ [] }
+{}
+
+/// The line of each refusal: a word, and behind it the place of the rule, from 1, or the name.
+pub fn refusals_are_written_so()
+    ensures { (rule name : ℕ) → map fault_text (all_faults rule name)
+        ≡ codes "bad syntax" ∷ codes "bad limit" ∷ codes "bad arity"
+        ∷ (codes "bad namecount " ++ decimal (rule + 1)) ∷ (codes "bad name " ++ name_text name)
+        ∷ (codes "bad twice " ++ decimal (rule + 1)) ∷ (codes "bad lopsided " ++ decimal (rule + 1))
+        ∷ codes "bad memory" ∷ [] }
 {}
 
 /// A symbol whose text none before has gets the next number, with the arity that it has there; one whose text another

@@ -14,7 +14,7 @@ fn are_digits(text: &[u8]) -> bool
 }
 
 /// Whether a byte list is nothing, or digits without a leading zero.
-fn is_numeral(text: &[u8]) -> bool
+pub fn is_numeral(text: &[u8]) -> bool
     ensures { result ≡ is_numeral text.now }
 {
     match text.split_first() {

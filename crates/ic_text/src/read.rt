@@ -6,7 +6,7 @@ ghost use Rattle.ic_text.specs.inner.Numbered.{Gives};
 ghost use Rattle.ic_text.specs.Sense.{sense};
 ghost use Rattle.ic_text.specs.Source.{Phrase, IsPhrase, phrase_words};
 ghost use Rattle.ic_text.specs.inner.Spelled.{SpelledBy};
-ghost use Rattle.ic_text.specs.Text.{Reads};
+ghost use Rattle.ic_text.specs.Text.{Reads, Spells};
 ghost use Rattle.ic_text.specs.inner.Tokens.{tokens_in};
 
 use crate::build::config_of;
@@ -42,6 +42,7 @@ pub fn read_config(alloc: Global, text: &[u8]) -> Result<(Symbols, Config), Text
     ensures over { IfOk result (λ v. IsTrue (is_over v.0 v.1)) }
     ensures refused { IfErr result
         (λ fault. fault ≢ TextFault.Memory → Reads text.now (Err fault)) }
+    ensures memory { result ≡ Err TextFault.Memory → (p : Phrase) × Spells text.now p }
 {
     if text.len() > MAX_TEXT {
         return Err(TextFault::Limit);

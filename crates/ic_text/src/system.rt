@@ -5,7 +5,7 @@ ghost use Rattle.ic_text.specs.inner.Numbered.{Gives};
 ghost use Rattle.ic_text.specs.SystemSense.{system_sense};
 ghost use Rattle.ic_text.specs.SystemSource.{SystemPhrase, IsSystemPhrase, system_words};
 ghost use Rattle.ic_text.specs.inner.Spelled.{SystemSpelledBy};
-ghost use Rattle.ic_text.specs.SystemText.{ReadsSystem};
+ghost use Rattle.ic_text.specs.SystemText.{SpellsSystem, ReadsSystem};
 ghost use Rattle.ic_text.specs.inner.Tokens.{tokens_in};
 
 use crate::build::system_of;
@@ -47,6 +47,8 @@ pub fn read_system(alloc: Global, text: &[u8]) -> Result<System, TextFault>
     ensures read { IfOk result (λ system. ReadsSystem text.now (Ok system)) }
     ensures refused { IfErr result
         (λ fault. fault ≢ TextFault.Memory → ReadsSystem text.now (Err fault)) }
+    ensures memory { result ≡ Err TextFault.Memory
+        → (s : SystemPhrase) × SpellsSystem text.now s }
 {
     if text.len() > MAX_TEXT {
         return Err(TextFault::Limit);
