@@ -1,3 +1,4 @@
 pub mod Refusals
 pub mod CutWorks
 pub mod RoundAnswers
+pub mod AnswerLemmas

@@ -7,6 +7,7 @@ use Rattle.ic_round.specs.declared.gather_fault.GatherFault.{GatherFault}
 use Rattle.ic_round.specs.declared.gather_fault.GatherFault.TheVariants as gathering
 use Rattle.ic_pool.specs.Flight.{FlightParts}
 use Rattle.ic_pool.specs.Played.{PlayedParts, played}
+use Rattle.ic_pool.specs.PoolFault.{asks_memory}
 use Rattle.ic_pool.specs.declared.fault.PoolFault.{PoolFault}
 use Rattle.ic_pool.specs.declared.fault.WorkerFault.{WorkerFault}
 use Rattle.ic_pool.specs.declared.fault.WorkerFault.TheVariants as workers
@@ -30,15 +31,17 @@ ByWorkers (Err NoWorkers) answer = Err NoWorkers ≡ answer
 ByWorkers (Err Overgrown) answer = Err Overgrown ≡ answer
 ByWorkers (Err NamesOut) answer = Err NamesOut ≡ answer
 ByWorkers (Err NoThread) answer = IsTrue (is_ok answer)
-ByWorkers (Err Memory) answer = Unit {0}
+ByWorkers (Err Memory) answer = IsTrue (asks_memory answer)
 ByWorkers (Err Lost) answer = IsTrue (is_ok answer)
 ByWorkers (Err Stranger) answer = IsTrue (is_ok answer)
 ByWorkers (Err RoundsOut) answer = Err RoundsOut ≡ answer
 
+-- a fault of workers as one of a flight
 abbrev pub worker_fault : WorkerFault → PoolFault
 worker_fault workers.NoThread = NoThread
 worker_fault workers.Memory = Memory
 
+-- a fault of results as one of a flight
 abbrev pub gather_fault : GatherFault → PoolFault
 gather_fault gathering.Lost = Lost
 gather_fault gathering.Stranger = Stranger

@@ -1,3 +1,5 @@
+//! A round made by the calling thread alone.
+
 ghost use Rattle.ic_pool.specs.Played.{played};
 ghost use Rattle.ic_pool.specs.PoolFault.{Answers};
 

@@ -1,3 +1,5 @@
+//! The works of a round in batches, one for each worker.
+
 ghost use Rattle.std.specs.Prelude.{◌≡◌, ◌<◌, ◌≤◌, min, flat_map, vec_items, vec_len, IfOk};
 ghost use Rattle.std.specs.List.{AllByRecursion};
 ghost use Rattle.ic_pool.specs.declared.limits.TheConstants.{MAX_THREADS};

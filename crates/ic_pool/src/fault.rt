@@ -1,3 +1,5 @@
+//! Why a flight isn't played.
+
 ghost use Rattle.std.specs.Prelude.{◌≡◌};
 ghost use Rattle.ic_pool.specs.declared.fault.PoolFault.TheVariants.{Memory};
 

@@ -1,3 +1,5 @@
+//! A round of a job that is to be made.
+
 ghost use Rattle.std.specs.Prelude.{◌≡◌, IsTrue};
 ghost use Rattle.std.specs.Arc.{arc_value};
 

@@ -1,3 +1,5 @@
+//! What watches a round or a server at work.
+
 /// What watches a round or a server at work: tests use it to hold threads up. A gate that waits
 /// holds up only the thread that called it.
 pub trait Gate: Sync {

@@ -1,13 +1,16 @@
 //! Laws of the definitions that the contracts of this crate cite.
 
-ghost use Rattle.std.specs.Prelude.{◌≡◌, ◌^◌, ◌<◌, ◌≤◌, ◌↔◌, ℕ, Ok, Err, false};
+ghost use Rattle.std.specs.Prelude.{◌≡◌, ◌^◌, ◌<◌, ◌≤◌, ◌↔◌, ◌⊎◌, ℕ, [], ◌∷◌, Result, Ok, Err, false, map};
+ghost use Rattle.std.specs.List.{Contains};
 ghost use Rattle.ic_pool.specs.Flight.{FlightParts, is_blocked};
 ghost use Rattle.ic_term.specs.Configuration.{configuration_nodes};
 ghost use Rattle.ic_round.specs.Firing.{fired};
 ghost use Rattle.ic_round.specs.Rounds.{round};
 ghost use Rattle.ic_pool.specs.Played.{PlayedParts, played, round_of};
-ghost use Rattle.ic_pool.specs.Workers.{played_by};
-ghost use Rattle.ic_pool.specs.declared.fault.PoolFault.TheVariants.{NoWorkers, Overgrown, NamesOut, RoundsOut};
+ghost use Rattle.ic_pool.specs.PoolFault.{Answers, OfWorkers, fault_number, all_faults};
+ghost use Rattle.ic_pool.specs.Workers.{ByWorkers, played_by};
+ghost use Rattle.ic_pool.specs.declared.fault.PoolFault.{PoolFault};
+ghost use Rattle.ic_pool.specs.declared.fault.PoolFault.TheVariants.{NoWorkers, Overgrown, NamesOut, Memory, RoundsOut};
 ghost use Rattle.ic_pool.specs.declared.limits.TheConstants.{MAX_ROUNDS, MAX_THREADS};
 
 /// The limits of rounds.
@@ -37,6 +40,30 @@ pub fn refusals_come_in_order()
     ensures after { (f : FlightParts) (p : PlayedParts) → played f ≡ Ok p
         → p.after ≡ round f.rules.rules f.config }
     ensures rounds { (f : FlightParts) (p : PlayedParts) → played f ≡ Ok p → p.rounds ≡ f.rounds }
+{}
+
+/// One thread answers the round or the first refusal, or `Memory`; but `RoundsOut` is told before
+/// any memory is asked for.
+pub fn one_thread_answers_so()
+    ensures { (f : FlightParts) (r : Result PlayedParts PoolFault) → Answers r (played f)
+        ↔ ((r ≡ played f) ⊎ ((r ≡ Err Memory) × ¬ (f.rounds ≡ 2 ^ 62))) }
+{}
+
+/// No workers are refused before all else. Workers answer what one thread does, and where a round
+/// is to be made also that a thread could not be started, or that a result was lost or strange.
+pub fn workers_answer_so()
+    ensures none { (f : FlightParts) (r : Result PlayedParts PoolFault)
+        → ByWorkers r (played_by 0 f) ↔ (r ≡ Err NoWorkers) }
+    ensures some { (workers : ℕ) (f : FlightParts) (r : Result PlayedParts PoolFault)
+        → 0 < workers → ByWorkers r (played_by workers f) ↔ (Answers r (played f)
+        ⊎ ((is_blocked f ≡ false) × OfWorkers r)) }
+{}
+
+/// The lasting numbers of the faults.
+pub fn numbers_are_lasting()
+    ensures all { (fault : PoolFault) → Contains all_faults fault }
+    ensures numbers { map fault_number all_faults
+        ≡ 1 ∷ 2 ∷ 3 ∷ 4 ∷ 5 ∷ 6 ∷ 7 ∷ 8 ∷ [] }
 {}
 
 /// With no workers a flight is refused; with any other number the answer is that of one.

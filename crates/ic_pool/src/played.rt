@@ -1,3 +1,5 @@
+//! A round of a job that was made.
+
 ghost use Rattle.std.specs.Prelude.{◌≡◌};
 ghost use Rattle.std.specs.Arc.{arc_value};
 

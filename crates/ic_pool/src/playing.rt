@@ -1,3 +1,5 @@
+//! A round made by threads of its own.
+
 ghost use Rattle.std.specs.Prelude.{◌≡◌, ◌<◌, Err, IsTrue, IfOk};
 ghost use Rattle.ic_term.specs.Symbol.{is_over};
 ghost use Rattle.ic_pool.specs.Played.{round_of};
