@@ -1,5 +1,5 @@
 -- The numbers of refusals.
-use Rattle.std.specs.Prelude.{ℕ}
+use Rattle.std.specs.Prelude.{ℕ, List, [], ◌∷◌}
 use Rattle.ic_jobs.specs.declared.reply.Refusal.{Refusal}
 use Rattle.ic_jobs.specs.declared.reply.Refusal.TheVariants.{Taken, Full, NoJob, NotRunning, NotPaused}
 
@@ -10,3 +10,7 @@ refusal_number Full = 2
 refusal_number NoJob = 3
 refusal_number NotRunning = 4
 refusal_number NotPaused = 5
+
+-- all refusals, in the order of their lasting numbers
+abbrev pub all_refusals : List Refusal
+all_refusals = Taken ∷ Full ∷ NoJob ∷ NotRunning ∷ NotPaused ∷ []

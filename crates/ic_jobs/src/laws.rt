@@ -1,6 +1,6 @@
 //! Laws of the definitions that the contracts of this crate cite.
 
-ghost use Rattle.std.specs.Prelude.{◌≡◌, ◌↔◌, ◌⊎◌, ◌<◌, ◌≤◌, ℕ, List, [], ◌∷◌, ◌++◌, None, Some, IfSome, IsTrue, true, false, length, slice_get};
+ghost use Rattle.std.specs.Prelude.{◌≡◌, ◌↔◌, ◌⊎◌, ◌<◌, ◌≤◌, ℕ, List, [], ◌∷◌, ◌++◌, None, Some, IfSome, IsTrue, true, false, length, map, slice_get};
 ghost use Rattle.std.specs.List.{Contains};
 ghost use Rattle.ic_term.specs.Configuration.{Configuration};
 ghost use Rattle.ic_rules.specs.RuleSet.{Rules};
@@ -19,6 +19,7 @@ ghost use Rattle.ic_jobs.specs.declared.event.Event.TheVariants.{Round};
 ghost use Rattle.ic_jobs.specs.declared.event.Entry.{Entry};
 ghost use Rattle.ic_jobs.specs.declared.limits.TheConstants.{MAX_JOBS};
 ghost use Rattle.ic_jobs.specs.Job.{JobParts, open_state, job_eq, table_eq};
+ghost use Rattle.ic_jobs.specs.Refusal.{refusal_number, all_refusals};
 ghost use Rattle.ic_jobs.specs.Table.{IsTable, job_names, job_named};
 ghost use Rattle.ic_jobs.specs.Shown.{ShownParts, shown, listed};
 ghost use Rattle.ic_jobs.specs.Events.{Outcome, IsAnswered, after_command, apply};
@@ -141,6 +142,12 @@ pub fn jobs_are_told_so()
     ensures lines { (t : List JobParts) → length (listed t) ≡ length t }
     ensures line { (t : List JobParts) (k : ℕ) (j : JobParts) → slice_get t k ≡ Some j
         → slice_get (listed t) k ≡ Some (j.name, j.state, j.rounds) }
+{}
+
+/// The lasting numbers of the refusals.
+pub fn numbers_are_lasting()
+    ensures all { (refusal : Refusal) → Contains all_refusals refusal }
+    ensures numbers { map refusal_number all_refusals ≡ 1 ∷ 2 ∷ 3 ∷ 4 ∷ 5 ∷ [] }
 {}
 
 /// The tests of equality tell exactly whether two jobs, or two tables, are the same.
