@@ -39,7 +39,7 @@ each_append P [] r all one = (one, tt)
 each_append P (x ∷ xs) r all one = (all.0, each_append P xs r all.1 one)
 
 -- where no row has the id, a row is added
-at_end : (id : Text) (change : Row → List Row) (missing rows : List Row) → has_row id rows ≡ false → at_row id change missing rows ≡ rows ++ missing
+pub at_end : (id : Text) (change : Row → List Row) (missing rows : List Row) → has_row id rows ≡ false → at_row id change missing rows ≡ rows ++ missing
 at_end id change missing [] e = refl
 at_end id change missing (r ∷ rs) e = go (at_end id change missing rs) (bytes_eq r.id id) e
   where

@@ -19,16 +19,16 @@ use Rattle.ic_words.proofs.OneValue.{Each, Good, IsFound, Passes, Typed, both_em
 use Rattle.ic_words.proofs.Walks.{settled_good, walk_good}
 use Rattle.ic_words.proofs.WordsExact.{below, help, level_free, serve_stops}
 
-abbrev disk : Rule
+abbrev pub disk : Rule
 disk = one_value (codes "disk") (codes "disk") None vp.String true
 
-abbrev workers : Rule
+abbrev pub workers : Rule
 workers = one_value (codes "workers") (codes "workers") (Some (codes "2")) (vp.Signed (pos 1) (pos 64)) false
 
-abbrev every : Rule
+abbrev pub every : Rule
 every = one_value (codes "every") (codes "every") (Some (codes "100")) (vp.Signed (pos 1) (pos 1000000)) false
 
-abbrev options : List Rule
+abbrev pub options : List Rule
 options = disk ∷ workers ∷ every ∷ help ∷ []
 
 none_by_place : (i : ℕ) → arg_by_index options i ≡ None

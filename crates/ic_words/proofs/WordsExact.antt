@@ -6,7 +6,7 @@ use Rattle.std.proofs.lemmas.Slice.Eq.{bytes_eq-Decides}
 use Rattle.std.specs.Prelude.{encode_utf8}
 use Rattle.clap.specs.Lexer.{long_of, short_of}
 use Rattle.clap.specs.Words.{Kinds, Rule, Shape, Text, built, fault_of}
-use Rattle.clap.specs.Walk.{Held, Names, idle, nothing_held, subcommand_met, walk, walk_from, walked, short_or_plain, long_or_other, value, trailing, Step, plain, after_flag, bundle_step, short_word, has_long, has_short, bundle_met}
+use Rattle.clap.specs.Walk.{Held, Names, Walk, idle, nothing_held, subcommand_met, walk, walk_from, walked, short_or_plain, long_or_other, value, trailing, Step, plain, after_flag, bundle_step, short_word, has_long, has_short, bundle_met}
 use Rattle.clap.specs.Simple.{filled, with_index, help_rule, version_rule}
 use Rattle.clap.specs.Kinds.{or_else}
 use Rattle.clap.specs.Faults.{bundle_fault, bundle_step_fault, entered_fault, flag_word_fault, flags_fault, level_fault, long_fault, short_fault, step_fault, turn_fault, walk_fault}
@@ -25,7 +25,7 @@ abbrev version : Rule
 version = with_index 1 (filled version_rule)
 
 -- the arguments of a level: help, and at the top the version
-abbrev rules : Bool → List Rule
+abbrev pub rules : Bool → List Rule
 rules true = help ∷ []
 rules false = help ∷ version ∷ []
 
@@ -113,7 +113,7 @@ abbrev dashes : Text
 dashes = 45 ∷ 45 ∷ []
 
 -- the commands below a level
-abbrev names_below : Bool → Names
+abbrev pub names_below : Bool → Names
 names_below true = []
 names_below false = (codes "settle", []) ∷ (codes "once", []) ∷ (codes "create", []) ∷ (codes "serve", []) ∷ []
 
@@ -142,27 +142,33 @@ level_words base leaf (v ∷ vs) none e =
 
 -- ---- the whole command line
 
-abbrev top : Shape
+abbrev pub top : Shape
 top = (built command_line).top
 
 abbrev pub below : ℕ → Shape
 below k = unwrap_or (slice_get (built command_line).subs k) top
 
 -- behind the name of a command each word is one of its own
-stopped_with : (name : Text) (words more : List Text)
-    → (fold (walked (rules false) (names_below false)) (record (walk_from nothing_held) { stopped = Some (name, words) }) more).stopped
-    ≡ Some (name, words ++ more)
+abbrev pub stopped_at : Text → List Text → Walk
+stopped_at name words = record (walk_from nothing_held) { stopped = Some (name, words) }
+
+stopped_with : (name : Text) (words more : List Text) → fold (walked (rules false) (names_below false)) (stopped_at name words) more ≡ stopped_at name (words ++ more)
 unfolding walked
-stopped_with name words [] = ap (λ l. Some (name, l)) (sym (append-nil words))
-stopped_with name words (v ∷ vs) = stopped_with name (words ++ v ∷ []) vs ∙ ap (λ l. Some (name, l)) (append_assoc words (v ∷ []) vs)
+stopped_with name words [] = ap (stopped_at name) (sym (append-nil words))
+stopped_with name words (v ∷ vs) = stopped_with name (words ++ v ∷ []) vs ∙ ap (stopped_at name) (append_assoc words (v ∷ []) vs)
+
+pub no_fault_behind : (name : Text) (words more : List Text) → walk_fault top (names_below false) (stopped_at name words) more ≡ []
+unfolding walk_fault walked
+no_fault_behind name words [] = refl
+no_fault_behind name words (v ∷ vs) = no_fault_behind name (words ++ v ∷ []) vs
 
 settle_stops : (words : List Text) → (walk (rules false) (names_below false) nothing_held (codes "settle" ∷ words)).stopped ≡ Some (codes "settle", words)
 unfolding walked
-settle_stops words = stopped_with (codes "settle") [] words
+settle_stops words = ap (λ (w : Walk). w.stopped) (stopped_with (codes "settle") [] words)
 
 once_stops : (words : List Text) → (walk (rules false) (names_below false) nothing_held (codes "once" ∷ words)).stopped ≡ Some (codes "once", words)
 unfolding walked
-once_stops words = stopped_with (codes "once") [] words
+once_stops words = ap (λ (w : Walk). w.stopped) (stopped_with (codes "once") [] words)
 
 -- words without a mistake have none at the level of their command
 pub level_free : (words : List Text) → fault_of command_line words ≡ []
@@ -230,12 +236,18 @@ one_command (v ∷ vs) e = first_named v vs (bytes_eq (codes "settle") v) (bytes
     (bytes_eq (codes "serve") v) refl refl refl refl e
 
 -- where `create` or `serve` is the first word, the others are its own
+pub create_stands : (words : List Text) → walk (rules false) (names_below false) nothing_held (codes "create" ∷ words) ≡ stopped_at (codes "create") words
+unfolding walked
+create_stands words = stopped_with (codes "create") [] words
+
+pub serve_stands : (words : List Text) → walk (rules false) (names_below false) nothing_held (codes "serve" ∷ words) ≡ stopped_at (codes "serve") words
+unfolding walked
+serve_stands words = stopped_with (codes "serve") [] words
+
 pub create_stops : (words : List Text)
     → (walk (rules false) (names_below false) nothing_held (codes "create" ∷ words)).stopped ≡ Some (codes "create", words)
-unfolding walked
-create_stops words = stopped_with (codes "create") [] words
+create_stops words = ap (λ (w : Walk). w.stopped) (create_stands words)
 
 pub serve_stops : (words : List Text)
     → (walk (rules false) (names_below false) nothing_held (codes "serve" ∷ words)).stopped ≡ Some (codes "serve", words)
-unfolding walked
-serve_stops words = stopped_with (codes "serve") [] words
+serve_stops words = ap (λ (w : Walk). w.stopped) (serve_stands words)

@@ -1,0 +1,311 @@
+-- Each well-formed line of `create` and of `serve` is taken, with its values.
+use Rattle.std.proofs.Common.{◌≡◌, ◌≢◌, ◌⊎◌, inl, inr, ℕ, ◌≤◌, List, [], ◌∷◌, ◌++◌, Bool, true, false, not, ◌&&◌, ◌||◌, cond, Option, None, Some, codes, fold, is_some, refl, sym, ◌∙◌, ap, ap₂, subst, append-nil, append_assoc, arith, unwrap_or, true≢false}
+use Rattle.std.specs.Prelude.{pos, find}
+use Rattle.std.proofs.lemmas.Bool.{eqb-true}
+use Rattle.std.specs.List.{AllByRecursion}
+use Rattle.std.specs.Option.{option_map_or}
+use Rattle.std.specs.Str.{bytes_eq}
+use Rattle.std.specs.Str.Parse.{IsNumeral, digits_value, starts_with_minus, without_leading_plus}
+use Rattle.std.proofs.lemmas.Int.{ints}
+use Rattle.clap.specs.Words.{Kinds, Rule, Row, Text, built, fault_of, subcommand_of}
+use Rattle.clap.specs.Facts.{explicit_source}
+use Rattle.clap.specs.Values.{Accepts, refused_kind}
+use Rattle.clap.specs.ValueTests.{accepts}
+use Rattle.clap.proofs.ValueTestLemmas.{Accepts-accepts}
+use Rattle.clap.specs.Takes.{is_given}
+use Rattle.clap.specs.Kinds.{check_kinds, or_else, value_kinds}
+use Rattle.clap.specs.Simple.{entered}
+use Rattle.clap.specs.Walk.{Held, Walk, arg_by_id, arg_by_long, finished, first_of, has_row, nothing_held, rows_after, settled, walk, walk_from, walked, with_default}
+use Rattle.clap.specs.Faults.{check_fault, default_fault, defaults_fault, entered_fault, level_fault, settle_fault, walk_fault}
+use Rattle.clap.proofs.OnLiterals.{clap_on_literals}
+use Rattle.clap.specs.declared.builder.value_parser.ValueParser.TheVariants as vp
+use Rattle.ic_words.specs.Words.{IsDecimal, command_line, value_met}
+use Rattle.ic_words.specs.Lines.{AreOnce, AreWritten, Given, Gives, HasValue, IsCreateLine, IsServeLine, IsServeOption, IsWithin, IsWritten}
+use Rattle.ic_words.proofs.OneValue.{one_value}
+use Rattle.ic_words.proofs.ServeNumbers.{disk, workers, every, options}
+use Rattle.ic_words.proofs.WordsExact.{below, create_stands, help, names_below, no_fault_behind, rules, serve_stands, stopped_at, top}
+use Rattle.ic_words.proofs.Steps.{row_with, Leads, ReadsOne, at, leads_more, leads_none, reads_one}
+use Rattle.ic_words.proofs.LineRows.{AreFresh, AreRowsOf, IsFoundRow, IsRowOf, default_found, first_value, found_in, fresh_behind, fresh_first, given_found, not_given, still_found, still_none}
+
+-- ---- a number in its range is accepted
+
+no_minus : (v : Text) → starts_with_minus v ≡ true → IsNumeral 10 (without_leading_plus v) → ⊥
+no_minus [] minus numeral = true≢false (sym minus)
+no_minus (x ∷ xs) minus numeral =
+    let same : x ≡ 45 = eqb-true x 45 minus in
+    let written : IsNumeral 10 (without_leading_plus (45 ∷ xs)) = subst (λ (y : ℕ). IsNumeral 10 (without_leading_plus (y ∷ xs))) same numeral in
+    let small = written.1.0 in
+    omega (arith, small)
+
+passes : (most : ℕ) (v : Text) → most ≤ 1000000 → IsWithin most v → Accepts false (vp.Signed (pos 1) (pos most)) v
+passes most v few is = go (starts_with_minus v) refl
+  where
+    go : (b : Bool) → starts_with_minus v ≡ b → Accepts false (vp.Signed (pos 1) (pos most)) v
+    go true minus = absurd (no_minus v minus is.1.0)
+    go false minus =
+        let same = is.1.1 in
+        let least = is.2 in
+        let greatest = is.3 in
+        rw minus (is.1.0, omega (arith, ints), omega (arith, ints), omega (arith, ints))
+
+accepted : (most : ℕ) (v : Text) → most ≤ 1000000 → IsWithin most v → value_kinds false (vp.Signed (pos 1) (pos most)) v ≡ []
+accepted most v few is =
+    ap (λ b. cond b [] (refused_kind (vp.Signed (pos 1) (pos most)) ∷ [])) (Accepts-accepts false (vp.Signed (pos 1) (pos most)) v (passes most v few is))
+
+-- ---- the options of `serve`, in any order
+
+-- one more option is read, and this is its row
+record ReadsGiven (g : Given) (words : List Text) (h : Held) : Type 0 where
+  pub behind : Held
+  pub row : Row
+  pub leads : Leads (below 3) options words (at (below 3) options h) (at (below 3) options behind)
+  pub settles : settle_fault options false behind ≡ []
+  pub rows : (settled options behind).rows ≡ (settled options h).rows ++ row ∷ []
+  pub of : IsRowOf g row
+
+given_read : (g : Given) → IsServeOption g → (words : List Text) → IsWritten g words → (h : Held) → settle_fault options false h ≡ []
+    → has_row g.name (settled options h).rows ≡ false → ReadsGiven g words h
+given_read g (inl is) words written h settles none =
+    let there : IsWritten (record { name = codes "disk"; value = g.value }) words = subst (λ (n : Text). IsWritten (record { name = n; value = g.value }) words) is written in
+    let one = reads_one (below 3) options (codes "disk") None vp.String true refl refl refl (λ v. (refl, refl)) (refl, refl) words g.value h there settles
+    (ap (λ (n : Text). has_row n (settled options h).rows) (sym is) ∙ none) refl in
+    record { behind = one.behind; row = row_with (codes "disk") g.value vp.String; leads = one.leads; settles = one.read.settles; rows = one.read.rows; of = (sym is, refl, refl) }
+given_read g (inr (inl is)) words written h settles none =
+    let there : IsWritten (record { name = codes "workers"; value = g.value }) words = subst (λ (n : Text). IsWritten (record { name = n; value = g.value }) words) is.0 written in
+    let one = reads_one (below 3) options (codes "workers") (Some (codes "2")) (vp.Signed (pos 1) (pos 64)) false refl refl refl (λ v. (refl, refl)) (refl, refl) words g.value h there settles
+    (ap (λ (n : Text). has_row n (settled options h).rows) (sym is.0) ∙ none) (accepted 64 g.value (omega arith) is.1) in
+    record { behind = one.behind; row = row_with (codes "workers") g.value (vp.Signed (pos 1) (pos 64)); leads = one.leads; settles = one.read.settles; rows = one.read.rows; of = (sym is.0, refl, refl) }
+given_read g (inr (inr is)) words written h settles none =
+    let there : IsWritten (record { name = codes "every"; value = g.value }) words = subst (λ (n : Text). IsWritten (record { name = n; value = g.value }) words) is.0 written in
+    let one = reads_one (below 3) options (codes "every") (Some (codes "100")) (vp.Signed (pos 1) (pos 1000000)) false refl refl refl (λ v. (refl, refl)) (refl, refl) words g.value h there settles
+    (ap (λ (n : Text). has_row n (settled options h).rows) (sym is.0) ∙ none) (accepted 1000000 g.value (omega arith) is.1) in
+    record { behind = one.behind; row = row_with (codes "every") g.value (vp.Signed (pos 1) (pos 1000000)); leads = one.leads; settles = one.read.settles; rows = one.read.rows; of = (sym is.0, refl, refl) }
+
+record ReadsAll (gs : List Given) (words : List Text) (h : Held) : Type 0 where
+  pub behind : Held
+  pub more : List Row
+  pub leads : Leads (below 3) options words (at (below 3) options h) (at (below 3) options behind)
+  pub settles : settle_fault options false behind ≡ []
+  pub rows : (settled options behind).rows ≡ (settled options h).rows ++ more
+  pub of : AreRowsOf gs more
+
+all_read : (gs : List Given) → AllByRecursion IsServeOption gs → AreOnce gs → (words : List Text) → AreWritten gs words → (h : Held) → settle_fault options false h ≡ []
+    → AreFresh (settled options h).rows gs → ReadsAll gs words h
+all_read [] sorts once words written h settles fresh = record {
+  behind = h;
+  more = [];
+  leads = subst (λ (ws : List Text). Leads (below 3) options ws (at (below 3) options h) (at (below 3) options h)) (sym written) (leads_none (below 3) options (at (below 3) options h));
+  settles = settles;
+  rows = sym (append-nil (settled options h).rows);
+  of = tt;
+}
+all_read (g ∷ gs) sorts once words written h settles fresh =
+    let one = given_read g sorts.0 written.0 written.3 h settles fresh.0 in
+    let next : AreFresh (settled options one.behind).rows gs =
+    subst (λ (rs : List Row). AreFresh rs gs) (sym one.rows) (fresh_behind (settled options h).rows one.row g gs one.of.0 fresh.1 once.0) in
+    let all = all_read gs sorts.1 once.1 written.1 written.4 one.behind one.settles next in
+    record {
+      behind = all.behind;
+      more = one.row ∷ all.more;
+      leads = subst (λ (ws : List Text). Leads (below 3) options ws (at (below 3) options h) (at (below 3) options all.behind)) (sym written.2)
+          (leads_more (below 3) options written.0 written.1 (at (below 3) options h) (at (below 3) options one.behind) (at (below 3) options all.behind) one.leads all.leads);
+      settles = all.settles;
+      rows = all.rows ∙ ap (λ (rs : List Row). rs ++ all.more) one.rows ∙ append_assoc (settled options h).rows (one.row ∷ []) all.more;
+      of = (one.of, all.of);
+    }
+
+-- ---- behind the options
+
+either_none : (b : Bool) (k : Kinds) → cond (b || true) [] k ≡ []
+either_none true k = refl
+either_none false k = refl
+
+or_none : (b : Bool) (k : Kinds) → k ≡ [] → cond (b || false) [] k ≡ []
+or_none true k is = refl
+or_none false k is = is
+
+defaults_none : (rows : List Row) → defaults_fault rows options ≡ []
+unfolding defaults_fault clap_on_literals
+defaults_none rows =
+    let first = with_default rows disk in
+    let second = with_default first workers in
+    let third = with_default second every in
+    ap₂ or_else (either_none (has_row (codes "disk") rows) _)
+    (ap₂ or_else (or_none (has_row (codes "workers") first) _ refl)
+    (ap₂ or_else (or_none (has_row (codes "every") second) _ refl)
+    (ap₂ or_else (either_none (has_row (codes "help") third) _) refl)))
+
+abbrev checks : Bool → Kinds
+checks given = check_kinds false false (not given || false)
+
+checked : (rows : List Row) → is_given (codes "disk") rows ≡ true → check_fault (below 3) rows false ≡ []
+checked rows given = ap checks given
+
+-- the rows behind all defaults
+abbrev behind_defaults : List Row → List Row
+behind_defaults rows = with_default (with_default (with_default (with_default rows disk) workers) every) help
+
+help_still : (id : Text) (rows : List Row) (r : Row) → found_in id rows ≡ Some r → found_in id (with_default rows help) ≡ Some r
+help_still id rows r is = go (has_row (codes "help") rows)
+  where
+    go : (b : Bool) → found_in id (cond b rows rows) ≡ Some r
+    go true = is
+    go false = is
+
+-- what is found among the rows is found behind the defaults
+kept_found : (id : Text) (rows : List Row) (r : Row) → found_in id rows ≡ Some r
+    → found_in id (behind_defaults rows) ≡ Some r
+kept_found id rows r is =
+    let first = with_default rows disk in
+    let second = with_default first workers in
+    let third = with_default second every in
+    help_still id third r (still_found (codes "every") (vp.Signed (pos 1) (pos 1000000)) false (Some (codes "100")) id second r
+    (still_found (codes "workers") (vp.Signed (pos 1) (pos 64)) false (Some (codes "2")) id first r
+    (still_found (codes "disk") vp.String true None id rows r is)))
+
+workers_value : (gs : List Given) (rows : List Row) (value : Text) → AreRowsOf gs rows → AreOnce gs → HasValue gs (codes "workers") (codes "2") value
+    → first_of (codes "workers") (behind_defaults rows) ≡ Some value
+workers_value gs rows value are once (inl gives) =
+    let found = given_found gs rows (codes "workers") value are once gives in
+    first_value (codes "workers") value (behind_defaults rows) found.row (kept_found (codes "workers") rows found.row found.found) found.values
+workers_value gs rows value are once (inr default) =
+    let first = with_default rows disk in
+    let second = with_default first workers in
+    let third = with_default second every in
+    let none = still_none (codes "disk") vp.String true None (codes "workers") rows refl (not_given gs rows (codes "workers") are default.0) in
+    let found = default_found (codes "workers") (vp.Signed (pos 1) (pos 64)) false (codes "2") first refl none in
+    first_value (codes "workers") value (behind_defaults rows) _ (help_still (codes "workers") third _
+    (still_found (codes "every") (vp.Signed (pos 1) (pos 1000000)) false (Some (codes "100")) (codes "workers") second _ found)) (ap (λ (v : Text). v ∷ []) (sym default.1))
+
+every_value : (gs : List Given) (rows : List Row) (value : Text) → AreRowsOf gs rows → AreOnce gs → HasValue gs (codes "every") (codes "100") value
+    → first_of (codes "every") (behind_defaults rows) ≡ Some value
+every_value gs rows value are once (inl gives) =
+    let found = given_found gs rows (codes "every") value are once gives in
+    first_value (codes "every") value (behind_defaults rows) found.row (kept_found (codes "every") rows found.row found.found) found.values
+every_value gs rows value are once (inr default) =
+    let first = with_default rows disk in
+    let second = with_default first workers in
+    let third = with_default second every in
+    let none = still_none (codes "workers") (vp.Signed (pos 1) (pos 64)) false (Some (codes "2")) (codes "every") first refl
+    (still_none (codes "disk") vp.String true None (codes "every") rows refl (not_given gs rows (codes "every") are default.0)) in
+    let found = default_found (codes "every") (vp.Signed (pos 1) (pos 1000000)) false (codes "100") second refl none in
+    first_value (codes "every") value (behind_defaults rows) _ (help_still (codes "every") third _ found) (ap (λ (v : Text). v ∷ []) (sym default.1))
+
+-- ---- the whole line
+
+-- what the whole command line makes of a walk that was stopped by a command's name
+abbrev top_fault : List Text → Walk → Kinds
+top_fault words w =
+    or_else (walk_fault top (names_below false) (walk_from nothing_held) words)
+    (or_else (entered_fault (built command_line) w.stopped)
+    (or_else (settle_fault (rules false) false w.held)
+    (or_else (defaults_fault (settled (rules false) w.held).rows (rules false))
+    (check_fault top (finished (rules false) w.held) (is_some (entered (built command_line) w.stopped))))))
+
+serve_first : (rest : List Text) → walk_fault top (names_below false) (walk_from nothing_held) (codes "serve" ∷ rest) ≡ []
+unfolding walk_fault walked
+serve_first rest = no_fault_behind (codes "serve") [] rest
+
+serve_free : (rest : List Text) → level_fault (below 3) [] nothing_held rest false [] ≡ [] → fault_of command_line (codes "serve" ∷ rest) ≡ []
+unfolding defaults_fault
+serve_free rest free = ap (top_fault (codes "serve" ∷ rest)) (serve_stands rest)
+    ∙ ap₂ (λ (a b : Kinds). or_else a (or_else b [])) (serve_first rest) free
+
+abbrev serve_end : Held → Kinds
+serve_end h = or_else (settle_fault options false h) (or_else (defaults_fault (settled options h).rows options) (check_fault (below 3) (finished options h) false))
+
+-- a line of `serve` is taken, and its options have these values
+pub record IsTaken (words : List Text) (path threads rounds : Text) : Type 0 where
+  pub free : fault_of command_line words ≡ []
+  pub disk : value_met (codes "disk") (subcommand_of command_line words) ≡ path
+  pub workers : value_met (codes "workers") (subcommand_of command_line words) ≡ threads
+  pub every : value_met (codes "every") (subcommand_of command_line words) ≡ rounds
+
+serve_left : (h : Held) → walk_fault (below 3) [] (at (below 3) options h) [] ≡ []
+unfolding walk_fault
+serve_left h = refl
+
+pub serve_taken : (words : List Text) (path threads rounds : Text) → IsServeLine words path threads rounds → IsTaken words path threads rounds
+serve_taken words path threads rounds line =
+    let rest = line.rest in
+    let all = all_read line.given line.options line.once rest line.written nothing_held refl (fresh_first line.given) in
+    let ends = all.leads [] in
+    let same : rest ++ [] ≡ rest = append-nil rest in
+    let walks : walk_fault (below 3) [] (walk_from nothing_held) rest ≡ [] = ap (walk_fault (below 3) [] (walk_from nothing_held)) (sym same) ∙ ends.0 ∙ serve_left all.behind in
+    let stands : walk options [] nothing_held rest ≡ at (below 3) options all.behind = ap (fold (walked options []) (walk_from nothing_held)) (sym same) ∙ ends.1 in
+    let end : (walk options [] nothing_held rest).held ≡ all.behind = ap (λ (w : Walk). w.held) stands in
+    let rows : (settled options all.behind).rows ≡ all.more = all.rows in
+    let of_disk = given_found line.given all.more (codes "disk") path all.of line.once line.disk in
+    let last : List Row = behind_defaults all.more in
+    let finish : finished options all.behind ≡ last = ap behind_defaults rows in
+    let found : found_in (codes "disk") last ≡ Some of_disk.row = kept_found (codes "disk") all.more of_disk.row of_disk.found in
+    let given : is_given (codes "disk") last ≡ true =
+    ap (λ (o : Option Row). option_map_or (λ (r : Row). explicit_source r.source) o false) found ∙ ap explicit_source of_disk.source in
+    let checks_none : check_fault (below 3) (finished options all.behind) false ≡ [] = ap (λ (rs : List Row). check_fault (below 3) rs false) finish ∙ checked last given in
+    let end_none : serve_end all.behind ≡ [] = ap₂ or_else all.settles (ap₂ or_else (defaults_none (settled options all.behind).rows) checks_none) in
+    let free : level_fault (below 3) [] nothing_held rest false [] ≡ [] = ap₂ or_else walks (ap serve_end end ∙ end_none) in
+    let met : subcommand_of command_line words ≡ Some (codes "serve", last) =
+    ap (subcommand_of command_line) line.begins ∙ ap (λ (w : Walk). entered (built command_line) w.stopped) (serve_stands rest)
+    ∙ ap (λ (h : Held). Some (codes "serve", finished options h)) end ∙ ap (λ (rs : List Row). Some (codes "serve", rs)) finish in
+    record {
+      free = ap (fault_of command_line) line.begins ∙ serve_free rest free;
+      disk = ap (value_met (codes "disk")) met ∙ ap (λ (o : Option Text). unwrap_or o []) (first_value (codes "disk") path last of_disk.row found of_disk.values);
+      workers = ap (value_met (codes "workers")) met ∙ ap (λ (o : Option Text). unwrap_or o []) (workers_value line.given all.more threads all.of line.once line.workers);
+      every = ap (value_met (codes "every")) met ∙ ap (λ (o : Option Text). unwrap_or o []) (every_value line.given all.more rounds all.of line.once line.every);
+    }
+
+-- ---- a line of `create`
+
+abbrev create_options : List Rule
+create_options = disk ∷ help ∷ []
+
+create_first : (rest : List Text) → walk_fault top (names_below false) (walk_from nothing_held) (codes "create" ∷ rest) ≡ []
+unfolding walk_fault walked
+create_first rest = no_fault_behind (codes "create") [] rest
+
+create_free : (rest : List Text) → level_fault (below 2) [] nothing_held rest false [] ≡ [] → fault_of command_line (codes "create" ∷ rest) ≡ []
+unfolding defaults_fault
+create_free rest free = ap (top_fault (codes "create" ∷ rest)) (create_stands rest)
+    ∙ ap₂ (λ (a b : Kinds). or_else a (or_else b [])) (create_first rest) free
+
+create_defaults : (rows : List Row) → defaults_fault rows create_options ≡ []
+unfolding defaults_fault
+create_defaults rows =
+    let first = with_default rows disk in
+    ap₂ or_else (either_none (has_row (codes "disk") rows) _) (ap₂ or_else (either_none (has_row (codes "help") first) _) refl)
+
+create_checked : (rows : List Row) → is_given (codes "disk") rows ≡ true → check_fault (below 2) rows false ≡ []
+create_checked rows given = ap checks given
+
+abbrev create_end : Held → Kinds
+create_end h = or_else (settle_fault create_options false h)
+    (or_else (defaults_fault (settled create_options h).rows create_options) (check_fault (below 2) (finished create_options h) false))
+
+pub record IsCreated (words : List Text) (path : Text) : Type 0 where
+  pub free : fault_of command_line words ≡ []
+  pub disk : value_met (codes "disk") (subcommand_of command_line words) ≡ path
+
+create_left : (h : Held) → walk_fault (below 2) [] (at (below 2) create_options h) [] ≡ []
+unfolding walk_fault
+create_left h = refl
+
+pub create_taken : (words : List Text) (path : Text) → IsCreateLine path words → IsCreated words path
+create_taken words path line =
+    let rest = line.0 in
+    let one = reads_one (below 2) create_options (codes "disk") None vp.String true refl refl refl (λ v. (refl, refl)) (refl, refl) rest path nothing_held line.2 refl refl refl in
+    let ends = one.leads [] in
+    let same : rest ++ [] ≡ rest = append-nil rest in
+    let walks : walk_fault (below 2) [] (walk_from nothing_held) rest ≡ [] = ap (walk_fault (below 2) [] (walk_from nothing_held)) (sym same) ∙ ends.0 ∙ create_left one.behind in
+    let end : (walk create_options [] nothing_held rest).held ≡ one.behind =
+    ap (λ (w : Walk). w.held) (ap (fold (walked create_options []) (walk_from nothing_held)) (sym same) ∙ ends.1) in
+    let row : Row = row_with (codes "disk") path vp.String in
+    let rows : (settled create_options one.behind).rows ≡ row ∷ [] = one.read.rows in
+    let finish : finished create_options one.behind ≡ row ∷ [] = ap (λ (rs : List Row). with_default (with_default rs disk) help) rows in
+    let checks_none : check_fault (below 2) (finished create_options one.behind) false ≡ [] =
+    ap (λ (rs : List Row). check_fault (below 2) rs false) finish ∙ create_checked (row ∷ []) refl in
+    let end_none : create_end one.behind ≡ [] = ap₂ or_else one.read.settles (ap₂ or_else (create_defaults (settled create_options one.behind).rows) checks_none) in
+    let free : level_fault (below 2) [] nothing_held rest false [] ≡ [] = ap₂ or_else walks (ap create_end end ∙ end_none) in
+    let met : subcommand_of command_line words ≡ Some (codes "create", row ∷ []) =
+    ap (subcommand_of command_line) line.1 ∙ ap (λ (w : Walk). entered (built command_line) w.stopped) (create_stands rest)
+    ∙ ap (λ (h : Held). Some (codes "create", finished create_options h)) end ∙ ap (λ (rs : List Row). Some (codes "create", rs)) finish in
+    record { free = ap (fault_of command_line) line.1 ∙ create_free rest free; disk = ap (value_met (codes "disk")) met }

@@ -1,0 +1,19 @@
+use Rattle.std.proofs.Common.{refl}
+use Rattle.clap.proofs.OnLiterals.{clap_on_literals}
+use Rattle.ic_words.proofs.laws.commands_are_taken.Goals as goal
+
+pub returns-clause-settle : goal.returns-clause-settle
+unfolding clap_on_literals
+returns-clause-settle c = refl
+
+pub returns-clause-settled : goal.returns-clause-settled
+unfolding clap_on_literals
+returns-clause-settled c = refl
+
+pub returns-clause-once : goal.returns-clause-once
+unfolding clap_on_literals
+returns-clause-once c = refl
+
+pub returns-clause-once_ended : goal.returns-clause-once_ended
+unfolding clap_on_literals
+returns-clause-once_ended c = refl

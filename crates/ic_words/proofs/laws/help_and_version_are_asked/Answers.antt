@@ -1,0 +1,39 @@
+use Rattle.std.proofs.Common.{refl}
+use Rattle.clap.proofs.OnLiterals.{clap_on_literals}
+use Rattle.ic_words.proofs.laws.help_and_version_are_asked.Goals as goal
+
+pub returns-clause-help : goal.returns-clause-help
+unfolding clap_on_literals
+returns-clause-help c = refl
+
+pub returns-clause-short : goal.returns-clause-short
+unfolding clap_on_literals
+returns-clause-short c = refl
+
+pub returns-clause-settle : goal.returns-clause-settle
+unfolding clap_on_literals
+returns-clause-settle c = refl
+
+pub returns-clause-once : goal.returns-clause-once
+unfolding clap_on_literals
+returns-clause-once c = refl
+
+pub returns-clause-create : goal.returns-clause-create
+unfolding clap_on_literals
+returns-clause-create c = refl
+
+pub returns-clause-serve : goal.returns-clause-serve
+unfolding clap_on_literals
+returns-clause-serve c = refl
+
+pub returns-clause-short_serve : goal.returns-clause-short_serve
+unfolding clap_on_literals
+returns-clause-short_serve c = refl
+
+pub returns-clause-version : goal.returns-clause-version
+unfolding clap_on_literals
+returns-clause-version c = refl
+
+pub returns-clause-short_version : goal.returns-clause-short_version
+unfolding clap_on_literals
+returns-clause-short_version c = refl

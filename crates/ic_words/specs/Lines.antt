@@ -1,0 +1,69 @@
+-- To be believed: the lines of words that are well formed, in words of their own.
+use Rattle.std.specs.Prelude.{◌≡◌, ◌≢◌, ◌⊎◌, ◌≤◌, ℕ, List, [], ◌∷◌, ◌++◌, codes}
+use Rattle.std.specs.List.{AllByRecursion}
+use Rattle.clap.specs.Words.{Text}
+use Rattle.ic_words.specs.Words.{IsDecimal}
+
+-- an option, and the value that it is given
+pub record Given : Type 0 where
+  pub name : Text
+  pub value : Text
+
+-- it begins with no hyphen (45)
+abbrev pub HasNoHyphen : Text → Type 0
+HasNoHyphen [] = Unit {0}
+HasNoHyphen (byte ∷ rest) = byte ≢ 45
+
+-- an option is written `--name=value`, or as two words of which the second begins with no hyphen
+abbrev pub IsWritten : Given → List Text → Type 0
+IsWritten given words = (words ≡ (45 ∷ 45 ∷ given.name ++ 61 ∷ given.value) ∷ [])
+    ⊎ ((words ≡ (45 ∷ 45 ∷ given.name) ∷ given.value ∷ []) × HasNoHyphen given.value)
+
+-- options are written one behind the other
+abbrev pub AreWritten : List Given → List Text → Type 0
+AreWritten [] words = words ≡ []
+AreWritten (given ∷ more) words = (first : List Text) × (rest : List Text)
+    × (words ≡ first ++ rest) × IsWritten given first × AreWritten more rest
+
+-- a number from 1 to the most
+abbrev pub IsWithin : ℕ → Text → Type 0
+IsWithin most text = (number : ℕ) × IsDecimal text number × (1 ≤ number) × (number ≤ most)
+
+-- an option of `serve`: a disk, or a number in its range
+abbrev pub IsServeOption : Given → Type 0
+IsServeOption given = (given.name ≡ codes "disk")
+    ⊎ (((given.name ≡ codes "workers") × IsWithin 64 given.value)
+    ⊎ ((given.name ≡ codes "every") × IsWithin 1000000 given.value))
+
+-- `create --disk F`
+abbrev pub IsCreateLine : Text → List Text → Type 0
+IsCreateLine disk words = (rest : List Text) × (words ≡ codes "create" ∷ rest)
+    × IsWritten (record { name = codes "disk"; value = disk }) rest
+
+-- no option has the name of one behind it
+abbrev pub AreOnce : List Given → Type 0
+AreOnce [] = Unit {0}
+AreOnce (given ∷ more) = AllByRecursion (λ other. given.name ≢ other.name) more × AreOnce more
+
+-- the option of this name is given this value
+abbrev pub Gives : List Given → Text → Text → Type 0
+Gives [] name value = ⊥
+Gives (given ∷ more) name value =
+    ((given.name ≡ name) × (given.value ≡ value)) ⊎ Gives more name value
+
+-- an option has this value: the one that it is given, or its default where none is given
+abbrev pub HasValue : List Given → (name default value : Text) → Type 0
+HasValue given name default value = Gives given name value
+    ⊎ (AllByRecursion (λ other. other.name ≢ name) given × (value ≡ default))
+
+-- `serve --disk F`, with `--workers N` and `--every K` or without, in any order, each once
+pub record IsServeLine (words : List Text) (path threads rounds : Text) : Type 0 where
+  pub given : List Given
+  pub rest : List Text
+  pub begins : words ≡ codes "serve" ∷ rest
+  pub written : AreWritten given rest
+  pub options : AllByRecursion IsServeOption given
+  pub once : AreOnce given
+  pub disk : Gives given (codes "disk") path
+  pub workers : HasValue given (codes "workers") (codes "2") threads
+  pub every : HasValue given (codes "every") (codes "100") rounds

@@ -1,0 +1,63 @@
+//! Laws of the words after the program's name, in words of their own.
+
+ghost use Rattle.std.specs.Prelude.{◌≡◌, ◌↔◌, ◌<◌, ◌≤◌, ◌^◌, ℕ, List, [], ◌∷◌, codes, string_bytes};
+ghost use Rattle.std.specs.Fmt.{decimal};
+ghost use Rattle.clap.specs.Words.{Text, fault_of};
+ghost use Rattle.clap.specs.declared.error.ErrorKind.TheVariants.{DisplayHelp, DisplayVersion};
+ghost use Rattle.ic_words.specs.declared.words.Task.TheVariants.{Create, Serve};
+ghost use Rattle.ic_words.specs.Words.{command_line, IsDecimal, Names};
+ghost use Rattle.ic_words.specs.Lines.{IsCreateLine, IsServeLine};
+
+/// A number's text is the number in decimal digits, before which a plus may stand, and no other
+/// number's; the empty text is none's.
+pub fn numbers_are_decimals()
+    ensures digits { (n m : ℕ) → n < 2 ^ 64 → IsDecimal (decimal n) m ↔ (m ≡ n) }
+    ensures plus { (n m : ℕ) → n < 2 ^ 64 → IsDecimal (43 ∷ decimal n) m ↔ (m ≡ n) }
+    ensures minus { (text : Text) (m : ℕ) → ¬ IsDecimal (45 ∷ text) m }
+    ensures none { (m : ℕ) → ¬ IsDecimal [] m }
+    ensures one { (text : Text) (n m : ℕ) → IsDecimal text n → IsDecimal text m → n ≡ m }
+{}
+
+/// The words that are taken with no value: a command alone, and a `--` behind it.
+pub fn commands_are_taken()
+    ensures settle { fault_of command_line (codes "settle" ∷ []) ≡ [] }
+    ensures settled { fault_of command_line (codes "settle" ∷ codes "--" ∷ []) ≡ [] }
+    ensures once { fault_of command_line (codes "once" ∷ []) ≡ [] }
+    ensures once_ended { fault_of command_line (codes "once" ∷ codes "--" ∷ []) ≡ [] }
+{}
+
+/// The words that ask for help, at each command too, and those that ask for the version.
+pub fn help_and_version_are_asked()
+    ensures help { fault_of command_line (codes "--help" ∷ []) ≡ DisplayHelp ∷ [] }
+    ensures short { fault_of command_line (codes "-h" ∷ []) ≡ DisplayHelp ∷ [] }
+    ensures settle { fault_of command_line (codes "settle" ∷ codes "--help" ∷ [])
+        ≡ DisplayHelp ∷ [] }
+    ensures once { fault_of command_line (codes "once" ∷ codes "--help" ∷ []) ≡ DisplayHelp ∷ [] }
+    ensures create { fault_of command_line (codes "create" ∷ codes "--help" ∷ [])
+        ≡ DisplayHelp ∷ [] }
+    ensures serve { fault_of command_line (codes "serve" ∷ codes "--help" ∷ [])
+        ≡ DisplayHelp ∷ [] }
+    ensures short_serve { fault_of command_line (codes "serve" ∷ codes "-h" ∷ [])
+        ≡ DisplayHelp ∷ [] }
+    ensures version { fault_of command_line (codes "--version" ∷ []) ≡ DisplayVersion ∷ [] }
+    ensures short_version { fault_of command_line (codes "-V" ∷ []) ≡ DisplayVersion ∷ [] }
+{}
+
+/// A well-formed line of `create` is taken, and names the file that it is given.
+pub fn create_lines_are_taken(disk: &String)
+    ensures taken { (words : List Text) (path : Text) → IsCreateLine path words
+        → fault_of command_line words ≡ [] }
+    ensures named { (words : List Text) (path : Text) → IsCreateLine path words
+        → Names words (Create disk.now) → string_bytes disk.now ≡ path }
+{}
+
+/// A well-formed line of `serve` is taken, in whatever order its options stand, and names the file
+/// and the numbers that it is given, or their defaults: 2 workers, and 100 rounds between two keeps.
+pub fn serve_lines_are_taken(disk: &String)
+    ensures taken { (words : List Text) (path workers every : Text)
+        → IsServeLine words path workers every → fault_of command_line words ≡ [] }
+    ensures named { (words : List Text) (path workers every : Text) (threads rounds : ℕ)
+        → IsServeLine words path workers every → Names words (Serve disk.now threads rounds)
+        → (string_bytes disk.now ≡ path) × IsDecimal workers threads × IsDecimal every rounds
+        × (1 ≤ threads) × (threads ≤ 64) × (1 ≤ rounds) × (rounds ≤ 1000000) }
+{}
