@@ -61,11 +61,14 @@ abbrev pub serve_command : App
 serve_command = with_rule (with_rule (with_rule (new_app (codes "serve")) disk_option) workers_option)
     every_option
 
+-- the program with its commands `settle` and `once`
+abbrev pub with_streams : App
+with_streams = with_subcommand (with_subcommand program
+    (new_app (codes "settle")).top) (new_app (codes "once")).top
+
 -- the command line of the program, whose commands are `settle`, `once`, `create` and `serve`
 abbrev pub command_line : App
-command_line = with_subcommand (with_subcommand (with_subcommand (with_subcommand program
-    (new_app (codes "settle")).top) (new_app (codes "once")).top) create_command.top)
-    serve_command.top
+command_line = with_subcommand (with_subcommand with_streams create_command.top) serve_command.top
 
 -- the line that tells the version
 abbrev pub version_line : List ℕ

@@ -4,7 +4,7 @@ ghost use Rattle.std.specs.Prelude.{◌≡◌, ◌≤◌, ℕ, false, map, IfOk,
 ghost use Rattle.clap.specs.Words.{app_of, fault_of, new_app, rule_of, subcommand_rows_of};
 ghost use Rattle.clap.specs.declared.builder.command.Command.TheViews.{out-Command};
 ghost use Rattle.ic_words.specs.Words.{AnswersWords, GivesHelp, GivesTask, GivesVersion, Names};
-ghost use Rattle.ic_words.specs.Words.{command_line, create_command, serve_command};
+ghost use Rattle.ic_words.specs.Words.{command_line, create_command, program, serve_command, with_streams};
 ghost use Rattle.ic_words.specs.Words.{disk_option, every_option, workers_option};
 ghost use Rattle.ic_words.specs.Words.{IsDecimal, number_met, value_met};
 
@@ -209,31 +209,44 @@ fn plain_command<'a>(alloc: Global, name: &'a str, about: &'a str) -> Command<'a
     Command::new(alloc, name).about(about)
 }
 
-/// The program's command line.
-fn command<'a>(alloc: Global) -> Result<Command<'a>, AllocError>
-    ensures { IfOk result (λ command. app_of command ≡ command_line) }
+/// The program without its commands.
+fn program<'a>(alloc: Global) -> Result<Command<'a>, AllocError>
+    ensures { IfOk result (λ command. app_of command ≡ program) }
+{
+    let program = Command::new(alloc, "icserve")
+        .bin_name("icserve")?
+        .about("A job server for the interaction calculus")
+        .version(VERSION);
+    Ok(program
+        .no_binary_name(true)
+        .disable_help_subcommand(true)
+        .subcommand_required(true))
+}
+
+/// The program with the commands over streams.
+fn with_streams<'a>(alloc: Global) -> Result<Command<'a>, AllocError>
+    ensures { IfOk result (λ command. app_of command ≡ with_streams) }
 {
     let settle = plain_command(
         alloc,
         "settle",
         "Settles the configuration on standard input and prints it",
     );
+    let program = program(alloc)?.subcommand(settle)?;
     let once = plain_command(
         alloc,
         "once",
         "Makes one round of the system on standard input and prints the configuration",
     );
+    program.subcommand(once)
+}
+
+/// The program's command line.
+fn command<'a>(alloc: Global) -> Result<Command<'a>, AllocError>
+    ensures { IfOk result (λ command. app_of command ≡ command_line) }
+{
     let create = create_command(alloc)?;
+    let program = with_streams(alloc)?.subcommand(create)?;
     let serve = serve_command(alloc)?;
-    Command::new(alloc, "icserve")
-        .bin_name("icserve")?
-        .about("A job server for the interaction calculus")
-        .version(VERSION)
-        .no_binary_name(true)
-        .disable_help_subcommand(true)
-        .subcommand_required(true)
-        .subcommand(settle)?
-        .subcommand(once)?
-        .subcommand(create)?
-        .subcommand(serve)
+    program.subcommand(serve)
 }
