@@ -5,3 +5,4 @@ pub mod LineParts
 pub mod LineLaws
 pub mod NoMemory
 pub mod ScriptLines
+pub mod PlainLines

@@ -10,7 +10,7 @@ use Rattle.std.specs.Cmp.{unsigned_Decides}
 use Rattle.std.specs.Cmp.Lexicographic.{bytes_decides}
 use Rattle.std.proofs.lemmas.Bool.Decides.{nat_tests}
 use Rattle.std.proofs.lemmas.Bool.{false≢true, and_parts, or_cases, or_right}
-use Rattle.ic_rules.specs.JobName.{is_job_name}
+use Rattle.ic_rules.specs.JobName.{is_job_name, is_job_word}
 use Rattle.ic_rules.specs.System.{SystemParts}
 use Rattle.ic_rules.specs.declared.job_name.TheConstants.{MAX_JOB_NAME}
 use Rattle.ic_text.specs.declared.limits.TheConstants.{MAX_TEXT}
@@ -25,7 +25,7 @@ use Rattle.ic_commands.specs.declared.line.Line.TheVariants.{Blank, Command as A
 use Rattle.ic_commands.specs.declared.line.Opening.TheVariants as opening
 use Rattle.ic_commands.specs.declared.line.Verb.{Verb}
 use Rattle.ic_commands.specs.declared.line.Verb.TheVariants.{Pause, Resume, Cancel, Fetch}
-use Rattle.ic_commands.specs.LineSource.{nothing, about, list, run, is_job_word, is_number, verb_text}
+use Rattle.ic_commands.specs.LineSource.{nothing, about, list, run, is_number, verb_text}
 use Rattle.ic_commands.specs.LineSense.{submitted, asked, unless_long, line_sense}
 use Rattle.ic_commands.specs.LineText.{ReadsLine}
 use Rattle.ic_commands.specs.inner.Line.{IsLineOf}
@@ -112,17 +112,24 @@ behind_space : (w rest : List ℕ) → tokens w ≡ Some (word_of w) → tokens 
 behind_space w rest alone =
     tokens-parted w rest 32 refl ∙ ap (λ o. followed o (followed (Some []) (tokens rest))) alone ∙ ap (before (word_of w)) (before-none (tokens rest))
 
-pub submit_text : (name text : List ℕ) (a : Result SystemParts TextFault) → IsTrue (is_job_name name) → length text + 24 ≤ MAX_TEXT
+pub submit_whole : (name text : List ℕ) (a : Result SystemParts TextFault) → IsTrue (is_job_name name) → length (codes "submit " ++ name ++ 32 ∷ text) ≤ MAX_TEXT
     → ReadsSystem text a → ReadsLine (codes "submit " ++ name ++ 32 ∷ text) (submitted name a)
-submit_text name text a is room reads =
+submit_whole name text a is short reads =
     let parts = and_parts (is_job_word name) _ (sym (job_name-parts name) ∙ is) in
     let rest = name ++ 32 ∷ text in
     let split = behind_space name text (tokens-name name parts.0) in
     let whole : tokens (codes "submit" ++ 32 ∷ rest) ≡ before (word_of (codes "submit")) (tokens rest) = behind_space (codes "submit") rest refl in
-    let few : length name ≤ MAX_JOB_NAME = grind (arith, nat_tests, parts.1) in
-    let short : length (codes "submit" ++ 32 ∷ rest) ≤ MAX_TEXT = omega (arith, few, room, length-append name (32 ∷ text)) in
+    let inside : length text ≤ MAX_TEXT = omega (arith, short, length-append name (32 ∷ text)) in
     reads_line (codes "submit" ++ 32 ∷ rest) (submitted name a) short
-    (subst (λ o. IsLineOf o (submitted name a)) (sym whole) (submit_read rest name text split parts.0 a (omega arith) is reads))
+    (subst (λ o. IsLineOf o (submitted name a)) (sym whole) (submit_read rest name text split parts.0 a inside is reads))
+
+pub submit_text : (name text : List ℕ) (a : Result SystemParts TextFault) → IsTrue (is_job_name name) → length text + 24 ≤ MAX_TEXT
+    → ReadsSystem text a → ReadsLine (codes "submit " ++ name ++ 32 ∷ text) (submitted name a)
+submit_text name text a is room reads =
+    let parts = and_parts (is_job_word name) _ (sym (job_name-parts name) ∙ is) in
+    let few : length name ≤ MAX_JOB_NAME = grind (arith, nat_tests, parts.1) in
+    let short : length (codes "submit" ++ 32 ∷ (name ++ 32 ∷ text)) ≤ MAX_TEXT = omega (arith, few, room, length-append name (32 ∷ text)) in
+    submit_whole name text a is short reads
 
 -- a verb and a job's name
 pub about_text : (verb : Verb) (name : List ℕ) → tokens (verb_text verb) ≡ Some (word_of (verb_text verb)) → length (verb_text verb) ≤ 6 → IsTrue (is_job_name name)

@@ -2,7 +2,7 @@
 use Rattle.std.proofs.Common.{◌≡◌, ◌&&◌, ◌≤◌, ℕ, true, false, List, [], ◌∷◌, ◌++◌, Option, None, Some, Result, Err, length, IsTrue, refl, sym, ap, ◌∙◌, subst}
 use Rattle.std.specs.Prelude.{nat_le, codes}
 use Rattle.std.proofs.lemmas.Bool.{false≢true, and_parts, false_from_ne_true}
-use Rattle.ic_rules.specs.JobName.{is_job_name}
+use Rattle.ic_rules.specs.JobName.{is_job_name, is_job_word}
 use Rattle.ic_rules.specs.System.{SystemParts}
 use Rattle.ic_rules.specs.declared.job_name.TheConstants.{MAX_JOB_NAME}
 use Rattle.ic_text.specs.declared.limits.TheConstants.{MAX_TEXT}
@@ -16,9 +16,10 @@ use Rattle.ic_text.specs.Reading.{IsSpelling}
 use Rattle.ic_text.specs.SystemSource.{SystemPhrase, IsSystemPhrase, system_words}
 use Rattle.ic_text.specs.SystemSense.{system_sense}
 use Rattle.ic_text.specs.SystemText.{ReadsSystem}
-use Rattle.ic_commands.specs.LineSource.{LinePhrase, nothing, submit, about, list, run, IsLine, is_job_word, line_words}
+use Rattle.ic_commands.specs.LineSource.{LinePhrase, nothing, submit, about, list, run, IsLine, line_words}
 use Rattle.ic_commands.specs.LineSense.{unless_long, submitted, line_sense}
-use Rattle.ic_commands.specs.inner.Line.{is_nothing, opening_text, opening_of, IsLineOf, ReadsBehind}
+use Rattle.ic_commands.specs.LineText.{SpellsSubmit}
+use Rattle.ic_commands.specs.inner.Line.{is_nothing, opening_text, opening_of, IsLineOf, IsSubmitLine, ReadsBehind}
 use Rattle.ic_text.specs.lemmas.ReadOnce.{some-injective, none_is_some}
 use Rattle.ic_commands.proofs.LineReading.{text-opening_of, opening_in, opens, opening_in-line, behind_one, second_word}
 
@@ -81,11 +82,14 @@ module _ (rest w text : List ℕ) (split : tokens rest ≡ before (word_of w) (t
   abbrev NoLine : Type 0
   NoLine = (p : LinePhrase) → IsLine p → before (word_of (opening_text opening.Submit)) (tokens rest) ≡ Some (line_words p) → ⊥
 
+  behind_name : (s : SystemPhrase) → IsSpelling IsSystemPhrase system_words text s → tokens rest ≡ Some (word w ∷ system_words s)
+  behind_name s spells = split ∙ ap (before (word_of w)) spells.tokens ∙ ap (λ ws. Some (ws ++ system_words s)) (word_of-named w named)
+
+  pub submit_spelled : (s : SystemPhrase) → IsSpelling IsSystemPhrase system_words text s → IsSubmitLine (before (word_of (opening_text opening.Submit)) (tokens rest))
+  submit_spelled s spells = (w, s, (named, spells.phrase), ap (before (word_of (codes "submit"))) (behind_name s spells))
+
   no_system : NoLine → (s : SystemPhrase) → IsSpelling IsSystemPhrase system_words text s → ⊥
-  no_system none s spells =
-      let left : tokens rest ≡ Some (word w ∷ system_words s) =
-      split ∙ ap (before (word_of w)) spells.tokens ∙ ap (λ ws. Some (ws ++ system_words s)) (word_of-named w named) in
-      none (submit w s) (named, spells.phrase) (ap (before (word_of (codes "submit"))) left)
+  no_system none s spells = none (submit w s) (named, spells.phrase) (ap (before (word_of (codes "submit"))) (behind_name s spells))
 
   submit_sense : (a : Result Line TextFault) → ((s : SystemPhrase) → IsSpelling IsSystemPhrase system_words text s → a ≡ unless_long w (submitted w (system_sense s)))
       → (p : LinePhrase) → IsLine p → before (word_of (opening_text opening.Submit)) (tokens rest) ≡ Some (line_words p) → a ≡ line_sense p
@@ -121,3 +125,12 @@ pub line_behind : (text w rest : List ℕ) (o : Opening) (a : Result Line TextFa
     → opening_of w ≡ Some o → ReadsBehind o rest a → IsLineOf (tokens text) a
 line_behind text w rest o a split opens reads =
     subst (λ x. IsLineOf x a) (sym (split ∙ ap (λ x. before (word_of x) (tokens rest)) (text-opening_of w o opens))) reads
+
+-- and is the submit that stands behind the word `submit`
+pub submit_line : (text w rest : List ℕ) → tokens text ≡ before (word_of w) (tokens rest) → opening_of w ≡ Some opening.Submit
+    → IsSubmitLine (before (word_of (opening_text opening.Submit)) (tokens rest)) → IsSubmitLine (tokens text)
+submit_line text w rest split opens is =
+    subst IsSubmitLine (sym (split ∙ ap (λ x. before (word_of x) (tokens rest)) (text-opening_of w opening.Submit opens))) is
+
+pub spells_submit : (text : List ℕ) → IsSubmitLine (tokens text) → SpellsSubmit text
+spells_submit text is = (is.0, is.1, record { phrase = is.2; tokens = is.3 })

@@ -7,7 +7,8 @@ use Rattle.ic_text.specs.lemmas.ReadOnce.{IsTold}
 use Rattle.ic_commands.specs.declared.line.Opening.{Opening}
 use Rattle.ic_commands.specs.declared.line.Opening.TheVariants as opening
 use Rattle.ic_commands.specs.declared.line.Verb.TheVariants.{Pause, Resume, Cancel, Fetch}
-use Rattle.ic_commands.specs.LineSource.{LinePhrase, nothing, submit, about, list, run, IsLine, is_job_word, is_number, line_words}
+use Rattle.ic_commands.specs.LineSource.{LinePhrase, nothing, submit, about, list, run, IsLine, is_number, line_words}
+use Rattle.ic_rules.specs.JobName.{is_job_word}
 use Rattle.ic_commands.specs.inner.Line.{opening_text, opening_of}
 use Rattle.ic_commands.proofs.LineReading.{text-opening_of, OneSystem, line_words-injective}
 

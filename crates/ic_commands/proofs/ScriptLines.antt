@@ -156,7 +156,7 @@ run_alone = reads_run (codes "run") (omega arith) (tells_run (codes "run") (code
 
 -- ---- no want of memory
 
-memory_of : (a : Result Line TextFault) → Err Memory ≡ without_run a → Err Memory ≡ a
+pub memory_of : (a : Result Line TextFault) → Err Memory ≡ without_run a → Err Memory ≡ a
 memory_of (Ok Blank) e = cc
 memory_of (Ok (Asks c)) e = cc
 memory_of (Ok (Run k)) e = cc

@@ -2,6 +2,7 @@
 pub mod LineSource
 pub mod LineSense
 pub mod LineText
+pub mod LinePlain
 pub mod ScriptSense
 pub mod ReplyText
 pub mod inner

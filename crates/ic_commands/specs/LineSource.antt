@@ -1,8 +1,7 @@
 -- To be believed: a command line as it is written.
-use Rattle.std.specs.Prelude.{ℕ, ◌==◌, List, [], ◌∷◌, Bool, false, ◌&&◌, ◌||◌, IsTrue, codes}
-use Rattle.std.specs.List.{list_all}
-use Rattle.std.specs.Char.{is_ascii_lowercase, is_ascii_digit}
+use Rattle.std.specs.Prelude.{ℕ, List, [], ◌∷◌, Bool, false, ◌||◌, IsTrue, codes}
 use Rattle.std.specs.Str.{bytes_eq}
+use Rattle.ic_rules.specs.JobName.{is_job_word}
 use Rattle.ic_commands.specs.declared.line.Verb.{Verb}
 use Rattle.ic_commands.specs.declared.line.Verb.TheVariants.{Pause, Resume, Cancel, Fetch}
 use Rattle.ic_text.specs.Token.{Token, word}
@@ -17,12 +16,6 @@ pub data LinePhrase : Type 0 where
   about : Verb → List ℕ → LinePhrase
   list : LinePhrase
   run : List ℕ → LinePhrase
-
--- a word of a..z, 0..9 and `-`, a letter first, of any length
-abbrev pub is_job_word : List ℕ → Bool
-is_job_word [] = false
-is_job_word (b ∷ bs) = is_ascii_lowercase b
-    && list_all (λ c. is_ascii_lowercase c || is_ascii_digit c || c == 45) bs
 
 -- the word `0`, or digits without a leading zero, of any length
 abbrev pub is_number : List ℕ → Bool

@@ -1,6 +1,6 @@
 -- To be believed: the lines that answer (this project's choice).
-use Rattle.std.specs.Prelude.{ℕ, List, ◌∷◌, ◌++◌, codes}
-use Rattle.std.specs.List.{flat_map}
+use Rattle.std.specs.Prelude.{ℕ, List, [], ◌∷◌, ◌++◌, map, codes}
+use Rattle.std.specs.List.{flat_map, join_with_byte}
 use Rattle.std.specs.Fmt.{decimal}
 use Rattle.ic_jobs.specs.declared.state.State.{State}
 use Rattle.ic_jobs.specs.declared.state.State.TheVariants.{Running, Paused, Done, Halted as halted_state}
@@ -47,3 +47,19 @@ reply_text (Listed jobs) = codes "jobs" ++ flat_map listed_text jobs
 reply_text (Refused refusal) = codes "refused " ++ refusal_text refusal
 reply_text Moved = codes "moved"
 reply_text Halted = codes "halted"
+
+-- `NAME:STATE:ROUNDS`
+abbrev pub listed_word : List ℕ × State × ℕ → List ℕ
+listed_word job = join_with_byte 58 (job.0 ∷ state_text job.1 ∷ decimal job.2 ∷ [])
+
+-- the words of a reply's line
+abbrev pub reply_words : Reply → List (List ℕ)
+reply_words Accepted = codes "accepted" ∷ []
+reply_words Okay = codes "ok" ∷ []
+reply_words (Shown job) =
+    job.name ∷ state_text job.state ∷ decimal job.rounds ∷ printed job.rules.symbols job.config
+    ∷ []
+reply_words (Listed jobs) = codes "jobs" ∷ map listed_word jobs
+reply_words (Refused refusal) = codes "refused" ∷ refusal_text refusal ∷ []
+reply_words Moved = codes "moved" ∷ []
+reply_words Halted = codes "halted" ∷ []

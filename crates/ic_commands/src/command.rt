@@ -1,54 +1,26 @@
 //! Reading a command line, word by word; the system of a submit is read as any system.
 
-ghost use Rattle.std.specs.Prelude.{◌≡◌, ◌≢◌, ◌≤◌, ◌==◌, ◌||◌, IfOk, IfErr, IsTrue, Ok, Err, length};
-ghost use Rattle.std.specs.Char.{is_ascii_lowercase, is_ascii_digit};
-ghost use Rattle.std.specs.List.{list_all};
-ghost use Rattle.ic_commands.specs.LineSource.{is_job_word, is_number, run};
+ghost use Rattle.std.specs.Prelude.{◌≡◌, ◌≢◌, ◌≤◌, IfOk, IfErr, IsTrue, Ok, Err, length};
+ghost use Rattle.ic_commands.specs.LineSource.{is_number, run};
 ghost use Rattle.ic_commands.specs.LineSense.{asked, line_sense};
-ghost use Rattle.ic_commands.specs.LineText.{ReadsLine};
-ghost use Rattle.ic_text.specs.Token.{tokens};
+ghost use Rattle.ic_commands.specs.LineText.{ReadsLine, SpellsSubmit};
+ghost use Rattle.ic_text.specs.Token.{word_of, before, tokens};
 ghost use Rattle.ic_commands.specs.declared.line.Opening.TheVariants as opening;
-ghost use Rattle.ic_commands.specs.inner.Line.{opening_of, IsLineOf, ReadsBehind};
+ghost use Rattle.ic_commands.specs.inner.Line.{opening_of, opening_text, IsLineOf, IsSubmitLine, ReadsBehind};
 
 use crate::limits::MAX_RUN;
 use crate::line::{Line, Opening, Verb};
 use crate::word::{is_nothing, only_word, split_word};
 use ic_jobs::Command;
-use ic_rules::JobName;
-use ic_text::{MAX_TEXT, TextFault, is_system, number_in, read_system};
+use ic_rules::{JobName, is_job_word};
+use ic_text::{MAX_TEXT, TextFault, is_numeral, is_system, number_in, read_system};
 use std::alloc::Global;
-
-fn are_name_bytes(text: &[u8]) -> bool
-    ensures { result
-        ≡ list_all (λ c. is_ascii_lowercase c || is_ascii_digit c || c == 45) text.now }
-{
-    text.iter().all(|byte| byte.is_ascii_lowercase() || byte.is_ascii_digit() || *byte == b'-')
-}
-
-/// Whether a word is a job's name but for its length.
-fn is_job_word(text: &[u8]) -> bool
-    ensures { result ≡ is_job_word text.now }
-{
-    match text.split_first() {
-        None => false,
-        Some((first, rest)) => first.is_ascii_lowercase() && are_name_bytes(rest),
-    }
-}
-
-fn are_digits(text: &[u8]) -> bool
-    ensures { result ≡ list_all is_ascii_digit text.now }
-{
-    text.iter().all(|byte| byte.is_ascii_digit())
-}
 
 /// Whether a word is `0`, or digits without a leading zero.
 fn is_number(text: &[u8]) -> bool
     ensures { result ≡ is_number text.now }
 {
-    match text.split_first() {
-        None => false,
-        Some((first, _)) => text == b"0".as_slice() || (*first != b'0' && are_digits(text)),
-    }
+    text == b"0".as_slice() || (!text.is_empty() && is_numeral(text))
 }
 
 /// What the first word of a line asks for.
@@ -90,7 +62,9 @@ fn ask(verb: Verb, name: JobName) -> Command
 /// such a line makes no value.
 fn read_submit(alloc: Global, rest: &[u8]) -> Result<Line, TextFault>
     requires { length rest.now ≤ MAX_TEXT }
-    ensures { result ≢ Err TextFault.Memory → ReadsBehind opening.Submit rest.now result }
+    ensures line { result ≢ Err TextFault.Memory → ReadsBehind opening.Submit rest.now result }
+    ensures memory { result ≡ Err TextFault.Memory
+        → IsSubmitLine (before (word_of (opening_text opening.Submit)) (tokens rest.now)) }
 {
     let (word, text) = split_word(rest);
     if !is_job_word(word) {
@@ -108,7 +82,8 @@ fn read_submit(alloc: Global, rest: &[u8]) -> Result<Line, TextFault>
 
 /// The line of a verb with this behind it.
 fn read_about(verb: Verb, rest: &[u8]) -> Result<Line, TextFault>
-    ensures { ReadsBehind (opening.About verb) rest.now result }
+    ensures line { ReadsBehind (opening.About verb) rest.now result }
+    ensures memory { result ≢ Err TextFault.Memory }
 {
     let Some(word) = only_word(rest) else {
         return Err(TextFault::Syntax);
@@ -124,7 +99,8 @@ fn read_about(verb: Verb, rest: &[u8]) -> Result<Line, TextFault>
 
 /// The line of a `list` with this behind it.
 fn read_list(rest: &[u8]) -> Result<Line, TextFault>
-    ensures { ReadsBehind opening.List rest.now result }
+    ensures line { ReadsBehind opening.List rest.now result }
+    ensures memory { result ≢ Err TextFault.Memory }
 {
     if is_nothing(rest) {
         Ok(Line::Command(Command::List))
@@ -136,7 +112,8 @@ fn read_list(rest: &[u8]) -> Result<Line, TextFault>
 /// The line of a `run` with this number.
 fn run_of(word: &[u8]) -> Result<Line, TextFault>
     requires { IsTrue (is_number word.now) }
-    ensures { result ≡ line_sense (run word.now) }
+    ensures line { result ≡ line_sense (run word.now) }
+    ensures memory { result ≢ Err TextFault.Memory }
 {
     match number_in(word) {
         Some(number) if number <= MAX_RUN => Ok(Line::Run(number)),
@@ -146,7 +123,8 @@ fn run_of(word: &[u8]) -> Result<Line, TextFault>
 
 /// The line of a `run` with this behind it.
 fn read_run(rest: &[u8]) -> Result<Line, TextFault>
-    ensures { ReadsBehind opening.Run rest.now result }
+    ensures line { ReadsBehind opening.Run rest.now result }
+    ensures memory { result ≢ Err TextFault.Memory }
 {
     let Some(word) = only_word(rest) else {
         return Err(TextFault::Syntax);
@@ -160,7 +138,8 @@ fn read_run(rest: &[u8]) -> Result<Line, TextFault>
 /// What a line asks that isn't too long.
 fn line_of(alloc: Global, text: &[u8]) -> Result<Line, TextFault>
     requires { length text.now ≤ MAX_TEXT }
-    ensures { result ≢ Err TextFault.Memory → IsLineOf (tokens text.now) result }
+    ensures line { result ≢ Err TextFault.Memory → IsLineOf (tokens text.now) result }
+    ensures memory { result ≡ Err TextFault.Memory → IsSubmitLine (tokens text.now) }
 {
     if is_nothing(text) {
         return Ok(Line::Blank);
@@ -176,11 +155,13 @@ fn line_of(alloc: Global, text: &[u8]) -> Result<Line, TextFault>
 }
 
 /// What a command line asks, or the first refusal over the whole line. Its end, if it stands there, is a blank and counts
-/// as a byte. The system of a submit is read as `read_system` reads it. Takes n log n steps. Only a submit takes memory.
+/// as a byte. The system of a submit is read as `read_system` reads it, and nothing else is given the allocator. Takes
+/// n log n steps.
 pub fn read_command(alloc: Global, text: &[u8]) -> Result<Line, TextFault>
     ensures read { IfOk result (λ line. ReadsLine text.now (Ok line)) }
     ensures refused { IfErr result
         (λ fault. fault ≢ TextFault.Memory → ReadsLine text.now (Err fault)) }
+    ensures memory { result ≡ Err TextFault.Memory → SpellsSubmit text.now }
 {
     if text.len() > MAX_TEXT {
         return Err(TextFault::Limit);

@@ -1,24 +1,23 @@
 //! What is proved of the definitions alone: each law is the contract of a function that does nothing, or calls the laws
 //! that it comes of.
 
-ghost use Rattle.std.specs.Prelude.{◌≡◌, ◌≢◌, ◌<◌, ◌≤◌, ◌+◌, ◌^◌, ◌&&◌, ◌||◌, ◌==◌, ℕ, List, [], ◌∷◌, ◌++◌, Option, None, Some, Result, Ok, Err, true, length, map, codes, not, nat_le, IsTrue};
-ghost use Rattle.std.specs.List.{list_all};
+ghost use Rattle.std.specs.Prelude.{◌≡◌, ◌≢◌, ◌<◌, ◌≤◌, ◌+◌, ◌^◌, ◌&&◌, ◌||◌, ◌==◌, ℕ, List, [], ◌∷◌, ◌++◌, Option, None, Some, Result, Ok, Err, true, length, map, codes, not, nat_le, Contains, IsTrue};
+ghost use Rattle.std.specs.List.{list_all, join_with_byte};
 ghost use Rattle.std.specs.Str.{bytes_eq};
 ghost use Rattle.std.specs.Char.{is_ascii_lowercase, is_ascii_digit};
 ghost use Rattle.std.specs.Fmt.{decimal};
 ghost use Rattle.ic_rules.specs.System.{SystemParts};
-ghost use Rattle.ic_rules.specs.JobName.{is_job_name};
+ghost use Rattle.ic_rules.specs.JobName.{is_job_name, is_job_word};
 ghost use Rattle.ic_rules.specs.declared.job_name.TheConstants.{MAX_JOB_NAME};
 ghost use Rattle.ic_jobs.specs.declared.state.State.{State};
 ghost use Rattle.ic_jobs.specs.declared.state.State.TheVariants.{Running, Paused, Done, Halted};
 ghost use Rattle.ic_jobs.specs.declared.reply.Refusal.{Refusal};
 ghost use Rattle.ic_jobs.specs.declared.reply.Refusal.TheVariants.{Taken, Full, NoJob, NotRunning, NotPaused};
+ghost use Rattle.ic_jobs.specs.declared.reply.Reply.{Reply};
 ghost use Rattle.ic_jobs.specs.declared.reply.Reply.TheVariants as reply;
 ghost use Rattle.ic_jobs.specs.declared.reply.Reply.TheVariants.{Accepted, Okay, Shown, Listed, Refused, Moved};
 ghost use Rattle.ic_jobs.specs.Shown.{ShownParts};
-ghost use Rattle.ic_jobs.specs.declared.command.Command.TheVariants as command;
 ghost use Rattle.ic_text.specs.Name.{number_in};
-ghost use Rattle.ic_text.specs.SystemSource.{SystemPhrase, system_words};
 ghost use Rattle.ic_text.specs.SystemText.{ReadsSystem};
 ghost use Rattle.ic_text.specs.Text.{printed};
 ghost use Rattle.ic_text.specs.Token.{is_blank, words_among};
@@ -30,12 +29,13 @@ ghost use Rattle.ic_commands.specs.declared.line.Line.{Line};
 ghost use Rattle.ic_commands.specs.declared.line.Line.TheVariants.{Blank, Command as Asks, Run};
 ghost use Rattle.ic_commands.specs.declared.line.Verb.{Verb};
 ghost use Rattle.ic_commands.specs.declared.line.Verb.TheVariants.{Pause, Resume, Cancel, Fetch};
-ghost use Rattle.ic_commands.specs.LineSource.{LinePhrase, submit, list, run, is_job_word, is_number, verb_text, line_words};
+ghost use Rattle.ic_commands.specs.LineSource.{LinePhrase, run, is_number, verb_text, line_words};
 ghost use Rattle.ic_commands.specs.LineSense.{submitted};
 ghost use Rattle.ic_commands.specs.LineText.{SpellsLine, ReadsLine};
 ghost use Rattle.ic_jobs.specs.declared.command.Command.{Command};
 ghost use Rattle.ic_commands.specs.ScriptSense.{without_run, ReadsScriptLine};
-ghost use Rattle.ic_commands.specs.ReplyText.{state_text, refusal_text, reply_text};
+ghost use Rattle.ic_commands.specs.LinePlain.{IsPlainly, phrase_texts};
+ghost use Rattle.ic_commands.specs.ReplyText.{state_text, refusal_text, reply_text, reply_words};
 
 /// A text spells at most one line, and it is read in just one way, never as want of memory.
 pub fn one_line_reading()
@@ -54,32 +54,19 @@ pub fn limits_are()
     ensures run { MAX_RUN ≡ 1000 }
 {}
 
-/// The words that open lines.
+/// The words of each kind of line, and the verbs, which are all that there are.
 pub fn command_words_are()
     ensures verbs { map verb_text (Pause ∷ Resume ∷ Cancel ∷ Fetch ∷ [])
         ≡ codes "pause" ∷ codes "resume" ∷ codes "cancel" ∷ codes "fetch" ∷ [] }
-    ensures others { (name digits : List ℕ) (s : SystemPhrase) →
-        words_among (line_words list ++ line_words (run digits) ++ line_words (submit name s))
-        ≡ codes "list" ∷ codes "run" ∷ digits ∷ codes "submit" ∷ name
-        ∷ words_among (system_words s) }
+    ensures all_verbs { (verb : Verb) → Contains (Pause ∷ Resume ∷ Cancel ∷ Fetch ∷ []) verb }
+    ensures lines { (p : LinePhrase) → words_among (line_words p) ≡ phrase_texts p }
 {}
 
-/// What each command asks, written with one space behind its word; and a line of blanks. A job's name of more than 16
-/// bytes passes a limit, in a submit where the text behind it is a system; and so does a number of more than 1,000,
-/// however long it is.
+/// What each line asks that is written in its plainest form: each command with one space behind its word, a run, a line
+/// of blanks. A job's name of more than 16 bytes passes a limit, in a submit where the text behind it is a system; and so
+/// does a number of more than 1,000, however long it is.
 pub fn commands_ask()
-    ensures pause { (name : List ℕ) → IsTrue (is_job_name name) →
-        ReadsLine (codes "pause " ++ name) (Ok (Asks (command.Pause name))) }
-    ensures resume { (name : List ℕ) → IsTrue (is_job_name name) →
-        ReadsLine (codes "resume " ++ name) (Ok (Asks (command.Resume name))) }
-    ensures cancel { (name : List ℕ) → IsTrue (is_job_name name) →
-        ReadsLine (codes "cancel " ++ name) (Ok (Asks (command.Cancel name))) }
-    ensures fetch { (name : List ℕ) → IsTrue (is_job_name name) →
-        ReadsLine (codes "fetch " ++ name) (Ok (Asks (command.Fetch name))) }
-    ensures list { ReadsLine (codes "list") (Ok (Asks command.List)) }
-    ensures run { (n : ℕ) → n ≤ MAX_RUN → ReadsLine (codes "run " ++ decimal n) (Ok (Run n)) }
-    ensures blank { (text : List ℕ) → length text ≤ MAX_TEXT → list_all is_blank text ≡ true →
-        ReadsLine text (Ok Blank) }
+    ensures plain { (line : Line) (text : List ℕ) → IsPlainly line text → ReadsLine text (Ok line) }
     ensures too_long { (verb : Verb) (name : List ℕ) → IsTrue (is_job_word name) →
         MAX_JOB_NAME < length name → length name + 7 ≤ MAX_TEXT →
         ReadsLine (verb_text verb ++ 32 ∷ name) (Err Limit) }
@@ -115,8 +102,12 @@ pub fn names_of_jobs_and_numbers_are()
         w ≡ decimal (number_in w) }
 {}
 
-/// The words and the forms of answers.
+/// The words and the forms of answers: each is its words with a space between. These are all states, refusals and replies.
 pub fn answers_are()
+    ensures answers { (r : Reply) → reply_text r ≡ join_with_byte 32 (reply_words r) }
+    ensures all_states { (s : State) → Contains (Running ∷ Paused ∷ Done ∷ Halted ∷ []) s }
+    ensures all_refusals { (r : Refusal) →
+        Contains (Taken ∷ Full ∷ NoJob ∷ NotRunning ∷ NotPaused ∷ []) r }
     ensures states { map state_text (Running ∷ Paused ∷ Done ∷ Halted ∷ [])
         ≡ codes "running" ∷ codes "paused" ∷ codes "done" ∷ codes "halted" ∷ [] }
     ensures refusals { map refusal_text (Taken ∷ Full ∷ NoJob ∷ NotRunning ∷ NotPaused ∷ [])

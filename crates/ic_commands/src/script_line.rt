@@ -2,7 +2,7 @@
 
 ghost use Rattle.std.specs.Prelude.{◌≡◌, ◌≢◌, IfOk, IfErr, Ok, Err};
 ghost use Rattle.ic_commands.specs.LineSource.{LinePhrase};
-ghost use Rattle.ic_commands.specs.LineText.{SpellsLine};
+ghost use Rattle.ic_commands.specs.LineText.{SpellsLine, SpellsSubmit};
 ghost use Rattle.ic_commands.specs.ScriptSense.{without_run, ReadsScriptLine};
 ghost use Rattle.ic_commands.specs.inner.ScriptLine.{is_run};
 
@@ -33,11 +33,12 @@ fn command_of(line: Line) -> Result<Option<Command>, TextFault>
 }
 
 /// What a line of a script asks, or the first refusal over the whole line: a command as `read_command` reads it, or
-/// nothing where the line is blank. A `run`, whatever follows it, is `Syntax`. Only a submit takes memory.
+/// nothing where the line is blank. A `run`, whatever follows it, is `Syntax`.
 pub fn read_script_line(alloc: Global, text: &[u8]) -> Result<Option<Command>, TextFault>
     ensures read { IfOk result (λ command. ReadsScriptLine text.now (Ok command)) }
     ensures refused { IfErr result
         (λ fault. fault ≢ TextFault.Memory → ReadsScriptLine text.now (Err fault)) }
+    ensures memory { result ≡ Err TextFault.Memory → SpellsSubmit text.now }
 {
     if text.len() <= MAX_TEXT && begins_with_run(text) {
         return Err(TextFault::Syntax);

@@ -1,9 +1,9 @@
 -- What a buffer of lines takes.
-use Rattle.std.proofs.Common.{◌≡◌, ℕ, suc, ◌+◌, ◌-◌, ◌<◌, ◌≤◌, ◌==◌, List, [], ◌∷◌, ◌++◌, Bool, true, false, not, Option, None, Some, Result, Ok, Err, is_none, unwrap_or, length, take, drop, refl, sym, ap, ◌∙◌, inl, inr, arith, append-nil, append_assoc, length-append}
-use Rattle.std.specs.Prelude.{position, nat_lt}
+use Rattle.std.proofs.Common.{◌≡◌, ℕ, suc, ◌+◌, ◌-◌, ◌<◌, ◌≤◌, ◌==◌, List, [], ◌∷◌, ◌++◌, Bool, true, false, not, Option, None, Some, Result, Ok, Err, is_none, unwrap_or, length, take, drop, refl, sym, ap, subst, ◌∙◌, inl, inr, arith, append-nil, append_assoc, length-append}
+use Rattle.std.specs.Prelude.{position, nat_lt, OnErr}
 use Rattle.std.specs.Result.{IsErrAnd}
 use Rattle.std.specs.List.{position_or_len}
-use Rattle.std.specs.Io.KnownBytes.{Consumes, IsAtEnd}
+use Rattle.std.specs.Io.KnownBytes.{Consumes, IsAtEnd, Keeps, prepend_known}
 use Rattle.std.proofs.lemmas.Bool.{cases_Bool, or_from, not-true, eqb-true, ltb-true, ltb-false}
 use Rattle.std.proofs.lemmas.List.{take-append-drop, length-take, length-drop, take_all, drop-drop, drop_all}
 use Rattle.std.proofs.lemmas.List.Folds.{list_any-append}
@@ -128,23 +128,23 @@ has_long (Some t) None front p h = absurd p
 has_long (Some t) (Some xs) front p h = rw p (long_text front xs h)
 
 -- a line feed was met
-pub takes_line : (old now : Option (List ℕ)) (front line : List ℕ) (next : BufferParts) → Consumes old now front
-    → has_feed line ≡ false → front ≡ line ++ 10 ∷ next.ahead → TakesLine line old (to_come next now)
-takes_line None now front line next p unfed is = tt
-takes_line (Some t) None front line next p unfed is = absurd p
-takes_line (Some t) (Some xs) front line next p unfed is =
-    let all : t ≡ line ++ 10 ∷ (next.ahead ++ xs) = p ∙ ap (λ ys. ys ++ xs) is ∙ append_assoc line (10 ∷ next.ahead) xs in
-    ap lines all ∙ lines_first line (next.ahead ++ xs) unfed
+takes_line : (old now : Option (List ℕ)) (front line ahead : List ℕ) → Consumes old now front
+    → has_feed line ≡ false → front ≡ line ++ 10 ∷ ahead → TakesLine line old (prepend_known ahead now)
+takes_line None now front line ahead p unfed is = tt
+takes_line (Some t) None front line ahead p unfed is = absurd p
+takes_line (Some t) (Some xs) front line ahead p unfed is =
+    let all : t ≡ line ++ 10 ∷ (ahead ++ xs) = p ∙ ap (λ ys. ys ++ xs) is ∙ append_assoc line (10 ∷ ahead) xs in
+    ap lines all ∙ lines_first line (ahead ++ xs) unfed
 
 -- the end was met
-pub takes_last : (old now : Option (List ℕ)) (line : List ℕ) (next : BufferParts) → Consumes old now line → IsAtEnd now
-    → has_feed line ≡ false → (length line == 0) ≡ false → next.ahead ≡ [] → TakesLine line old (to_come next now)
-takes_last None now line next p end unfed some none = tt
-takes_last (Some t) None line next p end unfed some none = absurd p
-takes_last (Some t) (Some xs) [] next p end unfed some none = let bad : true ≡ false = some in cc
-takes_last (Some t) (Some xs) (b ∷ bs) next p end unfed some none =
+takes_last : (old now : Option (List ℕ)) (line ahead : List ℕ) → Consumes old now line → IsAtEnd now
+    → has_feed line ≡ false → (length line == 0) ≡ false → ahead ≡ [] → TakesLine line old (prepend_known ahead now)
+takes_last None now line ahead p end unfed some none = tt
+takes_last (Some t) None line ahead p end unfed some none = absurd p
+takes_last (Some t) (Some xs) [] ahead p end unfed some none = let bad : true ≡ false = some in cc
+takes_last (Some t) (Some xs) (b ∷ bs) ahead p end unfed some none =
     let all : t ≡ b ∷ bs = p ∙ ap (λ ys. (b ∷ bs) ++ ys) end ∙ append-nil (b ∷ bs) in
-    let left : next.ahead ++ xs ≡ [] = rw (none, end) refl in
+    let left : ahead ++ xs ≡ [] = rw (none, end) refl in
     ap lines all ∙ lines_last b bs unfed ∙ ap (λ ys. (b ∷ bs) ∷ lines ys) (sym left)
 
 pub takes_none : (old now : Option (List ℕ)) (line : List ℕ) → Consumes old now line → IsAtEnd now → (length line == 0) ≡ true → HasNoLine old
@@ -178,11 +178,44 @@ some_left seen ahead feed count is found counted some =
 
 -- ---- a line feed is met, and more is moved
 
-pub took : (some : Bool) (old new : BufferParts) (before now : Option (List ℕ)) → some ≡ true → MovesFront (Ok some) old new
-    → Consumes before now (old.line ++ old.ahead) → TakesLine new.line before (to_come new now)
-took some old new before now is moved p =
-    let m : MovesFront (Ok true) old new = rw is at moved in
-    takes_line before now (old.line ++ old.ahead) new.line new p m.0.unfed m.1
+took : (some : Bool) (front ahead line left : List ℕ) (before now : Option (List ℕ)) → some ≡ true → MovesFront (Ok some) front ahead line left
+    → Consumes before now (front ++ ahead) → TakesLine line before (prepend_known left now)
+took some front ahead line left before now is moved p =
+    let m : MovesFront (Ok true) front ahead line left = rw is at moved in
+    takes_line before now (front ++ ahead) line left p m.0.unfed m.1
+
+-- what was moved is the line, and nothing of the next one has come
+pub took_swapped : (some : Bool) (front ahead line left x y : List ℕ) (before now : Option (List ℕ)) → some ≡ true → MovesFront (Ok some) front ahead line left
+    → Consumes before now (front ++ ahead) → x ≡ line → y ≡ [] → TakesLine x before (prepend_known (y ++ left) now)
+took_swapped some front ahead line left x y before now is moved p ex ey = rw (ex, ey) (took some front ahead line left before now is moved p)
+
+-- no line feed is met, and all is moved
+pub moved_all : (some : Bool) (front ahead line left : List ℕ) → some ≡ false → MovesFront (Ok some) front ahead line left
+    → IsFront line × (left ≡ []) × (front ++ ahead ≡ line)
+moved_all some front ahead line left is moved =
+    let m : MovesFront (Ok false) front ahead line left = rw is at moved in m
+
+-- nothing is taken
+pub stays : (old next : Option (List ℕ)) (front left : List ℕ) → Consumes old next front → left ≡ front → Keeps old (prepend_known left next)
+stays None next front left p is = tt
+stays (Some t) None front left p is = absurd p
+stays (Some t) (Some xs) front left p is = ap (λ ys. ys ++ xs) is ∙ sym p
+
+pub kept_behind : (old now next : Option (List ℕ)) (front : List ℕ) → Consumes old now front → Keeps now next → Consumes old next front
+kept_behind None now next front p q = tt
+kept_behind (Some t) None next front p q = absurd p
+kept_behind (Some t) (Some xs) None front p q = absurd q
+kept_behind (Some t) (Some xs) (Some ys) front p q = p ∙ ap (λ zs. front ++ zs) (sym q)
+
+pub same_front : (old now : Option (List ℕ)) (front line : List ℕ) → Consumes old now front → front ≡ line → Consumes old now line
+same_front old now front line p is = subst (Consumes old now) is p
+
+pub moved_behind : (front ahead line left : List ℕ) → left ≡ [] → front ++ ahead ≡ line → line ++ left ≡ front ++ ahead
+moved_behind front ahead line left none all = ap (λ xs. line ++ xs) none ∙ append-nil line ∙ sym all
+
+pub at_fault : {T : Type 0} {P : Type 0} (r : Result T LineFault) → P → OnErr r P
+at_fault (Ok v) p = tt
+at_fault (Err e) p = p
 
 pub drop_all_behind : (bytes ahead : List ℕ) (start : ℕ) {count : ℕ} → drop start bytes ≡ ahead → length ahead ≤ count → drop (start + count) bytes ≡ []
 drop_all_behind bytes ahead start {count} is all =
@@ -196,22 +229,29 @@ fed_behind line ahead bytes moved start count cuts less is items =
     ap (λ xs. line ++ xs) (cuts.fed less) ∙ sym (append_assoc line (take count ahead) (10 ∷ drop (suc count) ahead))
     ∙ ap (λ xs. xs ++ 10 ∷ drop (suc count) ahead) (sym items) ∙ ap (λ xs. moved ++ 10 ∷ xs) behind
 
-pub took_last : (old now next : Option (List ℕ)) (line : List ℕ) (new : BufferParts) → Consumes old now line → Consumes now next new.ahead
-    → new.ahead ≡ [] → IsAtEnd now → has_feed line ≡ false → new.line ≡ line → (length new.line == 0) ≡ false
-    → TakesLine new.line old (to_come new next)
-took_last None now next line new p q none end unfed same some = tt
-took_last (Some t) None next line new p q none end unfed same some = absurd p
-took_last (Some t) (Some xs) None line new p q none end unfed same some = absurd q
-took_last (Some t) (Some xs) (Some ys) line new p q none end unfed same some =
-    let left : ys ≡ [] = sym (q ∙ ap (λ zs. zs ++ ys) none) ∙ end in
+took_last : (old now next : Option (List ℕ)) (line more left : List ℕ) → Consumes old now line → Consumes now next more
+    → more ≡ [] → IsAtEnd now → has_feed line ≡ false → (length line == 0) ≡ false → left ≡ []
+    → TakesLine line old (prepend_known left next)
+took_last None now next line more left p q none end unfed some empty = tt
+took_last (Some t) None next line more left p q none end unfed some empty = absurd p
+took_last (Some t) (Some xs) None line more left p q none end unfed some empty = absurd q
+took_last (Some t) (Some xs) (Some ys) line more left p q none end unfed some empty =
+    let over : ys ≡ [] = sym (q ∙ ap (λ zs. zs ++ ys) none) ∙ end in
     let all : t ≡ line ++ ys = p ∙ ap (λ zs. line ++ zs) (q ∙ ap (λ zs. zs ++ ys) none) in
-    takes_last (Some t) (Some ys) new.line new (all ∙ ap (λ zs. zs ++ ys) (sym same)) left (rw same unfed) some none
+    takes_last (Some t) (Some ys) line left all over unfed some empty
+
+pub took_last_swapped : (old now next : Option (List ℕ)) (line more x y : List ℕ) → Consumes old now line → Consumes now next more
+    → more ≡ [] → IsAtEnd now → has_feed line ≡ false → x ≡ line → y ≡ [] → (length x == 0) ≡ false
+    → TakesLine x old (prepend_known (y ++ more) next)
+took_last_swapped old now next line more x y p q none end unfed ex ey some =
+    let filled : (length line == 0) ≡ false = ap (λ xs. length xs == 0) (sym ex) ∙ some in
+    rw (ex, ey) (took_last old now next line more more p q none end unfed filled none)
 
 abbrev said : Bool → Result Bool LineFault
 said b = Ok b
 
-pub some_byte : (r : Bool) (seen line : List ℕ) → said (not r) ≡ said true → r ≡ (length seen == 0) → seen ≡ line
+pub some_byte : (r : Bool) (len : ℕ) (line : List ℕ) → said (not r) ≡ said true → r ≡ (len == 0) → len ≡ length line
     → (length line == 0) ≡ false
-some_byte r seen line is empty same =
+some_byte r len line is empty same =
     let yes : not r ≡ true = cc in
-    ap (λ xs. length xs == 0) (sym same) ∙ sym empty ∙ not-true r yes
+    ap (λ n. n == 0) (sym same) ∙ sym empty ∙ not-true r yes

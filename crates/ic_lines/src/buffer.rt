@@ -1,6 +1,7 @@
-ghost use Rattle.std.specs.Prelude.{◌≡◌, ◌≢◌, ◌≤◌, ◌==◌, ◌++◌, [], false, true, length, Ok, Err, IfSome, OnOk, IsOk, IsErr, position};
+//! Lines that are taken from a reader, one at a time.
+
+ghost use Rattle.std.specs.Prelude.{◌≡◌, ◌≢◌, ◌≤◌, ◌==◌, ◌++◌, [], false, true, length, Ok, Err, OnOk, OnErr, position};
 ghost use Rattle.std.specs.Io.KnownBytes.{Consumes, IsAtEnd, Keeps};
-ghost use Rattle.ic_lines.specs.Lines.{has_feed};
 ghost use Rattle.ic_lines.specs.Taking.{to_come, TakesLine, HasNoLine, HasLongLine};
 ghost use Rattle.ic_lines.specs.declared.buffer.LineFault.TheVariants.{LongLine};
 
@@ -8,6 +9,7 @@ use ic_text::MAX_TEXT;
 use std::alloc::{AllocError, Global};
 use std::io::{ErrorKind, Read, Write};
 use std::marker::Model;
+use std::mem::swap;
 
 /// How many bytes are read at a time.
 const CHUNK: usize = 8_192;
@@ -35,32 +37,117 @@ impl From<AllocError> for LineFault {
     }
 }
 
-/// Lines from a reader, one at a time: the line that was taken last, and what was read and not yet
-/// taken. It keeps the allocator that it was made with.
+/// Bytes that were read and not yet taken.
 #[derive(Drop)]
-pub struct LineBuffer {
-    line: Vec<u8>,
+struct Ahead {
     bytes: Vec<u8>,
     // What stands ahead begins here.
     start: usize,
 }
 
+impl Model for Ahead {
+    ghost use Rattle.std.specs.Prelude.{◌≤◌, ℕ, List, drop, length};
+    ghost use Rattle.std.specs.Coded.{coded_ℕ, coded_list};
+
+    ghost Value = { List ℕ };
+
+    ghost coded = { coded_list coded_ℕ };
+
+    ghost view = { λ a. drop a.start a.bytes.items };
+
+    ghost invariant = { λ a. a.start ≤ length a.bytes.items };
+}
+
+impl Ahead {
+    ghost use Rattle.ic_lines.specs.inner.Front.{IsFront, MovesFront, IsLongFront};
+
+    fn new(alloc: Global) -> Ahead
+        ensures { result ≡ [] }
+    {
+        Ahead {
+            bytes: Vec::new(alloc),
+            start: 0,
+        }
+    }
+
+    /// Moves what stands ahead, up to the first line feed, to the end of a line. Whether there was a line feed, which
+    /// is taken away.
+    fn move_line(&mut self, line: &mut Vec<u8>) -> Result<bool, LineFault>
+        requires { IsFront line.old.items }
+        ensures moved { MovesFront result line.old.items self.old line.new.items self.new }
+        ensures long { result ≡ Err LongLine → IsLongFront (line.old.items ++ self.old) }
+    {
+        let room = MAX_TEXT - line.len();
+        let ahead = &self.bytes[self.start..];
+        let feed = place_of_feed(ahead);
+        let count = feed.unwrap_or(ahead.len());
+        if count > room {
+            return Err(LineFault::LongLine);
+        }
+        line.extend_from_slice(&ahead[..count])?;
+        self.start += count;
+        if feed.is_none() {
+            return Ok(false);
+        }
+        self.start += 1;
+        Ok(true)
+    }
+
+    /// Reads what comes next, where nothing stands ahead. Whether anything came. The memory for it is taken first, so
+    /// that nothing that was read is lost.
+    fn fill<R: Read>(&mut self, reader: &mut R) -> Result<bool, LineFault>
+        requires { self.old ≡ [] }
+        ensures bytes { OnOk result
+            (Consumes (R.remaining reader.old) (R.remaining reader.new) self.new) }
+        ensures end { result ≡ Ok false → IsAtEnd (R.remaining reader.old) }
+        ensures none { result ≢ Ok true → self.new ≡ [] }
+        ensures fault { OnErr result (Keeps (R.remaining reader.old) (R.remaining reader.new)) }
+        ensures short { result ≢ Err LongLine }
+    {
+        self.bytes.clear();
+        self.start = 0;
+        self.bytes.reserve(CHUNK)?;
+        let mut chunk = [0u8; CHUNK];
+        for _ in 0..u64::MAX {
+            match reader.read(&mut chunk) {
+                Ok(0) => return Ok(false),
+                Ok(count) => {
+                    self.bytes.extend_from_slice(&chunk[..count])?;
+                    return Ok(true);
+                }
+                Err(error) if error.kind() == ErrorKind::Interrupted => {}
+                Err(_) => return Err(LineFault::Read),
+            }
+        }
+        Err(LineFault::Read)
+    }
+}
+
+/// Lines from a reader, one at a time: the line that was taken last, and what was read and not yet taken. What had
+/// come of a line when a call failed is still to come. It keeps the allocator that it was made with.
+#[derive(Drop)]
+pub struct LineBuffer {
+    line: Vec<u8>,
+    // What has come of the next line, without its end.
+    front: Vec<u8>,
+    ahead: Ahead,
+}
+
 impl Model for LineBuffer {
-    ghost use Rattle.std.specs.Prelude.{◌≤◌, drop, length};
+    ghost use Rattle.std.specs.Prelude.{◌++◌};
     ghost use Rattle.ic_lines.specs.Taking.{BufferParts, coded_buffer};
+    ghost use Rattle.ic_lines.specs.inner.Front.{IsFront};
 
     ghost Value = { BufferParts };
 
     ghost coded = { coded_buffer };
 
-    ghost view = { λ b. record { line = b.line.items; ahead = drop b.start b.bytes.items } };
+    ghost view = { λ b. record { line = b.line.items; ahead = b.front.items ++ b.ahead } };
 
-    ghost invariant = { λ b. b.start ≤ length b.bytes.items };
+    ghost invariant = { λ b. IsFront b.front.items };
 }
 
 impl LineBuffer {
-    ghost use Rattle.ic_lines.specs.inner.Front.{IsFront, MovesFront, IsLongFront};
-
     /// An empty buffer. Later calls take their memory from the allocator.
     pub fn new(alloc: Global) -> LineBuffer
         ensures line { result.line ≡ [] }
@@ -68,20 +155,20 @@ impl LineBuffer {
     {
         LineBuffer {
             line: Vec::new(alloc),
-            bytes: Vec::new(alloc),
-            start: 0,
+            front: Vec::new(alloc),
+            ahead: Ahead::new(alloc),
         }
     }
 
-    /// The line that was taken last, without its line feed.
+    /// The line that was taken last, without its line feed, or no byte where the last call took none.
     pub fn line(&self) -> &[u8]
         ensures { result.now ≡ self.now.line }
     {
         self.line.as_slice()
     }
 
-    /// Takes the next line, where there is one. Before the reader is asked for more, the writer is
-    /// flushed; a line that was read already is taken without.
+    /// Takes the next line, where there is one. Before the reader is asked for more, the writer is flushed; a line that
+    /// was read already is taken without. A fault takes nothing, so the call can be made again.
     pub fn take_line<R: Read, W: Write>(
         &mut self,
         reader: &mut R,
@@ -94,69 +181,21 @@ impl LineBuffer {
         ensures end { result ≡ Ok false → HasNoLine (to_come self.old (R.remaining reader.old)) }
         ensures long { result ≡ Err LongLine
             → HasLongLine (to_come self.old (R.remaining reader.old)) }
+        ensures fault { OnErr result (Keeps (to_come self.old (R.remaining reader.old))
+            (to_come self.new (R.remaining reader.new))) }
+        ensures none { result ≢ Ok true → self.new.line ≡ [] }
         ensures kept { Keeps (W.contents writer.old) (W.contents writer.new) }
     {
         self.line.clear();
-        if self.take_ahead()? {
-            return Ok(true);
-        }
-        writer.flush().map_err(|_| LineFault::Write)?;
         for _ in 0..u64::MAX {
-            if !self.fill(reader)? {
-                return Ok(!self.line().is_empty());
-            }
-            if self.take_ahead()? {
+            if self.ahead.move_line(&mut self.front)? {
+                swap(&mut self.line, &mut self.front);
                 return Ok(true);
             }
-        }
-        Err(LineFault::Read)
-    }
-
-    /// Moves what stands ahead, up to the first line feed, to the end of the line. Whether there
-    /// was a line feed.
-    fn take_ahead(&mut self) -> Result<bool, LineFault>
-        requires { IsFront self.old.line }
-        ensures moved { MovesFront result self.old self.new }
-        ensures long { result ≡ Err LongLine → IsLongFront (self.old.line ++ self.old.ahead) }
-    {
-        let room = MAX_TEXT - self.line().len();
-        let ahead = &self.bytes[self.start..];
-        let feed = place_of_feed(ahead);
-        let count = feed.unwrap_or(ahead.len());
-        if count > room {
-            return Err(LineFault::LongLine);
-        }
-        self.line.extend_from_slice(&ahead[..count])?;
-        self.start += count;
-        if feed.is_none() {
-            return Ok(false);
-        }
-        self.start += 1;
-        Ok(true)
-    }
-
-    /// Reads what comes next, where nothing stands ahead. Whether anything came.
-    fn fill<R: Read>(&mut self, reader: &mut R) -> Result<bool, LineFault>
-        requires { self.old.ahead ≡ [] }
-        ensures line { self.new.line ≡ self.old.line }
-        ensures bytes { OnOk result
-            (Consumes (R.remaining reader.old) (R.remaining reader.new) self.new.ahead) }
-        ensures end { result ≡ Ok false → IsAtEnd (R.remaining reader.old) }
-        ensures none { result ≡ Ok false → self.new.ahead ≡ [] }
-        ensures fault { result ≢ Err LongLine }
-    {
-        self.bytes.clear();
-        self.start = 0;
-        let mut chunk = [0u8; CHUNK];
-        for _ in 0..u64::MAX {
-            match reader.read(&mut chunk) {
-                Ok(0) => return Ok(false),
-                Ok(count) => {
-                    self.bytes.extend_from_slice(&chunk[..count])?;
-                    return Ok(true);
-                }
-                Err(error) if error.kind() == ErrorKind::Interrupted => {}
-                Err(_) => return Err(LineFault::Read),
+            writer.flush().map_err(|_| LineFault::Write)?;
+            if !self.ahead.fill(reader)? {
+                swap(&mut self.line, &mut self.front);
+                return Ok(!self.line.is_empty());
             }
         }
         Err(LineFault::Read)

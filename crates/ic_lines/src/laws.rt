@@ -1,30 +1,25 @@
 //! Laws of the definitions that the contracts of this crate and of those above cite.
 
-ghost use Rattle.std.specs.Prelude.{◌≡◌, ◌↔◌, ◌+◌, ◌<◌, ◌≤◌, ℕ, List, [], ◌∷◌, ◌++◌, Option, Result, Ok, Err, None, Some, false, true, length, map, take, codes};
+ghost use Rattle.std.specs.Prelude.{◌≡◌, ◌↔◌, ◌+◌, ◌<◌, ◌≤◌, ℕ, List, [], ◌∷◌, ◌++◌, Option, Result, Ok, Err, None, Some, false, true, length, map, take};
 ghost use Rattle.std.specs.List.{flat_map, list_all, AllByRecursion};
-ghost use Rattle.std.specs.Fmt.{decimal};
 ghost use Rattle.ic_pool.specs.Flight.{FlightParts};
 ghost use Rattle.ic_jobs.specs.declared.command.Command.{Command};
 ghost use Rattle.ic_jobs.specs.declared.event.Event.{Event};
-ghost use Rattle.ic_jobs.specs.declared.event.Event.TheVariants.{Round, Command as by_command};
+ghost use Rattle.ic_jobs.specs.declared.event.Event.TheVariants.{Round};
 ghost use Rattle.ic_jobs.specs.declared.event.Entry.{Entry};
 ghost use Rattle.ic_jobs.specs.Job.{JobParts};
 ghost use Rattle.ic_jobs.specs.Table.{IsTable};
-ghost use Rattle.ic_jobs.specs.Events.{Outcome, apply};
 ghost use Rattle.ic_jobs.specs.History.{table_after, replay, IsLegal};
 ghost use Rattle.ic_jobs.specs.Landing.{due};
 ghost use Rattle.ic_jobs.specs.Turns.{RunsAt};
 ghost use Rattle.ic_text.specs.declared.fault.TextFault.{TextFault};
 ghost use Rattle.ic_text.specs.declared.limits.TheConstants.{MAX_TEXT};
-ghost use Rattle.ic_commands.specs.declared.line.Line.TheVariants.{Blank, Command as Asks, Run};
 ghost use Rattle.ic_commands.specs.LineText.{ReadsLine};
-ghost use Rattle.ic_commands.specs.ReplyText.{reply_text};
-ghost use Rattle.ic_text.specs.Text.{fault_text};
 ghost use Rattle.ic_text.specs.Token.{is_blank};
 ghost use Rattle.ic_lines.specs.Lines.{has_feed, ended, lines};
 ghost use Rattle.ic_lines.specs.Turns.{turns, after_events};
 ghost use Rattle.ic_lines.specs.Answers.{Reading, after, out};
-ghost use Rattle.ic_lines.specs.Serving.{IsServed};
+ghost use Rattle.ic_lines.specs.Serving.{IsLineAnswered, IsServed};
 ghost use Rattle.std.specs.List.{filter_map};
 ghost use Rattle.ic_text.specs.declared.fault.TextFault.TheVariants.{Limit, Memory};
 ghost use Rattle.ic_commands.specs.ScriptSense.{ReadsScriptLine};
@@ -79,15 +74,8 @@ pub fn lines_are_served_in_one_way()
 pub fn each_line_is_answered()
     ensures blank { (t : List JobParts) (line : List ℕ) → length line ≤ MAX_TEXT
         → list_all is_blank line ≡ true → IsServed t (line ∷ []) [] t }
-    ensures refused { (t : List JobParts) (line : List ℕ) (fault : TextFault)
-        → ReadsLine line (Err fault) → IsServed t (line ∷ []) (ended (fault_text fault)) t }
-    ensures command { (t : List JobParts) (line : List ℕ) (c : Command) (o : Outcome)
-        → ReadsLine line (Ok (Asks c)) → apply t (by_command c) ≡ Some o
-        → IsServed t (line ∷ []) (ended (reply_text o.reply)) o.table }
-    ensures run { (t : List JobParts) (line : List ℕ) (k n : ℕ)
-        → ReadsLine line (Ok (Run k)) → length (turns k 0 t) ≡ n
-        → IsServed t (line ∷ []) (ended (codes "ran " ++ decimal n))
-        (after_events t (turns k 0 t)) }
+    ensures each { (t left : List JobParts) (line answers : List ℕ) (r : Reading)
+        → ReadsLine line r → IsLineAnswered t r answers left → IsServed t (line ∷ []) answers left }
 {
     ic_commands::laws::commands_ask();
 }

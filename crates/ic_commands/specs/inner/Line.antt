@@ -8,7 +8,8 @@ use Rattle.ic_commands.specs.declared.line.Verb.TheVariants.{Pause, Resume, Canc
 use Rattle.ic_text.specs.declared.fault.TextFault.{TextFault}
 use Rattle.ic_text.specs.declared.fault.TextFault.TheVariants.{Syntax}
 use Rattle.ic_text.specs.Token.{Token, word, mark, word_of, before, tokens}
-use Rattle.ic_commands.specs.LineSource.{LinePhrase, IsLine, verb_text, line_words}
+use Rattle.ic_text.specs.SystemSource.{SystemPhrase}
+use Rattle.ic_commands.specs.LineSource.{LinePhrase, submit, IsLine, verb_text, line_words}
 use Rattle.ic_commands.specs.LineSense.{line_sense}
 
 -- no word stands at the front of a text with these tokens, and it has none only where it is empty
@@ -49,6 +50,10 @@ opening_of w = find (λ o. bytes_eq w (opening_text o)) openings
 pub record IsLineOf (o : Option (List Token)) (answer : Result Line TextFault) : Type 0 where
   pub spelled : (p : LinePhrase) → IsLine p → o ≡ Some (line_words p) → answer ≡ line_sense p
   pub malformed : ((p : LinePhrase) → IsLine p → o ≡ Some (line_words p) → ⊥) → answer ≡ Err Syntax
+
+-- these tokens are those of the submit of some job
+abbrev pub IsSubmitLine : Option (List Token) → Type 0
+IsSubmitLine o = (name : List ℕ) × (s : SystemPhrase) × IsLine (submit name s) × (o ≡ Some (line_words (submit name s)))
 
 -- what the text behind the first word makes of a line
 abbrev pub ReadsBehind : Opening → List ℕ → Result Line TextFault → Type 0

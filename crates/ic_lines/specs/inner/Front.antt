@@ -3,19 +3,19 @@ use Rattle.std.specs.Prelude.{◌≡◌, ℕ, ◌<◌, ◌≤◌, List, [], ◌�
 use Rattle.ic_text.specs.declared.limits.TheConstants.{MAX_TEXT}
 use Rattle.ic_lines.specs.declared.buffer.LineFault.{LineFault}
 use Rattle.ic_lines.specs.Lines.{has_feed}
-use Rattle.ic_lines.specs.Taking.{BufferParts}
 
 -- it has no line feed and is no longer than a line may be
 pub record IsFront (front : List ℕ) : Type 0 where
   pub unfed : has_feed front ≡ false
   pub short : length front ≤ MAX_TEXT
 
--- bytes from ahead are moved to the line up to a line feed, which is taken away, or all of them
-abbrev pub MovesFront : Result Bool LineFault → BufferParts → BufferParts → Type 0
-MovesFront (Ok true) old new = IsFront new.line × (old.line ++ old.ahead ≡ new.line ++ 10 ∷ new.ahead)
-MovesFront (Ok false) old new =
-    IsFront new.line × (new.ahead ≡ []) × (old.line ++ old.ahead ≡ new.line)
-MovesFront (Err fault) old new = Unit {0}
+-- bytes from ahead are moved to a line up to a line feed, which is taken away, or all of them, or none at a fault
+abbrev pub MovesFront : Result Bool LineFault → List ℕ → List ℕ → List ℕ → List ℕ → Type 0
+MovesFront (Ok true) line ahead line' ahead' =
+    IsFront line' × (line ++ ahead ≡ line' ++ 10 ∷ ahead')
+MovesFront (Ok false) line ahead line' ahead' =
+    IsFront line' × (ahead' ≡ []) × (line ++ ahead ≡ line')
+MovesFront (Err fault) line ahead line' ahead' = (line' ≡ line) × (ahead' ≡ ahead)
 
 -- more bytes than a line may have stand before the first line feed
 pub record IsLongFront (bytes : List ℕ) : Type 0 where

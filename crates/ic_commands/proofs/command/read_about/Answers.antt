@@ -1,17 +1,17 @@
 use Rattle.std.proofs.Common.{◌≡◌, IsTrue, refl, sym, ◌∙◌, ap, subst, Ok, true}
 use Rattle.std.proofs.lemmas.Bool.{false≢true}
-use Rattle.ic_rules.specs.JobName.{is_job_name}
+use Rattle.ic_rules.specs.JobName.{is_job_name, is_job_word}
 use Rattle.ic_commands.specs.declared.line.Line.TheVariants.{Command as Asks}
 use Rattle.ic_commands.specs.declared.line.Opening.TheVariants as opening
-use Rattle.ic_commands.specs.LineSource.{about, is_job_word}
+use Rattle.ic_commands.specs.LineSource.{about}
 use Rattle.ic_commands.specs.LineSense.{asked}
 use Rattle.ic_commands.specs.inner.Line.{ReadsBehind}
 use Rattle.ic_commands.proofs.LineReading.{is_sense_behind}
 use Rattle.ic_commands.proofs.LineParts.{short_name, long_name}
 use Rattle.ic_commands.proofs.command.read_about.Goals as goal
 
-pub returns-in-Some-new : goal.returns-in-Some-new
-returns-in-Some-new c =
+pub returns-in-Some-new-clause-line : goal.returns-in-Some-new-clause-line
+returns-in-Some-new-clause-line c =
     let word = c.in-Some.word.now in
     let verb = c.args.verb in
     let named : is_job_word word ≡ true = sym c.is_job_word.ensures ∙ c.if-not-is_job_word.false in
@@ -20,8 +20,8 @@ returns-in-Some-new c =
     subst (ReadsBehind (opening.About verb) c.args.rest.now) (short_name word (Ok (Asks (asked verb word))) short ∙ ap (λ x. Ok (Asks x)) (sym asks))
     (is_sense_behind (opening.About verb) c.args.rest.now _ (about verb word) tt named c.in-Some.ensures.one refl)
 
-pub returns-in-None : goal.returns-in-None
-returns-in-None c =
+pub returns-in-None-clause-line : goal.returns-in-None-clause-line
+returns-in-None-clause-line c =
     let word = c.in-Some.word.now in
     let verb = c.args.verb in
     let named : is_job_word word ≡ true = sym c.is_job_word.ensures ∙ c.if-not-is_job_word.false in

@@ -5,5 +5,5 @@ use Rattle.ic_commands.proofs.LineReading.{is_sense_behind}
 use Rattle.ic_commands.proofs.LineParts.{nothing_is}
 use Rattle.ic_commands.proofs.command.read_list.Goals as goal
 
-pub returns-then-is_nothing : goal.returns-then-is_nothing
-returns-then-is_nothing c = is_sense_behind opening.List c.args.rest.now _ list tt tt (nothing_is _ (sym c.is_nothing.ensures ∙ c.if-is_nothing.true)) refl
+pub returns-then-is_nothing-clause-line : goal.returns-then-is_nothing-clause-line
+returns-then-is_nothing-clause-line c = is_sense_behind opening.List c.args.rest.now _ list tt tt (nothing_is _ (sym c.is_nothing.ensures ∙ c.if-is_nothing.true)) refl

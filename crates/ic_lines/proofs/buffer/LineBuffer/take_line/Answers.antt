@@ -1,39 +1,50 @@
-use Rattle.std.proofs.Common.{◌≡◌, ◌==◌, length, ◌++◌, ◌∙◌, false, Ok, Err, drop, ap}
-use Rattle.ic_lines.specs.Taking.{BufferParts}
-use Rattle.ic_lines.proofs.TakingLemmas.{begun_first, begun_more, has_long, took, took_last, some_byte, fault_is}
+use Rattle.std.proofs.Common.{◌≡◌, ◌==◌, length, ◌++◌, ◌∙◌, false, true, [], Ok, Err, ap, sym, refl}
+use Rattle.std.proofs.lemmas.Bool.{false≢true}
+use Rattle.ic_lines.proofs.TakingLemmas.{has_long, took_swapped, took_last_swapped, moved_all, moved_behind, stays, same_front, kept_behind, at_fault, some_byte, fault_is}
 use Rattle.ic_lines.proofs.buffer.LineBuffer.take_line.Goals as goal
 
-pub returns-in_err-take_ahead-clause-long : goal.returns-in_err-take_ahead-clause-long
-returns-in_err-take_ahead-clause-long g c = λ is.
+pub returns-in_err-move_line-clause-long : goal.returns-in_err-move_line-clause-long
+returns-in_err-move_line-clause-long g c = λ is.
     let fault = fault_is c.from_residual.result _ c.from_residual.ensures.1 is in
-    let ahead : drop c.self.inside.start c.self.inside.bytes.items ≡ c.args.self.now.ahead = ap (λ (b : BufferParts). b.ahead) c.self.view_is in
-    let front : c.clear.new.self.items ++ drop c.self.inside.start c.self.inside.bytes.items ≡ c.args.self.now.ahead =
-    ap (λ xs. xs ++ drop c.self.inside.start c.self.inside.bytes.items) c.clear.ensures.items ∙ ahead in
-    has_long _ _ _ (begun_first c.args.self.now (g.R.Read.remaining c.args.reader.now) _ front) (c.in_err-take_ahead.ensures.long (ap (λ e. Err e) fault))
+    has_long _ _ _ c.loop.invariant.begun (c.in_err-move_line.ensures.long (ap (λ e. Err e) fault))
 
 pub returns-then-branch-clause-taken : goal.returns-then-branch-clause-taken
 returns-then-branch-clause-taken g c = λ is.
-    let ahead : drop c.self.inside.start c.self.inside.bytes.items ≡ c.args.self.now.ahead = ap (λ (b : BufferParts). b.ahead) c.self.view_is in
-    let front : c.clear.new.self.items ++ drop c.self.inside.start c.self.inside.bytes.items ≡ c.args.self.now.ahead =
-    ap (λ xs. xs ++ drop c.self.inside.start c.self.inside.bytes.items) c.clear.ensures.items ∙ ahead in
-    took _ _ _ _ _ c.if-branch.true c.in_ok-take_ahead.ensures.moved (begun_first c.args.self.now (g.R.Read.remaining c.args.reader.now) _ front)
+    let line : c.swap.new.x.items ≡ c.move_line.new.line.items = rw c.swap.ensures.x_after refl in
+    let empty : c.swap.new.y.items ≡ [] = rw c.swap.ensures.y_after c.loop.invariant.empty in
+    took_swapped c.in_ok-move_line.field-0 c.loop.self-inside.front.items c.loop.self-inside.ahead c.move_line.new.line.items c.move_line.new.self
+    c.swap.new.x.items c.swap.new.y.items _ _ c.if-branch.true c.in_ok-move_line.ensures.moved c.loop.invariant.begun line empty
+
+pub returns-in_err-map_err-clause-fault : goal.returns-in_err-map_err-clause-fault
+returns-in_err-map_err-clause-fault g c =
+    let front = c.loop.self-inside.front.items in
+    let ahead = c.loop.self-inside.ahead in
+    let line = c.move_line.new.line.items in
+    let moved = moved_all c.in_ok-move_line.field-0 front ahead line c.move_line.new.self c.if-branch.false c.in_ok-move_line.ensures.moved in
+    at_fault c.from_residual-in_err-map_err.result
+    (stays _ _ (front ++ ahead) (line ++ c.move_line.new.self) c.loop.invariant.begun (moved_behind front ahead line c.move_line.new.self moved.1 moved.2))
+
+pub returns-in_err-fill-clause-fault : goal.returns-in_err-fill-clause-fault
+returns-in_err-fill-clause-fault g c =
+    let front = c.loop.self-inside.front.items in
+    let ahead = c.loop.self-inside.ahead in
+    let line = c.move_line.new.line.items in
+    let moved = moved_all c.in_ok-move_line.field-0 front ahead line c.move_line.new.self c.if-branch.false c.in_ok-move_line.ensures.moved in
+    let none : c.fill.new.self ≡ [] = c.in_err-fill.ensures.none (λ e. cc) in
+    let begun = kept_behind _ _ (g.R.Read.remaining c.fill.new.reader) (front ++ ahead) c.loop.invariant.begun c.in_err-fill.ensures.fault in
+    at_fault c.from_residual-in_err-fill.result (stays _ _ (front ++ ahead) (line ++ c.fill.new.self) begun (moved_behind front ahead line c.fill.new.self none moved.2))
 
 pub returns-then-not-branch-clause-taken : goal.returns-then-not-branch-clause-taken
 returns-then-not-branch-clause-taken g c = λ is.
-    let over : Ok c.in_ok-fill.field-0 ≡ Ok false = ap (λ b. Ok b) c.if-not-branch.true in
-    let some : (length c.fill.new.self.line == 0) ≡ false = some_byte c.is_empty.result c.line.result.now c.fill.new.self.line is c.is_empty.ensures c.line.ensures in
-    took_last _ _ _ c.loop.self.line c.fill.new.self c.loop.invariant.begun c.in_ok-fill.ensures.bytes (c.in_ok-fill.ensures.none over)
-    (c.in_ok-fill.ensures.end over) c.loop.invariant.front.unfed c.in_ok-fill.ensures.line some
-
-pub returns-in_err-take_ahead-2-clause-long : goal.returns-in_err-take_ahead-2-clause-long
-returns-in_err-take_ahead-2-clause-long g c = λ is.
-    let fault = fault_is c.from_residual-in_err-take_ahead-2.result _ c.from_residual-in_err-take_ahead-2.ensures.1 is in
-    let begun = begun_more _ _ _ _ _ c.loop.invariant.begun c.in_ok-fill.ensures.bytes in
-    let line : c.fill.new.self.line ≡ c.loop.self.line = c.in_ok-fill.ensures.line in
-    has_long _ _ _ begun (rw (← line) (c.in_err-take_ahead-2.ensures.long (ap (λ e. Err e) fault)))
-
-pub returns-then-branch-2-clause-taken : goal.returns-then-branch-2-clause-taken
-returns-then-branch-2-clause-taken g c = λ is.
-    let begun = begun_more _ _ _ _ _ c.loop.invariant.begun c.in_ok-fill.ensures.bytes in
-    let line : c.fill.new.self.line ≡ c.loop.self.line = c.in_ok-fill.ensures.line in
-    took _ _ _ _ _ c.if-branch-2.true c.in_ok-take_ahead-2.ensures.moved (rw line begun)
+    let front = c.loop.self-inside.front.items in
+    let ahead = c.loop.self-inside.ahead in
+    let line = c.move_line.new.line.items in
+    let x = c.swap-then-not-branch.new.x in
+    let moved = moved_all c.in_ok-move_line.field-0 front ahead line c.move_line.new.self c.if-branch.false c.in_ok-move_line.ensures.moved in
+    let over = ap (λ b. Ok b) c.if-not-branch.true in
+    let none : c.fill.new.self ≡ [] = c.in_ok-fill.ensures.none (λ e. let off = c.if-not-branch.true in let bad : false ≡ true = cc in false≢true bad) in
+    let same : x.items ≡ line = rw c.swap-then-not-branch.ensures.x_after refl in
+    let empty : c.swap-then-not-branch.new.y.items ≡ [] = rw c.swap-then-not-branch.ensures.y_after c.loop.invariant.empty in
+    let some : (length x.items == 0) ≡ false = some_byte c.is_empty.result _ x.items is c.is_empty.ensures x.ok.0 in
+    took_last_swapped _ _ _ line c.fill.new.self x.items c.swap-then-not-branch.new.y.items (same_front _ _ (front ++ ahead) line c.loop.invariant.begun moved.2)
+    c.in_ok-fill.ensures.bytes none (c.in_ok-fill.ensures.end over) moved.0.unfed same empty some

@@ -1,0 +1,84 @@
+-- Lines in their plainest form.
+use Rattle.std.proofs.Common.{◌≡◌, ℕ, List, [], ◌∷◌, ◌++◌, ◌≤◌, Ok, length, refl, sym, ap, subst, arith, append-nil, append_assoc}
+use Rattle.std.specs.Prelude.{codes, map, Contains}
+use Rattle.std.specs.List.{flat_map, join_with_byte}
+use Rattle.ic_jobs.specs.declared.command.Command.{Command}
+use Rattle.ic_jobs.specs.declared.command.Command.TheVariants as command
+use Rattle.ic_jobs.specs.declared.state.State.{State}
+use Rattle.ic_jobs.specs.declared.state.State.TheVariants.{Running, Paused, Done, Halted as halted_state}
+use Rattle.ic_jobs.specs.declared.reply.Refusal.{Refusal}
+use Rattle.ic_jobs.specs.declared.reply.Refusal.TheVariants.{Taken, Full, NoJob, NotRunning, NotPaused}
+use Rattle.ic_jobs.specs.declared.reply.Reply.{Reply}
+use Rattle.ic_jobs.specs.declared.reply.Reply.TheVariants.{Accepted, Okay, Shown, Listed, Refused, Moved, Halted}
+use Rattle.ic_text.specs.Token.{words_among}
+use Rattle.ic_text.specs.declared.limits.TheConstants.{MAX_TEXT}
+use Rattle.ic_commands.specs.declared.line.Line.{Line}
+use Rattle.ic_commands.specs.declared.line.Line.TheVariants.{Blank, Command as Asks, Run}
+use Rattle.ic_commands.specs.declared.line.Verb.{Verb}
+use Rattle.ic_commands.specs.declared.line.Verb.TheVariants.{Pause, Resume, Cancel, Fetch}
+use Rattle.ic_commands.specs.LineSource.{LinePhrase, nothing, submit, about, list, run, line_words}
+use Rattle.ic_commands.specs.LineText.{ReadsLine}
+use Rattle.ic_commands.specs.LinePlain.{AsksPlainly, IsPlainly, phrase_texts}
+use Rattle.ic_commands.specs.ReplyText.{listed_text, listed_word, reply_text, reply_words}
+use Rattle.ic_commands.proofs.LineLaws.{about_text, submit_whole, list_text, run_text, blank_text}
+
+plain_command : (c : Command) (text : List ℕ) → AsksPlainly c text → ReadsLine text (Ok (Asks c))
+plain_command (command.Submit name system) text is =
+    let short = subst (λ t. length t ≤ MAX_TEXT) is.written is.short in
+    subst (λ t. ReadsLine t (Ok (Asks (command.Submit name system)))) (sym is.written) (submit_whole name is.system_text (Ok system) is.named short is.reads)
+plain_command (command.Pause name) text is =
+    subst (λ t. ReadsLine t (Ok (Asks (command.Pause name)))) (sym is.written) (about_text Pause name refl (omega arith) is.named)
+plain_command (command.Resume name) text is =
+    subst (λ t. ReadsLine t (Ok (Asks (command.Resume name)))) (sym is.written) (about_text Resume name refl (omega arith) is.named)
+plain_command (command.Cancel name) text is =
+    subst (λ t. ReadsLine t (Ok (Asks (command.Cancel name)))) (sym is.written) (about_text Cancel name refl (omega arith) is.named)
+plain_command (command.Fetch name) text is =
+    subst (λ t. ReadsLine t (Ok (Asks (command.Fetch name)))) (sym is.written) (about_text Fetch name refl (omega arith) is.named)
+plain_command command.List text is = subst (λ t. ReadsLine t (Ok (Asks command.List))) (sym is) list_text
+
+pub plain_line : (line : Line) (text : List ℕ) → IsPlainly line text → ReadsLine text (Ok line)
+plain_line Blank text is = blank_text text is.0 is.1
+plain_line (Asks c) text is = plain_command c text is
+plain_line (Run n) text is = subst (λ t. ReadsLine t (Ok (Run n))) (sym is.1) (run_text n is.0)
+
+pub phrase_texts_are : (p : LinePhrase) → words_among (line_words p) ≡ phrase_texts p
+phrase_texts_are nothing = refl
+phrase_texts_are (submit name s) = refl
+phrase_texts_are (about verb name) = refl
+phrase_texts_are list = refl
+phrase_texts_are (run digits) = refl
+
+pub all_verbs : (verb : Verb) → Contains (Pause ∷ Resume ∷ Cancel ∷ Fetch ∷ []) verb
+all_verbs Pause = (0, omega arith, refl)
+all_verbs Resume = (1, omega arith, refl)
+all_verbs Cancel = (2, omega arith, refl)
+all_verbs Fetch = (3, omega arith, refl)
+
+-- ---- answers
+
+pub all_states : (s : State) → Contains (Running ∷ Paused ∷ Done ∷ halted_state ∷ []) s
+all_states Running = (0, omega arith, refl)
+all_states Paused = (1, omega arith, refl)
+all_states Done = (2, omega arith, refl)
+all_states halted_state = (3, omega arith, refl)
+
+pub all_refusals : (r : Refusal) → Contains (Taken ∷ Full ∷ NoJob ∷ NotRunning ∷ NotPaused ∷ []) r
+all_refusals Taken = (0, omega arith, refl)
+all_refusals Full = (1, omega arith, refl)
+all_refusals NoJob = (2, omega arith, refl)
+all_refusals NotRunning = (3, omega arith, refl)
+all_refusals NotPaused = (4, omega arith, refl)
+
+-- words of jobs behind a word
+listed_joined : (first : List ℕ) (js : List (List ℕ × State × ℕ)) → first ++ flat_map listed_text js ≡ join_with_byte 32 (first ∷ map listed_word js)
+listed_joined first [] = append-nil first
+listed_joined first (j ∷ js) = ap (λ x. first ++ 32 ∷ x) (listed_joined (listed_word j) js)
+
+pub reply_joined : (r : Reply) → reply_text r ≡ join_with_byte 32 (reply_words r)
+reply_joined Accepted = refl
+reply_joined Okay = refl
+reply_joined (Shown job) = simp append_assoc
+reply_joined (Listed jobs) = listed_joined (codes "jobs") jobs
+reply_joined (Refused refusal) = refl
+reply_joined Moved = refl
+reply_joined Halted = refl
