@@ -14,10 +14,10 @@ use Rattle.ic_rules.specs.RuleSet.{IsRuleOver}
 use Rattle.ic_rules.specs.lemmas.FitLaws.{first_unfit-None}
 use Rattle.ic_jobs.specs.declared.state.State.{State}
 use Rattle.ic_jobs.specs.declared.state.State.TheVariants.{Running, Paused, Done, Halted}
-use Rattle.ic_codec.specs.Headings.{state_byte, heading_bytes, heading_of}
+use Rattle.ic_codec.specs.Form.{form_head, state_byte, heading_bytes, heading_of}
 use Rattle.ic_jobs.specs.Job.{JobParts, IsJob}
 use Rattle.ic_jobs.specs.Table.{IsTable}
-use Rattle.ic_codec.specs.declared.headings.Heading.{Heading}
+use Rattle.ic_codec.specs.declared.form.Heading.{Heading}
 use Rattle.ic_codec.specs.Numbers.{two_bytes, eight_bytes}
 use Rattle.ic_codec.specs.Texts.{text_bytes}
 use Rattle.ic_codec.specs.Terms.{tree_bytes, trees_bytes, pair_bytes}
@@ -25,7 +25,7 @@ use Rattle.ic_codec.specs.Symbols.{symbol_bytes, symbols_bytes}
 use Rattle.ic_codec.specs.Rules.{rule_bytes, rules_bytes}
 use Rattle.ic_codec.specs.Configurations.{configuration_bytes}
 use Rattle.ic_codec.specs.Jobs.{job_bytes}
-use Rattle.ic_codec.specs.Tables.{form_head, table_bytes}
+use Rattle.ic_codec.specs.Tables.{table_bytes}
 use Rattle.ic_codec.specs.inner.Room.{AreBytes}
 use Rattle.ic_codec.proofs.Appending.{bytes_both}
 use Rattle.ic_codec.proofs.Sizes.{small_symbol, short_name}

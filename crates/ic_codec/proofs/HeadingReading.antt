@@ -4,8 +4,8 @@ use Rattle.std.proofs.lemmas.List.{length-append}
 use Rattle.ic_rules.specs.JobName.{is_job_name}
 use Rattle.ic_jobs.specs.declared.state.State.{State}
 use Rattle.ic_jobs.specs.declared.state.State.TheVariants.{Running, Paused, Done, Halted}
-use Rattle.ic_codec.specs.Headings.{state_byte, heading_bytes}
-use Rattle.ic_codec.specs.declared.headings.Heading.{Heading}
+use Rattle.ic_codec.specs.Form.{state_byte, heading_bytes}
+use Rattle.ic_codec.specs.declared.form.Heading.{Heading}
 use Rattle.ic_codec.specs.Numbers.{eight_bytes}
 use Rattle.ic_codec.specs.Texts.{text_bytes}
 use Rattle.ic_codec.specs.inner.Forms.{HasHeadingBytes}

@@ -5,11 +5,11 @@ use Rattle.std.proofs.lemmas.List.{append-nil}
 use Rattle.ic_term.specs.Symbol.{Symbol, is_over}
 use Rattle.ic_jobs.specs.Job.{JobParts, IsJob}
 use Rattle.ic_jobs.specs.Table.{IsTable}
-use Rattle.ic_codec.specs.declared.headings.Heading.{Heading}
+use Rattle.ic_codec.specs.declared.form.Heading.{Heading}
 use Rattle.ic_codec.specs.Symbols.{symbols_bytes}
 use Rattle.ic_codec.specs.Rules.{rules_bytes}
 use Rattle.ic_codec.specs.Configurations.{configuration_bytes}
-use Rattle.ic_codec.specs.Headings.{heading_bytes, heading_of}
+use Rattle.ic_codec.specs.Form.{heading_bytes, heading_of}
 use Rattle.ic_codec.specs.inner.Forms.{HasHeadingBytes}
 use Rattle.ic_codec.specs.Jobs.{job_bytes}
 use Rattle.ic_codec.specs.Tables.{table_bytes}

@@ -4,10 +4,10 @@ use Rattle.ic_term.specs.Symbol.{Symbol, AreSymbols}
 use Rattle.ic_term.specs.Configuration.{Configuration}
 use Rattle.ic_rules.specs.RuleSet.{Rules}
 use Rattle.ic_jobs.specs.Job.{JobParts, IsJob}
-use Rattle.ic_codec.specs.declared.headings.Heading.{Heading}
+use Rattle.ic_codec.specs.declared.form.Heading.{Heading}
 use Rattle.ic_codec.specs.Symbols.{symbols_bytes}
 use Rattle.ic_codec.specs.Configurations.{configuration_bytes}
-use Rattle.ic_codec.specs.Headings.{heading_bytes, heading_of}
+use Rattle.ic_codec.specs.Form.{heading_bytes, heading_of}
 use Rattle.ic_codec.specs.inner.Forms.{HasHeadingBytes}
 use Rattle.ic_codec.specs.Jobs.{job_bytes}
 use Rattle.ic_codec.specs.inner.Fronts.{BeginsWith, BeginsWithNone, IsRuleSetOver, set_bytes, IsConfigurationOver}

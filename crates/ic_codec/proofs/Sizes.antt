@@ -11,10 +11,10 @@ use Rattle.ic_term.specs.Configuration.{Configuration, IsConfiguration}
 use Rattle.ic_rules.specs.JobName.{is_job_name}
 use Rattle.ic_rules.specs.Rule.{Rule, rule_nodes}
 use Rattle.ic_rules.specs.RuleSet.{are_few}
-use Rattle.ic_codec.specs.Headings.{state_byte, heading_bytes, heading_of}
+use Rattle.ic_codec.specs.Form.{state_byte, heading_bytes, heading_of}
 use Rattle.ic_jobs.specs.Job.{JobParts, IsJob}
 use Rattle.ic_jobs.specs.Table.{IsTable}
-use Rattle.ic_codec.specs.declared.headings.Heading.{Heading}
+use Rattle.ic_codec.specs.declared.form.Heading.{Heading}
 use Rattle.ic_codec.specs.Numbers.{two_bytes, eight_bytes}
 use Rattle.ic_codec.specs.Texts.{text_bytes}
 use Rattle.ic_codec.specs.Terms.{tree_bytes, trees_bytes, pair_bytes}

@@ -7,7 +7,8 @@ use Rattle.std.proofs.lemmas.List.Sums.{sum_by-cons}
 use Rattle.ic_jobs.specs.Job.{JobParts, IsJob}
 use Rattle.ic_jobs.specs.Table.{IsTable}
 use Rattle.ic_codec.specs.Jobs.{job_bytes}
-use Rattle.ic_codec.specs.Tables.{form_head, table_bytes}
+use Rattle.ic_codec.specs.Form.{form_head}
+use Rattle.ic_codec.specs.Tables.{table_bytes}
 use Rattle.ic_codec.specs.inner.Fronts.{BeginsWithMany, BeginsWithNoMany, uncounted}
 use Rattle.ic_codec.proofs.Items.{items_front}
 use Rattle.ic_codec.proofs.JobLemmas.{job_tells}

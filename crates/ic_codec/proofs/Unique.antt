@@ -17,8 +17,8 @@ use Rattle.ic_rules.specs.lemmas.NumberingLaws.{Among, each_among, length-range}
 use Rattle.ic_jobs.specs.declared.state.State.{State}
 use Rattle.ic_jobs.specs.declared.state.State.TheVariants.{Running, Paused, Done, Halted}
 use Rattle.ic_jobs.specs.State.{state_numbered}
-use Rattle.ic_codec.specs.Headings.{state_byte, heading_bytes}
-use Rattle.ic_codec.specs.declared.headings.Heading.{Heading}
+use Rattle.ic_codec.specs.Form.{state_byte, heading_bytes}
+use Rattle.ic_codec.specs.declared.form.Heading.{Heading}
 use Rattle.ic_codec.specs.Numbers.{two_bytes, eight_bytes}
 use Rattle.ic_codec.specs.Texts.{text_bytes}
 use Rattle.ic_codec.specs.Terms.{tree_bytes, pair_bytes}

@@ -4,7 +4,7 @@ use Rattle.ic_jobs.specs.Job.{JobParts}
 use Rattle.ic_codec.specs.Symbols.{symbols_bytes}
 use Rattle.ic_codec.specs.Rules.{rules_bytes}
 use Rattle.ic_codec.specs.Configurations.{configuration_bytes}
-use Rattle.ic_codec.specs.Headings.{heading_bytes, heading_of}
+use Rattle.ic_codec.specs.Form.{heading_bytes, heading_of}
 
 -- a job is its heading, its symbols, its rules and its configuration
 abbrev pub job_bytes : JobParts → List ℕ

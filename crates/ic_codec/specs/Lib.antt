@@ -4,7 +4,7 @@ pub mod Terms
 pub mod Symbols
 pub mod Rules
 pub mod Configurations
-pub mod Headings
+pub mod Form
 pub mod Jobs
 pub mod Tables
 pub mod CodecFault

@@ -1,12 +1,9 @@
 -- The byte form of a job table (this project's choice).
-use Rattle.std.specs.Prelude.{ℕ, List, [], ◌∷◌, ◌++◌, length}
+use Rattle.std.specs.Prelude.{ℕ, List, ◌∷◌, ◌++◌, length}
 use Rattle.std.specs.List.{flat_map}
 use Rattle.ic_jobs.specs.Job.{JobParts}
+use Rattle.ic_codec.specs.Form.{form_head}
 use Rattle.ic_codec.specs.Jobs.{job_bytes}
-
--- the letters `ICT1`
-abbrev pub form_head : List ℕ
-form_head = 73 ∷ 67 ∷ 84 ∷ 49 ∷ []
 
 -- a table is the head of the form, the number of its jobs in one byte, and the jobs in order
 abbrev pub table_bytes : List JobParts → List ℕ

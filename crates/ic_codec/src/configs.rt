@@ -1,3 +1,5 @@
+//! Configurations as bytes, and back.
+
 ghost use Rattle.std.specs.Prelude.{◌≡◌, ◌≢◌, ◌≤◌, Ok, length, map, IfOk, IfErr};
 ghost use Rattle.ic_term.specs.Configuration.{Configuration, restored};
 ghost use Rattle.ic_term.specs.Term.{tree, pair};

@@ -1,3 +1,5 @@
+//! Why bytes give no table.
+
 ghost use Rattle.std.specs.Prelude.{◌≡◌};
 ghost use Rattle.ic_codec.specs.declared.fault.CodecFault.TheVariants.{Memory};
 

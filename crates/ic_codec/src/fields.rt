@@ -1,3 +1,5 @@
+//! The fields of the form: bytes, numbers and texts.
+
 ghost use Rattle.std.specs.Prelude.{◌≡◌, ◌≢◌, ◌<◌, ◌^◌, ◌∷◌, ◌++◌, [], ℕ, List, IfOk, IfErr, length};
 ghost use Rattle.ic_codec.specs.inner.Room.{Fits, Appended};
 ghost use Rattle.ic_codec.specs.Texts.{text_bytes};

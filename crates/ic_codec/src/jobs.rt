@@ -1,3 +1,5 @@
+//! Jobs as bytes, and back.
+
 ghost use Rattle.std.specs.Prelude.{◌≡◌, ◌≤◌, IfOk, IfErr};
 ghost use Rattle.std.specs.List.{flat_map};
 ghost use Rattle.ic_codec.specs.inner.Room.{Fits, Appended};
@@ -8,7 +10,7 @@ ghost use Rattle.ic_codec.specs.declared.fault.CodecFault.TheVariants.{NotATable
 
 use crate::configs::{config_at, put_config};
 use crate::fault::CodecFault;
-use crate::headings::{Heading, heading_at, put_heading};
+use crate::form::{Heading, heading_at, put_heading};
 use crate::rules::{put_rules, rule_set_at};
 use crate::symbols::{put_symbols, symbols_at};
 use ic_jobs::Job;

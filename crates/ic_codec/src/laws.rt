@@ -1,15 +1,17 @@
 //! Laws of the definitions that the contracts of this crate cite.
 
-ghost use Rattle.std.specs.Prelude.{◌≡◌, ◌≤◌, ◌<◌, ◌++◌, ℕ, List, [], ◌∷◌, length};
-ghost use Rattle.std.specs.List.{AllByRecursion};
+ghost use Rattle.std.specs.Prelude.{◌≡◌, ◌≤◌, ◌<◌, ◌++◌, ℕ, List, [], ◌∷◌, length, map};
+ghost use Rattle.std.specs.List.{AllByRecursion, Contains};
 ghost use Rattle.ic_jobs.specs.Job.{JobParts};
 ghost use Rattle.ic_jobs.specs.Table.{IsTable};
-ghost use Rattle.ic_jobs.specs.declared.state.State.TheVariants.{Running, Paused, Done, Halted};
+ghost use Rattle.ic_jobs.specs.declared.state.State.{State};
 ghost use Rattle.ic_codec.specs.Numbers.{two_bytes, eight_bytes};
-ghost use Rattle.ic_codec.specs.Headings.{state_byte};
+ghost use Rattle.ic_codec.specs.Form.{state_byte, all_states};
 ghost use Rattle.ic_codec.specs.Tables.{table_bytes};
 ghost use Rattle.ic_codec.specs.Worked.{one_plus_one, one_plus_one_done, submitted_by_hand, done_by_hand};
-ghost use Rattle.ic_codec.specs.declared.tables.TheConstants.{MAX_BYTES};
+ghost use Rattle.ic_codec.specs.CodecFault.{codec_fault_number, all_codec_faults};
+ghost use Rattle.ic_codec.specs.declared.fault.CodecFault.{CodecFault};
+ghost use Rattle.ic_codec.specs.declared.form.TheConstants.{MAX_BYTES};
 
 /// Two tables with the same bytes are the same table, and no table's bytes are the beginning of
 /// another's: the form says its own length.
@@ -27,7 +29,7 @@ pub fn limits_are()
 
 /// A table's byte form has at most 3,036,421 bytes.
 pub fn forms_are_short()
-    ensures { (t : List JobParts) → IsTable t → length (table_bytes t) ≤ 3036421 }
+    ensures { (t : List JobParts) → IsTable t → length (table_bytes t) ≤ MAX_BYTES }
 {}
 
 /// Each number of a table's byte form is a byte.
@@ -45,10 +47,14 @@ pub fn numbers_and_states_are()
     ensures two { two_bytes 0x0102 ≡ 1 ∷ 2 ∷ [] }
     ensures eight { eight_bytes 0x0102030405060708
         ≡ 1 ∷ 2 ∷ 3 ∷ 4 ∷ 5 ∷ 6 ∷ 7 ∷ 8 ∷ [] }
-    ensures running { state_byte Running ≡ 0 }
-    ensures paused { state_byte Paused ≡ 1 }
-    ensures done { state_byte Done ≡ 2 }
-    ensures halted { state_byte Halted ≡ 3 }
+    ensures all_states { (state : State) → Contains all_states state }
+    ensures states { map state_byte all_states ≡ 0 ∷ 1 ∷ 2 ∷ 3 ∷ [] }
+{}
+
+/// The lasting numbers of the faults.
+pub fn numbers_are_lasting()
+    ensures all { (fault : CodecFault) → Contains all_codec_faults fault }
+    ensures numbers { map codec_fault_number all_codec_faults ≡ 1 ∷ 2 ∷ [] }
 {}
 
 /// The fields and their order, by a table of one job whose bytes are written by hand: as it is

@@ -2,14 +2,14 @@
 //!
 //! `encode_into` appends the form into room that its caller made. `decode` answers the table exactly
 //! where the bytes are the form of one. The form is `ICT1`: `docs/byte-form.md` has it field by field,
-//! and `specs/` as definitions. Each module writes and reads one type; what a later form changes of a
-//! job stands in `headings`.
+//! and `specs/` as definitions. Each module writes and reads one type; what a later form changes
+//! stands in `form`.
 #![tactic(auto)]
 
 mod configs;
 mod fault;
 mod fields;
-mod headings;
+mod form;
 mod jobs;
 pub mod laws;
 mod rules;
@@ -18,4 +18,5 @@ mod tables;
 mod terms;
 
 pub use fault::CodecFault;
-pub use tables::{MAX_BYTES, decode, encode_into};
+pub use form::MAX_BYTES;
+pub use tables::{decode, encode_into};

@@ -1,3 +1,5 @@
+//! Rules as bytes, and back.
+
 ghost use Rattle.std.specs.Prelude.{◌≡◌, ◌≢◌, ◌≤◌, ◌<◌, ◌∷◌, ◌++◌, ℕ, List, Ok, length, map, IfOk, IfErr};
 ghost use Rattle.ic_rules.specs.Rule.{rule_nodes};
 ghost use Rattle.ic_rules.specs.RuleSet.{Rules, built};

@@ -1,3 +1,5 @@
+//! Symbols as bytes, and back.
+
 ghost use Rattle.std.specs.Prelude.{◌≡◌, ◌≢◌, ◌<◌, ◌∷◌, ◌++◌, [], ℕ, List, length, slice_get, IfSome, IfOk, IfErr, OnOk};
 ghost use Rattle.std.specs.List.{flat_map};
 ghost use Rattle.ic_term.specs.Symbol.{Symbol, AreSymbols};
@@ -45,7 +47,7 @@ pub(crate) fn symbols_at(alloc: Global, bytes: &[u8]) -> Result<(Symbols, &[u8])
     for _ in 0..count {
         rest = append_symbol_at(&mut symbols, rest)?;
     }
-    // That there are few is known of each value of the type.
+    // Read for the proof: that there are few is known of each value of the type.
     let _count = symbols.len();
     Ok((symbols, rest))
 }

@@ -1,3 +1,5 @@
+//! Terms and equations as bytes, and back.
+
 ghost use Rattle.std.specs.Prelude.{◌≡◌, ◌≤◌, ℕ, IfOk, IfErr, length, map};
 ghost use Rattle.std.specs.List.{flat_map};
 ghost use Rattle.ic_term.specs.Tree.{agent, trees_of};

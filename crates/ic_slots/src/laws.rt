@@ -4,7 +4,7 @@ ghost use Rattle.std.specs.Prelude.{◌≡◌, ◌⊎◌, ◌+◌, ◌-◌, ◌^
 ghost use Rattle.ic_jobs.specs.Job.{JobParts};
 ghost use Rattle.ic_jobs.specs.Table.{IsTable};
 ghost use Rattle.ic_codec.specs.Tables.{table_bytes};
-ghost use Rattle.ic_codec.specs.declared.tables.TheConstants.{MAX_BYTES};
+ghost use Rattle.ic_codec.specs.declared.form.TheConstants.{MAX_BYTES};
 ghost use Rattle.ic_frames.specs.declared.frame.TheConstants.{MAX_BODY};
 ghost use Rattle.ic_frames.specs.declared.slot.Slot.{Slot};
 ghost use Rattle.ic_frames.specs.Places.{place};

@@ -6,7 +6,7 @@ use Rattle.ic_term.specs.Symbol.{Symbol, is_tree_over}
 use Rattle.ic_rules.specs.JobName.{is_job_name}
 use Rattle.ic_rules.specs.Rule.{Rule, rule_names, IsNumbered}
 use Rattle.ic_rules.specs.RuleSet.{IsRuleOver}
-use Rattle.ic_codec.specs.declared.headings.Heading.{Heading}
+use Rattle.ic_codec.specs.declared.form.Heading.{Heading}
 
 -- A term that has bytes: its agents are known, with as many arguments as their arities, and its names
 -- fit in eight bytes.

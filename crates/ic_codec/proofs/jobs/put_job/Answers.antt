@@ -4,7 +4,7 @@ use Rattle.ic_rules.specs.RuleSet.{Rules}
 use Rattle.ic_codec.specs.Symbols.{symbols_bytes}
 use Rattle.ic_codec.specs.Rules.{rules_bytes}
 use Rattle.ic_codec.specs.Configurations.{configuration_bytes}
-use Rattle.ic_codec.specs.Headings.{heading_bytes, heading_of}
+use Rattle.ic_codec.specs.Form.{heading_bytes, heading_of}
 use Rattle.ic_codec.specs.inner.Room.{Fits}
 use Rattle.ic_codec.proofs.Appending.{first_fits, rest_fits}
 use Rattle.ic_codec.proofs.jobs.put_job.Goals as goal

@@ -2,7 +2,7 @@ use Rattle.std.proofs.Common.{List, ◌∷◌, ◌++◌, [], length, refl, ap, s
 use Rattle.std.specs.List.{flat_map}
 use Rattle.ic_jobs.specs.Job.{JobParts}
 use Rattle.ic_codec.specs.Jobs.{job_bytes}
-use Rattle.ic_codec.specs.Tables.{form_head}
+use Rattle.ic_codec.specs.Form.{form_head}
 use Rattle.ic_codec.specs.inner.Room.{Fits}
 use Rattle.ic_codec.proofs.Sizes.{table_length}
 use Rattle.ic_codec.proofs.ByteLemmas.{table_are_bytes}

@@ -1,9 +1,9 @@
 use Rattle.std.proofs.Common.{◌∷◌, ◌++◌, [], refl, ap}
-use Rattle.ic_codec.specs.Headings.{state_byte}
+use Rattle.ic_codec.specs.Form.{state_byte}
 use Rattle.ic_codec.specs.Numbers.{eight_bytes}
 use Rattle.ic_codec.specs.Texts.{text_bytes}
 use Rattle.ic_codec.proofs.Appending.{first_fits, rest_fits}
-use Rattle.ic_codec.proofs.headings.put_heading.Goals as goal
+use Rattle.ic_codec.proofs.form.put_heading.Goals as goal
 
 pub put_text-requires : goal.put_text-requires
 put_text-requires c =

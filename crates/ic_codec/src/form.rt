@@ -1,8 +1,9 @@
-//! What stands before the symbols of a job. A later form says more here, and nowhere else in a job.
+//! What a later form changes: the letters of the form, its length, the bytes of states, and what
+//! stands before the symbols of a job.
 
 ghost use Rattle.std.specs.Prelude.{◌≡◌, ◌≢◌, ◌<◌, ◌∷◌, ◌++◌, ℕ, List, [], IfOk, IfErr, IfSome, IsNone, IsTrue, true};
 ghost use Rattle.ic_rules.specs.JobName.{is_job_name};
-ghost use Rattle.ic_codec.specs.Headings.{state_byte, heading_bytes, heading_of};
+ghost use Rattle.ic_codec.specs.Form.{form_head, state_byte, heading_bytes, heading_of};
 ghost use Rattle.ic_codec.specs.inner.Room.{Fits, Appended};
 ghost use Rattle.ic_codec.specs.inner.Forms.{HasHeadingBytes};
 ghost use Rattle.ic_codec.specs.Texts.{text_bytes};
@@ -14,6 +15,32 @@ use crate::fault::CodecFault;
 use crate::fields::{byte_at, eight_bytes_at, put_byte, put_eight_bytes, put_text, text_at};
 use ic_jobs::{Job, State};
 use ic_rules::JobName;
+
+/// The length of the longest byte form, in bytes: a bound.
+pub const MAX_BYTES: usize = 3_036_421;
+
+/// Appends the four letters of the form.
+pub(crate) fn put_head(out: &mut Vec<u8>)
+    requires { Fits out.old form_head }
+    ensures { Appended out.old out.new form_head }
+{
+    put_byte(b'I', out);
+    put_byte(b'C', out);
+    put_byte(b'T', out);
+    put_byte(b'1', out);
+}
+
+/// The bytes behind the four letters of the form.
+pub(crate) fn behind_head(bytes: &[u8]) -> Result<&[u8], CodecFault>
+    ensures read { IfOk result (λ rest. bytes.now ≡ form_head ++ rest.now) }
+    ensures refused { IfErr result (λ fault. fault ≡ NotATable
+        → (rest : List ℕ) → bytes.now ≢ form_head ++ rest) }
+{
+    match bytes {
+        [b'I', b'C', b'T', b'1', rest @ ..] => Ok(rest),
+        _ => Err(CodecFault::NotATable),
+    }
+}
 
 /// A job's name, state and rounds, and the number from which its fresh names are taken.
 #[derive(Clone, Copy, Debug)]
