@@ -1,11 +1,13 @@
 //! Laws of the words after the program's name, in words of their own.
 
-ghost use Rattle.std.specs.Prelude.{◌≡◌, ◌↔◌, ◌<◌, ◌≤◌, ◌^◌, ℕ, List, [], ◌∷◌, codes, string_bytes};
+ghost use Rattle.std.specs.Prelude.{◌≡◌, ◌↔◌, ◌⊎◌, ◌<◌, ◌≤◌, ◌^◌, ℕ, List, [], ◌∷◌, ◌++◌, Ok, Err, codes, string_bytes};
 ghost use Rattle.std.specs.Fmt.{decimal};
 ghost use Rattle.clap.specs.Words.{Text, fault_of};
+ghost use Rattle.clap.specs.declared.error.ErrorKind.{ErrorKind};
 ghost use Rattle.clap.specs.declared.error.ErrorKind.TheVariants.{DisplayHelp, DisplayVersion};
-ghost use Rattle.ic_words.specs.declared.words.Task.TheVariants.{Create, Serve};
-ghost use Rattle.ic_words.specs.Words.{command_line, IsDecimal, Names};
+ghost use Rattle.ic_words.specs.declared.words.Task.TheVariants.{Settle, Once, Create, Serve, Help, Version};
+ghost use Rattle.ic_words.specs.declared.words.WordsFault.TheVariants.{Words};
+ghost use Rattle.ic_words.specs.Words.{AnswersWords, command_line, IsDecimal, Names};
 ghost use Rattle.ic_words.specs.Lines.{IsCreateLine, IsServeLine};
 
 /// A number's text is the number in decimal digits, before which a plus may stand, and no other
@@ -18,12 +20,33 @@ pub fn numbers_are_decimals()
     ensures one { (text : Text) (n m : ℕ) → IsDecimal text n → IsDecimal text m → n ≡ m }
 {}
 
-/// The words that are taken with no value: a command alone, and a `--` behind it.
+/// What is answered by the mistakes that words may have. Words without one are taken, and neither
+/// refused nor answered with help or the version; where help or the version is asked for, and nothing
+/// else is wrong, just that is answered.
+pub fn answers_go_by_mistakes(text: &String)
+    ensures taken { ¬ AnswersWords [] (Err (Words text.now)) }
+    ensures no_help { ¬ AnswersWords [] (Ok (Help text.now)) }
+    ensures no_version { ¬ AnswersWords [] (Ok (Version text.now)) }
+    ensures help { ¬ AnswersWords (DisplayHelp ∷ []) (Err (Words text.now)) }
+    ensures help_alone { ¬ AnswersWords (DisplayHelp ∷ []) (Ok (Version text.now)) }
+    ensures version { ¬ AnswersWords (DisplayVersion ∷ []) (Err (Words text.now)) }
+    ensures version_alone { ¬ AnswersWords (DisplayVersion ∷ []) (Ok (Help text.now)) }
+    ensures line { AnswersWords (DisplayVersion ∷ []) (Ok (Version text.now))
+        → string_bytes text.now ≡ codes "icserve 0.1.0" ++ 10 ∷ [] }
+    ensures task { (mistake : ErrorKind) → ¬ AnswersWords (mistake ∷ []) (Ok Settle) }
+{}
+
+/// The words that are taken with no value: a command alone, and a `--` behind it. No other words name
+/// these commands.
 pub fn commands_are_taken()
     ensures settle { fault_of command_line (codes "settle" ∷ []) ≡ [] }
     ensures settled { fault_of command_line (codes "settle" ∷ codes "--" ∷ []) ≡ [] }
     ensures once { fault_of command_line (codes "once" ∷ []) ≡ [] }
     ensures once_ended { fault_of command_line (codes "once" ∷ codes "--" ∷ []) ≡ [] }
+    ensures settle_named { (words : List Text) → Names words Settle
+        → (words ≡ codes "settle" ∷ []) ⊎ (words ≡ codes "settle" ∷ codes "--" ∷ []) }
+    ensures once_named { (words : List Text) → Names words Once
+        → (words ≡ codes "once" ∷ []) ⊎ (words ≡ codes "once" ∷ codes "--" ∷ []) }
 {}
 
 /// The words that ask for help, at each command too, and those that ask for the version.

@@ -17,3 +17,9 @@ returns-clause-once c = refl
 pub returns-clause-once_ended : goal.returns-clause-once_ended
 unfolding clap_on_literals
 returns-clause-once_ended c = refl
+
+pub returns-clause-settle_named : goal.returns-clause-settle_named
+returns-clause-settle_named c = λ words names. names
+
+pub returns-clause-once_named : goal.returns-clause-once_named
+returns-clause-once_named c = λ words names. names
