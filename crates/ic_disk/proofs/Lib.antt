@@ -3,6 +3,7 @@ pub mod ContentLemmas
 pub mod CountLemmas
 pub mod CrashLemmas
 pub mod FuseLemmas
+pub mod CourseLemmas
 pub mod HistoryLemmas
 pub mod ImageLemmas
 pub mod KeepsLemmas

@@ -4,6 +4,7 @@ use Rattle.std.specs.Prelude.{◌↔◌}
 use Rattle.ic_disk.specs.Content.{laid}
 use Rattle.ic_disk.specs.Images.{AgreesOutside, Only, StaysOrTears, Torn, TornFrom, Within, one_range}
 use Rattle.ic_disk.specs.Time.{Elapses}
+use Rattle.ic_disk.specs.Course.{MaySync, MayWrite}
 use Rattle.ic_disk.specs.Model.{Write, write, sync, State, begun, after, after_failed, IsImageIn, IsInState}
 use Rattle.ic_disk.specs.lemmas.ImageLaws.{settled_image, within_torn}
 use Rattle.ic_disk.specs.lemmas.HistoryLaws.{write_reached}
@@ -84,6 +85,15 @@ module _ {D : Type 0} (content : D → List ℕ) (image : D → List ℕ → Typ
     torn_by new (Ok x) torn = tt
     torn_by new (Err e) torn = subst (λ (file : List ℕ). Torn w.at (length w.bytes) file (content new)) is.same torn
 
+    -- so it has done what the model lets a write do
+    pub may_write : {T E : Type 0} (new : D) (result : Result T E) → OnOk result (Is new (after (write w) s)) → OnErr result (Is new s ⊎ Is new (after_failed w (content new) s))
+        → OnErr result (Torn w.at (length w.bytes) s.content (content new)) → (now : State) × MayWrite w result s now × Is new now
+    may_write new (Ok x) made either torn = (after (write w) s, refl, made)
+    may_write new (Err e) made either torn = ⊎_elim
+        (λ stays. (s, inl refl, stays))
+        (λ tears. (after_failed w (content new) s, inr (torn, refl), tears))
+        either
+
   -- what was all synced, after a write
   pub agrees_exactly : {T E : Type 0} (at : ℕ) (bytes : List ℕ) (old new : D) (result : Result T E)
       → OnOk result (Is new (after (write (record { at = at; bytes = bytes })) (begun (content old))))
@@ -108,3 +118,9 @@ module _ {D : Type 0} (content : D → List ℕ) (image : D → List ℕ → Typ
         → OnErr result (Is new s ⊎ Is new (after sync s))
     unsynced (Ok x) within either = tt
     unsynced (Err e) within either = ⊎_elim (λ stay. inl (unchanged old new s is same within stay)) (λ only. inr (alone only)) either
+
+    -- so it has done what the model lets a sync do
+    pub may_sync : {T E : Type 0} (result : Result T E) → OnOk result (Is new (after sync s)) → OnErr result (Is new s ⊎ Is new (after sync s))
+        → (now : State) × MaySync result s now × Is new now
+    may_sync (Ok x) made either = (after sync s, refl, made)
+    may_sync (Err e) made either = ⊎_elim (λ stays. (s, inl refl, stays)) (λ took. (after sync s, inr refl, took)) either

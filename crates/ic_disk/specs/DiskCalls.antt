@@ -1,27 +1,39 @@
--- What a write and a sync do to a history, in the words of the trait `Disk`.
+-- What each call of a disk that keeps the model does to what reads give, to what a crash may leave
+-- and to what it may have left: the clauses of the trait `Disk`.
 -- To be read: contracts of public calls cite it.
 use Rattle.std.specs.Prelude.{◌≡◌, ◌⊎◌, ℕ, List, length, Result, OnOk, OnErr}
 use Rattle.ic_disk.specs.Content.{laid}
-use Rattle.ic_disk.specs.History.{History, content_of, image_of, Passes}
 use Rattle.ic_disk.specs.Images.{Only, StaysOrTears, Torn, TornFrom, Within}
+use Rattle.ic_disk.specs.Time.{Elapses}
+
+-- a call for the length, or one that reads: nothing changes
+pub record ChangesNothing {D : Type 0} (content : D → List ℕ) (image : D → List ℕ → Type 0)
+    (clock : D → ℕ) (left : D → ℕ → List ℕ → Type 0) (old new : D) : Type 0 where
+  pub same : content new ≡ content old
+  pub images : Within (image new) (image old)
+  pub stay : Within (image old) (image new)
+  pub time : Elapses (clock old) (clock new) (left old) (left new) (image old)
 
 -- a write of these bytes
-pub record IsDiskWrite {T E : Type 0} (at : ℕ) (bytes : List ℕ) (result : Result T E)
-    (old new : History) : Type 0 where
-  pub written : OnOk result (content_of new ≡ laid at bytes (content_of old))
-  pub torn : OnErr result (Torn at (length bytes) (content_of old) (content_of new))
-  pub images : Within (image_of new) (TornFrom at (length bytes) (image_of old))
-  pub stay : Within (image_of old) (image_of new)
-  pub reached : OnOk result (Within (TornFrom at (length bytes) (image_of old)) (image_of new))
+pub record IsDiskWrite {D T E : Type 0} (content : D → List ℕ) (image : D → List ℕ → Type 0)
+    (clock : D → ℕ) (left : D → ℕ → List ℕ → Type 0) (at : ℕ) (bytes : List ℕ)
+    (result : Result T E) (old new : D) : Type 0 where
+  pub written : OnOk result (content new ≡ laid at bytes (content old))
+  pub torn : OnErr result (Torn at (length bytes) (content old) (content new))
+  pub images : Within (image new) (TornFrom at (length bytes) (image old))
+  pub stay : Within (image old) (image new)
+  pub reached : OnOk result (Within (TornFrom at (length bytes) (image old)) (image new))
   pub failed : OnErr result (StaysOrTears at (length bytes)
-      (content_of old) (content_of new) (image_of old) (image_of new))
-  pub time : Passes old new (TornFrom at (length bytes) (image_of old))
+      (content old) (content new) (image old) (image new))
+  pub time : Elapses (clock old) (clock new) (left old) (left new)
+      (TornFrom at (length bytes) (image old))
 
 -- a sync
-pub record IsDiskSync {T E : Type 0} (result : Result T E) (old new : History) : Type 0 where
-  pub same : content_of new ≡ content_of old
-  pub durable : OnOk result (Only (content_of old) (image_of new))
-  pub images : Within (image_of new) (image_of old)
-  pub failed : OnErr result (Within (image_of old) (image_of new)
-      ⊎ Only (content_of old) (image_of new))
-  pub time : Passes old new (image_of old)
+pub record IsDiskSync {D T E : Type 0} (content : D → List ℕ) (image : D → List ℕ → Type 0)
+    (clock : D → ℕ) (left : D → ℕ → List ℕ → Type 0) (result : Result T E) (old new : D)
+    : Type 0 where
+  pub same : content new ≡ content old
+  pub durable : OnOk result (Only (content old) (image new))
+  pub images : Within (image new) (image old)
+  pub failed : OnErr result (Within (image old) (image new) ⊎ Only (content old) (image new))
+  pub time : Elapses (clock old) (clock new) (left old) (left new) (image old)

@@ -1,8 +1,8 @@
 -- What the disk in memory has been through, and what follows from it.
 -- To be read: contracts of public calls cite it. This project's choice.
-use Rattle.std.specs.Prelude.{◌+◌, ◌-◌, ◌^◌, ◌≤◌, ℕ, min, List, [], ◌∷◌, ◌++◌, length, take}
+use Rattle.std.specs.Prelude.{◌+◌, ◌-◌, ◌^◌, ◌≤◌, ℕ, min, List, [], ◌∷◌, ◌++◌, length, take, Result}
+use Rattle.ic_disk.specs.DiskCalls.{IsDiskSync, IsDiskWrite}
 use Rattle.ic_disk.specs.Model.{Call, State, begun, after, IsImageIn}
-use Rattle.ic_disk.specs.Time.{Elapses}
 
 -- how a disk began, the calls since that have changed it, and how many failed
 pub record History : Type 0 where
@@ -36,10 +36,16 @@ image_of h = IsImageIn (state h)
 abbrev pub IsLeftSince : History → ℕ → List ℕ → Type 0
 IsLeftSince h t file = (k : ℕ) × (t ≤ k) × (k ≤ length h.calls) × IsImageIn (state_at k h) file
 
--- time goes on by one call, with this in its midst
-abbrev pub Passes : History → History → (List ℕ → Type 0) → Type 0
-Passes old new midst =
-    Elapses (length old.calls) (length new.calls) (IsLeftSince old) (IsLeftSince new) midst
+-- how many calls have changed it
+abbrev pub clock_of : History → ℕ
+clock_of h = length h.calls
+
+-- a write of these bytes, and a sync, in the words of the trait `Disk`
+abbrev pub IsWritten : {T E : Type 0} → ℕ → List ℕ → Result T E → (old new : History) → Type 0
+IsWritten = IsDiskWrite content_of image_of clock_of IsLeftSince
+
+abbrev pub IsSynced : {T E : Type 0} → Result T E → (old new : History) → Type 0
+IsSynced = IsDiskSync content_of image_of clock_of IsLeftSince
 
 -- a disk that has had no calls
 abbrev pub fresh : List ℕ → History

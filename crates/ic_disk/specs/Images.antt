@@ -1,7 +1,7 @@
 -- What a crash may leave of a disk, as tests on lists of bytes.
 -- To be read: contracts of public calls cite it. This project's choice.
-use Rattle.std.specs.Prelude.{◌≡◌, ◌≢◌, ◌⊎◌, ℕ, ◌+◌, ◌<◌, ◌≤◌, List, [], ◌∷◌, length, slice_index}
-use Rattle.ic_disk.specs.Content.{laid, bytes_at}
+use Rattle.std.specs.Prelude.{◌≡◌, ◌⊎◌, ℕ, ◌+◌, ◌<◌, ◌≤◌, List, [], ◌∷◌, length, slice_index}
+use Rattle.ic_disk.specs.Content.{laid}
 
 -- n bytes from a place on
 pub record Range : Type 0 where
@@ -52,16 +52,6 @@ abbrev pub TornInTurn : (at : ℕ) (bytes : List ℕ) (other m : ℕ) (content :
     → (List ℕ → Type 0) → List ℕ → Type 0
 TornInTurn at bytes other m content images file =
     TornFrom at (length bytes) images file ⊎ Torn other m (laid at bytes content) file
-
--- each of the images has this place, with another byte there
-abbrev pub IsUnmarked : (at mark : ℕ) → (List ℕ → Type 0) → Type 0
-IsUnmarked at mark images =
-    (file : List ℕ) → images file → (at < length file) × (slice_index file at ≢ mark)
-
--- a file with the mark has all of these bytes
-abbrev pub WholeIfMarked : (at : ℕ) (bytes : List ℕ) (mark_at mark : ℕ) (file : List ℕ) → Type 0
-WholeIfMarked at bytes mark_at mark file =
-    slice_index file mark_at ≡ mark → bytes_at at (length bytes) file ≡ bytes
 
 -- each of the former images is one of the latter
 abbrev pub Within : (List ℕ → Type 0) → (List ℕ → Type 0) → Type 0

@@ -2,8 +2,9 @@ pub mod Content
 pub mod Images
 pub mod Time
 pub mod Model
-pub mod History
 pub mod DiskCalls
+pub mod Course
+pub mod History
 pub mod Crash
 pub mod Fuse
 pub mod FuseDisk

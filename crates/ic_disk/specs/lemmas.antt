@@ -4,4 +4,3 @@ pub mod ContentLaws
 pub mod ImageLaws
 pub mod HistoryLaws
 pub mod Moments
-pub mod Marks

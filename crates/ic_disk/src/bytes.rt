@@ -1,4 +1,5 @@
-// Bytes laid over others in place.
+//! Bytes laid over others in place.
+
 ghost use Rattle.std.specs.Prelude.{◌≡◌, ◌+◌, ◌≤◌, length, replicate, OnOk, OnErr};
 ghost use Rattle.ic_disk.specs.Content.{filled_to, laid};
 

@@ -1,8 +1,9 @@
-// A disk as its callers see it: what reads give, and what a crash may leave.
-ghost use Rattle.std.specs.Prelude.{◌≡◌, ◌⊎◌, ◌+◌, ◌-◌, ◌^◌, ◌≤◌, ℕ, Bool, List, length, min, is_ok, IsTrue, Some, codes, IfOk, OnOk, OnErr};
-ghost use Rattle.ic_disk.specs.Content.{laid, bytes_at};
-ghost use Rattle.ic_disk.specs.Images.{Torn, TornFrom, Within, Only, StaysOrTears};
-ghost use Rattle.ic_disk.specs.Time.{Elapses, CountsFailure, one_call_more};
+//! A disk as its callers see it: what reads give, and what a crash may leave.
+
+ghost use Rattle.std.specs.Prelude.{◌≡◌, ◌+◌, ◌-◌, ◌^◌, ◌≤◌, ℕ, Bool, List, length, min, is_ok, IsTrue, Some, codes, IfOk, OnOk, OnErr};
+ghost use Rattle.ic_disk.specs.Content.{bytes_at};
+ghost use Rattle.ic_disk.specs.DiskCalls.{ChangesNothing, IsDiskSync, IsDiskWrite};
+ghost use Rattle.ic_disk.specs.Time.{CountsFailure, one_call_more};
 
 use std::error::Error;
 use std::fmt;
@@ -52,11 +53,8 @@ pub trait Disk {
 
         ensures length { IsTrue (keeps self.old)
             → IfOk result (λ n. n ≡ length (content self.old)) }
-        ensures same { IsTrue (keeps self.old) → content self.new ≡ content self.old }
-        ensures images { IsTrue (keeps self.old) → Within (image self.new) (image self.old) }
-        ensures stay { IsTrue (keeps self.old) → Within (image self.old) (image self.new) }
-        ensures time { IsTrue (keeps self.old) → Elapses (clock self.old) (clock self.new)
-            (left self.old) (left self.new) (image self.old) };
+        ensures unchanged { IsTrue (keeps self.old)
+            → ChangesNothing content image clock left self.old self.new };
 
     /// Reads the bytes from `at` on until `into` is full. At `Err` it may hold any bytes.
     fn read(&mut self, at: u64, into: &mut [u8]) -> Result<(), DiskFault>
@@ -68,11 +66,8 @@ pub trait Disk {
 
         ensures bytes { IsTrue (keeps self.old) → OnOk result
             (into.new ≡ bytes_at at (length into.old) (content self.old)) }
-        ensures same { IsTrue (keeps self.old) → content self.new ≡ content self.old }
-        ensures images { IsTrue (keeps self.old) → Within (image self.new) (image self.old) }
-        ensures stay { IsTrue (keeps self.old) → Within (image self.old) (image self.new) }
-        ensures time { IsTrue (keeps self.old) → Elapses (clock self.old) (clock self.new)
-            (left self.old) (left self.new) (image self.old) };
+        ensures unchanged { IsTrue (keeps self.old)
+            → ChangesNothing content image clock left self.old self.new };
 
     /// Writes these bytes at `at`, with zeros in between where the disk was shorter. Until a sync
     /// a crash may leave any bytes in the range and past the end.
@@ -81,19 +76,8 @@ pub trait Disk {
         ensures counted { CountsFailure result (failures self.old) (failures self.new) }
         ensures one_call { clock self.new ≤ clock self.old + 1 }
 
-        ensures written { IsTrue (keeps self.old) → OnOk result
-            (content self.new ≡ laid at bytes.now (content self.old)) }
-        ensures torn { IsTrue (keeps self.old) → OnErr result
-            (Torn at (length bytes.now) (content self.old) (content self.new)) }
-        ensures images { IsTrue (keeps self.old) → Within (image self.new)
-            (TornFrom at (length bytes.now) (image self.old)) }
-        ensures stay { IsTrue (keeps self.old) → Within (image self.old) (image self.new) }
-        ensures reached { IsTrue (keeps self.old) → OnOk result
-            (Within (TornFrom at (length bytes.now) (image self.old)) (image self.new)) }
-        ensures failed { IsTrue (keeps self.old) → OnErr result (StaysOrTears at (length bytes.now)
-            (content self.old) (content self.new) (image self.old) (image self.new)) }
-        ensures time { IsTrue (keeps self.old) → Elapses (clock self.old) (clock self.new)
-            (left self.old) (left self.new) (TornFrom at (length bytes.now) (image self.old)) };
+        ensures writes { IsTrue (keeps self.old) → IsDiskWrite content image clock left
+            at bytes.now result self.old self.new };
 
     /// Waits until all that was written is on the disk for good.
     fn sync(&mut self) -> Result<(), DiskFault>
@@ -101,14 +85,8 @@ pub trait Disk {
         ensures counted { CountsFailure result (failures self.old) (failures self.new) }
         ensures one_call { clock self.new ≤ clock self.old + 1 }
 
-        ensures same { IsTrue (keeps self.old) → content self.new ≡ content self.old }
-        ensures durable { IsTrue (keeps self.old)
-            → OnOk result (Only (content self.old) (image self.new)) }
-        ensures images { IsTrue (keeps self.old) → Within (image self.new) (image self.old) }
-        ensures failed { IsTrue (keeps self.old) → OnErr result
-            (Within (image self.old) (image self.new) ⊎ Only (content self.old) (image self.new)) }
-        ensures time { IsTrue (keeps self.old) → Elapses (clock self.old) (clock self.new)
-            (left self.old) (left self.new) (image self.old) };
+        ensures syncs { IsTrue (keeps self.old) → IsDiskSync content image clock left
+            result self.old self.new };
 
     /// A crash may leave all that was written.
     ghost content_is_image: { (disk : Self) → image disk (content disk) };

@@ -1,4 +1,5 @@
-// A disk in a file of the operating system, of whose bytes no clause speaks.
+//! A disk in a file of the operating system, of whose bytes no clause speaks.
+
 ghost use Rattle.std.specs.Prelude.{◌≡◌, [], false, not, is_ok, IsTrue, IsErr, IfOk};
 ghost use Rattle.ic_disk.specs.Time.{CountsFailure, one_call_more};
 

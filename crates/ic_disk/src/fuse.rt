@@ -1,21 +1,24 @@
-// A disk in memory of which some call fails, as a test likes.
-ghost use Rattle.std.specs.Prelude.{◌≡◌, ◌+◌, ◌≤◌, true, length, IfOk, OnOk};
+//! A disk in memory of which some call fails, as a test likes.
+
+ghost use Rattle.std.specs.Prelude.{◌≡◌, ◌⊎◌, ◌+◌, ◌≤◌, true, length, IfOk, OnOk};
 ghost use Rattle.ic_disk.specs.Content.{bytes_at};
-ghost use Rattle.ic_disk.specs.DiskCalls.{IsDiskSync, IsDiskWrite};
-ghost use Rattle.ic_disk.specs.Fuse.{turn_of, Answers, AnswersRead};
+ghost use Rattle.ic_disk.specs.Fuse.{turn_of, torn_bytes, Answers, AnswersRead, IsTorn};
 ghost use Rattle.ic_disk.specs.Model.{write_of, sync};
-ghost use Rattle.ic_disk.specs.History.{content_of, image_of, IsLeftSince};
+ghost use Rattle.ic_disk.specs.History.{content_of, image_of, clock_of, IsLeftSince, IsSynced, IsWritten};
 ghost use Rattle.ic_disk.specs.lemmas.HistoryLaws as laws;
 ghost use Rattle.ic_disk.specs.Time.{CountsFailure, one_call_more};
 
 use crate::disk::count;
 use crate::{Disk, DiskFault, MemDisk};
+use std::alloc::{AllocError, Global};
 
-/// Whether the call that fails is made all the same.
+/// Whether the call that fails is made all the same. A write may be torn: its range is written with
+/// so many of its bytes and zeros in place of the rest. No other call is made then.
 #[derive(Clone, Copy, Debug, PartialEq, Eq)]
 pub enum Blow {
     Before,
     After,
+    Torn(u64),
 }
 
 /// Whether all later calls fail too, unmade.
@@ -37,6 +40,7 @@ enum Turn {
     Make,
     Skip,
     MakeAndFail,
+    Tear(u64),
 }
 
 /// A disk in memory behind a fuse, which counts the calls of all four kinds.
@@ -90,6 +94,10 @@ impl FuseDisk {
                 let _ = self.disk.write_at(at, bytes);
                 Err(DiskFault)
             }
+            Turn::Tear(n) => {
+                tear(&mut self.disk, at, bytes, n);
+                Err(DiskFault)
+            }
         };
         count(outcome, &mut self.failures)
     }
@@ -102,7 +110,7 @@ impl FuseDisk {
     {
         let outcome = match take_turn(self.fuse, &mut self.calls) {
             Turn::Make => self.disk.sync(),
-            Turn::Skip => Err(DiskFault),
+            Turn::Skip | Turn::Tear(_) => Err(DiskFault),
             Turn::MakeAndFail => {
                 let _ = self.disk.sync();
                 Err(DiskFault)
@@ -131,6 +139,26 @@ fn take_turn(fuse: Fuse, calls: &mut u64) -> Turn
     match fuse.blow {
         Blow::Before => Turn::Skip,
         Blow::After => Turn::MakeAndFail,
+        Blow::Torn(n) => Turn::Tear(n),
+    }
+}
+
+// The first so many of these bytes, and zeros in place of the rest.
+fn torn(alloc: Global, bytes: &[u8], n: u64) -> Result<Vec<u8>, AllocError>
+    ensures { IfOk result (λ torn. torn.items ≡ torn_bytes n bytes.now) }
+{
+    let left = n.min(bytes.len() as u64) as usize;
+    let mut torn = Vec::from_slice(alloc, &bytes[..left])?;
+    torn.resize(bytes.len(), 0)?;
+    Ok(torn)
+}
+
+// Writes these bytes torn, where there is memory for that.
+fn tear(disk: &mut MemDisk, at: u64, bytes: &[u8], n: u64)
+    ensures { IsTorn n (write_of at bytes.now) disk.old disk.new }
+{
+    if let Ok(torn) = torn(disk.allocator(), bytes, n) {
+        let _ = disk.write_at(at, &torn);
     }
 }
 
@@ -143,7 +171,7 @@ impl Disk for FuseDisk {
 
     ghost image = { λ f. image_of (disk_of f) };
 
-    ghost clock = { λ f. length (disk_of f).calls };
+    ghost clock = { λ f. clock_of (disk_of f) };
 
     ghost left = { λ f. IsLeftSince (disk_of f) };
 
@@ -164,7 +192,7 @@ impl Disk for FuseDisk {
     {
         let outcome = match take_turn(self.fuse, &mut self.calls) {
             Turn::Make => self.disk.len(),
-            Turn::Skip | Turn::MakeAndFail => Err(DiskFault),
+            Turn::Skip | Turn::MakeAndFail | Turn::Tear(_) => Err(DiskFault),
         };
         count(outcome, &mut self.failures)
     }
@@ -180,7 +208,7 @@ impl Disk for FuseDisk {
     {
         let outcome = match take_turn(self.fuse, &mut self.calls) {
             Turn::Make => self.disk.read(at, into),
-            Turn::Skip => Err(DiskFault),
+            Turn::Skip | Turn::Tear(_) => Err(DiskFault),
             Turn::MakeAndFail => {
                 let _ = self.disk.read(at, into);
                 Err(DiskFault)
@@ -196,7 +224,7 @@ impl Disk for FuseDisk {
 
         // What follows, in the words of the trait.
         ensures counted { CountsFailure result (failures_of self.old) (failures_of self.new) }
-        ensures writes { IsDiskWrite at bytes.now result (disk_of self.old) (disk_of self.new) }
+        ensures writes { IsWritten at bytes.now result (disk_of self.old) (disk_of self.new) }
     {
         self.make_write(at, bytes)
     }
@@ -208,7 +236,7 @@ impl Disk for FuseDisk {
 
         // What follows, in the words of the trait.
         ensures counted { CountsFailure result (failures_of self.old) (failures_of self.new) }
-        ensures syncs { IsDiskSync result (disk_of self.old) (disk_of self.new) }
+        ensures syncs { IsSynced result (disk_of self.old) (disk_of self.new) }
     {
         self.make_sync()
     }

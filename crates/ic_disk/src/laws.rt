@@ -1,11 +1,15 @@
 //! What any disk that keeps the model is good for, proved from the clauses of its calls alone, and
 //! laws of the definitions that those cite.
-ghost use Rattle.std.specs.Prelude.{◌≡◌, ◌⊎◌, ◌+◌, ◌-◌, ◌^◌, ◌<◌, ◌≤◌, ◌↔◌, [], ◌∷◌, List, ℕ, length, IsTrue, OnOk, OnErr};
+
+ghost use Rattle.std.specs.Prelude.{◌≡◌, ◌⊎◌, ◌+◌, ◌-◌, ◌^◌, ◌<◌, ◌≤◌, ◌↔◌, [], ◌∷◌, List, ℕ, length, IsTrue, OnOk, OnErr, Result};
 ghost use Rattle.ic_disk.specs.Content.{laid};
+ghost use Rattle.ic_disk.specs.Course.{Course, IsCourse, MaySync, MayWrite, after_call, calls_in, content_in, first_course, image_in, left_in};
 ghost use Rattle.ic_disk.specs.Crash.{Takes};
-ghost use Rattle.ic_disk.specs.Images.{AgreesOutside, AgreesWithAny, IsUnmarked, Only, Torn, TornFrom, TornInTurn, WholeIfMarked, Within, one_range, two_ranges};
-ghost use Rattle.ic_disk.specs.Model.{IsImageIn, IsInState, State, after, after_failed, begun, sync, write_of};
+ghost use Rattle.ic_disk.specs.DiskCalls.{ChangesNothing, IsDiskSync, IsDiskWrite};
+ghost use Rattle.ic_disk.specs.Images.{AgreesOutside, AgreesWithAny, Only, TornFrom, TornInTurn, Within, one_range, two_ranges};
+ghost use Rattle.ic_disk.specs.Model.{IsImageIn, IsInState, State, Write, after, begun, write, write_of};
 ghost use Rattle.ic_disk.specs.Time.{CountsFailure, LeavesOnly};
+ghost use Rattle.ic_disk.specs.declared.disk.DiskFault.{DiskFault};
 ghost use Rattle.ic_disk.specs.declared.mem.Choice.{Choice};
 
 use crate::{Disk, DiskFault};
@@ -67,13 +71,6 @@ pub fn write_and_mark<D: Disk>(
     ensures ordered { IsTrue (D.keeps disk.old) → LeavesOnly D.clock D.left disk.old disk.new
         (TornInTurn at bytes.now mark_at 1 (D.content disk.old) (D.image disk.old)) }
 
-    // So where no image from before has the mark, one that has it has all the bytes.
-    ensures whole { IsTrue (D.keeps disk.old)
-        → (mark_at < at) ⊎ (at + length bytes.now ≤ mark_at)
-        → IsUnmarked mark_at mark (D.image disk.old)
-        → LeavesOnly D.clock D.left disk.old disk.new
-        (WholeIfMarked at bytes.now mark_at mark) }
-
     // It makes at most four calls.
     ensures calls { D.clock disk.new ≤ D.clock disk.old + 4 }
 {
@@ -91,16 +88,10 @@ pub fn settled_disk_begins<D: Disk>(disk: &D)
 
 /// Writes, as `write_at` does: what that does to the state of the written model.
 pub fn write_as_modelled<D: Disk>(disk: &mut D, at: u64, bytes: &[u8]) -> Result<(), DiskFault>
-    ensures ok { (s : State) → IsTrue (D.keeps disk.old) → IsInState D.content D.image disk.old s
-        → OnOk result (IsInState D.content D.image disk.new (after (write_of at bytes.now) s)) }
-
     // At Err nothing has changed, or the range is pending and the content torn there.
-    ensures err { (s : State) → IsTrue (D.keeps disk.old) → IsInState D.content D.image disk.old s
-        → OnErr result (IsInState D.content D.image disk.new s
-        ⊎ IsInState D.content D.image disk.new
-        (after_failed (record { at = at; bytes = bytes.now }) (D.content disk.new) s)) }
-    ensures torn { (s : State) → IsTrue (D.keeps disk.old) → IsInState D.content D.image disk.old s
-        → OnErr result (Torn at (length bytes.now) s.content (D.content disk.new)) }
+    ensures may { (s : State) → IsTrue (D.keeps disk.old) → IsInState D.content D.image disk.old s
+        → (now : State) × MayWrite (record { at = at; bytes = bytes.now }) result s now
+        × IsInState D.content D.image disk.new now }
 
     // A crash in the midst of it may leave all that it may leave before and after it, and nothing
     // but what it leaves with the range pending.
@@ -120,11 +111,8 @@ pub fn write_as_modelled<D: Disk>(disk: &mut D, at: u64, bytes: &[u8]) -> Result
 
 /// Syncs, as `sync` does: what that does to the state of the written model.
 pub fn sync_as_modelled<D: Disk>(disk: &mut D) -> Result<(), DiskFault>
-    ensures ok { (s : State) → IsTrue (D.keeps disk.old) → IsInState D.content D.image disk.old s
-        → OnOk result (IsInState D.content D.image disk.new (after sync s)) }
-    ensures err { (s : State) → IsTrue (D.keeps disk.old) → IsInState D.content D.image disk.old s
-        → OnErr result (IsInState D.content D.image disk.new s
-        ⊎ IsInState D.content D.image disk.new (after sync s)) }
+    ensures may { (s : State) → IsTrue (D.keeps disk.old) → IsInState D.content D.image disk.old s
+        → (now : State) × MaySync result s now × IsInState D.content D.image disk.new now }
     ensures reached { IsTrue (D.keeps disk.old) → (file : List ℕ)
         → D.image disk.old file ⊎ D.image disk.new file → D.left disk.new (D.clock disk.old) file }
     ensures midst { (s : State) → IsTrue (D.keeps disk.old) → IsInState D.content D.image disk.old s
@@ -153,6 +141,45 @@ pub fn read_as_modelled<D: Disk>(disk: &mut D, at: u64, into: &mut [u8]) -> Resu
 {
     disk.read(at, into)
 }
+
+/// The trait asks no more of a disk than the written model allows: whatever that lets a call do, at
+/// Ok and at Err, the clauses of the trait say of it. In the midst of a write its range is pending.
+pub fn the_written_model_is_a_disk()
+    ensures writes { (w : Write) (result : Result (Unit {0}) DiskFault) (c : Course) (now : State)
+        → MayWrite w result c.state now → IsDiskWrite content_in image_in calls_in left_in
+        w.at w.bytes result c (after_call (after (write w) c.state) now c) }
+    ensures syncs { (result : Result (Unit {0}) DiskFault) (c : Course) (now : State) → IsCourse c
+        → MaySync result c.state now → IsDiskSync content_in image_in calls_in left_in
+        result c (after_call c.state now c) }
+    ensures unchanged { (c : Course) → ChangesNothing content_in image_in calls_in left_in
+        c (after_call c.state c.state c) }
+
+    // The laws of the trait.
+    ensures content_is_image { (c : Course) → IsCourse c → image_in c (content_in c) }
+    ensures image_is_left { (c : Course) (t : ℕ) (file : List ℕ)
+        → t ≤ calls_in c → image_in c file → left_in c t file }
+    ensures left_is_image { (c : Course) (file : List ℕ) → IsCourse c
+        → left_in c (calls_in c) file → image_in c file }
+{}
+
+/// A disk of the written model begins with its bytes, and goes on by calls.
+pub fn courses_go_on()
+    ensures begins { (file : List ℕ) → IsCourse (first_course file) }
+    ensures writes { (w : Write) (result : Result (Unit {0}) DiskFault) (c : Course) (now : State)
+        → IsCourse c → MayWrite w result c.state now
+        → IsCourse (after_call (after (write w) c.state) now c) }
+    ensures syncs { (result : Result (Unit {0}) DiskFault) (c : Course) (now : State)
+        → IsCourse c → MaySync result c.state now → IsCourse (after_call c.state now c) }
+    ensures reads { (c : Course) → IsCourse c → IsCourse (after_call c.state c.state c) }
+
+    // A crash during a call may leave what it might before it, in its midst and after it; and what it
+    // might have left is never forgotten.
+    ensures moments { (c : Course) (midst now : State) (file : List ℕ)
+        → image_in c file ⊎ (IsImageIn midst file ⊎ IsImageIn now file)
+        → left_in (after_call midst now c) (calls_in c) file }
+    ensures past { (c : Course) (midst now : State) (t : ℕ) (file : List ℕ)
+        → left_in c t file → left_in (after_call midst now c) t file }
+{}
 
 /// The count of failures rises by one where a call failed, until it stands at its end.
 pub fn failures_rise<T, E>(answer: &Result<T, E>)

@@ -1,9 +1,9 @@
-// A disk in memory, which keeps the model, and may be crashed as a test likes.
+//! A disk in memory, which keeps the model, and may be crashed as a test likes.
+
 ghost use Rattle.std.specs.Prelude.{◌≡◌, ◌≤◌, [], List, ℕ, map, ◌+◌, ◌-◌, length, IsOk, OnOk, OnErr, IfOk, true};
 ghost use Rattle.ic_disk.specs.Content.{bytes_at};
-ghost use Rattle.ic_disk.specs.DiskCalls.{IsDiskSync, IsDiskWrite};
 ghost use Rattle.ic_disk.specs.Model.{write_of, sync};
-ghost use Rattle.ic_disk.specs.History.{fresh, content_of, with_call, with_failure, state, image_of, IsLeftSince};
+ghost use Rattle.ic_disk.specs.History.{fresh, content_of, with_call, with_failure, state, image_of, clock_of, IsLeftSince, IsSynced, IsWritten};
 ghost use Rattle.ic_disk.specs.Images.{Only};
 ghost use Rattle.ic_disk.specs.Time.{CountsFailure};
 ghost use Rattle.ic_disk.specs.lemmas.HistoryLaws as laws;
@@ -79,6 +79,11 @@ impl MemDisk {
             failures: 0,
             content: bytes,
         }
+    }
+
+    // The allocator of its bytes.
+    pub(crate) fn allocator(&self) -> Global {
+        *self.content.allocator()
     }
 
     /// What reads give.
@@ -210,7 +215,7 @@ impl Disk for MemDisk {
 
     ghost image = { image_of };
 
-    ghost clock = { λ h. length h.calls };
+    ghost clock = { clock_of };
 
     ghost left = { IsLeftSince };
 
@@ -247,7 +252,7 @@ impl Disk for MemDisk {
 
         // What follows, in the words of the trait.
         ensures counted { CountsFailure result self.old.failures self.new.failures }
-        ensures writes { IsDiskWrite at bytes.now result self.old self.new }
+        ensures writes { IsWritten at bytes.now result self.old self.new }
     {
         self.make_write(at as usize, bytes)
     }
@@ -258,7 +263,7 @@ impl Disk for MemDisk {
 
         // What follows, in the words of the trait.
         ensures counted { CountsFailure result self.old.failures self.new.failures }
-        ensures syncs { IsDiskSync result self.old self.new }
+        ensures syncs { IsSynced result self.old self.new }
     {
         self.make_sync()
     }

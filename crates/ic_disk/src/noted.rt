@@ -1,4 +1,5 @@
-// The calls that a disk in memory notes, and making their writes once more.
+//! The calls that a disk in memory notes, and making their writes once more.
+
 ghost use Rattle.std.specs.Prelude.{◌≡◌, ◌-◌, map, take, length, IfOk, OnOk};
 ghost use Rattle.ic_disk.specs.inner.Noted.{call_of};
 ghost use Rattle.ic_disk.specs.Crash.{after_bytes, fronted};

@@ -5,10 +5,10 @@ use Rattle.ic_disk.proofs.laws.read_as_modelled.Goals as goal
 pub returns-clause-same : goal.returns-clause-same
 returns-clause-same g c s keeps is =
     let disk = g.D.Disk in
-    let call = c.read.ensures in
-    unchanged disk.content disk.image c.args.disk.now c.read.new.self s is (call.same keeps) (call.images keeps) (call.stay keeps)
+    let call = c.read.ensures.unchanged keeps in
+    unchanged disk.content disk.image c.args.disk.now c.read.new.self s is call.same call.images call.stay
 
 pub returns-clause-midst : goal.returns-clause-midst
 returns-clause-midst g c s keeps is =
     let disk = g.D.Disk in
-    midst_by disk.content disk.image disk.clock disk.left c.args.disk.now c.read.new.self _ (IsImageIn s) g.met.D.Disk.left_is_image (c.read.ensures.time keeps) is.no_others is.no_others
+    midst_by disk.content disk.image disk.clock disk.left c.args.disk.now c.read.new.self _ (IsImageIn s) g.met.D.Disk.left_is_image (c.read.ensures.unchanged keeps).time is.no_others is.no_others

@@ -1,6 +1,5 @@
 use Rattle.std.proofs.Common.{inl, inr, ℕ, List, length, ◌∙◌, subst}
 use Rattle.ic_disk.specs.Images.{Torn}
-use Rattle.ic_disk.specs.lemmas.Marks.{whole_in_turn}
 use Rattle.ic_disk.proofs.AgreeLemmas.{torn_once, torn_twice, agrees_settled}
 use Rattle.ic_disk.specs.lemmas.Moments.{leaves_weaker, then_runs}
 use Rattle.ic_disk.proofs.laws.write_and_mark.Goals as goal
@@ -34,9 +33,3 @@ returns-clause-ordered g c keeps =
     (leaves_weaker disk.clock disk.left old mid _ _ (c.write_synced.ensures.any_moment keeps) (λ file torn. inl torn))
     (c.write_synced-2.ensures.any_moment (c.write_synced.ensures.keeps ∙ keeps))
     (λ file torn. inr (subst (λ (image : List ℕ). Torn c.args.mark_at 1 image file) (only.no_other torn.0 torn.1) torn.2))
-
-pub returns-clause-whole : goal.returns-clause-whole
-returns-clause-whole g c keeps apart unmarked =
-    let disk = g.D.Disk in
-    leaves_weaker disk.clock disk.left c.args.disk.now c.write_synced-2.new.disk _ _ (returns-clause-ordered g c keeps)
-    (whole_in_turn c.args.at c.args.bytes.now c.args.mark_at c.args.mark (disk.content c.args.disk.now) (disk.image c.args.disk.now) apart unmarked)

@@ -9,7 +9,7 @@ on_err (Ok value) P is = tt
 on_err (Err fault) P is = is
 
 pub returns-in_err-write_at-clause-failed : goal.returns-in_err-write_at-clause-failed
-returns-in_err-write_at-clause-failed g c keeps = on_err c.from_residual.result _ (inl (c.write_at.ensures.stay keeps))
+returns-in_err-write_at-clause-failed g c keeps = on_err c.from_residual.result _ (inl (c.write_at.ensures.writes keeps).stay)
 
 -- where the sync failed, what stood after the write stays or is the only image
 unsynced : {T E : Type 0} (r : Result T E) (old mid new : List ℕ → Type 0) (file content : List ℕ) → Within old mid → file ≡ content
@@ -28,4 +28,4 @@ returns-clause-failed g c keeps =
     let keeps_once = c.write_at.ensures.keeps ∙ keeps in
     unsynced c.sync.result (disk.image old) (disk.image mid) (disk.image c.sync.new.self) (disk.content mid)
     (laid c.args.at c.args.bytes.now (disk.content old))
-    (c.write_at.ensures.stay keeps) (c.in_ok-write_at.ensures.written keeps) (c.sync.ensures.failed keeps_once)
+    (c.write_at.ensures.writes keeps).stay (c.in_ok-write_at.ensures.writes keeps).written (c.sync.ensures.syncs keeps_once).failed

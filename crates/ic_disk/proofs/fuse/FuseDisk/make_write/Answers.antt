@@ -3,9 +3,10 @@ use Rattle.std.proofs.lemmas.Grind.{common_steps}
 use Rattle.ic_disk.specs.Model.{Write, write}
 use Rattle.ic_disk.specs.History.{History, with_call, with_failure}
 use Rattle.ic_disk.specs.FuseDisk.{disk_of}
+use Rattle.ic_disk.specs.Fuse.{IsTorn}
 use Rattle.ic_disk.proofs.FuseLemmas.{answers_by, either, err_same, on_ok_same, on_err_same}
 use Rattle.ic_disk.proofs.fuse.FuseDisk.make_write.Goals as goal
-use Rattle.ic_disk.proofs.fuse.FuseDisk.make_write.Goals.{in-Make, in-Skip, in-MakeAndFail}
+use Rattle.ic_disk.proofs.fuse.FuseDisk.make_write.Goals.{in-Make, in-Skip, in-MakeAndFail, in-Tear}
 
 pub returns-clause-fuse : goal.returns-clause-fuse
 returns-clause-fuse c =
@@ -25,5 +26,9 @@ returns-clause-fuse c =
       | in-MakeAndFail v ↦ answers_by _ _ (write w) c.count.result old new (sym c.take_turn.ensures.turn ∙ v.in-MakeAndFail.is) (
         err_same c.count.result c.match-take_turn.outcome c.count.ensures.variant (rw v.outcome-is refl),
         subst (λ (n : History). (n ≡ with_call (write w) old) ⊎ (n ≡ with_failure old)) (sym (ap disk_of v.self-is)) (either v.write_at.result _ _ v.write_at.ensures.ok v.write_at.ensures.err),
+      )
+      | in-Tear v ↦ answers_by _ _ (write w) c.count.result old new (sym c.take_turn.ensures.turn ∙ v.in-Tear.is) (
+        err_same c.count.result c.match-take_turn.outcome c.count.ensures.variant (rw v.outcome-is refl),
+        subst (λ (n : History). IsTorn v.in-Tear.n (write w) old n) (sym (ap disk_of v.self-is)) v.tear.ensures,
       )
     ]

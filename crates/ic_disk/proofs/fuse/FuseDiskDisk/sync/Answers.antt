@@ -1,6 +1,6 @@
 use Rattle.ic_disk.specs.Model.{sync}
 use Rattle.ic_disk.specs.FuseDisk.{disk_of, next_turn}
-use Rattle.ic_disk.proofs.FuseLemmas.{answers_ok, answers_err}
+use Rattle.ic_disk.proofs.FuseLemmas.{answers_ok, sync_answers_err}
 use Rattle.ic_disk.proofs.HistoryLemmas.{disk_sync}
 use Rattle.ic_disk.proofs.fuse.FuseDiskDisk.sync.Goals as goal
 
@@ -10,4 +10,4 @@ returns-clause-syncs c =
     let turn = next_turn c.args.self.now in
     let old = disk_of c.args.self.now in
     let new = disk_of made.new.self in
-    disk_sync old made.result new (answers_ok turn sync made.result old new made.ensures.fuse) (answers_err turn sync made.result old new made.ensures.fuse)
+    disk_sync old made.result new (answers_ok turn sync made.result old new made.ensures.fuse) (sync_answers_err turn made.result old new made.ensures.fuse)

@@ -1,0 +1,159 @@
+-- That whatever the written model allows is what the clauses of a disk say.
+use Rattle.std.proofs.Common.{◌≡◌, ◌⊎◌, inl, inr, ⊎_elim, ℕ, ◌+◌, ◌<◌, ◌≤◌, List, [], ◌∷◌, length, refl, sym, ap, subst, arith, Result, Ok, Err}
+use Rattle.ic_disk.specs.Images.{Only, Torn, TornFrom, Within}
+use Rattle.ic_disk.specs.Time.{Elapses}
+use Rattle.ic_disk.specs.DiskCalls.{ChangesNothing, IsDiskSync, IsDiskWrite}
+use Rattle.ic_disk.specs.Model.{Write, write, sync, State, begun, after, after_failed, IsImageIn}
+use Rattle.ic_disk.specs.Course.{AreBefore, Course, IsCourse, IsLeftAtOne, MaySync, MayWrite, Moment, after_call, calls_in, content_in, first_course, image_in, left_in}
+use Rattle.ic_disk.specs.lemmas.HistoryLaws.{write_reached}
+use Rattle.ic_disk.specs.lemmas.ImageLaws.{image_settled, settled_image, torn_laid, torn_same, within_torn}
+use Rattle.ic_disk.proofs.HistoryLemmas.{write_images}
+
+-- time goes on by a call
+elapses_in : (c : Course) (midst now : State) (P : List ℕ → Type 0) → Within (IsImageIn midst) P → Within (IsImageIn now) P
+    → Elapses (calls_in c) (calls_in (after_call midst now c)) (left_in c) (left_in (after_call midst now c)) P
+elapses_in c midst now P of_midst of_now = record {
+  later = omega arith;
+  one_call = omega arith;
+  nothing_else = λ t file come left. ⊎_elim
+      (λ present. inr (of_now file present.1))
+      (λ past. ⊎_elim (λ before. inl (inl before)) (λ rest. ⊎_elim (λ during. inr (of_midst file during.1)) (λ long_ago. inl (inr long_ago)) rest) past)
+      left;
+  keeps = λ t file come left. inr (⊎_elim (λ present. inl present) (λ past. inr (inr past)) left);
+}
+
+module _ (w : Write) (c : Course) where
+  abbrev Torn_images : List ℕ → Type 0
+  Torn_images = TornFrom w.at (length w.bytes) (image_in c)
+
+  abbrev pending : State
+  pending = after (write w) c.state
+
+  during : Within (IsImageIn pending) Torn_images
+  during = write_images w c.state
+
+  reached : Within Torn_images (IsImageIn pending)
+  reached = write_reached w c.state
+
+  before : Within (image_in c) Torn_images
+  before = within_torn w.at (length w.bytes) (image_in c)
+
+  stay : Within (image_in c) (IsImageIn pending)
+  stay file image = reached file (before file image)
+
+  abbrev Writes : {T E : Type 0} → Result T E → State → Type 0
+  Writes result now = IsDiskWrite content_in image_in calls_in left_in w.at w.bytes result c (after_call pending now c)
+
+  done : {T E : Type 0} (value : T) → Writes {T = T} {E = E} (Ok value) pending
+  done value = record {
+    written = refl;
+    torn = tt;
+    images = during;
+    stay = stay;
+    reached = reached;
+    failed = tt;
+    time = elapses_in c pending pending Torn_images during during;
+  }
+
+  not_done : {T E : Type 0} (fault : E) → Writes {T = T} {E = E} (Err fault) c.state
+  not_done fault = record {
+    written = tt;
+    torn = torn_same w.at (length w.bytes) (content_in c);
+    images = before;
+    stay = λ file image. image;
+    reached = tt;
+    failed = inl (refl, λ file image. image);
+    time = elapses_in c pending c.state Torn_images during before;
+  }
+
+  torn : {T E : Type 0} (fault : E) (content : List ℕ) → Torn w.at (length w.bytes) (content_in c) content → Writes {T = T} {E = E} (Err fault) (after_failed w content c.state)
+  torn fault content is = record {
+    written = tt;
+    torn = is;
+    images = during;
+    stay = stay;
+    reached = tt;
+    failed = inr reached;
+    time = elapses_in c pending (after_failed w content c.state) Torn_images during during;
+  }
+
+  pub write_in : {T E : Type 0} (result : Result T E) (now : State) → MayWrite w result c.state now → Writes result now
+  write_in {T = T} {E = E} (Ok value) now may = subst (λ (s : State). Writes {T = T} {E = E} (Ok value) s) (sym may) (done value)
+  write_in {T = T} {E = E} (Err fault) now may = ⊎_elim
+      (λ same. subst (λ (s : State). Writes {T = T} {E = E} (Err fault) s) (sym same) (not_done fault))
+      (λ tears. subst (λ (s : State). Writes {T = T} {E = E} (Err fault) s) (sym tears.1) (torn fault now.content tears.0))
+      may
+
+-- a sync
+module _ (c : Course) (image : image_in c (content_in c)) where
+  abbrev Syncs : {T E : Type 0} → Result T E → State → Type 0
+  Syncs result now = IsDiskSync content_in image_in calls_in left_in result c (after_call c.state now c)
+
+  only : Only (content_in c) (IsImageIn (after sync c.state))
+  only = image_settled (content_in c)
+
+  within : Within (IsImageIn (after sync c.state)) (image_in c)
+  within file is = subst (image_in c) (sym (only.no_other file is)) image
+
+  synced : {T E : Type 0} (value : T) → Syncs {T = T} {E = E} (Ok value) (after sync c.state)
+  synced value = record { same = refl; durable = only; images = within; failed = tt; time = elapses_in c c.state (after sync c.state) (image_in c) (λ file is. is) within }
+
+  not_synced : {T E : Type 0} (fault : E) → Syncs {T = T} {E = E} (Err fault) c.state
+  not_synced fault = record { same = refl; durable = tt; images = λ file is. is; failed = inl (λ file is. is); time = elapses_in c c.state c.state (image_in c) (λ file is. is) (λ file is. is) }
+
+  synced_all_the_same : {T E : Type 0} (fault : E) → Syncs {T = T} {E = E} (Err fault) (after sync c.state)
+  synced_all_the_same fault = record { same = refl; durable = tt; images = within; failed = inr only; time = elapses_in c c.state (after sync c.state) (image_in c) (λ file is. is) within }
+
+  pub sync_in : {T E : Type 0} (result : Result T E) (now : State) → MaySync result c.state now → Syncs result now
+  sync_in {T = T} {E = E} (Ok value) now may = subst (λ (s : State). Syncs {T = T} {E = E} (Ok value) s) (sym may) (synced value)
+  sync_in {T = T} {E = E} (Err fault) now may = ⊎_elim
+      (λ same. subst (λ (s : State). Syncs {T = T} {E = E} (Err fault) s) (sym same) (not_synced fault))
+      (λ took. subst (λ (s : State). Syncs {T = T} {E = E} (Err fault) s) (sym took) (synced_all_the_same fault))
+      may
+
+-- a call that changes nothing
+pub nothing_in : (c : Course) → ChangesNothing content_in image_in calls_in left_in c (after_call c.state c.state c)
+nothing_in c = record { same = refl; images = λ file is. is; stay = λ file is. is; time = elapses_in c c.state c.state (image_in c) (λ file is. is) (λ file is. is) }
+
+-- ---- what holds of each course
+
+later : (n : ℕ) (ms : List Moment) → AreBefore n ms → AreBefore (n + 1) ms
+later n [] past = tt
+later n (m ∷ ms) past = (omega (arith, past.0), later n ms past.1)
+
+-- a moment at which fewer calls had ended isn't one since then
+none_since : (n : ℕ) (ms : List Moment) (file : List ℕ) → AreBefore n ms → IsLeftAtOne ms n file → ⊥
+none_since n [] file past left = left
+none_since n (m ∷ ms) file past left = ⊎_elim (λ here. absurd (omega (arith, past.0, here.0))) (λ rest. none_since n ms file past.1 rest) left
+
+pub begins : (file : List ℕ) → IsCourse (first_course file)
+begins file = record { content_is_image = settled_image file; past_is_before = tt }
+
+goes_on : (midst now : State) (c : Course) → IsCourse c → IsImageIn now now.content → IsCourse (after_call midst now c)
+goes_on midst now c is image = record { content_is_image = image; past_is_before = (omega arith, (omega arith, later c.calls c.past is.past_is_before)) }
+
+written_image : {T E : Type 0} (w : Write) (result : Result T E) (s now : State) → IsImageIn s s.content → MayWrite w result s now → IsImageIn now now.content
+written_image w (Ok value) s now image may = subst (λ (n : State). IsImageIn n n.content) (sym may) (write_reached w s (after (write w) s).content (s.content, image, torn_laid w.at w.bytes s.content))
+written_image w (Err fault) s now image may = ⊎_elim
+    (λ same. subst (λ (n : State). IsImageIn n n.content) (sym same) image)
+    (λ tears. subst (λ (n : State). IsImageIn n now.content) (sym tears.1) (write_reached w s now.content (s.content, image, tears.0)))
+    may
+
+synced_image : {T E : Type 0} (result : Result T E) (s now : State) → IsImageIn s s.content → MaySync result s now → IsImageIn now now.content
+synced_image (Ok value) s now image may = subst (λ (n : State). IsImageIn n n.content) (sym may) (settled_image s.content)
+synced_image (Err fault) s now image may = ⊎_elim
+    (λ same. subst (λ (n : State). IsImageIn n n.content) (sym same) image)
+    (λ took. subst (λ (n : State). IsImageIn n n.content) (sym took) (settled_image s.content))
+    may
+
+pub goes_on_writing : {T E : Type 0} (w : Write) (result : Result T E) (c : Course) (now : State) → IsCourse c → MayWrite w result c.state now → IsCourse (after_call (after (write w) c.state) now c)
+goes_on_writing w result c now is may = goes_on (after (write w) c.state) now c is (written_image w result c.state now is.content_is_image may)
+
+pub goes_on_syncing : {T E : Type 0} (result : Result T E) (c : Course) (now : State) → IsCourse c → MaySync result c.state now → IsCourse (after_call c.state now c)
+goes_on_syncing result c now is may = goes_on c.state now c is (synced_image result c.state now is.content_is_image may)
+
+pub goes_on_reading : (c : Course) → IsCourse c → IsCourse (after_call c.state c.state c)
+goes_on_reading c is = goes_on c.state c.state c is is.content_is_image
+
+pub left_is_image_in : (c : Course) (file : List ℕ) → IsCourse c → left_in c c.calls file → image_in c file
+left_is_image_in c file is left = ⊎_elim (λ present. present.1) (λ past. absurd (none_since c.calls c.past file is.past_is_before past)) left
