@@ -1,5 +1,5 @@
 -- The lasting numbers of faults. This project's choice.
-use Rattle.std.specs.Prelude.{ℕ}
+use Rattle.std.specs.Prelude.{ℕ, List, [], ◌∷◌}
 use Rattle.ic_frames.specs.declared.faults.KeepFault.{KeepFault}
 use Rattle.ic_frames.specs.declared.faults.KeepFault.TheVariants.{Broken, Worn}
 use Rattle.ic_frames.specs.declared.faults.KeepFault.TheVariants.{Device as KeepDevice}
@@ -18,3 +18,10 @@ open_cause_number NoSlot = 2
 open_cause_number TwoAlike = 3
 open_cause_number Damaged = 4
 open_cause_number Memory = 5
+
+-- all faults, in the order of their lasting numbers
+abbrev pub all_keep_faults : List KeepFault
+all_keep_faults = Broken ∷ Worn ∷ KeepDevice ∷ []
+
+abbrev pub all_open_causes : List OpenCause
+all_open_causes = OpenDevice ∷ NoSlot ∷ TwoAlike ∷ Damaged ∷ Memory ∷ []

@@ -12,11 +12,11 @@ use thiserror::Error;
 #[derive(Clone, Copy, Debug, PartialEq, Eq, Error)]
 pub enum KeepFault {
     #[error("an earlier call to the disk has failed")]
-    Broken,
+    Broken = 1,
     #[error("the numbers of the slots are used up")]
-    Worn,
+    Worn = 2,
     #[error("a call to the disk has failed")]
-    Device,
+    Device = 3,
 }
 
 impl KeepFault {
@@ -26,11 +26,7 @@ impl KeepFault {
     pub fn number(self) -> u8
         ensures { result ≡ keep_fault_number self }
     {
-        match self {
-            KeepFault::Broken => 1,
-            KeepFault::Worn => 2,
-            KeepFault::Device => 3,
-        }
+        self as u8
     }
 }
 
@@ -46,15 +42,15 @@ impl From<DiskFault> for KeepFault {
 #[derive(Clone, Copy, Debug, PartialEq, Eq, Error)]
 pub enum OpenCause {
     #[error("a call to the disk has failed")]
-    Device,
+    Device = 1,
     #[error("no slot of the disk is open")]
-    NoSlot,
+    NoSlot = 2,
     #[error("the two slots of the disk have one number")]
-    TwoAlike,
+    TwoAlike = 3,
     #[error("the newest slot of the disk is damaged")]
-    Damaged,
+    Damaged = 4,
     #[error("out of memory")]
-    Memory,
+    Memory = 5,
 }
 
 impl OpenCause {
@@ -64,13 +60,7 @@ impl OpenCause {
     pub fn number(self) -> u8
         ensures { result ≡ open_cause_number self }
     {
-        match self {
-            OpenCause::Device => 1,
-            OpenCause::NoSlot => 2,
-            OpenCause::TwoAlike => 3,
-            OpenCause::Damaged => 4,
-            OpenCause::Memory => 5,
-        }
+        self as u8
     }
 }
 

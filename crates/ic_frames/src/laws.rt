@@ -1,6 +1,6 @@
 //! Laws of the definitions that the contracts of this crate cite.
 
-ghost use Rattle.std.specs.Prelude.{◌≡◌, ◌⊎◌, ◌↔◌, ◌+◌, ◌-◌, ◌^◌, ◌<◌, ◌≤◌, true, false, List, [], ◌∷◌, ◌++◌, ℕ, codes, length, slice_index, IsErrOf, Result, Err};
+ghost use Rattle.std.specs.Prelude.{◌≡◌, ◌⊎◌, ◌↔◌, ◌+◌, ◌-◌, ◌^◌, ◌<◌, ◌≤◌, true, false, List, [], ◌∷◌, ◌++◌, ℕ, codes, length, map, slice_index, Contains, IsErrOf, Result, Err};
 ghost use Rattle.ic_disk.specs.Content.{bytes_at};
 ghost use Rattle.ic_frames.specs.declared.faults.KeepFault.{KeepFault};
 ghost use Rattle.ic_frames.specs.declared.faults.KeepFault.TheVariants.{Device as KeepDevice};
@@ -16,6 +16,7 @@ ghost use Rattle.ic_frames.specs.Opened.{IsOnNewest};
 ghost use Rattle.ic_frames.specs.Faults.{CountsKeep, CountsOpen};
 ghost use Rattle.ic_frames.specs.Fields.{number, size, is_open, is_whole, body, IsMade};
 ghost use Rattle.ic_frames.specs.Layout.{slot_bytes, AreBytes};
+ghost use Rattle.ic_frames.specs.Numbers.{all_keep_faults, all_open_causes, keep_fault_number, open_cause_number};
 ghost use Rattle.ic_frames.specs.Opening.{Answers};
 ghost use Rattle.ic_frames.specs.Staged.{IsStaged};
 ghost use Rattle.ic_frames.specs.Held.{Held, IsNewest, IsShut, HasTwoAlike, HasSameHeads, body_held, the_body, no_slot, two_alike, damaged};
@@ -78,6 +79,14 @@ pub fn a_failure_is_counted()
         → (new ≡ old + 1) ⊎ ((old ≡ 2 ^ 64 - 1) × (new ≡ old)) }
     ensures open_else { (result : Result (Unit {0}) OpenCause) (old new : ℕ)
         → CountsOpen result old new → ¬ IsErrOf result OpenDevice → new ≡ old }
+{}
+
+/// The lasting numbers of the faults.
+pub fn numbers_are_lasting()
+    ensures keep_all { (fault : KeepFault) → Contains all_keep_faults fault }
+    ensures keep_numbers { map keep_fault_number all_keep_faults ≡ 1 ∷ 2 ∷ 3 ∷ [] }
+    ensures open_all { (cause : OpenCause) → Contains all_open_causes cause }
+    ensures open_numbers { map open_cause_number all_open_causes ≡ 1 ∷ 2 ∷ 3 ∷ 4 ∷ 5 ∷ [] }
 {}
 
 /// A refusal to open says what the disk holds.

@@ -1,7 +1,7 @@
 -- What the program says of a disk that isn't created or opened (this project's choice).
 use Rattle.std.specs.Prelude.{ℕ, List, [], ◌∷◌, ◌++◌, codes}
-use Rattle.ic_slots.specs.declared.faults.CreateFault.{CreateFault}
-use Rattle.ic_slots.specs.declared.faults.CreateFault.TheVariants as creating
+use Rattle.ic_slots.specs.declared.fault.CreateFault.{CreateFault}
+use Rattle.ic_slots.specs.declared.fault.CreateFault.TheVariants as creating
 use Rattle.ic_frames.specs.declared.faults.OpenCause.{OpenCause}
 use Rattle.ic_frames.specs.declared.faults.OpenCause.TheVariants as opening
 use Rattle.ic_serving.specs.declared.disk_refused.DiskRefused.{DiskRefused}

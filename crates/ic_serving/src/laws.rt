@@ -5,7 +5,7 @@ ghost use Rattle.std.specs.List.{AllByRecursion};
 ghost use Rattle.std.specs.Io.KnownBytes.{Appends};
 ghost use Rattle.ic_disk.specs.Time.{LeavesOnly, OneMore};
 ghost use Rattle.ic_frames.specs.declared.faults.OpenCause.TheVariants as opening;
-ghost use Rattle.ic_slots.specs.declared.faults.CreateFault.TheVariants as creating;
+ghost use Rattle.ic_slots.specs.declared.fault.CreateFault.TheVariants as creating;
 ghost use Rattle.ic_pool.specs.declared.fault.PoolFault.{PoolFault};
 ghost use Rattle.ic_pool.specs.declared.fault.PoolFault.TheVariants as pool_fault;
 ghost use Rattle.ic_jobs.specs.declared.command.Command.{Command};

@@ -1,8 +1,8 @@
 -- That a fault of the disk is told exactly where a failure was counted.
 use Rattle.std.specs.Prelude.{◌≡◌, ℕ, Result, Ok, Err}
 use Rattle.ic_disk.specs.Time.{OneMore}
-use Rattle.ic_slots.specs.declared.faults.CreateFault.{CreateFault}
-use Rattle.ic_slots.specs.declared.faults.CreateFault.TheVariants.{Device, Memory}
+use Rattle.ic_slots.specs.declared.fault.CreateFault.{CreateFault}
+use Rattle.ic_slots.specs.declared.fault.CreateFault.TheVariants.{Device, Memory}
 
 -- `Device` has one failure more counted, and all else has none
 abbrev pub CountsCreate : {T : Type 0} → Result T CreateFault → ℕ → ℕ → Type 0

@@ -1,6 +1,6 @@
 //! Laws of the definitions that the contracts of this crate cite.
 
-ghost use Rattle.std.specs.Prelude.{◌≡◌, ◌⊎◌, ◌+◌, ◌-◌, ◌^◌, true, List, ℕ, IsErrOf, Result, Err};
+ghost use Rattle.std.specs.Prelude.{◌≡◌, ◌⊎◌, ◌+◌, ◌-◌, ◌^◌, true, List, [], ◌∷◌, ℕ, map, Contains, IsErrOf, Result, Err};
 ghost use Rattle.ic_jobs.specs.Job.{JobParts};
 ghost use Rattle.ic_jobs.specs.Table.{IsTable};
 ghost use Rattle.ic_codec.specs.Tables.{table_bytes};
@@ -11,10 +11,11 @@ ghost use Rattle.ic_frames.specs.Places.{place};
 ghost use Rattle.ic_frames.specs.Fields.{is_whole, body};
 ghost use Rattle.ic_frames.specs.Held.{IsNewest};
 ghost use Rattle.ic_frames.specs.declared.faults.OpenCause.TheVariants.{NoSlot, TwoAlike, Damaged};
-ghost use Rattle.ic_slots.specs.declared.faults.CreateFault.{CreateFault};
-ghost use Rattle.ic_slots.specs.declared.faults.CreateFault.TheVariants.{Device as CreateDevice};
+ghost use Rattle.ic_slots.specs.declared.fault.CreateFault.{CreateFault};
+ghost use Rattle.ic_slots.specs.declared.fault.CreateFault.TheVariants.{Device as CreateDevice};
 ghost use Rattle.ic_slots.specs.Faults.{CountsCreate};
 ghost use Rattle.ic_slots.specs.Held.{Held, IsHeld, the_table, no_slot, two_alike, damaged};
+ghost use Rattle.ic_slots.specs.Numbers.{all_create_faults, create_fault_number};
 ghost use Rattle.ic_slots.specs.Opening.{Says};
 
 use ic_codec::laws::each_table_has_its_own_bytes;
@@ -55,6 +56,12 @@ pub fn a_failure_is_counted()
         → (new ≡ old + 1) ⊎ ((old ≡ 2 ^ 64 - 1) × (new ≡ old)) }
     ensures create_else { (result : Result (Unit {0}) CreateFault) (old new : ℕ)
         → CountsCreate result old new → ¬ IsErrOf result CreateDevice → new ≡ old }
+{}
+
+/// The lasting numbers of the faults of `create`.
+pub fn numbers_are_lasting()
+    ensures all { (fault : CreateFault) → Contains all_create_faults fault }
+    ensures numbers { map create_fault_number all_create_faults ≡ 1 ∷ 2 ∷ [] }
 {}
 
 /// The longest byte form of a table is the longest body of a slot.

@@ -8,11 +8,11 @@
 #![tactic(auto)]
 
 mod creation;
-mod faults;
+mod fault;
 mod keeper;
 pub mod laws;
 
 pub use creation::create;
-pub use faults::CreateFault;
+pub use fault::CreateFault;
 pub use ic_frames::{KeepFault, OpenCause, OpenFault};
 pub use keeper::Keeper;

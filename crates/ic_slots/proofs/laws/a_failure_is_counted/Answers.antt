@@ -1,7 +1,7 @@
 use Rattle.std.proofs.Common.{◌≡◌, ◌⊎◌, inl, inr, ⊎_elim, ◌+◌, ◌-◌, ◌^◌, ℕ, Result, Ok, Err, IsErrOf, refl}
 use Rattle.ic_disk.specs.Time.{OneMore}
-use Rattle.ic_slots.specs.declared.faults.CreateFault.{CreateFault}
-use Rattle.ic_slots.specs.declared.faults.CreateFault.TheVariants.{Device as CreateDevice, Memory}
+use Rattle.ic_slots.specs.declared.fault.CreateFault.{CreateFault}
+use Rattle.ic_slots.specs.declared.fault.CreateFault.TheVariants.{Device as CreateDevice, Memory}
 use Rattle.ic_slots.specs.Faults.{CountsCreate}
 use Rattle.ic_slots.proofs.laws.a_failure_is_counted.Goals as goal
 

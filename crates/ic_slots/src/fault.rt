@@ -1,7 +1,7 @@
 //! Why a disk wasn't created.
 
 ghost use Rattle.std.specs.Prelude.{◌≡◌};
-ghost use Rattle.ic_slots.specs.declared.faults.CreateFault.TheVariants.{Device, Memory};
+ghost use Rattle.ic_slots.specs.declared.fault.CreateFault.TheVariants.{Device, Memory};
 
 use ic_disk::DiskFault;
 use std::alloc::AllocError;
@@ -11,9 +11,9 @@ use thiserror::Error;
 #[derive(Clone, Copy, Debug, PartialEq, Eq, Error)]
 pub enum CreateFault {
     #[error("a call to the disk has failed")]
-    Device,
+    Device = 1,
     #[error("out of memory")]
-    Memory,
+    Memory = 2,
 }
 
 impl CreateFault {
@@ -23,10 +23,7 @@ impl CreateFault {
     pub fn number(self) -> u8
         ensures { result ≡ create_fault_number self }
     {
-        match self {
-            CreateFault::Device => 1,
-            CreateFault::Memory => 2,
-        }
+        self as u8
     }
 }
 
