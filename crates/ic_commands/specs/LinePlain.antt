@@ -1,5 +1,5 @@
--- To be believed: how each line is written in its plainest form, with one space behind its word, and the words of a line
--- in its order (this project's choice).
+-- To be believed: how each line is written in its plainest form, with one space behind its word, and the words of each
+-- line in order (this project's choice).
 use Rattle.std.specs.Prelude.{◌≡◌, ℕ, ◌≤◌, List, [], ◌∷◌, ◌++◌, Ok, true, length, IsTrue, codes}
 use Rattle.std.specs.List.{list_all}
 use Rattle.std.specs.Fmt.{decimal}

@@ -63,7 +63,7 @@ pub fn command_words_are()
 {}
 
 /// What each line asks that is written in its plainest form: each command with one space behind its word, a run, a line
-/// of blanks. A job's name of more than 16 bytes passes a limit, in a submit where the text behind it is a system; and so
+/// of blanks. A job's name of more than 16 bytes passes a limit, in a submit where the text behind it is a system. So
 /// does a number of more than 1,000, however long it is.
 pub fn commands_ask()
     ensures plain { (line : Line) (text : List ℕ) → IsPlainly line text → ReadsLine text (Ok line) }
@@ -102,7 +102,7 @@ pub fn names_of_jobs_and_numbers_are()
         w ≡ decimal (number_in w) }
 {}
 
-/// The words and the forms of answers: each is its words with a space between. These are all states, refusals and replies.
+/// The words and the forms of answers: each is its words with a space between. These are all states and refusals.
 pub fn answers_are()
     ensures answers { (r : Reply) → reply_text r ≡ join_with_byte 32 (reply_words r) }
     ensures all_states { (s : State) → Contains (Running ∷ Paused ∷ Done ∷ Halted ∷ []) s }

@@ -36,8 +36,8 @@ pub record IsCommandServed (t : List JobParts) (c : Command) (answers : List ℕ
   pub answered : answers ≡ ended (reply_text outcome.reply)
   pub leaves : left ≡ outcome.table
 
--- This is answered to a line that is read so, and it leaves this table: nothing to blanks, its refusal to a refused line,
--- both of which leave the table; its reply to a command; and to a run how many rounds it made.
+-- This is answered to a line that is read so, and it leaves this table. Blanks are answered nothing and a refused line its
+-- refusal, and both leave the table; a command is answered its reply, and a run how many rounds it made.
 abbrev pub IsLineAnswered : List JobParts → Reading → List ℕ → List JobParts → Type 0
 IsLineAnswered t (Ok Blank) answers left = (answers ≡ []) × (left ≡ t)
 IsLineAnswered t (Ok (Asks c)) answers left = IsCommandServed t c answers left

@@ -31,8 +31,8 @@ pub fn limits_are()
     ensures nodes { MAX_RULE_NODES ≡ 2048 }
 {}
 
-/// The nodes of a rule are those of the arguments of both its sides, however deep they nest: as terms, its two agents have
-/// two nodes more.
+/// The nodes of a rule are those of the arguments of both its sides, however deep they nest: as terms, its two agents
+/// have two nodes more.
 pub fn rule_nodes_are_those_of_both_sides()
     ensures agents { (r : Rule) → nodes (agent r.left (trees_of r.left_args))
         + nodes (agent r.right (trees_of r.right_args)) ≡ rule_nodes r + 2 }

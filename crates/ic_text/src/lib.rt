@@ -3,8 +3,8 @@
 //! `read_config` answers what a text means, or the first refusal: its value is `sense` of the one phrase that the text
 //! spells. `read_system` does the same of rules and a configuration, and `is_system` tells whether a text is one.
 //! `print_config` and `put_config` write the tokens of a configuration without blanks, and `print_fault` the line of a
-//! refusal. For texts that hold others, `is_blank`, `is_word_byte`, `is_numeral` and `number_in` say what parts words and what
-//! digits write. `laws` holds what is proved of the definitions alone.
+//! refusal. For texts that hold others, `is_blank`, `is_word_byte`, `is_numeral` and `number_in` say what parts words and
+//! what digits write. `laws` holds what is proved of the definitions alone.
 #![tactic(auto)]
 
 mod build;

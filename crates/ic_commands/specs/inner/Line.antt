@@ -53,7 +53,9 @@ pub record IsLineOf (o : Option (List Token)) (answer : Result Line TextFault) :
 
 -- these tokens are those of the submit of some job
 abbrev pub IsSubmitLine : Option (List Token) → Type 0
-IsSubmitLine o = (name : List ℕ) × (s : SystemPhrase) × IsLine (submit name s) × (o ≡ Some (line_words (submit name s)))
+IsSubmitLine o =
+    (name : List ℕ) × (s : SystemPhrase) × IsLine (submit name s)
+    × (o ≡ Some (line_words (submit name s)))
 
 -- what the text behind the first word makes of a line
 abbrev pub ReadsBehind : Opening → List ℕ → Result Line TextFault → Type 0
