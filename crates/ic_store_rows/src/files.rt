@@ -7,8 +7,8 @@ use std::fs;
 use std::fs::{File, OpenOptions};
 use std::test::Fail;
 
-// A path of its own for a test of this process.
-fn path_of(rt: &HostRuntime, name: &str) -> Result<String, Fail> {
+/// A path of its own for a test of this process.
+pub fn path_of(rt: &HostRuntime, name: &str) -> Result<String, Fail> {
     let id = std::process::id(rt.process());
     Ok(format!(in rt.alloc(); "/tmp/ic_store_rows_{id}_{name}")?)
 }

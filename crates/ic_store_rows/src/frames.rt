@@ -5,7 +5,7 @@
 use crate::framed::{
     SECOND, begun, body_on, bytes_after, changed, frames_on, keep_body, kept, stage_body,
 };
-use ic_disk::{FileDisk, MemDisk};
+use ic_disk::{Blow, Choice, FileDisk, FuseDisk, MemDisk, Then};
 use ic_frames::{Frames, MAX_BODY, OpenCause};
 use std::alloc::{AllocError, Global};
 use std::fs;
@@ -87,6 +87,48 @@ fn phases_by_themselves(rt: HostRuntime) -> Result<(), Fail> {
     keep_body(alloc, &mut frames, b"next")??;
     let held = body_on(alloc, frames.close())?;
     assert!(rt; held.as_slice() == b"next".as_slice());
+    Ok(())
+}
+
+// Whether this crash leaves the body that was kept or the next one, where call `at` is torn behind so
+// many bytes. An opening of two slots makes nine calls, and a keep over an open slot six.
+fn leaves_one(alloc: Global, at: u64, torn: u64, choice: Choice) -> Result<bool, Fail> {
+    let disk = MemDisk::from_bytes(bytes_after(alloc, &[b"older", b"old"])?);
+    let fused = FuseDisk::new(disk, at, Blow::Torn(torn), Then::Stop);
+    let mut frames = frames_on(alloc, fused)?;
+    let refused = keep_body(alloc, &mut frames, b"next")?.is_err();
+    let held = body_on(alloc, frames.close().into_inner().crash(choice)?)?;
+    let is_either = held.as_slice() == b"old".as_slice() || held.as_slice() == b"next".as_slice();
+    Ok(refused && is_either)
+}
+
+// Which call of the keep is torn, behind how many bytes, and what a crash takes then.
+const TORN_KEEPS: &[(u64, u64, Choice)] = &[
+    (10, 0, Choice::Written),
+    (10, 0, Choice::Fill(1)),
+    (12, 0, Choice::Written),
+    (12, 8, Choice::Written),
+    (12, 13, Choice::Fill(9)),
+    (12, 15, Choice::Front(14)),
+    (13, 0, Choice::Synced),
+    (14, 0, Choice::Written),
+    (14, 0, Choice::Fill(1)),
+    (14, 1, Choice::Synced),
+    (15, 0, Choice::Synced),
+];
+
+fn each_leaves_one(alloc: Global, cases: &[(u64, u64, Choice)]) -> Result<bool, Fail> {
+    for case in cases {
+        if !leaves_one(alloc, case.0, case.1, case.2)? {
+            return Ok(false);
+        }
+    }
+    Ok(true)
+}
+
+#[test]
+fn torn_keeps(rt: HostRuntime) -> Result<(), Fail> {
+    assert!(rt; each_leaves_one(rt.alloc(), TORN_KEEPS)?);
     Ok(())
 }
 

@@ -81,6 +81,62 @@ fn fuse_at_each_call(rt: HostRuntime) -> Result<(), Fail> {
     Ok(())
 }
 
+// How many bytes of a write of three in the midst of five are laid where it is torn, and what reads
+// give then.
+const TORN: &[(u64, &[u8])] = &[
+    (0, &[10, 0, 0, 0, 14]),
+    (1, &[10, 21, 0, 0, 14]),
+    (2, &[10, 21, 22, 0, 14]),
+    (3, &[10, 21, 22, 23, 14]),
+    (u64::MAX, &[10, 21, 22, 23, 14]),
+];
+
+// Whether such a write is an Err, is seen by reads and by a crash, and is lost by another.
+fn is_torn(alloc: Global, n: u64, want: &[u8]) -> Result<bool, Fail> {
+    let bytes = [10, 11, 12, 13, 14].as_slice();
+    let disk = MemDisk::from_bytes(bytes.to_vec(alloc)?);
+    let mut fused = FuseDisk::new(disk, 1, Blow::Torn(n), Then::GoOn);
+    let refused = fused.write_at(1, &[21, 22, 23]).is_err();
+    let mut into = [0; 5];
+    fused.read(0, &mut into)?;
+    let seen = into.as_slice() == want;
+    let left = fused.into_inner().crash(Choice::Written)?;
+    Ok(refused && seen && left.bytes() == want)
+}
+
+fn are_torn(alloc: Global, cases: &[(u64, &[u8])]) -> Result<bool, Fail> {
+    for case in cases {
+        if !is_torn(alloc, case.0, case.1)? {
+            return Ok(false);
+        }
+    }
+    Ok(true)
+}
+
+#[test]
+fn torn_writes(rt: HostRuntime) -> Result<(), Fail> {
+    assert!(rt; are_torn(rt.alloc(), TORN)?);
+    Ok(())
+}
+
+// What a crash leaves of a write that was torn: its whole range is pending. A sync that is torn isn't
+// made.
+#[test]
+fn torn_write_is_pending(rt: HostRuntime) -> Result<(), Fail> {
+    let alloc = rt.alloc();
+    let mut first = FuseDisk::new(MemDisk::new(alloc), 1, Blow::Torn(1), Then::GoOn);
+    assert!(rt; first.write_at(2, b"ab").is_err());
+    let left = first.into_inner().crash(Choice::Fill(7))?;
+    assert!(rt; left.bytes() == [7, 7, 7, 7].as_slice());
+
+    let mut second = FuseDisk::new(MemDisk::new(alloc), 2, Blow::Torn(1), Then::GoOn);
+    second.write_at(0, b"ab")?;
+    assert!(rt; second.sync().is_err());
+    let left = second.into_inner().crash(Choice::Synced)?;
+    assert!(rt; left.bytes() == b"".as_slice());
+    Ok(())
+}
+
 // The first bytes of the disk, where it has as many.
 fn front<D: Disk>(disk: &mut D, into: &mut [u8]) -> Result<u64, DiskFault> {
     let len = disk.len()?;

@@ -14,4 +14,6 @@ mod frames;
 #[cfg(test)]
 mod fuses;
 #[cfg(test)]
+mod large_files;
+#[cfg(test)]
 mod slow_files;
