@@ -2,8 +2,6 @@
 -- was counted.
 use Rattle.std.specs.Prelude.{◌≡◌, ℕ, List, [], ◌∷◌, Result, Ok, Err}
 use Rattle.ic_disk.specs.Time.{OneMore}
-use Rattle.ic_frames.specs.declared.faults.KeepFault.{KeepFault}
-use Rattle.ic_frames.specs.declared.faults.KeepFault.TheVariants as keeping
 use Rattle.ic_desk.specs.declared.fault.BookFault.{BookFault}
 use Rattle.ic_desk.specs.declared.fault.BookFault.TheVariants.{Broken, LogFull, Worn, Memory, Device}
 
@@ -18,12 +16,6 @@ fault_number LogFull = 2
 fault_number Worn = 3
 fault_number Memory = 4
 fault_number Device = 5
-
--- a refusal of a keep as one of a book
-abbrev pub book_fault : KeepFault → BookFault
-book_fault keeping.Broken = Broken
-book_fault keeping.Worn = Worn
-book_fault keeping.Device = Device
 
 -- `Device` has one failure more counted, and all else has none
 abbrev pub CountsBook : {T : Type 0} → Result T BookFault → ℕ → ℕ → Type 0

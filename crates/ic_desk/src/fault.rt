@@ -2,9 +2,7 @@
 
 ghost use Rattle.std.specs.Prelude.{◌≡◌};
 ghost use Rattle.ic_desk.specs.declared.fault.BookFault.TheVariants.{Memory};
-ghost use Rattle.ic_desk.specs.Refusals.{book_fault};
 
-use ic_slots::KeepFault;
 use std::alloc::AllocError;
 use thiserror::Error;
 
@@ -39,17 +37,5 @@ impl From<AllocError> for BookFault {
 
     fn from(_: AllocError) -> Self {
         BookFault::Memory
-    }
-}
-
-impl From<KeepFault> for BookFault {
-    ghost from_gives = { λ f e. e ≡ book_fault f };
-
-    fn from(fault: KeepFault) -> Self {
-        match fault {
-            KeepFault::Broken => BookFault::Broken,
-            KeepFault::Worn => BookFault::Worn,
-            KeepFault::Device => BookFault::Device,
-        }
     }
 }

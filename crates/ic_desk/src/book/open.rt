@@ -1,10 +1,10 @@
 //! Opening a book.
 
-ghost use Rattle.std.specs.Prelude.{◌≡◌, [], false, IsTrue, OnOk, IsErrOf, IfOk, IfErr};
-ghost use Rattle.ic_disk.specs.Images.{Only, Within};
-ghost use Rattle.ic_disk.specs.Time.{LeavesOnly};
+ghost use Rattle.std.specs.Prelude.{◌≡◌, [], false, IsTrue, OnOk, IfOk, IfErr};
+ghost use Rattle.ic_disk.specs.Images.{Within};
 ghost use Rattle.ic_frames.specs.Fields.{IsMade};
 ghost use Rattle.ic_frames.specs.Faults.{CountsOpen};
+ghost use Rattle.ic_frames.specs.Opening.{LeavesAsFound};
 ghost use Rattle.ic_slots.specs.Held.{IsHeld, the_table};
 ghost use Rattle.ic_slots.specs.Opening.{Says};
 ghost use Rattle.ic_desk.specs.Book.{start_of, log_of, table_of, kept_of, is_broken};
@@ -19,7 +19,8 @@ impl<D: Disk> Book<D> {
     /// Finds the table that a disk holds. The book begins with it, and with an empty log. It begins
     /// with a sync, and changes nothing. A fault hands the disk back.
     pub fn open(alloc: Global, disk: D) -> Result<Book<D>, OpenFault<D>>
-        ensures keeps { D.keeps (disk_after result) ≡ D.keeps disk }
+        ensures crash { LeavesAsFound D.keeps D.content D.image D.clock D.left
+            (outcome_of result) disk (disk_after result) }
         ensures counted { CountsOpen (outcome_of result)
             (D.failures disk) (D.failures (disk_after result)) }
 
@@ -33,19 +34,8 @@ impl<D: Disk> Book<D> {
         ensures log { IfOk result (λ book. log_of book ≡ []) }
         ensures kept { IfOk result (λ book. kept_of book ≡ 0) }
         ensures ready { IfOk result (λ book. is_broken book ≡ false) }
-
-        // A crash at any moment leaves an image from before. At Ok there is one, what reads give.
-        ensures any_moment { IsTrue (D.keeps disk)
-            → LeavesOnly D.clock D.left disk (disk_after result) (D.image disk) }
-        ensures same { IsTrue (D.keeps disk) → D.content (disk_after result) ≡ D.content disk }
-        ensures settled { IsTrue (D.keeps disk)
-            → OnOk result (Only (D.content disk) (D.image (disk_after result))) }
         ensures made { IsTrue (D.keeps disk) → IsMade (D.content disk)
             → OnOk result (Within (D.image (disk_after result)) IsMade) }
-
-        // It is the only one wherever no call to the disk has failed: a sync has come before.
-        ensures synced { IsTrue (D.keeps disk) → ¬ IsErrOf (outcome_of result) OpenCause.Device
-            → Only (D.content disk) (D.image (disk_after result)) }
     {
         match Keeper::open(alloc, disk) {
             Ok((keeper, table)) => {
