@@ -3,7 +3,7 @@
 use crate::deep::deep_terms;
 use crate::drawn::bodies_agree;
 use crate::failing::{failing, reads, unflushed};
-use crate::faults::{stream_line, text_line};
+use crate::faults::text_line;
 use crate::gathering::gathered;
 use crate::rounds::{ends, lasts, rounds, top_numbers};
 use crate::settling::{bindings, settled_twice};
@@ -83,7 +83,6 @@ fn behind_number(alloc: Global, kind: &str, number: &str, text: &[u8]) -> Result
         "find" => found(alloc, number, text),
         "symbol" => numbered(alloc, number as usize, text),
         "text_fault" => text_line(alloc, text, number),
-        "stream_fault" => stream_line(alloc, text, number),
         _ => Err(Trouble("no such kind")),
     }
 }

@@ -1,8 +1,6 @@
-//! The line of each fault, also of those that no row meets.
+//! The line of each fault of a text, also of those that no row meets.
 
 use ic_notation::Trouble;
-use ic_round::RoundFault;
-use ic_streams::StreamFault;
 use ic_text::{TextFault, print_fault};
 use std::alloc::Global;
 
@@ -27,22 +25,4 @@ pub fn text_line(alloc: Global, word: &[u8], number: u32) -> Result<Vec<u8>, Tro
         Some(fault) => Ok(print_fault(alloc, &fault)?),
         None => Err(Trouble("no such fault")),
     }
-}
-
-/// The exit status and the line of a stream's fault.
-pub fn stream_line(alloc: Global, word: &[u8], number: u32) -> Result<Vec<u8>, Trouble> {
-    let fault = match word {
-        b"read" => StreamFault::Read,
-        b"write" => StreamFault::Write,
-        b"no_memory" => StreamFault::Memory,
-        b"overgrown" => StreamFault::Round(RoundFault::Overgrown),
-        b"names_out" => StreamFault::Round(RoundFault::NamesOut),
-        _ => match text_fault(word, number) {
-            Some(fault) => StreamFault::Text(fault),
-            None => return Err(Trouble("no such fault")),
-        },
-    };
-    let mut line = Vec::from_slice(alloc, &[b'0' + fault.status() % 10, b' '])?;
-    line.extend_from_slice(&fault.line(alloc)?)?;
-    Ok(line)
 }

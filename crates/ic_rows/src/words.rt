@@ -1,7 +1,7 @@
 //! The words after the program's name.
 
 use ic_notation::Trouble;
-use ic_streams::{Task, WordsFault, read_words};
+use ic_words::{Task, WordsFault, read_words};
 use std::alloc::{AllocError, Global};
 
 /// What words ask for, with all that comes with it. Of help and of a refusal it is told whether the text has the part

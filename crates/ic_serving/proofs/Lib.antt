@@ -1,5 +1,6 @@
 pub mod PartLemmas
 pub mod RunLemmas
+pub mod PageLemmas
 pub mod LineLemmas
 pub mod WriteLemmas
 pub mod ServeLemmas

@@ -57,18 +57,23 @@ turns_next : (k place : ℕ) (u : List JobParts) (f : FlightParts) → due u pla
     → turns (suc k) place u ≡ Round f.name ∷ turns k (f.place + 1) (table_after u (Round f.name))
 turns_next k place u f e = ap (λ o. option_map_or (round_and (turns k) u) o []) e
 
-turns_over : (k place : ℕ) (u : List JobParts) → due u place ≡ None → turns k place u ≡ []
+pub turns_over : (k place : ℕ) (u : List JobParts) → due u place ≡ None → turns k place u ≡ []
 turns_over zero place u e = refl
 turns_over (suc k) place u e = ap (λ o. option_map_or (round_and (turns k) u) o []) e
+
+-- where a round is due, it is the next of those that are left
+pub turns_step : (count made place : ℕ) (u v : List JobParts) (f : FlightParts) → made < count → due u place ≡ Some f → v ≡ table_after u (Round f.name)
+    → turns (count - made) place u ≡ Round f.name ∷ turns (count - (made + 1)) (f.place + 1) v
+turns_step count made place u v f less is moved =
+    let left : count - made ≡ suc (count - (made + 1)) = omega (arith, less) in
+    ap (λ n. turns n place u) left ∙ turns_next (count - (made + 1)) place u f is
+    ∙ ap (λ y. Round f.name ∷ turns (count - (made + 1)) (f.place + 1) y) (sym moved)
 
 pub one_more : (t kept : List JobParts) (count made place : ℕ) (u w v x : List JobParts) (f : FlightParts) → InRun t kept count made place u w
     → made < count → due u place ≡ Some f → v ≡ table_after u (Round f.name) → (x ≡ w) ⊎ (x ≡ u)
     → InRun t kept count (made + 1) (f.place + 1) v x
 one_more t kept count made place u w v x f r less is moved keeps =
-    let left : count - made ≡ suc (count - (made + 1)) = omega (arith, less) in
-    let next : turns (count - made) place u ≡ Round f.name ∷ turns (count - (made + 1)) (f.place + 1) v =
-    ap (λ n. turns n place u) left ∙ turns_next (count - (made + 1)) place u f is
-    ∙ ap (λ y. Round f.name ∷ turns (count - (made + 1)) (f.place + 1) y) (sym moved) in
+    let next = turns_step count made place u v f less is moved in
     let n = r.counted in
     record {
       events = r.events ++ Round f.name ∷ [];

@@ -1,6 +1,6 @@
 -- The lines of a reader, one after the other.
 use Rattle.std.proofs.Common.{Bool, false, ◌≡◌, ◌≢◌, ◌⊎◌, inl, inr, ℕ, ◌+◌, ◌<◌, ◌≤◌, List, [], ◌∷◌, ◌++◌, Option, None, Some, Result, Ok, Err, length, refl, sym, ap, ap₂, subst, ◌∙◌, arith, append-nil, append_assoc, length-append}
-use Rattle.std.specs.Prelude.{IfErr, replicate}
+use Rattle.std.specs.Prelude.{replicate}
 use Rattle.std.proofs.lemmas.List.{length-replicate}
 use Rattle.std.specs.List.{AllByRecursion}
 use Rattle.std.specs.Io.KnownBytes.{Appends, Keeps}
@@ -17,10 +17,9 @@ use Rattle.ic_serving.specs.declared.fault.ServeFault.{ServeFault}
 use Rattle.ic_serving.specs.declared.fault.ServeFault.TheVariants.{Read, Write, TooManyLines, Book, Pool, LongLine, Memory}
 use Rattle.ic_serving.specs.Parts.{IsPart, IsKeptWithin, IsInLine, IsInFirst}
 use Rattle.ic_serving.specs.Served.{OfLines, MayBeServed, AreAnswered, AppendsFront, SaysOf, IsLeftBy, IsEnded, IsCut}
-use Rattle.ic_serving.specs.Faults.{IsOfBook, CountsServe, StaysReady, fault_of_line}
+use Rattle.ic_serving.specs.Faults.{MayCome, ComesInLine, CountsServe, StaysReady, fault_of_line}
 use Rattle.ic_lines.specs.declared.buffer.LineFault.{LineFault}
 use Rattle.ic_lines.specs.declared.buffer.LineFault.TheVariants as line_fault
-use Rattle.std.specs.Result.{IsErrAnd}
 use Rattle.ic_serving.specs.inner.Progress.{AreFirst, AreToCome, IsUnderWay}
 use Rattle.ic_serving.proofs.WriteLemmas.{appends_none, appends_kept, appends_more, front_none, front_behind}
 
@@ -151,73 +150,58 @@ answered_kept ls t u old mid new a kept = record {
   written = appends_kept old mid new a.answers a.written kept;
 }
 
-pub over : (text rest : Option (List ℕ)) (n : ℕ) (t u : List JobParts) (old mid new : Option (List ℕ)) → IsUnderWay text rest n t u old mid → HasNoLine rest → Keeps mid new
-    → OfLines text (λ ls. AreAnswered ls t u old new)
-over text rest n t u old mid new way none kept = of_lines text rest way.front [] (λ ls. AreAnswered ls t u old new) way.first (none_ahead rest none)
-    (subst (λ (ls : List (List ℕ)). AreAnswered ls t u old new) (sym (append-nil way.front)) (answered_kept way.front t u old mid new way.answered kept))
+pub over : (ls : List (List ℕ)) (t u : List JobParts) (old mid new : Option (List ℕ)) → AreAnswered ls t u old mid → Keeps mid new → AreAnswered (ls ++ []) t u old new
+over ls t u old mid new answered kept = subst (λ (xs : List (List ℕ)). AreAnswered xs t u old new) (sym (append-nil ls)) (answered_kept ls t u old mid new answered kept)
 
 -- ---- a fault
 
-pub ended_at : (fault : ServeFault) (all : Type 0) (text rest : Option (List ℕ)) (n : ℕ) (t u v w : List JobParts) (old mid new : Option (List ℕ)) (more : List (List ℕ))
-    → (way : IsUnderWay text rest n t u old mid) → Keeps mid new → AreToCome rest more → SaysOf fault way.front more → IsLeftBy fault u more v → (all → IsLeftBy fault u more w)
-    → OfLines text (λ ls. IsEnded fault all ls t v w old new)
-ended_at fault all text rest n t u v w old mid new more way kept coming says here keeps =
-    of_lines text rest way.front more (λ ls. IsEnded fault all ls t v w old new) way.first coming (record {
-      front = way.front;
-      rest = more;
-      between = u;
-      parted = refl;
-      answered = answered_kept way.front t u old mid new way.answered kept;
-      says = says;
-      in_line = here;
-      keeps = keeps;
-    })
-
-cut_before : (text rest : Option (List ℕ)) (n : ℕ) (t u : List JobParts) (old mid new : Option (List ℕ)) (behind : List (List ℕ)) → IsUnderWay text rest n t u old mid → Keeps mid new
-    → AreToCome rest behind → OfLines text (λ ls. IsCut ls t u old new)
-cut_before text rest n t u old mid new behind way kept coming = of_lines text rest way.front behind (λ ls. IsCut ls t u old new) way.first coming (record {
-  front = way.front;
-  last = [];
-  rest = behind;
+pub ended_at : (fault : ServeFault) (all : Type 0) (ls more : List (List ℕ)) (t u v w : List JobParts) (old mid new : Option (List ℕ))
+    → AreAnswered ls t u old mid → Keeps mid new → SaysOf fault ls more → IsLeftBy fault u more v → (all → IsLeftBy fault u more w)
+    → IsEnded fault all (ls ++ more) t v w old new
+ended_at fault all ls more t u v w old mid new answered kept says here keeps = record {
+  front = ls;
+  rest = more;
   between = u;
-  answers = way.answered.answers;
+  parted = refl;
+  answered = answered_kept ls t u old mid new answered kept;
+  says = says;
+  in_line = here;
+  keeps = keeps;
+}
+
+pub cut_before : (ls more : List (List ℕ)) (t u : List JobParts) (old mid new : Option (List ℕ)) → AreAnswered ls t u old mid → Keeps mid new → IsCut (ls ++ more) t u old new
+cut_before ls more t u old mid new answered kept = record {
+  front = ls;
+  last = [];
+  rest = more;
+  between = u;
+  answers = answered.answers;
   more = [];
-  parted = sym (append_assoc way.front [] behind);
+  parted = sym (append_assoc ls [] more);
   one = omega arith;
-  within = subst MayBeServed (sym (append-nil way.front)) way.answered.within;
-  answered = way.answered.served;
+  within = subst MayBeServed (sym (append-nil ls)) answered.within;
+  answered = answered.served;
   done = served_none u;
-  written = front_none old new way.answered.answers (appends_kept old mid new way.answered.answers way.answered.written kept);
-})
+  written = front_none old new answered.answers (appends_kept old mid new answered.answers answered.written kept);
+}
 
-pub cut_at : (text rest : Option (List ℕ)) (n : ℕ) (t u : List JobParts) (old mid new : Option (List ℕ)) → IsUnderWay text rest n t u old mid → Keeps mid new
-    → OfLines text (λ ls. IsCut ls t u old new)
-cut_at text rest n t u old mid new way kept = cut_before text rest n t u old mid new (ahead rest) way kept (is_ahead rest)
-
-cut_in_line : (text rest : Option (List ℕ)) (n : ℕ) (t u v : List JobParts) (old mid seen new : Option (List ℕ)) (line bytes : List ℕ) (r : Reading) (behind : List (List ℕ))
-    → IsUnderWay text rest n t u old mid → AreToCome rest (line ∷ behind) → length line ≤ MAX_TEXT → n < MAX_LINES
-    → ReadsLine line r → bytes ≡ answer u r → v ≡ after_line u r → Keeps mid seen → AppendsFront seen new [] bytes → OfLines text (λ ls. IsCut ls t v old new)
-cut_in_line text rest n t u v old mid seen new line bytes r behind way coming short less reads is left kept written =
-    of_lines text rest way.front (line ∷ behind) (λ ls. IsCut ls t v old new) way.first coming (record {
-      front = way.front;
-      last = line ∷ [];
-      rest = behind;
-      between = u;
-      answers = way.answered.answers;
-      more = bytes;
-      parted = sym (append_assoc way.front (line ∷ []) behind);
-      one = omega arith;
-      within = within_more way.front line n way.answered.within way.counted less short;
-      answered = way.answered.served;
-      done = served_line u line bytes r v reads is left;
-      written = front_behind old mid seen new way.answered.answers bytes way.answered.written kept written;
-    })
-
-pub cut_behind : (text rest next : Option (List ℕ)) (n : ℕ) (t u v : List JobParts) (old mid seen new : Option (List ℕ)) (line bytes : List ℕ) (r : Reading)
-    → IsUnderWay text rest n t u old mid → TakesLine line rest next → length line ≤ MAX_TEXT → n < MAX_LINES
-    → ReadsLine line r → bytes ≡ answer u r → v ≡ after_line u r → Keeps mid seen → AppendsFront seen new [] bytes → OfLines text (λ ls. IsCut ls t v old new)
-cut_behind text rest next n t u v old mid seen new line bytes r way takes short less reads is left kept written =
-    cut_in_line text rest n t u v old mid seen new line bytes r (ahead next) way (taken line rest next takes) short less reads is left kept written
+pub cut_behind : (ls more : List (List ℕ)) (n : ℕ) (t u v : List JobParts) (old mid seen new : Option (List ℕ)) (line bytes : List ℕ) (r : Reading)
+    → AreAnswered ls t u old mid → length ls ≡ n → length line ≤ MAX_TEXT → n < MAX_LINES
+    → ReadsLine line r → bytes ≡ answer u r → v ≡ after_line u r → Keeps mid seen → AppendsFront seen new [] bytes → IsCut (ls ++ line ∷ more) t v old new
+cut_behind ls more n t u v old mid seen new line bytes r answered counted short less reads is left kept written = record {
+  front = ls;
+  last = line ∷ [];
+  rest = more;
+  between = u;
+  answers = answered.answers;
+  more = bytes;
+  parted = sym (append_assoc ls (line ∷ []) more);
+  one = omega arith;
+  within = within_more ls line n answered.within counted less short;
+  answered = answered.served;
+  done = served_line u line bytes r v reads is left;
+  written = front_behind old mid seen new answered.answers bytes answered.written kept written;
+}
 
 -- ---- where a table stands
 
@@ -248,7 +232,7 @@ left_first law LongLine u v ls same = same
 left_first law Memory u v ls same = rw same (in_first law u ls)
 
 -- some of its events have come
-pub left_within : (fault : ServeFault) (u v : List JobParts) (ls : List (List ℕ)) → IsOfBook fault → IsInFirst u ls v → IsLeftBy fault u ls v
+pub left_within : (fault : ServeFault) (u v : List JobParts) (ls : List (List ℕ)) → ComesInLine fault → IsInFirst u ls v → IsLeftBy fault u ls v
 left_within Read u v ls of there = absurd of
 left_within Write u v ls of there = absurd of
 left_within TooManyLines u v ls of there = absurd of
@@ -257,7 +241,7 @@ left_within (Pool p) u v ls of there = there
 left_within LongLine u v ls of there = absurd of
 left_within Memory u v ls of there = there
 
-pub says_book : (fault : ServeFault) (front more : List (List ℕ)) → IsOfBook fault → SaysOf fault front more
+pub says_book : (fault : ServeFault) (front more : List (List ℕ)) → ComesInLine fault → SaysOf fault front more
 says_book (Book b) front more of = tt
 says_book (Pool p) front more of = tt
 says_book Memory front more of = tt
@@ -318,15 +302,37 @@ ready_behind line_fault.Read f broken number many others same = let is = others 
 ready_behind line_fault.Write f broken number many others same = let is = others (λ e. cc) in rw is same
 ready_behind line_fault.Memory f broken number many others same = let is = others (λ e. cc) in rw is same
 
-pub counts_memory : {T : Type 0} (r : Result T ServeFault) (n : ℕ) → IfErr r (λ f. f ≡ Memory) → CountsServe r n n
-counts_memory (Ok v) n is = refl
-counts_memory (Err f) n is = rw is refl
+-- which faults a serving has where no line is taken, and behind one
+pub comes_by_line : (e : LineFault) → MayCome (fault_of_line e)
+comes_by_line line_fault.Read = tt
+comes_by_line line_fault.Write = tt
+comes_by_line line_fault.LongLine = tt
+comes_by_line line_fault.Memory = tt
 
-pub ready_memory : {T : Type 0} (r : Result T ServeFault) (broken : Bool) (number : ℕ) → IfErr r (λ f. f ≡ Memory) → broken ≡ false → IfErr r (λ f. StaysReady f broken number)
-ready_memory (Ok v) broken number is same = tt
-ready_memory (Err f) broken number is same = rw is same
+pub may_come : (fault : ServeFault) → ComesInLine fault → MayCome fault
+may_come Read of = absurd of
+may_come Write of = absurd of
+may_come TooManyLines of = absurd of
+may_come (Book b) of = of
+may_come (Pool p) of = of
+may_come LongLine of = absurd of
+may_come Memory of = tt
 
-pub ended_err : {T : Type 0} (r : Result T ServeFault) (f : ServeFault) (P : ServeFault → Type 0) → IsErrAnd r (λ x. x ≡ f) → (f ≢ Write → P f)
-    → IfErr r (λ x. x ≢ Write → P x)
-ended_err (Ok v) f P is p = tt
-ended_err (Err x) f P is p = let same : x ≡ f = is in λ other. rw same (p (λ w. other (same ∙ w)))
+pub not_write : (fault : ServeFault) → ComesInLine fault → fault ≢ Write
+not_write Read of = λ same. absurd of
+not_write Write of = λ same. absurd of
+not_write TooManyLines of = λ same. absurd of
+not_write (Book b) of = λ same. cc
+not_write (Pool p) of = λ same. cc
+not_write LongLine of = λ same. absurd of
+not_write Memory of = λ same. cc
+
+-- what is counted is said of the fault alone
+pub counts_as : (T U : Type 0) (fault : ServeFault) (old new : ℕ) → CountsServe {T = T} (Err fault) old new → CountsServe {T = U} (Err fault) old new
+counts_as T U Read old new is = is
+counts_as T U Write old new is = is
+counts_as T U TooManyLines old new is = is
+counts_as T U (Book b) old new is = is
+counts_as T U (Pool p) old new is = is
+counts_as T U LongLine old new is = is
+counts_as T U Memory old new is = is

@@ -1,6 +1,8 @@
 -- What a crash in the midst of a call leaves, call by call.
-use Rattle.std.proofs.Common.{false, Ok, Err, ◌≡◌, ◌≢◌, ◌⊎◌, inl, inr, ⊎_elim, ℕ, ◌+◌, ◌<◌, ◌≤◌, List, [], ◌∷◌, ◌++◌, Option, None, Some, true, length, refl, sym, ap, subst, ◌∙◌, arith, append-nil, append_assoc}
-use Rattle.std.specs.Prelude.{IsTrue}
+use Rattle.std.proofs.Common.{false, Result, Ok, Err, ◌≡◌, ◌≢◌, ◌⊎◌, inl, inr, ⊎_elim, ℕ, ◌+◌, ◌<◌, ◌≤◌, List, [], ◌∷◌, ◌++◌, Option, None, Some, true, length, refl, sym, ap, subst, ◌∙◌, arith, append-nil, append_assoc}
+use Rattle.std.specs.Prelude.{IsTrue, IfErr}
+use Rattle.std.specs.Result.{IsErrAnd}
+use Rattle.std.specs.Io.KnownBytes.{Keeps}
 use Rattle.std.proofs.lemmas.Bool.{cases_lt}
 use Rattle.ic_disk.specs.declared.disk.Disk.{Ghosts}
 use Rattle.ic_disk.specs.Images.{Within}
@@ -19,10 +21,9 @@ use Rattle.ic_slots.specs.Held.{HoldsTable, HoldsEitherTable}
 use Rattle.ic_slots.specs.Keeper as keeper_parts
 use Rattle.ic_commands.specs.LineText.{ReadsLine}
 use Rattle.ic_commands.specs.declared.line.Line.TheVariants.{Blank, Run, Command as Asks}
-use Rattle.ic_lines.specs.Lines.{lines}
 use Rattle.ic_lines.specs.Turns.{after_events, turns}
 use Rattle.ic_lines.specs.Answers.{Reading, events}
-use Rattle.ic_lines.specs.Taking.{TakesLine}
+use Rattle.ic_lines.specs.Taking.{HasNoLine}
 use Rattle.ic_desk.specs.declared.book.Book.{Book}
 use Rattle.ic_desk.specs.Book.{is_broken, start_of, log_of, table_of, kept_of, keeper_of, disk_of, IsUnchanged}
 use Rattle.ic_desk.specs.Entries.{AddsCommand, command_entry}
@@ -31,13 +32,17 @@ use Rattle.ic_serving.specs.Booked.{last_kept, IsAllKept, IsOnMadeDisk, StaysPut
 use Rattle.ic_serving.specs.Answered.{IsKeptFor}
 use Rattle.ic_serving.specs.Parts.{IsPart, IsKeptWithin, IsInLine, IsInFirst}
 use Rattle.ic_serving.specs.Stopped.{HoldsOne, IsReached, MayStand}
-use Rattle.ic_serving.specs.Moments.{Leaves, IsKeptOrNow, IsKeptInLine}
-use Rattle.ic_serving.specs.Served.{OfLines, MayBeServed}
+use Rattle.ic_serving.specs.Moments.{FaultLeaves, Leaves, IsKeptOrNow, IsKeptInLine}
+use Rattle.ic_serving.specs.declared.fault.ServeFault.{ServeFault}
+use Rattle.ic_serving.specs.declared.fault.ServeFault.TheVariants.{Write, Memory}
+use Rattle.ic_serving.specs.Faults.{ComesInLine, MayCome, CountsServe}
+use Rattle.ic_serving.specs.Served.{OfLines, MayBeServed, SaysOf, IsEnded, IsCut}
+use Rattle.ic_serving.specs.Serving.{IsServing}
 use Rattle.ic_lines.specs.Serving.{IsServed}
-use Rattle.ic_serving.specs.inner.Progress.{AreFirst, IsUnderWay}
+use Rattle.ic_serving.specs.inner.Progress.{AreFirst, AreToCome, IsUnderWay}
 use Rattle.ic_serving.proofs.LineLemmas.{kept_behind}
 use Rattle.ic_serving.proofs.RunLemmas.{InRun, run_begun}
-use Rattle.ic_serving.proofs.ServeLemmas.{SomeWay, in_line, in_first, served_none, ahead, is_ahead, of_lines}
+use Rattle.ic_serving.proofs.ServeLemmas.{SomeWay, in_line, in_first, served_none, of_lines, none_ahead, over, ended_at, cut_before, left_first, may_come, counts_as}
 
 -- ---- which tables
 
@@ -223,11 +228,11 @@ module _ {D : Type 0} {ghosts : Ghosts D} where
       (inl (reached_now law (table_of book) []))
 
   -- a table within the next line
-  may_stand : SomeWay → (first book : Book D ghosts) (front : List (List ℕ)) (line answers : List ℕ)
+  may_stand : SomeWay → (first book : Book D ghosts) (front more : List (List ℕ)) (line answers : List ℕ)
       → MayBeServed front → IsServed (table_of first) front answers (table_of book)
       → (IsAllKept first → IsAllKept book) → IsAllKept book ⊎ (last_kept book ≡ last_kept first) → (IsAllKept book → last_kept book ≡ table_of book)
-      → (u : List JobParts) → IsKeptInLine (table_of book) (last_kept book) line u → MayStand (IsAllKept first) (last_kept first) (table_of first) (front ++ line ∷ []) u
-  may_stand law first book front line answers within served stays last whole u is = ⊎_elim
+      → (u : List JobParts) → IsKeptInLine (table_of book) (last_kept book) line u → MayStand (IsAllKept first) (last_kept first) (table_of first) (front ++ line ∷ more) u
+  may_stand law first book front more line answers within served stays last whole u is = ⊎_elim
       (λ (same : u ≡ last_kept book). ⊎_elim
       (λ (all : IsAllKept book). inl (at_table (same ∙ whole all)))
       (λ (put : last_kept book ≡ last_kept first). ⊎_elim
@@ -238,10 +243,10 @@ module _ {D : Type 0} {ghosts : Ghosts D} where
       (λ (there : IsInLine (table_of book) line u). inl (reached u there))
       is
     where
-      reached : (v : List JobParts) → IsInLine (table_of book) line v → IsReached (table_of first) (front ++ line ∷ []) v
+      reached : (v : List JobParts) → IsInLine (table_of book) line v → IsReached (table_of first) (front ++ line ∷ more) v
       reached v here = record {
         front = front;
-        rest = line ∷ [];
+        rest = line ∷ more;
         answers = answers;
         between = table_of book;
         parted = refl;
@@ -250,26 +255,87 @@ module _ {D : Type 0} {ghosts : Ghosts D} where
         in_line = here;
       }
 
-      at_table : u ≡ table_of book → IsReached (table_of first) (front ++ line ∷ []) u
-      at_table same = subst (IsReached (table_of first) (front ++ line ∷ [])) (sym same) (reached (table_of book) (in_line law (table_of book) line))
+      at_table : u ≡ table_of book → IsReached (table_of first) (front ++ line ∷ more) u
+      at_table same = subst (IsReached (table_of first) (front ++ line ∷ more)) (sym same) (reached (table_of book) (in_line law (table_of book) line))
 
-  pub stops_more : SomeWay → (text rest : Option (List ℕ)) (n : ℕ) (first book new : Book D ghosts) (old mid : Option (List ℕ)) (line : List ℕ)
+  -- more lines come
+  pub stops_longer : SomeWay → (first new : Book D ghosts) (front more : List (List ℕ)) → LeavesServed first new front → LeavesServed first new (front ++ more)
+  stops_longer law first new front more run =
+      leaves_more first new (MayStand (IsAllKept first) (last_kept first) (table_of first) front) (MayStand (IsAllKept first) (last_kept first) (table_of first) (front ++ more)) run
+      (may_longer law (IsAllKept first) (last_kept first) (table_of first) front more)
+
+  pub stops_more : SomeWay → (text rest : Option (List ℕ)) (n : ℕ) (first book new : Book D ghosts) (old mid : Option (List ℕ)) (line : List ℕ) (more : List (List ℕ))
       → (s : Serves text rest n first book old mid) → (IsAllKept book → last_kept book ≡ table_of book)
-      → Leaves book new (IsKeptInLine (table_of book) (last_kept book) line) → LeavesServed first new (s.way.front ++ line ∷ [])
-  stops_more law text rest n first book new old mid line s whole step =
-      leaves_then first book new (MayStand (IsAllKept first) (last_kept first) (table_of first) (s.way.front ++ line ∷ [])) (IsKeptInLine (table_of book) (last_kept book) line)
-      (leaves_more first book (MayStand (IsAllKept first) (last_kept first) (table_of first) s.way.front) (MayStand (IsAllKept first) (last_kept first) (table_of first) (s.way.front ++ line ∷ [])) s.moments
-      (may_longer law (IsAllKept first) (last_kept first) (table_of first) s.way.front (line ∷ [])))
+      → Leaves book new (IsKeptInLine (table_of book) (last_kept book) line) → LeavesServed first new (s.way.front ++ line ∷ more)
+  stops_more law text rest n first book new old mid line more s whole step =
+      leaves_then first book new (MayStand (IsAllKept first) (last_kept first) (table_of first) (s.way.front ++ line ∷ more)) (IsKeptInLine (table_of book) (last_kept book) line)
+      (stops_longer law first book s.way.front (line ∷ more) s.moments)
       step
-      (may_stand law first book s.way.front line s.way.answered.answers s.way.answered.within s.way.answered.served s.kept s.last whole)
+      (may_stand law first book s.way.front more line s.way.answered.answers s.way.answered.within s.way.answered.served s.kept s.last whole)
 
-  pub stops_now : SomeWay → (text rest : Option (List ℕ)) (front : List (List ℕ)) (first new : Book D ghosts) → AreFirst text front rest → LeavesServed first new front → IsOnMadeDisk first
-      → OfLines text (λ ls. LeavesOnly ghosts.clock ghosts.left (disk_of first) (disk_of new) (HoldsOne (MayStand (IsAllKept first) (last_kept first) (table_of first) ls)))
-  stops_now law text rest front first new is_first run is =
-      of_lines text rest front (ahead rest) (λ ls. LeavesOnly ghosts.clock ghosts.left (disk_of first) (disk_of new) (HoldsOne (MayStand (IsAllKept first) (last_kept first) (table_of first) ls)))
-      is_first (is_ahead rest)
-      ((leaves_more first new (MayStand (IsAllKept first) (last_kept first) (table_of first) front) (MayStand (IsAllKept first) (last_kept first) (table_of first) (front ++ ahead rest)) run
-      (may_longer law (IsAllKept first) (last_kept first) (table_of first) front (ahead rest))).any_moment is)
+  -- ---- the end of a serving
+
+  -- all lines are answered
+  pub serving_over : {T : Type 0} (v : T) → SomeWay → (text rest : Option (List ℕ)) (n : ℕ) (first book : Book D ghosts) (old mid new : Option (List ℕ))
+      → Serves text rest n first book old mid → HasNoLine rest → Keeps mid new → OfLines text (λ ls. IsServing {T = T} (Ok v) ls first book old new)
+  serving_over {T} v law text rest n first book old mid new s none kept =
+      of_lines text rest s.way.front [] (λ ls. IsServing {T = T} (Ok v) ls first book old new) s.way.first (none_ahead rest none) (record {
+        served = over s.way.front (table_of first) (table_of book) old mid new s.way.answered kept;
+        kept = s.kept;
+        ended = tt;
+        cut = λ is. cc;
+        kept_at_cut = λ is. cc;
+        crash = stops_longer law first book s.way.front [] s.moments;
+      })
+
+  -- a fault came behind these lines, and before those that are to come
+  pub serving_err : {T : Type 0} (r : Result T ServeFault) (fault : ServeFault) → IsErrAnd r (λ x. x ≡ fault)
+      → (text rest : Option (List ℕ)) (front more : List (List ℕ)) (first new : Book D ghosts) (old now : Option (List ℕ))
+      → AreFirst text front rest → AreToCome rest more
+      → (fault ≢ Write → IsEnded fault (IsAllKept first) (front ++ more) (table_of first) (table_of new) (last_kept new) old now)
+      → (fault ≡ Write → IsCut (front ++ more) (table_of first) (table_of new) old now) → (fault ≡ Write → IsAllKept first → IsAllKept new)
+      → LeavesServed first new (front ++ more) → OfLines text (λ ls. IsServing r ls first new old now)
+  serving_err (Ok v) fault is text rest front more first new old now begins coming ended cut kept run = absurd is
+  serving_err {T} (Err e) fault is text rest front more first new old now begins coming ended cut kept run =
+      let same : e ≡ fault = is in
+      of_lines text rest front more (λ ls. IsServing {T = T} (Err e) ls first new old now) begins coming (record {
+        served = tt;
+        kept = tt;
+        ended = λ other. subst (λ f. IsEnded f (IsAllKept first) (front ++ more) (table_of first) (table_of new) (last_kept new) old now) (sym same) (ended (λ write. other (same ∙ write)));
+        cut = λ write. cut (let w : e ≡ Write = cc in sym same ∙ w);
+        kept_at_cut = λ write. kept (let w : e ≡ Write = cc in sym same ∙ w);
+        crash = run;
+      })
+
+  -- where no line is taken
+  pub serving_untaken : {T : Type 0} (r : Result T ServeFault) (fault : ServeFault) → IsErrAnd r (λ x. x ≡ fault) → SomeWay
+      → (text rest : Option (List ℕ)) (n : ℕ) (first book : Book D ghosts) (old mid new : Option (List ℕ)) (more : List (List ℕ))
+      → (s : Serves text rest n first book old mid) → Keeps mid new → AreToCome rest more → SaysOf fault s.way.front more → (IsAllKept book → last_kept book ≡ table_of book)
+      → OfLines text (λ ls. IsServing r ls first book old new)
+  serving_untaken r fault is law text rest n first book old mid new more s kept coming says whole =
+      serving_err r fault is text rest s.way.front more first book old new s.way.first coming
+      (λ other. ended_at fault (IsAllKept first) s.way.front more (table_of first) (table_of book) (table_of book) (last_kept book) old mid new s.way.answered kept says
+      (left_first law fault (table_of book) (table_of book) more refl) (λ all. left_first law fault (table_of book) (last_kept book) more (whole (s.kept all))))
+      (λ write. cut_before s.way.front more (table_of first) (table_of book) old mid new s.way.answered kept)
+      (λ write. s.kept)
+      (stops_longer law first book s.way.front more s.moments)
+
+  -- ---- the fault of a call
+
+  -- a call behind others that went well
+  pub fault_behind : {T U : Type 0} (r : Result T ServeFault) (fault : ServeFault) → IsErrAnd r (λ x. x ≡ fault) → (first book new : Book D ghosts)
+      → ghosts.failures (disk_of book) ≡ ghosts.failures (disk_of first) → (is_broken first ≡ false → is_broken book ≡ false)
+      → FaultLeaves {T = U} ComesInLine (Err fault) book new → FaultLeaves MayCome r first new
+  fault_behind (Ok v) fault is first book new counted ready left = absurd is
+  fault_behind {T} {U} (Err e) fault is first book new counted ready left =
+      let same : e ≡ fault = is in
+      let counts : CountsServe {T = T} (Err fault) (ghosts.failures (disk_of first)) (ghosts.failures (disk_of new)) =
+      subst (λ n. CountsServe {T = T} (Err fault) n (ghosts.failures (disk_of new))) counted (counts_as U T fault (ghosts.failures (disk_of book)) (ghosts.failures (disk_of new)) left.counted) in
+      rw same (record { causes = may_come fault left.causes; counted = counts; ready = λ whole. tt; breaks = λ whole. left.breaks (ready whole) })
+
+  pub fault_memory : {T : Type 0} (r : Result T ServeFault) (book : Book D ghosts) → IfErr r (λ f. f ≡ Memory) → FaultLeaves ComesInLine r book book
+  fault_memory (Ok v) book is = record { causes = tt; counted = refl; ready = λ whole. whole; breaks = λ whole. tt }
+  fault_memory (Err f) book is = record { causes = rw is tt; counted = rw is refl; ready = λ whole. tt; breaks = λ whole. rw is whole }
 
   -- what a line leaves keeps
   -- all is kept, or nothing has changed

@@ -7,6 +7,7 @@ use Rattle.ic_lines.specs.Answers.{Reading, events, answer, after_line}
 use Rattle.ic_desk.specs.declared.book.Book.{Book}
 use Rattle.ic_desk.specs.Book.{table_of, IsUnchanged}
 use Rattle.ic_serving.specs.Booked.{Begins, IsAllKept}
+use Rattle.ic_serving.specs.Grown.{GoesOn, HasRoom}
 
 -- what is kept where a line is answered: all, behind a command and a run; a blank line and a refused
 -- one change nothing
@@ -16,7 +17,7 @@ IsKeptFor (Ok (Command command)) old new = IsAllKept new
 IsKeptFor (Ok (Run count)) old new = IsAllKept new
 IsKeptFor (Err fault) old new = IsUnchanged old new
 
--- a line is answered, and what it leaves is kept
+-- a line is answered, what it leaves is kept, and its events stand at the end of the page
 pub record IsAnswered {D : Type 0} {ghosts : Ghosts D} (line bytes : List ℕ)
     (old new : Book D ghosts) : Type 0 where
   pub reading : Reading
@@ -24,6 +25,8 @@ pub record IsAnswered {D : Type 0} {ghosts : Ghosts D} (line bytes : List ℕ)
   pub answer : bytes ≡ answer (table_of old) reading
   pub table : table_of new ≡ after_line (table_of old) reading
   pub kept : IsKeptFor reading old new
+  pub page : HasRoom (events (table_of old) reading) old
+      → GoesOn (events (table_of old) reading) old new
 
 -- a line was begun: a front of its events has come to the table
 pub record IsBegun {D : Type 0} {ghosts : Ghosts D} (line : List ℕ)

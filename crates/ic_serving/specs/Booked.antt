@@ -1,5 +1,5 @@
 -- To be believed, but for what private functions say: what a serving speaks of in a book.
-use Rattle.std.specs.Prelude.{◌≡◌, ◌⊎◌, ℕ, ◌+◌, List, Some, length, IsTrue}
+use Rattle.std.specs.Prelude.{◌≡◌, ◌⊎◌, ℕ, ◌<◌, List, [], ◌∷◌, Some, length, IsTrue}
 use Rattle.ic_disk.specs.declared.disk.Disk.{Ghosts}
 use Rattle.ic_disk.specs.Images.{Within}
 use Rattle.ic_frames.specs.Fields.{IsMade}
@@ -12,7 +12,9 @@ use Rattle.ic_jobs.specs.Landing.{due}
 use Rattle.ic_desk.specs.declared.book.Book.{Book}
 use Rattle.ic_desk.specs.Book.{start_of, log_of, table_of, kept_of, disk_of}
 use Rattle.ic_desk.specs.Kept.{table_kept}
+use Rattle.ic_desk.specs.declared.limits.TheConstants.{MAX_ENTRIES}
 use Rattle.ic_serving.specs.Parts.{IsPart, IsKeptWithin}
+use Rattle.ic_serving.specs.Grown.{IsSamePage, GoesOn, GoesOnWithin, HasRoom}
 
 -- the table that was kept last
 abbrev pub last_kept : {D : Type 0} {ghosts : Ghosts D} → Book D ghosts → List JobParts
@@ -33,6 +35,7 @@ IsOnMadeDisk {D} {ghosts} book =
 pub record StaysPut {D : Type 0} {ghosts : Ghosts D} (old new : Book D ghosts) : Type 0 where
   pub table : table_of new ≡ table_of old
   pub kept : (last_kept new ≡ last_kept old) ⊎ (last_kept new ≡ table_of old)
+  pub page : length (log_of old) < MAX_ENTRIES → IsSamePage old new
 
 -- one event comes to the table, and none of it is kept but what was there before
 pub record Advances {D : Type 0} {ghosts : Ghosts D} (e : Event) (old new : Book D ghosts) : Type 0 where
@@ -45,10 +48,13 @@ pub record MakesRound {D : Type 0} {ghosts : Ghosts D} (after place : ℕ) (old 
   pub is_due : due (table_of old) after ≡ Some flight
   pub here : place ≡ flight.place
   pub advances : Advances (Round flight.name) old new
+  pub page : length (log_of old) < MAX_ENTRIES → GoesOn (Round flight.name ∷ []) old new
 
 -- ---- of a line that is begun
 
--- some events were begun: a front of them has come to the table, and one no longer is kept
+-- some events were begun: a front of them has come to the table and to its page, and one no longer
+-- is kept
 pub record Begins {D : Type 0} {ghosts : Ghosts D} (es : List Event) (old new : Book D ghosts) : Type 0 where
   pub table : IsPart (table_of old) es (table_of new)
   pub kept : IsKeptWithin (table_of old) (last_kept old) es (last_kept new)
+  pub page : HasRoom es old → GoesOnWithin es old new

@@ -1,9 +1,10 @@
 pub mod Parts
+pub mod Grown
 pub mod Booked
 pub mod Faults
-pub mod DiskRefusals
 pub mod Served
 pub mod Stopped
 pub mod Moments
 pub mod Answered
+pub mod Serving
 pub mod inner

@@ -1,13 +1,26 @@
--- To be believed: what a crash in the midst of a call leaves.
-use Rattle.std.specs.Prelude.{◌≡◌, ◌⊎◌, ℕ, List}
+-- To be believed: what a call leaves, by its fault and by a crash in its midst.
+use Rattle.std.specs.Prelude.{◌≡◌, ◌⊎◌, ℕ, List, false, Result, IfErr, OnOk}
 use Rattle.ic_disk.specs.declared.disk.Disk.{Ghosts}
 use Rattle.ic_disk.specs.Time.{LeavesOnly}
 use Rattle.ic_jobs.specs.Job.{JobParts}
 use Rattle.ic_desk.specs.declared.book.Book.{Book}
-use Rattle.ic_desk.specs.Book.{disk_of, table_of}
+use Rattle.ic_desk.specs.Book.{disk_of, is_broken, number_of, table_of}
+use Rattle.ic_serving.specs.declared.fault.ServeFault.{ServeFault}
+use Rattle.ic_serving.specs.Faults.{CountsServe, StaysReady}
 use Rattle.ic_serving.specs.Booked.{last_kept, IsOnMadeDisk}
 use Rattle.ic_serving.specs.Parts.{IsInLine}
 use Rattle.ic_serving.specs.Stopped.{HoldsOne}
+
+-- What a call over a book says of it by its answer: which faults it has; that a failure of the disk
+-- is counted exactly where `Device` tells it; and that a book that wasn't broken is so behind `Device`
+-- alone.
+pub record FaultLeaves {T : Type 0} {D : Type 0} {ghosts : Ghosts D} (may : ServeFault → Type 0)
+    (result : Result T ServeFault) (old new : Book D ghosts) : Type 0 where
+  pub causes : IfErr result may
+  pub counted : CountsServe result (ghosts.failures (disk_of old)) (ghosts.failures (disk_of new))
+  pub ready : is_broken old ≡ false → OnOk result (is_broken new ≡ false)
+  pub breaks : is_broken old ≡ false
+      → IfErr result (λ fault. StaysReady fault (is_broken new) (number_of new))
 
 -- the disk keeps the model where it did, a made one stays made, and a crash at any moment leaves one
 -- of these tables

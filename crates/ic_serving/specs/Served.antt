@@ -8,7 +8,7 @@ use Rattle.ic_lines.specs.Lines.{lines}
 use Rattle.ic_lines.specs.Serving.{IsServed}
 use Rattle.ic_serving.specs.declared.limits.TheConstants.{MAX_LINES}
 use Rattle.ic_serving.specs.declared.fault.ServeFault.{ServeFault}
-use Rattle.ic_serving.specs.declared.fault.ServeFault.TheVariants.{Read, LongLine, TooManyLines}
+use Rattle.ic_serving.specs.declared.fault.ServeFault.TheVariants.{Read, Write, TooManyLines, Book, Pool, LongLine, Memory}
 use Rattle.ic_serving.specs.Parts.{IsInFirst}
 
 -- this is so of the lines of a reader's bytes, or where it doesn't tell them, of some lines
@@ -31,11 +31,15 @@ pub record AreAnswered (ls : List (List ℕ)) (t u : List JobParts)
 
 -- what a fault says of the lines that were answered and of those that weren't
 abbrev pub SaysOf : ServeFault → List (List ℕ) → List (List ℕ) → Type 0
+SaysOf Read front rest = Unit {0}
+SaysOf Write front rest = Unit {0}
+SaysOf (Book fault) front rest = Unit {0}
+SaysOf (Pool fault) front rest = Unit {0}
+SaysOf Memory front rest = Unit {0}
 SaysOf LongLine front [] = ⊥
 SaysOf LongLine front (line ∷ rest) = (length front < MAX_LINES) × (MAX_TEXT < length line)
 SaysOf TooManyLines front [] = ⊥
 SaysOf TooManyLines front (line ∷ rest) = length front ≡ MAX_LINES
-SaysOf _ front rest = Unit {0}
 
 -- What a fault says of a table: some events of the next line may have come to it, and none where
 -- the line wasn't taken.
@@ -43,7 +47,10 @@ abbrev pub IsLeftBy : ServeFault → (t : List JobParts) (ls : List (List ℕ)) 
 IsLeftBy Read t ls u = u ≡ t
 IsLeftBy LongLine t ls u = u ≡ t
 IsLeftBy TooManyLines t ls u = u ≡ t
-IsLeftBy _ t ls u = IsInFirst t ls u
+IsLeftBy Write t ls u = IsInFirst t ls u
+IsLeftBy (Book fault) t ls u = IsInFirst t ls u
+IsLeftBy (Pool fault) t ls u = IsInFirst t ls u
+IsLeftBy Memory t ls u = IsInFirst t ls u
 
 -- A serving was ended by a fault other than that of the writer: a front of the lines is answered,
 -- and the table is within the line behind it, as is the one that was kept last where all was kept.

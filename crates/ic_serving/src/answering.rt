@@ -1,7 +1,7 @@
 //! Answering one line over a book.
 
-ghost use Rattle.std.specs.Prelude.{false, ◌≡◌, ◌≤◌, ◌++◌, [], ◌∷◌, Ok, OnOk, OnErr, IfErr, IfOk};
-ghost use Rattle.ic_desk.specs.Book.{is_broken, number_of, disk_of, table_of};
+ghost use Rattle.std.specs.Prelude.{◌≡◌, ◌≤◌, [], ◌∷◌, Ok, OnOk, OnErr, IfErr, IfOk};
+ghost use Rattle.ic_desk.specs.Book.{table_of};
 ghost use Rattle.ic_jobs.specs.declared.event.Event.TheVariants.{Command as by_command};
 ghost use Rattle.ic_commands.specs.declared.line.Line.TheVariants.{Command as Asks, Run};
 ghost use Rattle.ic_text.specs.Text.{fault_text};
@@ -11,8 +11,9 @@ ghost use Rattle.ic_lines.specs.Answers.{answer, after_line};
 ghost use Rattle.ic_serving.specs.Booked.{last_kept, Begins, IsAllKept};
 ghost use Rattle.ic_serving.specs.Parts.{IsKeptWithin};
 ghost use Rattle.ic_serving.specs.Answered.{IsAnswered, IsBegun};
-ghost use Rattle.ic_serving.specs.Moments.{Leaves, IsKeptInLine};
-ghost use Rattle.ic_serving.specs.Faults.{IsOfBook, MayCome, CountsServe, StaysReady};
+ghost use Rattle.ic_serving.specs.Grown.{GoesOn, HasRoom};
+ghost use Rattle.ic_serving.specs.Moments.{FaultLeaves, Leaves, IsKeptInLine};
+ghost use Rattle.ic_serving.specs.Faults.{ComesInLine};
 
 use crate::fault::ServeFault;
 use crate::rounds::make_room;
@@ -44,16 +45,10 @@ pub fn answer_line<T: Threads + Wait, D: Disk>(
     requires every { 1 ≤ every }
     ensures answered { IfOk result (λ bytes. IsAnswered line.now bytes.items book.old book.new) }
     ensures begun { OnErr result (IsBegun line.now book.old book.new) }
-    ensures sort { IfErr result IsOfBook }
-    ensures causes { IfErr result MayCome }
-    ensures counted { CountsServe result
-        (D.failures (disk_of book.old)) (D.failures (disk_of book.new)) }
-    ensures ready { is_broken book.old ≡ false → OnOk result (is_broken book.new ≡ false) }
-    ensures breaks { is_broken book.old ≡ false → IfErr result (λ fault.
-        StaysReady fault (is_broken book.new) (number_of book.new)) }
+    ensures fault { FaultLeaves ComesInLine result book.old book.new }
 
     // A crash at any moment leaves the table that was kept before the line, or one within it.
-    ensures any_moment { Leaves book.old book.new
+    ensures crash { Leaves book.old book.new
         (IsKeptInLine (table_of book.old) (last_kept book.old) line.now) }
 {
     book.facts();
@@ -69,8 +64,6 @@ pub fn answer_line<T: Threads + Wait, D: Disk>(
 
 fn answer_refused(alloc: Global, fault: TextFault) -> Result<Vec<u8>, ServeFault>
     ensures answer { IfOk result (λ bytes. bytes.items ≡ ended (fault_text fault)) }
-    ensures sort { IfErr result IsOfBook }
-    ensures causes { IfErr result MayCome }
     ensures fault { IfErr result (λ fault. fault ≡ ServeFault.Memory) }
 {
     Ok(ended(print_fault(alloc, &fault)?)?)
@@ -86,15 +79,11 @@ fn answer_command<D: Disk>(
     ensures table { OnOk result
         (table_of book.new ≡ after_line (table_of book.old) (Ok (Asks command))) }
     ensures kept { OnOk result (IsAllKept book.new) }
+    ensures page { OnOk result (HasRoom (by_command command ∷ []) book.old
+        → GoesOn (by_command command ∷ []) book.old book.new) }
     ensures begun { OnErr result (Begins (by_command command ∷ []) book.old book.new) }
-    ensures sort { IfErr result IsOfBook }
-    ensures causes { IfErr result MayCome }
-    ensures counted { CountsServe result
-        (D.failures (disk_of book.old)) (D.failures (disk_of book.new)) }
-    ensures ready { is_broken book.old ≡ false → OnOk result (is_broken book.new ≡ false) }
-    ensures breaks { is_broken book.old ≡ false → IfErr result (λ fault.
-        StaysReady fault (is_broken book.new) (number_of book.new)) }
-    ensures any_moment { Leaves book.old book.new (IsKeptWithin (table_of book.old)
+    ensures fault { FaultLeaves ComesInLine result book.old book.new }
+    ensures crash { Leaves book.old book.new (IsKeptWithin (table_of book.old)
         (last_kept book.old) (by_command command ∷ [])) }
 {
     make_room(alloc, book)?;
@@ -119,15 +108,11 @@ fn answer_run<T: Threads + Wait, D: Disk>(
     ensures table { OnOk result
         (table_of book.new ≡ after_line (table_of book.old) (Ok (Run count))) }
     ensures kept { OnOk result (IsAllKept book.new) }
+    ensures page { OnOk result (HasRoom (turns count 0 (table_of book.old)) book.old
+        → GoesOn (turns count 0 (table_of book.old)) book.old book.new) }
     ensures begun { OnErr result (Begins (turns count 0 (table_of book.old)) book.old book.new) }
-    ensures sort { IfErr result IsOfBook }
-    ensures causes { IfErr result MayCome }
-    ensures counted { CountsServe result
-        (D.failures (disk_of book.old)) (D.failures (disk_of book.new)) }
-    ensures ready { is_broken book.old ≡ false → OnOk result (is_broken book.new ≡ false) }
-    ensures breaks { is_broken book.old ≡ false → IfErr result (λ fault.
-        StaysReady fault (is_broken book.new) (number_of book.new)) }
-    ensures any_moment { Leaves book.old book.new (IsKeptWithin (table_of book.old)
+    ensures fault { FaultLeaves ComesInLine result book.old book.new }
+    ensures crash { Leaves book.old book.new (IsKeptWithin (table_of book.old)
         (last_kept book.old) (turns count 0 (table_of book.old))) }
 {
     let made = run(rt, alloc, book, count, workers, every)?;

@@ -1,10 +1,11 @@
+//! Why a serving ended.
+
 ghost use Rattle.std.specs.Prelude.{◌≡◌};
-ghost use Rattle.ic_serving.specs.Faults.{book_word};
 
 use ic_desk::BookFault;
 use ic_lines::LineFault;
 use ic_pool::PoolFault;
-use std::alloc::{AllocError, AllocFailed, Global};
+use std::alloc::{AllocError, AllocFailed};
 
 /// Why a serving ended before the end of its lines, each with its lasting number.
 #[derive(Clone, Copy, Debug, PartialEq, Eq)]
@@ -26,53 +27,21 @@ pub enum ServeFault {
 }
 
 impl ServeFault {
-    ghost use Rattle.std.specs.Prelude.{IfOk};
-    ghost use Rattle.ic_serving.specs.Faults.{fault_line, fault_word};
+    ghost use Rattle.ic_serving.specs.Faults.{serve_fault_number};
 
-    /// The exit status of the program.
-    pub fn status(self) -> u8
-        ensures { result ≡ 4 }
-    {
-        let _ = self;
-        4
-    }
-
-    /// The line for standard error, with its line feed.
-    pub fn line(self, alloc: Global) -> Result<Vec<u8>, AllocError>
-        ensures { IfOk result (λ line. line.items ≡ fault_line self) }
-    {
-        let mut line = b"icserve: ".to_vec(alloc)?;
-        line.extend_from_slice(self.word())?;
-        line.push(b'\n')?;
-        Ok(line)
-    }
-
-    /// The words that tell it.
-    fn word(self) -> &'static [u8]
-        ensures { result.now ≡ fault_word self }
+    /// The lasting number of the fault.
+    pub fn number(self) -> u8
+        ensures { result ≡ serve_fault_number self }
     {
         match self {
-            ServeFault::Read => b"read",
-            ServeFault::Write => b"write",
-            ServeFault::TooManyLines => b"too many lines",
-            ServeFault::Book(fault) => book_word(fault),
-            ServeFault::Pool(_) => b"pool",
-            ServeFault::LongLine => b"long line",
-            ServeFault::Memory => b"memory",
+            ServeFault::Read => 1,
+            ServeFault::Write => 2,
+            ServeFault::TooManyLines => 3,
+            ServeFault::Book(_) => 4,
+            ServeFault::Pool(_) => 5,
+            ServeFault::LongLine => 6,
+            ServeFault::Memory => 7,
         }
-    }
-}
-
-/// The words that tell why a call on a book was refused.
-fn book_word(fault: BookFault) -> &'static [u8]
-    ensures { result.now ≡ book_word fault }
-{
-    match fault {
-        BookFault::Broken => b"broken",
-        BookFault::LogFull => b"log full",
-        BookFault::Worn => b"worn",
-        BookFault::Memory => b"memory",
-        BookFault::Device => b"device",
     }
 }
 

@@ -1,14 +1,13 @@
 //! Laws of the definitions that the contracts of this crate cite.
 
-ghost use Rattle.std.specs.Prelude.{IsTrue, false, ◌-◌, ◌^◌, ◌≡◌, ◌≢◌, ◌⊎◌, ◌↔◌, ◌<◌, ◌≤◌, ℕ, List, [], ◌∷◌, ◌++◌, Bool, true, Option, None, Some, Ok, Err, length, map, take, codes};
+ghost use Rattle.std.specs.Prelude.{IsTrue, false, ◌-◌, ◌^◌, ◌≡◌, ◌≢◌, ◌⊎◌, ◌↔◌, ◌<◌, ◌≤◌, ◌+◌, ℕ, List, [], ◌∷◌, ◌++◌, Bool, true, Option, None, Some, Ok, Err, length, map, take, drop, Contains};
 ghost use Rattle.std.specs.List.{AllByRecursion};
 ghost use Rattle.std.specs.Io.KnownBytes.{Appends};
 ghost use Rattle.ic_disk.specs.Time.{LeavesOnly, OneMore};
-ghost use Rattle.ic_frames.specs.declared.faults.OpenCause.TheVariants as opening;
-ghost use Rattle.ic_slots.specs.declared.fault.CreateFault.TheVariants as creating;
 ghost use Rattle.ic_pool.specs.declared.fault.PoolFault.{PoolFault};
 ghost use Rattle.ic_pool.specs.declared.fault.PoolFault.TheVariants as pool_fault;
 ghost use Rattle.ic_jobs.specs.declared.command.Command.{Command};
+ghost use Rattle.ic_jobs.specs.declared.event.Entry.{Entry};
 ghost use Rattle.ic_jobs.specs.declared.event.Event.{Event};
 ghost use Rattle.ic_jobs.specs.declared.event.Event.TheVariants.{Command as by_command};
 ghost use Rattle.ic_jobs.specs.Job.{JobParts};
@@ -18,21 +17,22 @@ ghost use Rattle.ic_text.specs.declared.fault.TextFault.{TextFault};
 ghost use Rattle.ic_commands.specs.declared.line.Line.TheVariants.{Blank, Command as Asks, Run};
 ghost use Rattle.ic_commands.specs.LineText.{ReadsLine};
 ghost use Rattle.ic_lines.specs.declared.buffer.LineFault.TheVariants as line_fault;
-ghost use Rattle.ic_lines.specs.Lines.{ended, lines};
+ghost use Rattle.ic_lines.specs.Answers.{Reading, events};
+ghost use Rattle.ic_lines.specs.Lines.{lines};
 ghost use Rattle.ic_lines.specs.Turns.{turns, after_events};
 ghost use Rattle.ic_lines.specs.Serving.{IsServed};
-ghost use Rattle.ic_desk.specs.declared.faults.BookFault.TheVariants as book_fault;
+ghost use Rattle.ic_desk.specs.declared.fault.BookFault.{BookFault};
+ghost use Rattle.ic_desk.specs.declared.fault.BookFault.TheVariants as book_fault;
 ghost use Rattle.ic_disk.specs.Images.{Within};
 ghost use Rattle.ic_frames.specs.Fields.{IsMade};
 ghost use Rattle.ic_desk.specs.Book.{start_of, log_of, table_of, kept_of, disk_of, IsUnchanged};
 ghost use Rattle.ic_serving.specs.declared.fault.ServeFault.{ServeFault};
 ghost use Rattle.ic_serving.specs.declared.fault.ServeFault.TheVariants.{Read, Write, TooManyLines, Book as by_book, Pool, LongLine, Memory};
-ghost use Rattle.ic_serving.specs.declared.disk_refused.DiskRefused.TheVariants as refused;
 ghost use Rattle.ic_serving.specs.declared.limits.TheConstants.{MAX_LINES};
 ghost use Rattle.ic_serving.specs.Answered.{IsAnswered, IsBegun};
 ghost use Rattle.ic_serving.specs.Booked.{last_kept, IsAllKept, IsOnMadeDisk};
-ghost use Rattle.ic_serving.specs.DiskRefusals.{refused_create, refused_open, refused_line};
-ghost use Rattle.ic_serving.specs.Faults.{fault_of_line, fault_line, IsOfBook, MayCome, CountsServe, StaysReady};
+ghost use Rattle.ic_serving.specs.Faults.{all_serve_faults, serve_fault_number, fault_of_line, ComesInLine, MayCome, CountsServe, StaysReady};
+ghost use Rattle.ic_serving.specs.Grown.{GoesOn, GoesOnWithin, HasRoom};
 ghost use Rattle.ic_serving.specs.Moments.{Leaves, IsKeptInLine};
 ghost use Rattle.ic_serving.specs.Parts.{IsPart, IsKeptWithin, IsInLine, IsInFirst};
 ghost use Rattle.ic_serving.specs.Served.{OfLines, MayBeServed, AreAnswered, AppendsFront, SaysOf, IsLeftBy, IsEnded, IsCut};
@@ -103,6 +103,15 @@ pub fn answers_are_appended()
     ic_lines::laws::lines_are_served_in_one_way();
 }
 
+/// The lasting numbers of the faults.
+pub fn numbers_are_lasting()
+    ensures all { (fault : ServeFault) → (of_book : BookFault) × (of_pool : PoolFault)
+        × Contains (all_serve_faults of_book of_pool) fault }
+    ensures numbers { (of_book : BookFault) (of_pool : PoolFault)
+        → map serve_fault_number (all_serve_faults of_book of_pool)
+        ≡ 1 ∷ 2 ∷ 3 ∷ 4 ∷ 5 ∷ 6 ∷ 7 ∷ [] }
+{}
+
 /// `LongLine` says that fewer than 1,000,000 lines are answered and that the line behind them has
 /// more than 262,144 bytes, and `TooManyLines` that 1,000,000 are answered and one more is to come.
 /// Some faults of the book and of the pool never come.
@@ -113,8 +122,9 @@ pub fn faults_say()
     ensures too_many_lines { (front rest : List (List ℕ)) → SaysOf TooManyLines front rest
         → (line : List ℕ) × (more : List (List ℕ)) × (rest ≡ line ∷ more)
         × (length front ≡ 1000000) }
-    ensures of_book { (fault : ServeFault) → IsOfBook fault
-        → (fault ≢ Read) × (fault ≢ Write) × (fault ≢ TooManyLines) × (fault ≢ LongLine) }
+    ensures in_line { (fault : ServeFault) → ComesInLine fault
+        → MayCome fault × (fault ≢ Read) × (fault ≢ Write) × (fault ≢ TooManyLines)
+        × (fault ≢ LongLine) }
     ensures never { AllByRecursion (λ fault. ¬ MayCome fault) (by_book book_fault.LogFull
         ∷ Pool pool_fault.NoWorkers ∷ Pool pool_fault.RoundsOut ∷ Pool pool_fault.Overgrown
         ∷ Pool pool_fault.NamesOut ∷ []) }
@@ -194,18 +204,30 @@ pub fn all_is_kept_where_each_entry_is<D: Disk>(book: &Book<D>)
     book.facts();
 }
 
-/// A line that is answered is served: this answers it, and it leaves this table; and all is kept,
-/// or nothing has changed. Where a line was only begun, the table is within it, and what is kept is
+/// A line that is answered is served: this answers it, and it leaves this table. Behind a command
+/// and a run all is kept; behind a blank and a refused line nothing has changed. Where a line was only begun, the table is within it, and what is kept is
 /// what was kept before it, or within it too.
 pub fn a_line_is_answered_as_it_is_served<D: Disk>(before: &Book<D>, behind: &Book<D>)
     ensures served { (line bytes : List ℕ) → IsAnswered line bytes before.now behind.now
         → IsServed (table_of before.now) (line ∷ []) bytes (table_of behind.now) }
     ensures kept { (line bytes : List ℕ) → IsAnswered line bytes before.now behind.now
         → IsAllKept behind.now ⊎ IsUnchanged before.now behind.now }
+    ensures blank { (line bytes : List ℕ) → ReadsLine line (Ok Blank)
+        → IsAnswered line bytes before.now behind.now → IsUnchanged before.now behind.now }
+    ensures refused { (line bytes : List ℕ) (fault : TextFault) → ReadsLine line (Err fault)
+        → IsAnswered line bytes before.now behind.now → IsUnchanged before.now behind.now }
     ensures command { (line bytes : List ℕ) (c : Command) → ReadsLine line (Ok (Asks c))
         → IsAnswered line bytes before.now behind.now → IsAllKept behind.now }
     ensures run { (line bytes : List ℕ) (k : ℕ) → ReadsLine line (Ok (Run k))
         → IsAnswered line bytes before.now behind.now → IsAllKept behind.now }
+    ensures page { (line bytes : List ℕ) (a : Reading) → ReadsLine line a
+        → IsAnswered line bytes before.now behind.now
+        → HasRoom (events (table_of before.now) a) before.now
+        → GoesOn (events (table_of before.now) a) before.now behind.now }
+    ensures begun_page { (line : List ℕ) (a : Reading) → ReadsLine line a
+        → IsBegun line before.now behind.now
+        → HasRoom (events (table_of before.now) a) before.now
+        → GoesOnWithin (events (table_of before.now) a) before.now behind.now }
     ensures begun { (line : List ℕ) → IsBegun line before.now behind.now
         → IsInLine (table_of before.now) line (table_of behind.now) }
     ensures kept_within { (line : List ℕ) → IsBegun line before.now behind.now
@@ -215,6 +237,25 @@ pub fn a_line_is_answered_as_it_is_served<D: Disk>(before: &Book<D>, behind: &Bo
 {
     ic_commands::laws::one_line_reading();
 }
+
+/// A page that goes on begins with the table that it began with, and its log is the one that it had
+/// with the entries of these events behind it, one for each, in their order, sent by 0. So the old
+/// log is a front of the new one. It goes on within events by the first so many of them.
+pub fn a_page_goes_on<D: Disk>(before: &Book<D>, behind: &Book<D>)
+    ensures start { (es : List Event) → GoesOn es before.now behind.now
+        → start_of behind.now ≡ start_of before.now }
+    ensures front { (es : List Event) → GoesOn es before.now behind.now
+        → take (length (log_of before.now)) (log_of behind.now) ≡ log_of before.now }
+    ensures events { (es : List Event) → GoesOn es before.now behind.now
+        → map (λ (e : Entry). e.event) (drop (length (log_of before.now)) (log_of behind.now)) ≡ es }
+    ensures senders { (es : List Event) → GoesOn es before.now behind.now
+        → AllByRecursion (λ (e : Entry). e.who ≡ 0)
+        (drop (length (log_of before.now)) (log_of behind.now)) }
+    ensures within { (es : List Event) → GoesOnWithin es before.now behind.now
+        → (n : ℕ) × (n ≤ length es) × GoesOn (take n es) before.now behind.now }
+    ensures room { (es : List Event) → HasRoom es before.now
+        ↔ (length (log_of before.now) + length es < 65536) }
+{}
 
 /// `Device` says that one failure more of the disk was counted, or that the count stands at its end,
 /// and no other fault does. Only `Device` breaks a book; `Broken` is told of none that wasn't broken,
@@ -240,7 +281,7 @@ pub fn causes_say()
 pub fn a_stop_leaves_one_of_these_tables<D: Disk>(before: &Book<D>, behind: &Book<D>)
     ensures made { IsOnMadeDisk before.now
         ↔ (IsTrue (D.keeps (disk_of before.now)) × Within (D.image (disk_of before.now)) IsMade) }
-    ensures any_moment { (p : List JobParts → Bool) → Leaves before.now behind.now (λ t. p t ≡ true)
+    ensures crash { (p : List JobParts → Bool) → Leaves before.now behind.now (λ t. p t ≡ true)
         → IsOnMadeDisk before.now
         → LeavesOnly D.clock D.left (disk_of before.now) (disk_of behind.now)
         (λ file. (t : List JobParts) × (p t ≡ true) × HoldsTable t file) }
@@ -262,35 +303,4 @@ pub fn a_stop_is_within_the_lines()
         → MayStand (true ≡ true) kept t ls u → IsReached t ls u }
     ensures others { (all : Bool) (kept t u : List JobParts) (ls : List (List ℕ))
         → MayStand (all ≡ true) kept t ls u → IsReached t ls u ⊎ (u ≡ kept) }
-{}
-
-/// The line on standard error of each fault.
-pub fn words_are()
-    ensures read { fault_line Read ≡ ended (codes "icserve: read") }
-    ensures write { fault_line Write ≡ ended (codes "icserve: write") }
-    ensures too_many_lines { fault_line TooManyLines ≡ ended (codes "icserve: too many lines") }
-    ensures broken { fault_line (by_book book_fault.Broken) ≡ ended (codes "icserve: broken") }
-    ensures log_full { fault_line (by_book book_fault.LogFull) ≡ ended (codes "icserve: log full") }
-    ensures worn { fault_line (by_book book_fault.Worn) ≡ ended (codes "icserve: worn") }
-    ensures book_memory { fault_line (by_book book_fault.Memory) ≡ ended (codes "icserve: memory") }
-    ensures device { fault_line (by_book book_fault.Device) ≡ ended (codes "icserve: device") }
-    ensures pool { (fault : PoolFault) → fault_line (Pool fault) ≡ ended (codes "icserve: pool") }
-    ensures long_line { fault_line LongLine ≡ ended (codes "icserve: long line") }
-    ensures memory { fault_line Memory ≡ ended (codes "icserve: memory") }
-{}
-
-/// Why a disk isn't created or opened, by what its calls answer; and the line on standard error of
-/// each reason.
-pub fn refused_disks_are()
-    ensures create { map refused_create (creating.Device ∷ creating.Memory ∷ [])
-        ≡ refused.Device ∷ refused.Memory ∷ [] }
-    ensures open { map refused_open (opening.Device ∷ opening.NoSlot ∷ opening.TwoAlike
-        ∷ opening.Damaged ∷ opening.Memory ∷ [])
-        ≡ refused.Device ∷ refused.NoSlot ∷ refused.TwoAlike ∷ refused.Damaged ∷ refused.Memory
-        ∷ [] }
-    ensures device { refused_line refused.Device ≡ ended (codes "icserve: device") }
-    ensures no_slot { refused_line refused.NoSlot ≡ ended (codes "icserve: no slot") }
-    ensures two_alike { refused_line refused.TwoAlike ≡ ended (codes "icserve: two alike") }
-    ensures damaged { refused_line refused.Damaged ≡ ended (codes "icserve: damaged") }
-    ensures memory { refused_line refused.Memory ≡ ended (codes "icserve: memory") }
 {}

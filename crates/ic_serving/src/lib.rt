@@ -3,12 +3,10 @@
 //! `answer_line` does what one line asks and keeps what it leaves: it answers a command, and makes
 //! the rounds of a `run` on several threads. `serve_lines` takes lines from a reader, has each
 //! answered, and writes the answer. What lines ask for and are answered is that of `ic_lines`.
-//! Why a serving ended is a `ServeFault`, and why a disk isn't created or opened a `DiskRefused`;
-//! both have the program's exit status and its line for standard error.
+//! Why a serving ended is a `ServeFault`.
 #![tactic(auto)]
 
 mod answering;
-mod disk_refused;
 mod fault;
 pub mod laws;
 mod limits;
@@ -19,7 +17,6 @@ pub mod stop_laws;
 mod writing;
 
 pub use answering::answer_line;
-pub use disk_refused::DiskRefused;
 pub use fault::ServeFault;
 pub use limits::MAX_LINES;
 pub use serving::serve_lines;

@@ -1,18 +1,20 @@
 //! One round over a book.
 
-ghost use Rattle.std.specs.Prelude.{false, ◌≡◌, ◌<◌, ◌≤◌, length, None, OnOk, OnErr, IfErr, IfOk, IfSome, IfNone};
+ghost use Rattle.std.specs.Prelude.{◌≡◌, ◌<◌, ◌≤◌, [], ◌∷◌, ◌++◌, length, None, OnOk, OnErr, IfOk, IfSome, IfNone};
 ghost use Rattle.ic_jobs.specs.declared.event.Event.TheVariants.{Round};
+ghost use Rattle.ic_jobs.specs.declared.reply.Reply.{Reply};
 ghost use Rattle.ic_jobs.specs.declared.limits.TheConstants.{MAX_JOBS};
 ghost use Rattle.ic_jobs.specs.Landing.{due, Awaits};
 ghost use Rattle.ic_desk.specs.declared.limits.TheConstants.{MAX_ENTRIES};
-ghost use Rattle.ic_desk.specs.Book.{is_broken, number_of, disk_of, table_of, kept_of, log_of, keeper_of, IsUnchanged};
+ghost use Rattle.ic_desk.specs.Book.{start_of, table_of, log_of, keeper_of, IsUnchanged};
+ghost use Rattle.ic_desk.specs.Entries.{round_entry};
 ghost use Rattle.ic_serving.specs.Booked.{last_kept, IsAllKept, Advances, MakesRound, StaysPut};
-ghost use Rattle.ic_desk.specs.Refusals.{CountsBook};
-ghost use Rattle.ic_serving.specs.Faults.{IsOfBook, MayCome, CountsServe, StaysReady};
-ghost use Rattle.ic_serving.specs.Moments.{Leaves, IsKeptOrNow};
+ghost use Rattle.ic_serving.specs.Faults.{ComesInLine};
+ghost use Rattle.ic_serving.specs.Grown.{IsSamePage};
+ghost use Rattle.ic_serving.specs.Moments.{FaultLeaves, Leaves, IsKeptOrNow};
 
 use crate::fault::ServeFault;
-use ic_desk::{Book, BookFault, MAX_ENTRIES};
+use ic_desk::{Book, MAX_ENTRIES};
 use ic_disk::Disk;
 use ic_pool::{Flight, OpenGate, play};
 use std::alloc::Global;
@@ -20,41 +22,34 @@ use std::sync::Wait;
 use std::thread::Threads;
 
 /// Begins a new page where the history is full, so that one more event can come.
-pub(crate) fn make_room<D: Disk>(alloc: Global, book: &mut Book<D>) -> Result<(), BookFault>
+pub(crate) fn make_room<D: Disk>(alloc: Global, book: &mut Book<D>) -> Result<(), ServeFault>
     ensures stays { StaysPut book.old book.new }
-    ensures causes { IfErr result (λ fault. MayCome (ServeFault.Book fault)) }
-    ensures counted { CountsBook result
-        (D.failures (disk_of book.old)) (D.failures (disk_of book.new)) }
-    ensures ready { is_broken book.old ≡ false → OnOk result (is_broken book.new ≡ false) }
-    ensures breaks { is_broken book.old ≡ false → IfErr result (λ fault.
-        StaysReady (ServeFault.Book fault) (is_broken book.new) (number_of book.new)) }
+    ensures fault { FaultLeaves ComesInLine result book.old book.new }
     ensures spare { OnOk result (length (log_of book.new) < MAX_ENTRIES) }
     ensures room { length (log_of book.old) < MAX_ENTRIES → IsUnchanged book.old book.new }
-    ensures any_moment { Leaves book.old book.new (IsKeptOrNow book.old) }
+    ensures crash { Leaves book.old book.new (IsKeptOrNow book.old) }
 {
     book.facts();
     if book.log().len() < MAX_ENTRIES {
         return Ok(());
     }
-    book.new_page(alloc)
+    book.new_page(alloc)?;
+    Ok(())
 }
 
 /// Keeps what isn't kept.
-pub(crate) fn keep_all<D: Disk>(book: &mut Book<D>) -> Result<(), BookFault>
+pub(crate) fn keep_all<D: Disk>(book: &mut Book<D>) -> Result<(), ServeFault>
     ensures table { table_of book.new ≡ table_of book.old }
     ensures kept { OnOk result (IsAllKept book.new) }
     ensures last { OnOk result (last_kept book.new ≡ table_of book.old) }
     ensures unkept { OnErr result (last_kept book.new ≡ last_kept book.old) }
-    ensures causes { IfErr result (λ fault. MayCome (ServeFault.Book fault)) }
-    ensures counted { CountsBook result
-        (D.failures (disk_of book.old)) (D.failures (disk_of book.new)) }
-    ensures ready { is_broken book.old ≡ false → OnOk result (is_broken book.new ≡ false) }
-    ensures breaks { is_broken book.old ≡ false → IfErr result (λ fault.
-        StaysReady (ServeFault.Book fault) (is_broken book.new) (number_of book.new)) }
-    ensures any_moment { Leaves book.old book.new (IsKeptOrNow book.old) }
+    ensures page { IsSamePage book.old book.new }
+    ensures fault { FaultLeaves ComesInLine result book.old book.new }
+    ensures crash { Leaves book.old book.new (IsKeptOrNow book.old) }
 {
     book.facts();
-    book.keep()
+    book.keep()?;
+    Ok(())
 }
 
 /// Makes the round of the job that is due from a place on, or halts it where it can't make one. Its
@@ -73,14 +68,8 @@ pub(crate) fn make_round<T: Threads + Wait, D: Disk>(
         MakesRound after here book.old book.new)) }
     ensures low { IfOk result (λ place. IfSome place (λ here. here < MAX_JOBS)) }
     ensures refused { OnErr result (StaysPut book.old book.new) }
-    ensures sort { IfErr result IsOfBook }
-    ensures causes { IfErr result MayCome }
-    ensures counted { CountsServe result
-        (D.failures (disk_of book.old)) (D.failures (disk_of book.new)) }
-    ensures ready { is_broken book.old ≡ false → OnOk result (is_broken book.new ≡ false) }
-    ensures breaks { is_broken book.old ≡ false → IfErr result (λ fault.
-        StaysReady fault (is_broken book.new) (number_of book.new)) }
-    ensures any_moment { Leaves book.old book.new (IsKeptOrNow book.old) }
+    ensures fault { FaultLeaves ComesInLine result book.old book.new }
+    ensures crash { Leaves book.old book.new (IsKeptOrNow book.old) }
 {
     book.facts();
     ic_jobs::laws::what_is_due_is_awaited();
@@ -108,14 +97,11 @@ fn land_or_halt<T: Threads + Wait, D: Disk>(
     requires awaits { Awaits (table_of book.old) flight.now.name flight.now.rules flight.now.config
         flight.now.rounds }
     ensures advances { OnOk result (Advances (Round flight.now.name) book.old book.new) }
+    ensures added { OnOk result ((reply : Reply)
+        × (log_of book.new ≡ log_of book.old ++ round_entry flight.now.name reply ∷ [])) }
+    ensures start { start_of book.new ≡ start_of book.old }
     ensures refused { OnErr result (IsUnchanged book.old book.new) }
-    ensures sort { IfErr result IsOfBook }
-    ensures causes { IfErr result MayCome }
-    ensures counted { CountsServe result
-        (D.failures (disk_of book.old)) (D.failures (disk_of book.new)) }
-    ensures ready { is_broken book.old ≡ false → OnOk result (is_broken book.new ≡ false) }
-    ensures breaks { is_broken book.old ≡ false → IfErr result (λ fault.
-        StaysReady fault (is_broken book.new) (number_of book.new)) }
+    ensures fault { FaultLeaves ComesInLine result book.old book.new }
     ensures keeper { keeper_of book.new ≡ keeper_of book.old }
 {
     book.facts();

@@ -1,17 +1,17 @@
 //! The rounds of a run over a book.
 
-ghost use Rattle.std.specs.Prelude.{false, ◌≡◌, ◌≤◌, ◌⊎◌, OnOk, OnErr, IfErr, IfOk, length};
-ghost use Rattle.ic_desk.specs.Book.{is_broken, number_of, disk_of, table_of};
+ghost use Rattle.std.specs.Prelude.{◌≡◌, ◌≤◌, ◌⊎◌, OnOk, OnErr, IfOk, length};
+ghost use Rattle.ic_desk.specs.Book.{table_of};
 ghost use Rattle.ic_lines.specs.Turns.{turns, after_events};
 ghost use Rattle.ic_serving.specs.Booked.{last_kept, Begins, IsAllKept};
 ghost use Rattle.ic_serving.specs.Parts.{IsKeptWithin};
-ghost use Rattle.ic_desk.specs.Refusals.{CountsBook};
-ghost use Rattle.ic_serving.specs.Faults.{IsOfBook, MayCome, CountsServe, StaysReady};
-ghost use Rattle.ic_serving.specs.Moments.{Leaves, IsKeptOrNow};
+ghost use Rattle.ic_serving.specs.Faults.{ComesInLine};
+ghost use Rattle.ic_serving.specs.Grown.{IsSamePage, GoesOn, HasRoom};
+ghost use Rattle.ic_serving.specs.Moments.{FaultLeaves, Leaves, IsKeptOrNow};
 
 use crate::fault::ServeFault;
 use crate::rounds::{keep_all, make_round};
-use ic_desk::{Book, BookFault};
+use ic_desk::Book;
 use ic_disk::Disk;
 use std::alloc::Global;
 use std::sync::Wait;
@@ -34,15 +34,11 @@ pub(crate) fn run<T: Threads + Wait, D: Disk>(
         (table_of book.new ≡ after_events (table_of book.old) (turns count 0 (table_of book.old))) }
     ensures kept { OnOk result (IsAllKept book.new) }
     ensures last { OnOk result (last_kept book.new ≡ table_of book.new) }
+    ensures page { OnOk result (HasRoom (turns count 0 (table_of book.old)) book.old
+        → GoesOn (turns count 0 (table_of book.old)) book.old book.new) }
     ensures begun { OnErr result (Begins (turns count 0 (table_of book.old)) book.old book.new) }
-    ensures sort { IfErr result IsOfBook }
-    ensures causes { IfErr result MayCome }
-    ensures counted { CountsServe result
-        (D.failures (disk_of book.old)) (D.failures (disk_of book.new)) }
-    ensures ready { is_broken book.old ≡ false → OnOk result (is_broken book.new ≡ false) }
-    ensures breaks { is_broken book.old ≡ false → IfErr result (λ fault.
-        StaysReady fault (is_broken book.new) (number_of book.new)) }
-    ensures any_moment { Leaves book.old book.new (IsKeptWithin (table_of book.old)
+    ensures fault { FaultLeaves ComesInLine result book.old book.new }
+    ensures crash { Leaves book.old book.new (IsKeptWithin (table_of book.old)
         (last_kept book.old) (turns count 0 (table_of book.old))) }
 {
     let made = make_rounds(rt, alloc, book, count, workers, every)?;
@@ -66,15 +62,11 @@ fn make_rounds<T: Threads + Wait, D: Disk>(
         (table_of book.new ≡ after_events (table_of book.old) (turns count 0 (table_of book.old))) }
     ensures within { OnOk result (IsKeptWithin (table_of book.old) (last_kept book.old)
         (turns count 0 (table_of book.old)) (last_kept book.new)) }
+    ensures page { OnOk result (HasRoom (turns count 0 (table_of book.old)) book.old
+        → GoesOn (turns count 0 (table_of book.old)) book.old book.new) }
     ensures begun { OnErr result (Begins (turns count 0 (table_of book.old)) book.old book.new) }
-    ensures sort { IfErr result IsOfBook }
-    ensures causes { IfErr result MayCome }
-    ensures counted { CountsServe result
-        (D.failures (disk_of book.old)) (D.failures (disk_of book.new)) }
-    ensures ready { is_broken book.old ≡ false → OnOk result (is_broken book.new ≡ false) }
-    ensures breaks { is_broken book.old ≡ false → IfErr result (λ fault.
-        StaysReady fault (is_broken book.new) (number_of book.new)) }
-    ensures any_moment { Leaves book.old book.new (IsKeptWithin (table_of book.old)
+    ensures fault { FaultLeaves ComesInLine result book.old book.new }
+    ensures crash { Leaves book.old book.new (IsKeptWithin (table_of book.old)
         (last_kept book.old) (turns count 0 (table_of book.old))) }
 {
     book.facts();
@@ -90,19 +82,15 @@ fn make_rounds<T: Threads + Wait, D: Disk>(
 }
 
 /// Keeps what isn't kept, where the number of rounds is a multiple of `every`.
-fn keep_each<D: Disk>(book: &mut Book<D>, made: u64, every: u64) -> Result<(), BookFault>
+fn keep_each<D: Disk>(book: &mut Book<D>, made: u64, every: u64) -> Result<(), ServeFault>
     requires { 1 ≤ every }
     ensures table { table_of book.new ≡ table_of book.old }
     ensures kept { OnOk result ((last_kept book.new ≡ last_kept book.old)
         ⊎ (last_kept book.new ≡ table_of book.old)) }
     ensures unkept { OnErr result (last_kept book.new ≡ last_kept book.old) }
-    ensures causes { IfErr result (λ fault. MayCome (ServeFault.Book fault)) }
-    ensures counted { CountsBook result
-        (D.failures (disk_of book.old)) (D.failures (disk_of book.new)) }
-    ensures ready { is_broken book.old ≡ false → OnOk result (is_broken book.new ≡ false) }
-    ensures breaks { is_broken book.old ≡ false → IfErr result (λ fault.
-        StaysReady (ServeFault.Book fault) (is_broken book.new) (number_of book.new)) }
-    ensures any_moment { Leaves book.old book.new (IsKeptOrNow book.old) }
+    ensures page { IsSamePage book.old book.new }
+    ensures fault { FaultLeaves ComesInLine result book.old book.new }
+    ensures crash { Leaves book.old book.new (IsKeptOrNow book.old) }
 {
     book.facts();
     if made % every == 0 {

@@ -1,13 +1,11 @@
 //! Serving all lines of a reader over a book.
 
-ghost use Rattle.std.specs.Prelude.{false, ◌≡◌, ◌≢◌, ◌≤◌, Err, IfErr, OnOk};
-ghost use Rattle.ic_disk.specs.Time.{LeavesOnly};
-ghost use Rattle.ic_desk.specs.Book.{is_broken, number_of, table_of, disk_of};
+ghost use Rattle.std.specs.Prelude.{◌≡◌, ◌≢◌, ◌≤◌};
 ghost use Rattle.ic_lines.specs.declared.buffer.LineFault.TheVariants.{LongLine};
-ghost use Rattle.ic_serving.specs.Faults.{MayCome, CountsServe, StaysReady, fault_of_line};
-ghost use Rattle.ic_serving.specs.Booked.{last_kept, IsAllKept, IsOnMadeDisk};
-ghost use Rattle.ic_serving.specs.Served.{OfLines, AreAnswered, IsEnded, IsCut};
-ghost use Rattle.ic_serving.specs.Stopped.{HoldsOne, MayStand};
+ghost use Rattle.ic_serving.specs.Faults.{MayCome, fault_of_line};
+ghost use Rattle.ic_serving.specs.Moments.{FaultLeaves};
+ghost use Rattle.ic_serving.specs.Served.{OfLines};
+ghost use Rattle.ic_serving.specs.Serving.{IsServing};
 
 use crate::answering::answer_line;
 use crate::fault::ServeFault;
@@ -38,32 +36,10 @@ pub fn serve_lines<T: Threads + Wait, D: Disk, R: Read, W: Write>(
 ) -> Result<(), ServeFault>
     requires workers { 1 ≤ workers }
     requires every { 1 ≤ every }
-    ensures served { OnOk result (OfLines (R.remaining reader.old) (λ ls. AreAnswered ls
-        (table_of book.old) (table_of book.new) (W.contents writer.old) (W.contents writer.new))) }
-    ensures kept { OnOk result (IsAllKept book.old → IsAllKept book.new) }
-    ensures ended { IfErr result (λ fault. fault ≢ ServeFault.Write
-        → OfLines (R.remaining reader.old) (λ ls. IsEnded fault (IsAllKept book.old) ls
-        (table_of book.old) (table_of book.new) (last_kept book.new)
-        (W.contents writer.old) (W.contents writer.new))) }
-    ensures causes { IfErr result MayCome }
-    ensures counted { CountsServe result
-        (D.failures (disk_of book.old)) (D.failures (disk_of book.new)) }
-    ensures ready { is_broken book.old ≡ false → OnOk result (is_broken book.new ≡ false) }
-    ensures breaks { is_broken book.old ≡ false → IfErr result (λ fault.
-        StaysReady fault (is_broken book.new) (number_of book.new)) }
-    ensures cut { result ≡ Err ServeFault.Write
-        → OfLines (R.remaining reader.old) (λ ls. IsCut ls (table_of book.old) (table_of book.new)
-        (W.contents writer.old) (W.contents writer.new)) }
-    ensures kept_at_cut { result ≡ Err ServeFault.Write
-        → IsAllKept book.old → IsAllKept book.new }
-
-    // A crash at any moment leaves a table that the lines reach, or where not all was kept before,
-    // the one that was.
-    ensures any_moment { IsOnMadeDisk book.old → OfLines (R.remaining reader.old) (λ ls.
-        LeavesOnly D.clock D.left (disk_of book.old) (disk_of book.new) (HoldsOne
-        (MayStand (IsAllKept book.old) (last_kept book.old) (table_of book.old) ls))) }
-    ensures keeps { D.keeps (disk_of book.new) ≡ D.keeps (disk_of book.old) }
-    ensures made { IsOnMadeDisk book.old → IsOnMadeDisk book.new }
+    // There are lines of which all this holds: those of the reader's bytes, where it tells them.
+    ensures serving { OfLines (R.remaining reader.old) (λ ls. IsServing result ls
+        book.old book.new (W.contents writer.old) (W.contents writer.new)) }
+    ensures fault { FaultLeaves MayCome result book.old book.new }
 {
     ic_commands::laws::one_line_reading();
     ic_lines::laws::lines_are_served_in_one_way();

@@ -21,10 +21,10 @@
 //!   `other` bytes wherever a write is pending.
 //! - `times COUNT LINE`: the same line so many times, and the answer that each has.
 //! - `feeds COUNT TEXT`: so many line feeds, and a text behind them.
-//! - `serve_fault NAME`, `disk_refused NAME`: the exit status and the line of a serving's fault, and of a disk's refusal.
+//! - `stream_fault NAME`, `serve_fault NAME`, `disk_refused NAME`: the program's exit status and line at such a failure.
 
 use crate::cuts::{Failing, broken, cut_everywhere};
-use crate::faults::{disk_line, serve_line};
+use crate::faults::failure_line;
 use crate::lines::{lines_of, on_one_line, or_nothing, parted, repeated};
 use crate::serving::Server;
 use crate::streams::Pace;
@@ -40,8 +40,9 @@ pub fn answer<R: Threads + Wait>(rt: &R, alloc: Global, row: &Row<'_>) -> Result
         "feeds" => feeds(&Server::new(rt, alloc, 1, 1), row.text),
         "device" => device(rt, alloc, row.text),
         "broken" => broken_by(rt, alloc, row.text),
-        "serve_fault" => serve_line(alloc, row.text),
-        "disk_refused" => disk_line(alloc, row.text),
+        "stream_fault" | "serve_fault" | "disk_refused" => {
+            failure_line(alloc, row.kind, row.text)
+        }
         kind => {
             let (server, text) = server_of(rt, alloc, row.text);
             match failing_of(kind) {

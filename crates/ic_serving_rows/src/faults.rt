@@ -1,10 +1,29 @@
-//! The exit status and the line of each fault of a serving and of each refusal of a disk, also of those that no row meets.
+//! The exit status and the line of each failure of the program, also of those that no row meets.
 
 use ic_desk::BookFault;
+use ic_endings::Failure;
 use ic_notation::{Trouble, decimal};
 use ic_pool::PoolFault;
-use ic_serving::{DiskRefused, ServeFault};
+use ic_round::RoundFault;
+use ic_serving::ServeFault;
+use ic_slots::OpenCause;
+use ic_streams::StreamFault;
+use ic_text::TextFault;
 use std::alloc::Global;
+
+/// The fault of a stream that a word names.
+fn stream_fault(word: &str) -> Option<StreamFault> {
+    match word {
+        "read" => Some(StreamFault::Read),
+        "write" => Some(StreamFault::Write),
+        "memory" => Some(StreamFault::Memory),
+        "syntax" => Some(StreamFault::Text(TextFault::Syntax)),
+        "name" => Some(StreamFault::Text(TextFault::Name(49))),
+        "overgrown" => Some(StreamFault::Round(RoundFault::Overgrown)),
+        "names_out" => Some(StreamFault::Round(RoundFault::NamesOut)),
+        _ => None,
+    }
+}
 
 /// The fault of a serving that a word names: one of its own, of its book, or of its rounds.
 fn serve_fault(word: &str) -> Option<ServeFault> {
@@ -46,31 +65,35 @@ fn pool_fault(word: &str) -> Option<PoolFault> {
     }
 }
 
-/// The exit status and the line of a serving's fault.
-pub fn serve_line(alloc: Global, word: &str) -> Result<Vec<u8>, Trouble> {
-    match serve_fault(word) {
-        Some(fault) => of_status(alloc, fault.status(), &fault.line(alloc)?),
-        None => Err(Trouble("no such fault")),
+/// Why a disk isn't opened, as a word names it.
+fn open_cause(word: &str) -> Option<OpenCause> {
+    match word {
+        "device" => Some(OpenCause::Device),
+        "no_slot" => Some(OpenCause::NoSlot),
+        "two_alike" => Some(OpenCause::TwoAlike),
+        "damaged" => Some(OpenCause::Damaged),
+        "memory" => Some(OpenCause::Memory),
+        _ => None,
     }
 }
 
-/// The exit status and the line of a disk's refusal.
-pub fn disk_line(alloc: Global, word: &str) -> Result<Vec<u8>, Trouble> {
-    let refused = match word {
-        "device" => DiskRefused::Device,
-        "no_slot" => DiskRefused::NoSlot,
-        "two_alike" => DiskRefused::TwoAlike,
-        "damaged" => DiskRefused::Damaged,
-        "memory" => DiskRefused::Memory,
-        _ => return Err(Trouble("no such refusal")),
-    };
-    of_status(alloc, refused.status(), refused.line().as_bytes())
+/// The failure of the program that a row's kind and a word name.
+fn failure(kind: &str, word: &str) -> Option<Failure> {
+    match kind {
+        "stream_fault" => Some(Failure::Stream(stream_fault(word)?)),
+        "serve_fault" => Some(Failure::Serve(serve_fault(word)?)),
+        _ => Some(Failure::Open(open_cause(word)?)),
+    }
 }
 
-fn of_status(alloc: Global, status: u8, line: &[u8]) -> Result<Vec<u8>, Trouble> {
+/// The exit status and the line of a failure.
+pub fn failure_line(alloc: Global, kind: &str, word: &str) -> Result<Vec<u8>, Trouble> {
+    let Some(failure) = failure(kind, word) else {
+        return Err(Trouble("no such failure"));
+    };
     let mut answer = Vec::new(alloc);
-    decimal(&mut answer, u64::from(status))?;
+    decimal(&mut answer, u64::from(failure.status()))?;
     answer.push(b' ')?;
-    answer.extend_from_slice(line)?;
+    answer.extend_from_slice(&failure.line(alloc)?)?;
     Ok(answer)
 }

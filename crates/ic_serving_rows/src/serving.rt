@@ -5,6 +5,7 @@ use crate::streams::{FailingReader, FailingWriter, Pace};
 use ic_desk::Book;
 use ic_disk::{Choice, Disk};
 use ic_notation::{Trouble, decimal};
+use ic_endings::Failure;
 use ic_serving::serve_lines;
 use std::alloc::Global;
 use std::io::{Read, Write};
@@ -41,7 +42,7 @@ impl<'a, R: Threads + Wait> Server<'a, R> {
         let every = self.every.max(1);
         match serve_lines(self.rt, self.alloc, book, reader, writer, workers, every) {
             Ok(()) => Ok(Vec::new(self.alloc)),
-            Err(fault) => Ok(fault.line(self.alloc)?),
+            Err(fault) => Ok(Failure::Serve(fault).line(self.alloc)?),
         }
     }
 

@@ -1,7 +1,7 @@
 -- The lasting numbers of faults. This project's choice.
 use Rattle.std.specs.Prelude.{ℕ, List, [], ◌∷◌}
-use Rattle.ic_slots.specs.declared.faults.CreateFault.{CreateFault}
-use Rattle.ic_slots.specs.declared.faults.CreateFault.TheVariants.{Device, Memory}
+use Rattle.ic_slots.specs.declared.fault.CreateFault.{CreateFault}
+use Rattle.ic_slots.specs.declared.fault.CreateFault.TheVariants.{Device, Memory}
 
 abbrev pub create_fault_number : CreateFault → ℕ
 create_fault_number Device = 1

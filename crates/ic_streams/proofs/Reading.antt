@@ -1,16 +1,14 @@
 -- What was taken from a reader, and what it says of all that the reader had.
-use Rattle.std.proofs.Common.{◌≡◌, ℕ, ◌+◌, ◌<◌, ◌≤◌, List, [], ◌++◌, Option, None, Some, OnErr, Result, Ok, Err, length, length-append, append-nil, arith, ◌∙◌, ap, inl, inr}
-use Rattle.std.specs.Prelude.{IfSome, IfErr, OnOk}
+use Rattle.std.proofs.Common.{◌≡◌, ◌⊎◌, ⊎_elim, ℕ, ◌+◌, ◌<◌, ◌≤◌, List, [], ◌++◌, Option, None, Some, OnErr, Result, Ok, Err, length, length-append, append-nil, arith, ◌∙◌, ap, sym, inl, inr}
+use Rattle.std.specs.Prelude.{IfErr, OnOk}
 use Rattle.std.specs.Result.{IsErrAnd}
 use Rattle.std.proofs.KnownBytes.{Consumes-trans}
 use Rattle.std.proofs.lemmas.Bool.{cases_lt}
-use Rattle.std.proofs.lemmas.Option.{IfSome_then}
 use Rattle.std.specs.Io.KnownBytes.{Appends, Consumes}
-use Rattle.ic_rules.specs.System.{SystemParts}
-use Rattle.ic_text.specs.SystemText.{ReadsSystem}
+use Rattle.ic_text.specs.Reading.{IsReading}
 use Rattle.ic_text.specs.declared.fault.TextFault.{TextFault}
 use Rattle.ic_text.specs.declared.limits.TheConstants.{MAX_TEXT}
-use Rattle.ic_streams.specs.Streams.{FaultOf, Rounds, RoundsTo, TakesIt, TakesSome, Writes}
+use Rattle.ic_streams.specs.Streams.{Answering, FaultOf, IsAnswered, OfText, Rounds, Settles, TakesIt, TakesSome}
 use Rattle.ic_streams.specs.declared.fault.StreamFault.{StreamFault}
 use Rattle.ic_streams.specs.declared.fault.StreamFault.TheVariants.{Read, Text, Round, Memory, Write}
 
@@ -20,57 +18,90 @@ pub taken_more : {T E : Type 0} (r : Result T E) (a b c : Option (List ℕ)) (xs
 taken_more (Ok v) a b c xs ys p q bound = tt
 taken_more (Err e) a b c xs ys p q bound = (xs ++ ys, Consumes-trans a b c xs ys p q, rw length-append bound)
 
--- a text is read as a system as this front of it is
-abbrev ReadAs : List ℕ → List ℕ → Type 0
-ReadAs front text = (answer : Result SystemParts TextFault) → ReadsSystem front answer → ReadsSystem text answer
+-- ---- what is so of a front that was taken is so of the text
 
--- so it is where the front is too long, or the whole text
-read_as : (front rest : List ℕ) → (length front ≤ MAX_TEXT → rest ≡ []) → ReadAs front (front ++ rest)
-read_as front rest end answer reads = elim (cases_lt MAX_TEXT (length front)) [
-  | inl long ↦ (let more : MAX_TEXT < length (front ++ rest) = rw length-append (omega arith) in
-      record { long = λ _. reads.long long; spelled = λ fits. absurd (omega arith); malformed = λ fits. absurd (omega arith) })
-  | inr fits ↦ (let whole : front ++ rest ≡ front = ap (λ r. front ++ r) (end fits) ∙ append-nil front in rw whole reads)
-]
+-- a text is read as this front of it is, where the front is too long, or the whole text
+module _ {P V : Type 0} (SpellsOne : List ℕ → P → Type 0) (sense : P → Result V TextFault) where
+  read_as : (front rest : List ℕ) → (length front ≤ MAX_TEXT → rest ≡ []) → (answer : Result V TextFault)
+      → IsReading SpellsOne sense front answer → IsReading SpellsOne sense (front ++ rest) answer
+  read_as front rest end answer reads = elim (cases_lt MAX_TEXT (length front)) [
+    | inl long ↦ (let more : MAX_TEXT < length (front ++ rest) = rw length-append (omega arith) in
+        record { long = λ _. reads.long long; spelled = λ fits. absurd (omega arith); malformed = λ fits. absurd (omega arith) })
+    | inr fits ↦ (let whole : front ++ rest ≡ front = ap (λ r. front ++ r) (end fits) ∙ append-nil front in rw whole reads)
+  ]
 
-taken_as : (old new : Option (List ℕ)) (front : List ℕ) → TakesIt front old new → IfSome old (ReadAs front)
-taken_as None new front takes = tt
-taken_as (Some text) None front takes = absurd takes.0
-taken_as (Some text) (Some rest) front takes = λ answer reads. rw takes.0 (read_as front rest takes.2 answer reads)
+-- what answers the front answers the text
+abbrev Carries : Answering → List ℕ → List ℕ → Type 0
+Carries Answers front text = (answer : Result (List ℕ) StreamFault) → Answers front answer → Answers text answer
 
-rounds_as : (front text line : List ℕ) → ReadAs front text → RoundsTo front line → RoundsTo text line
-rounds_as front text line same r = record { system = r.system; reads = same _ r.reads; fits = r.fits; prints = r.prints }
+abbrev pub Carried : Answering → Type 0
+Carried Answers = (front rest : List ℕ) → (length front ≤ MAX_TEXT → rest ≡ []) → Carries Answers front (front ++ rest)
 
-fault_as : (front text : List ℕ) (fault : StreamFault) → ReadAs front text → FaultOf Rounds front fault → FaultOf Rounds text fault
-fault_as front text Read same f = tt
-fault_as front text (Text fault) same f = (same _ f.0, f.1)
-fault_as front text (Round fault) same f = record { system = f.system; reads = same _ f.reads; refused = f.refused }
-fault_as front text Memory same f = tt
-fault_as front text Write same f = (f.0, rounds_as front text f.0 same f.1)
+pub settles_carried : Carried Settles
+settles_carried front rest end (Ok line) s =
+    record { symbols = s.symbols; configuration = s.configuration; reads = read_as _ _ front rest end _ s.reads; prints = s.prints }
+settles_carried front rest end (Err (Text fault)) s = (read_as _ _ front rest end _ s.0, s.1)
+settles_carried front rest end (Err (Round fault)) s = absurd s
+settles_carried front rest end (Err Read) s = absurd s
+settles_carried front rest end (Err Memory) s = absurd s
+settles_carried front rest end (Err Write) s = absurd s
 
--- ---- once what was taken is seen: the line and the fault are those of the whole text
+pub rounds_carried : Carried Rounds
+rounds_carried front rest end (Ok line) s = record { system = s.system; reads = read_as _ _ front rest end _ s.reads; fits = s.fits; prints = s.prints }
+rounds_carried front rest end (Err (Text fault)) s = (read_as _ _ front rest end _ s.0, s.1)
+rounds_carried front rest end (Err (Round fault)) s = record { system = s.system; reads = read_as _ _ front rest end _ s.reads; refused = s.refused }
+rounds_carried front rest end (Err Read) s = absurd s
+rounds_carried front rest end (Err Memory) s = absurd s
+rounds_carried front rest end (Err Write) s = absurd s
 
-round_of_taken : (old new : Option (List ℕ)) (front seen line : List ℕ) → TakesIt front old new → seen ≡ front → RoundsTo seen line
-    → IfSome old (λ text. RoundsTo text line)
-round_of_taken old new front seen line takes is r =
-    IfSome_then old (taken_as old new front takes) (λ text same. rounds_as front text line same (rw is at r))
+fault_as : (Answers : Answering) (front text : List ℕ) (fault : StreamFault) → Carries Answers front text → FaultOf Answers front fault → FaultOf Answers text fault
+fault_as Answers front text Read same f = tt
+fault_as Answers front text (Text fault) same f = same _ f
+fault_as Answers front text (Round fault) same f = same _ f
+fault_as Answers front text Memory same f = tt
+fault_as Answers front text Write same f = (f.0, same _ f.1)
 
-pub written_of_taken : {T E : Type 0} (r : Result T E) (old new : Option (List ℕ)) (front seen line given : List ℕ) (before after : Option (List ℕ))
-    → TakesIt front old new → seen ≡ front → RoundsTo seen line → given ≡ line → OnOk r (Appends before after given)
-    → OnOk r (IfSome old (λ text. Writes Rounds text before after))
-written_of_taken (Ok v) old new front seen line given before after takes is rounds same appends =
-    IfSome_then old {Q = λ text. Writes Rounds text before after} (round_of_taken old new front seen line takes is rounds) (λ text r. (line, r, rw same at appends))
-written_of_taken (Err e) old new front seen line given before after takes is rounds same appends = tt
+module _ (Answers : Answering) {T : Type 0} where
+  answered_as : (r : Result T StreamFault) (front text : List ℕ) (before after : Option (List ℕ)) → Carries Answers front text
+      → IsAnswered Answers front r before after → IsAnswered Answers text r before after
+  answered_as (Ok v) front text before after same a = record { written = (a.written.0, same _ a.written.1, a.written.2); refused = tt }
+  answered_as (Err e) front text before after same a = record { written = tt; refused = fault_as Answers front text e same a.refused }
 
-pub unwritten_of_taken : {T : Type 0} (r : Result T StreamFault) (old new : Option (List ℕ)) (front seen line : List ℕ)
-    → TakesIt front old new → seen ≡ front → RoundsTo seen line → IfErr r (λ fault. fault ≡ Write)
-    → IfErr r (λ fault. IfSome old (λ text. FaultOf Rounds text fault))
-unwritten_of_taken (Ok v) old new front seen line takes is rounds fails = tt
-unwritten_of_taken (Err e) old new front seen line takes is rounds fails = rw fails
-    (IfSome_then old {Q = λ text. FaultOf Rounds text Write} (round_of_taken old new front seen line takes is rounds) (λ text r. (line, r)))
+  of_taken : Carried Answers → (r : Result T StreamFault) (old new before after : Option (List ℕ)) (front : List ℕ) → TakesIt front old new
+      → IsAnswered Answers front r before after → OfText old (λ text. IsAnswered Answers text r before after)
+  of_taken law r None new before after front takes a = (front, a)
+  of_taken law r (Some text) None before after front takes a = absurd takes.0
+  of_taken law r (Some text) (Some rest) before after front takes a =
+      rw takes.0 (answered_as r front (front ++ rest) before after (law front rest takes.2) a)
 
-pub refused_of_taken : {T : Type 0} (r : Result T StreamFault) (old new : Option (List ℕ)) (front seen : List ℕ) (fault : StreamFault)
-    → TakesIt front old new → seen ≡ front → FaultOf Rounds seen fault → IsErrAnd r (λ e. e ≡ fault)
-    → IfErr r (λ e. IfSome old (λ text. FaultOf Rounds text e))
-refused_of_taken (Ok v) old new front seen fault takes is refused fails = tt
-refused_of_taken (Err e) old new front seen fault takes is refused fails = rw fails
-    (IfSome_then old (taken_as old new front takes) (λ text same. fault_as front text fault same (rw is at refused)))
+  -- ---- by what the calls answered
+
+  -- no text was read
+  pub unread : (r : Result T StreamFault) (old before after : Option (List ℕ)) (fault : StreamFault) → IsErrAnd r (λ e. e ≡ fault) → (fault ≡ Read) ⊎ (fault ≡ Memory)
+      → OfText old (λ text. IsAnswered Answers text r before after)
+  unread (Ok v) old before after fault fails which = absurd fails
+  unread (Err e) old before after fault fails which = of_any old (λ text. record { written = tt; refused = says text })
+    where
+      says : (text : List ℕ) → FaultOf Answers text e
+      says text = rw fails (⊎_elim (λ is. rw is tt) (λ is. rw is tt) which)
+
+      of_any : (old : Option (List ℕ)) → ((text : List ℕ) → IsAnswered {T = T} Answers text (Err e) before after) → OfText old (λ text. IsAnswered {T = T} Answers text (Err e) before after)
+      of_any None all = ([], all [])
+      of_any (Some text) all = all text
+
+  -- the text that was read is refused
+  pub refused_of_taken : Carried Answers → (r : Result T StreamFault) (old new before after : Option (List ℕ)) (front seen : List ℕ) (fault : StreamFault)
+      → TakesIt front old new → seen ≡ front → FaultOf Answers seen fault → IsErrAnd r (λ e. e ≡ fault)
+      → OfText old (λ text. IsAnswered Answers text r before after)
+  refused_of_taken law (Ok v) old new before after front seen fault takes is refused fails = absurd fails
+  refused_of_taken law (Err e) old new before after front seen fault takes is refused fails =
+      of_taken law (Err e) old new before after front takes (record { written = tt; refused = rw fails (rw is at refused) })
+
+  -- its line is written, or the writer failed
+  pub written_of_taken : Carried Answers → (r : Result T StreamFault) (old new before after : Option (List ℕ)) (front seen line given : List ℕ)
+      → TakesIt front old new → seen ≡ front → Answers seen (Ok line) → given ≡ line → OnOk r (Appends before after given) → IfErr r (λ fault. fault ≡ Write)
+      → OfText old (λ text. IsAnswered Answers text r before after)
+  written_of_taken law (Ok v) old new before after front seen line given takes is has same appends fails =
+      of_taken law (Ok v) old new before after front takes (record { written = (line, rw is at has, rw same at appends); refused = tt })
+  written_of_taken law (Err e) old new before after front seen line given takes is has same appends fails =
+      of_taken law (Err e) old new before after front takes (record { written = tt; refused = rw fails (line, rw is at has) })

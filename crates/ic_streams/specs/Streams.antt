@@ -1,6 +1,6 @@
 -- What a stream is answered (this project's choice).
 use Rattle.std.specs.Prelude.{◌≡◌, ◌≢◌, ◌≤◌, ◌+◌, ℕ, List, [], ◌∷◌, ◌++◌, true, length}
-use Rattle.std.specs.Prelude.{Option, Result, Ok, Err}
+use Rattle.std.specs.Prelude.{Option, None, Some, Result, Ok, Err, OnOk, IfErr}
 use Rattle.std.specs.Io.KnownBytes.{Appends, Consumes, IsAtEnd}
 use Rattle.ic_term.specs.Symbol.{Symbol}
 use Rattle.ic_term.specs.Configuration.{Configuration}
@@ -51,14 +51,19 @@ Answering = List ℕ → Result (List ℕ) StreamFault → Type 0
 abbrev pub Settles : Answering
 Settles input (Ok line) = SettlesTo input line
 Settles input (Err (Text fault)) = Reads input (Err fault) × (fault ≢ text.Memory)
-Settles input (Err _) = ⊥
+Settles input (Err (Round fault)) = ⊥
+Settles input (Err Read) = ⊥
+Settles input (Err Memory) = ⊥
+Settles input (Err Write) = ⊥
 
 -- the answers of one round
 abbrev pub Rounds : Answering
 Rounds input (Ok line) = RoundsTo input line
 Rounds input (Err (Text fault)) = ReadsSystem input (Err fault) × (fault ≢ text.Memory)
 Rounds input (Err (Round fault)) = IsUnfit input fault
-Rounds input (Err _) = ⊥
+Rounds input (Err Read) = ⊥
+Rounds input (Err Memory) = ⊥
+Rounds input (Err Write) = ⊥
 
 -- the line of a text is appended to what was written
 abbrev pub Writes : Answering → List ℕ → Option (List ℕ) → Option (List ℕ) → Type 0
@@ -69,7 +74,19 @@ abbrev pub FaultOf : Answering → List ℕ → StreamFault → Type 0
 FaultOf Answers input Write = (line : List ℕ) × Answers input (Ok line)
 FaultOf Answers input Read = Unit {0}
 FaultOf Answers input Memory = Unit {0}
-FaultOf Answers input fault = Answers input (Err fault)
+FaultOf Answers input (Text fault) = Answers input (Err (Text fault))
+FaultOf Answers input (Round fault) = Answers input (Err (Round fault))
+
+-- this is so of the text that a reader has, or where it doesn't tell its bytes, of some text
+abbrev pub OfText : (bytes : Option (List ℕ)) (what : List ℕ → Type 0) → Type 0
+OfText None what = (text : List ℕ) × what text
+OfText (Some text) what = what text
+
+-- a text is answered: at Ok by its line, which is appended, and else by a fault
+pub record IsAnswered {T : Type 0} (Answers : Answering) (text : List ℕ)
+    (result : Result T StreamFault) (old new : Option (List ℕ)) : Type 0 where
+  pub written : OnOk result (Writes Answers text old new)
+  pub refused : IfErr result (λ fault. FaultOf Answers text fault)
 
 -- these bytes are taken, which are all there are or one more than a text may have
 abbrev pub TakesIt : List ℕ → Option (List ℕ) → Option (List ℕ) → Type 0

@@ -1,13 +1,12 @@
-//! Why a stream isn't answered, and what the program makes of it.
+//! Why a stream isn't answered.
 
-ghost use Rattle.std.specs.Prelude.{◌≡◌, IfOk};
-ghost use Rattle.ic_streams.specs.Faults.{status_of, fault_line};
+ghost use Rattle.std.specs.Prelude.{◌≡◌};
 
 use ic_round::RoundFault;
-use ic_text::{TextFault, print_fault};
-use std::alloc::{AllocError, AllocFailed, Global};
+use ic_text::TextFault;
+use std::alloc::{AllocError, AllocFailed};
 
-/// Why a stream isn't answered, each with its lasting number; `status` gives the program's exit status.
+/// Why a stream isn't answered, each with its lasting number.
 #[derive(Clone, Copy, Debug, PartialEq, Eq)]
 pub enum StreamFault {
     /// 1: the input can't be read.
@@ -23,33 +22,19 @@ pub enum StreamFault {
 }
 
 impl StreamFault {
-    /// The exit status of the program.
-    pub fn status(self) -> u8
-        ensures { result ≡ status_of self }
-    {
-        match self {
-            StreamFault::Text(_) | StreamFault::Round(_) => 1,
-            StreamFault::Read | StreamFault::Memory | StreamFault::Write => 4,
-        }
-    }
+    ghost use Rattle.ic_streams.specs.Faults.{stream_fault_number};
 
-    /// The line for standard error, with its line feed.
-    pub fn line(self, alloc: Global) -> Result<Vec<u8>, AllocError>
-        ensures { IfOk result (λ line. line.items ≡ fault_line self) }
+    /// The lasting number of the fault.
+    pub fn number(self) -> u8
+        ensures { result ≡ stream_fault_number self }
     {
-        let mut line = b"icserve: ".to_vec(alloc)?;
         match self {
-            StreamFault::Read => line.extend_from_slice(b"read")?,
-            StreamFault::Text(fault) => line.extend_from_slice(&print_fault(alloc, &fault)?)?,
-            StreamFault::Round(RoundFault::Overgrown) => line.extend_from_slice(b"overgrown")?,
-            StreamFault::Round(RoundFault::NamesOut) => line.extend_from_slice(b"names out")?,
-            StreamFault::Round(RoundFault::Memory) | StreamFault::Memory => {
-                line.extend_from_slice(b"memory")?
-            }
-            StreamFault::Write => line.extend_from_slice(b"write")?,
+            StreamFault::Read => 1,
+            StreamFault::Text(_) => 2,
+            StreamFault::Round(_) => 3,
+            StreamFault::Memory => 4,
+            StreamFault::Write => 5,
         }
-        line.push(b'\n')?;
-        Ok(line)
     }
 }
 

@@ -1,9 +1,9 @@
 //! Answering what a reader gives.
 
-ghost use Rattle.std.specs.Prelude.{◌≡◌, ◌≢◌, ◌⊎◌, Ok, IfOk, IfErr, IfSome, IsTrue, OnOk, OnErr};
+ghost use Rattle.std.specs.Prelude.{◌≡◌, ◌≢◌, ◌⊎◌, Ok, IfOk, IfErr, IsTrue, OnOk, OnErr};
 ghost use Rattle.std.specs.Io.KnownBytes.{Appends, Keeps};
 ghost use Rattle.ic_term.specs.Symbol.{is_over};
-ghost use Rattle.ic_streams.specs.Streams.{FaultOf, Rounds, Settles, Writes, line_of};
+ghost use Rattle.ic_streams.specs.Streams.{OfText, IsAnswered, FaultOf, Rounds, Settles, line_of};
 ghost use Rattle.ic_streams.specs.Streams.{TakesAt, TakesIt, TakesSome, TakesText};
 
 use crate::fault::StreamFault;
@@ -25,10 +25,9 @@ pub fn settle_stream<R: Read, W: Write>(
     reader: &mut R,
     writer: &mut W,
 ) -> Result<(), StreamFault>
-    ensures written { OnOk result (IfSome (R.remaining reader.old)
-        (λ text. Writes Settles text (W.contents writer.old) (W.contents writer.new))) }
-    ensures refused { IfErr result
-        (λ fault. IfSome (R.remaining reader.old) (λ text. FaultOf Settles text fault)) }
+    // There is a text of which this holds: the reader's, where it tells its bytes.
+    ensures answered { OfText (R.remaining reader.old) (λ text. IsAnswered Settles text result
+        (W.contents writer.old) (W.contents writer.new)) }
     ensures silent { IfErr result (λ fault. fault ≢ StreamFault.Write
         → Keeps (W.contents writer.old) (W.contents writer.new)) }
     ensures taken { OnOk result (TakesText (R.remaining reader.old) (R.remaining reader.new)) }
@@ -48,10 +47,9 @@ pub fn once_stream<R: Read, W: Write>(
     reader: &mut R,
     writer: &mut W,
 ) -> Result<(), StreamFault>
-    ensures written { OnOk result (IfSome (R.remaining reader.old)
-        (λ text. Writes Rounds text (W.contents writer.old) (W.contents writer.new))) }
-    ensures refused { IfErr result
-        (λ fault. IfSome (R.remaining reader.old) (λ text. FaultOf Rounds text fault)) }
+    // There is a text of which this holds: the reader's, where it tells its bytes.
+    ensures answered { OfText (R.remaining reader.old) (λ text. IsAnswered Rounds text result
+        (W.contents writer.old) (W.contents writer.new)) }
     ensures silent { IfErr result (λ fault. fault ≢ StreamFault.Write
         → Keeps (W.contents writer.old) (W.contents writer.new)) }
     ensures taken { OnOk result (TakesText (R.remaining reader.old) (R.remaining reader.new)) }

@@ -2,10 +2,11 @@
 #![tactic(auto)]
 
 use ic_desk::Book;
-use ic_disk::FileDisk;
-use ic_streams::{StreamFault, Task, WordsFault, once_stream, read_words, settle_stream};
-use ic_serving::{DiskRefused, ServeFault, serve_lines};
-use std::alloc::AllocError;
+use ic_disk::{DiskFault, FileDisk};
+use ic_endings::Failure;
+use ic_serving::{ServeFault, serve_lines};
+use ic_streams::{StreamFault, once_stream, settle_stream};
+use ic_words::{Task, WordsFault, read_words};
 use std::env;
 use std::fs::File;
 use std::io::{self, ErrorKind, Write};
@@ -14,13 +15,34 @@ use std::sync::Wait;
 use std::thread::Threads;
 
 fn main(rt: HostRuntime) -> ExitCode {
-    match task(&rt) {
-        Ok(task) => run(&rt, &rt, task),
-        Err(WordsFault::Words(text)) => {
-            let _ = eprint!(rt; "{text}");
-            ExitCode::from(2)
+    match run(&rt, &rt) {
+        Ok(()) => ExitCode::SUCCESS,
+        Err(failure) => refuse(&rt, &failure),
+    }
+}
+
+/// Does what the words after the program's name ask for, on standard input and output but for
+/// `create`.
+fn run<T: Threads + Wait>(rt: &HostRuntime, threads: &T) -> Result<(), Failure> {
+    let mut input = rt.reader();
+    let mut output = io::writer(rt);
+    match task(rt).map_err(Failure::Words)? {
+        Task::Settle => {
+            settle_stream(rt.alloc(), &mut input, &mut output).map_err(Failure::Stream)
         }
-        Err(WordsFault::Memory) => refuse(&rt, StreamFault::Memory),
+        Task::Once => once_stream(rt.alloc(), &mut input, &mut output).map_err(Failure::Stream),
+        Task::Create { disk } => create(rt, disk.as_str()),
+        Task::Serve {
+            disk,
+            workers,
+            every,
+        } => {
+            let book = open(rt, disk.as_str())?;
+            serve(rt, threads, book, workers, every).map_err(Failure::Serve)
+        }
+        Task::Help(text) | Task::Version(text) => {
+            show(&mut output, text.as_str()).map_err(Failure::Stream)
+        }
     }
 }
 
@@ -50,24 +72,23 @@ fn stand_ins(rt: &HostRuntime) -> io::Result<[File; 3]> {
 }
 
 /// Opens the disk in the file of this path, which with `create` is made where it is missing.
-fn open_disk(rt: &HostRuntime, path: &str, create: bool) -> Result<FileDisk, DiskRefused> {
-    let _stand_ins = stand_ins(rt).map_err(|_| DiskRefused::Device)?;
-    Ok(FileDisk::open(rt, path, create)?)
+fn open_disk(rt: &HostRuntime, path: &str, create: bool) -> Result<FileDisk, Failure> {
+    let _stand_ins = stand_ins(rt).map_err(|_| Failure::Disk(DiskFault))?;
+    FileDisk::open(rt, path, create).map_err(Failure::Disk)
 }
 
 /// Puts the empty table on the disk in the file of this path.
-fn create(rt: &HostRuntime, path: &str) -> Result<(), DiskRefused> {
+fn create(rt: &HostRuntime, path: &str) -> Result<(), Failure> {
     let mut disk = open_disk(rt, path, true)?;
-    ic_slots::create(rt.alloc(), &mut disk)?;
-    Ok(())
+    ic_slots::create(rt.alloc(), &mut disk).map_err(Failure::Create)
 }
 
 /// Opens the book on the disk in the file of this path.
-fn open(rt: &HostRuntime, path: &str) -> Result<Book<FileDisk>, DiskRefused> {
+fn open(rt: &HostRuntime, path: &str) -> Result<Book<FileDisk>, Failure> {
     let disk = open_disk(rt, path, false)?;
     match Book::open(rt.alloc(), disk) {
         Ok(book) => Ok(book),
-        Err(fault) => Err(fault.cause.into()),
+        Err(fault) => Err(Failure::Open(fault.cause)),
     }
 }
 
@@ -98,59 +119,6 @@ fn serve<T: Threads + Wait>(
     served.and(flushed)
 }
 
-/// Does a task, on standard input and output but for `create`.
-fn run<T: Threads + Wait>(rt: &HostRuntime, threads: &T, task: Task) -> ExitCode {
-    let mut input = rt.reader();
-    let mut output = io::writer(rt);
-    let ended = match task {
-        Task::Settle => settle_stream(rt.alloc(), &mut input, &mut output),
-        Task::Once => once_stream(rt.alloc(), &mut input, &mut output),
-        Task::Create { disk } => return create_status(rt, disk.as_str()),
-        Task::Serve {
-            disk,
-            workers,
-            every,
-        } => return serve_status(rt, threads, disk.as_str(), workers, every),
-        Task::Help(text) | Task::Version(text) => show(&mut output, text.as_str()),
-    };
-    match ended {
-        Ok(()) => ExitCode::SUCCESS,
-        Err(fault) => refuse(rt, fault),
-    }
-}
-
-/// Makes the file of this path an empty disk, and says why it can't be.
-fn create_status(rt: &HostRuntime, path: &str) -> ExitCode {
-    match create(rt, path) {
-        Ok(()) => ExitCode::SUCCESS,
-        Err(refused) => refuse_disk(rt, refused),
-    }
-}
-
-/// Serves over the disk in the file of this path, and says why it ended early or isn't opened.
-fn serve_status<T: Threads + Wait>(
-    rt: &HostRuntime,
-    threads: &T,
-    path: &str,
-    workers: u32,
-    every: u32,
-) -> ExitCode {
-    let book = match open(rt, path) {
-        Ok(book) => book,
-        Err(refused) => return refuse_disk(rt, refused),
-    };
-    match serve(rt, threads, book, workers, every) {
-        Ok(()) => ExitCode::SUCCESS,
-        Err(fault) => show_fault(rt, fault.line(rt.alloc()), fault.status()),
-    }
-}
-
-/// Writes the line of a disk that isn't created or opened to standard error.
-fn refuse_disk(rt: &HostRuntime, refused: DiskRefused) -> ExitCode {
-    let _ = eprint!(rt; "{}", refused.line());
-    ExitCode::from(refused.status())
-}
-
 /// Writes a text.
 fn show<W: Write>(output: &mut W, text: &str) -> Result<(), StreamFault> {
     output
@@ -159,17 +127,13 @@ fn show<W: Write>(output: &mut W, text: &str) -> Result<(), StreamFault> {
     output.flush().map_err(|_| StreamFault::Write)
 }
 
-/// Writes the line of a fault to standard error.
-fn refuse(rt: &HostRuntime, fault: StreamFault) -> ExitCode {
-    show_fault(rt, fault.line(rt.alloc()), fault.status())
-}
-
-/// Writes a line to standard error, or that there is no memory for it. The exit status is this one.
-fn show_fault(rt: &HostRuntime, line: Result<Vec<u8>, AllocError>, status: u8) -> ExitCode {
-    match line {
+/// Writes the line of a failure to standard error, or that there is no memory for it. The exit
+/// status says which failure it was.
+fn refuse(rt: &HostRuntime, failure: &Failure) -> ExitCode {
+    match failure.line(rt.alloc()) {
         Ok(line) => {
             let _ = rt.stderr().write_all(&line);
-            ExitCode::from(status)
+            ExitCode::from(failure.status())
         }
         Err(_) => {
             let _ = eprintln!(rt; "icserve: memory");

@@ -6,10 +6,21 @@ use Rattle.ic_desk.specs.Entries.{command_entry}
 use Rattle.ic_serving.specs.Booked.{last_kept, Begins}
 use Rattle.ic_serving.proofs.RunLemmas.{kept_same, on_err}
 use Rattle.ic_serving.proofs.LineLemmas.{device_or_not, begun_none, begun_one, begun_kept, after_event, kept_behind, kept_all}
+use Rattle.ic_serving.proofs.PageLemmas.{command_goes, one_room, same_then, within_all, within_none}
 use Rattle.ic_serving.specs.Parts.{IsKeptWithin}
 use Rattle.ic_serving.specs.Moments.{IsKeptOrNow}
 use Rattle.ic_serving.proofs.StopLemmas.{kept_or_now, leaves_more, leaves_still, leaves_command}
 use Rattle.ic_serving.proofs.answering.answer_command.Goals as goal
+
+pub returns-in_err-make_room-clause-begun : goal.returns-in_err-make_room-clause-begun
+returns-in_err-make_room-clause-begun g c =
+    let s = c.make_room.ensures.stays in
+    let b = begun_none (table_of c.args.book.now) (last_kept c.args.book.now) (by_command c.args.command ∷ []) (table_of c.make_room.new.book) (last_kept c.make_room.new.book) s.table s.kept in
+    on_err c.from_residual.result _ (record {
+      table = b.0;
+      kept = b.1;
+      page = λ room. within_none (by_command c.args.command ∷ []) c.args.book.now c.make_room.new.book (s.page (one_room c.args.book.now c.args.command room));
+    })
 
 pub returns-in_err-reply-clause-begun : goal.returns-in_err-reply-clause-begun
 returns-in_err-reply-clause-begun g c =
@@ -23,14 +34,14 @@ returns-in_err-reply-clause-begun g c =
           c.command.ensures.start added.1.entry (c.in_err-reply.ensures.unkept err) c.facts.ensures.history.within in
           let b = begun_one (table_of c.args.book.now) (last_kept c.args.book.now) (by_command c.args.command) (table_of c.command.new.self) (last_kept c.command.new.self)
           (moved ∙ ap (λ y. table_after y (by_command c.args.command)) s.table) (rw same s.kept) in
-          on_err c.from_residual-in_err-reply.result _ (record { table = b.0; kept = b.1 }))
-      | inr other ↦ (let u : IsUnchanged c.make_room.new.book c.command.new.self = c.in_err-reply.ensures.refused refl (λ same. other (cc)) in
+          on_err c.from_residual-in_err-reply.result _ (record { table = b.0; kept = b.1; page = λ room. within_all (by_command c.args.command ∷ []) c.args.book.now c.command.new.self (command_goes c.args.command added.0 c.args.book.now c.make_room.new.book c.command.new.self (s.page (one_room c.args.book.now c.args.command room)) c.command.ensures.start added.1.entry) }))
+      | inr other ↦ (let u : IsUnchanged c.make_room.new.book c.command.new.self = c.in_err-reply.ensures.fault.refused refl (λ same. other (cc)) in
           let same : last_kept c.command.new.self ≡ last_kept c.make_room.new.book = kept_same (start_of c.make_room.new.book) (start_of c.command.new.self)
           (log_of c.make_room.new.book) (log_of c.command.new.self) (kept_of c.make_room.new.book) (kept_of c.command.new.self)
           u.same_start u.same_log u.same_kept in
           let b = begun_none (table_of c.args.book.now) (last_kept c.args.book.now) (by_command c.args.command ∷ []) (table_of c.command.new.self) (last_kept c.command.new.self)
           (u.same_table ∙ s.table) (rw same s.kept) in
-          on_err c.from_residual-in_err-reply.result _ (record { table = b.0; kept = b.1 }))
+          on_err c.from_residual-in_err-reply.result _ (record { table = b.0; kept = b.1; page = λ room. within_none (by_command c.args.command ∷ []) c.args.book.now c.command.new.self (same_then c.args.book.now c.make_room.new.book c.command.new.self (s.page (one_room c.args.book.now c.args.command room)) u.same_start u.same_log) }))
     ]
 
 pub returns-in_err-print_reply-clause-begun : goal.returns-in_err-print_reply-clause-begun
@@ -41,7 +52,7 @@ returns-in_err-print_reply-clause-begun g c =
     c.facts-2.ensures.history.replayed c.in_ok-reply.ensures.kept in
     let b = begun_kept (table_of c.args.book.now) (last_kept c.args.book.now) (by_command c.args.command) (table_of c.command.new.self) (last_kept c.command.new.self)
     (moved ∙ ap (λ y. table_after y (by_command c.args.command)) s.table) all in
-    on_err c.from_residual-in_err-print_reply.result _ (record { table = b.0; kept = b.1 })
+    on_err c.from_residual-in_err-print_reply.result _ (record { table = b.0; kept = b.1; page = λ room. within_all (by_command c.args.command ∷ []) c.args.book.now c.command.new.self (command_goes c.args.command c.in_ok-reply.reply c.args.book.now c.make_room.new.book c.command.new.self (s.page (one_room c.args.book.now c.args.command room)) c.command.ensures.start c.in_ok-reply.ensures.answered.entry) })
 
 pub returns-in_err-ended-clause-begun : goal.returns-in_err-ended-clause-begun
 returns-in_err-ended-clause-begun g c =
@@ -51,38 +62,42 @@ returns-in_err-ended-clause-begun g c =
     c.facts-2.ensures.history.replayed c.in_ok-reply.ensures.kept in
     let b = begun_kept (table_of c.args.book.now) (last_kept c.args.book.now) (by_command c.args.command) (table_of c.command.new.self) (last_kept c.command.new.self)
     (moved ∙ ap (λ y. table_after y (by_command c.args.command)) s.table) all in
-    on_err c.from_residual-in_err-ended.result _ (record { table = b.0; kept = b.1 })
+    on_err c.from_residual-in_err-ended.result _ (record { table = b.0; kept = b.1; page = λ room. within_all (by_command c.args.command ∷ []) c.args.book.now c.command.new.self (command_goes c.args.command c.in_ok-reply.reply c.args.book.now c.make_room.new.book c.command.new.self (s.page (one_room c.args.book.now c.args.command room)) c.command.ensures.start c.in_ok-reply.ensures.answered.entry) })
 
-pub returns-in_err-make_room-clause-any_moment : goal.returns-in_err-make_room-clause-any_moment
-returns-in_err-make_room-clause-any_moment g c = leaves_more c.args.book.now c.make_room.new.book (IsKeptOrNow c.args.book.now)
-    (IsKeptWithin (table_of c.args.book.now) (last_kept c.args.book.now) (by_command c.args.command ∷ [])) c.make_room.ensures.any_moment
+pub returns-in_err-make_room-clause-crash : goal.returns-in_err-make_room-clause-crash
+returns-in_err-make_room-clause-crash g c = leaves_more c.args.book.now c.make_room.new.book (IsKeptOrNow c.args.book.now)
+    (IsKeptWithin (table_of c.args.book.now) (last_kept c.args.book.now) (by_command c.args.command ∷ [])) c.make_room.ensures.crash
     (kept_or_now (table_of c.args.book.now) (last_kept c.args.book.now) (by_command c.args.command ∷ []))
 
-pub returns-in_err-reply-clause-any_moment : goal.returns-in_err-reply-clause-any_moment
-returns-in_err-reply-clause-any_moment g c =
+pub returns-in_err-reply-clause-crash : goal.returns-in_err-reply-clause-crash
+returns-in_err-reply-clause-crash g c =
     elim (device_or_not c.in_err-reply.field-0.0) [
       | inl is ↦ (let added = c.in_err-reply.ensures.unanswered (ap (λ e. Err e) is) in
-          leaves_command c.args.book.now c.make_room.new.book c.command.new.self c.args.command added.0 c.make_room.ensures.any_moment c.in_ok-make_room.ensures.stays
-          c.facts.ensures.history.replayed c.facts.ensures.history.within added.1 c.command.ensures.keeps c.command.ensures.made c.command.ensures.any_moment)
-      | inr other ↦ (let u : IsUnchanged c.make_room.new.book c.command.new.self = c.in_err-reply.ensures.refused refl (λ same. other (cc)) in
+          leaves_command c.args.book.now c.make_room.new.book c.command.new.self c.args.command added.0 c.make_room.ensures.crash c.in_ok-make_room.ensures.stays
+          c.facts.ensures.history.replayed c.facts.ensures.history.within added.1 c.command.ensures.crash.keeps c.command.ensures.crash.made c.command.ensures.crash.any_moment)
+      | inr other ↦ (let u : IsUnchanged c.make_room.new.book c.command.new.self = c.in_err-reply.ensures.fault.refused refl (λ same. other (cc)) in
           leaves_still c.args.book.now c.make_room.new.book c.command.new.self (IsKeptWithin (table_of c.args.book.now) (last_kept c.args.book.now) (by_command c.args.command ∷ []))
           (leaves_more c.args.book.now c.make_room.new.book (IsKeptOrNow c.args.book.now)
-          (IsKeptWithin (table_of c.args.book.now) (last_kept c.args.book.now) (by_command c.args.command ∷ [])) c.make_room.ensures.any_moment
+          (IsKeptWithin (table_of c.args.book.now) (last_kept c.args.book.now) (by_command c.args.command ∷ [])) c.make_room.ensures.crash
           (kept_or_now (table_of c.args.book.now) (last_kept c.args.book.now) (by_command c.args.command ∷ [])))
           u.same_keeper)
     ]
 
-pub returns-in_err-print_reply-clause-any_moment : goal.returns-in_err-print_reply-clause-any_moment
-returns-in_err-print_reply-clause-any_moment g c =
-    leaves_command c.args.book.now c.make_room.new.book c.command.new.self c.args.command c.in_ok-reply.reply c.make_room.ensures.any_moment c.in_ok-make_room.ensures.stays
-    c.facts.ensures.history.replayed c.facts.ensures.history.within c.in_ok-reply.ensures.answered c.command.ensures.keeps c.command.ensures.made c.command.ensures.any_moment
+pub returns-in_err-print_reply-clause-crash : goal.returns-in_err-print_reply-clause-crash
+returns-in_err-print_reply-clause-crash g c =
+    leaves_command c.args.book.now c.make_room.new.book c.command.new.self c.args.command c.in_ok-reply.reply c.make_room.ensures.crash c.in_ok-make_room.ensures.stays
+    c.facts.ensures.history.replayed c.facts.ensures.history.within c.in_ok-reply.ensures.answered c.command.ensures.crash.keeps c.command.ensures.crash.made c.command.ensures.crash.any_moment
 
-pub returns-in_err-ended-clause-any_moment : goal.returns-in_err-ended-clause-any_moment
-returns-in_err-ended-clause-any_moment g c =
-    leaves_command c.args.book.now c.make_room.new.book c.command.new.self c.args.command c.in_ok-reply.reply c.make_room.ensures.any_moment c.in_ok-make_room.ensures.stays
-    c.facts.ensures.history.replayed c.facts.ensures.history.within c.in_ok-reply.ensures.answered c.command.ensures.keeps c.command.ensures.made c.command.ensures.any_moment
+pub returns-in_err-ended-clause-crash : goal.returns-in_err-ended-clause-crash
+returns-in_err-ended-clause-crash g c =
+    leaves_command c.args.book.now c.make_room.new.book c.command.new.self c.args.command c.in_ok-reply.reply c.make_room.ensures.crash c.in_ok-make_room.ensures.stays
+    c.facts.ensures.history.replayed c.facts.ensures.history.within c.in_ok-reply.ensures.answered c.command.ensures.crash.keeps c.command.ensures.crash.made c.command.ensures.crash.any_moment
 
-pub returns-clause-any_moment : goal.returns-clause-any_moment
-returns-clause-any_moment g c =
-    leaves_command c.args.book.now c.make_room.new.book c.command.new.self c.args.command c.in_ok-reply.reply c.make_room.ensures.any_moment c.in_ok-make_room.ensures.stays
-    c.facts.ensures.history.replayed c.facts.ensures.history.within c.in_ok-reply.ensures.answered c.command.ensures.keeps c.command.ensures.made c.command.ensures.any_moment
+pub returns-clause-crash : goal.returns-clause-crash
+returns-clause-crash g c =
+    leaves_command c.args.book.now c.make_room.new.book c.command.new.self c.args.command c.in_ok-reply.reply c.make_room.ensures.crash c.in_ok-make_room.ensures.stays
+    c.facts.ensures.history.replayed c.facts.ensures.history.within c.in_ok-reply.ensures.answered c.command.ensures.crash.keeps c.command.ensures.crash.made c.command.ensures.crash.any_moment
+
+pub returns-clause-page : goal.returns-clause-page
+returns-clause-page g c = λ room. command_goes c.args.command c.in_ok-reply.reply c.args.book.now c.make_room.new.book c.command.new.self
+    (c.in_ok-make_room.ensures.stays.page (one_room c.args.book.now c.args.command room)) c.command.ensures.start c.in_ok-reply.ensures.answered.entry

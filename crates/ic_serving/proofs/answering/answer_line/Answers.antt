@@ -1,54 +1,63 @@
-use Rattle.std.proofs.Common.{refl, inl, inr, [], ◌∷◌, Ok}
-use Rattle.ic_desk.specs.Book.{table_of, disk_of, is_broken, number_of}
+use Rattle.std.proofs.Common.{ℕ, List, refl, inl, inr, [], ◌∷◌, Ok}
+use Rattle.ic_disk.specs.declared.disk.Disk.{Ghosts}
+use Rattle.ic_desk.specs.declared.book.Book.{Book}
+use Rattle.ic_desk.specs.Book.{table_of}
 use Rattle.ic_lines.specs.Answers.{events}
 use Rattle.ic_serving.specs.Booked.{last_kept}
 use Rattle.ic_serving.proofs.LineLemmas.{begun_none}
+use Rattle.ic_serving.proofs.PageLemmas.{within_none}
+use Rattle.ic_serving.proofs.RunLemmas.{on_err}
+use Rattle.ic_serving.specs.Answered.{IsBegun}
 use Rattle.ic_jobs.specs.declared.event.Event.TheVariants.{Command as by_command}
 use Rattle.ic_commands.specs.declared.line.Line.TheVariants.{Command as Asks, Run}
 use Rattle.ic_lines.specs.Turns.{turns}
 use Rattle.ic_serving.specs.Parts.{IsKeptWithin}
 use Rattle.ic_serving.specs.Moments.{IsKeptInLine}
-use Rattle.ic_serving.proofs.ServeLemmas.{in_line, counts_memory, ready_memory}
-use Rattle.ic_serving.proofs.StopLemmas.{kept_in_line, leaves_more, leaves_nothing}
+use Rattle.ic_serving.proofs.ServeLemmas.{SomeWay, in_line}
+use Rattle.ic_serving.proofs.StopLemmas.{fault_memory, kept_in_line, leaves_more, leaves_nothing}
 use Rattle.ic_serving.proofs.answering.answer_line.Goals as goal
 
-pub returns-in-Err-Memory-clause-begun : goal.returns-in-Err-Memory-clause-begun
-returns-in-Err-Memory-clause-begun g c =
-    let r = c.one_line_reading.ensures.total c.args.line.now in
-    let b = begun_none (table_of c.args.book.now) (last_kept c.args.book.now) (events (table_of c.args.book.now) r.0) (table_of c.args.book.now) (last_kept c.args.book.now) refl (inl refl) in
-    record { reading = r.0; read = r.1; begun = record { table = b.0; kept = b.1 } }
+-- where nothing was done, nothing of the line has come
+nothing_begun : {D : Type 0} {ghosts : Ghosts D} → SomeWay → (book : Book D ghosts) (line : List ℕ) → IsBegun line book book
+nothing_begun law book line =
+    let r = law line in
+    let b = begun_none (table_of book) (last_kept book) (events (table_of book) r.0) (table_of book) (last_kept book) refl (inl refl) in
+    record { reading = r.0; read = r.1; begun = record { table = b.0; kept = b.1; page = λ room. within_none (events (table_of book) r.0) book book (record { start = refl; log = refl }) } }
 
-pub returns-in-Ok-Command-clause-any_moment : goal.returns-in-Ok-Command-clause-any_moment
-returns-in-Ok-Command-clause-any_moment g c = leaves_more c.args.book.now c.answer_command.new.book
+pub returns-in-Err-Memory-clause-begun : goal.returns-in-Err-Memory-clause-begun
+returns-in-Err-Memory-clause-begun g c = nothing_begun c.one_line_reading.ensures.total c.args.book.now c.args.line.now
+
+pub returns-in-Err-clause-begun : goal.returns-in-Err-clause-begun
+returns-in-Err-clause-begun g c = on_err c.answer_refused.result _ (nothing_begun c.one_line_reading.ensures.total c.args.book.now c.args.line.now)
+
+pub returns-in-Ok-Command-clause-crash : goal.returns-in-Ok-Command-clause-crash
+returns-in-Ok-Command-clause-crash g c = leaves_more c.args.book.now c.answer_command.new.book
     (IsKeptWithin (table_of c.args.book.now) (last_kept c.args.book.now) (by_command c.in-Ok-Command.command ∷ []))
-    (IsKeptInLine (table_of c.args.book.now) (last_kept c.args.book.now) c.args.line.now) c.answer_command.ensures.any_moment
+    (IsKeptInLine (table_of c.args.book.now) (last_kept c.args.book.now) c.args.line.now) c.answer_command.ensures.crash
     (λ u within. kept_in_line (table_of c.args.book.now) (last_kept c.args.book.now) c.args.line.now (Ok (Asks c.in-Ok-Command.command)) u
     (rw c.in-Ok-Command.field-0-is at c.in-Ok-Command.ensures.read) within)
 
-pub returns-in-Ok-Run-clause-any_moment : goal.returns-in-Ok-Run-clause-any_moment
-returns-in-Ok-Run-clause-any_moment g c = leaves_more c.args.book.now c.answer_run.new.book
+pub returns-in-Ok-Run-clause-crash : goal.returns-in-Ok-Run-clause-crash
+returns-in-Ok-Run-clause-crash g c = leaves_more c.args.book.now c.answer_run.new.book
     (IsKeptWithin (table_of c.args.book.now) (last_kept c.args.book.now) (turns c.in-Ok-Run.count 0 (table_of c.args.book.now)))
-    (IsKeptInLine (table_of c.args.book.now) (last_kept c.args.book.now) c.args.line.now) c.answer_run.ensures.any_moment
+    (IsKeptInLine (table_of c.args.book.now) (last_kept c.args.book.now) c.args.line.now) c.answer_run.ensures.crash
     (λ u within. kept_in_line (table_of c.args.book.now) (last_kept c.args.book.now) c.args.line.now (Ok (Run c.in-Ok-Run.count)) u
     (rw c.in-Ok-Run.field-0-is at c.in-Ok-Run.ensures.read) within)
 
-pub returns-in-Err-Memory-clause-any_moment : goal.returns-in-Err-Memory-clause-any_moment
-returns-in-Err-Memory-clause-any_moment g c = leaves_nothing c.args.book.now (IsKeptInLine (table_of c.args.book.now) (last_kept c.args.book.now) c.args.line.now)
+pub returns-in-Err-Memory-clause-crash : goal.returns-in-Err-Memory-clause-crash
+returns-in-Err-Memory-clause-crash g c = leaves_nothing c.args.book.now (IsKeptInLine (table_of c.args.book.now) (last_kept c.args.book.now) c.args.line.now)
     (g.met.D.Disk.left_is_image _) c.facts.ensures.either c.facts.ensures.history.replayed (inl refl)
     (inr (in_line c.one_line_reading.ensures.total (table_of c.args.book.now) c.args.line.now))
 
-pub returns-in-Ok-Blank-clause-any_moment : goal.returns-in-Ok-Blank-clause-any_moment
-returns-in-Ok-Blank-clause-any_moment g c = leaves_nothing c.args.book.now (IsKeptInLine (table_of c.args.book.now) (last_kept c.args.book.now) c.args.line.now)
+pub returns-in-Ok-Blank-clause-crash : goal.returns-in-Ok-Blank-clause-crash
+returns-in-Ok-Blank-clause-crash g c = leaves_nothing c.args.book.now (IsKeptInLine (table_of c.args.book.now) (last_kept c.args.book.now) c.args.line.now)
     (g.met.D.Disk.left_is_image _) c.facts.ensures.either c.facts.ensures.history.replayed (inl refl)
     (inr (in_line c.one_line_reading.ensures.total (table_of c.args.book.now) c.args.line.now))
 
-pub returns-in-Err-clause-any_moment : goal.returns-in-Err-clause-any_moment
-returns-in-Err-clause-any_moment g c = leaves_nothing c.args.book.now (IsKeptInLine (table_of c.args.book.now) (last_kept c.args.book.now) c.args.line.now)
+pub returns-in-Err-clause-crash : goal.returns-in-Err-clause-crash
+returns-in-Err-clause-crash g c = leaves_nothing c.args.book.now (IsKeptInLine (table_of c.args.book.now) (last_kept c.args.book.now) c.args.line.now)
     (g.met.D.Disk.left_is_image _) c.facts.ensures.either c.facts.ensures.history.replayed (inl refl)
     (inr (in_line c.one_line_reading.ensures.total (table_of c.args.book.now) c.args.line.now))
 
-pub returns-in-Err-clause-counted : goal.returns-in-Err-clause-counted
-returns-in-Err-clause-counted g c = counts_memory c.answer_refused.result (g.D.Disk.failures (disk_of c.args.book.now)) c.answer_refused.ensures.fault
-
-pub returns-in-Err-clause-breaks : goal.returns-in-Err-clause-breaks
-returns-in-Err-clause-breaks g c = λ is. ready_memory c.answer_refused.result (is_broken c.args.book.now) (number_of c.args.book.now) c.answer_refused.ensures.fault is
+pub returns-in-Err-clause-fault : goal.returns-in-Err-clause-fault
+returns-in-Err-clause-fault g c = fault_memory c.answer_refused.result c.args.book.now c.answer_refused.ensures.fault

@@ -3,8 +3,8 @@ use Rattle.ic_serving.proofs.laws.a_stop_leaves_one_of_these_tables.Goals as goa
 pub returns-clause-made : goal.returns-clause-made
 returns-clause-made g c = (λ h. h, λ h. h)
 
-pub returns-clause-any_moment : goal.returns-clause-any_moment
-returns-clause-any_moment g c = λ p is. is.any_moment
+pub returns-clause-crash : goal.returns-clause-crash
+returns-clause-crash g c = λ p is. is.any_moment
 
 pub returns-clause-stays : goal.returns-clause-stays
 returns-clause-stays g c = λ p is. is.stays

@@ -6,6 +6,10 @@ use Rattle.ic_serving.specs.Moments.{IsKeptOrNow}
 use Rattle.ic_serving.proofs.StopLemmas.{leaves_call}
 use Rattle.ic_serving.proofs.rounds.keep_all.Goals as goal
 
-pub returns-clause-any_moment : goal.returns-clause-any_moment
-returns-clause-any_moment g c = leaves_call c.args.book.now c.keep.new.self (last_kept c.args.book.now) (replay (start_of c.args.book.now) (log_of c.args.book.now))
-    (IsKeptOrNow c.args.book.now) c.keep.ensures.keeps c.keep.ensures.made c.keep.ensures.any_moment (inl refl) (inr c.facts.ensures.history.replayed)
+pub returns-in_err-keep-clause-crash : goal.returns-in_err-keep-clause-crash
+returns-in_err-keep-clause-crash g c = leaves_call c.args.book.now c.keep.new.self (last_kept c.args.book.now) (replay (start_of c.args.book.now) (log_of c.args.book.now))
+    (IsKeptOrNow c.args.book.now) c.keep.ensures.crash.keeps c.keep.ensures.crash.made c.keep.ensures.crash.any_moment (inl refl) (inr c.facts.ensures.history.replayed)
+
+pub returns-clause-crash : goal.returns-clause-crash
+returns-clause-crash g c = leaves_call c.args.book.now c.keep.new.self (last_kept c.args.book.now) (replay (start_of c.args.book.now) (log_of c.args.book.now))
+    (IsKeptOrNow c.args.book.now) c.keep.ensures.crash.keeps c.keep.ensures.crash.made c.keep.ensures.crash.any_moment (inl refl) (inr c.facts.ensures.history.replayed)

@@ -3,9 +3,13 @@ use Rattle.ic_desk.specs.Book.{start_of, log_of}
 use Rattle.ic_jobs.specs.History.{replay}
 use Rattle.ic_serving.specs.Booked.{last_kept}
 use Rattle.ic_serving.specs.Moments.{IsKeptOrNow}
-use Rattle.ic_serving.proofs.StopLemmas.{leaves_call, leaves_nothing}
+use Rattle.ic_serving.proofs.StopLemmas.{leaves_call}
 use Rattle.ic_serving.proofs.rounds.make_room.Goals as goal
 
-pub returns-clause-any_moment : goal.returns-clause-any_moment
-returns-clause-any_moment g c = leaves_call c.args.book.now c.new_page.new.self (last_kept c.args.book.now) (replay (start_of c.args.book.now) (log_of c.args.book.now))
-    (IsKeptOrNow c.args.book.now) c.new_page.ensures.keeps c.new_page.ensures.made c.new_page.ensures.any_moment (inl refl) (inr c.facts.ensures.history.replayed)
+pub returns-in_err-new_page-clause-crash : goal.returns-in_err-new_page-clause-crash
+returns-in_err-new_page-clause-crash g c = leaves_call c.args.book.now c.new_page.new.self (last_kept c.args.book.now) (replay (start_of c.args.book.now) (log_of c.args.book.now))
+    (IsKeptOrNow c.args.book.now) c.new_page.ensures.crash.keeps c.new_page.ensures.crash.made c.new_page.ensures.crash.any_moment (inl refl) (inr c.facts.ensures.history.replayed)
+
+pub returns-clause-crash : goal.returns-clause-crash
+returns-clause-crash g c = leaves_call c.args.book.now c.new_page.new.self (last_kept c.args.book.now) (replay (start_of c.args.book.now) (log_of c.args.book.now))
+    (IsKeptOrNow c.args.book.now) c.new_page.ensures.crash.keeps c.new_page.ensures.crash.made c.new_page.ensures.crash.any_moment (inl refl) (inr c.facts.ensures.history.replayed)

@@ -3,6 +3,6 @@ use Rattle.ic_serving.specs.Moments.{IsKeptOrNow}
 use Rattle.ic_serving.proofs.StopLemmas.{leaves_nothing}
 use Rattle.ic_serving.proofs.running.keep_each.Goals as goal
 
-pub returns-clause-any_moment : goal.returns-clause-any_moment
-returns-clause-any_moment g c = leaves_nothing c.args.book.now (IsKeptOrNow c.args.book.now) (g.met.D.Disk.left_is_image _) c.facts.ensures.either
+pub returns-clause-crash : goal.returns-clause-crash
+returns-clause-crash g c = leaves_nothing c.args.book.now (IsKeptOrNow c.args.book.now) (g.met.D.Disk.left_is_image _) c.facts.ensures.either
     c.facts.ensures.history.replayed (inl refl) (inr refl)

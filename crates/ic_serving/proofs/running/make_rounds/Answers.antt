@@ -1,9 +1,10 @@
-use Rattle.std.proofs.Common.{◌≡◌, ◌+◌, ℕ, [], None, inl, inr, sym, ap, refl, ◌∙◌}
+use Rattle.std.proofs.Common.{◌≡◌, ◌+◌, ◌-◌, ℕ, [], None, inl, inr, sym, ap, refl, ◌∙◌, arith}
 use Rattle.ic_jobs.specs.Job.{JobParts}
 use Rattle.ic_jobs.specs.Landing.{due}
 use Rattle.ic_desk.specs.Book.{table_of, start_of, log_of, kept_of, IsUnchanged}
 use Rattle.ic_serving.specs.Booked.{last_kept, MakesRound}
-use Rattle.ic_serving.proofs.RunLemmas.{InRun, IsRun, at_first, one_more, keep_or_not, kept_same, run_idle, run_full, run_begun, on_err}
+use Rattle.ic_serving.proofs.RunLemmas.{InRun, IsRun, at_first, one_more, keep_or_not, kept_same, run_idle, run_full, run_begun, turns_over, on_err}
+use Rattle.ic_serving.proofs.PageLemmas.{page_first, page_more, page_whole, page_within}
 use Rattle.ic_lines.specs.Turns.{turns}
 use Rattle.ic_serving.specs.Parts.{IsKeptWithin}
 use Rattle.ic_serving.proofs.StopLemmas.{leaves_nothing, leaves_in_run}
@@ -15,25 +16,30 @@ loop-made-init g c = record {
   run = at_first (table_of c.args.book.now) (last_kept c.args.book.now) c.args.count;
   counted = refl;
   ready = λ is. is;
+  page = page_first c.args.count c.args.book.now;
   moments = leaves_nothing c.args.book.now (IsKeptWithin (table_of c.args.book.now) (last_kept c.args.book.now) (turns c.args.count 0 (table_of c.args.book.now)))
       (g.met.D.Disk.left_is_image _) c.facts.ensures.either c.facts.ensures.history.replayed (inl refl)
       (inr (record { front = []; rest = turns c.args.count 0 (table_of c.args.book.now); parted = refl; leaves = refl }));
 }
 
-pub returns-in_err-make_round-clause-any_moment : goal.returns-in_err-make_round-clause-any_moment
-returns-in_err-make_round-clause-any_moment g c = leaves_in_run c.args.book.now c.loop-made.book c.make_round.new.book c.args.count c.loop-made.made c.loop-made.place
-    c.loop-made.invariant.run c.loop-made.invariant.moments c.make_round.ensures.any_moment
+pub returns-in_err-make_round-clause-crash : goal.returns-in_err-make_round-clause-crash
+returns-in_err-make_round-clause-crash g c = leaves_in_run c.args.book.now c.loop-made.book c.make_round.new.book c.args.count c.loop-made.made c.loop-made.place
+    c.loop-made.invariant.run c.loop-made.invariant.moments c.make_round.ensures.crash
 
-pub returns-in-None-clause-any_moment : goal.returns-in-None-clause-any_moment
-returns-in-None-clause-any_moment g c = leaves_in_run c.args.book.now c.loop-made.book c.make_round.new.book c.args.count c.loop-made.made c.loop-made.place
-    c.loop-made.invariant.run c.loop-made.invariant.moments c.make_round.ensures.any_moment
+pub returns-in-None-clause-crash : goal.returns-in-None-clause-crash
+returns-in-None-clause-crash g c = leaves_in_run c.args.book.now c.loop-made.book c.make_round.new.book c.args.count c.loop-made.made c.loop-made.place
+    c.loop-made.invariant.run c.loop-made.invariant.moments c.make_round.ensures.crash
 
 pub returns-in_err-make_round-clause-begun : goal.returns-in_err-make_round-clause-begun
 returns-in_err-make_round-clause-begun g c =
     let s = c.in_err-make_round.ensures.refused in
     let b = run_begun (table_of c.args.book.now) (last_kept c.args.book.now) c.args.count c.loop-made.made c.loop-made.place
     (table_of c.loop-made.book) (last_kept c.loop-made.book) (table_of c.make_round.new.book) (last_kept c.make_round.new.book) c.loop-made.invariant.run s.table s.kept in
-    on_err c.from_residual.result _ (record { table = b.0; kept = b.1 })
+    on_err c.from_residual.result _ (record {
+      table = b.0;
+      kept = b.1;
+      page = page_within c.args.count c.loop-made.made c.loop-made.place c.args.book.now c.loop-made.book c.loop-made.invariant.page c.make_round.new.book s.page;
+    })
 
 idle : (g : given.Over) (c : goal.In-None g) → IsRun (table_of c.args.book.now) (last_kept c.args.book.now) c.args.count c.loop-made.made
     (table_of c.make_round.new.book) (last_kept c.make_round.new.book)
@@ -55,6 +61,19 @@ returns-in-None-clause-table g c = (idle g c).leaves
 pub returns-in-None-clause-within : goal.returns-in-None-clause-within
 returns-in-None-clause-within g c = (idle g c).keeps
 
+pub returns-in-None-clause-page : goal.returns-in-None-clause-page
+returns-in-None-clause-page g c =
+    let none : due (table_of c.loop-made.book) c.loop-made.place ≡ None = rw c.in-None.is at c.in_ok-make_round.ensures.idle in
+    let stays : IsUnchanged c.loop-made.book c.make_round.new.book = rw c.in-None.is at c.in_ok-make_round.ensures.stays in
+    page_whole c.args.count c.loop-made.made c.loop-made.place c.args.book.now c.loop-made.book c.loop-made.invariant.page c.make_round.new.book
+    (turns_over (c.args.count - c.loop-made.made) c.loop-made.place (table_of c.loop-made.book) none) (record { start = stays.same_start; log = stays.same_log })
+
+pub returns-clause-page : goal.returns-clause-page
+returns-clause-page g c =
+    let over : c.args.count - c.loop-made.made ≡ 0 = omega arith in
+    page_whole c.args.count c.loop-made.made c.loop-made.place c.args.book.now c.loop-made.book c.loop-made.invariant.page c.loop-made.book
+    (ap (λ n. turns n c.loop-made.place (table_of c.loop-made.book)) over) (record { start = refl; log = refl })
+
 pub returns-in_err-keep_each-clause-begun : goal.returns-in_err-keep_each-clause-begun
 returns-in_err-keep_each-clause-begun g c =
     let m : MakesRound c.loop-made.place c.in-Some.last c.loop-made.book c.make_round.new.book = rw c.in-Some.is at c.in_ok-make_round.ensures.made in
@@ -64,18 +83,25 @@ returns-in_err-keep_each-clause-begun g c =
     let b = run_begun (table_of c.args.book.now) (last_kept c.args.book.now) c.args.count (c.loop-made.made + 1) (m.flight.place + 1)
     (table_of c.make_round.new.book) (last_kept c.make_round.new.book) (table_of c.keep_each.new.book) (last_kept c.keep_each.new.book)
     more c.keep_each.ensures.table (inl c.in_err-keep_each.ensures.unkept) in
-    on_err c.from_residual-in_err-keep_each.result _ (record { table = b.0; kept = b.1 })
+    let paged = page_more c.args.count c.loop-made.made c.loop-made.place c.args.book.now c.loop-made.book c.loop-made.invariant.page m.flight
+    c.make_round.new.book c.keep_each.new.book c.loop-made-test.true m.is_due m.advances.table m.page c.keep_each.ensures.table c.keep_each.ensures.page in
+    on_err c.from_residual-in_err-keep_each.result _ (record {
+      table = b.0;
+      kept = b.1;
+      page = page_within c.args.count (c.loop-made.made + 1) (m.flight.place + 1) c.args.book.now c.keep_each.new.book paged c.keep_each.new.book
+          (λ room. record { start = refl; log = refl });
+    })
 
-pub returns-in_err-keep_each-clause-any_moment : goal.returns-in_err-keep_each-clause-any_moment
-returns-in_err-keep_each-clause-any_moment g c =
+pub returns-in_err-keep_each-clause-crash : goal.returns-in_err-keep_each-clause-crash
+returns-in_err-keep_each-clause-crash g c =
     let m : MakesRound c.loop-made.place c.in-Some.last c.loop-made.book c.make_round.new.book = rw c.in-Some.is at c.in_ok-make_round.ensures.made in
     let more = one_more (table_of c.args.book.now) (last_kept c.args.book.now) c.args.count c.loop-made.made c.loop-made.place
     (table_of c.loop-made.book) (last_kept c.loop-made.book) (table_of c.make_round.new.book) (last_kept c.make_round.new.book)
     m.flight c.loop-made.invariant.run c.loop-made-test.true m.is_due m.advances.table m.advances.kept in
     leaves_in_run c.args.book.now c.make_round.new.book c.keep_each.new.book c.args.count (c.loop-made.made + 1) (m.flight.place + 1) more
     (leaves_in_run c.args.book.now c.loop-made.book c.make_round.new.book c.args.count c.loop-made.made c.loop-made.place
-    c.loop-made.invariant.run c.loop-made.invariant.moments c.make_round.ensures.any_moment)
-    c.keep_each.ensures.any_moment
+    c.loop-made.invariant.run c.loop-made.invariant.moments c.make_round.ensures.crash)
+    c.keep_each.ensures.crash
 
 pub loop-made-preserved : goal.loop-made-preserved
 loop-made-preserved g c =
@@ -87,10 +113,12 @@ loop-made-preserved g c =
       run = rw m.here (keep_or_not (table_of c.args.book.now) (last_kept c.args.book.now) c.args.count (c.loop-made.made + 1) (m.flight.place + 1)
           (table_of c.make_round.new.book) (last_kept c.make_round.new.book) (table_of c.keep_each.new.book) (last_kept c.keep_each.new.book)
           more c.keep_each.ensures.table c.in_ok-keep_each.ensures.kept);
-      counted = c.in_ok-keep_each.ensures.counted ∙ c.in_ok-make_round.ensures.counted ∙ c.loop-made.invariant.counted;
-      ready = λ is. c.in_ok-keep_each.ensures.ready (c.in_ok-make_round.ensures.ready (c.loop-made.invariant.ready is));
+      counted = c.in_ok-keep_each.ensures.fault.counted ∙ c.in_ok-make_round.ensures.fault.counted ∙ c.loop-made.invariant.counted;
+      ready = λ is. c.in_ok-keep_each.ensures.fault.ready (c.in_ok-make_round.ensures.fault.ready (c.loop-made.invariant.ready is));
+      page = rw m.here (page_more c.args.count c.loop-made.made c.loop-made.place c.args.book.now c.loop-made.book c.loop-made.invariant.page m.flight
+          c.make_round.new.book c.keep_each.new.book c.loop-made-test.true m.is_due m.advances.table m.page c.keep_each.ensures.table c.keep_each.ensures.page);
       moments = leaves_in_run c.args.book.now c.make_round.new.book c.keep_each.new.book c.args.count (c.loop-made.made + 1) (m.flight.place + 1) more
           (leaves_in_run c.args.book.now c.loop-made.book c.make_round.new.book c.args.count c.loop-made.made c.loop-made.place
-          c.loop-made.invariant.run c.loop-made.invariant.moments c.make_round.ensures.any_moment)
-          c.keep_each.ensures.any_moment;
+          c.loop-made.invariant.run c.loop-made.invariant.moments c.make_round.ensures.crash)
+          c.keep_each.ensures.crash;
     }

@@ -5,6 +5,7 @@ use Rattle.ic_serving.specs.Booked.{last_kept}
 use Rattle.ic_serving.specs.Parts.{IsKeptWithin}
 use Rattle.ic_serving.specs.Moments.{Leaves}
 use Rattle.ic_serving.proofs.RunLemmas.{InRun}
+use Rattle.ic_serving.proofs.PageLemmas.{PageInRun}
 use Rattle.ic_serving.proofs.running.make_rounds.Given as goal
 
 -- so many rounds were made, and a crash since the run began leaves a table within it
@@ -13,5 +14,6 @@ invariant-loop-made g l = record {
   run : InRun (table_of l.fn.book) (last_kept l.fn.book) l.count l.made l.place (table_of l.book) (last_kept l.book);
   counted : g.D.Disk.failures (disk_of l.book) ≡ g.D.Disk.failures (disk_of l.fn.book);
   ready : is_broken l.fn.book ≡ false → is_broken l.book ≡ false;
+  page : PageInRun l.count l.made l.place l.fn.book l.book;
   moments : Leaves l.fn.book l.book (IsKeptWithin (table_of l.fn.book) (last_kept l.fn.book) (turns l.count 0 (table_of l.fn.book)));
 }

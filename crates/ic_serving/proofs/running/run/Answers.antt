@@ -3,6 +3,7 @@ use Rattle.ic_desk.specs.Book.{table_of}
 use Rattle.ic_lines.specs.Turns.{turns}
 use Rattle.ic_serving.specs.Booked.{last_kept}
 use Rattle.ic_serving.proofs.RunLemmas.{run_ended, on_err}
+use Rattle.ic_serving.proofs.PageLemmas.{goes_same, within_all}
 use Rattle.ic_serving.specs.Parts.{IsKeptWithin}
 use Rattle.ic_serving.specs.Moments.{IsKeptOrNow}
 use Rattle.ic_serving.proofs.StopLemmas.{kept_or_all, leaves_then}
@@ -13,18 +14,27 @@ returns-in_err-keep_all-clause-begun g c =
     let b = run_ended (table_of c.args.book.now) (last_kept c.args.book.now) (turns c.args.count 0 (table_of c.args.book.now))
     (table_of c.make_rounds.new.book) (last_kept c.make_rounds.new.book) (table_of c.keep_all.new.book) (last_kept c.keep_all.new.book)
     c.in_ok-made.ensures.table c.in_ok-made.ensures.within c.keep_all.ensures.table c.in_err-keep_all.ensures.unkept in
-    on_err c.from_residual-in_err-keep_all.result _ (record { table = b.0; kept = b.1 })
+    on_err c.from_residual-in_err-keep_all.result _ (record {
+      table = b.0;
+      kept = b.1;
+      page = λ room. within_all (turns c.args.count 0 (table_of c.args.book.now)) c.args.book.now c.keep_all.new.book
+          (goes_same (turns c.args.count 0 (table_of c.args.book.now)) c.args.book.now c.make_rounds.new.book c.keep_all.new.book (c.in_ok-made.ensures.page room) c.keep_all.ensures.page);
+    })
 
-pub returns-in_err-keep_all-clause-any_moment : goal.returns-in_err-keep_all-clause-any_moment
-returns-in_err-keep_all-clause-any_moment g c = leaves_then c.args.book.now c.make_rounds.new.book c.keep_all.new.book
+pub returns-clause-page : goal.returns-clause-page
+returns-clause-page g c = λ room. goes_same (turns c.args.count 0 (table_of c.args.book.now)) c.args.book.now c.make_rounds.new.book c.keep_all.new.book
+    (c.in_ok-made.ensures.page room) c.keep_all.ensures.page
+
+pub returns-in_err-keep_all-clause-crash : goal.returns-in_err-keep_all-clause-crash
+returns-in_err-keep_all-clause-crash g c = leaves_then c.args.book.now c.make_rounds.new.book c.keep_all.new.book
     (IsKeptWithin (table_of c.args.book.now) (last_kept c.args.book.now) (turns c.args.count 0 (table_of c.args.book.now))) (IsKeptOrNow c.make_rounds.new.book)
-    c.make_rounds.ensures.any_moment c.keep_all.ensures.any_moment
+    c.make_rounds.ensures.crash c.keep_all.ensures.crash
     (λ u. kept_or_all (table_of c.args.book.now) (last_kept c.args.book.now) (turns c.args.count 0 (table_of c.args.book.now)) (table_of c.make_rounds.new.book) (last_kept c.make_rounds.new.book) u
     c.in_ok-made.ensures.table c.in_ok-made.ensures.within)
 
-pub returns-clause-any_moment : goal.returns-clause-any_moment
-returns-clause-any_moment g c = leaves_then c.args.book.now c.make_rounds.new.book c.keep_all.new.book
+pub returns-clause-crash : goal.returns-clause-crash
+returns-clause-crash g c = leaves_then c.args.book.now c.make_rounds.new.book c.keep_all.new.book
     (IsKeptWithin (table_of c.args.book.now) (last_kept c.args.book.now) (turns c.args.count 0 (table_of c.args.book.now))) (IsKeptOrNow c.make_rounds.new.book)
-    c.make_rounds.ensures.any_moment c.keep_all.ensures.any_moment
+    c.make_rounds.ensures.crash c.keep_all.ensures.crash
     (λ u. kept_or_all (table_of c.args.book.now) (last_kept c.args.book.now) (turns c.args.count 0 (table_of c.args.book.now)) (table_of c.make_rounds.new.book) (last_kept c.make_rounds.new.book) u
     c.in_ok-made.ensures.table c.in_ok-made.ensures.within)

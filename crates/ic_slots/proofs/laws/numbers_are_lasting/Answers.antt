@@ -1,6 +1,6 @@
 use Rattle.std.proofs.Common.{Contains, refl, arith}
-use Rattle.ic_slots.specs.declared.faults.CreateFault.{CreateFault}
-use Rattle.ic_slots.specs.declared.faults.CreateFault.TheVariants.{Device, Memory}
+use Rattle.ic_slots.specs.declared.fault.CreateFault.{CreateFault}
+use Rattle.ic_slots.specs.declared.fault.CreateFault.TheVariants.{Device, Memory}
 use Rattle.ic_slots.specs.Numbers.{all_create_faults}
 use Rattle.ic_slots.proofs.laws.numbers_are_lasting.Goals as goal
 

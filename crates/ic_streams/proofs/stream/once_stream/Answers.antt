@@ -1,14 +1,14 @@
-use Rattle.ic_streams.proofs.Reading.{refused_of_taken, unwritten_of_taken, written_of_taken}
+use Rattle.ic_streams.specs.Streams.{Rounds}
+use Rattle.ic_streams.proofs.Reading.{rounds_carried, refused_of_taken, unread, written_of_taken}
 use Rattle.ic_streams.proofs.stream.once_stream.Goals as goal
 
-pub returns-in_err-line-clause-refused : goal.returns-in_err-line-clause-refused
-returns-in_err-line-clause-refused g c = refused_of_taken c.from_residual-in_err-line.result _ _ _ _ c.in_err-line.field-0.0
+pub returns-in_err-text-clause-answered : goal.returns-in_err-text-clause-answered
+returns-in_err-text-clause-answered g c = unread Rounds c.from_residual.result _ _ _ _ c.from_residual.ensures.1 c.in_err-text.ensures.sort
+
+pub returns-in_err-line-clause-answered : goal.returns-in_err-line-clause-answered
+returns-in_err-line-clause-answered g c = refused_of_taken Rounds rounds_carried c.from_residual-in_err-line.result _ _ _ _ _ _ c.in_err-line.field-0.0
     c.in_ok-text.ensures.text c.deref.ensures.value c.in_err-line.ensures.refused c.from_residual-in_err-line.ensures.1
 
-pub returns-clause-written : goal.returns-clause-written
-returns-clause-written g c = written_of_taken c.write_line.result _ _ _ _ _ _ _ _
-    c.in_ok-text.ensures.text c.deref.ensures.value c.in_ok-line.ensures.line c.deref-2.ensures.value c.write_line.ensures.written
-
-pub returns-clause-refused : goal.returns-clause-refused
-returns-clause-refused g c = unwritten_of_taken c.write_line.result _ _ _ _ _
-    c.in_ok-text.ensures.text c.deref.ensures.value c.in_ok-line.ensures.line c.write_line.ensures.refused
+pub returns-clause-answered : goal.returns-clause-answered
+returns-clause-answered g c = written_of_taken Rounds rounds_carried c.write_line.result _ _ _ _ _ _ _ _
+    c.in_ok-text.ensures.text c.deref.ensures.value c.in_ok-line.ensures.line c.deref-2.ensures.value c.write_line.ensures.written c.write_line.ensures.refused

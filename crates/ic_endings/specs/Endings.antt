@@ -1,0 +1,91 @@
+-- What the program makes of its failures, by cases over all of them (this project's choice).
+use Rattle.std.specs.Prelude.{ℕ, List, [], ◌∷◌, ◌++◌, codes, string_bytes}
+use Rattle.ic_text.specs.Text.{fault_text}
+use Rattle.ic_round.specs.declared.round_fault.RoundFault.{RoundFault}
+use Rattle.ic_round.specs.declared.round_fault.RoundFault.TheVariants as round
+use Rattle.ic_frames.specs.declared.faults.OpenCause.{OpenCause}
+use Rattle.ic_frames.specs.declared.faults.OpenCause.TheVariants as opening
+use Rattle.ic_slots.specs.declared.fault.CreateFault.{CreateFault}
+use Rattle.ic_slots.specs.declared.fault.CreateFault.TheVariants as creating
+use Rattle.ic_desk.specs.declared.fault.BookFault.{BookFault}
+use Rattle.ic_desk.specs.declared.fault.BookFault.TheVariants as book
+use Rattle.ic_streams.specs.declared.fault.StreamFault.{StreamFault}
+use Rattle.ic_streams.specs.declared.fault.StreamFault.TheVariants as stream
+use Rattle.ic_serving.specs.declared.fault.ServeFault.{ServeFault}
+use Rattle.ic_serving.specs.declared.fault.ServeFault.TheVariants as serve
+use Rattle.ic_words.specs.declared.words.WordsFault.TheVariants as words
+use Rattle.ic_endings.specs.declared.failure.Failure.{Failure}
+use Rattle.ic_endings.specs.declared.failure.Failure.TheVariants.{Words, Stream, Disk, Create, Open, Serve}
+
+-- the exit status: 1 for a refused text or round, 2 for refused words, 3 for a disk, 4 for all else
+abbrev pub status_of : Failure → ℕ
+status_of (Words (words.Words text)) = 2
+status_of (Words words.Memory) = 4
+status_of (Stream stream.Read) = 4
+status_of (Stream (stream.Text fault)) = 1
+status_of (Stream (stream.Round fault)) = 1
+status_of (Stream stream.Memory) = 4
+status_of (Stream stream.Write) = 4
+status_of (Disk fault) = 3
+status_of (Create fault) = 3
+status_of (Open cause) = 3
+status_of (Serve fault) = 4
+
+-- why a round isn't made
+abbrev pub round_word : RoundFault → List ℕ
+round_word round.Overgrown = codes "overgrown"
+round_word round.NamesOut = codes "names out"
+round_word round.Memory = codes "memory"
+
+-- why a stream isn't answered
+abbrev pub stream_word : StreamFault → List ℕ
+stream_word stream.Read = codes "read"
+stream_word (stream.Text fault) = fault_text fault
+stream_word (stream.Round fault) = round_word fault
+stream_word stream.Memory = codes "memory"
+stream_word stream.Write = codes "write"
+
+-- why no disk is made
+abbrev pub create_word : CreateFault → List ℕ
+create_word creating.Device = codes "device"
+create_word creating.Memory = codes "memory"
+
+-- why a disk isn't opened
+abbrev pub open_word : OpenCause → List ℕ
+open_word opening.Device = codes "device"
+open_word opening.NoSlot = codes "no slot"
+open_word opening.TwoAlike = codes "two alike"
+open_word opening.Damaged = codes "damaged"
+open_word opening.Memory = codes "memory"
+
+-- why a call on a book was refused
+abbrev pub book_word : BookFault → List ℕ
+book_word book.Broken = codes "broken"
+book_word book.LogFull = codes "log full"
+book_word book.Worn = codes "worn"
+book_word book.Memory = codes "memory"
+book_word book.Device = codes "device"
+
+-- why a serving ended
+abbrev pub serve_word : ServeFault → List ℕ
+serve_word serve.Read = codes "read"
+serve_word serve.Write = codes "write"
+serve_word serve.TooManyLines = codes "too many lines"
+serve_word (serve.Book fault) = book_word fault
+serve_word (serve.Pool fault) = codes "pool"
+serve_word serve.LongLine = codes "long line"
+serve_word serve.Memory = codes "memory"
+
+-- a word as a line
+abbrev pub told : List ℕ → List ℕ
+told word = codes "icserve: " ++ word ++ 10 ∷ []
+
+-- the line on standard error; refused words have a text of their own
+abbrev pub failure_line : Failure → List ℕ
+failure_line (Words (words.Words text)) = string_bytes text
+failure_line (Words words.Memory) = told (codes "memory")
+failure_line (Stream fault) = told (stream_word fault)
+failure_line (Disk fault) = told (codes "device")
+failure_line (Create fault) = told (create_word fault)
+failure_line (Open cause) = told (open_word cause)
+failure_line (Serve fault) = told (serve_word fault)

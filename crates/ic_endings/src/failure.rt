@@ -1,0 +1,150 @@
+//! Why the program doesn't do what it is asked, and what it makes of it.
+
+ghost use Rattle.std.specs.Prelude.{◌≡◌, IfOk};
+ghost use Rattle.ic_endings.specs.Endings.{status_of, failure_line, told};
+ghost use Rattle.ic_endings.specs.Endings.{stream_word, round_word, create_word, open_word, serve_word, book_word};
+
+use ic_desk::BookFault;
+use ic_disk::DiskFault;
+use ic_round::RoundFault;
+use ic_serving::ServeFault;
+use ic_slots::{CreateFault, OpenCause};
+use ic_streams::StreamFault;
+use ic_text::print_fault;
+use ic_words::WordsFault;
+use std::alloc::{AllocError, Global};
+
+/// Why the program doesn't do what it is asked, or not all of it.
+#[derive(Debug, Drop)]
+pub enum Failure {
+    /// The words after its name ask for nothing.
+    Words(WordsFault),
+    /// What stands on standard input isn't answered.
+    Stream(StreamFault),
+    /// The file of a disk can't be opened or locked.
+    Disk(DiskFault),
+    /// No empty disk is made.
+    Create(CreateFault),
+    /// The disk isn't opened.
+    Open(OpenCause),
+    /// A serving ended before the end of its lines.
+    Serve(ServeFault),
+}
+
+impl Failure {
+    /// The exit status of the program: 1 for a refused text or round, 2 for refused words, 3 for a
+    /// disk, and 4 for all else.
+    pub fn status(&self) -> u8
+        ensures { result ≡ status_of self.now }
+    {
+        match self {
+            Failure::Words(WordsFault::Words(_)) => 2,
+            Failure::Words(WordsFault::Memory) => 4,
+            Failure::Stream(StreamFault::Text(_) | StreamFault::Round(_)) => 1,
+            Failure::Stream(StreamFault::Read | StreamFault::Memory | StreamFault::Write) => 4,
+            Failure::Disk(_) | Failure::Create(_) | Failure::Open(_) => 3,
+            Failure::Serve(_) => 4,
+        }
+    }
+
+    /// The line for standard error, with its line feed. Of refused words it is the text that says
+    /// what is wrong with them.
+    pub fn line(&self, alloc: Global) -> Result<Vec<u8>, AllocError>
+        ensures { IfOk result (λ line. line.items ≡ failure_line self.now) }
+    {
+        match self {
+            Failure::Words(WordsFault::Words(text)) => text.as_bytes().to_vec(alloc),
+            Failure::Words(WordsFault::Memory) => told(alloc, b"memory"),
+            Failure::Stream(fault) => stream_line(alloc, *fault),
+            Failure::Disk(_) => told(alloc, b"device"),
+            Failure::Create(fault) => told(alloc, create_word(*fault)),
+            Failure::Open(cause) => told(alloc, open_word(*cause)),
+            Failure::Serve(fault) => told(alloc, serve_word(*fault)),
+        }
+    }
+}
+
+/// The line that tells a word.
+fn told(alloc: Global, word: &[u8]) -> Result<Vec<u8>, AllocError>
+    ensures { IfOk result (λ line. line.items ≡ told word.now) }
+{
+    let mut line = b"icserve: ".to_vec(alloc)?;
+    line.extend_from_slice(word)?;
+    line.push(b'\n')?;
+    Ok(line)
+}
+
+/// The line that tells why a stream isn't answered.
+fn stream_line(alloc: Global, fault: StreamFault) -> Result<Vec<u8>, AllocError>
+    ensures { IfOk result (λ line. line.items ≡ told (stream_word fault)) }
+{
+    match fault {
+        StreamFault::Read => told(alloc, b"read"),
+        StreamFault::Text(refused) => told(alloc, &print_fault(alloc, &refused)?),
+        StreamFault::Round(refused) => told(alloc, round_word(refused)),
+        StreamFault::Memory => told(alloc, b"memory"),
+        StreamFault::Write => told(alloc, b"write"),
+    }
+}
+
+/// The words that tell why a round isn't made.
+fn round_word(fault: RoundFault) -> &'static [u8]
+    ensures { result.now ≡ round_word fault }
+{
+    match fault {
+        RoundFault::Overgrown => b"overgrown",
+        RoundFault::NamesOut => b"names out",
+        RoundFault::Memory => b"memory",
+    }
+}
+
+/// The words that tell why no disk is made.
+fn create_word(fault: CreateFault) -> &'static [u8]
+    ensures { result.now ≡ create_word fault }
+{
+    match fault {
+        CreateFault::Device => b"device",
+        CreateFault::Memory => b"memory",
+    }
+}
+
+/// The words that tell why a disk isn't opened.
+fn open_word(cause: OpenCause) -> &'static [u8]
+    ensures { result.now ≡ open_word cause }
+{
+    match cause {
+        OpenCause::Device => b"device",
+        OpenCause::NoSlot => b"no slot",
+        OpenCause::TwoAlike => b"two alike",
+        OpenCause::Damaged => b"damaged",
+        OpenCause::Memory => b"memory",
+    }
+}
+
+/// The words that tell why a serving ended.
+fn serve_word(fault: ServeFault) -> &'static [u8]
+    ensures { result.now ≡ serve_word fault }
+{
+    match fault {
+        ServeFault::Read => b"read",
+        ServeFault::Write => b"write",
+        ServeFault::TooManyLines => b"too many lines",
+        ServeFault::Book(refused) => book_word(refused),
+        ServeFault::Pool(_) => b"pool",
+        ServeFault::LongLine => b"long line",
+        ServeFault::Memory => b"memory",
+    }
+}
+
+/// The words that tell why a call on a book was refused.
+fn book_word(fault: BookFault) -> &'static [u8]
+    ensures { result.now ≡ book_word fault }
+{
+    match fault {
+        BookFault::Broken => b"broken",
+        BookFault::LogFull => b"log full",
+        BookFault::Worn => b"worn",
+        BookFault::Memory => b"memory",
+        BookFault::Device => b"device",
+    }
+}

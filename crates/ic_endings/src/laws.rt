@@ -1,0 +1,88 @@
+//! Laws of what the program makes of its failures.
+
+ghost use Rattle.std.specs.Prelude.{◌≡◌, [], ◌∷◌, ◌++◌, map, codes, string_bytes};
+ghost use Rattle.ic_disk.specs.declared.disk.DiskFault.{DiskFault};
+ghost use Rattle.ic_text.specs.Text.{fault_text};
+ghost use Rattle.ic_text.specs.declared.fault.TextFault.{TextFault};
+ghost use Rattle.ic_round.specs.declared.round_fault.RoundFault.{RoundFault};
+ghost use Rattle.ic_round.specs.declared.round_fault.RoundFault.TheVariants as round;
+ghost use Rattle.ic_pool.specs.declared.fault.PoolFault.{PoolFault};
+ghost use Rattle.ic_frames.specs.declared.faults.OpenCause.{OpenCause};
+ghost use Rattle.ic_frames.specs.declared.faults.OpenCause.TheVariants as opening;
+ghost use Rattle.ic_slots.specs.declared.fault.CreateFault.{CreateFault};
+ghost use Rattle.ic_slots.specs.declared.fault.CreateFault.TheVariants as creating;
+ghost use Rattle.ic_desk.specs.declared.fault.BookFault.TheVariants as book;
+ghost use Rattle.ic_streams.specs.declared.fault.StreamFault.TheVariants as stream;
+ghost use Rattle.ic_serving.specs.declared.fault.ServeFault.{ServeFault};
+ghost use Rattle.ic_serving.specs.declared.fault.ServeFault.TheVariants as serve;
+ghost use Rattle.ic_words.specs.declared.words.WordsFault.TheVariants as words;
+ghost use Rattle.ic_endings.specs.declared.failure.Failure.TheVariants.{Words, Stream, Disk, Create, Open, Serve};
+ghost use Rattle.ic_endings.specs.Endings.{status_of, failure_line};
+
+/// The exit status is 2 for refused words, 1 for a refused text or round, 3 for a disk that isn't
+/// made or opened, and 4 for all else.
+pub fn statuses_are(text: &String)
+    ensures words { status_of (Words (words.Words text.now)) ≡ 2 }
+    ensures text { (fault : TextFault) → status_of (Stream (stream.Text fault)) ≡ 1 }
+    ensures round { (fault : RoundFault) → status_of (Stream (stream.Round fault)) ≡ 1 }
+    ensures file { (fault : DiskFault) → status_of (Disk fault) ≡ 3 }
+    ensures create { (fault : CreateFault) → status_of (Create fault) ≡ 3 }
+    ensures open { (cause : OpenCause) → status_of (Open cause) ≡ 3 }
+    ensures serve { (fault : ServeFault) → status_of (Serve fault) ≡ 4 }
+    ensures others { map status_of (Words words.Memory ∷ Stream stream.Read ∷ Stream stream.Memory
+        ∷ Stream stream.Write ∷ []) ≡ 4 ∷ 4 ∷ 4 ∷ 4 ∷ [] }
+{}
+
+/// The line on standard error of refused words, and of each failure of `settle` and `once`.
+pub fn lines_of_streams_are(text: &String)
+    ensures words { failure_line (Words (words.Words text.now)) ≡ string_bytes text.now }
+    ensures no_memory { failure_line (Words words.Memory) ≡ codes "icserve: memory" ++ 10 ∷ [] }
+    ensures read { failure_line (Stream stream.Read) ≡ codes "icserve: read" ++ 10 ∷ [] }
+    ensures text { (fault : TextFault) → failure_line (Stream (stream.Text fault))
+        ≡ codes "icserve: " ++ fault_text fault ++ 10 ∷ [] }
+    ensures overgrown { failure_line (Stream (stream.Round round.Overgrown))
+        ≡ codes "icserve: overgrown" ++ 10 ∷ [] }
+    ensures names_out { failure_line (Stream (stream.Round round.NamesOut))
+        ≡ codes "icserve: names out" ++ 10 ∷ [] }
+    ensures round_memory { failure_line (Stream (stream.Round round.Memory))
+        ≡ codes "icserve: memory" ++ 10 ∷ [] }
+    ensures memory { failure_line (Stream stream.Memory) ≡ codes "icserve: memory" ++ 10 ∷ [] }
+    ensures write { failure_line (Stream stream.Write) ≡ codes "icserve: write" ++ 10 ∷ [] }
+{}
+
+/// The line on standard error of each reason why a disk isn't made or opened.
+pub fn lines_of_disks_are()
+    ensures file { (fault : DiskFault) → failure_line (Disk fault)
+        ≡ codes "icserve: device" ++ 10 ∷ [] }
+    ensures created { failure_line (Create creating.Device) ≡ codes "icserve: device" ++ 10 ∷ [] }
+    ensures no_memory { failure_line (Create creating.Memory)
+        ≡ codes "icserve: memory" ++ 10 ∷ [] }
+    ensures device { failure_line (Open opening.Device) ≡ codes "icserve: device" ++ 10 ∷ [] }
+    ensures no_slot { failure_line (Open opening.NoSlot) ≡ codes "icserve: no slot" ++ 10 ∷ [] }
+    ensures two_alike { failure_line (Open opening.TwoAlike)
+        ≡ codes "icserve: two alike" ++ 10 ∷ [] }
+    ensures damaged { failure_line (Open opening.Damaged) ≡ codes "icserve: damaged" ++ 10 ∷ [] }
+    ensures memory { failure_line (Open opening.Memory) ≡ codes "icserve: memory" ++ 10 ∷ [] }
+{}
+
+/// The line on standard error of each fault of a serving.
+pub fn lines_of_servings_are()
+    ensures read { failure_line (Serve serve.Read) ≡ codes "icserve: read" ++ 10 ∷ [] }
+    ensures write { failure_line (Serve serve.Write) ≡ codes "icserve: write" ++ 10 ∷ [] }
+    ensures too_many_lines { failure_line (Serve serve.TooManyLines)
+        ≡ codes "icserve: too many lines" ++ 10 ∷ [] }
+    ensures broken { failure_line (Serve (serve.Book book.Broken))
+        ≡ codes "icserve: broken" ++ 10 ∷ [] }
+    ensures log_full { failure_line (Serve (serve.Book book.LogFull))
+        ≡ codes "icserve: log full" ++ 10 ∷ [] }
+    ensures worn { failure_line (Serve (serve.Book book.Worn)) ≡ codes "icserve: worn" ++ 10 ∷ [] }
+    ensures book_memory { failure_line (Serve (serve.Book book.Memory))
+        ≡ codes "icserve: memory" ++ 10 ∷ [] }
+    ensures device { failure_line (Serve (serve.Book book.Device))
+        ≡ codes "icserve: device" ++ 10 ∷ [] }
+    ensures pool { (fault : PoolFault) → failure_line (Serve (serve.Pool fault))
+        ≡ codes "icserve: pool" ++ 10 ∷ [] }
+    ensures long_line { failure_line (Serve serve.LongLine)
+        ≡ codes "icserve: long line" ++ 10 ∷ [] }
+    ensures memory { failure_line (Serve serve.Memory) ≡ codes "icserve: memory" ++ 10 ∷ [] }
+{}

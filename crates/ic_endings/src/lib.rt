@@ -1,0 +1,8 @@
+//! How the program ends where it doesn't do what it is asked: an exit status, and a line on standard
+//! error.
+#![tactic(auto)]
+
+mod failure;
+pub mod laws;
+
+pub use failure::Failure;

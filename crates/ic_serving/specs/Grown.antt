@@ -1,0 +1,34 @@
+-- To be believed: what a line adds to the history of a book.
+use Rattle.std.specs.Prelude.{◌≡◌, ℕ, ◌+◌, ◌<◌, List, ◌++◌, length, map}
+use Rattle.std.specs.List.{AllByRecursion}
+use Rattle.ic_disk.specs.declared.disk.Disk.{Ghosts}
+use Rattle.ic_jobs.specs.declared.event.Event.{Event}
+use Rattle.ic_jobs.specs.declared.event.Entry.{Entry}
+use Rattle.ic_desk.specs.declared.limits.TheConstants.{MAX_ENTRIES}
+use Rattle.ic_desk.specs.declared.book.Book.{Book}
+use Rattle.ic_desk.specs.Book.{start_of, log_of}
+
+-- the page is the same: it begins with the same table, and has the same entries
+pub record IsSamePage {D : Type 0} {ghosts : Ghosts D} (old new : Book D ghosts) : Type 0 where
+  pub start : start_of new ≡ start_of old
+  pub log : log_of new ≡ log_of old
+
+-- The page goes on: it begins with the same table, and behind its entries stand those of these
+-- events, which are sent by 0.
+pub record GoesOn {D : Type 0} {ghosts : Ghosts D} (es : List Event) (old new : Book D ghosts) : Type 0 where
+  pub entries : List Entry
+  pub start : start_of new ≡ start_of old
+  pub log : log_of new ≡ log_of old ++ entries
+  pub events : map (λ (e : Entry). e.event) entries ≡ es
+  pub senders : AllByRecursion (λ (e : Entry). e.who ≡ 0) entries
+
+-- it goes on by a front of these events
+pub record GoesOnWithin {D : Type 0} {ghosts : Ghosts D} (es : List Event) (old new : Book D ghosts) : Type 0 where
+  pub front : List Event
+  pub rest : List Event
+  pub parted : es ≡ front ++ rest
+  pub goes : GoesOn front old new
+
+-- the log has room for so many events, and for one more
+abbrev pub HasRoom : {D : Type 0} {ghosts : Ghosts D} → List Event → Book D ghosts → Type 0
+HasRoom es book = length (log_of book) + length es < MAX_ENTRIES
