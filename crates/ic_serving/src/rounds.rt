@@ -14,9 +14,10 @@ ghost use Rattle.ic_serving.specs.Grown.{IsSamePage};
 ghost use Rattle.ic_serving.specs.Moments.{FaultLeaves, Leaves, IsKeptOrNow};
 
 use crate::fault::ServeFault;
+use crate::limits::FEW;
 use ic_desk::{Book, MAX_ENTRIES};
 use ic_disk::Disk;
-use ic_pool::{Flight, OpenGate, play};
+use ic_pool::{Flight, OpenGate, play, play_alone};
 use std::alloc::Global;
 use std::sync::Wait;
 use std::thread::Threads;
@@ -84,7 +85,8 @@ pub(crate) fn make_round<T: Threads + Wait, D: Disk>(
     Ok(Some(place))
 }
 
-/// Makes a round that the book awaits and lands it, or halts its job where it can't be made.
+/// Makes a round that the book awaits and lands it, or halts its job where it can't be made. A round
+/// of few equations is made in this thread.
 fn land_or_halt<T: Threads + Wait, D: Disk>(
     rt: &T,
     alloc: Global,
@@ -107,6 +109,10 @@ fn land_or_halt<T: Threads + Wait, D: Disk>(
     book.facts();
     if flight.blocked() {
         book.halt(flight)?;
+    } else if flight.config().equations().len() < FEW {
+        ic_pool::laws::blocked_flights_are_refused();
+        let played = play_alone(alloc, flight)?;
+        book.land(played)?;
     } else {
         let played = play(rt, alloc, flight, workers, &OpenGate)?;
         book.land(played)?;
