@@ -68,10 +68,11 @@ def files_say_what_they_hold():
 
 
 def the_longest_form_is_said_once():
-    """How many bytes a table's form has at most is a number where the constant is defined, and nowhere else."""
+    """Code and clauses say how long a table's form is by a constant, but for its definition and the law of the limits."""
     for path, number, line in sources():
-        if re.search(r"\b3_?036_?421\b", line) and not re.search(r"\bconst MAX_BYTES\b", line):
-            yield path, number, "says MAX_BYTES as a number"
+        if re.search(r"\b3_?036_?421\b", line) and not re.search(r"const MAX_\w+:|MAX_\w+ ≡", line):
+            if path.parts[2] != "proofs":
+                yield path, number, "says MAX_BYTES as a number"
 
 
 def texts(path):
