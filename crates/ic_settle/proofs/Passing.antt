@@ -14,10 +14,10 @@ use Rattle.ic_settle.specs.declared.containers.Outlet.{Outlet}
 use Rattle.ic_settle.specs.Settling.{Binding, Choice, occurs, subst_pair, subst_in, binding, first_choice, applied}
 use Rattle.ic_settle.specs.NameSteps.{Binds}
 use Rattle.ic_settle.specs.Sides.{other_side, bound_by}
-use Rattle.ic_settle.specs.Bindings.{is_name, replacement, replaced_by, replaced_in, replaced, bound_sides}
+use Rattle.ic_settle.specs.Bindings.{is_name, replacement, replaced_by, replaced_in, replaced}
 use Rattle.ic_settle.specs.inner.Waiting.{look, put_each, put_each_pair, bound, here, IsDelayed, IsTop, IsAdded, Resolves}
 use Rattle.ic_settle.specs.inner.Containers.{IsRoot, noted_from, elsewhere, outlet, applicable_of, redirected}
-use Rattle.ic_settle.specs.inner.Passing.{put_in, IsPassed}
+use Rattle.ic_settle.specs.inner.Passing.{put_in, IsPassed, bound_sides}
 use Rattle.ic_settle.specs.lemmas.SubstitutionLaws.{occurrences-append}
 use Rattle.ic_settle.specs.lemmas.MiddleLaws.{occurrences-middle}
 use Rattle.ic_settle.specs.lemmas.StepLaws.{occurrences-binds, once_outside, itself_once}

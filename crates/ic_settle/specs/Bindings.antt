@@ -1,6 +1,6 @@
 -- What settling replaces: each name in its order, with the opposite side of the equation that is
 -- removed for it.
-use Rattle.std.specs.Prelude.{◌≡◌, ℕ, zero, suc, ◌==◌, List, [], ◌∷◌, ◌++◌, Bool, false, Option, length, map, slice_get, if◌then◌else◌, ◌⊎◌}
+use Rattle.std.specs.Prelude.{◌≡◌, ℕ, zero, suc, ◌==◌, List, [], ◌∷◌, ◌++◌, Bool, false, length, map, slice_get, if◌then◌else◌, ◌⊎◌}
 use Rattle.std.specs.List.{remove, zip}
 use Rattle.std.specs.Option.{option_map, option_map_or, option_to_list}
 use Rattle.ic_term.specs.declared.term.Term.{Term}
@@ -8,8 +8,6 @@ use Rattle.ic_term.specs.Term.{tree}
 use Rattle.ic_term.specs.Tree.{Tree, name, agent, Pair}
 use Rattle.ic_term.specs.Configuration.{Configuration}
 use Rattle.ic_settle.specs.Settling.{Binding, Choice, subst, first_choice, applied}
-use Rattle.ic_settle.specs.Sides.{bound_by}
-use Rattle.ic_settle.specs.declared.applicability.Applicable.{Applicable}
 
 -- whether a term is this name
 abbrev pub is_name : ℕ → Tree → Bool
@@ -65,10 +63,3 @@ ReplacesFirst c choice =
 -- the program's bindings as plain data
 abbrev pub binding_of : ℕ × Term → Binding
 binding_of b = record { name = b.0; term = tree b.1 }
-
--- what the chosen sides of equations bind, as the equations stand
-abbrev pub bound_sides : List Pair → List (Option Applicable) → List Binding
-bound_sides [] chosen = []
-bound_sides (p ∷ ps) [] = []
-bound_sides (p ∷ ps) (a ∷ chosen) =
-    option_to_list (option_map (bound_by p) a) ++ bound_sides ps chosen

@@ -1,3 +1,5 @@
+//! Which side of an equation is applicable.
+
 ghost use Rattle.std.specs.Prelude.{◌≡◌, map, ◌++◌};
 ghost use Rattle.std.specs.List.{flat_map};
 ghost use Rattle.std.specs.Option.{option_map};

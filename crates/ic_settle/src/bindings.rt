@@ -1,3 +1,5 @@
+//! Names that are bound while a configuration is settled.
+
 ghost use Rattle.std.specs.Prelude.{◌≡◌, ◌+◌, ◌≤◌, [], None, MatchOption, IfOk, OnOk, map};
 ghost use Rattle.ic_term.specs.Tree.{nodes};
 ghost use Rattle.ic_term.specs.Term.{tree, cell_tree, pair};

@@ -1,7 +1,9 @@
+//! The one pass of settling over the equations.
+
 ghost use Rattle.std.specs.Prelude.{◌≡◌, IfOk, length, map};
 ghost use Rattle.ic_term.specs.Term.{tree, pair};
-ghost use Rattle.ic_settle.specs.Bindings.{replaced, bound_sides};
-ghost use Rattle.ic_settle.specs.inner.Passing.{IsPassed};
+ghost use Rattle.ic_settle.specs.Bindings.{replaced};
+ghost use Rattle.ic_settle.specs.inner.Passing.{IsPassed, bound_sides};
 
 use crate::applicability::{Applicable, other_side};
 use crate::bindings::Bindings;

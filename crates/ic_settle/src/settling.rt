@@ -1,3 +1,5 @@
+//! Settling at once, and what it replaces.
+
 ghost use Rattle.std.specs.Prelude.{◌≡◌, List, IfOk, IsTrue, length, map};
 ghost use Rattle.ic_term.specs.Symbol.{Symbol, is_over};
 ghost use Rattle.ic_term.specs.Configuration.{Configuration};
@@ -5,7 +7,8 @@ ghost use Rattle.ic_term.specs.Term.{tree, pair};
 ghost use Rattle.ic_settle.specs.Settling.{settled};
 ghost use Rattle.ic_settle.specs.NameSteps.{NameStep, NameSteps};
 ghost use Rattle.ic_settle.specs.Sides.{other_side};
-ghost use Rattle.ic_settle.specs.Bindings.{replaced, bound_sides, binding_of};
+ghost use Rattle.ic_settle.specs.Bindings.{replaced, binding_of};
+ghost use Rattle.ic_settle.specs.inner.Passing.{bound_sides};
 
 use crate::applicability::{Applicable, Side};
 use crate::pass::{Passed, pass};

@@ -1,3 +1,5 @@
+//! A term put for a name, in place.
+
 ghost use Rattle.std.specs.Prelude.{◌≡◌, ◌≤◌, map};
 ghost use Rattle.ic_term.specs.Term.{tree, cell_tree, pair};
 ghost use Rattle.ic_term.specs.Configuration.{names_in, occurrences};

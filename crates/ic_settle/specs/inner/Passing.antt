@@ -1,10 +1,13 @@
 -- What the pass over the equations leaves. What settling is doesn't rest on this.
-use Rattle.std.specs.Prelude.{◌≡◌, ℕ, List, map, IsTrue}
+use Rattle.std.specs.Prelude.{◌≡◌, ℕ, List, [], ◌∷◌, ◌++◌, Option, map, IsTrue}
+use Rattle.std.specs.Option.{option_map, option_to_list}
 use Rattle.ic_term.specs.declared.term.Term.{Term}
 use Rattle.ic_term.specs.Tree.{Pair}
 use Rattle.ic_term.specs.Symbol.{Symbol, is_over}
 use Rattle.ic_term.specs.Configuration.{Configuration, IsConfiguration, names_in}
 use Rattle.ic_settle.specs.Settling.{Binding, settled}
+use Rattle.ic_settle.specs.Sides.{bound_by}
+use Rattle.ic_settle.specs.declared.applicability.Applicable.{Applicable}
 use Rattle.ic_settle.specs.NameSteps.{NameStep, NameSteps}
 use Rattle.ic_settle.specs.inner.Waiting.{put_each, put_each_pair, IsDelayed}
 
@@ -24,3 +27,10 @@ pub record IsPassed (c : Configuration) (kept : List Pair) (es : List (ℕ × Te
   pub reached : NameSteps c (put_in bs c kept)
   pub ended : (d : Configuration) → ¬ NameStep (put_in bs c kept) d
   pub over : (ss : List Symbol) → IsTrue (is_over ss c) → IsTrue (is_over ss (put_in bs c kept))
+
+-- what the chosen sides of equations bind, as the equations stand
+abbrev pub bound_sides : List Pair → List (Option Applicable) → List Binding
+bound_sides [] chosen = []
+bound_sides (p ∷ ps) [] = []
+bound_sides (p ∷ ps) (a ∷ chosen) =
+    option_to_list (option_map (bound_by p) a) ++ bound_sides ps chosen
