@@ -1,8 +1,6 @@
 #!/usr/bin/env python3
-"""Checks what no prover sees: where that stands which a reader has to believe, and how the docs read.
-
-Runs at the top of the repository. Prints the file and line of each fault, and last how many checks passed.
-"""
+"""Checks what no prover sees: where that stands which a reader has to believe, and how the docs read. Runs at the top of
+the repository. Prints the file and line of each fault, and last how many checks passed."""
 
 import re
 import sys
@@ -70,9 +68,9 @@ def files_say_what_they_hold():
 def the_longest_form_is_said_once():
     """Code and clauses say how long a table's form is by a constant, but for its definition and the law of the limits."""
     for path, number, line in sources():
-        if re.search(r"\b3_?036_?421\b", line) and not re.search(r"const MAX_\w+:|MAX_\w+ ≡", line):
-            if path.parts[2] != "proofs":
-                yield path, number, "says MAX_BYTES as a number"
+        is_said = re.search(r"\b3_?036_?421\b", line) and not re.search(r"const MAX_\w+:|MAX_\w+ ≡", line)
+        if is_said and path.parts[2] != "proofs":
+            yield path, number, "says MAX_BYTES as a number"
 
 
 def texts(path):
