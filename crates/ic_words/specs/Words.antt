@@ -74,6 +74,11 @@ command_line = with_subcommand (with_subcommand with_streams create_command.top)
 abbrev pub version_line : List ℕ
 version_line = codes "icserve 0.1.0" ++ 10 ∷ []
 
+-- the lasting numbers of the faults
+abbrev pub words_fault_number : WordsFault → ℕ
+words_fault_number (Words text) = 1
+words_fault_number Memory = 2
+
 -- What is answered, by the mistakes that the words may have: none, or help or the version that is
 -- asked for, or another.
 abbrev pub AnswersWords : Kinds → Result Task WordsFault → Type 0
@@ -98,13 +103,23 @@ GivesTask task (Err Memory) = Unit {0}
 abbrev pub GivesHelp : Result Task WordsFault → Type 0
 GivesHelp (Ok (Help text)) = Unit {0}
 GivesHelp (Err Memory) = Unit {0}
-GivesHelp _ = ⊥
+GivesHelp (Ok Settle) = ⊥
+GivesHelp (Ok Once) = ⊥
+GivesHelp (Ok (Create disk)) = ⊥
+GivesHelp (Ok (Serve disk workers every)) = ⊥
+GivesHelp (Ok (Version text)) = ⊥
+GivesHelp (Err (Words text)) = ⊥
 
 -- the version is answered, unless a growth was refused
 abbrev pub GivesVersion : Result Task WordsFault → Type 0
 GivesVersion (Ok (Version text)) = Unit {0}
 GivesVersion (Err Memory) = Unit {0}
-GivesVersion _ = ⊥
+GivesVersion (Ok Settle) = ⊥
+GivesVersion (Ok Once) = ⊥
+GivesVersion (Ok (Create disk)) = ⊥
+GivesVersion (Ok (Serve disk workers every)) = ⊥
+GivesVersion (Ok (Help text)) = ⊥
+GivesVersion (Err (Words text)) = ⊥
 
 -- the one word that is a command; a `--` behind it ends the options, of which there are none
 abbrev pub NamesCommand : List ℕ → List (List ℕ) → Type 0

@@ -6,8 +6,8 @@ ghost use Rattle.clap.specs.Words.{Text, fault_of};
 ghost use Rattle.clap.specs.declared.error.ErrorKind.{ErrorKind};
 ghost use Rattle.clap.specs.declared.error.ErrorKind.TheVariants.{DisplayHelp, DisplayVersion};
 ghost use Rattle.ic_words.specs.declared.words.Task.TheVariants.{Settle, Once, Create, Serve, Help, Version};
-ghost use Rattle.ic_words.specs.declared.words.WordsFault.TheVariants.{Words};
-ghost use Rattle.ic_words.specs.Words.{AnswersWords, command_line, IsDecimal, Names};
+ghost use Rattle.ic_words.specs.declared.words.WordsFault.TheVariants.{Words, Memory};
+ghost use Rattle.ic_words.specs.Words.{AnswersWords, command_line, words_fault_number, IsDecimal, Names};
 ghost use Rattle.ic_words.specs.Lines.{IsCreateLine, IsServeLine};
 
 /// A number's text is the number in decimal digits, before which a plus may stand, and no other
@@ -18,6 +18,12 @@ pub fn numbers_are_decimals()
     ensures minus { (text : Text) (m : ℕ) → ¬ IsDecimal (45 ∷ text) m }
     ensures none { (m : ℕ) → ¬ IsDecimal [] m }
     ensures one { (text : Text) (n m : ℕ) → IsDecimal text n → IsDecimal text m → n ≡ m }
+{}
+
+/// The lasting numbers of the faults.
+pub fn numbers_are_lasting(text: &String)
+    ensures words { words_fault_number (Words text.now) ≡ 1 }
+    ensures memory { words_fault_number Memory ≡ 2 }
 {}
 
 /// What is answered by the mistakes that words may have. Words without one are taken, and neither

@@ -57,6 +57,20 @@ pub enum WordsFault {
     Memory,
 }
 
+impl WordsFault {
+    ghost use Rattle.ic_words.specs.Words.{words_fault_number};
+
+    /// The lasting number of the fault.
+    pub fn number(&self) -> u8
+        ensures { result ≡ words_fault_number self.now }
+    {
+        match self {
+            WordsFault::Words(_) => 1,
+            WordsFault::Memory => 2,
+        }
+    }
+}
+
 impl From<AllocError> for WordsFault {
     ghost use Rattle.ic_words.specs.declared.words.WordsFault.TheVariants.{Memory};
 
