@@ -1,7 +1,7 @@
 -- The agents of a rule as it is written, and the first of them that doesn't fit.
-use Rattle.std.proofs.Common.{◌≡◌, ℕ, List, [], ◌∷◌, ◌++◌, Option, None, Some, true, false, cond, slice_get, refl, sym, ap, ◌∙◌, length, map, drop, get_or, suc, ◌+◌, ◌<◌, drop-cons, add-one}
+use Rattle.std.proofs.Common.{◌≡◌, ℕ, List, ◌∷◌, ◌++◌, sym, ap, ◌∙◌, length, map, drop, get_or, suc, ◌+◌, ◌<◌, drop-cons, add-one}
 use Rattle.std.proofs.lemmas.List.{length-map}
-use Rattle.ic_term.specs.Symbol.{Symbol, has_arity}
+use Rattle.ic_term.specs.Symbol.{Symbol}
 use Rattle.ic_term.specs.Tree.{trees_of}
 use Rattle.ic_term.specs.lemmas.TreeLaws.{list_of-trees_of}
 use Rattle.ic_term.specs.Term.{tree, cell_tree}

@@ -7,7 +7,7 @@ use Rattle.ic_term.specs.Tree.{Tree, names}
 use Rattle.ic_rules.specs.Renaming.{renamed, first_behind, first_occurrences, number_among}
 use Rattle.ic_rules.specs.lemmas.RenamingLaws.{flat_names-renamed, Through, through-append, terms-through}
 use Rattle.ic_rules.specs.lemmas.NumberingLaws.{Undone, undone-append, each_undone, first_behind-map, number_among-map, name_at, Fixes, terms-fixed}
-use Rattle.ic_rules.specs.Rule.{Rule, rule_names, numbered, swapped, rule_eq, is_lopsided}
+use Rattle.ic_rules.specs.Rule.{Rule, numbered, swapped, rule_eq, is_lopsided}
 use Rattle.ic_rules.specs.lemmas.RuleLaws.{rule_eq-Decides}
 use Rattle.ic_rules.specs.Mirror.{IsOwnMirror}
 

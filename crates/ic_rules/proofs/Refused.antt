@@ -1,5 +1,5 @@
 -- What is refused has its fault, and none that is tried before it; what is taken has none.
-use Rattle.std.proofs.Common.{◌≡◌, ℕ, suc, ◌+◌, Bool, true, false, not, cond, List, [], ◌∷◌, ◌++◌, Option, None, Some, Result, Ok, Err, IsTrue, length, map, slice_get, refl, sym, ap, ◌∙◌, arith, subst, unwrap_or}
+use Rattle.std.proofs.Common.{◌≡◌, ℕ, suc, ◌+◌, Bool, true, false, not, cond, List, [], ◌∷◌, Option, None, Some, Result, Ok, Err, map, slice_get, refl, sym, ap, ◌∙◌, arith, subst, unwrap_or}
 use Rattle.std.specs.List.{flat_map, position_from, AllByRecursion}
 use Rattle.ic_term.specs.Symbol.{Symbol, has_arity}
 use Rattle.ic_rules.specs.Renaming.{are_paired}
@@ -8,7 +8,7 @@ use Rattle.ic_rules.specs.RuleSet.{Rules, are_few, unfit_among, first_unfit, fir
 use Rattle.ic_rules.specs.lemmas.FitLaws.{first_unfit-None}
 use Rattle.ic_rules.specs.Refusals.{IsFirst, IsFirstUnfit, AreCounted, IsRefusal, IsTaken}
 use Rattle.ic_rules.specs.declared.rule_set.RuleFault.{RuleFault}
-use Rattle.ic_rules.specs.declared.rule_set.RuleFault.TheVariants.{Limit, Arity, NameCount, Twice, Lopsided, Memory}
+use Rattle.ic_rules.specs.declared.rule_set.RuleFault.TheVariants.{Limit, Arity, NameCount, Twice, Lopsided}
 use Rattle.ic_rules.proofs.FirstPlaces.{first_repeated-Some}
 use Rattle.ic_rules.proofs.TakenRules.{none-cons, not_false, tests_of}
 

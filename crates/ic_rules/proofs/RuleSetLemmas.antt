@@ -1,5 +1,5 @@
 -- Lists of rules: the first that passes a test, and lists that are numbered.
-use Rattle.std.proofs.Common.{◌≡◌, ℕ, zero, suc, ◌+◌, ◌<◌, ◌==◌, Bool, true, false, List, [], ◌∷◌, ◌++◌, ◌&&◌, ◌||◌, Option, None, Some, length, map, get_or, drop, take, cond, is_some, sum_by, nat_le, refl, sym, ap, ◌∙◌, arith, drop-cons, add-one, IfSome, slice_get, append_assoc, append-nil, subst}
+use Rattle.std.proofs.Common.{◌≡◌, ℕ, zero, suc, ◌+◌, ◌<◌, ◌==◌, Bool, true, false, List, [], ◌∷◌, ◌++◌, ◌&&◌, ◌||◌, Option, None, Some, length, map, get_or, drop, take, cond, is_some, sum_by, nat_le, refl, sym, ap, ◌∙◌, arith, drop-cons, add-one}
 use Rattle.std.proofs.lemmas.List.{take_more, map-append, length-map, length-take-le}
 use Rattle.std.specs.Cmp.{unsigned_Decides}
 use Rattle.std.specs.HashMap.{HashMap, get}
@@ -13,7 +13,7 @@ use Rattle.ic_term.specs.Symbol.{Symbol}
 use Rattle.ic_rules.specs.declared.limits.TheConstants.{MAX_RULES, MAX_RULE_NODES}
 use Rattle.ic_rules.specs.Renaming.{renamed, renamed_trees, number_among, first_occurrences}
 use Rattle.ic_rules.specs.Rule.{Rule, stands_for, same_pair, agents, agents_of, rule_agents, rule_names, rule_nodes, numbered, IsRule}
-use Rattle.ic_rules.specs.RuleSet.{repeated_behind, first_repeated, first_unfit, unfit_among, are_few, IsRuleSet, IsRuleFor, rule_for, found_or, has_pair}
+use Rattle.ic_rules.specs.RuleSet.{repeated_behind, first_repeated, first_unfit, unfit_among, are_few, IsRuleSet}
 use Rattle.std.proofs.lemmas.List.Sums.{sum_by-append}
 use Rattle.ic_rules.specs.Written.{written}
 use Rattle.ic_rules.specs.inner.Places.{ArePlaces, pair_eq}

@@ -1,10 +1,8 @@
 -- `built` takes exactly the rule sets.
-use Rattle.std.proofs.Common.{◌≡◌, ◌↔◌, ℕ, zero, suc, ◌+◌, ◌==◌, Bool, true, false, not, ◌||◌, cond, List, [], ◌∷◌, ◌++◌, Option, None, Some, Result, Ok, Err, length, map, refl, sym, ap, ◌∙◌, arith, subst}
-use Rattle.std.specs.Cmp.{unsigned_Decides}
-use Rattle.std.specs.List.{list_any, position_from, flat_map, range_with_len, AllByRecursion}
-use Rattle.ic_term.specs.Tree.{Tree, name, agent, Trees, no_trees, more_trees, names, names_of}
+use Rattle.std.proofs.Common.{◌≡◌, ◌↔◌, ℕ, ◌+◌, Bool, true, false, not, cond, List, [], ◌∷◌, Option, None, Some, Result, Ok, Err, map, refl, sym, ap, ◌∙◌, subst}
+use Rattle.std.specs.List.{position_from, AllByRecursion}
 use Rattle.ic_term.specs.Symbol.{Symbol}
-use Rattle.ic_rules.specs.Renaming.{renamed, renamed_trees, first_occurrences, number_among, are_paired}
+use Rattle.ic_rules.specs.Renaming.{are_paired}
 use Rattle.ic_rules.specs.Rule.{Rule, IsRule, IsNumbered, rule_names, numbered, is_lopsided}
 use Rattle.ic_rules.specs.RuleSet.{Rules, IsRuleSet, are_few, first_unfit, first_uncounted, first_repeated, first_lopsided, unless, built}
 use Rattle.ic_rules.specs.declared.rule_set.RuleFault.{RuleFault}
