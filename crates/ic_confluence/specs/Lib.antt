@@ -1,0 +1,3 @@
+pub mod Sameness
+pub mod Kinds
+pub mod Circle
