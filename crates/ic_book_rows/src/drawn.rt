@@ -2,7 +2,7 @@
 
 use crate::plain::{advanced, answered};
 use ic_jobs::Table;
-use ic_notation::Trouble;
+use ic_notation::{Draws, Trouble};
 use std::alloc::Global;
 
 /// What may be drawn: a command, or a round where there is no line.
@@ -54,22 +54,6 @@ pub struct History {
     pub tables: Vec<Table>,
 }
 
-/// Numbers that look drawn by chance, the same in each run (a linear congruential generator, Knuth's MMIX).
-#[derive(Drop)]
-struct Draws {
-    state: u64,
-}
-
-impl Draws {
-    fn below(&mut self, count: usize) -> usize {
-        self.state = self
-            .state
-            .wrapping_mul(6364136223846793005)
-            .wrapping_add(1442695040888963407);
-        (self.state >> 33) as usize % count.max(1)
-    }
-}
-
 /// An event that is drawn, and made on the table. Where no round is due it is a list.
 fn drawn_step(alloc: Global, draws: &mut Draws, table: &mut Table) -> Result<Step, Trouble> {
     let after = draws.below(4);
@@ -88,7 +72,7 @@ fn drawn_step(alloc: Global, draws: &mut Draws, table: &mut Table) -> Result<Ste
 
 /// A history of so many events.
 pub fn drawn_history(alloc: Global, seed: u64, count: u32) -> Result<History, Trouble> {
-    let mut draws = Draws { state: seed };
+    let mut draws = Draws::new(seed);
     let mut table = Table::new(alloc);
     let mut steps = Vec::new(alloc);
     let mut tables = Vec::new(alloc);

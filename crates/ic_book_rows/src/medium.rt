@@ -3,9 +3,9 @@
 use crate::choices::choice_of;
 use ic_desk::Book;
 use ic_disk::{Blow, Choice, FuseDisk, MemDisk, Then};
-use ic_notation::Trouble;
+use ic_notation::{Trouble, bytes_of};
 use ic_slots::create;
-use std::alloc::{AllocError, Global};
+use std::alloc::Global;
 
 /// Where the second slot begins.
 const SECOND_SLOT: usize = 4_194_304;
@@ -20,20 +20,10 @@ fn cut(alloc: Global, disk: &MemDisk, length: usize) -> Result<MemDisk, Trouble>
     Ok(MemDisk::from_bytes(bytes))
 }
 
-/// The bytes of two hexadecimal digits each.
-fn bytes_of(alloc: Global, digits: &str) -> Result<Vec<u8>, AllocError> {
-    let mut bytes = Vec::new(alloc);
-    for pair in digits.as_bytes().chunks(2) {
-        let text = str::from_utf8(pair).unwrap_or("");
-        bytes.push(u8::from_str_radix(text, 16).unwrap_or(0))?;
-    }
-    Ok(bytes)
-}
-
 /// The disk with these bytes, in hexadecimal digits, at this place.
 fn with_bytes(alloc: Global, disk: &MemDisk, at: usize, digits: &str) -> Result<MemDisk, Trouble> {
     let mut bytes = disk.bytes().to_vec(alloc)?;
-    for (place, byte) in bytes_of(alloc, digits)?.iter().enumerate() {
+    for (place, byte) in bytes_of(alloc, digits.as_bytes())?.iter().enumerate() {
         match bytes.get_mut(at.saturating_add(place)) {
             Some(there) => *there = *byte,
             None => return Err(Trouble("past the end of the disk")),

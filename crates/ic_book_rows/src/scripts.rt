@@ -1,22 +1,31 @@
-//! Scripts over one book, with ` ; ` between the words and between the answers.
+//! Scripts over one book on a disk in memory, with ` ; ` between the words and between the answers.
+//!
+//! - `book SCRIPT`: what each word is answered (`session` has the words).
+//! - `crashes SCRIPT`: what the last word is answered, once for each choice of a crash.
+//! - `stops SEED`: a drawn history is stopped at every call to the disk.
 
 use crate::choices::CHOICES;
 use crate::session::Session;
 use crate::stops::stops;
 use ic_disk::Choice;
-use ic_notation::{Row, Trouble, expanded};
+use ic_notation::{Answers, Row, Trouble, expanded};
 use std::alloc::Global;
 
-/// What is answered to a row.
-pub fn answer(alloc: Global, row: &Row) -> Result<Vec<u8>, Trouble> {
-    let Ok(text) = String::from_utf8(expanded(alloc, row.text)?) else {
-        return Err(Trouble("no text"));
-    };
-    match row.kind {
-        "book" => book(alloc, &text),
-        "crashes" => crashes(alloc, &text),
-        "stops" => stops(alloc, u64::from_str_radix(&text, 10).unwrap_or(0)),
-        _ => Err(Trouble("no such kind")),
+/// The kinds of these rows.
+#[derive(Drop)]
+pub struct Kinds;
+
+impl Answers for Kinds {
+    fn answer(&self, alloc: Global, row: &Row<'_>) -> Result<Vec<u8>, Trouble> {
+        let Ok(text) = String::from_utf8(expanded(alloc, row.text)?) else {
+            return Err(Trouble("no text"));
+        };
+        match row.kind {
+            "book" => book(alloc, &text),
+            "crashes" => crashes(alloc, &text),
+            "stops" => stops(alloc, u64::from_str_radix(&text, 10).unwrap_or(0)),
+            _ => Err(Trouble("no such kind")),
+        }
     }
 }
 

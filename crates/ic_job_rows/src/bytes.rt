@@ -3,42 +3,14 @@
 use ic_codec::{CodecFault, MAX_BYTES, decode, encode_into};
 use ic_commands::print_reply;
 use ic_jobs::{Command, Table};
-use ic_notation::Trouble;
+use ic_notation::{Trouble, bytes_of};
 use std::alloc::Global;
 
-/// The bytes of a text of two hexadecimal digits each, with blanks between some.
-pub fn bytes_of(alloc: Global, text: &[u8]) -> Result<Vec<u8>, Trouble> {
-    let mut bytes = Vec::new(alloc);
-    let mut first = None;
-    for letter in text {
-        let Some(digit) = char::from(*letter).to_digit(16) else {
-            continue;
-        };
-        match first {
-            None => first = Some(digit),
-            Some(high) => {
-                bytes.push(u8::try_from(high.wrapping_mul(16).wrapping_add(digit)).unwrap_or(0))?;
-                first = None;
-            }
-        }
-    }
-    Ok(bytes)
-}
-
 /// The table's byte form.
-fn encoded(alloc: Global, table: &Table) -> Result<Vec<u8>, Trouble> {
+pub fn encoded(alloc: Global, table: &Table) -> Result<Vec<u8>, Trouble> {
     let mut bytes = Vec::with_capacity(alloc, MAX_BYTES)?;
     encode_into(table, &mut bytes);
     Ok(bytes)
-}
-
-/// The table's byte form in hexadecimal digits.
-pub fn digits_of(alloc: Global, table: &Table) -> Result<Vec<u8>, Trouble> {
-    let mut line = Vec::new(alloc);
-    for byte in &encoded(alloc, table)? {
-        line.extend_from_slice(format!(in alloc; "{byte:02x}")?.as_bytes())?;
-    }
-    Ok(line)
 }
 
 /// The jobs and configurations of the table of which these are the bytes, which are then its byte form; or that they are

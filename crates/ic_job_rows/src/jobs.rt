@@ -1,9 +1,9 @@
 //! The job table, driven by scripts: command lines, and rounds that are taken, played and landed one by one.
 
-use crate::bytes::digits_of;
+use crate::bytes::encoded;
 use ic_commands::{Line, print_reply, read_command};
 use ic_jobs::{Command, Job, Landed, State, Table};
-use ic_notation::{Trouble, decimal, expanded, system_of};
+use ic_notation::{Trouble, decimal, digits_of, expanded, system_of};
 use ic_pool::{Flight, play_alone};
 use ic_rules::JobName;
 use ic_term::Config;
@@ -46,7 +46,7 @@ impl Session {
             "due" => self.due(alloc, usize::from_str_radix(rest, 10).unwrap_or(0)),
             "land" => self.land(alloc, usize::from_str_radix(rest, 10).unwrap_or(0)),
             "top" => self.top(alloc, rest),
-            "bytes" => digits_of(alloc, &self.table),
+            "bytes" => Ok(digits_of(alloc, &encoded(alloc, &self.table)?)?),
             _ => self.line(alloc, word.as_bytes()),
         }
     }

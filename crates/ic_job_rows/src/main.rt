@@ -1,36 +1,27 @@
-//! The worked rows of jobs: command lines, scripts, the job table, rounds by workers, and tables as bytes. Each line of standard
-//! input has a row's name, what is asked, and the answer that it must have.
-//!
-//! A line that is empty, or begins with `--`, says nothing. Printed is each row with another answer, and how many rows
-//! there are.
+//! The worked rows of jobs: command lines, scripts, the job table, rounds by workers, and tables as bytes. `answers` says
+//! what a row may ask.
 #![tactic(auto)]
 
 mod answers;
 mod bytes;
+mod gates;
 mod jobs;
 mod lines;
 mod pool;
 mod scripts;
 
 use crate::answers::answer;
-use ic_notation::Row;
-use std::io::{self, Write};
+use ic_notation::{Row, Tally};
+use std::io;
 
+/// The loop of `check_rows`: its gates need a runtime that threads share, which a method of a trait can't pass on.
 fn main(rt: HostRuntime) -> io::Result<()> {
-    let mut rows = 0u64;
-    let mut wrong = 0u64;
+    let mut tally = Tally::new();
     for line in rt.lines(rt.alloc()) {
         let line = line?;
-        let Some(row) = Row::of(&line) else {
-            continue;
-        };
-        rows = rows.saturating_add(1);
-        if let Some(found) = row.other_answer(rt.alloc(), answer(&rt, rt.alloc(), &row)) {
-            wrong = wrong.saturating_add(1);
-            print!(rt; "{}: ", row.name)?;
-            rt.stdout().write_all(&found)?;
-            println!(rt; "")?;
+        if let Some(row) = Row::of(&line) {
+            tally.compare(&rt, rt.alloc(), &row, answer(&rt, rt.alloc(), &row))?;
         }
     }
-    println!(rt; "{rows} rows, {wrong} with another answer")
+    tally.finish(&rt)
 }

@@ -1,17 +1,18 @@
-//! Rounds of jobs by any number of workers, and gates that hold the workers up.
+//! Rounds of jobs by any number of workers.
 
 use ic_notation::{Trouble, decimal, expanded, printed, system_of};
 use ic_pool::{Flight, Gate, MAX_ROUNDS, OpenGate, Played, PoolFault, play, play_alone};
 use ic_rules::{JobName, RuleSet};
 use ic_term::{Config, over};
 use std::alloc::Global;
-use std::sync::atomic::{AtomicBool, AtomicU64, Ordering};
 use std::sync::{Arc, Wait};
 use std::thread::{self, Threads};
-use std::time::{Clock, Duration};
+
+/// By how many workers each round is made.
+pub const WORKERS: &[usize] = &[1, 2, 3, 7, 64, 200];
 
 /// A flight of a job, where these are the parts of one.
-fn flight_of(
+pub fn flight_of(
     alloc: Global,
     rules: Arc<RuleSet>,
     config: Config,
@@ -44,7 +45,7 @@ fn agreed<R: Threads + Wait, G: Gate>(
     let Ok(alone) = play_alone(alloc, flight) else {
         return Err(Trouble("a round is refused"));
     };
-    for workers in &[1usize, 2, 3, 7, 64, 200] {
+    for workers in WORKERS {
         let Ok(played) = play(rt, alloc, flight, *workers, gate) else {
             return Err(Trouble("a round by workers is refused"));
         };
@@ -140,104 +141,4 @@ pub fn refused<R: Threads + Wait>(rt: &R, alloc: Global, text: &str) -> Result<V
         Some(_) => "another fault",
     };
     Ok(Vec::from_slice(alloc, line.as_bytes())?)
-}
-
-/// A gate that counts how often it is passed, and how many are in it at once.
-#[derive(Drop)]
-struct Counting<'a, R> {
-    rt: &'a R,
-    passes: AtomicU64,
-    inside: AtomicU64,
-    most: AtomicU64,
-}
-
-impl<'a, R: Clock + Sync> Gate for Counting<'a, R> {
-    fn pass(&self, _place: u64) {
-        self.passes.fetch_add(1, Ordering::SeqCst);
-        let others = self.inside.fetch_add(1, Ordering::SeqCst);
-        if others >= self.most.load(Ordering::SeqCst) {
-            self.most.store(others.wrapping_add(1), Ordering::SeqCst);
-        }
-        thread::sleep(self.rt, Duration::from_millis(1));
-        self.inside.fetch_sub(1, Ordering::SeqCst);
-    }
-
-    fn answered(&self, _who: u64) {}
-}
-
-/// How often the gate is passed in a round by so many workers, and whether never more of them are in it at once than
-/// there are workers, or than 64.
-pub fn counted<R: Threads + Wait + Clock + Sync>(
-    rt: &R,
-    alloc: Global,
-    workers: u32,
-    text: &[u8],
-) -> Result<Vec<u8>, Trouble> {
-    let counting = Counting {
-        rt,
-        passes: AtomicU64::new(0),
-        inside: AtomicU64::new(0),
-        most: AtomicU64::new(0),
-    };
-    let (rules, config) = system_of(alloc, text)?.into_parts();
-    let flight = flight_of(alloc, rules, config, 0)?;
-    if play(rt, alloc, &flight, workers as usize, &counting).is_err() {
-        return Err(Trouble("a round by workers is refused"));
-    }
-    if counting.most.load(Ordering::SeqCst) > u64::from(workers.min(64)) {
-        return Err(Trouble("too many threads"));
-    }
-    let mut line = Vec::new(alloc);
-    decimal(&mut line, counting.passes.load(Ordering::SeqCst))?;
-    line.extend_from_slice(b" passes")?;
-    Ok(line)
-}
-
-/// The gate of so many works that wait for each other, each at most 10,000 times a millisecond.
-#[derive(Drop)]
-struct Meeting<'a, R> {
-    rt: &'a R,
-    works: u64,
-    begun: AtomicU64,
-    missed: AtomicBool,
-}
-
-impl<'a, R: Clock + Sync> Gate for Meeting<'a, R> {
-    fn pass(&self, _place: u64) {
-        self.begun.fetch_add(1, Ordering::SeqCst);
-        for _ in 0..10_000u32 {
-            if self.begun.load(Ordering::SeqCst) >= self.works {
-                return;
-            }
-            thread::sleep(self.rt, Duration::from_millis(1));
-        }
-        self.missed.store(true, Ordering::SeqCst);
-    }
-
-    fn answered(&self, _who: u64) {}
-}
-
-/// The round of a system with so many works by as many workers, each of which waits until all have begun.
-pub fn played_at_once<R: Threads + Wait + Clock + Sync>(
-    rt: &R,
-    alloc: Global,
-    works: u32,
-    text: &[u8],
-) -> Result<Vec<u8>, Trouble> {
-    let meeting = Meeting {
-        rt,
-        works: u64::from(works),
-        begun: AtomicU64::new(0),
-        missed: AtomicBool::new(false),
-    };
-    let (rules, config) = system_of(alloc, text)?.into_parts();
-    let flight = flight_of(alloc, rules, config, 0)?;
-    let Ok(played) = play(rt, alloc, &flight, works as usize, &meeting) else {
-        return Err(Trouble("a round by workers is refused"));
-    };
-    let all = meeting.begun.load(Ordering::SeqCst) == u64::from(works);
-    if !all || meeting.missed.load(Ordering::SeqCst) {
-        return Err(Trouble("a wait ran out, or a gate wasn't passed"));
-    }
-    printed(alloc, played.rules(), played.after())
 }

@@ -1,3 +1,5 @@
+//! A row, taken from its line and compared.
+
 use crate::expansion::expanded;
 use crate::trouble::Trouble;
 use std::alloc::Global;

@@ -1,3 +1,5 @@
+//! Systems of texts, and the texts of configurations.
+
 use crate::trouble::Trouble;
 use ic_rules::{RuleSet, System};
 use ic_term::{Config, over};

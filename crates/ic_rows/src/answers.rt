@@ -13,19 +13,28 @@ use crate::systems::{found, named_symbols};
 use crate::texts::{blanks, config, fates, system};
 use crate::values::{built, joined, numbered, paired, restored};
 use crate::words::words;
-use ic_notation::{Row, Trouble, expanded};
+use ic_notation::{Answers, Row, Trouble, expanded};
 use std::alloc::Global;
 use std::thread::Threads;
 
-pub fn answer(rt: &impl Threads, alloc: Global, row: &Row<'_>) -> Result<Vec<u8>, Trouble> {
-    match row.kind {
-        "deep" => deep_terms(rt, alloc),
-        "drawn" => bodies_agree(alloc),
-        "gathered" => gathered(alloc, row.text),
-        "words" => words(alloc, row.text),
-        "top_numbers" => top_numbers(alloc, row.text),
-        "joined" | "paired" | "built" | "settle_slowly" | "once_slowly" => of_parts(alloc, row),
-        _ => of_text(alloc, row),
+/// The kinds of these rows.
+#[derive(Drop)]
+pub struct Kinds<'a, R: Threads> {
+    /// What starts the thread of a deep term.
+    pub rt: &'a R,
+}
+
+impl<R: Threads> Answers for Kinds<'_, R> {
+    fn answer(&self, alloc: Global, row: &Row<'_>) -> Result<Vec<u8>, Trouble> {
+        match row.kind {
+            "deep" => deep_terms(self.rt, alloc),
+            "drawn" => bodies_agree(alloc),
+            "gathered" => gathered(alloc, row.text),
+            "words" => words(alloc, row.text),
+            "top_numbers" => top_numbers(alloc, row.text),
+            "joined" | "paired" | "built" | "settle_slowly" | "once_slowly" => of_parts(alloc, row),
+            _ => of_text(alloc, row),
+        }
     }
 }
 

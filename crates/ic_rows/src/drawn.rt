@@ -1,6 +1,6 @@
 //! Configurations that look drawn by chance, on which both bodies of settling agree.
 
-use ic_notation::Trouble;
+use ic_notation::{Draws, Trouble};
 use ic_round::laws::settle_slowly;
 use ic_round::{bind, settle};
 use ic_term::{Cell, Config, Equation, Term};
@@ -21,22 +21,6 @@ fn around(alloc: Global, sym: u32, term: Term) -> Result<Term, AllocError> {
     let mut args = Vec::new(alloc);
     args.push(term)?;
     agent(alloc, sym, args)
-}
-
-/// Numbers that look drawn by chance, the same in each run (a linear congruential generator, Knuth's MMIX).
-#[derive(Drop)]
-struct Draws {
-    state: u64,
-}
-
-impl Draws {
-    fn below(&mut self, count: usize) -> usize {
-        self.state = self
-            .state
-            .wrapping_mul(6364136223846793005)
-            .wrapping_add(1442695040888963407);
-        (self.state >> 33) as usize % count.max(1)
-    }
 }
 
 /// A name of the pool, or a constant where none is left.
@@ -100,7 +84,7 @@ fn agreed(alloc: Global, config: Config) -> Result<usize, Trouble> {
 
 /// Whether both bodies agree on 2,000 configurations, of which one has more than 6 bindings.
 pub fn bodies_agree(alloc: Global) -> Result<Vec<u8>, Trouble> {
-    let mut draws = Draws { state: 20261122 };
+    let mut draws = Draws::new(20_261_122);
     let mut most = 0;
     for _ in 0..2000 {
         let config = drawn_config(alloc, &mut draws)?;

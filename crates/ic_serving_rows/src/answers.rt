@@ -8,8 +8,10 @@
 //! - `stream WORKERS EVERY TEXT`: a text as it stands, and what is written; or `nothing`.
 //! - `again WORKERS EVERY LINES + LINES`: lines, a crash that leaves what was synced, and more lines on the opened disk.
 //! - `worn WORKERS EVERY LINES`, or `LINES + LINES`: lines on a disk whose numbers are used up, as lines before have left it,
-//!   and whether it is as it was.
+//!   and whether it is as it was. A third part is served over the same book.
 //! - `broken CALL WORKERS EVERY LINES + LINES`: lines, and more over the same book, of whose disk this call fails.
+//! - `unkept COUNT WORKERS EVERY LINES + LINES`: lines, so many rounds that are landed and not kept, and lines over the same
+//!   book; then what `history` tells, and the jobs that a crash leaves.
 //! - `newest WORKERS EVERY LINES`: the number of the newest slot behind the lines.
 //! - `history WORKERS EVERY LINES`: the entries of the book, how many are kept, and how many jobs it began with.
 //! - `reads`, `writes` or `flushes WORKERS EVERY LINES + LINES`: each read, write or flush fails in turn, where a reader gives
@@ -29,27 +31,40 @@ use crate::lines::{lines_of, on_one_line, or_nothing, parted, repeated};
 use crate::serving::Server;
 use crate::streams::Pace;
 use ic_disk::{Blow, Choice, Then};
-use ic_notation::{Row, Trouble, expanded};
+use ic_notation::{Answers, Row, Trouble, expanded};
 use std::alloc::Global;
 use std::sync::Wait;
 use std::thread::Threads;
 
-pub fn answer<R: Threads + Wait>(rt: &R, alloc: Global, row: &Row<'_>) -> Result<Vec<u8>, Trouble> {
-    match row.kind {
-        "times" => times(&Server::new(rt, alloc, 1, 1), row.text),
-        "feeds" => feeds(&Server::new(rt, alloc, 1, 1), row.text),
-        "device" => device(rt, alloc, row.text),
-        "broken" => broken_by(rt, alloc, row.text),
-        "stream_fault" | "serve_fault" | "disk_refused" => {
-            failure_line(alloc, row.kind, row.text)
-        }
-        kind => {
-            let (server, text) = server_of(rt, alloc, row.text);
-            match failing_of(kind) {
-                Some(failing) => cut(&server, failing, Choice::Synced, text),
-                None => served(&server, kind, text),
+/// The kinds of these rows.
+#[derive(Drop)]
+pub struct Kinds<'a, R: Threads + Wait> {
+    /// What starts the threads of rounds.
+    pub rt: &'a R,
+}
+
+impl<R: Threads + Wait> Answers for Kinds<'_, R> {
+    fn answer(&self, alloc: Global, row: &Row<'_>) -> Result<Vec<u8>, Trouble> {
+        match row.kind {
+            "times" => times(&Server::new(self.rt, alloc, 1, 1), row.text),
+            "feeds" => feeds(&Server::new(self.rt, alloc, 1, 1), row.text),
+            "device" => device(self.rt, alloc, row.text),
+            "broken" => broken_by(self.rt, alloc, row.text),
+            "unkept" => unkept(self.rt, alloc, row.text),
+            "stream_fault" | "serve_fault" | "disk_refused" => {
+                failure_line(alloc, row.kind, row.text)
             }
+            _ => by_server(self.rt, alloc, row),
         }
+    }
+}
+
+/// What is answered to a row that begins with the number of workers and after how many rounds is kept.
+fn by_server<R: Threads + Wait>(rt: &R, alloc: Global, row: &Row<'_>) -> Result<Vec<u8>, Trouble> {
+    let (server, text) = server_of(rt, alloc, row.text);
+    match failing_of(row.kind) {
+        Some(failing) => cut(&server, failing, Choice::Synced, text),
+        None => served(&server, row.kind, text),
     }
 }
 
@@ -113,14 +128,14 @@ fn twice<R: Threads + Wait>(
     kind: &str,
     text: &str,
 ) -> Result<Vec<u8>, Trouble> {
-    if kind == "worn" && !text.contains(" + ") {
-        return server.on_worn_disk(b"", &lines_of(server.alloc, text)?);
+    if kind == "worn" {
+        return match text.split_once(" + ") {
+            Some((before, behind)) => server.on_worn_disk(&lines_of(server.alloc, before)?, behind),
+            None => server.on_worn_disk(b"", text),
+        };
     }
     let (before, behind) = parted(server.alloc, text)?;
-    match kind {
-        "worn" => server.on_worn_disk(&before, &behind),
-        _ => server.again(&before, &behind),
-    }
+    server.again(&before, &behind)
 }
 
 /// What comes of it where each call fails in turn.
@@ -173,6 +188,15 @@ fn broken_by<R: Threads + Wait>(rt: &R, alloc: Global, text: &str) -> Result<Vec
     let (server, text) = server_of(rt, alloc, rest);
     let (before, behind) = parted(alloc, text)?;
     let written = broken(&server, number(call) as u64, &before, &behind)?;
+    Ok(on_one_line(alloc, &written)?)
+}
+
+/// What is answered over a book of which so many rounds aren't kept.
+fn unkept<R: Threads + Wait>(rt: &R, alloc: Global, text: &str) -> Result<Vec<u8>, Trouble> {
+    let (rounds, rest) = first_word(text);
+    let (server, text) = server_of(rt, alloc, rest);
+    let (before, behind) = parted(alloc, text)?;
+    let written = server.unkept(number(rounds), &before, &behind)?;
     Ok(on_one_line(alloc, &written)?)
 }
 

@@ -2,7 +2,9 @@
 
 use ic_desk::Book;
 use ic_disk::{Choice, Disk, MemDisk};
+use ic_jobs::Landed;
 use ic_notation::Trouble;
+use ic_pool::play_alone;
 use ic_slots::create;
 use std::alloc::Global;
 
@@ -29,6 +31,20 @@ pub fn opened<D: Disk + Drop>(alloc: Global, disk: D) -> Result<Book<D>, Trouble
 /// The book on what a crash leaves of a disk.
 pub fn reopened(alloc: Global, disk: MemDisk, choice: Choice) -> Result<Book<MemDisk>, Trouble> {
     opened(alloc, disk.crash(choice)?)
+}
+
+/// Lands the round that is due, and keeps nothing.
+pub fn land_due(alloc: Global, book: &mut Book<MemDisk>) -> Result<(), Trouble> {
+    let Ok(Some(flight)) = book.due(0) else {
+        return Err(Trouble("no round is due"));
+    };
+    let Ok(played) = play_alone(alloc, &flight) else {
+        return Err(Trouble("a round is refused"));
+    };
+    match book.land(played) {
+        Ok(Landed::Moved) => Ok(()),
+        _ => Err(Trouble("a round doesn't land")),
+    }
 }
 
 /// The number of the slot that begins here, where it is open.

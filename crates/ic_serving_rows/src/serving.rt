@@ -1,9 +1,10 @@
 //! Lines that are served on a disk in memory.
 
-use crate::disks::{new_disk, newest, opened, reopened, worn};
+use crate::disks::{land_due, new_disk, newest, opened, reopened, worn};
+use crate::lines::lines_of;
 use crate::streams::{FailingReader, FailingWriter, Pace};
 use ic_desk::Book;
-use ic_disk::{Choice, Disk};
+use ic_disk::{Choice, Disk, MemDisk};
 use ic_endings::Failure;
 use ic_notation::{Trouble, decimal};
 use ic_serving::serve_lines;
@@ -81,26 +82,50 @@ impl<'a, R: Threads + Wait> Server<'a, R> {
         Ok(output)
     }
 
-    /// What is written for a text on a disk that another text has left and whose numbers are used up, and whether the disk is
-    /// as it was.
-    pub fn on_worn_disk(&self, before: &[u8], text: &[u8]) -> Result<Vec<u8>, Trouble> {
+    /// What is written for lines on a disk that a text before them has left and whose numbers are used up, and whether the
+    /// disk is as it was. Lines behind a ` + ` are served over the same book.
+    pub fn on_worn_disk(&self, before: &[u8], lines: &str) -> Result<Vec<u8>, Trouble> {
         let mut book = opened(self.alloc, new_disk(self.alloc)?)?;
         self.written(&mut book, before)?;
         let disk = worn(self.alloc, &book.close())?;
         let bytes = disk.bytes().to_vec(self.alloc)?;
         let mut book = opened(self.alloc, disk)?;
-        let mut output = self.written(&mut book, text)?;
+        let mut output = Vec::new(self.alloc);
+        for served in lines.split(" + ") {
+            output.append(&mut self.written(&mut book, &lines_of(self.alloc, served)?)?)?;
+        }
         if book.close().bytes() == bytes.as_slice() {
             output.extend_from_slice(b"the disk is as it was\n")?;
         }
         Ok(output)
     }
 
-    /// What the book has after a text was served on a new disk: how many entries, how many of them kept, and how many jobs at
-    /// the start; and whether each entry has the sender 0.
+    /// What is written for a text on a new disk, and for another over the same book behind so many rounds that are landed and
+    /// not kept; what the book has then, and which jobs a crash leaves.
+    pub fn unkept(&self, rounds: usize, text: &[u8], more: &[u8]) -> Result<Vec<u8>, Trouble> {
+        let mut book = opened(self.alloc, new_disk(self.alloc)?)?;
+        let mut output = self.written(&mut book, text)?;
+        for _ in 0..rounds {
+            land_due(self.alloc, &mut book)?;
+        }
+        output.append(&mut self.written(&mut book, more)?)?;
+        output.append(&mut self.told(&book)?)?;
+        output.push(b'\n')?;
+        let mut book = reopened(self.alloc, book.close(), Choice::Synced)?;
+        output.append(&mut self.written(&mut book, b"list\n")?)?;
+        Ok(output)
+    }
+
+    /// What the book has after a text was served on a new disk.
     pub fn history(&self, text: &[u8]) -> Result<Vec<u8>, Trouble> {
         let mut book = opened(self.alloc, new_disk(self.alloc)?)?;
         self.written(&mut book, text)?;
+        self.told(&book)
+    }
+
+    /// What a book has: how many entries, how many of them kept, and how many jobs at the start; and whether each entry has
+    /// the sender 0.
+    fn told(&self, book: &Book<MemDisk>) -> Result<Vec<u8>, Trouble> {
         let entries = book.log().len();
         let kept = book.kept();
         let jobs = book.start().jobs().len();

@@ -1,10 +1,10 @@
 //! What a script is run on: a disk with a fuse, and the keeper of it while it is open.
 
-use crate::bytes::{bytes_of, changed, digits_of, place, place_and_rest};
+use crate::bytes::{changed, place, place_and_rest};
 use crate::tables::{letter_of, table_of};
 use ic_disk::{Blow, Choice, FuseDisk, MemDisk, Then};
 use ic_jobs::Table;
-use ic_notation::Trouble;
+use ic_notation::{Trouble, bytes_of, digits_of};
 use ic_slots::{CreateFault, KeepFault, Keeper, OpenCause, OpenFault, create};
 use std::alloc::Global;
 
@@ -176,7 +176,7 @@ fn look(
     match verb {
         "put" => {
             let (at, digits) = place_and_rest(rest)?;
-            bytes = changed(alloc, &bytes, at, &bytes_of(alloc, digits)?)?;
+            bytes = changed(alloc, &bytes, at, &bytes_of(alloc, digits.as_bytes())?)?;
         }
         "cut" => bytes.truncate(place(rest)?),
         "note" => noted = bytes.clone()?,
@@ -205,7 +205,7 @@ fn seen(
         "bytes" => {
             let (at, count) = place_and_rest(rest)?;
             let part = bytes.get(at..).unwrap_or(&[]);
-            digits_of(alloc, part.get(..place(count)?).unwrap_or(part))
+            Ok(digits_of(alloc, part.get(..place(count)?).unwrap_or(part))?)
         }
         "zeros" => {
             let zeros = bytes.iter().skip(place(rest)?).all(|byte| *byte == 0);

@@ -25,34 +25,6 @@ pub fn place_and_rest(text: &str) -> Result<(usize, &str), Trouble> {
     Ok((place(first)?, rest))
 }
 
-/// The bytes of a text of two hexadecimal digits each.
-pub fn bytes_of(alloc: Global, text: &str) -> Result<Vec<u8>, Trouble> {
-    let mut bytes = Vec::new(alloc);
-    let mut first = None;
-    for letter in text.as_bytes() {
-        let Some(digit) = char::from(*letter).to_digit(16) else {
-            return Err(Trouble("no digit"));
-        };
-        match first {
-            None => first = Some(digit),
-            Some(high) => {
-                bytes.push(u8::try_from(high.wrapping_mul(16).wrapping_add(digit)).unwrap_or(0))?;
-                first = None;
-            }
-        }
-    }
-    Ok(bytes)
-}
-
-/// Bytes in hexadecimal digits.
-pub fn digits_of(alloc: Global, bytes: &[u8]) -> Result<Vec<u8>, Trouble> {
-    let mut line = Vec::new(alloc);
-    for byte in bytes {
-        line.extend_from_slice(format!(in alloc; "{byte:02x}")?.as_bytes())?;
-    }
-    Ok(line)
-}
-
 /// These bytes with others put at a place.
 pub fn changed(alloc: Global, bytes: &[u8], at: usize, put: &[u8]) -> Result<Vec<u8>, Trouble> {
     let mut changed = Vec::from_slice(alloc, bytes)?;

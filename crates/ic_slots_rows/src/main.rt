@@ -1,8 +1,4 @@
-//! Worked rows of tables that are kept on a disk: each line of standard input has a row's name, what is asked, and the
-//! answer that it must have.
-//!
-//! A line that is empty, or begins with `--`, says nothing. Printed is each row with another answer, and how many rows
-//! there are. `script` says what a row may ask.
+//! Worked rows of tables that are kept on a disk: `script` says what a row may ask.
 #![tactic(auto)]
 
 mod bench;
@@ -10,25 +6,10 @@ mod bytes;
 mod script;
 mod tables;
 
-use crate::script::answer;
-use ic_notation::Row;
-use std::io::{self, Write};
+use crate::script::Kinds;
+use ic_notation::check_rows;
+use std::io;
 
 fn main(rt: HostRuntime) -> io::Result<()> {
-    let mut rows = 0u64;
-    let mut wrong = 0u64;
-    for line in rt.lines(rt.alloc()) {
-        let line = line?;
-        let Some(row) = Row::of(&line) else {
-            continue;
-        };
-        rows = rows.saturating_add(1);
-        if let Some(found) = row.other_answer(rt.alloc(), answer(rt.alloc(), &row)) {
-            wrong = wrong.saturating_add(1);
-            print!(rt; "{}: ", row.name)?;
-            rt.stdout().write_all(&found)?;
-            println!(rt; "")?;
-        }
-    }
-    println!(rt; "{rows} rows, {wrong} with another answer")
+    check_rows(&rt, rt.alloc(), &Kinds)
 }

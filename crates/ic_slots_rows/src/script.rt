@@ -11,7 +11,7 @@
 use crate::bench::{Bench, Setting};
 use crate::bytes::number;
 use ic_disk::{Blow, Choice, Then};
-use ic_notation::{Row, Trouble};
+use ic_notation::{Answers, Row, Trouble};
 use std::alloc::Global;
 
 const WAYS: &[(Blow, Then)] = &[
@@ -21,13 +21,18 @@ const WAYS: &[(Blow, Then)] = &[
     (Blow::After, Then::GoOn),
 ];
 
-/// What is answered to a row, by its kind.
-pub fn answer(alloc: Global, row: &Row<'_>) -> Result<Vec<u8>, Trouble> {
-    match row.kind {
-        "run" => run_once(alloc, row.text),
-        "fail" => failed(alloc, row.text),
-        "stop" => stopped(alloc, row.text),
-        _ => Err(Trouble("no such kind")),
+/// The kinds of these rows.
+#[derive(Drop)]
+pub struct Kinds;
+
+impl Answers for Kinds {
+    fn answer(&self, alloc: Global, row: &Row<'_>) -> Result<Vec<u8>, Trouble> {
+        match row.kind {
+            "run" => run_once(alloc, row.text),
+            "fail" => failed(alloc, row.text),
+            "stop" => stopped(alloc, row.text),
+            _ => Err(Trouble("no such kind")),
+        }
     }
 }
 

@@ -1,0 +1,185 @@
+//! Gates that see which places pass them, and how many works are in them at once.
+
+use crate::pool::{WORKERS, flight_of};
+use ic_notation::{Trouble, decimal, expanded, printed, system_of};
+use ic_pool::{Flight, Gate, play};
+use std::alloc::{AllocError, Global};
+use std::sync::Wait;
+use std::sync::atomic::{AtomicBool, AtomicU64, Ordering};
+use std::thread::{self, Threads};
+use std::time::{Clock, Duration};
+
+/// A gate with a counter for each place of a configuration, and one for all others.
+#[derive(Drop)]
+struct Counters {
+    places: Vec<AtomicU64>,
+    others: AtomicU64,
+}
+
+impl Counters {
+    fn new(alloc: Global, count: usize) -> Result<Counters, Trouble> {
+        let mut places = Vec::new(alloc);
+        for _ in 0..count {
+            places.push(AtomicU64::new(0))?;
+        }
+        Ok(Counters {
+            places,
+            others: AtomicU64::new(0),
+        })
+    }
+
+    /// The places that have passed, where each did so once.
+    fn passed(&self, alloc: Global) -> Result<Vec<u64>, Trouble> {
+        if self.others.load(Ordering::SeqCst) > 0 {
+            return Err(Trouble("a place passes that isn't there"));
+        }
+        let mut passed = Vec::new(alloc);
+        for (place, passes) in self.places.iter().enumerate() {
+            match passes.load(Ordering::SeqCst) {
+                0 => {}
+                1 => passed.push(place as u64)?,
+                _ => return Err(Trouble("a place passes twice")),
+            }
+        }
+        Ok(passed)
+    }
+}
+
+impl Gate for Counters {
+    fn pass(&self, place: u64) {
+        let counter = self.places.get(place as usize).unwrap_or(&self.others);
+        counter.fetch_add(1, Ordering::SeqCst);
+    }
+
+    fn answered(&self, _who: u64) {}
+}
+
+/// Places in order, as `0-2 5`.
+fn ranges(alloc: Global, places: &[u64]) -> Result<Vec<u8>, AllocError> {
+    let mut line = Vec::new(alloc);
+    let mut last = None;
+    for (i, place) in places.iter().enumerate() {
+        let follows = last == Some(place.wrapping_sub(1));
+        let goes_on = places.get(i.saturating_add(1)).copied() == place.checked_add(1);
+        last = Some(*place);
+        if follows && goes_on {
+            continue;
+        }
+        if follows {
+            line.push(b'-')?;
+        } else if i > 0 {
+            line.push(b' ')?;
+        }
+        decimal(&mut line, *place)?;
+    }
+    Ok(line)
+}
+
+/// Which places pass in a flight's round by so many workers.
+fn passed_by<R: Threads + Wait>(
+    rt: &R,
+    alloc: Global,
+    flight: &Flight,
+    workers: usize,
+) -> Result<Vec<u8>, Trouble> {
+    let counters = Counters::new(alloc, flight.config().equations().len())?;
+    if play(rt, alloc, flight, workers, &counters).is_err() {
+        return Err(Trouble("a round by workers is refused"));
+    }
+    Ok(ranges(alloc, &counters.passed(alloc)?)?)
+}
+
+/// Which places pass in the round of a system, each once: the same by each number of workers.
+pub fn passed<R: Threads + Wait>(rt: &R, alloc: Global, text: &[u8]) -> Result<Vec<u8>, Trouble> {
+    let (rules, config) = system_of(alloc, text)?.into_parts();
+    let flight = flight_of(alloc, rules, config, 0)?;
+    let line = passed_by(rt, alloc, &flight, 1)?;
+    for workers in WORKERS {
+        if passed_by(rt, alloc, &flight, *workers)?.as_slice() != line.as_slice() {
+            return Err(Trouble("other places pass by other workers"));
+        }
+    }
+    Ok(line)
+}
+
+/// A gate that holds each work up until so many have begun, at most 10,000 times a millisecond, and that counts how many
+/// are in it at once.
+#[derive(Drop)]
+struct Meeting<'a, R> {
+    rt: &'a R,
+    counters: Counters,
+    wanted: u64,
+    inside: AtomicU64,
+    most: AtomicU64,
+    begun: AtomicU64,
+    missed: AtomicBool,
+}
+
+impl<'a, R> Meeting<'a, R> {
+    fn new(rt: &'a R, counters: Counters, wanted: u64) -> Meeting<'a, R> {
+        Meeting {
+            rt,
+            counters,
+            wanted,
+            inside: AtomicU64::new(0),
+            most: AtomicU64::new(0),
+            begun: AtomicU64::new(0),
+            missed: AtomicBool::new(false),
+        }
+    }
+}
+
+/// Waits until as many have begun as are wanted. Once one wait has run out, none goes on.
+fn wait<R: Clock>(rt: &R, begun: &AtomicU64, wanted: u64, missed: &AtomicBool) {
+    for _ in 0..10_000u32 {
+        if begun.load(Ordering::SeqCst) >= wanted || missed.load(Ordering::SeqCst) {
+            return;
+        }
+        thread::sleep(rt, Duration::from_millis(1));
+    }
+    missed.store(true, Ordering::SeqCst);
+}
+
+impl<'a, R: Clock + Sync> Gate for Meeting<'a, R> {
+    fn pass(&self, place: u64) {
+        self.counters.pass(place);
+        let inside = self.inside.fetch_add(1, Ordering::SeqCst);
+        self.most
+            .fetch_max(inside.wrapping_add(1), Ordering::SeqCst);
+        self.begun.fetch_add(1, Ordering::SeqCst);
+        wait(self.rt, &self.begun, self.wanted, &self.missed);
+        // A thread more than there may be comes in meanwhile.
+        thread::sleep(self.rt, Duration::from_millis(20));
+        self.inside.fetch_sub(1, Ordering::SeqCst);
+    }
+
+    fn answered(&self, _who: u64) {}
+}
+
+/// Which places pass in the round of a system by so many workers, how many are in the gate at once, where each waits until
+/// so many have begun, and the configuration after the round.
+pub fn played_at_once<R: Threads + Wait + Clock + Sync>(
+    rt: &R,
+    alloc: Global,
+    workers: u32,
+    text: &str,
+) -> Result<Vec<u8>, Trouble> {
+    let (wanted, text) = text.split_once(' ').unwrap_or(("", text));
+    let wanted = u64::from_str_radix(wanted, 10).unwrap_or(0);
+    let (rules, config) = system_of(alloc, &expanded(alloc, text)?)?.into_parts();
+    let counters = Counters::new(alloc, config.equations().len())?;
+    let meeting = Meeting::new(rt, counters, wanted);
+    let flight = flight_of(alloc, rules, config, 0)?;
+    let Ok(played) = play(rt, alloc, &flight, workers as usize, &meeting) else {
+        return Err(Trouble("a round by workers is refused"));
+    };
+    if meeting.missed.load(Ordering::SeqCst) {
+        return Err(Trouble("a wait ran out"));
+    }
+    let mut line = ranges(alloc, &meeting.counters.passed(alloc)?)?;
+    line.extend_from_slice(b"; ")?;
+    decimal(&mut line, meeting.most.load(Ordering::SeqCst))?;
+    line.extend_from_slice(b" at once; ")?;
+    line.append(&mut printed(alloc, played.rules(), played.after())?)?;
+    Ok(line)
+}
