@@ -1,9 +1,7 @@
-use Rattle.std.proofs.Common.{◌≡◌, ◌≤◌, false, length, Ok, Err, Result, sym, ap, ◌∙◌, arith}
+use Rattle.std.proofs.Common.{◌≡◌, ◌≤◌, false, length, Ok, Err, sym, ap, ◌∙◌, arith}
 use Rattle.std.proofs.lemmas.Result.{err_from_is_err_and}
 use Rattle.ic_text.specs.declared.limits.TheConstants.{MAX_TEXT}
-use Rattle.ic_text.specs.declared.fault.TextFault.{TextFault}
 use Rattle.ic_text.specs.declared.fault.TextFault.TheVariants.{Memory}
-use Rattle.ic_commands.specs.declared.line.Line.{Line}
 use Rattle.ic_commands.specs.LineSource.{LinePhrase}
 use Rattle.ic_commands.specs.LineText.{SpellsLine}
 use Rattle.ic_commands.specs.inner.ScriptLine.{is_run}
