@@ -1,4 +1,4 @@
-use Rattle.std.proofs.Common.{rules, ◌≡◌, ◌≤◌, ◌<◌, ◌-◌, ◌++◌, [], length, take, drop, sym, ap, ◌∙◌, is_none, true, false, arith}
+use Rattle.std.proofs.Common.{rules, ◌≡◌, ◌≤◌, ◌<◌, ◌-◌, ◌++◌, [], length, take, sym, ap, ◌∙◌, is_none, true, false, arith}
 use Rattle.std.proofs.lemmas.List.{take_all}
 use Rattle.ic_lines.proofs.TakingLemmas.{long_front, moved_front, seen_ahead, cuts_of, none_left, some_left, drop_all_behind, fed_behind}
 use Rattle.ic_lines.proofs.buffer.Ahead.move_line.Goals as goal

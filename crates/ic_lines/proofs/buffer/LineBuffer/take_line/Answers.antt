@@ -1,4 +1,4 @@
-use Rattle.std.proofs.Common.{◌≡◌, ◌==◌, length, ◌++◌, ◌∙◌, false, true, [], Ok, Err, ap, sym, refl}
+use Rattle.std.proofs.Common.{◌≡◌, ◌==◌, length, ◌++◌, false, true, [], Ok, Err, ap, refl}
 use Rattle.std.proofs.lemmas.Bool.{false≢true}
 use Rattle.ic_lines.proofs.TakingLemmas.{has_long, took_swapped, took_last_swapped, moved_all, moved_behind, stays, same_front, kept_behind, at_fault, some_byte, fault_is}
 use Rattle.ic_lines.proofs.buffer.LineBuffer.take_line.Goals as goal
