@@ -20,11 +20,17 @@ impl<D: Disk> Book<D> {
     /// and nothing has changed. It isn't kept yet.
     pub fn halt(&mut self, flight: &Flight) -> Result<Landed, BookFault>
         requires { IsTrue (is_blocked flight.now) }
+
+        // Refusals: broken and full, in this order. `Memory` comes behind them.
         ensures fault { RefusesRound result self.old self.new }
+
+        // The job that is as it was halts, and one round more stands in the log. All else is stale.
         ensures round { TakesRound (round_entry flight.now.name reply.Halted)
             (Awaits (table_of self.old)
             flight.now.name flight.now.rules flight.now.config flight.now.rounds)
             result self.old self.new }
+
+        // A crash leaves the table that was kept, or the one after all.
         ensures crash { LeavesKeptOrAll (log_of self.new) self.old self.new }
     {
         self.check_room()?;

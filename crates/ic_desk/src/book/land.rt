@@ -17,10 +17,15 @@ impl<D: Disk> Book<D> {
     /// Puts a round that was made, if its job is still as it was before the round; else the round
     /// is stale, and nothing has changed. It isn't kept yet.
     pub fn land(&mut self, played: Played) -> Result<Landed, BookFault>
+        // Refusals: broken and full, in this order. `Memory` comes behind them.
         ensures fault { RefusesRound result self.old self.new }
+
+        // What the job awaits lands, and one round more stands in the log. All else is stale.
         ensures round { TakesRound (round_entry played.name reply.Moved)
             (Awaits (table_of self.old) played.name played.rules played.before played.rounds)
             result self.old self.new }
+
+        // A crash leaves the table that was kept, or the one after all.
         ensures crash { LeavesKeptOrAll (log_of self.new) self.old self.new }
     {
         self.check_room()?;
