@@ -37,7 +37,7 @@ pub enum Task {
     Serve {
         /// The path of the disk's file.
         disk: String,
-        /// How many threads make a round, from 1 to 64.
+        /// How many threads make a round of 1,000 equations or more, from 1 to 64.
         workers: u32,
         /// After how many rounds they are kept, from 1 to 1,000,000.
         every: u32,
@@ -169,7 +169,7 @@ fn workers_option<'a>(alloc: Global) -> Arg<'a>
         .long("workers")
         .value_name("N")
         .default_value("2")
-        .help("How many threads make a round, from 1 to 64")
+        .help("Threads for a round of 1000 equations or more, from 1 to 64")
         .value_parser(value_parser!(u32).range(1..65))
 }
 
