@@ -1,4 +1,4 @@
--- The smallest circle that indirection ends in two ways: `<|x=A(y),y=B(x)>`, for any symbols A and B.
+-- The smallest circle that indirection ends in two ways: `<|x=A(y),y=B(x)>`, for any symbols A, B.
 use Rattle.std.specs.Prelude.{ℕ, List, [], ◌∷◌}
 use Rattle.ic_term.specs.Tree.{Tree, name, agent, no_trees, more_trees, Pair}
 use Rattle.ic_term.specs.Configuration.{Configuration}

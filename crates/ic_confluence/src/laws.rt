@@ -30,8 +30,8 @@ pub fn steps_keep_free_names()
         ↔ (occurrences n (configuration_names d) ≡ 1) }
 {}
 
-/// Configurations of one net have the same free names, and as many nodes and equations. One that has
-/// no equations, and each name at most once, is all alone.
+/// Configurations of one net have the same free names, and as many nodes and equations. One without
+/// equations, in which each name occurs at most once, is all alone.
 pub fn same_nets_have_one_shape()
     ensures free { (c d : Configuration) → Same c d → (n : ℕ)
         → (occurrences n (configuration_names c) ≡ 1)
@@ -59,8 +59,9 @@ pub fn two_name_steps_meet()
         → Same d e ⊎ ((f : Configuration) × NameStep d f × NameStep e f) }
 {}
 
-/// `<|x=A(y),y=B(x)>` steps to `<|y=B(A(y))>` and to `<|x=A(B(x))>`. That is one net, and no renaming
-/// makes these equations equal, as they stand or turned round, where A and B are two symbols.
+/// `<|x=A(y),y=B(x)>` steps to `<|y=B(A(y))>` and to `<|x=A(B(x))>`. That is one net, and no
+/// renaming makes these equations equal, as they stand or turned round, where A and B are two
+/// symbols.
 pub fn a_circle_is_cut_anywhere()
     ensures at_y { (a b : ℕ) → NameStep (uncut a b) (of_equations (cut_at_y a b ∷ [])) }
     ensures at_x { (a b : ℕ) → NameStep (uncut a b) (of_equations (cut_at_x a b ∷ [])) }
@@ -113,8 +114,8 @@ pub fn an_interaction_and_a_name_step_commute()
         → (f : Configuration) × (later : ℕ) × Interaction rs.rules d f later × NameStep e f }
 {}
 
-/// Two steps from one configuration are of one kind and lead to the same net at once, or one more on
-/// each side, of the other one's kind, leads to the same net.
+/// Two steps from one configuration are of one kind and lead to the same net at once, or one more
+/// on each side, of the other one's kind, leads to the same net.
 pub fn two_steps_meet()
     ensures { (rs : Rules) (k l : Kind) (c d e : Configuration) → IsRuleSet rs
         → IsTrue (is_over rs.symbols c) → HasNames c
@@ -154,8 +155,8 @@ pub fn every_order_ends_in_the_same_net()
         → length ls ≤ length ks }
 {}
 
-/// An end without equations, in which each name occurs at most once, is the end of every order as it
-/// stands.
+/// An end without equations, in which each name occurs at most once, is the end of every order as
+/// it stands.
 pub fn every_order_ends_in_one_answer()
     ensures { (rs : Rules) (c d e : Configuration) → IsRuleSet rs
         → IsTrue (is_over rs.symbols c) → HasNames c
@@ -175,8 +176,8 @@ pub fn rounds_end_in_the_net_of_every_order()
         → IsQuiet rs.rules (iterate rs.rules n c) → Same d (iterate rs.rules n c) }
 {}
 
-/// A chain with n interactions goes on to the net of n rounds and one more, and of n rounds where it
-/// begins settled.
+/// A chain with n interactions goes on to the net of n rounds and one more, and of n rounds where
+/// it begins settled.
 pub fn rounds_overtake_every_order()
     ensures one_more { (rs : Rules) (ks : List Kind) (c d : Configuration) → IsRuleSet rs
         → IsTrue (is_over rs.symbols c) → HasNames c → Chain rs.rules ks c d
