@@ -231,10 +231,12 @@ fn program<'a>(alloc: Global) -> Result<Command<'a>, AllocError>
         .bin_name("icserve")?
         .about("A job server for the interaction calculus")
         .version(VERSION);
-    Ok(program
-        .no_binary_name(true)
-        .disable_help_subcommand(true)
-        .subcommand_required(true))
+    Ok(
+        program
+            .no_binary_name(true)
+            .disable_help_subcommand(true)
+            .subcommand_required(true),
+    )
 }
 
 /// The program with the commands over streams.
