@@ -1,3 +1,5 @@
+//! The products of one work.
+
 ghost use Rattle.std.specs.Prelude.{◌≡◌, IfOk, IsTrue};
 ghost use Rattle.ic_round.specs.Works.{suits, result_of};
 ghost use Rattle.ic_round.specs.WorkViews.{work_of, fired_of};

@@ -1,3 +1,5 @@
+//! Whether a round stays within the limits.
+
 ghost use Rattle.std.specs.Prelude.{◌≡◌, IsTrue};
 ghost use Rattle.ic_term.specs.Symbol.{is_over};
 ghost use Rattle.ic_round.specs.Rounds.{fits};

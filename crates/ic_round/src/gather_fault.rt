@@ -1,3 +1,5 @@
+//! Why results don't make a configuration.
+
 ghost use Rattle.std.specs.Prelude.{◌≡◌};
 ghost use Rattle.ic_round.specs.declared.gather_fault.GatherFault.TheVariants.{Memory};
 

@@ -1,3 +1,5 @@
+//! A configuration from its rest and the results of its works.
+
 ghost use Rattle.std.specs.Prelude.{◌≡◌, Ok, map};
 ghost use Rattle.ic_term.specs.Configuration.{Configuration, IsConfiguration};
 ghost use Rattle.ic_round.specs.WorkViews.{fired_of};

@@ -1,3 +1,5 @@
+//! How large a fired configuration is.
+
 ghost use Rattle.std.specs.Prelude.{◌≡◌, ◌+◌, ◌≤◌, min, true, IfSome, IsTrue};
 ghost use Rattle.ic_term.specs.Tree.{pair_nodes};
 ghost use Rattle.ic_term.specs.declared.limits.TheConstants.{MAX_NODES};

@@ -1,3 +1,5 @@
+//! The works of a round.
+
 ghost use Rattle.std.specs.Prelude.{◌≡◌, List, Ok, map, IsTrue, IfOk, OnOk, IsPermutation};
 ghost use Rattle.std.specs.List.{All, AllByRecursion, Contains};
 ghost use Rattle.ic_term.specs.Symbol.{is_over};

@@ -1,3 +1,5 @@
+//! A plan: the works of a round, and what is left.
+
 use crate::rest::Rest;
 use crate::work::Work;
 

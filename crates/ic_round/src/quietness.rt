@@ -1,3 +1,5 @@
+//! Whether no step is possible.
+
 ghost use Rattle.std.specs.Prelude.{◌≡◌, ◌↔◌, IsTrue, map, is_none};
 ghost use Rattle.std.specs.List.{list_all};
 ghost use Rattle.ic_term.specs.Term.{pair};

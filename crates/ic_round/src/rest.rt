@@ -1,3 +1,5 @@
+//! What is left of a configuration whose active equations were taken out.
+
 use ic_term::{Equation, Term};
 use std::marker::Model;
 

@@ -1,3 +1,5 @@
+//! Why a round isn't made.
+
 ghost use Rattle.std.specs.Prelude.{◌≡◌};
 ghost use Rattle.ic_round.specs.declared.round_fault.RoundFault.TheVariants.{Memory};
 

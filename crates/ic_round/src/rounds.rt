@@ -1,3 +1,5 @@
+//! A round in one call.
+
 ghost use Rattle.std.specs.Prelude.{◌≡◌, ℕ, ◌+◌, map, IsTrue, IfOk};
 ghost use Rattle.std.specs.List.{AllByRecursion};
 ghost use Rattle.ic_term.specs.Symbol.{is_over};

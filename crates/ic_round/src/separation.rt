@@ -1,3 +1,5 @@
+//! Active equations parted from the others.
+
 ghost use Rattle.std.specs.Prelude.{◌≡◌, ◌≤◌, map, option_map, IfOk};
 ghost use Rattle.ic_term.specs.declared.limits.TheConstants.{MAX_NEXT};
 ghost use Rattle.ic_term.specs.Term.{pair};

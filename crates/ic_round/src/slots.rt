@@ -1,3 +1,5 @@
+//! Places that await products.
+
 ghost use Rattle.std.specs.Prelude.{◌≡◌, ◌++◌, [], map, option_map, IfOk, is_none};
 ghost use Rattle.ic_term.specs.Term.{pair};
 ghost use Rattle.ic_round.specs.inner.Slots.{slot_of, slots_from, put_in, joined};

@@ -1,3 +1,5 @@
+//! Single steps at a place.
+
 ghost use Rattle.std.specs.Prelude.{◌≡◌, ◌<◌, List, Err, Some, IfOk, IfSome, IsTrue, length, map, slice_get};
 ghost use Rattle.ic_term.specs.Tree.{Pair};
 ghost use Rattle.ic_term.specs.Symbol.{Symbol, is_over};

@@ -1,3 +1,5 @@
+//! A work, its products, and how they are made.
+
 ghost use Rattle.std.specs.Prelude.{◌≡◌, ◌++◌, ◌+◌, map, min, IfOk, OnOk};
 ghost use Rattle.ic_term.specs.Term.{tree, cell_tree, pair};
 ghost use Rattle.ic_rules.specs.Renaming.{renamed};
