@@ -31,31 +31,23 @@ use crate::lines::{lines_of, on_one_line, or_nothing, parted, repeated};
 use crate::serving::Server;
 use crate::streams::Pace;
 use ic_disk::{Blow, Choice, Then};
-use ic_notation::{Answers, Row, Trouble, expanded};
+use ic_notation::{Row, Trouble, expanded};
 use std::alloc::Global;
 use std::sync::Wait;
 use std::thread::Threads;
 
-/// The kinds of these rows.
-#[derive(Drop)]
-pub struct Kinds<'a, R: Threads + Wait> {
-    /// What starts the threads of rounds.
-    pub rt: &'a R,
-}
-
-impl<R: Threads + Wait> Answers for Kinds<'_, R> {
-    fn answer(&self, alloc: Global, row: &Row<'_>) -> Result<Vec<u8>, Trouble> {
-        match row.kind {
-            "times" => times(&Server::new(self.rt, alloc, 1, 1), row.text),
-            "feeds" => feeds(&Server::new(self.rt, alloc, 1, 1), row.text),
-            "device" => device(self.rt, alloc, row.text),
-            "broken" => broken_by(self.rt, alloc, row.text),
-            "unkept" => unkept(self.rt, alloc, row.text),
-            "stream_fault" | "serve_fault" | "disk_refused" => {
-                failure_line(alloc, row.kind, row.text)
-            }
-            _ => by_server(self.rt, alloc, row),
+/// What is answered to a row.
+pub fn answer<R: Threads + Wait>(rt: &R, alloc: Global, row: &Row<'_>) -> Result<Vec<u8>, Trouble> {
+    match row.kind {
+        "times" => times(&Server::new(rt, alloc, 1, 1), row.text),
+        "feeds" => feeds(&Server::new(rt, alloc, 1, 1), row.text),
+        "device" => device(rt, alloc, row.text),
+        "broken" => broken_by(rt, alloc, row.text),
+        "unkept" => unkept(rt, alloc, row.text),
+        "stream_fault" | "serve_fault" | "disk_refused" => {
+            failure_line(alloc, row.kind, row.text)
         }
+        _ => by_server(rt, alloc, row),
     }
 }
 
