@@ -1,18 +1,19 @@
 -- That whatever the written model allows is what the clauses of a disk say.
-use Rattle.std.proofs.Common.{◌≡◌, ◌⊎◌, inl, inr, ⊎_elim, ℕ, ◌+◌, ◌<◌, ◌≤◌, List, [], ◌∷◌, length, refl, sym, ap, subst, arith, Result, Ok, Err}
+use Rattle.std.proofs.Common.{◌≡◌, ◌⊎◌, inl, inr, ⊎_elim, ℕ, ◌+◌, ◌-◌, ◌^◌, ◌<◌, ◌≤◌, List, [], ◌∷◌, length, refl, sym, ap, subst, arith, min, Result, Ok, Err}
+use Rattle.std.proofs.Math.Nat.{eq-or-lt_of_le}
 use Rattle.ic_disk.specs.Images.{Only, Torn, TornFrom, Within}
-use Rattle.ic_disk.specs.Time.{Elapses}
-use Rattle.ic_disk.specs.DiskCalls.{ChangesNothing, IsDiskSync, IsDiskWrite}
+use Rattle.ic_disk.specs.Time.{CountsFailure, Elapses, OneMore}
+use Rattle.ic_disk.specs.DiskCalls.{ChangesNothing, IsDiskSync, IsDiskWrite, ReadsBytes, TellsLength}
 use Rattle.ic_disk.specs.Model.{Write, write, sync, State, begun, after, after_failed, IsImageIn}
-use Rattle.ic_disk.specs.Course.{AreBefore, Course, IsCourse, IsLeftAtOne, MaySync, MayWrite, Moment, after_call, calls_in, content_in, first_course, image_in, left_in}
+use Rattle.ic_disk.specs.Course.{AreBefore, Course, IsCourse, IsLeftAtOne, MayRead, MaySync, MayTell, MayWrite, Moment, after_call, calls_in, content_in, failures_after, first_course, image_in, left_in}
 use Rattle.ic_disk.specs.lemmas.HistoryLaws.{write_reached}
 use Rattle.ic_disk.specs.lemmas.ImageLaws.{image_settled, settled_image, torn_laid, torn_same, within_torn}
 use Rattle.ic_disk.proofs.HistoryLemmas.{write_images}
 
 -- time goes on by a call
-elapses_in : (c : Course) (midst now : State) (P : List ℕ → Type 0) → Within (IsImageIn midst) P → Within (IsImageIn now) P
-    → Elapses (calls_in c) (calls_in (after_call midst now c)) (left_in c) (left_in (after_call midst now c)) P
-elapses_in c midst now P of_midst of_now = record {
+elapses_in : {T E : Type 0} (result : Result T E) (c : Course) (midst now : State) (P : List ℕ → Type 0) → Within (IsImageIn midst) P → Within (IsImageIn now) P
+    → Elapses (calls_in c) (calls_in (after_call result midst now c)) (left_in c) (left_in (after_call result midst now c)) P
+elapses_in result c midst now P of_midst of_now = record {
   later = omega arith;
   one_call = omega arith;
   nothing_else = λ t file come left. ⊎_elim
@@ -42,39 +43,39 @@ module _ (w : Write) (c : Course) where
   stay file image = reached file (before file image)
 
   abbrev Writes : {T E : Type 0} → Result T E → State → Type 0
-  Writes result now = IsDiskWrite content_in image_in calls_in left_in w.at w.bytes result c (after_call pending now c)
+  Writes result now = IsDiskWrite content_in image_in calls_in left_in w.at w.bytes result c (after_call result pending now c)
 
   done : {T E : Type 0} (value : T) → Writes {T = T} {E = E} (Ok value) pending
-  done value = record {
+  done {T = T} {E = E} value = record {
     written = refl;
     torn = tt;
     images = during;
     stay = stay;
     reached = reached;
     failed = tt;
-    time = elapses_in c pending pending Torn_images during during;
+    time = elapses_in {T = T} {E = E} (Ok value) c pending pending Torn_images during during;
   }
 
   not_done : {T E : Type 0} (fault : E) → Writes {T = T} {E = E} (Err fault) c.state
-  not_done fault = record {
+  not_done {T = T} {E = E} fault = record {
     written = tt;
     torn = torn_same w.at (length w.bytes) (content_in c);
     images = before;
     stay = λ file image. image;
     reached = tt;
     failed = inl (refl, λ file image. image);
-    time = elapses_in c pending c.state Torn_images during before;
+    time = elapses_in {T = T} {E = E} (Err fault) c pending c.state Torn_images during before;
   }
 
   torn : {T E : Type 0} (fault : E) (content : List ℕ) → Torn w.at (length w.bytes) (content_in c) content → Writes {T = T} {E = E} (Err fault) (after_failed w content c.state)
-  torn fault content is = record {
+  torn {T = T} {E = E} fault content is = record {
     written = tt;
     torn = is;
     images = during;
     stay = stay;
     reached = tt;
     failed = inr reached;
-    time = elapses_in c pending (after_failed w content c.state) Torn_images during during;
+    time = elapses_in {T = T} {E = E} (Err fault) c pending (after_failed w content c.state) Torn_images during during;
   }
 
   pub write_in : {T E : Type 0} (result : Result T E) (now : State) → MayWrite w result c.state now → Writes result now
@@ -87,7 +88,7 @@ module _ (w : Write) (c : Course) where
 -- a sync
 module _ (c : Course) (image : image_in c (content_in c)) where
   abbrev Syncs : {T E : Type 0} → Result T E → State → Type 0
-  Syncs result now = IsDiskSync content_in image_in calls_in left_in result c (after_call c.state now c)
+  Syncs result now = IsDiskSync content_in image_in calls_in left_in result c (after_call result c.state now c)
 
   only : Only (content_in c) (IsImageIn (after sync c.state))
   only = image_settled (content_in c)
@@ -96,13 +97,13 @@ module _ (c : Course) (image : image_in c (content_in c)) where
   within file is = subst (image_in c) (sym (only.no_other file is)) image
 
   synced : {T E : Type 0} (value : T) → Syncs {T = T} {E = E} (Ok value) (after sync c.state)
-  synced value = record { same = refl; durable = only; images = within; failed = tt; time = elapses_in c c.state (after sync c.state) (image_in c) (λ file is. is) within }
+  synced {T = T} {E = E} value = record { same = refl; durable = only; images = within; failed = tt; time = elapses_in {T = T} {E = E} (Ok value) c c.state (after sync c.state) (image_in c) (λ file is. is) within }
 
   not_synced : {T E : Type 0} (fault : E) → Syncs {T = T} {E = E} (Err fault) c.state
-  not_synced fault = record { same = refl; durable = tt; images = λ file is. is; failed = inl (λ file is. is); time = elapses_in c c.state c.state (image_in c) (λ file is. is) (λ file is. is) }
+  not_synced {T = T} {E = E} fault = record { same = refl; durable = tt; images = λ file is. is; failed = inl (λ file is. is); time = elapses_in {T = T} {E = E} (Err fault) c c.state c.state (image_in c) (λ file is. is) (λ file is. is) }
 
   synced_all_the_same : {T E : Type 0} (fault : E) → Syncs {T = T} {E = E} (Err fault) (after sync c.state)
-  synced_all_the_same fault = record { same = refl; durable = tt; images = within; failed = inr only; time = elapses_in c c.state (after sync c.state) (image_in c) (λ file is. is) within }
+  synced_all_the_same {T = T} {E = E} fault = record { same = refl; durable = tt; images = within; failed = inr only; time = elapses_in {T = T} {E = E} (Err fault) c c.state (after sync c.state) (image_in c) (λ file is. is) within }
 
   pub sync_in : {T E : Type 0} (result : Result T E) (now : State) → MaySync result c.state now → Syncs result now
   sync_in {T = T} {E = E} (Ok value) now may = subst (λ (s : State). Syncs {T = T} {E = E} (Ok value) s) (sym may) (synced value)
@@ -112,8 +113,33 @@ module _ (c : Course) (image : image_in c (content_in c)) where
       may
 
 -- a call that changes nothing
-pub nothing_in : (c : Course) → ChangesNothing content_in image_in calls_in left_in c (after_call c.state c.state c)
-nothing_in c = record { same = refl; images = λ file is. is; stay = λ file is. is; time = elapses_in c c.state c.state (image_in c) (λ file is. is) (λ file is. is) }
+pub nothing_in : {T E : Type 0} (result : Result T E) (c : Course) → ChangesNothing content_in image_in calls_in left_in c (after_call result c.state c.state c)
+nothing_in result c = record { same = refl; images = λ file is. is; stay = λ file is. is; time = elapses_in result c c.state c.state (image_in c) (λ file is. is) (λ file is. is) }
+
+-- what it tells and reads
+pub told_in : {E : Type 0} (result : Result ℕ E) (c : Course) → MayTell result c.state → TellsLength (content_in c) result
+told_in (Ok n) c may = may
+told_in (Err fault) c may = tt
+
+pub read_in : {T E : Type 0} (at : ℕ) (result : Result T E) (old new : List ℕ) (c : Course) → MayRead at result old new c.state → ReadsBytes at (content_in c) result old new
+read_in at (Ok value) old new c may = may
+read_in at (Err fault) old new c may = tt
+
+-- ---- how its failures are counted
+
+one_more : (n : ℕ) → n ≤ 2 ^ 64 - 1 → OneMore n (min (n + 1) (2 ^ 64 - 1))
+one_more n end = ⊎_elim
+    (λ last. inr (last, omega (arith, last)))
+    (λ below. inl (below, omega (arith, below)))
+    (eq-or-lt_of_le {n = n} {m = 2 ^ 64 - 1} end)
+
+pub counted_in : {T E : Type 0} (result : Result T E) (n : ℕ) → n ≤ 2 ^ 64 - 1 → CountsFailure result n (failures_after result n)
+counted_in (Ok value) n end = refl
+counted_in (Err fault) n end = one_more n end
+
+count_ends : {T E : Type 0} (result : Result T E) (n : ℕ) → n ≤ 2 ^ 64 - 1 → failures_after result n ≤ 2 ^ 64 - 1
+count_ends (Ok value) n end = end
+count_ends (Err fault) n end = omega arith
 
 -- ---- what holds of each course
 
@@ -127,10 +153,10 @@ none_since n [] file past left = left
 none_since n (m ∷ ms) file past left = ⊎_elim (λ here. absurd (omega (arith, past.0, here.0))) (λ rest. none_since n ms file past.1 rest) left
 
 pub begins : (file : List ℕ) → IsCourse (first_course file)
-begins file = record { content_is_image = settled_image file; past_is_before = tt }
+begins file = record { content_is_image = settled_image file; failures_end = omega arith; past_is_before = tt }
 
-goes_on : (midst now : State) (c : Course) → IsCourse c → IsImageIn now now.content → IsCourse (after_call midst now c)
-goes_on midst now c is image = record { content_is_image = image; past_is_before = (omega arith, (omega arith, later c.calls c.past is.past_is_before)) }
+goes_on : {T E : Type 0} (result : Result T E) (midst now : State) (c : Course) → IsCourse c → IsImageIn now now.content → IsCourse (after_call result midst now c)
+goes_on result midst now c is image = record { content_is_image = image; failures_end = count_ends result c.failures is.failures_end; past_is_before = (omega arith, (omega arith, later c.calls c.past is.past_is_before)) }
 
 written_image : {T E : Type 0} (w : Write) (result : Result T E) (s now : State) → IsImageIn s s.content → MayWrite w result s now → IsImageIn now now.content
 written_image w (Ok value) s now image may = subst (λ (n : State). IsImageIn n n.content) (sym may) (write_reached w s (after (write w) s).content (s.content, image, torn_laid w.at w.bytes s.content))
@@ -146,14 +172,14 @@ synced_image (Err fault) s now image may = ⊎_elim
     (λ took. subst (λ (n : State). IsImageIn n n.content) (sym took) (settled_image s.content))
     may
 
-pub goes_on_writing : {T E : Type 0} (w : Write) (result : Result T E) (c : Course) (now : State) → IsCourse c → MayWrite w result c.state now → IsCourse (after_call (after (write w) c.state) now c)
-goes_on_writing w result c now is may = goes_on (after (write w) c.state) now c is (written_image w result c.state now is.content_is_image may)
+pub goes_on_writing : {T E : Type 0} (w : Write) (result : Result T E) (c : Course) (now : State) → IsCourse c → MayWrite w result c.state now → IsCourse (after_call result (after (write w) c.state) now c)
+goes_on_writing w result c now is may = goes_on result (after (write w) c.state) now c is (written_image w result c.state now is.content_is_image may)
 
-pub goes_on_syncing : {T E : Type 0} (result : Result T E) (c : Course) (now : State) → IsCourse c → MaySync result c.state now → IsCourse (after_call c.state now c)
-goes_on_syncing result c now is may = goes_on c.state now c is (synced_image result c.state now is.content_is_image may)
+pub goes_on_syncing : {T E : Type 0} (result : Result T E) (c : Course) (now : State) → IsCourse c → MaySync result c.state now → IsCourse (after_call result c.state now c)
+goes_on_syncing result c now is may = goes_on result c.state now c is (synced_image result c.state now is.content_is_image may)
 
-pub goes_on_reading : (c : Course) → IsCourse c → IsCourse (after_call c.state c.state c)
-goes_on_reading c is = goes_on c.state c.state c is is.content_is_image
+pub goes_on_reading : {T E : Type 0} (result : Result T E) (c : Course) → IsCourse c → IsCourse (after_call result c.state c.state c)
+goes_on_reading result c is = goes_on result c.state c.state c is is.content_is_image
 
 pub left_is_image_in : (c : Course) (file : List ℕ) → IsCourse c → left_in c c.calls file → image_in c file
 left_is_image_in c file is left = ⊎_elim (λ present. present.1) (λ past. absurd (none_since c.calls c.past file is.past_is_before past)) left

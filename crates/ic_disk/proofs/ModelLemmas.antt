@@ -1,10 +1,11 @@
 -- That what the clauses of a disk say of images is what the written model says.
 use Rattle.std.proofs.Common.{◌≡◌, ◌⊎◌, inl, inr, ⊎_elim, ℕ, ◌≤◌, List, length, refl, sym, ◌∙◌, ap, subst, arith, Result, Ok, Err, OnOk, OnErr}
 use Rattle.std.specs.Prelude.{◌↔◌}
-use Rattle.ic_disk.specs.Content.{laid}
+use Rattle.ic_disk.specs.Content.{bytes_at, laid}
 use Rattle.ic_disk.specs.Images.{AgreesOutside, Only, StaysOrTears, Torn, TornFrom, Within, one_range}
 use Rattle.ic_disk.specs.Time.{Elapses}
-use Rattle.ic_disk.specs.Course.{MaySync, MayWrite}
+use Rattle.ic_disk.specs.Course.{MayRead, MaySync, MayTell, MayWrite}
+use Rattle.ic_disk.specs.DiskCalls.{ReadsBytes, TellsLength}
 use Rattle.ic_disk.specs.Model.{Write, write, sync, State, begun, after, after_failed, IsImageIn, IsInState}
 use Rattle.ic_disk.specs.lemmas.ImageLaws.{settled_image, within_torn}
 use Rattle.ic_disk.specs.lemmas.HistoryLaws.{write_reached}
@@ -47,6 +48,15 @@ module _ {D : Type 0} (content : D → List ℕ) (image : D → List ℕ → Typ
     no_others = λ file image. is.no_others file (within file image);
     all = λ file image. stay file (is.all file image);
   }
+
+  -- what is told and read of its content is what the model allows
+  pub may_tell : {E : Type 0} (result : Result ℕ E) (d : D) (s : State) → Is d s → TellsLength (content d) result → MayTell result s
+  may_tell (Ok n) d s is told = told ∙ ap length is.same
+  may_tell (Err e) d s is told = tt
+
+  pub may_read : {T E : Type 0} (at : ℕ) (result : Result T E) (old new : List ℕ) (d : D) (s : State) → Is d s → ReadsBytes at (content d) result old new → MayRead at result old new s
+  may_read at (Ok x) old new d s is read = read ∙ ap (bytes_at at (length old)) is.same
+  may_read at (Err e) old new d s is read = tt
 
   -- a write, whose torn images are those with its range pending
   module _ (w : Write) (s : State) (old : D) (is : Is old s) where

@@ -1,10 +1,18 @@
 -- What each call of a disk that keeps the model does to what reads give, to what a crash may leave
 -- and to what it may have left: the clauses of the trait `Disk`.
 -- To be read: contracts of public calls cite it.
-use Rattle.std.specs.Prelude.{◌≡◌, ◌⊎◌, ℕ, List, length, Result, OnOk, OnErr}
-use Rattle.ic_disk.specs.Content.{laid}
+use Rattle.std.specs.Prelude.{◌≡◌, ◌⊎◌, ℕ, List, length, Result, IfOk, OnOk, OnErr}
+use Rattle.ic_disk.specs.Content.{bytes_at, laid}
 use Rattle.ic_disk.specs.Images.{Only, StaysOrTears, Torn, TornFrom, Within}
 use Rattle.ic_disk.specs.Time.{Elapses}
+
+-- what a call for the length answers, over this content
+abbrev pub TellsLength : {E : Type 0} → List ℕ → Result ℕ E → Type 0
+TellsLength content result = IfOk result (λ n. n ≡ length content)
+
+-- What a read at a place makes of a buffer. At Err it may hold any bytes.
+abbrev pub ReadsBytes : {T E : Type 0} → ℕ → List ℕ → Result T E → (old new : List ℕ) → Type 0
+ReadsBytes at content result old new = OnOk result (new ≡ bytes_at at (length old) content)
 
 -- a call for the length, or one that reads: nothing changes
 pub record ChangesNothing {D : Type 0} (content : D → List ℕ) (image : D → List ℕ → Type 0)

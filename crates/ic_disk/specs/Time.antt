@@ -27,6 +27,10 @@ OneMore old new = ((old < 2 ^ 64 - 1) × (new ≡ old + 1)) ⊎ ((old ≡ 2 ^ 64
 abbrev pub CountsFailure : {T E : Type 0} → Result T E → ℕ → ℕ → Type 0
 CountsFailure result old new = MatchResult result (λ _. new ≡ old) (λ _. OneMore old new)
 
+-- A call counts as one at most, or as none.
+abbrev pub OneCallAtMost : ℕ → ℕ → Type 0
+OneCallAtMost before now = now ≤ before + 1
+
 -- how many calls there have been after one more, up to 2^64 - 1
 abbrev pub one_call_more : ℕ → ℕ
 one_call_more calls = min (calls + 1) (2 ^ 64 - 1)

@@ -1,9 +1,8 @@
 //! A disk as its callers see it: what reads give, and what a crash may leave.
 
 ghost use Rattle.std.specs.Prelude.{◌≡◌, ◌+◌, ◌-◌, ◌^◌, ◌≤◌, ℕ, Bool, List, length, min, is_ok, IsTrue, Some, codes, IfOk, OnOk, OnErr};
-ghost use Rattle.ic_disk.specs.Content.{bytes_at};
-ghost use Rattle.ic_disk.specs.DiskCalls.{ChangesNothing, IsDiskSync, IsDiskWrite};
-ghost use Rattle.ic_disk.specs.Time.{CountsFailure, one_call_more};
+ghost use Rattle.ic_disk.specs.DiskCalls.{ChangesNothing, IsDiskSync, IsDiskWrite, ReadsBytes, TellsLength};
+ghost use Rattle.ic_disk.specs.Time.{CountsFailure, OneCallAtMost, one_call_more};
 
 use std::error::Error;
 use std::fmt;
@@ -49,10 +48,9 @@ pub trait Disk {
     fn len(&mut self) -> Result<u64, DiskFault>
         ensures keeps { keeps self.new ≡ keeps self.old }
         ensures counted { CountsFailure result (failures self.old) (failures self.new) }
-        ensures one_call { clock self.new ≤ clock self.old + 1 }
+        ensures one_call { OneCallAtMost (clock self.old) (clock self.new) }
 
-        ensures length { IsTrue (keeps self.old)
-            → IfOk result (λ n. n ≡ length (content self.old)) }
+        ensures length { IsTrue (keeps self.old) → TellsLength (content self.old) result }
         ensures unchanged { IsTrue (keeps self.old)
             → ChangesNothing content image clock left self.old self.new };
 
@@ -62,10 +60,10 @@ pub trait Disk {
 
         ensures keeps { keeps self.new ≡ keeps self.old }
         ensures counted { CountsFailure result (failures self.old) (failures self.new) }
-        ensures one_call { clock self.new ≤ clock self.old + 1 }
+        ensures one_call { OneCallAtMost (clock self.old) (clock self.new) }
 
-        ensures bytes { IsTrue (keeps self.old) → OnOk result
-            (into.new ≡ bytes_at at (length into.old) (content self.old)) }
+        ensures bytes { IsTrue (keeps self.old)
+            → ReadsBytes at (content self.old) result into.old into.new }
         ensures unchanged { IsTrue (keeps self.old)
             → ChangesNothing content image clock left self.old self.new };
 
@@ -74,7 +72,7 @@ pub trait Disk {
     fn write_at(&mut self, at: u64, bytes: &[u8]) -> Result<(), DiskFault>
         ensures keeps { keeps self.new ≡ keeps self.old }
         ensures counted { CountsFailure result (failures self.old) (failures self.new) }
-        ensures one_call { clock self.new ≤ clock self.old + 1 }
+        ensures one_call { OneCallAtMost (clock self.old) (clock self.new) }
 
         ensures writes { IsTrue (keeps self.old) → IsDiskWrite content image clock left
             at bytes.now result self.old self.new };
@@ -83,7 +81,7 @@ pub trait Disk {
     fn sync(&mut self) -> Result<(), DiskFault>
         ensures keeps { keeps self.new ≡ keeps self.old }
         ensures counted { CountsFailure result (failures self.old) (failures self.new) }
-        ensures one_call { clock self.new ≤ clock self.old + 1 }
+        ensures one_call { OneCallAtMost (clock self.old) (clock self.new) }
 
         ensures syncs { IsTrue (keeps self.old) → IsDiskSync content image clock left
             result self.old self.new };

@@ -40,8 +40,9 @@ impl<F: DiskFile> FileDisk<F> {
 
     /// Opens the file to read and write, and locks it (by an advisory lock on the whole file) for
     /// as long as the disk lives: a second open of it is an error meanwhile, in this process too.
-    /// With `create` a file that is missing is made, one that is there stays as it is, and the
-    /// folder is synced. A folder, or a file that may not be read and written, is an error.
+    /// With `create` a file that is missing is made, one that is there stays as it is. The file is
+    /// synced with all that the system keeps of it, and with `create` its folder is. A folder, or a
+    /// file that may not be read, written and synced, is an error.
     pub fn open<R: Files<File = F>>(
         rt: &R,
         path: &str,
@@ -63,13 +64,15 @@ impl<F: DiskFile> FileDisk<F> {
     }
 }
 
-// The file, locked. What a call that was killed has made may not be in its folder for good yet, so
-// the folder is synced even where the file was there.
+// The file, locked and wholly synced: what a process that was killed has written may not be there for
+// good yet. Nor may a file that it made be in its folder, so with `create` that is synced even where
+// the file was there.
 fn open_alone<F: DiskFile, R: Files<File = F>>(rt: &R, path: &str, create: bool) -> io::Result<F> {
     let mut how = OpenOptions::new();
     how.read(true).write(true).create(create);
     let file = how.open(rt, path)?;
     file.lock_alone()?;
+    file.sync_all()?;
     if create {
         File::open(rt, folder_of(path))?.sync_all()?;
     }
@@ -115,7 +118,8 @@ fn fill_to<F: OpenFile>(file: &F, end: u64) -> io::Result<()> {
     Ok(())
 }
 
-// Syncs the file, unless a sync has failed before.
+// Syncs the file's bytes and its length, unless a sync has failed before. Its times are left to the
+// system: by fdatasync(2) only what is needed to read the bytes again is written.
 fn sync_once<F: OpenFile>(file: &F, failed: &mut bool) -> io::Result<()>
     ensures refuses { IsTrue failed.old → IsErr result }
     ensures remembers { failed.new ≡ not (is_ok result) }
@@ -123,7 +127,7 @@ fn sync_once<F: OpenFile>(file: &F, failed: &mut bool) -> io::Result<()>
     if *failed {
         return Err(io::ErrorKind::Other.into());
     }
-    let outcome = file.sync_all();
+    let outcome = file.sync_data();
     *failed = outcome.is_err();
     outcome
 }

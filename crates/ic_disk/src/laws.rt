@@ -3,12 +3,12 @@
 
 ghost use Rattle.std.specs.Prelude.{◌≡◌, ◌⊎◌, ◌+◌, ◌-◌, ◌^◌, ◌<◌, ◌≤◌, ◌↔◌, [], ◌∷◌, List, ℕ, length, IsTrue, OnOk, OnErr, Result};
 ghost use Rattle.ic_disk.specs.Content.{laid};
-ghost use Rattle.ic_disk.specs.Course.{Course, IsCourse, MaySync, MayWrite, after_call, calls_in, content_in, first_course, image_in, left_in};
+ghost use Rattle.ic_disk.specs.Course.{Course, IsCourse, MayRead, MaySync, MayTell, MayWrite, after_call, calls_in, content_in, failures_in, first_course, image_in, keeps_in, left_in};
 ghost use Rattle.ic_disk.specs.Crash.{Takes};
-ghost use Rattle.ic_disk.specs.DiskCalls.{ChangesNothing, IsDiskSync, IsDiskWrite};
+ghost use Rattle.ic_disk.specs.DiskCalls.{ChangesNothing, IsDiskSync, IsDiskWrite, ReadsBytes, TellsLength};
 ghost use Rattle.ic_disk.specs.Images.{AgreesOutside, AgreesWithAny, Only, TornFrom, TornInTurn, Within, one_range, two_ranges};
 ghost use Rattle.ic_disk.specs.Model.{IsImageIn, IsInState, State, Write, after, begun, write, write_of};
-ghost use Rattle.ic_disk.specs.Time.{CountsFailure, LeavesOnly};
+ghost use Rattle.ic_disk.specs.Time.{CountsFailure, LeavesOnly, OneCallAtMost};
 ghost use Rattle.ic_disk.specs.declared.disk.DiskFault.{DiskFault};
 ghost use Rattle.ic_disk.specs.declared.mem.Choice.{Choice};
 
@@ -123,6 +123,8 @@ pub fn sync_as_modelled<D: Disk>(disk: &mut D) -> Result<(), DiskFault>
 
 /// Asks for the length, as `len` does, which changes nothing in the written model.
 pub fn len_as_modelled<D: Disk>(disk: &mut D) -> Result<u64, DiskFault>
+    ensures may { (s : State) → IsTrue (D.keeps disk.old) → IsInState D.content D.image disk.old s
+        → MayTell result s }
     ensures same { (s : State) → IsTrue (D.keeps disk.old) → IsInState D.content D.image disk.old s
         → IsInState D.content D.image disk.new s }
     ensures midst { (s : State) → IsTrue (D.keeps disk.old) → IsInState D.content D.image disk.old s
@@ -134,6 +136,8 @@ pub fn len_as_modelled<D: Disk>(disk: &mut D) -> Result<u64, DiskFault>
 /// Reads, as `read` does, which changes nothing in the written model.
 pub fn read_as_modelled<D: Disk>(disk: &mut D, at: u64, into: &mut [u8]) -> Result<(), DiskFault>
     requires { IsTrue (D.keeps disk.old) → at + length into.old ≤ length (D.content disk.old) }
+    ensures may { (s : State) → IsTrue (D.keeps disk.old) → IsInState D.content D.image disk.old s
+        → MayRead at result into.old into.new s }
     ensures same { (s : State) → IsTrue (D.keeps disk.old) → IsInState D.content D.image disk.old s
         → IsInState D.content D.image disk.new s }
     ensures midst { (s : State) → IsTrue (D.keeps disk.old) → IsInState D.content D.image disk.old s
@@ -144,15 +148,31 @@ pub fn read_as_modelled<D: Disk>(disk: &mut D, at: u64, into: &mut [u8]) -> Resu
 
 /// The trait asks no more of a disk than the written model allows: whatever that lets a call do, at
 /// Ok and at Err, the clauses of the trait say of it. In the midst of a write its range is pending.
-pub fn the_written_model_is_a_disk()
-    ensures writes { (w : Write) (result : Result (Unit {0}) DiskFault) (c : Course) (now : State)
-        → MayWrite w result c.state now → IsDiskWrite content_in image_in calls_in left_in
-        w.at w.bytes result c (after_call (after (write w) c.state) now c) }
-    ensures syncs { (result : Result (Unit {0}) DiskFault) (c : Course) (now : State) → IsCourse c
-        → MaySync result c.state now → IsDiskSync content_in image_in calls_in left_in
-        result c (after_call c.state now c) }
+pub fn the_written_model_is_a_disk<T, E>(answer: &Result<T, E>)
+    // Of each call.
+    ensures keeps { (c : Course) (midst now : State)
+        → keeps_in (after_call answer.now midst now c) ≡ keeps_in c }
+    ensures counted { (c : Course) (midst now : State) → IsCourse c → CountsFailure answer.now
+        (failures_in c) (failures_in (after_call answer.now midst now c)) }
+    ensures one_call { (c : Course) (midst now : State)
+        → OneCallAtMost (calls_in c) (calls_in (after_call answer.now midst now c)) }
+
+    // Of a call for the length, and of one that reads.
+    ensures length { (told : Result ℕ DiskFault) (c : Course) → MayTell told c.state
+        → TellsLength (content_in c) told }
+    ensures bytes { (at : ℕ) (old new : List ℕ) (c : Course)
+        → MayRead at answer.now old new c.state
+        → ReadsBytes at (content_in c) answer.now old new }
     ensures unchanged { (c : Course) → ChangesNothing content_in image_in calls_in left_in
-        c (after_call c.state c.state c) }
+        c (after_call answer.now c.state c.state c) }
+
+    // Of a write and of a sync.
+    ensures writes { (w : Write) (c : Course) (now : State) → MayWrite w answer.now c.state now
+        → IsDiskWrite content_in image_in calls_in left_in w.at w.bytes answer.now
+        c (after_call answer.now (after (write w) c.state) now c) }
+    ensures syncs { (c : Course) (now : State) → IsCourse c → MaySync answer.now c.state now
+        → IsDiskSync content_in image_in calls_in left_in answer.now
+        c (after_call answer.now c.state now c) }
 
     // The laws of the trait.
     ensures content_is_image { (c : Course) → IsCourse c → image_in c (content_in c) }
@@ -160,26 +180,31 @@ pub fn the_written_model_is_a_disk()
         → t ≤ calls_in c → image_in c file → left_in c t file }
     ensures left_is_image { (c : Course) (file : List ℕ) → IsCourse c
         → left_in c (calls_in c) file → image_in c file }
-{}
+{
+    let _ = answer;
+}
 
 /// A disk of the written model begins with its bytes, and goes on by calls.
-pub fn courses_go_on()
+pub fn courses_go_on<T, E>(answer: &Result<T, E>)
     ensures begins { (file : List ℕ) → IsCourse (first_course file) }
-    ensures writes { (w : Write) (result : Result (Unit {0}) DiskFault) (c : Course) (now : State)
-        → IsCourse c → MayWrite w result c.state now
-        → IsCourse (after_call (after (write w) c.state) now c) }
-    ensures syncs { (result : Result (Unit {0}) DiskFault) (c : Course) (now : State)
-        → IsCourse c → MaySync result c.state now → IsCourse (after_call c.state now c) }
-    ensures reads { (c : Course) → IsCourse c → IsCourse (after_call c.state c.state c) }
+    ensures writes { (w : Write) (c : Course) (now : State) → IsCourse c
+        → MayWrite w answer.now c.state now
+        → IsCourse (after_call answer.now (after (write w) c.state) now c) }
+    ensures syncs { (c : Course) (now : State) → IsCourse c → MaySync answer.now c.state now
+        → IsCourse (after_call answer.now c.state now c) }
+    ensures reads { (c : Course) → IsCourse c
+        → IsCourse (after_call answer.now c.state c.state c) }
 
     // A crash during a call may leave what it might before it, in its midst and after it; and what it
     // might have left is never forgotten.
     ensures moments { (c : Course) (midst now : State) (file : List ℕ)
         → image_in c file ⊎ (IsImageIn midst file ⊎ IsImageIn now file)
-        → left_in (after_call midst now c) (calls_in c) file }
+        → left_in (after_call answer.now midst now c) (calls_in c) file }
     ensures past { (c : Course) (midst now : State) (t : ℕ) (file : List ℕ)
-        → left_in c t file → left_in (after_call midst now c) t file }
-{}
+        → left_in c t file → left_in (after_call answer.now midst now c) t file }
+{
+    let _ = answer;
+}
 
 /// The count of failures rises by one where a call failed, until it stands at its end.
 pub fn failures_rise<T, E>(answer: &Result<T, E>)

@@ -101,7 +101,7 @@ impl MemDisk {
         ensures image { IfOk result (λ disk. image_of self (content_of disk)) }
         ensures settled { IfOk result (λ disk. Only (content_of disk) (image_of disk)) }
 
-        // These two take no memory.
+        // These two aren't refused.
         ensures written { choice ≡ Choice.Written → IsOk result }
         ensures filled { (byte : ℕ) → choice ≡ Choice.Fill byte → IsOk result }
     {

@@ -175,7 +175,8 @@ impl<D: Disk> Frames<D> {
         Ok(())
     }
 
-    /// Puts the body of this frame in the place of the one that is kept. It takes no memory.
+    /// Puts the body of this frame in the place of the one that is kept. It isn't answered want of
+    /// memory, and has no allocator in reach but the disk's own.
     pub fn keep(&mut self, frame: &mut [u8]) -> Result<(), KeepFault>
         requires head { 13 ≤ length frame.old }
         requires short { length frame.old ≤ 13 + MAX_BODY }

@@ -1,6 +1,11 @@
 use Rattle.ic_disk.specs.Model.{IsImageIn}
-use Rattle.ic_disk.proofs.ModelLemmas.{midst_by, unchanged}
+use Rattle.ic_disk.proofs.ModelLemmas.{may_tell, midst_by, unchanged}
 use Rattle.ic_disk.proofs.laws.len_as_modelled.Goals as goal
+
+pub returns-clause-may : goal.returns-clause-may
+returns-clause-may g c s keeps is =
+    let disk = g.D.Disk in
+    may_tell disk.content disk.image c.len.result c.args.disk.now s is (c.len.ensures.length keeps)
 
 pub returns-clause-same : goal.returns-clause-same
 returns-clause-same g c s keeps is =
