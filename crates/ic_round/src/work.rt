@@ -33,6 +33,21 @@ impl Work {
     ghost use Rattle.ic_round.specs.Works.{suits};
     ghost use Rattle.ic_round.specs.WorkViews.{work_of};
 
+    /// A copy, equal to its source.
+    pub fn copy(&self, alloc: Global) -> Result<Work, AllocError>
+        ensures { IfOk result (λ copy. work_of copy ≡ work_of self.now) }
+    {
+        let left = self.left.copy(alloc)?;
+        let right = self.right.copy(alloc)?;
+        Ok(Work {
+            place: self.place,
+            rule: self.rule,
+            base: self.base,
+            left: Box::new(alloc, left)?,
+            right: Box::new(alloc, right)?,
+        })
+    }
+
     /// Whether the rule is there, the sides have its symbols and arities, and the fresh names stay
     /// within the limit.
     pub fn suits(&self, rules: &RuleSet) -> bool
