@@ -1,11 +1,12 @@
 -- To be believed: what one line is answered, and what it leaves.
-use Rattle.std.specs.Prelude.{◌≡◌, ℕ, List, Ok, Err}
+use Rattle.std.specs.Prelude.{◌≡◌, ◌≢◌, ◌<◌, ◌-◌, ◌^◌, ℕ, List, Ok, Err, false, length}
 use Rattle.ic_disk.specs.declared.disk.Disk.{Ghosts}
 use Rattle.ic_commands.specs.LineText.{ReadsLine}
 use Rattle.ic_commands.specs.declared.line.Line.TheVariants.{Blank, Command, Run}
 use Rattle.ic_lines.specs.Answers.{Reading, events, answer, after_line}
 use Rattle.ic_desk.specs.declared.book.Book.{Book}
-use Rattle.ic_desk.specs.Book.{table_of, IsUnchanged}
+use Rattle.ic_desk.specs.Book.{is_broken, number_of, log_of, table_of, IsUnchanged}
+use Rattle.ic_desk.specs.declared.limits.TheConstants.{MAX_ENTRIES}
 use Rattle.ic_serving.specs.Booked.{Begins, IsAllKept}
 use Rattle.ic_serving.specs.Grown.{GoesOn, HasRoom}
 
@@ -17,6 +18,20 @@ IsKeptFor (Ok (Command command)) old new = IsAllKept new
 IsKeptFor (Ok (Run count)) old new = IsAllKept new
 IsKeptFor (Err fault) old new = IsUnchanged old new
 
+-- where a command or a run is answered, the book isn't broken
+abbrev pub IsWholeFor : {D : Type 0} {ghosts : Ghosts D} → Reading → (new : Book D ghosts) → Type 0
+IsWholeFor (Ok Blank) new = Unit {0}
+IsWholeFor (Ok (Command command)) new = is_broken new ≡ false
+IsWholeFor (Ok (Run count)) new = is_broken new ≡ false
+IsWholeFor (Err fault) new = Unit {0}
+
+-- and where a command is, the numbers of the slots weren't used up, unless a page was begun for it
+abbrev pub IsFreshFor : {D : Type 0} {ghosts : Ghosts D} → Reading → (old : Book D ghosts) → Type 0
+IsFreshFor (Ok Blank) old = Unit {0}
+IsFreshFor (Ok (Command command)) old = length (log_of old) < MAX_ENTRIES → number_of old ≢ 2 ^ 64 - 1
+IsFreshFor (Ok (Run count)) old = Unit {0}
+IsFreshFor (Err fault) old = Unit {0}
+
 -- a line is answered, what it leaves is kept, and its events stand at the end of the page
 pub record IsAnswered {D : Type 0} {ghosts : Ghosts D} (line bytes : List ℕ)
     (old new : Book D ghosts) : Type 0 where
@@ -25,6 +40,8 @@ pub record IsAnswered {D : Type 0} {ghosts : Ghosts D} (line bytes : List ℕ)
   pub answer : bytes ≡ answer (table_of old) reading
   pub table : table_of new ≡ after_line (table_of old) reading
   pub kept : IsKeptFor reading old new
+  pub whole : IsWholeFor reading new
+  pub fresh : IsFreshFor reading old
   pub page : HasRoom (events (table_of old) reading) old
       → GoesOn (events (table_of old) reading) old new
 

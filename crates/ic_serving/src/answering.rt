@@ -1,7 +1,8 @@
 //! Answering one line over a book.
 
-ghost use Rattle.std.specs.Prelude.{◌≡◌, ◌≤◌, [], ◌∷◌, Ok, OnOk, OnErr, IfErr, IfOk};
-ghost use Rattle.ic_desk.specs.Book.{table_of};
+ghost use Rattle.std.specs.Prelude.{false, ◌≡◌, ◌≢◌, ◌<◌, ◌≤◌, ◌-◌, ◌^◌, length, [], ◌∷◌, Ok, OnOk, OnErr, IfErr, IfOk};
+ghost use Rattle.ic_desk.specs.Book.{is_broken, number_of, log_of, table_of};
+ghost use Rattle.ic_desk.specs.declared.limits.TheConstants.{MAX_ENTRIES};
 ghost use Rattle.ic_jobs.specs.declared.event.Event.TheVariants.{Command as by_command};
 ghost use Rattle.ic_commands.specs.declared.line.Line.TheVariants.{Command as Asks, Run};
 ghost use Rattle.ic_text.specs.Text.{fault_text};
@@ -79,6 +80,9 @@ fn answer_command<D: Disk>(
     ensures table { OnOk result
         (table_of book.new ≡ after_line (table_of book.old) (Ok (Asks command))) }
     ensures kept { OnOk result (IsAllKept book.new) }
+    ensures whole { OnOk result (is_broken book.new ≡ false) }
+    ensures fresh { OnOk result (length (log_of book.old) < MAX_ENTRIES
+        → number_of book.old ≢ 2 ^ 64 - 1) }
     ensures page { OnOk result (HasRoom (by_command command ∷ []) book.old
         → GoesOn (by_command command ∷ []) book.old book.new) }
     ensures begun { OnErr result (Begins (by_command command ∷ []) book.old book.new) }
@@ -108,6 +112,7 @@ fn answer_run<T: Threads + Wait, D: Disk>(
     ensures table { OnOk result
         (table_of book.new ≡ after_line (table_of book.old) (Ok (Run count))) }
     ensures kept { OnOk result (IsAllKept book.new) }
+    ensures whole { OnOk result (is_broken book.new ≡ false) }
     ensures page { OnOk result (HasRoom (turns count 0 (table_of book.old)) book.old
         → GoesOn (turns count 0 (table_of book.old)) book.old book.new) }
     ensures begun { OnErr result (Begins (turns count 0 (table_of book.old)) book.old book.new) }

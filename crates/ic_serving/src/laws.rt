@@ -25,7 +25,7 @@ ghost use Rattle.ic_desk.specs.declared.fault.BookFault.{BookFault};
 ghost use Rattle.ic_desk.specs.declared.fault.BookFault.TheVariants as book_fault;
 ghost use Rattle.ic_disk.specs.Images.{Within};
 ghost use Rattle.ic_frames.specs.Fields.{IsMade};
-ghost use Rattle.ic_desk.specs.Book.{start_of, log_of, table_of, kept_of, disk_of, IsUnchanged};
+ghost use Rattle.ic_desk.specs.Book.{is_broken, number_of, start_of, log_of, table_of, kept_of, disk_of, IsUnchanged};
 ghost use Rattle.ic_serving.specs.declared.fault.ServeFault.{ServeFault};
 ghost use Rattle.ic_serving.specs.declared.fault.ServeFault.TheVariants.{Read, Write, TooManyLines, Book as by_book, Pool, LongLine, Memory};
 ghost use Rattle.ic_serving.specs.declared.limits.TheConstants.{MAX_LINES};
@@ -205,8 +205,8 @@ pub fn all_is_kept_where_each_entry_is<D: Disk>(book: &Book<D>)
 }
 
 /// A line that is answered is served: this answers it, and it leaves this table. Behind a command
-/// and a run all is kept; behind a blank and a refused line nothing has changed. Where a line was only begun, the table is within it, and what is kept is
-/// what was kept before it, or within it too.
+/// and a run all is kept; behind a blank and a refused line nothing has changed. Where a line was
+/// only begun, the table is within it, and what is kept is what was kept before it, or within it too.
 pub fn a_line_is_answered_as_it_is_served<D: Disk>(before: &Book<D>, behind: &Book<D>)
     ensures served { (line bytes : List ℕ) → IsAnswered line bytes before.now behind.now
         → IsServed (table_of before.now) (line ∷ []) bytes (table_of behind.now) }
@@ -220,6 +220,26 @@ pub fn a_line_is_answered_as_it_is_served<D: Disk>(before: &Book<D>, behind: &Bo
         → IsAnswered line bytes before.now behind.now → IsAllKept behind.now }
     ensures run { (line bytes : List ℕ) (k : ℕ) → ReadsLine line (Ok (Run k))
         → IsAnswered line bytes before.now behind.now → IsAllKept behind.now }
+    ensures begun { (line : List ℕ) → IsBegun line before.now behind.now
+        → IsInLine (table_of before.now) line (table_of behind.now) }
+    ensures kept_within { (line : List ℕ) → IsBegun line before.now behind.now
+        → IsKeptInLine (table_of before.now) (last_kept before.now) line (last_kept behind.now) }
+    ensures within { (t kept u : List JobParts) (line : List ℕ) → IsKeptInLine t kept line u
+        ↔ ((u ≡ kept) ⊎ IsInLine t line u) }
+{
+    ic_commands::laws::one_line_reading();
+}
+
+/// A command or a run is answered over no broken book, and a command over none whose slots' numbers
+/// are used up. A line's events stand behind the log of the page, where there is room for them.
+pub fn an_answered_line_tells_of_its_book<D: Disk>(before: &Book<D>, behind: &Book<D>)
+    ensures whole { (line bytes : List ℕ) (c : Command) → ReadsLine line (Ok (Asks c))
+        → IsAnswered line bytes before.now behind.now → is_broken behind.now ≡ false }
+    ensures whole_run { (line bytes : List ℕ) (k : ℕ) → ReadsLine line (Ok (Run k))
+        → IsAnswered line bytes before.now behind.now → is_broken behind.now ≡ false }
+    ensures fresh { (line bytes : List ℕ) (c : Command) → ReadsLine line (Ok (Asks c))
+        → IsAnswered line bytes before.now behind.now → length (log_of before.now) < 65536
+        → number_of before.now ≢ 2 ^ 64 - 1 }
     ensures page { (line bytes : List ℕ) (a : Reading) → ReadsLine line a
         → IsAnswered line bytes before.now behind.now
         → HasRoom (events (table_of before.now) a) before.now
@@ -228,12 +248,6 @@ pub fn a_line_is_answered_as_it_is_served<D: Disk>(before: &Book<D>, behind: &Bo
         → IsBegun line before.now behind.now
         → HasRoom (events (table_of before.now) a) before.now
         → GoesOnWithin (events (table_of before.now) a) before.now behind.now }
-    ensures begun { (line : List ℕ) → IsBegun line before.now behind.now
-        → IsInLine (table_of before.now) line (table_of behind.now) }
-    ensures kept_within { (line : List ℕ) → IsBegun line before.now behind.now
-        → IsKeptInLine (table_of before.now) (last_kept before.now) line (last_kept behind.now) }
-    ensures within { (t kept u : List JobParts) (line : List ℕ) → IsKeptInLine t kept line u
-        ↔ ((u ≡ kept) ⊎ IsInLine t line u) }
 {
     ic_commands::laws::one_line_reading();
 }

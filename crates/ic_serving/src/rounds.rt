@@ -1,12 +1,12 @@
 //! One round over a book.
 
-ghost use Rattle.std.specs.Prelude.{◌≡◌, ◌<◌, ◌≤◌, [], ◌∷◌, ◌++◌, length, None, OnOk, OnErr, IfOk, IfSome, IfNone};
+ghost use Rattle.std.specs.Prelude.{false, ◌≡◌, ◌<◌, ◌≤◌, [], ◌∷◌, ◌++◌, length, None, OnOk, OnErr, IfOk, IfSome, IfNone};
 ghost use Rattle.ic_jobs.specs.declared.event.Event.TheVariants.{Round};
 ghost use Rattle.ic_jobs.specs.declared.reply.Reply.{Reply};
 ghost use Rattle.ic_jobs.specs.declared.limits.TheConstants.{MAX_JOBS};
 ghost use Rattle.ic_jobs.specs.Landing.{due, Awaits};
 ghost use Rattle.ic_desk.specs.declared.limits.TheConstants.{MAX_ENTRIES};
-ghost use Rattle.ic_desk.specs.Book.{start_of, table_of, log_of, keeper_of, IsUnchanged};
+ghost use Rattle.ic_desk.specs.Book.{is_broken, start_of, table_of, log_of, keeper_of, IsUnchanged};
 ghost use Rattle.ic_desk.specs.Entries.{round_entry};
 ghost use Rattle.ic_serving.specs.Booked.{last_kept, IsAllKept, Advances, MakesRound, StaysPut};
 ghost use Rattle.ic_serving.specs.Faults.{ComesInLine};
@@ -42,6 +42,7 @@ pub(crate) fn make_room<D: Disk>(alloc: Global, book: &mut Book<D>) -> Result<()
 pub(crate) fn keep_all<D: Disk>(book: &mut Book<D>) -> Result<(), ServeFault>
     ensures table { table_of book.new ≡ table_of book.old }
     ensures kept { OnOk result (IsAllKept book.new) }
+    ensures whole { OnOk result (is_broken book.new ≡ false) }
     ensures last { OnOk result (last_kept book.new ≡ table_of book.old) }
     ensures unkept { OnErr result (last_kept book.new ≡ last_kept book.old) }
     ensures page { IsSamePage book.old book.new }

@@ -1,7 +1,7 @@
 //! The rounds of a run over a book.
 
-ghost use Rattle.std.specs.Prelude.{◌≡◌, ◌≤◌, ◌⊎◌, OnOk, OnErr, IfOk, length};
-ghost use Rattle.ic_desk.specs.Book.{table_of};
+ghost use Rattle.std.specs.Prelude.{false, ◌≡◌, ◌≤◌, ◌⊎◌, OnOk, OnErr, IfOk, length};
+ghost use Rattle.ic_desk.specs.Book.{is_broken, table_of};
 ghost use Rattle.ic_lines.specs.Turns.{turns, after_events};
 ghost use Rattle.ic_serving.specs.Booked.{last_kept, Begins, IsAllKept};
 ghost use Rattle.ic_serving.specs.Parts.{IsKeptWithin};
@@ -33,6 +33,7 @@ pub(crate) fn run<T: Threads + Wait, D: Disk>(
     ensures table { OnOk result
         (table_of book.new ≡ after_events (table_of book.old) (turns count 0 (table_of book.old))) }
     ensures kept { OnOk result (IsAllKept book.new) }
+    ensures whole { OnOk result (is_broken book.new ≡ false) }
     ensures last { OnOk result (last_kept book.new ≡ table_of book.new) }
     ensures page { OnOk result (HasRoom (turns count 0 (table_of book.old)) book.old
         → GoesOn (turns count 0 (table_of book.old)) book.old book.new) }

@@ -1,7 +1,9 @@
-use Rattle.std.proofs.Common.{◌≡◌, ◌⊎◌, inl, inr, Err, refl, ap, sym, ◌∙◌, [], ◌∷◌}
+use Rattle.std.proofs.Common.{◌≡◌, ◌⊎◌, ◌-◌, ◌^◌, Bool, true, false, inl, inr, Err, refl, ap, sym, ◌∙◌, [], ◌∷◌}
 use Rattle.ic_jobs.specs.declared.event.Event.TheVariants.{Command as by_command}
 use Rattle.ic_jobs.specs.History.{table_after}
-use Rattle.ic_desk.specs.Book.{table_of, start_of, log_of, kept_of, IsUnchanged}
+use Rattle.ic_desk.specs.Book.{is_broken, number_of, table_of, start_of, log_of, kept_of, IsUnchanged}
+use Rattle.ic_slots.specs.declared.keeper.Keeper.{Keeper}
+use Rattle.ic_slots.specs.Keeper as keeper_parts
 use Rattle.ic_desk.specs.Entries.{command_entry}
 use Rattle.ic_serving.specs.Booked.{last_kept, Begins}
 use Rattle.ic_serving.proofs.RunLemmas.{kept_same, on_err}
@@ -101,3 +103,16 @@ returns-clause-crash g c =
 pub returns-clause-page : goal.returns-clause-page
 returns-clause-page g c = λ room. command_goes c.args.command c.in_ok-reply.reply c.args.book.now c.make_room.new.book c.command.new.self
     (c.in_ok-make_room.ensures.stays.page (one_room c.args.book.now c.args.command room)) c.command.ensures.start c.in_ok-reply.ensures.answered.entry
+
+not_true : (b : Bool) → ¬ (b ≡ true) → b ≡ false
+not_true true other = absurd (other refl)
+not_true false other = refl
+
+pub returns-clause-fresh : goal.returns-clause-fresh
+returns-clause-fresh g c = λ room worn.
+    let same : IsUnchanged c.args.book.now c.make_room.new.book = c.make_room.ensures.room room in
+    let number : number_of c.make_room.new.book ≡ 2 ^ 64 - 1 =
+    ap (λ (k : Keeper g.row.D.Denot g.D.Disk). keeper_parts.number_of k) same.same_keeper ∙ worn in
+    let whole : is_broken c.make_room.new.book ≡ false =
+    not_true (is_broken c.make_room.new.book) (λ is. (let told = c.in_ok-reply.ensures.fault.broken.1 is in cc)) in
+    let told = c.in_ok-reply.ensures.worn.1 (whole, c.in_ok-make_room.ensures.spare, number) in cc

@@ -1,13 +1,20 @@
-use Rattle.std.proofs.Common.{ℕ, List, refl, inl, inr, [], ◌∷◌, Ok}
+use Rattle.std.proofs.Common.{rules, ◌≡◌, ◌≢◌, ◌<◌, ◌-◌, ◌^◌, ℕ, List, length, false, refl, inl, inr, [], ◌∷◌, Result, Ok, Err}
+use Rattle.std.specs.Prelude.{IfOk, OnOk}
+use Rattle.ic_jobs.specs.declared.command.Command.{Command}
+use Rattle.ic_commands.specs.LineText.{ReadsLine}
+use Rattle.ic_desk.specs.declared.limits.TheConstants.{MAX_ENTRIES}
+use Rattle.ic_serving.specs.declared.fault.ServeFault.{ServeFault}
 use Rattle.ic_disk.specs.declared.disk.Disk.{Ghosts}
 use Rattle.ic_desk.specs.declared.book.Book.{Book}
-use Rattle.ic_desk.specs.Book.{table_of}
-use Rattle.ic_lines.specs.Answers.{events}
-use Rattle.ic_serving.specs.Booked.{last_kept}
+use Rattle.ic_desk.specs.Book.{is_broken, number_of, log_of, table_of}
+use Rattle.ic_text.specs.declared.fault.TextFault.{TextFault}
+use Rattle.ic_lines.specs.Answers.{answer, after_line, events}
+use Rattle.ic_serving.specs.Booked.{last_kept, IsAllKept}
+use Rattle.ic_serving.specs.Grown.{GoesOn, HasRoom}
 use Rattle.ic_serving.proofs.LineLemmas.{begun_none}
-use Rattle.ic_serving.proofs.PageLemmas.{within_none}
+use Rattle.ic_serving.proofs.PageLemmas.{goes_none, within_none}
 use Rattle.ic_serving.proofs.RunLemmas.{on_err}
-use Rattle.ic_serving.specs.Answered.{IsBegun}
+use Rattle.ic_serving.specs.Answered.{IsAnswered, IsBegun}
 use Rattle.ic_jobs.specs.declared.event.Event.TheVariants.{Command as by_command}
 use Rattle.ic_commands.specs.declared.line.Line.TheVariants.{Command as Asks, Run}
 use Rattle.ic_lines.specs.Turns.{turns}
@@ -16,6 +23,38 @@ use Rattle.ic_serving.specs.Moments.{IsKeptInLine}
 use Rattle.ic_serving.proofs.ServeLemmas.{SomeWay, in_line}
 use Rattle.ic_serving.proofs.StopLemmas.{fault_memory, kept_in_line, leaves_more, leaves_nothing}
 use Rattle.ic_serving.proofs.answering.answer_line.Goals as goal
+
+-- a command is answered, by what its answer says
+command_answered : {D V : Type 0} {ghosts : Ghosts D} (c : Command) (line : List ℕ) (old new : Book D ghosts) (r : Result V ServeFault) (items : V → List ℕ) → ReadsLine line (Ok (Asks c))
+    → IfOk r (λ v. items v ≡ answer (table_of old) (Ok (Asks c))) → OnOk r (table_of new ≡ after_line (table_of old) (Ok (Asks c))) → OnOk r (IsAllKept new)
+    → OnOk r (is_broken new ≡ false) → OnOk r (length (log_of old) < MAX_ENTRIES → number_of old ≢ 2 ^ 64 - 1)
+    → OnOk r (HasRoom (by_command c ∷ []) old → GoesOn (by_command c ∷ []) old new) → IfOk r (λ v. IsAnswered line (items v) old new)
+command_answered c line old new (Ok v) items reads said table kept whole fresh page =
+    record { reading = Ok (Asks c); read = reads; answer = said; table = table; kept = kept; whole = whole; fresh = fresh; page = page }
+command_answered c line old new (Err e) items reads said table kept whole fresh page = tt
+
+pub returns-in-Ok-Command-clause-answered : goal.returns-in-Ok-Command-clause-answered
+returns-in-Ok-Command-clause-answered g c = command_answered c.in-Ok-Command.command c.args.line.now c.args.book.now c.answer_command.new.book c.answer_command.result (λ v. v.items)
+    (rw c.in-Ok-Command.field-0-is at c.in-Ok-Command.ensures.read) c.answer_command.ensures.answer c.answer_command.ensures.table c.answer_command.ensures.kept
+    c.answer_command.ensures.whole c.answer_command.ensures.fresh c.answer_command.ensures.page
+
+-- a refused line is answered by its refusal, and nothing changes
+refused_answered : {D V : Type 0} {ghosts : Ghosts D} (fault : TextFault) (line : List ℕ) (book : Book D ghosts) (r : Result V ServeFault) (items : V → List ℕ) → ReadsLine line (Err fault)
+    → IfOk r (λ v. items v ≡ answer (table_of book) (Err fault)) → IfOk r (λ v. IsAnswered line (items v) book book)
+refused_answered fault line book (Ok v) items reads said = record {
+  reading = Err fault;
+  read = reads;
+  answer = said;
+  table = refl;
+  kept = record { same_start = refl; same_log = refl; same_table = refl; same_kept = refl; same_keeper = refl };
+  whole = tt;
+  fresh = tt;
+  page = λ room. goes_none book;
+}
+refused_answered fault line book (Err e) items reads said = tt
+
+pub returns-in-Err-clause-answered : goal.returns-in-Err-clause-answered
+returns-in-Err-clause-answered g c = refused_answered c.in-Err.fault c.args.line.now c.args.book.now c.answer_refused.result (λ v. v.items) (search rules) c.answer_refused.ensures.answer
 
 -- where nothing was done, nothing of the line has come
 nothing_begun : {D : Type 0} {ghosts : Ghosts D} → SomeWay → (book : Book D ghosts) (line : List ℕ) → IsBegun line book book

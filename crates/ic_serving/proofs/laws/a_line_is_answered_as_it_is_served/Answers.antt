@@ -1,10 +1,9 @@
 use Rattle.std.proofs.Common.{[], ◌∷◌, Ok, Err, refl, sym, subst, ◌∙◌, append-nil}
 use Rattle.ic_commands.specs.declared.line.Line.TheVariants.{Blank, Run, Command as Asks}
-use Rattle.ic_lines.specs.Answers.{Reading, answer, events}
+use Rattle.ic_lines.specs.Answers.{answer}
 use Rattle.ic_desk.specs.Book.{table_of}
 use Rattle.ic_serving.specs.Answered.{IsKeptFor}
 use Rattle.ic_serving.specs.Booked.{last_kept}
-use Rattle.ic_serving.specs.Grown.{GoesOn, GoesOnWithin, HasRoom}
 use Rattle.ic_serving.proofs.StopLemmas.{kept_or_same}
 use Rattle.ic_serving.proofs.PartLemmas.{line_from, kept_from}
 use Rattle.ic_serving.proofs.laws.a_line_is_answered_as_it_is_served.Goals as goal
@@ -50,13 +49,3 @@ pub returns-clause-refused : goal.returns-clause-refused
 returns-clause-refused g c = λ line bytes fault reads is.
     subst (λ r. IsKeptFor r c.args.before.now c.args.behind.now)
     (c.one_line_reading.ensures.answer line is.reading (Err fault) is.read reads) is.kept
-
-pub returns-clause-page : goal.returns-clause-page
-returns-clause-page g c = λ line bytes a reads is.
-    subst (λ (r : Reading). HasRoom (events (table_of c.args.before.now) r) c.args.before.now → GoesOn (events (table_of c.args.before.now) r) c.args.before.now c.args.behind.now)
-    (c.one_line_reading.ensures.answer line is.reading a is.read reads) is.page
-
-pub returns-clause-begun_page : goal.returns-clause-begun_page
-returns-clause-begun_page g c = λ line a reads is.
-    subst (λ (r : Reading). HasRoom (events (table_of c.args.before.now) r) c.args.before.now → GoesOnWithin (events (table_of c.args.before.now) r) c.args.before.now c.args.behind.now)
-    (c.one_line_reading.ensures.answer line is.reading a is.read reads) is.begun.page
