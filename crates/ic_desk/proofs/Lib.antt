@@ -4,4 +4,5 @@ pub mod DiskLemmas
 pub mod BookLemmas
 pub mod AnswerLemmas
 pub mod StopLemmas
+pub mod StepLemmas
 pub mod EntryLemmas

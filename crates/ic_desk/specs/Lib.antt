@@ -5,5 +5,7 @@ pub mod Refusals
 pub mod Book
 pub mod Opened
 pub mod Calls
+pub mod Moves
+pub mod Server
 pub mod lemmas
 pub mod inner

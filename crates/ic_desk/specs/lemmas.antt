@@ -1,2 +1,3 @@
 -- Lemmas. A reader of the contracts needs none of it.
 pub mod OneProof
+pub mod Facts

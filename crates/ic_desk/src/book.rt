@@ -51,6 +51,8 @@ pub struct Book<D: Disk> {
 
 impl<D: Disk> Book<D> {
     ghost use Rattle.ic_desk.specs.Book.{start_of, log_of, table_of, kept_of, keeper_of, disk_of, is_broken, number_of};
+    ghost use Rattle.ic_desk.specs.Moves.{stays};
+    ghost use Rattle.ic_desk.specs.Server.{Step, up};
 
     /// The table that the log begins with.
     pub fn start(&self) -> &Table
@@ -116,5 +118,8 @@ impl<D: Disk> Book<D> {
         ensures newest { IsTrue (D.keeps (disk_of self.now)) → is_broken self.now ≡ false
             → IsOnNewest (keeper_parts.frames_of (keeper_of self.now))
             (D.content (disk_of self.now)) }
+
+        // To do nothing is a step, in whose midst a stop may come.
+        ensures step { Step stays (up self.now) (up self.now) }
     {}
 }

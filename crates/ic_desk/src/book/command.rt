@@ -8,6 +8,7 @@ ghost use Rattle.ic_desk.specs.declared.limits.TheConstants.{MAX_ENTRIES};
 ghost use Rattle.ic_desk.specs.Entries.{AddsCommand, leaves_table};
 ghost use Rattle.ic_desk.specs.Book.{start_of, log_of, table_of, kept_of, keeper_of, disk_of, is_broken, number_of};
 ghost use Rattle.ic_desk.specs.Calls.{BreaksOrStays, LeavesKeptOrAll, TellsFull};
+ghost use Rattle.ic_desk.specs.Server.{StepsByCommand};
 
 use super::Book;
 use crate::BookFault;
@@ -23,6 +24,8 @@ impl<D: Disk> Book<D> {
     /// end, unanswered, and the book is broken. A fetch, a list or a refusal makes no call to the
     /// disk where all was kept.
     pub fn command(&mut self, alloc: Global, who: u64, command: Command) -> Result<Reply, BookFault>
+        ensures step { StepsByCommand who command result self.old self.new }
+
         // Refusals: broken, full and worn, in this order. `Memory` comes behind them, and then
         // `Device`.
         ensures fault { BreaksOrStays result self.old self.new }

@@ -7,6 +7,8 @@ ghost use Rattle.ic_jobs.specs.Landing.{Awaits};
 ghost use Rattle.ic_desk.specs.Entries.{round_entry};
 ghost use Rattle.ic_desk.specs.Book.{log_of, table_of};
 ghost use Rattle.ic_desk.specs.Calls.{LeavesKeptOrAll, RefusesRound, TakesRound};
+ghost use Rattle.ic_desk.specs.Moves.{round_move};
+ghost use Rattle.ic_desk.specs.Server.{Step, up};
 
 use super::Book;
 use crate::BookFault;
@@ -20,6 +22,9 @@ impl<D: Disk> Book<D> {
     /// and nothing has changed. It isn't kept yet.
     pub fn halt(&mut self, flight: &Flight) -> Result<Landed, BookFault>
         requires { IsTrue (is_blocked flight.now) }
+
+        ensures step { Step (round_move flight.now.name reply.Halted result)
+            (up self.old) (up self.new) }
 
         // Refusals: broken and full, in this order. `Memory` comes behind them.
         ensures fault { RefusesRound result self.old self.new }

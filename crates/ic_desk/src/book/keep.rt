@@ -3,6 +3,8 @@
 ghost use Rattle.std.specs.Prelude.{◌≡◌, ◌≢◌, length, OnOk, IfErr};
 ghost use Rattle.ic_desk.specs.Book.{start_of, log_of, kept_of};
 ghost use Rattle.ic_desk.specs.Calls.{BreaksOrStays, KeepsAll, LeavesKeptOrAll, TellsWorn};
+ghost use Rattle.ic_desk.specs.Moves.{stays};
+ghost use Rattle.ic_desk.specs.Server.{Step, up};
 
 use super::Book;
 use crate::BookFault;
@@ -11,8 +13,10 @@ use ic_disk::Disk;
 
 impl<D: Disk> Book<D> {
     /// Keeps what has come since the last keep. Where all is kept it makes no call to the disk. It
-    /// takes no memory.
+    /// isn't answered want of memory.
     pub fn keep(&mut self) -> Result<(), BookFault>
+        ensures step { Step stays (up self.old) (up self.new) }
+
         // Refusals: broken and worn, in this order. `Device` comes behind them.
         ensures fault { BreaksOrStays result self.old self.new }
         ensures worn { TellsWorn result self.old }

@@ -5,6 +5,8 @@ ghost use Rattle.ic_jobs.specs.Landing.{Awaits};
 ghost use Rattle.ic_desk.specs.Entries.{round_entry};
 ghost use Rattle.ic_desk.specs.Book.{log_of, table_of};
 ghost use Rattle.ic_desk.specs.Calls.{LeavesKeptOrAll, RefusesRound, TakesRound};
+ghost use Rattle.ic_desk.specs.Moves.{round_move};
+ghost use Rattle.ic_desk.specs.Server.{Step, up};
 
 use super::Book;
 use crate::BookFault;
@@ -17,6 +19,9 @@ impl<D: Disk> Book<D> {
     /// Puts a round that was made, if its job is still as it was before the round; else the round
     /// is stale, and nothing has changed. It isn't kept yet.
     pub fn land(&mut self, played: Played) -> Result<Landed, BookFault>
+        ensures step { Step (round_move played.name reply.Moved result)
+            (up self.old) (up self.new) }
+
         // Refusals: broken and full, in this order. `Memory` comes behind them.
         ensures fault { RefusesRound result self.old self.new }
 

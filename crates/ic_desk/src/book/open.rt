@@ -9,6 +9,7 @@ ghost use Rattle.ic_slots.specs.Held.{IsHeld, the_table};
 ghost use Rattle.ic_slots.specs.Opening.{Says};
 ghost use Rattle.ic_desk.specs.Book.{start_of, log_of, table_of, kept_of, is_broken};
 ghost use Rattle.ic_desk.specs.Opened.{disk_after, outcome_of};
+ghost use Rattle.ic_desk.specs.Server.{Step, down, opening_move, server_after};
 
 use super::Book;
 use ic_disk::Disk;
@@ -19,6 +20,8 @@ impl<D: Disk> Book<D> {
     /// Finds the table that a disk holds. The book begins with it, and with an empty log. It begins
     /// with a sync, and changes nothing. A fault hands the disk back.
     pub fn open(alloc: Global, disk: D) -> Result<Book<D>, OpenFault<D>>
+        ensures step { Step {ghosts = D.Disk} (opening_move result)
+            (down disk) (server_after result) }
         ensures crash { LeavesAsFound D.keeps D.content D.image D.clock D.left
             (outcome_of result) disk (disk_after result) }
         ensures counted { CountsOpen (outcome_of result)

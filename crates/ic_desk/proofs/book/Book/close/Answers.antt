@@ -5,3 +5,11 @@ pub returns-clause-images : goal.returns-clause-images
 returns-clause-images g c keeps made =
     let same = c.close.ensures in
     rw same (either_of c.args.self (rw same at keeps) (rw same at made))
+
+pub returns-clause-step : goal.returns-clause-step
+returns-clause-step g c =
+    let same = c.close.ensures in
+    record {
+      same = same;
+      images = λ keeps made. rw same (either_of c.args.self (rw same at keeps) (rw same at made));
+    }

@@ -1,6 +1,8 @@
-use Rattle.std.proofs.Common.{◌≡◌, ◌∙◌, ◌+◌, length, sym, arith, true, false}
+use Rattle.std.proofs.Common.{◌≡◌, ◌∙◌, ◌+◌, length, refl, sym, arith, true, false}
+use Rattle.std.proofs.lemmas.Result.{err_from_is_err_and}
 use Rattle.ic_desk.proofs.AnswerLemmas.{told_stays}
 use Rattle.ic_desk.proofs.BookLemmas.{failed_on_disk, idle_history, idle_on_disk, kept_on_disk, one_longer, stands_added, unchanged, written}
+use Rattle.ic_desk.proofs.StepLemmas.{command_answered, command_failed, command_refused, full_or_broken, idles}
 use Rattle.ic_desk.proofs.book.Book.command.Goals as goal
 
 pub returns-in_err-check_room-clause-crash : goal.returns-in_err-check_room-clause-crash
@@ -56,3 +58,24 @@ returns-clause-crash g c =
     let stands = stands_added c.args.self.now c.args.who c.args.command c.in_ok-answer.answer c.enter_command.new.log.items c.enter_command.new.table c.in_ok-check_room.ensures.ok c.in_ok-answer.ensures.added in
     written c.enter_command.new.log.items c.args.self.now _ c.enter_command.new.table stands c.in_ok-check_room.ensures.ok.0 g.met.D.Disk.image_is_left
     c.keep_table.ensures.keeps c.keep_table.ensures.any_moment
+
+pub returns-in_err-check_room-clause-step : goal.returns-in_err-check_room-clause-step
+returns-in_err-check_room-clause-step g c =
+    let e = err_from_is_err_and c.from_residual.result c.from_residual.ensures.1 in
+    let told = e.2 in
+    let same : e.0 ≡ c.in_err-check_room.field-0.0 = cc in
+    command_refused c.args.who c.args.command c.args.self.now c.args.self.now c.from_residual.result e.0 e.1
+    (λ device. full_or_broken c.in_err-check_room.field-0.0 c.in_err-check_room.ensures.others (sym same ∙ device))
+    (idles g.met.D.Disk.left_is_image c.args.self.now)
+
+pub returns-in_err-keep_table-clause-step : goal.returns-in_err-keep_table-clause-step
+returns-in_err-keep_table-clause-step g c =
+    let e = err_from_is_err_and c.from_residual-in_err-keep_table.result c.from_residual-in_err-keep_table.ensures.1 in
+    let told = e.2 in
+    let same : e.0 ≡ c.in_err-keep_table.field-0.0 = cc in
+    command_failed c.args.who c.args.command c.args.self.now _ c.in_ok-answer.answer (returns-in_err-keep_table-clause-crash g c) refl c.in_ok-answer.ensures.added
+    c.from_residual-in_err-keep_table.result e.0 e.1 (same ∙ c.in_err-keep_table.ensures.device) refl
+
+pub returns-clause-step : goal.returns-clause-step
+returns-clause-step g c =
+    command_answered c.args.who c.args.command c.args.self.now _ c.in_ok-answer.answer (returns-clause-crash g c) refl c.in_ok-answer.ensures.added (omega (arith, c.len-self-2.ensures))

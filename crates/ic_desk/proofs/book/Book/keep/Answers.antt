@@ -1,5 +1,6 @@
-use Rattle.std.proofs.Common.{◌≡◌, ◌∙◌, true, false, length, sym, arith}
+use Rattle.std.proofs.Common.{◌≡◌, ◌∙◌, true, false, length, refl, sym, arith}
 use Rattle.ic_desk.proofs.BookLemmas.{failed_on_disk, kept_on_disk, stands_here, unchanged, written}
+use Rattle.ic_desk.proofs.StepLemmas.{idles, stays_on}
 use Rattle.ic_desk.proofs.book.Book.keep.Goals as goal
 
 pub returns-in_err-check_keepable-clause-crash : goal.returns-in_err-check_keepable-clause-crash
@@ -36,3 +37,15 @@ pub returns-clause-crash : goal.returns-clause-crash
 returns-clause-crash g c =
     written c.args.self.now.log.items c.args.self.now _ c.args.self.now.table (stands_here c.args.self.now) c.in_ok-check_keepable.ensures.ok g.met.D.Disk.image_is_left
     c.keep_table.ensures.keeps c.keep_table.ensures.any_moment
+
+pub returns-in_err-check_keepable-clause-step : goal.returns-in_err-check_keepable-clause-step
+returns-in_err-check_keepable-clause-step g c = idles g.met.D.Disk.left_is_image c.args.self.now
+
+pub returns-in_err-keep_table-clause-step : goal.returns-in_err-keep_table-clause-step
+returns-in_err-keep_table-clause-step g c = stays_on c.args.self.now _ refl refl refl (omega arith) (returns-in_err-keep_table-clause-crash g c)
+
+pub returns-clause-step : goal.returns-clause-step
+returns-clause-step g c =
+    let book = c.args.self.now in
+    let count : c.len-self.result ≡ length book.log.items = omega (arith, c.len-self.ensures) in
+    stays_on book _ refl refl refl (omega (arith, count, book.history.within)) (returns-clause-crash g c)

@@ -1,0 +1,159 @@
+-- A server and its steps, which are the calls of a book and the stops in their midst, and what it
+-- reaches by them. This project's choice.
+use Rattle.std.specs.Prelude.{◌≡◌, ◌⊎◌, ◌≤◌, List, ℕ, [], ◌∷◌, ◌++◌, Result, Ok, Err, IsTrue, IsErr, IsErrOf, IfOk, length}
+use Rattle.ic_disk.specs.declared.disk.Disk.{Ghosts}
+use Rattle.ic_disk.specs.Images.{Within}
+use Rattle.ic_jobs.specs.declared.command.Command.{Command}
+use Rattle.ic_jobs.specs.declared.event.Entry.{Entry}
+use Rattle.ic_jobs.specs.declared.reply.Reply.{Reply}
+use Rattle.ic_frames.specs.declared.faults.OpenCause.{OpenCause}
+use Rattle.ic_frames.specs.declared.faults.OpenFault.{OpenFault}
+use Rattle.ic_frames.specs.Fields.{IsMade}
+use Rattle.ic_frames.specs.Opening.{LeavesAsFound}
+use Rattle.ic_slots.specs.Held.{HoldsTable, IsHeld, the_table}
+use Rattle.ic_slots.specs.Opening.{Says}
+use Rattle.ic_desk.specs.declared.book.Book.{Book}
+use Rattle.ic_desk.specs.declared.fault.BookFault.{BookFault}
+use Rattle.ic_desk.specs.declared.fault.BookFault.TheVariants.{Device}
+use Rattle.ic_desk.specs.Book.{start_of, log_of, table_of, kept_of, disk_of}
+use Rattle.ic_desk.specs.Calls.{LeavesKeptOrAll}
+use Rattle.ic_desk.specs.Entries.{Adds, command_entry, round_entry}
+use Rattle.ic_desk.specs.Kept.{HoldsKeptOrAll}
+use Rattle.ic_desk.specs.Moves.{Move, opens, refuses, answers, fails, rounds, stays, closes, stops, brings}
+
+-- A server is down, and this disk will be found, or it is up over a book.
+pub data Server {D : Type 0} (ghosts : Ghosts D) : Type 0 where
+  down : D → Server ghosts
+  up : Book D ghosts → Server ghosts
+
+-- its disk
+abbrev pub disk_in : {D : Type 0} {ghosts : Ghosts D} → Server ghosts → D
+disk_in (down disk) = disk
+disk_in (up book) = disk_of book
+
+-- ---- calls of an open book
+
+-- the page goes on by this entry, whose event leaves the new table
+pub record GoesOn {D : Type 0} {ghosts : Ghosts D} (entry : Entry)
+    (old new : Book D ghosts) : Type 0 where
+  pub start : start_of new ≡ start_of old
+  pub adds : Adds entry (log_of old) (log_of new) (table_of old) (table_of new)
+
+-- the page stays as it is, and what was kept stays kept
+pub record StaysOnPage {D : Type 0} {ghosts : Ghosts D} (old new : Book D ghosts) : Type 0 where
+  pub start : start_of new ≡ start_of old
+  pub log : log_of new ≡ log_of old
+  pub table : table_of new ≡ table_of old
+  pub kept : kept_of old ≤ kept_of new
+
+-- a new page begins with the table
+pub record TurnsPage {D : Type 0} {ghosts : Ghosts D} (old new : Book D ghosts) : Type 0 where
+  pub start : start_of new ≡ table_of old
+  pub log : log_of new ≡ []
+  pub table : table_of new ≡ table_of old
+
+-- What a call makes of the page. At an answer all is kept.
+abbrev pub Turns : {D : Type 0} {ghosts : Ghosts D}
+    → Move → Book D ghosts → Book D ghosts → Type 0
+Turns (answers who command reply) old new =
+    GoesOn (command_entry who command reply) old new × (kept_of new ≡ length (log_of new))
+Turns (fails who command reply) old new =
+    GoesOn (command_entry who command reply) old new × (kept_of new ≡ kept_of old)
+Turns (rounds name reply) old new =
+    GoesOn (round_entry name reply) old new × (kept_of new ≡ kept_of old)
+Turns stays old new = StaysOnPage old new ⊎ TurnsPage old new
+Turns opens old new = ⊥
+Turns (refuses cause) old new = ⊥
+Turns closes old new = ⊥
+Turns (stops move) old new = ⊥
+
+-- A call of an open book: what it makes of the page, and that a crash in it leaves the table that
+-- was kept, or the one after the log and what the call brings.
+pub record Does {D : Type 0} {ghosts : Ghosts D} (move : Move)
+    (old new : Book D ghosts) : Type 0 where
+  pub page : Turns move old new
+  pub crash : LeavesKeptOrAll (log_of old ++ brings move) old new
+
+-- ---- openings and closings
+
+-- An opening finds the table that the disk holds, and leaves the disk as it was.
+pub record Opens {D : Type 0} {ghosts : Ghosts D} (disk : D) (book : Book D ghosts) : Type 0 where
+  pub leaves : LeavesAsFound ghosts.keeps ghosts.content ghosts.image ghosts.clock ghosts.left
+      (Ok book) disk (disk_of book)
+  pub held : IsTrue (ghosts.keeps disk) → IsHeld (the_table (start_of book)) (ghosts.content disk)
+  pub log : log_of book ≡ []
+
+-- One that is refused says what the disk holds, and leaves the disk as it was.
+pub record Refuses {D : Type 0} (ghosts : Ghosts D) (why : OpenCause)
+    (disk after : D) : Type 0 where
+  pub leaves : LeavesAsFound {T = Book D ghosts} ghosts.keeps ghosts.content ghosts.image
+      ghosts.clock ghosts.left (Err why) disk after
+  pub says : IsTrue (ghosts.keeps disk) → Says why (ghosts.content disk)
+
+-- The disk is handed out. A crash now leaves the table that was kept, or where the book is broken
+-- that or the one after all.
+pub record Closes {D : Type 0} {ghosts : Ghosts D} (book : Book D ghosts) (disk : D) : Type 0 where
+  pub same : disk ≡ disk_of book
+  pub images : IsTrue (ghosts.keeps disk) → Within (ghosts.image disk) IsMade
+      → Within (ghosts.image disk) (HoldsKeptOrAll (start_of book) (log_of book) (kept_of book))
+
+-- ---- steps
+
+-- This disk is found after a stop in the midst of what led from one disk to another: each of its
+-- images is one that a crash since the first may have left. It has one image where power was lost,
+-- and maybe more where the process was killed.
+pub record IsFound {D : Type 0} (ghosts : Ghosts D) (before after found : D) : Type 0 where
+  pub keeps : IsTrue (ghosts.keeps found)
+  pub left : (file : List ℕ) → ghosts.image found file
+      → ghosts.left after (ghosts.clock before) file
+
+-- One move leads from one server to another. Where it is stopped, it would have led somewhere, and
+-- a disk is found.
+abbrev pub Step : {D : Type 0} {ghosts : Ghosts D}
+    → Move → Server ghosts → Server ghosts → Type 0
+Step (stops (stops move)) before after = ⊥
+Step opens (down disk) (up book) = Opens disk book
+Step {ghosts = g} (refuses cause) (down disk) (down after) = Refuses g cause disk after
+Step closes (up book) (down disk) = Closes book disk
+Step stays (down disk) (down after) = after ≡ disk
+Step {ghosts = g} (stops move) before (down found) =
+    (after : Server g) × Step move before after × IsFound g (disk_in before) (disk_in after) found
+Step move (up old) (up new) = Does move old new
+Step move before after = ⊥
+
+-- These moves lead from one server to another. The newest stands first.
+abbrev pub Runs : {D : Type 0} {ghosts : Ghosts D}
+    → List Move → Server ghosts → Server ghosts → Type 0
+Runs [] first last = last ≡ first
+Runs {ghosts = g} (move ∷ moves) first last =
+    (before : Server g) × Runs moves first before × Step move before last
+
+-- A server is reached by these moves from a disk on which `create` has answered.
+pub record Reaches {D : Type 0} {ghosts : Ghosts D} (moves : List Move)
+    (server : Server ghosts) : Type 0 where
+  pub disk : D
+  pub keeps : IsTrue (ghosts.keeps disk)
+  pub created : Within (ghosts.image disk) (HoldsTable [])
+  pub runs : Runs moves (down disk) server
+
+-- ---- which step a call is, by its answer
+
+-- an opening that was answered or refused
+abbrev pub opening_move : {D : Type 0} {ghosts : Ghosts D}
+    → Result (Book D ghosts) (OpenFault D) → Move
+opening_move (Ok book) = opens
+opening_move (Err fault) = refuses fault.cause
+
+-- and the server that it leaves
+abbrev pub server_after : {D : Type 0} {ghosts : Ghosts D}
+    → Result (Book D ghosts) (OpenFault D) → Server ghosts
+server_after (Ok book) = up book
+server_after (Err fault) = down fault.disk
+
+-- A command is answered, or the disk fails at it, or nothing comes to the history.
+pub record StepsByCommand {D : Type 0} {ghosts : Ghosts D} (who : ℕ) (command : Command)
+    (result : Result Reply BookFault) (old new : Book D ghosts) : Type 0 where
+  pub answered : IfOk result (λ reply. Step (answers who command reply) (up old) (up new))
+  pub failed : IsErrOf result Device
+      → (reply : Reply) × Step (fails who command reply) (up old) (up new)
+  pub refused : IsErr result → ¬ IsErrOf result Device → Step stays (up old) (up new)
