@@ -111,9 +111,29 @@ fn file_refusals(rt: HostRuntime) -> Result<(), Fail> {
     assert!(rt; !fs::exists(&rt, missing.as_str())?);
     assert!(rt; opens_neither_way(&rt, "/tmp"));
     assert!(rt; opens_neither_way(&rt, "/proc/self/exe"));
-    let mut full = FileDisk::open(&rt, "/dev/full", false)?;
-    assert!(rt; full.write_at(0, b"x").is_err());
-    assert!(rt; full.read(0, &mut [0]).is_err());
+    // A file that can't be synced.
+    assert!(rt; opens_neither_way(&rt, "/dev/full"));
+    Ok(())
+}
+
+#[test]
+fn full_device_is_an_error(rt: HostRuntime) -> Result<(), Fail> {
+    let path = path_of(&rt, "full")?;
+    fs::write(&rt, path.as_str(), b"abc")?;
+    let log = Log::new("");
+    let files = SlowFiles {
+        rt: &rt,
+        path: path.as_str(),
+        log: &log,
+    };
+    let mut disk = FileDisk::open(&files, "disk", false)?;
+    log.is_full.set(true);
+    assert!(rt; disk.write_at(0, b"x").is_err());
+    log.is_full.set(false);
+    let mut into = [0; 3];
+    disk.read(0, &mut into)?;
+    assert!(rt; into.as_slice() == b"abc".as_slice());
+    fs::remove_file(&rt, path.as_str())?;
     Ok(())
 }
 
@@ -139,7 +159,8 @@ fn file_by_single_bytes(rt: HostRuntime) -> Result<(), Fail> {
     Ok(())
 }
 
-// After a sync that failed the file would take the next one, and isn't asked.
+// Opening syncs the whole file, each sync of the disk its data alone. After one that failed the file
+// would take the next one, and isn't asked.
 #[test]
 fn file_syncs_no_more_after_a_failure(rt: HostRuntime) -> Result<(), Fail> {
     let path = path_of(&rt, "syncs")?;
@@ -151,16 +172,16 @@ fn file_syncs_no_more_after_a_failure(rt: HostRuntime) -> Result<(), Fail> {
         log: &log,
     };
     let mut disk = FileDisk::open(&files, "disk", false)?;
-    assert!(rt; log.syncs.get() == 0);
+    assert!(rt; log.whole_syncs.get() == 1 && log.data_syncs.get() == 0);
     disk.sync()?;
-    assert!(rt; log.syncs.get() == 1);
+    assert!(rt; log.whole_syncs.get() == 1 && log.data_syncs.get() == 1);
     log.refuses.set(true);
     assert!(rt; disk.sync().is_err());
     log.refuses.set(false);
     disk.write_at(0, b"x")?;
     assert!(rt; disk.sync().is_err());
     assert!(rt; disk.sync().is_err());
-    assert!(rt; log.syncs.get() == 1);
+    assert!(rt; log.data_syncs.get() == 1);
     drop(disk);
 
     // A new open begins anew.
@@ -170,8 +191,8 @@ fn file_syncs_no_more_after_a_failure(rt: HostRuntime) -> Result<(), Fail> {
     Ok(())
 }
 
-// Whether a disk of this name syncs this folder where it is made, once, and isn't opened where the
-// folder can't be synced.
+// Whether a disk of this name syncs its file at each opening, and this folder where it is made, once;
+// and isn't opened where they can't be synced.
 fn syncs_its_folder(rt: &HostRuntime, path: &str, name: &str, folder: &str) -> Result<bool, Fail> {
     let log = Log::new(folder);
     let files = SlowFiles {
@@ -180,11 +201,12 @@ fn syncs_its_folder(rt: &HostRuntime, path: &str, name: &str, folder: &str) -> R
         log: &log,
     };
     drop(FileDisk::open(&files, name, true)?);
-    let made = log.folders_opened.get() == 1 && log.syncs.get() == 1;
+    let made = log.folders_opened.get() == 1 && log.whole_syncs.get() == 2;
     drop(FileDisk::open(&files, name, false)?);
-    let there = log.folders_opened.get() == 1;
+    let there = log.folders_opened.get() == 1 && log.whole_syncs.get() == 3;
     log.refuses.set(true);
-    let refused = FileDisk::open(&files, name, true).is_err();
+    let refused = FileDisk::open(&files, name, true).is_err()
+        && FileDisk::open(&files, name, false).is_err();
     Ok(made && there && refused)
 }
 

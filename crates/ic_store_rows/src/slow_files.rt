@@ -1,5 +1,5 @@
-//! A runtime for tests, whose files take and give one byte at a time, and whose syncs fail when
-//! they are told to.
+//! A runtime for tests, whose files take and give one byte at a time, and whose writes and syncs
+//! fail when they are told to.
 
 use ic_disk::DiskFile;
 use std::alloc::Allocator;
@@ -9,13 +9,17 @@ use std::io;
 use std::io::{Read, Seek, SeekFrom, Write};
 use std::rt::Files;
 
-/// What has come of the files of a runtime, and whether they refuse to sync.
+/// What has come of the files of a runtime, and whether they refuse to be written or synced.
 #[derive(Drop)]
 pub struct Log<'a> {
     pub folder: &'a str,
     pub folders_opened: Cell<u32>,
-    pub syncs: Cell<u32>,
+    /// Syncs of a file with all that the system keeps of it, of folders too.
+    pub whole_syncs: Cell<u32>,
+    /// Syncs of a file's bytes and length.
+    pub data_syncs: Cell<u32>,
     pub refuses: Cell<bool>,
+    pub is_full: Cell<bool>,
 }
 
 impl<'a> Log<'a> {
@@ -24,8 +28,10 @@ impl<'a> Log<'a> {
         Log {
             folder,
             folders_opened: Cell::new(0),
-            syncs: Cell::new(0),
+            whole_syncs: Cell::new(0),
+            data_syncs: Cell::new(0),
             refuses: Cell::new(false),
+            is_full: Cell::new(false),
         }
     }
 }
@@ -53,6 +59,9 @@ impl Read for SlowFile<'_> {
 
 impl Write for SlowFile<'_> {
     fn write(&mut self, buf: &[u8]) -> io::Result<usize> {
+        if self.log.is_full.get() {
+            return Err(io::ErrorKind::StorageFull.into());
+        }
         let n = buf.len().min(1);
         self.file.write(&buf[..n])
     }
@@ -81,11 +90,17 @@ impl OpenFile for SlowFile<'_> {
         if self.log.refuses.get() {
             return Err(io::ErrorKind::Other.into());
         }
-        self.log.syncs.set(self.log.syncs.get().saturating_add(1));
+        let syncs = self.log.whole_syncs.get();
+        self.log.whole_syncs.set(syncs.saturating_add(1));
         self.file.sync_all()
     }
 
     fn sync_data(&self) -> io::Result<()> {
+        if self.log.refuses.get() {
+            return Err(io::ErrorKind::Other.into());
+        }
+        let syncs = self.log.data_syncs.get();
+        self.log.data_syncs.set(syncs.saturating_add(1));
         self.file.sync_data()
     }
 }
