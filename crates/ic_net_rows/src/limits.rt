@@ -1,0 +1,94 @@
+//! That the limit of nodes doesn't commute with the order of steps.
+
+use crate::steps::{Made, step, steps_of};
+use ic_notation::{Trouble, decimal, printed, system_of};
+use ic_round::{RoundFault, quiet, round};
+use ic_rules::RuleSet;
+use ic_term::{Config, over};
+use std::alloc::Global;
+
+const MOST_ROUNDS: u32 = 1_000;
+
+const MOST_STEPS: u32 = 50_000;
+
+/// What becomes of a system by rounds, by the first step that is possible each time, and by the last one: the most nodes
+/// that there are behind a round or a step, and the end, or that it is too large on the way.
+pub fn limits(alloc: Global, text: &[u8]) -> Result<Vec<u8>, Trouble> {
+    let (rules, config) = system_of(alloc, text)?.into_parts();
+    let mut line = Vec::from_slice(alloc, b"rounds ")?;
+    line.extend_from_slice(&rounds(alloc, &rules, &config)?)?;
+    line.extend_from_slice(b", first steps ")?;
+    line.extend_from_slice(&steps(alloc, &rules, &config, false)?)?;
+    line.extend_from_slice(b", last steps ")?;
+    line.extend_from_slice(&steps(alloc, &rules, &config, true)?)?;
+    Ok(line)
+}
+
+fn rounds(alloc: Global, rules: &RuleSet, start: &Config) -> Result<Vec<u8>, Trouble> {
+    let mut config = start.copy(alloc)?;
+    let mut most = config.nodes();
+    for _ in 0..MOST_ROUNDS {
+        if quiet(rules, &config) {
+            break;
+        }
+        if !over(rules.symbols(), &config) {
+            return Err(Trouble("not over the symbols"));
+        }
+        match round(alloc, rules, config) {
+            Ok(after) => config = after,
+            Err(RoundFault::Overgrown) => return Ok(Vec::from_slice(alloc, b"too large")?),
+            Err(_) => return Err(Trouble("a round is refused")),
+        }
+        most = most.max(config.nodes());
+    }
+    told(alloc, rules, &config, most)
+}
+
+fn steps(
+    alloc: Global,
+    rules: &RuleSet,
+    start: &Config,
+    takes_last: bool,
+) -> Result<Vec<u8>, Trouble> {
+    let mut config = start.copy(alloc)?;
+    let mut most = config.nodes();
+    for _ in 0..MOST_STEPS {
+        match next_step(alloc, rules, &config, takes_last)? {
+            Made::After(after) => config = after,
+            Made::NotThere => break,
+            Made::TooLarge => return Ok(Vec::from_slice(alloc, b"too large")?),
+        }
+        most = most.max(config.nodes());
+    }
+    told(alloc, rules, &config, most)
+}
+
+/// What comes of the first step that is possible, or of the last one.
+fn next_step(
+    alloc: Global,
+    rules: &RuleSet,
+    config: &Config,
+    takes_last: bool,
+) -> Result<Made, Trouble> {
+    let all = steps_of(config);
+    for turn in 0..all {
+        let number = if takes_last {
+            all.saturating_sub(1).saturating_sub(turn)
+        } else {
+            turn
+        };
+        let made = step(alloc, rules, config, number)?;
+        if !matches!(&made, Made::NotThere) {
+            return Ok(made);
+        }
+    }
+    Ok(Made::NotThere)
+}
+
+fn told(alloc: Global, rules: &RuleSet, end: &Config, most: u64) -> Result<Vec<u8>, Trouble> {
+    let mut line = Vec::new(alloc);
+    decimal(&mut line, most)?;
+    line.push(b' ')?;
+    line.extend_from_slice(&printed(alloc, rules, end)?)?;
+    Ok(line)
+}

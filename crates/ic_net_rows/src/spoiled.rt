@@ -1,0 +1,93 @@
+//! Ends of drawn systems, each changed so that most are another net: the comparison has to tell them apart.
+
+use crate::drawn::SEED;
+use crate::drawn_text::Writer;
+use crate::orders::{are_one_net, by_rounds};
+use ic_notation::{Trouble, decimal, system_of};
+use ic_term::{Config, Equation, Term};
+use std::alloc::Global;
+
+/// How many ends of so many drawn systems are changed in a way, and how many of these are another net then.
+pub fn spoiled(alloc: Global, systems: u64, way: &str) -> Result<Vec<u8>, Trouble> {
+    let mut writer = Writer::new(alloc, SEED);
+    let mut changed = 0u64;
+    let mut apart = 0u64;
+    for _ in 0..systems {
+        let (rules, config) = system_of(alloc, &writer.system(alloc)?)?.into_parts();
+        if let Some(whole) = by_rounds(alloc, &rules, &config)? {
+            if let Some(other) = changed_end(alloc, &whole.end, way)? {
+                changed = changed.saturating_add(1);
+                let differs = !are_one_net(alloc, &rules, &whole.end, &other)?;
+                apart = apart.saturating_add(u64::from(differs));
+            }
+        }
+    }
+    let mut line = Vec::new(alloc);
+    decimal(&mut line, changed)?;
+    line.push(b' ')?;
+    decimal(&mut line, apart)?;
+    Ok(line)
+}
+
+/// The configuration changed in a way at its last equation, where that can be.
+fn changed_end(alloc: Global, end: &Config, way: &str) -> Result<Option<Config>, Trouble> {
+    let (interface, mut equations, next) = end.copy(alloc)?.into_parts();
+    let Some(last) = equations.pop() else {
+        return Ok(None);
+    };
+    let is_changed = match way {
+        "lost" => true,
+        "crossed" => cross(&mut equations, last)?,
+        "symbol" => with_other_symbol(&mut equations, last)?,
+        _ => with_arguments_exchanged(&mut equations, last)?,
+    };
+    if !is_changed {
+        return Ok(None);
+    }
+    Ok(Some(Config::restore(alloc, interface, equations, next)?))
+}
+
+/// Adds the equation with its right side and that of the one before exchanged, if there is one.
+fn cross(equations: &mut Vec<Equation>, last: Equation) -> Result<bool, Trouble> {
+    let Some(before) = equations.pop() else {
+        return Ok(false);
+    };
+    equations.push(Equation {
+        left: before.left,
+        right: last.right,
+    })?;
+    equations.push(Equation {
+        left: last.left,
+        right: before.right,
+    })?;
+    Ok(true)
+}
+
+/// Adds the equation with the symbol of its right side changed to the one behind it, if that is an agent.
+fn with_other_symbol(equations: &mut Vec<Equation>, mut last: Equation) -> Result<bool, Trouble> {
+    let is_agent = match &mut last.right {
+        Term::Name(_) => false,
+        Term::Agent(cell) => {
+            cell.sym = cell.sym.wrapping_add(1);
+            true
+        }
+    };
+    equations.push(last)?;
+    Ok(is_agent)
+}
+
+/// Adds the equation with the two arguments of its right side exchanged, if it has two.
+fn with_arguments_exchanged(
+    equations: &mut Vec<Equation>,
+    mut last: Equation,
+) -> Result<bool, Trouble> {
+    let has_two = match &mut last.right {
+        Term::Agent(cell) if cell.args.len() == 2 => {
+            cell.args.swap(0, 1);
+            true
+        }
+        _ => false,
+    };
+    equations.push(last)?;
+    Ok(has_two)
+}
