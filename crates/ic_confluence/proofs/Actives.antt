@@ -257,12 +257,12 @@ renamed_products rs p a h base later f moves =
     let there = ap (λ o. option_map_or (λ z. products (inst z later) (renamed f a.left) (renamed f a.right)) o []) (sym h.there) in
     given ∙ (apart ∙ ((λ i. left i ++ right i) ∙ there))
 
-oriented_renamed : (f : ℕ → ℕ) (l r : Tree) (found : Option (ℕ × Bool)) → oriented (renamed f l) (renamed f r) found ≡ option_map (renamed_active f) (oriented l r found)
+pub oriented_renamed : (f : ℕ → ℕ) (l r : Tree) (found : Option (ℕ × Bool)) → oriented (renamed f l) (renamed f r) found ≡ option_map (renamed_active f) (oriented l r found)
 oriented_renamed f l r None = refl
 oriented_renamed f l r (Some (i, false)) = refl
 oriented_renamed f l r (Some (i, true)) = refl
 
-sides_renamed : (rs : List Rule) (f : ℕ → ℕ) (l r : Tree) → rule_of_sides rs (renamed f l) (renamed f r) ≡ rule_of_sides rs l r
+pub sides_renamed : (rs : List Rule) (f : ℕ → ℕ) (l r : Tree) → rule_of_sides rs (renamed f l) (renamed f r) ≡ rule_of_sides rs l r
 sides_renamed rs f (name n) r = refl
 sides_renamed rs f (agent s ts) (name n) = refl
 sides_renamed rs f (agent s ts) (agent z us) = refl

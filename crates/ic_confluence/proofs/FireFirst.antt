@@ -25,11 +25,11 @@ use Rattle.ic_confluence.proofs.Chains.{first_step, step_free}
 
 -- ---- names taken
 
-abbrev taken : List Rule → List Pair → ℕ
+abbrev pub taken : List Rule → List Pair → ℕ
 taken rs [] = 0
 taken rs (p ∷ ps) = names_taken rs p + taken rs ps
 
-behind_is : (rs : List Rule) (m : ℕ) (ps : List Pair) → next_behind rs m ps ≡ m + taken rs ps
+pub behind_is : (rs : List Rule) (m : ℕ) (ps : List Pair) → next_behind rs m ps ≡ m + taken rs ps
 behind_is rs m [] = omega arith
 behind_is rs m (p ∷ ps) = let rest = behind_is rs (m + names_taken rs p) ps in omega (arith, rest)
 
@@ -45,7 +45,7 @@ behind-append rs m (p ∷ ps) qs = behind-append rs (m + names_taken rs p) ps qs
 
 -- ---- fired equations renamed
 
-renamed_found : (rs : Rules) (m n : ℕ) (p : Pair) (f : ℕ → ℕ) (found : Option Active) → IsRuleSet rs → is_pair_over rs.symbols p ≡ true → active_pair rs.rules p ≡ found
+pub renamed_found : (rs : Rules) (m n : ℕ) (p : Pair) (f : ℕ → ℕ) (found : Option Active) → IsRuleSet rs → is_pair_over rs.symbols p ≡ true → active_pair rs.rules p ≡ found
     → ((k : ℕ) → 1 ≤ occurrences k (pair_names p) → f k ≡ k) → ((j : ℕ) → j < option_map_or (λ a. count_of rs.rules a.rule) found 0 → f (m + j) ≡ n + j)
     → map (renamed_pair f) (option_map_or (products_by rs.rules m) found (p ∷ [])) ≡ option_map_or (products_by rs.rules n) found (p ∷ [])
 renamed_found rs m n p f None set over is stays moves = ap (λ q. q ∷ []) (renamed_pair_stays f p stays)
@@ -53,7 +53,7 @@ renamed_found rs m n p f (Some a) set over is stays moves =
     let h = has_rule rs p a set over is in
     renamed_products rs.rules p a h m n f moves ∙ ap (products_by rs.rules n) (active_stays rs.rules p a h f stays)
 
-renamed_fired : (rs : Rules) (m n : ℕ) (ps : List Pair) (f : ℕ → ℕ) → IsRuleSet rs → list_all (is_pair_over rs.symbols) ps ≡ true
+pub renamed_fired : (rs : Rules) (m n : ℕ) (ps : List Pair) (f : ℕ → ℕ) → IsRuleSet rs → list_all (is_pair_over rs.symbols) ps ≡ true
     → ((k : ℕ) → 1 ≤ occurrences k (flat_map pair_names ps) → f k ≡ k) → ((j : ℕ) → j < taken rs.rules ps → f (m + j) ≡ n + j)
     → map (renamed_pair f) (fired_from rs.rules m ps) ≡ fired_from rs.rules n ps
 renamed_fired rs m n [] f set over stays moves = refl
@@ -76,7 +76,7 @@ renamed_fired rs m n (p ∷ ps) f set over stays moves =
 
 -- ---- a part of the equations fired
 
-abbrev among : List Tree → List Pair → List Pair → List Pair → ℕ → Configuration
+abbrev pub among : List Tree → List Pair → List Pair → List Pair → ℕ → Configuration
 among ts done ps back base = record { interface = ts; equations = done ++ (ps ++ back); next = base }
 
 fire_one : (rs : List Rule) (ts : List Tree) (done : List Pair) (p : Pair) (ps back : List Pair) (base : ℕ) (found : Option Active) (end : Configuration) → active_pair rs p ≡ found
@@ -98,7 +98,7 @@ fire_one rs ts done p ps back base (Some a) end is steps =
       result = ap (λ es. record { interface = ts; equations = es; next = base + count_of rs a.rule }) (append_assoc done (products_by rs base a) (ps ++ back));
     })) steps
 
-fire_part : (rs : List Rule) (ts : List Tree) (done ps back : List Pair) (base : ℕ) → Steps rs (among ts done ps back base) (among ts done (fired_from rs base ps) back (next_behind rs base ps))
+pub fire_part : (rs : List Rule) (ts : List Tree) (done ps back : List Pair) (base : ℕ) → Steps rs (among ts done ps back base) (among ts done (fired_from rs base ps) back (next_behind rs base ps))
 fire_part rs ts done [] back base = no_steps (among ts done [] back base)
 fire_part rs ts done (p ∷ ps) back base =
     let out = fired_pair rs base p in
@@ -114,7 +114,7 @@ pub join_steps : (rs : List Rule) (c d e : Configuration) → Steps rs c d → S
 join_steps rs c d e steps (no_steps x) = steps
 join_steps rs c d e steps (then_step x y z more step) = then_step c y z (join_steps rs c x y steps more) step
 
-free_since : (rs : Rules) (c d : Configuration) → IsRuleSet rs → is_over rs.symbols c ≡ true → HasNames c → Steps rs.rules c d → (n : ℕ)
+pub free_since : (rs : Rules) (c d : Configuration) → IsRuleSet rs → is_over rs.symbols c ≡ true → HasNames c → Steps rs.rules c d → (n : ℕ)
     → occurrences n (configuration_names d) ≡ 1 → occurrences n (configuration_names c) ≡ 1
 free_since rs c d set over named (no_steps x) n once = once
 free_since rs c d set over named (then_step x y z steps step) n once =
@@ -157,7 +157,7 @@ part_counts c before after p given n =
     let second = in_more n p after in
     omega (arith, whole, is, first, second)
 
-over_both : (rs : Rules) (before after : List Pair) → list_all (is_pair_over rs.symbols) (before ++ after) ≡ true
+pub over_both : (rs : Rules) (before after : List Pair) → list_all (is_pair_over rs.symbols) (before ++ after) ≡ true
     → (list_all (is_pair_over rs.symbols) before ≡ true) × (list_all (is_pair_over rs.symbols) after ≡ true)
 over_both rs before after over = and_parts (list_all (is_pair_over rs.symbols) before) (list_all (is_pair_over rs.symbols) after) (sym (list_all-append (is_pair_over rs.symbols) before after) ∙ over)
 

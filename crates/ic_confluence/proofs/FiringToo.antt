@@ -42,7 +42,7 @@ pub arranged_behind : (front es fs : List Pair) → Rearranged es fs → Rearran
 arranged_behind [] es fs r = r
 arranged_behind (p ∷ front) es fs r = kept p p (front ++ es) (front ++ fs) (itself p) (arranged_behind front es fs r)
 
-arranged_before : (es fs back : List Pair) → Rearranged es fs → Rearranged (es ++ back) (fs ++ back)
+pub arranged_before : (es fs back : List Pair) → Rearranged es fs → Rearranged (es ++ back) (fs ++ back)
 arranged_before es fs back nothing = Rearranged-refl back
 arranged_before es fs back (kept p q ps qs alike rest) = kept p q (ps ++ back) (qs ++ back) alike (arranged_before ps qs back rest)
 arranged_before es fs back (swapped p q ps) = swapped p q (ps ++ back)
@@ -54,7 +54,7 @@ moved_in p [] es = Rearranged-refl (p ∷ es)
 moved_in p (q ∷ out) es = one_by_one (p ∷ q ∷ (out ++ es)) (q ∷ p ∷ (out ++ es)) (q ∷ (out ++ p ∷ es)) (swapped p q (out ++ es))
     (kept q q (p ∷ (out ++ es)) (out ++ p ∷ es) (itself q) (moved_in p out es))
 
-arranged_comm : (es fs : List Pair) → Rearranged (es ++ fs) (fs ++ es)
+pub arranged_comm : (es fs : List Pair) → Rearranged (es ++ fs) (fs ++ es)
 arranged_comm [] fs = let P : List Pair → Type 0 = Rearranged fs in transport P (sym (append-nil fs)) (Rearranged-refl fs)
 arranged_comm (p ∷ es) fs = one_by_one (p ∷ (es ++ fs)) (p ∷ (fs ++ es)) (fs ++ p ∷ es) (kept p p (es ++ fs) (fs ++ es) (itself p) (arranged_comm es fs)) (moved_in p fs es)
 
@@ -189,7 +189,7 @@ turned_renames rs c p q a fs more w = record {
 }
 
 -- the products as the rule's mirror has them
-abbrev other_products : (rs : List Rule) (p : Pair) (a : Active) → HasRule rs p a → ℕ → List Pair
+abbrev pub other_products : (rs : List Rule) (p : Pair) (a : Active) → HasRule rs p a → ℕ → List Pair
 other_products rs p a h base = against (arguments a.right) (inst h.rule base).right_args ++ against (arguments a.left) (inst h.rule base).left_args
 
 turned_arrives : (rs : Rules) (c : Configuration) (p q : Pair) (a : Active) (fs more : List Pair) (w : Turned rs c p q a fs more)
@@ -208,7 +208,7 @@ turned_arrives rs c p q a fs more w =
     let apart = map-append (renamed_pair f) (products_by rs.rules c.next (turned_active a)) more in
     λ i. record { interface = terms i; equations = (apart ∙ (λ j. out j ++ rest j)) i; next = c.next + count_of rs.rules a.rule }
 
-other_arranged : (rs : List Rule) (p : Pair) (a : Active) (h : HasRule rs p a) (base : ℕ) → Rearranged (products_by rs base a) (other_products rs p a h base)
+pub other_arranged : (rs : List Rule) (p : Pair) (a : Active) (h : HasRule rs p a) (base : ℕ) → Rearranged (products_by rs base a) (other_products rs p a h base)
 other_arranged rs p a h base =
     let P : List Pair → Type 0 = λ es. Rearranged es (other_products rs p a h base) in
     transport P (sym (products_are rs p a h base))

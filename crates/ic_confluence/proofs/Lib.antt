@@ -24,3 +24,7 @@ pub mod Joins
 pub mod Circles
 pub mod FireFirst
 pub mod Overtaking
+pub mod Agents
+pub mod Ways
+pub mod Apart
+pub mod FiredToo

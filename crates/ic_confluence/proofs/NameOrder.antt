@@ -13,7 +13,7 @@ use Rattle.ic_confluence.proofs.Settled.{settled_steps, settled_ends}
 use Rattle.ic_confluence.proofs.Strip.{Meeting, Chain, Ended, same_end, goes_on}
 
 -- all these steps have one label
-abbrev Labelled : ℕ → Configuration → Configuration → Type 0
+abbrev pub Labelled : ℕ → Configuration → Configuration → Type 0
 Labelled l c d = (l ≡ 0) × Putting c d
 
 met : (l m : ℕ) (d e : Configuration) → l ≡ 0 → m ≡ 0 → Same d e ⊎ ((f : Configuration) × Putting d f × Putting e f)
@@ -21,7 +21,7 @@ met : (l m : ℕ) (d e : Configuration) → l ≡ 0 → m ≡ 0 → Same d e ⊎
 met l m d e p q (inl same) = inl (p ∙ sym q, same)
 met l m d e p q (inr (f, one, other)) = inr (f, f, (q, one), (p, other), Same-refl f)
 
-name_laws : Meeting ℕ Configuration HasNames Labelled Same
+pub name_laws : Meeting ℕ Configuration HasNames Labelled Same
 name_laws = record {
   itself = Same-refl;
   other_way = Same-sym;
@@ -39,7 +39,7 @@ one_step_more : (ls : List ℕ) (c d e : Configuration) → Way ls c d → Putti
 one_step_more [] c d e w step = let P : Configuration → Type 0 = λ z. Putting z e in (e, (refl, transport P (sym w) step), refl)
 one_step_more (l ∷ ls) c d e w step = (w.0, w.1, one_step_more ls w.0 d e w.2 step)
 
-way_of : (c d : Configuration) → NameSteps c d → (ls : List ℕ) × Way ls c d
+pub way_of : (c d : Configuration) → NameSteps c d → (ls : List ℕ) × Way ls c d
 way_of c d (no_step x) = ([], refl)
 way_of c d (one_more x y z steps step) = let before = way_of x y steps in (before.0 ++ 0 ∷ [], one_step_more before.0 x y z before.1 (from_step y z step))
 
@@ -47,7 +47,7 @@ first_step : (c d e : Configuration) → NameStep c d → NameSteps d e → Name
 first_step c d e step (no_step x) = one_more c c x (no_step c) step
 first_step c d e step (one_more x y z steps last) = one_more c y z (first_step c x y step steps) last
 
-steps_of : (ls : List ℕ) (c d : Configuration) → Way ls c d → NameSteps c d
+pub steps_of : (ls : List ℕ) (c d : Configuration) → Way ls c d → NameSteps c d
 steps_of [] c d w = let P : Configuration → Type 0 = NameSteps c in transport P w (no_step c)
 steps_of (l ∷ ls) c d w = first_step c w.0 d (to_step c w.0 w.1.1) (steps_of ls w.0 d w.2)
 

@@ -20,7 +20,7 @@ use Rattle.ic_round.specs.lemmas.ChainLemmas.{steps-over, steps-names}
 use Rattle.ic_round.specs.lemmas.NameStepLemmas.{name_step}
 use Rattle.ic_round.specs.lemmas.QuietLemmas.{no_step as no_step_when_quiet}
 use Rattle.ic_round.specs.lemmas.SettledLemmas.{choice_step}
-use Rattle.ic_round.specs.lemmas.StepsLemmas.{settled_reached, round_reached}
+use Rattle.ic_round.specs.lemmas.StepsLemmas.{settled_reached, round_reached, iterate_reached}
 use Rattle.ic_confluence.specs.Kinds.{Kind, Chain}
 use Rattle.ic_confluence.proofs.Order.{kind_of, go_on, quiet_too}
 use Rattle.ic_confluence.proofs.Chains.{chain_from, first_step, steps_from}
@@ -207,3 +207,13 @@ pub rounds_end : (rs : Rules) (ks : List Kind) (c d : Configuration) → IsRuleS
     → (n : ℕ) × (n ≤ length ks) × IsQuiet rs.rules (iterate rs.rules n c)
 rounds_end rs ks c d set over named chain quiet =
     quiet_within rs (length ks) ks c d set over named chain quiet (let same : length ks ≤ length ks = omega arith in same)
+
+pub ends_exactly : (rs : Rules) (c : Configuration) → IsRuleSet rs → is_over rs.symbols c ≡ true → HasNames c
+    → ((d : Configuration) × Steps rs.rules c d × IsQuiet rs.rules d) ↔ ((n : ℕ) × IsQuiet rs.rules (iterate rs.rules n c))
+ends_exactly rs c set over named = (there, λ ends. (iterate rs.rules ends.0 c, iterate_reached rs.rules ends.0 c, ends.1))
+  where
+    there : ((d : Configuration) × Steps rs.rules c d × IsQuiet rs.rules d) → (n : ℕ) × IsQuiet rs.rules (iterate rs.rules n c)
+    there ends =
+        let chain = chain_from rs.rules c ends.0 ends.1 in
+        let found = rounds_end rs chain.0 c ends.0 set over named chain.1 ends.2 in
+        (found.0, found.2)

@@ -23,3 +23,12 @@ cut_at_y a b = record { left = name 1; right = one_argument b (one_argument a (n
 
 abbrev pub cut_at_x : ℕ → ℕ → Pair
 cut_at_x a b = record { left = name 0; right = one_argument a (one_argument b (name 0)) }
+
+-- agents of one argument with these symbols, one in the other, round x
+abbrev pub nested : List ℕ → Tree
+nested [] = name 0
+nested (s ∷ ss) = one_argument s (nested ss)
+
+-- `x=A(B(..(x)))`
+abbrev pub circle_of : List ℕ → Pair
+circle_of ss = record { left = name 0; right = nested ss }

@@ -1,3 +1,4 @@
 pub mod Sameness
 pub mod Kinds
 pub mod Circle
+pub mod Agents

@@ -1,6 +1,7 @@
 //! Laws of the order of steps.
 
-ghost use Rattle.std.specs.Prelude.{◌≡◌, ◌↔◌, ◌⊎◌, ◌≤◌, ◌++◌, ◌∷◌, ℕ, suc, List, [], IsPermutation, IsTrue, length};
+ghost use Rattle.std.specs.Prelude.{◌≡◌, ◌↔◌, ◌⊎◌, ◌≤◌, ◌++◌, ◌∷◌, ℕ, suc, Bool, List, [], IsPermutation, IsTrue, count_by, length};
+ghost use Rattle.ic_term.specs.Tree.{Pair};
 ghost use Rattle.ic_term.specs.Configuration.{Configuration, configuration_names, configuration_nodes, occurrences};
 ghost use Rattle.ic_term.specs.Symbol.{is_over};
 ghost use Rattle.ic_rules.specs.Rule.{Rule};
@@ -8,10 +9,12 @@ ghost use Rattle.ic_rules.specs.RuleSet.{Rules, IsRuleSet};
 ghost use Rattle.ic_settle.specs.Settling.{settled};
 ghost use Rattle.ic_settle.specs.NameSteps.{NameStep, NameSteps};
 ghost use Rattle.ic_round.specs.Naming.{HasNames};
-ghost use Rattle.ic_round.specs.Rounds.{IsQuiet, iterate};
+ghost use Rattle.ic_round.specs.Firing.{fired};
+ghost use Rattle.ic_round.specs.Rounds.{IsQuiet, round, iterate};
 ghost use Rattle.ic_round.specs.Steps.{Interaction, Step, Steps};
 ghost use Rattle.ic_confluence.specs.Kinds.{Kind, StepOf, Chain, firings};
-ghost use Rattle.ic_confluence.specs.Circle.{uncut, of_equations, cut_at_x, cut_at_y};
+ghost use Rattle.ic_confluence.specs.Agents.{configuration_symbols, way_round};
+ghost use Rattle.ic_confluence.specs.Circle.{uncut, of_equations, cut_at_x, cut_at_y, circle_of};
 ghost use Rattle.ic_confluence.specs.Sameness.{Same, renamed_pair, turned};
 
 /// To be the same net is an equivalence, and configurations of one net have the same `next`.
@@ -42,6 +45,34 @@ pub fn same_nets_have_one_shape()
         → length d.equations ≡ length c.equations }
     ensures text { (c d : Configuration) → Same c d → c.equations ≡ []
         → ((n : ℕ) → occurrences n (configuration_names c) ≤ 1) → d ≡ c }
+{}
+
+/// Configurations of one net have the same agents, each as often. And they have the same circles:
+/// what holds of the way round a circle wherever that begins, holds of as many equations of both.
+/// Of two equations alone the ways round are one, but for where they begin.
+pub fn same_nets_have_the_same_agents()
+    ensures agents { (c d : Configuration) → Same c d
+        → IsPermutation (configuration_symbols c) (configuration_symbols d) }
+    ensures circles { (holds : List (ℕ × ℕ) → Bool)
+        → ((front back : List (ℕ × ℕ)) → holds (front ++ back) ≡ holds (back ++ front))
+        → (c d : Configuration) → Same c d
+        → count_by (λ p. holds (way_round p)) d.equations
+        ≡ count_by (λ p. holds (way_round p)) c.equations }
+    ensures one_circle { (c d : Configuration) (p q : Pair) → Same c d
+        → c.equations ≡ p ∷ [] → d.equations ≡ q ∷ []
+        → (front : List (ℕ × ℕ)) × (back : List (ℕ × ℕ))
+        × (way_round p ≡ front ++ back) × (way_round q ≡ back ++ front) }
+{}
+
+/// `<|x=A(A(x))>` and `<|x=B(B(x))>` are two nets, and so are `<|x=A(B(C(x)))>` and
+/// `<|x=A(C(B(x)))>`, where A, B and C are three symbols.
+pub fn circles_may_differ()
+    ensures agents { (a b : ℕ) → ¬ (a ≡ b)
+        → ¬ Same (of_equations (circle_of (a ∷ a ∷ []) ∷ []))
+        (of_equations (circle_of (b ∷ b ∷ []) ∷ [])) }
+    ensures order { (a b c : ℕ) → ¬ (a ≡ b) → ¬ (b ≡ c) → ¬ (c ≡ a)
+        → ¬ Same (of_equations (circle_of (a ∷ b ∷ c ∷ []) ∷ []))
+        (of_equations (circle_of (a ∷ c ∷ b ∷ []) ∷ [])) }
 {}
 
 /// Configurations of one net keep the same of names, and where one has an indirection or a collect
@@ -106,6 +137,22 @@ pub fn same_nets_take_the_same_steps()
         → IsQuiet rs.rules c → IsQuiet rs.rules d }
 {}
 
+/// Configurations of one net are one net once they are settled, once all their active equations
+/// have fired, and after a round or several.
+pub fn same_nets_have_the_same_rounds()
+    ensures settled { (c d : Configuration) → HasNames c → Same c d
+        → Same (settled c) (settled d) }
+    ensures fired { (rs : Rules) (c d : Configuration) → IsRuleSet rs
+        → IsTrue (is_over rs.symbols c) → HasNames c → Same c d
+        → Same (fired rs.rules c) (fired rs.rules d) }
+    ensures round { (rs : Rules) (c d : Configuration) → IsRuleSet rs
+        → IsTrue (is_over rs.symbols c) → HasNames c → Same c d
+        → Same (round rs.rules c) (round rs.rules d) }
+    ensures rounds { (rs : Rules) (n : ℕ) (c d : Configuration) → IsRuleSet rs
+        → IsTrue (is_over rs.symbols c) → HasNames c → Same c d
+        → Same (iterate rs.rules n c) (iterate rs.rules n d) }
+{}
+
 /// An interaction, and an indirection or collect, lead to one configuration in either order.
 pub fn an_interaction_and_a_name_step_commute()
     ensures { (rs : Rules) (c d e : Configuration) (place : ℕ) → IsRuleSet rs
@@ -165,12 +212,16 @@ pub fn every_order_ends_in_one_answer()
         → Steps rs.rules c e → IsQuiet rs.rules e → e ≡ d }
 {}
 
-/// Where some chain of steps ends, some number of rounds does, and at most as many. And where they
-/// do, they end in the net of every order.
+/// Where some chain of steps ends, some number of rounds does, and at most as many; where no chain
+/// does, no number of rounds does. And where rounds end, they end in the net of every order.
 pub fn rounds_end_in_the_net_of_every_order()
     ensures reached { (rs : Rules) (ks : List Kind) (c d : Configuration) → IsRuleSet rs
         → IsTrue (is_over rs.symbols c) → HasNames c → Chain rs.rules ks c d → IsQuiet rs.rules d
         → (n : ℕ) × (n ≤ length ks) × IsQuiet rs.rules (iterate rs.rules n c) }
+    ensures exactly { (rs : Rules) (c : Configuration) → IsRuleSet rs
+        → IsTrue (is_over rs.symbols c) → HasNames c
+        → ((d : Configuration) × Steps rs.rules c d × IsQuiet rs.rules d)
+        ↔ ((n : ℕ) × IsQuiet rs.rules (iterate rs.rules n c)) }
     ensures end { (rs : Rules) (n : ℕ) (c d : Configuration) → IsRuleSet rs
         → IsTrue (is_over rs.symbols c) → HasNames c → Steps rs.rules c d → IsQuiet rs.rules d
         → IsQuiet rs.rules (iterate rs.rules n c) → Same d (iterate rs.rules n c) }
