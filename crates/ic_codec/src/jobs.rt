@@ -84,6 +84,7 @@ fn job_at(alloc: Global, bytes: &[u8]) -> Result<(Job, &[u8]), CodecFault>
         Err(fault) => return Err(fault),
     };
     let rules = Arc::new(alloc, rules)?;
+    let config = Arc::new(alloc, config)?;
     match Job::restore(heading.name, rules, config, heading.rounds, heading.state) {
         Some(job) => Ok((job, rest)),
         None => Err(CodecFault::NotATable),

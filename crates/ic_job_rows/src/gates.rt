@@ -4,8 +4,8 @@ use crate::pool::{WORKERS, flight_of};
 use ic_notation::{Trouble, decimal, expanded, printed, system_of};
 use ic_pool::{Flight, Gate, play};
 use std::alloc::{AllocError, Global};
-use std::sync::Wait;
 use std::sync::atomic::{AtomicBool, AtomicU64, Ordering};
+use std::sync::{Arc, Wait};
 use std::thread::{self, Threads};
 use std::time::{Clock, Duration};
 
@@ -92,7 +92,7 @@ fn passed_by<R: Threads + Wait>(
 /// Which places pass in the round of a system, each once: the same by each number of workers.
 pub fn passed<R: Threads + Wait>(rt: &R, alloc: Global, text: &[u8]) -> Result<Vec<u8>, Trouble> {
     let (rules, config) = system_of(alloc, text)?.into_parts();
-    let flight = flight_of(alloc, rules, config, 0)?;
+    let flight = flight_of(rules, Arc::new(alloc, config)?, 0)?;
     let line = passed_by(rt, alloc, &flight, 1)?;
     for workers in WORKERS {
         if passed_by(rt, alloc, &flight, *workers)?.as_slice() != line.as_slice() {
@@ -169,7 +169,7 @@ pub fn played_at_once<R: Threads + Wait + Clock + Sync>(
     let (rules, config) = system_of(alloc, &expanded(alloc, text)?)?.into_parts();
     let counters = Counters::new(alloc, config.equations().len())?;
     let meeting = Meeting::new(rt, counters, wanted);
-    let flight = flight_of(alloc, rules, config, 0)?;
+    let flight = flight_of(rules, Arc::new(alloc, config)?, 0)?;
     let Ok(played) = play(rt, alloc, &flight, workers as usize, &meeting) else {
         return Err(Trouble("a round by workers is refused"));
     };

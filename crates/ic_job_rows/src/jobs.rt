@@ -9,6 +9,7 @@ use ic_rules::JobName;
 use ic_term::Config;
 use ic_text::print_fault;
 use std::alloc::Global;
+use std::sync::Arc;
 
 /// A table, and the flights that were taken, in their order.
 #[derive(Drop)]
@@ -64,7 +65,7 @@ impl Session {
     fn command(&mut self, alloc: Global, command: Command) -> Result<Vec<u8>, Trouble> {
         let mut other = self.table.copy(alloc)?;
         let copied = other.apply(command.copy(alloc)?)?;
-        let again = print_reply(alloc, &copied.copy(alloc)?)?;
+        let again = print_reply(alloc, &copied.copy()?)?;
         let line = print_reply(alloc, &self.table.apply(command)?)?;
         if other != self.table || again.as_slice() != line.as_slice() {
             return Err(Trouble("a copy is answered otherwise"));
@@ -132,6 +133,7 @@ impl Session {
             return Err(Trouble("no name"));
         };
         let mut jobs = Vec::new(alloc);
+        let config = Arc::new(alloc, config)?;
         match Job::restore(name, rules, config, rounds, State::Running) {
             Some(job) => jobs.push(job)?,
             None => return Ok(Vec::from_slice(alloc, b"no job")?),

@@ -12,19 +12,14 @@ use std::thread::{self, Threads};
 pub const WORKERS: &[usize] = &[1, 2, 3, 7, 64, 200];
 
 /// A flight of a job, where these are the parts of one.
-pub fn flight_of(
-    alloc: Global,
-    rules: Arc<RuleSet>,
-    config: Config,
-    rounds: u64,
-) -> Result<Flight, Trouble> {
+pub fn flight_of(rules: Arc<RuleSet>, config: Arc<Config>, rounds: u64) -> Result<Flight, Trouble> {
     let Some(name) = JobName::new(b"p") else {
         return Err(Trouble("no name"));
     };
     if !over(rules.symbols(), &config) || rounds > MAX_ROUNDS {
         return Err(Trouble("no flight"));
     }
-    Ok(Flight::new(0, name, rules, Arc::new(alloc, config)?, rounds))
+    Ok(Flight::new(0, name, rules, config, rounds))
 }
 
 /// Whether a round is of this flight: its name, rules, configuration and rounds.
@@ -41,7 +36,7 @@ fn agreed<R: Threads + Wait, G: Gate>(
     alloc: Global,
     flight: &Flight,
     gate: &G,
-) -> Result<Config, Trouble> {
+) -> Result<Arc<Config>, Trouble> {
     let Ok(alone) = play_alone(alloc, flight) else {
         return Err(Trouble("a round is refused"));
     };
@@ -63,10 +58,11 @@ pub fn rounds_by_any<R: Threads + Wait>(
     count: u32,
     text: &[u8],
 ) -> Result<Vec<u8>, Trouble> {
-    let (rules, mut config) = system_of(alloc, text)?.into_parts();
+    let (rules, config) = system_of(alloc, text)?.into_parts();
+    let mut config = Arc::new(alloc, config)?;
     let mut line = Vec::new(alloc);
     for round in 0..count {
-        let flight = flight_of(alloc, rules.clone()?, config, u64::from(round))?;
+        let flight = flight_of(rules.clone()?, config, u64::from(round))?;
         config = agreed(rt, alloc, &flight, &OpenGate)?;
         line.append(&mut printed(alloc, &rules, &config)?)?;
         line.push(b' ')?;
@@ -102,9 +98,10 @@ pub fn rounds_by_yielding<R: Threads + Wait>(
     count: u32,
     text: &[u8],
 ) -> Result<Vec<u8>, Trouble> {
-    let (rules, mut config) = system_of(alloc, text)?.into_parts();
+    let (rules, config) = system_of(alloc, text)?.into_parts();
+    let mut config = Arc::new(alloc, config)?;
     for round in 0..count {
-        let flight = flight_of(alloc, rules.clone()?, config, u64::from(round))?;
+        let flight = flight_of(rules.clone()?, config, u64::from(round))?;
         let seed = u64::from(round);
         config = agreed(rt, alloc, &flight, &Yielding { seed })?;
     }
@@ -121,9 +118,8 @@ pub fn refused<R: Threads + Wait>(rt: &R, alloc: Global, text: &str) -> Result<V
     let next = u64::from_str_radix(next, 10).unwrap_or(read);
     let config = Config::restore(alloc, interface, equations, next)?;
     let flight = flight_of(
-        alloc,
         rules,
-        config,
+        Arc::new(alloc, config)?,
         u64::from_str_radix(rounds, 10).unwrap_or(0),
     )?;
     let workers = usize::from_str_radix(workers, 10).unwrap_or(0);

@@ -358,3 +358,15 @@ awaited_at {t = t} {u = u} {n = n} {m = m} {q = q} {b = b} {l = l} {i = i} {d = 
     let f = found_at m u i d is here in
     let job = awaited_is m u i d f q b l (along tables names rules configs rounds awaits) in
     record { found = f; same = job_is m u i d f read; runs = job.0; agrees = job.1 }
+
+-- the same of a table that awaits the round, where the place of the name was found
+pub awaited_there : {t u v : List JobParts} {n m : List ℕ} {q : Rules} {b : Configuration} {l : ℕ} {i : ℕ} {d : JobParts} → t ≡ u → u ≡ v → n ≡ m
+    → IsTable u → Some i ≡ position_from (is_named n) 0 t → Awaits v m q b l → d ≡ get_or u i d → AwaitedAt m u i d q b l
+awaited_there tables view names is place awaits read =
+    awaited_at tables names refl refl refl is (sym place) (along (sym (tables ∙ view)) (sym names) refl refl refl awaits) read
+
+-- it is found
+pub awaited_nowhere : {t v : List JobParts} {n m : List ℕ} {q : Rules} {b : Configuration} {l : ℕ} → t ≡ v → n ≡ m
+    → None ≡ position_from (is_named n) 0 t → Awaits v m q b l → ⊥
+awaited_nowhere {t = t} {v = v} {m = m} {q = q} {b = b} {l = l} tables names none awaits =
+    not_awaited m v q b l (nothing_at m tables (none ∙ ap (λ (x : List ℕ). position_from (is_named x) 0 t) names)) awaits

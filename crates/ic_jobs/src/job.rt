@@ -15,12 +15,13 @@ use std::marker::Model;
 use std::sync::Arc;
 
 /// A job: its name, its rules and configuration, how many rounds it has made, and its state. It is
-/// done exactly where its configuration is quiet.
+/// done exactly where its configuration is quiet. Rules and configuration are shared, never changed:
+/// a round puts another configuration in place.
 #[derive(Debug, Drop)]
 pub struct Job {
     name: JobName,
     rules: Arc<RuleSet>,
-    config: Config,
+    config: Arc<Config>,
     rounds: u64,
     state: State,
 }
@@ -36,7 +37,7 @@ impl Model for Job {
     ghost view = { λ j. record {
       name = j.name;
       rules = arc_value j.rules;
-      config = j.config;
+      config = arc_value j.config;
       rounds = j.rounds;
       state = j.state;
     } };
@@ -44,7 +45,7 @@ impl Model for Job {
     ghost invariant = { λ j. IsJob (record {
       name = j.name;
       rules = arc_value j.rules;
-      config = j.config;
+      config = arc_value j.config;
       rounds = j.rounds;
       state = j.state;
     }) };
@@ -64,21 +65,21 @@ impl Job {
     pub fn restore(
         name: JobName,
         rules: Arc<RuleSet>,
-        config: Config,
+        config: Arc<Config>,
         rounds: u64,
         state: State,
     ) -> Option<Job>
         ensures job { IsSome result ↔ IsJob (record {
           name = name;
           rules = arc_value rules;
-          config = config;
+          config = arc_value config;
           rounds = rounds;
           state = state;
         }) }
         ensures parts { IfSome result (λ job. job ≡ record {
           name = name;
           rules = arc_value rules;
-          config = config;
+          config = arc_value config;
           rounds = rounds;
           state = state;
         }) }
@@ -101,22 +102,23 @@ impl Job {
     }
 
     /// A job as it begins. The system is moved into it.
-    pub(crate) fn begin(name: JobName, system: System) -> Job
-        ensures job { result ≡ begun name system }
-        ensures sound { IsJob result }
+    pub(crate) fn begin(alloc: Global, name: JobName, system: System) -> Result<Job, AllocError>
+        ensures job { IfOk result (λ job. job ≡ begun name system) }
+        ensures sound { IfOk result (λ job. IsJob job) }
     {
         let (rules, config) = system.into_parts();
         let symbols = rules.symbols();
         // Read for the proof: what the types of the parts keep, the job keeps too.
         let (_text, _count, _next) = (name.as_bytes(), symbols.len(), config.next());
         let state = open_state(&rules, &config);
-        Job {
+        let config = Arc::new(alloc, config)?;
+        Ok(Job {
             name,
             rules,
             config,
             rounds: 0,
             state,
-        }
+        })
     }
 
     pub fn name(&self) -> JobName
@@ -166,7 +168,7 @@ impl Job {
     pub(crate) fn agrees(&self, rules: &RuleSet, config: &Config, rounds: u64) -> bool
         ensures { result ≡ agrees self.now rules.now config.now rounds }
     {
-        self.rounds == rounds && self.config == *config && *self.rules == *rules
+        self.rounds == rounds && *self.config == *config && *self.rules == *rules
     }
 
     /// Puts a job that isn't done into another such state.
@@ -179,9 +181,9 @@ impl Job {
     }
 
     /// Puts the configuration after a round.
-    pub(crate) fn advance(&mut self, after: Config)
+    pub(crate) fn advance(&mut self, after: Arc<Config>)
         requires can { IsTrue (can_move self.old) }
-        requires round { after ≡ round self.old.rules.rules self.old.config }
+        requires round { arc_value after ≡ round self.old.rules.rules self.old.config }
         ensures { self.new ≡ moved self.old }
     {
         self.state = open_state(&self.rules, &after);
@@ -189,21 +191,22 @@ impl Job {
         self.rounds += 1;
     }
 
-    /// A copy of the job as a round that is to be made, the job being at this place.
-    pub(crate) fn flight(&self, alloc: Global, place: usize) -> Result<Flight, AllocError>
+    /// The job as a round that is to be made, the job being at this place. It shares the rules and
+    /// the configuration.
+    pub(crate) fn flight(&self, place: usize) -> Result<Flight, AllocError>
         ensures { IfOk result (λ flight. flight ≡ flight_of place self.now) }
     {
         Ok(Flight::new(
             place,
             self.name,
             self.rules.clone()?,
-            Arc::new(alloc, self.config.copy(alloc)?)?,
+            self.config.clone()?,
             self.rounds,
         ))
     }
 
-    /// A copy of the job as a reply shows it.
-    pub(crate) fn shown(&self, alloc: Global) -> Result<ShownJob, AllocError>
+    /// The job as a reply shows it, which shares the rules and the configuration.
+    pub(crate) fn shown(&self) -> Result<ShownJob, AllocError>
         ensures { IfOk result (λ copy. copy ≡ shown self.now) }
     {
         Ok(ShownJob::new(
@@ -211,18 +214,18 @@ impl Job {
             self.state,
             self.rounds,
             self.rules.clone()?,
-            self.config.copy(alloc)?,
+            self.config.clone()?,
         ))
     }
 
-    /// A copy, equal to its source, which shares the rules.
-    pub fn copy(&self, alloc: Global) -> Result<Job, AllocError>
+    /// A copy, equal to its source, which shares the rules and the configuration.
+    pub fn copy(&self) -> Result<Job, AllocError>
         ensures { IfOk result (λ copy. copy ≡ self.now) }
     {
         Ok(Job {
             name: self.name,
             rules: self.rules.clone()?,
-            config: self.config.copy(alloc)?,
+            config: self.config.clone()?,
             rounds: self.rounds,
             state: self.state,
         })
@@ -242,7 +245,7 @@ impl PartialEq for Job {
         self.name.as_bytes() == other.name.as_bytes()
             && self.rounds == other.rounds
             && self.state == other.state
-            && self.config == other.config
+            && *self.config == *other.config
             && *self.rules == *other.rules
     }
 }

@@ -3,7 +3,7 @@
 ghost use Rattle.std.specs.Prelude.{◌≡◌, IfOk, OnErr, IsTrue};
 
 use crate::shown::{JobList, ShownJob};
-use std::alloc::{AllocError, Global};
+use std::alloc::AllocError;
 
 /// Why a command is refused. The numbers are lasting.
 #[derive(Clone, Copy, Debug, PartialEq, Eq)]
@@ -53,16 +53,17 @@ pub enum Reply {
 impl Reply {
     ghost use Rattle.ic_jobs.specs.Memory.{tells_jobs};
 
-    /// A copy, equal to its source. Only those of `Shown` and `Listed` take memory.
-    pub fn copy(&self, alloc: Global) -> Result<Reply, AllocError>
+    /// A copy, equal to its source, which shares what is shown and listed. Only those of `Shown` and
+    /// `Listed` may be answered want of memory.
+    pub fn copy(&self) -> Result<Reply, AllocError>
         ensures copy { IfOk result (λ copy. copy ≡ self.now) }
         ensures memory { OnErr result (IsTrue (tells_jobs self.now)) }
     {
         match self {
             Reply::Accepted => Ok(Reply::Accepted),
             Reply::Okay => Ok(Reply::Okay),
-            Reply::Shown(shown) => Ok(Reply::Shown(shown.copy(alloc)?)),
-            Reply::Listed(list) => Ok(Reply::Listed(list.copy(alloc)?)),
+            Reply::Shown(shown) => Ok(Reply::Shown(shown.copy()?)),
+            Reply::Listed(list) => Ok(Reply::Listed(list.copy()?)),
             Reply::Refused(refusal) => Ok(Reply::Refused(*refusal)),
             Reply::Moved => Ok(Reply::Moved),
             Reply::Halted => Ok(Reply::Halted),

@@ -10,15 +10,15 @@ use std::alloc::{AllocError, Global};
 use std::marker::Model;
 use std::sync::Arc;
 
-/// A job as a reply shows it: its name, state and rounds, and a copy of its configuration with its
-/// rules.
+/// A job as a reply shows it: its name, state and rounds, and its rules and configuration, which it
+/// shares with the job.
 #[derive(Debug, Drop)]
 pub struct ShownJob {
     name: JobName,
     state: State,
     rounds: u64,
     rules: Arc<RuleSet>,
-    config: Config,
+    config: Arc<Config>,
 }
 
 impl Model for ShownJob {
@@ -36,10 +36,10 @@ impl Model for ShownJob {
       state = s.state;
       rounds = s.rounds;
       rules = arc_value s.rules;
-      config = s.config;
+      config = arc_value s.config;
     } };
 
-    ghost invariant = { λ s. IsTrue (is_over (arc_value s.rules).symbols s.config) };
+    ghost invariant = { λ s. IsTrue (is_over (arc_value s.rules).symbols (arc_value s.config)) };
 }
 
 impl ShownJob {
@@ -51,15 +51,15 @@ impl ShownJob {
         state: State,
         rounds: u64,
         rules: Arc<RuleSet>,
-        config: Config,
+        config: Arc<Config>,
     ) -> ShownJob
-        requires { IsTrue (is_over (arc_value rules).symbols config) }
+        requires { IsTrue (is_over (arc_value rules).symbols (arc_value config)) }
         ensures { result ≡ record {
           name = name;
           state = state;
           rounds = rounds;
           rules = arc_value rules;
-          config = config;
+          config = arc_value config;
         } }
     {
         ShownJob {
@@ -103,8 +103,8 @@ impl ShownJob {
         &self.config
     }
 
-    /// A copy, equal to its source, which shares the rules.
-    pub fn copy(&self, alloc: Global) -> Result<ShownJob, AllocError>
+    /// A copy, equal to its source, which shares the rules and the configuration.
+    pub fn copy(&self) -> Result<ShownJob, AllocError>
         ensures { IfOk result (λ copy. copy ≡ self.now) }
     {
         Ok(ShownJob {
@@ -112,31 +112,37 @@ impl ShownJob {
             state: self.state,
             rounds: self.rounds,
             rules: self.rules.clone()?,
-            config: self.config.copy(alloc)?,
+            config: self.config.clone()?,
         })
     }
 }
 
-/// The name, state and rounds of each job of a table, in its order.
+/// The name, state and rounds of each job of a table, in its order. Copies share the lines.
 #[derive(Debug, Drop)]
 pub struct JobList {
-    lines: Vec<(JobName, State, u64)>,
+    lines: Arc<Vec<(JobName, State, u64)>>,
 }
 
 impl Model for JobList {
     ghost use Rattle.std.specs.Prelude.{List, ℕ};
+    ghost use Rattle.std.specs.Arc.{arc_value};
     ghost use Rattle.ic_jobs.specs.declared.state.State.{State};
 
     ghost Value = { List (List ℕ × State × ℕ) };
 
-    ghost view = { λ l. l.lines.items };
+    ghost view = { λ l. (arc_value l.lines).items };
 }
 
 impl JobList {
-    pub(crate) fn new(lines: Vec<(JobName, State, u64)>) -> JobList
-        ensures { result ≡ lines.items }
+    pub(crate) fn new(
+        alloc: Global,
+        lines: Vec<(JobName, State, u64)>,
+    ) -> Result<JobList, AllocError>
+        ensures { IfOk result (λ list. list ≡ lines.items) }
     {
-        JobList { lines }
+        Ok(JobList {
+            lines: Arc::new(alloc, lines)?,
+        })
     }
 
     pub fn as_slice(&self) -> &[(JobName, State, u64)]
@@ -145,12 +151,12 @@ impl JobList {
         self.lines.as_slice()
     }
 
-    /// A copy, equal to its source.
-    pub fn copy(&self, alloc: Global) -> Result<JobList, AllocError>
+    /// A copy, equal to its source, which shares the lines.
+    pub fn copy(&self) -> Result<JobList, AllocError>
         ensures { IfOk result (λ copy. copy ≡ self.now) }
     {
         Ok(JobList {
-            lines: Vec::from_slice(alloc, &self.lines)?,
+            lines: self.lines.clone()?,
         })
     }
 }

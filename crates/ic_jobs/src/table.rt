@@ -9,21 +9,24 @@ mod rounds;
 use self::places::{are_distinct, place_of};
 use crate::job::Job;
 use crate::limits::MAX_JOBS;
+use crate::shown::JobList;
 use ic_rules::JobName;
 use std::alloc::{AllocError, Global};
 use std::marker::Model;
 
 /// Jobs in the order in which they were submitted, at most 32, no two of one name. It keeps the
-/// allocator that it was made with.
+/// allocator that it was made with, and the list of its jobs until one changes.
 #[derive(Debug, Drop)]
 pub struct Table {
     jobs: Vec<Job>,
+    kept_list: Option<JobList>,
 }
 
 impl Model for Table {
-    ghost use Rattle.std.specs.Prelude.{List};
+    ghost use Rattle.std.specs.Prelude.{◌≡◌, List, IfSome};
     ghost use Rattle.std.specs.Coded.{coded_list};
     ghost use Rattle.ic_jobs.specs.Job.{JobParts, coded_job};
+    ghost use Rattle.ic_jobs.specs.Shown.{listed};
     ghost use Rattle.ic_jobs.specs.Table.{IsTable};
 
     ghost Value = { List JobParts };
@@ -32,7 +35,8 @@ impl Model for Table {
 
     ghost view = { λ t. t.jobs.items };
 
-    ghost invariant = { λ t. IsTable t.jobs.items };
+    ghost invariant = { λ t. IsTable t.jobs.items
+        × IfSome t.kept_list (λ list. list ≡ listed t.jobs.items) };
 }
 
 impl Table {
@@ -46,6 +50,7 @@ impl Table {
     {
         Table {
             jobs: Vec::new(alloc),
+            kept_list: None,
         }
     }
 
@@ -57,18 +62,24 @@ impl Table {
         if jobs.len() > MAX_JOBS || !are_distinct(&jobs) {
             return None;
         }
-        Some(Table { jobs })
+        Some(Table {
+            jobs,
+            kept_list: None,
+        })
     }
 
-    /// A copy, equal to its source, whose jobs share their rules.
+    /// A copy, equal to its source, whose jobs share their rules and configurations.
     pub fn copy(&self, alloc: Global) -> Result<Table, AllocError>
         ensures { IfOk result (λ copy. copy ≡ self.now) }
     {
         let mut jobs = Vec::with_capacity(alloc, self.jobs.len())?;
         for job in &self.jobs {
-            jobs.push(job.copy(alloc)?)?;
+            jobs.push(job.copy()?)?;
         }
-        Ok(Table { jobs })
+        Ok(Table {
+            jobs,
+            kept_list: None,
+        })
     }
 
     /// The jobs in the order in which they were submitted.

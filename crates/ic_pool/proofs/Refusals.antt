@@ -1,10 +1,15 @@
 -- Which refusal of a flight comes where.
-use Rattle.std.proofs.Common.{◌≡◌, ◌≤◌, ◌<◌, ◌↔◌, ℕ, Bool, true, false, Result, Ok, Err, nat_le, nat_eq, cond, refl, sym, ◌∙◌, arith}
+use Rattle.std.proofs.Common.{◌≡◌, ◌≤◌, ◌<◌, ◌↔◌, ◌⊎◌, inl, inr, ℕ, Bool, true, false, not, ◌&&◌, ◌||◌, Result, Ok, Err, IsTrue, nat_le, nat_eq, cond, refl, sym, ◌∙◌, arith}
 use Rattle.std.proofs.lemmas.Grind.{common_steps}
 use Rattle.std.specs.Cmp.{unsigned_Decides}
-use Rattle.ic_pool.specs.Played.{PlayedParts}
+use Rattle.ic_round.specs.Rounds.{is_small, has_names}
+use Rattle.ic_pool.specs.Flight.{FlightParts, is_blocked}
+use Rattle.ic_pool.specs.Played.{PlayedParts, played, round_of}
+use Rattle.ic_pool.specs.PoolFault.{Answers, is_of_flight, is_of_workers}
+use Rattle.ic_pool.specs.Workers.{ByWorkers, played_by}
+use Rattle.ic_pool.specs.declared.limits.TheConstants.{MAX_ROUNDS}
 use Rattle.ic_pool.specs.declared.fault.PoolFault.{PoolFault}
-use Rattle.ic_pool.specs.declared.fault.PoolFault.TheVariants.{Overgrown, NamesOut, RoundsOut}
+use Rattle.ic_pool.specs.declared.fault.PoolFault.TheVariants.{NoWorkers, Overgrown, NamesOut, NoThread, Memory, Lost, Stranger, RoundsOut}
 
 -- the answer by its three tests
 abbrev pub answer : Bool → Bool → Bool → PlayedParts → Result PlayedParts PoolFault
@@ -58,3 +63,74 @@ large_at m n false e = (λ h. beyond, λ h. refl)
 
 pub large_where : (m n : ℕ) → (nat_le m n ≡ false) ↔ (n < m)
 large_where m n = large_at m n (nat_le m n) refl
+
+-- ---- a refusal of the flight itself
+
+or_true : (b : Bool) → (b || true) ≡ true
+or_true true = refl
+or_true false = refl
+
+refused_where : (out small named : Bool) (p : PlayedParts) (fault : PoolFault) → answer out small named p ≡ Err fault → (not (small && named) || out) ≡ true
+refused_where true small named p fault e = or_true (not (small && named))
+refused_where false true true p fault e = cc
+refused_where false true false p fault e = refl
+refused_where false false named p fault e = refl
+
+refused : (f : FlightParts) (fault : PoolFault) → Err fault ≡ played f → IsTrue (is_blocked f)
+refused f fault e =
+    refused_where (nat_eq f.rounds MAX_ROUNDS) (is_small f.rules.rules f.config) (has_names f.rules.rules f.config) (round_of f) fault (sym e)
+
+pub refused_alone : (f : FlightParts) (fault : PoolFault) → Answers (Err fault) (played f) → IsTrue (is_of_flight fault) → IsTrue (is_blocked f)
+refused_alone f NoWorkers is of = let never : false ≡ true = of in cc
+refused_alone f Overgrown is of = refused f Overgrown is
+refused_alone f NamesOut is of = refused f NamesOut is
+refused_alone f NoThread is of = let never : false ≡ true = of in cc
+refused_alone f Memory is of = let never : false ≡ true = of in cc
+refused_alone f Lost is of = let never : false ≡ true = of in cc
+refused_alone f Stranger is of = let never : false ≡ true = of in cc
+refused_alone f RoundsOut is of = refused f RoundsOut is
+
+-- with no workers another refusal comes
+unless_none : (none : Bool) (fault : PoolFault) (r : Result PlayedParts PoolFault) → is_of_flight fault ≡ true → Err fault ≡ cond none (Err NoWorkers) r → Err fault ≡ r
+unless_none true fault r of e = let same : fault ≡ NoWorkers = cc in let never : false ≡ true = sym (λ i. is_of_flight (same i)) ∙ of in cc
+unless_none false fault r of e = e
+
+by_refused : (workers : ℕ) (f : FlightParts) (fault : PoolFault) → is_of_flight fault ≡ true → Err fault ≡ played_by workers f → IsTrue (is_blocked f)
+by_refused workers f fault of e = refused f fault (unless_none (nat_eq workers 0) fault (played f) of e)
+
+pub refused_by : (workers : ℕ) (f : FlightParts) (fault : PoolFault) → ByWorkers {T = PlayedParts} (Err fault) (played_by workers f) → IsTrue (is_of_flight fault)
+    → IsTrue (is_blocked f)
+refused_by workers f NoWorkers is of = let never : false ≡ true = of in cc
+refused_by workers f Overgrown is of = by_refused workers f Overgrown of is
+refused_by workers f NamesOut is of = by_refused workers f NamesOut of is
+refused_by workers f NoThread is of = let never : false ≡ true = of in cc
+refused_by workers f Memory is of = let never : false ≡ true = of in cc
+refused_by workers f Lost is of = let never : false ≡ true = of in cc
+refused_by workers f Stranger is of = let never : false ≡ true = of in cc
+refused_by workers f RoundsOut is of = by_refused workers f RoundsOut of is
+
+-- ---- any other refusal of some workers
+
+no_workers_of : (out small named : Bool) (p : PlayedParts) → Err NoWorkers ≡ answer out small named p → ⊥
+no_workers_of true small named p e = cc
+no_workers_of false true true p e = cc
+no_workers_of false true false p e = cc
+no_workers_of false false named p e = cc
+
+some_workers : (none : Bool) (r : Result PlayedParts PoolFault) → none ≡ false → Err NoWorkers ≡ cond none (Err NoWorkers) r → Err NoWorkers ≡ r
+some_workers true r e is = cc
+some_workers false r e is = is
+
+pub other_refusals : (workers : ℕ) (f : FlightParts) (fault : PoolFault) → 0 < workers → ByWorkers {T = PlayedParts} (Err fault) (played_by workers f)
+    → is_of_flight fault ≡ false → (fault ≡ Memory) ⊎ IsTrue (is_of_workers fault)
+other_refusals workers f NoWorkers some is apart =
+    let there : nat_eq workers 0 ≡ false = (unequal_where workers 0).1 (λ e. absurd (omega (arith, e, some))) in
+    absurd (no_workers_of (nat_eq f.rounds MAX_ROUNDS) (is_small f.rules.rules f.config) (has_names f.rules.rules f.config) (round_of f)
+    (some_workers (nat_eq workers 0) (played f) there is))
+other_refusals workers f Overgrown some is apart = let never : true ≡ false = apart in cc
+other_refusals workers f NamesOut some is apart = let never : true ≡ false = apart in cc
+other_refusals workers f NoThread some is apart = inr refl
+other_refusals workers f Memory some is apart = inl refl
+other_refusals workers f Lost some is apart = inr refl
+other_refusals workers f Stranger some is apart = inr refl
+other_refusals workers f RoundsOut some is apart = let never : true ≡ false = apart in cc

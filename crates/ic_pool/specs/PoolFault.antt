@@ -22,6 +22,17 @@ abbrev pub asks_memory : {T : Type 0} → Result T PoolFault → Bool
 asks_memory (Ok value) = true
 asks_memory (Err fault) = not (is_told_first fault)
 
+-- a refusal of the flight itself, of which no round can be made
+abbrev pub is_of_flight : PoolFault → Bool
+is_of_flight NoWorkers = false
+is_of_flight Overgrown = true
+is_of_flight NamesOut = true
+is_of_flight NoThread = false
+is_of_flight Memory = false
+is_of_flight Lost = false
+is_of_flight Stranger = false
+is_of_flight RoundsOut = true
+
 -- a refusal that comes of the workers
 abbrev pub is_of_workers : PoolFault → Bool
 is_of_workers NoWorkers = false

@@ -21,5 +21,6 @@ pub fn play_alone(alloc: Global, flight: &Flight) -> Result<Played, PoolFault>
     let after = round(alloc, flight.rules(), flight.config().copy(alloc)?)?;
     let before = flight.shared_config().clone()?;
     let rules = flight.rules().clone()?;
-    Ok(Played::new(flight.name(), rules, before, after, flight.rounds()))
+    let rounds = flight.rounds();
+    Ok(Played::new(alloc, flight.name(), rules, before, after, rounds)?)
 }

@@ -29,13 +29,23 @@ pub enum PoolFault {
 }
 
 impl PoolFault {
-    ghost use Rattle.ic_pool.specs.PoolFault.{fault_number};
+    ghost use Rattle.ic_pool.specs.PoolFault.{fault_number, is_of_flight};
 
     /// The lasting number of the fault.
     pub fn number(self) -> u8
         ensures { result ≡ fault_number self }
     {
         self as u8
+    }
+
+    /// Whether no round of the flight can be made, however it is played: its job is to be halted.
+    pub fn is_of_flight(self) -> bool
+        ensures { result ≡ is_of_flight self }
+    {
+        matches!(
+            self,
+            PoolFault::RoundsOut | PoolFault::Overgrown | PoolFault::NamesOut
+        )
     }
 }
 

@@ -10,9 +10,9 @@ use ic_term::Config;
 use std::marker::Model;
 use std::sync::Arc;
 
-/// A round that is to be made: a job's place in its table, its name, a copy of its configuration
-/// with its rules, and how many rounds it has made. The copy is shared with the round that is made
-/// of it.
+/// A round that is to be made: a job's place in its table, its name, its rules and configuration,
+/// and how many rounds it has made. The configuration is shared with the job, and with the round
+/// that is made of it.
 #[derive(Debug, Drop)]
 pub struct Flight {
     place: usize,

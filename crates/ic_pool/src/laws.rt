@@ -1,13 +1,13 @@
 //! Laws of the definitions that the contracts of this crate cite.
 
-ghost use Rattle.std.specs.Prelude.{◌≡◌, ◌^◌, ◌<◌, ◌≤◌, ◌↔◌, ◌⊎◌, ℕ, [], ◌∷◌, Result, Ok, Err, false, map};
+ghost use Rattle.std.specs.Prelude.{◌≡◌, ◌^◌, ◌<◌, ◌≤◌, ◌↔◌, ◌⊎◌, ℕ, [], ◌∷◌, Result, Ok, Err, IsTrue, false, map};
 ghost use Rattle.std.specs.List.{Contains};
 ghost use Rattle.ic_pool.specs.Flight.{FlightParts, is_blocked};
 ghost use Rattle.ic_term.specs.Configuration.{configuration_nodes};
 ghost use Rattle.ic_round.specs.Firing.{fired};
 ghost use Rattle.ic_round.specs.Rounds.{round};
 ghost use Rattle.ic_pool.specs.Played.{PlayedParts, played, round_of};
-ghost use Rattle.ic_pool.specs.PoolFault.{Answers, OfWorkers, fault_number, all_faults};
+ghost use Rattle.ic_pool.specs.PoolFault.{Answers, OfWorkers, is_of_flight, is_of_workers, fault_number, all_faults};
 ghost use Rattle.ic_pool.specs.Workers.{ByWorkers, played_by};
 ghost use Rattle.ic_pool.specs.declared.fault.PoolFault.{PoolFault};
 ghost use Rattle.ic_pool.specs.declared.fault.PoolFault.TheVariants.{NoWorkers, Overgrown, NamesOut, Memory, RoundsOut};
@@ -22,6 +22,19 @@ pub fn limits_are()
 /// A flight is refused exactly where it is blocked; else its round is made.
 pub fn blocked_flights_are_refused()
     ensures { (f : FlightParts) → (played f ≡ Ok (round_of f)) ↔ (is_blocked f ≡ false) }
+{}
+
+/// Where one thread or workers answer a refusal of the flight itself, it is blocked. Any other
+/// refusal of some workers is `Memory`, or comes of the workers.
+pub fn refused_flights_are_blocked()
+    ensures alone { (f : FlightParts) (fault : PoolFault) → Answers (Err fault) (played f)
+        → IsTrue (is_of_flight fault) → IsTrue (is_blocked f) }
+    ensures workers { (workers : ℕ) (f : FlightParts) (fault : PoolFault)
+        → ByWorkers {T = PlayedParts} (Err fault) (played_by workers f)
+        → IsTrue (is_of_flight fault) → IsTrue (is_blocked f) }
+    ensures others { (workers : ℕ) (f : FlightParts) (fault : PoolFault) → 0 < workers
+        → ByWorkers {T = PlayedParts} (Err fault) (played_by workers f)
+        → is_of_flight fault ≡ false → (fault ≡ Memory) ⊎ IsTrue (is_of_workers fault) }
 {}
 
 /// The order of the refusals of a flight: no rounds are left, then more than 8,192 nodes once all

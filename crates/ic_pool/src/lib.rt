@@ -1,6 +1,6 @@
 //! Rounds of jobs: what is to be played, and what was played.
 //!
-//! A `Flight` is a copy of a job that is due. `play_alone` makes its round in the calling thread
+//! A `Flight` is a job that is due, as it is then. `play_alone` makes its round in the calling thread
 //! and answers a `Played`, whose type says that `after` is the round of `before`. Neither holds its
 //! job's table, so other events may come between.
 #![tactic(auto)]

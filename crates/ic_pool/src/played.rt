@@ -1,21 +1,23 @@
 //! A round of a job that was made.
 
-ghost use Rattle.std.specs.Prelude.{◌≡◌};
+ghost use Rattle.std.specs.Prelude.{◌≡◌, IfOk};
 ghost use Rattle.std.specs.Arc.{arc_value};
 
 use ic_rules::{JobName, RuleSet};
 use ic_term::Config;
+use std::alloc::{AllocError, Global};
 use std::marker::Model;
 use std::sync::Arc;
 
 /// A round that was made: a job's name and rules, its configuration before and after, and how many
-/// rounds it had made before. `after` is the round of `before`, which is shared with its flight.
+/// rounds it had made before. `after` is the round of `before`. `before` is shared with its flight,
+/// and `after` with the job that it lands in.
 #[derive(Debug, Drop)]
 pub struct Played {
     name: JobName,
     rules: Arc<RuleSet>,
     before: Arc<Config>,
-    after: Config,
+    after: Arc<Config>,
     rounds: u64,
 }
 
@@ -31,7 +33,7 @@ impl Model for Played {
       name = p.name;
       rules = arc_value p.rules;
       before = arc_value p.before;
-      after = p.after;
+      after = arc_value p.after;
       rounds = p.rounds;
     } };
 
@@ -39,7 +41,7 @@ impl Model for Played {
       name = p.name;
       rules = arc_value p.rules;
       before = arc_value p.before;
-      after = p.after;
+      after = arc_value p.after;
       rounds = p.rounds;
     }) };
 }
@@ -48,12 +50,13 @@ impl Played {
     ghost use Rattle.ic_pool.specs.Played.{IsPlayed};
 
     pub(crate) fn new(
+        alloc: Global,
         name: JobName,
         rules: Arc<RuleSet>,
         before: Arc<Config>,
         after: Config,
         rounds: u64,
-    ) -> Played
+    ) -> Result<Played, AllocError>
         requires { IsPlayed (record {
           name = name;
           rules = arc_value rules;
@@ -61,21 +64,21 @@ impl Played {
           after = after;
           rounds = rounds;
         }) }
-        ensures { result ≡ record {
+        ensures { IfOk result (λ played. played ≡ record {
           name = name;
           rules = arc_value rules;
           before = arc_value before;
           after = after;
           rounds = rounds;
-        } }
+        }) }
     {
-        Played {
+        Ok(Played {
             name,
             rules,
             before,
-            after,
+            after: Arc::new(alloc, after)?,
             rounds,
-        }
+        })
     }
 
     pub fn name(&self) -> JobName
@@ -117,8 +120,8 @@ impl Played {
     }
 
     /// The configuration after the round, moved out.
-    pub fn into_after(self) -> Config
-        ensures after { result ≡ self.after }
+    pub fn into_after(self) -> Arc<Config>
+        ensures after { arc_value result ≡ self.after }
         ensures sound { IsPlayed self }
     {
         self.after

@@ -48,7 +48,8 @@ pub fn play<R: Threads + Wait, G: Gate>(
     let after = round_by_workers(rt, alloc, flight.rules(), config, workers, gate)?;
     let before = flight.shared_config().clone()?;
     let rules = flight.rules().clone()?;
-    Ok(Played::new(flight.name(), rules, before, after, flight.rounds()))
+    let rounds = flight.rounds();
+    Ok(Played::new(alloc, flight.name(), rules, before, after, rounds)?)
 }
 
 /// The configuration after one round, made by threads of its own.

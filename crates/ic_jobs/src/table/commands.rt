@@ -5,6 +5,7 @@ ghost use Rattle.ic_jobs.specs.declared.command.Command.TheVariants.{Submit, Pau
 ghost use Rattle.ic_jobs.specs.declared.event.Event.TheVariants.{Command as by_command};
 ghost use Rattle.ic_jobs.specs.Events.{apply, after_command, outcome};
 ghost use Rattle.ic_jobs.specs.Memory.{takes_memory};
+ghost use Rattle.ic_jobs.specs.Shown.{listed};
 
 use super::Table;
 use super::places::place_of;
@@ -18,7 +19,8 @@ use ic_rules::{JobName, System};
 use std::alloc::AllocError;
 
 impl Table {
-    /// Does what a command asks, and answers it. Pause, resume and cancel take no memory.
+    /// Does what a command asks, and answers it. Pause, resume and cancel aren't answered want of
+    /// memory.
     pub fn apply(&mut self, command: Command) -> Result<Reply, AllocError>
         ensures event { IfOk result (λ reply.
             apply self.old (by_command command) ≡ Some (outcome self.new reply)) }
@@ -46,7 +48,9 @@ impl Table {
         if self.jobs.len() >= MAX_JOBS {
             return Ok(Reply::Refused(Refusal::Full));
         }
-        self.jobs.push(Job::begin(name, system))?;
+        let job = Job::begin(*self.jobs.allocator(), name, system)?;
+        self.kept_list = None;
+        self.jobs.push(job)?;
         Ok(Reply::Accepted)
     }
 
@@ -60,6 +64,7 @@ impl Table {
             return Reply::Refused(Refusal::NotRunning);
         }
         self.jobs[place].put_state(State::Paused);
+        self.kept_list = None;
         Reply::Okay
     }
 
@@ -73,6 +78,7 @@ impl Table {
             return Reply::Refused(Refusal::NotPaused);
         }
         self.jobs[place].put_state(State::Running);
+        self.kept_list = None;
         Reply::Okay
     }
 
@@ -83,6 +89,7 @@ impl Table {
             return Reply::Refused(Refusal::NoJob);
         };
         let _job = self.jobs.remove(place);
+        self.kept_list = None;
         Reply::Okay
     }
 
@@ -93,17 +100,32 @@ impl Table {
         let Some(place) = place_of(&self.jobs, name) else {
             return Ok(Reply::Refused(Refusal::NoJob));
         };
-        let shown = self.jobs[place].shown(*self.jobs.allocator())?;
+        let shown = self.jobs[place].shown()?;
         Ok(Reply::Shown(shown))
     }
 
-    fn list(&self) -> Result<Reply, AllocError>
-        ensures { IfOk result (λ reply. outcome self.now reply ≡ after_command self.now list_jobs) }
+    /// The list of the jobs, which is made once and shared until a job changes.
+    fn list(&mut self) -> Result<Reply, AllocError>
+        ensures event { IfOk result (λ reply.
+            outcome self.new reply ≡ after_command self.old list_jobs) }
+        ensures unchanged { OnErr result (self.new ≡ self.old) }
     {
-        let mut lines = Vec::with_capacity(*self.jobs.allocator(), self.jobs.len())?;
+        let list = match &self.kept_list {
+            Some(list) => list.copy()?,
+            None => self.lines()?,
+        };
+        self.kept_list = Some(list.copy()?);
+        Ok(Reply::Listed(list))
+    }
+
+    fn lines(&self) -> Result<JobList, AllocError>
+        ensures { IfOk result (λ list. list ≡ listed self.now) }
+    {
+        let alloc = *self.jobs.allocator();
+        let mut lines = Vec::with_capacity(alloc, self.jobs.len())?;
         for job in &self.jobs {
             lines.push((job.name(), job.state(), job.rounds()))?;
         }
-        Ok(Reply::Listed(JobList::new(lines)))
+        JobList::new(alloc, lines)
     }
 }

@@ -9,7 +9,7 @@ ghost use Rattle.ic_jobs.specs.Events.{apply, outcome};
 ghost use Rattle.ic_jobs.specs.Landing.{due, Awaits};
 
 use super::Table;
-use super::places::{awaited_place, due_place};
+use super::places::{awaited_place, due_place, place_of};
 use crate::landed::Landed;
 use crate::state::State;
 use ic_pool::{Flight, Played};
@@ -18,20 +18,20 @@ use ic_term::Config;
 use std::alloc::AllocError;
 
 impl Table {
-    /// A copy of the first running job at this place or behind it, or else of the first running
-    /// job. None where no job runs.
+    /// The first running job at this place or behind it, or else the first running job, to be
+    /// played. None where no job runs. Rules and configuration are shared, nothing is copied.
     pub fn due(&self, after: usize) -> Result<Option<Flight>, AllocError>
         ensures { IfOk result (λ flight. flight ≡ due self.now after) }
     {
         let Some(place) = due_place(&self.jobs, after) else {
             return Ok(None);
         };
-        let flight = self.jobs[place].flight(*self.jobs.allocator(), place)?;
+        let flight = self.jobs[place].flight(place)?;
         Ok(Some(flight))
     }
 
     /// Whether a running job of this name has these rules, this whole configuration and these
-    /// rounds. Takes no memory.
+    /// rounds.
     pub fn awaits(&self, name: JobName, rules: &RuleSet, config: &Config, rounds: u64) -> bool
         ensures { IsTrue result ↔ Awaits self.now name rules.now config.now rounds }
     {
@@ -39,7 +39,7 @@ impl Table {
     }
 
     /// Puts a round that was made, if its job is still as it was before the round; else the round
-    /// is stale. Takes no memory.
+    /// is stale. It isn't answered want of memory.
     pub fn land(&mut self, played: Played) -> Landed
         ensures event { result ≡ Moved
             → apply self.old (Round played.name) ≡ Some (outcome self.new reply.Moved) }
@@ -59,11 +59,26 @@ impl Table {
             return Landed::Stale;
         };
         self.jobs[place].advance(played.into_after());
+        self.kept_list = None;
         Landed::Moved
     }
 
+    /// Puts a round that is awaited. Nothing is compared: who has held the table alone since the
+    /// flight was taken knows that nothing came between.
+    pub fn land_awaited(&mut self, played: Played)
+        requires { Awaits self.old played.name played.rules played.before played.rounds }
+        ensures { apply self.old (Round played.name) ≡ Some (outcome self.new reply.Moved) }
+    {
+        let Some(place) = place_of(&self.jobs, played.name()) else {
+            return;
+        };
+        let after = played.into_after();
+        self.jobs[place].advance(after);
+        self.kept_list = None;
+    }
+
     /// Halts a job whose round can't be made, if it is still as it was; else the flight is stale.
-    /// The job keeps its configuration. Takes no memory.
+    /// The job keeps its configuration. It isn't answered want of memory.
     pub fn halt(&mut self, flight: &Flight) -> Landed
         requires { IsTrue (is_blocked flight.now) }
         ensures event { result ≡ Moved
@@ -84,6 +99,21 @@ impl Table {
             return Landed::Stale;
         };
         self.jobs[place].put_state(State::Halted);
+        self.kept_list = None;
         Landed::Moved
+    }
+
+    /// Halts a job whose round can't be made and is awaited. Nothing is compared.
+    pub fn halt_awaited(&mut self, flight: &Flight)
+        requires blocked { IsTrue (is_blocked flight.now) }
+        requires awaited { Awaits self.old
+            flight.now.name flight.now.rules flight.now.config flight.now.rounds }
+        ensures { apply self.old (Round flight.now.name) ≡ Some (outcome self.new reply.Halted) }
+    {
+        let Some(place) = place_of(&self.jobs, flight.name()) else {
+            return;
+        };
+        self.jobs[place].put_state(State::Halted);
+        self.kept_list = None;
     }
 }

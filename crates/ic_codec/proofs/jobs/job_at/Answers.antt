@@ -1,5 +1,7 @@
 use Rattle.std.proofs.Common.{refl, sym, ap, subst, ◌∙◌}
 use Rattle.std.proofs.lemmas.Bool.{false≢true}
+use Rattle.std.specs.Arc.{arc_value}
+use Rattle.ic_term.specs.Configuration.{Configuration}
 use Rattle.ic_rules.specs.RuleSet.{Rules}
 use Rattle.ic_jobs.specs.Job.{JobParts, IsJob}
 use Rattle.ic_codec.specs.Jobs.{job_bytes}
@@ -27,12 +29,15 @@ returns-in-None-clause-refused c =
     λ same. job_none_job c.args.bytes.now c.in-Ok.heading c.in-Ok.rest.now c.in-Ok-symbols_at.symbols c.in-Ok-symbols_at.rest.now c.in-Ok-rule_set_at.rules c.in-Ok-rule_set_at.rest.now c.symbols.result.now
     c.in-Ok-config_at.config c.in-Ok-config_at.rest.now c.in-Ok.ensures.read c.in-Ok-symbols_at.ensures.read c.in-Ok-rule_set_at.ensures.read c.symbols.ensures.symbols c.in-Ok-config_at.ensures.read
     (λ is. false≢true (c.in-None.ensures.job.1
-    (subst (λ (s : Rules). IsJob (job_of c.in-Ok.heading s c.in-Ok-config_at.config)) (sym c.in_ok-rules.ensures.ok) is)))
+    (subst (λ (s : Rules). IsJob (job_of c.in-Ok.heading s (arc_value c.in_ok-config.config))) (sym c.in_ok-rules.ensures.ok)
+    (subst (λ (k : Configuration). IsJob (job_of c.in-Ok.heading c.in-Ok-rule_set_at.rules k)) (sym c.in_ok-config.ensures.ok) is))))
 
 pub returns-in-Some-clause-read : goal.returns-in-Some-clause-read
 returns-in-Some-clause-read c =
-    let is = subst (λ (s : Rules). IsJob (job_of c.in-Ok.heading s c.in-Ok-config_at.config)) c.in_ok-rules.ensures.ok (c.in-Some.ensures.job.0 refl) in
-    let whole = c.in-Some.ensures.parts ∙ ap (λ (s : Rules). job_of c.in-Ok.heading s c.in-Ok-config_at.config) c.in_ok-rules.ensures.ok in
+    let is = subst (λ (k : Configuration). IsJob (job_of c.in-Ok.heading c.in-Ok-rule_set_at.rules k)) c.in_ok-config.ensures.ok
+    (subst (λ (s : Rules). IsJob (job_of c.in-Ok.heading s (arc_value c.in_ok-config.config))) c.in_ok-rules.ensures.ok (c.in-Some.ensures.job.0 refl)) in
+    let whole = c.in-Some.ensures.parts ∙ ap (λ (s : Rules). job_of c.in-Ok.heading s (arc_value c.in_ok-config.config)) c.in_ok-rules.ensures.ok
+    ∙ ap (λ (k : Configuration). job_of c.in-Ok.heading c.in-Ok-rule_set_at.rules k) c.in_ok-config.ensures.ok in
     subst (λ (j : JobParts). BeginsWith IsJob job_bytes c.args.bytes.now j c.in-Ok-config_at.rest.now) (sym whole)
     (job_begins c.args.bytes.now c.in-Ok.heading c.in-Ok.rest.now c.in-Ok-symbols_at.symbols c.in-Ok-symbols_at.rest.now c.in-Ok-rule_set_at.rules c.in-Ok-rule_set_at.rest.now c.symbols.result.now
     c.in-Ok-config_at.config c.in-Ok-config_at.rest.now c.in-Ok.ensures.read c.in-Ok-symbols_at.ensures.read c.in-Ok-rule_set_at.ensures.read c.in-Ok-config_at.ensures.read is)

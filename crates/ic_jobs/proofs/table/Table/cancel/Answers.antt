@@ -11,11 +11,11 @@ returns-in_default c = missing_here c.args.self.now _ _ (nothing_at c.args.name 
 
 pub invariant_of-self : goal.invariant_of-self
 invariant_of-self c =
-    let f = found_in c.deref.ensures.value c.self.invariant c.in-Some.ensures.place c.remove-job.result in
-    subst (λ (l : List JobParts). IsTable l) (sym c.remove-job.ensures.items) (IsTable-removed _ _ _ _ f c.self.invariant)
+    let f = found_in c.deref.ensures.value c.self.invariant.0 c.in-Some.ensures.place c.remove-job.result in
+    (subst (λ (l : List JobParts). IsTable l) (sym c.remove-job.ensures.items) (IsTable-removed _ _ _ _ f c.self.invariant.0), tt)
 
 pub returns : goal.returns
 returns c =
-    let f = found_in c.deref.ensures.value c.self.invariant c.in-Some.ensures.place c.remove-job.result in
+    let f = found_in c.deref.ensures.value c.self.invariant.0 c.in-Some.ensures.place c.remove-job.result in
     cancel_done c.args.name c.self.inside.jobs.items _ c.in-Some.place _ f c.remove-job.ensures.items
     ∙ ap (λ (t : List JobParts). after_command t (Cancel c.args.name)) c.self.view_is

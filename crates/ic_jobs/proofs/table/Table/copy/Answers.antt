@@ -7,4 +7,4 @@ use Rattle.ic_jobs.proofs.table.Table.copy.Goals as goal
 pub invariant_of-result : goal.invariant_of-result
 invariant_of-result c =
     let whole : c.loop-job.jobs.items ≡ c.self.inside.jobs.items = grind (arith, common_steps, c.deref-job-items.ensures.value) in
-    subst (λ (l : List JobParts). IsTable l) (sym whole) c.self.invariant
+    (subst (λ (l : List JobParts). IsTable l) (sym whole) c.self.invariant.0, tt)

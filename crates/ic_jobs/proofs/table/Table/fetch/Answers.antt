@@ -11,6 +11,6 @@ returns-in_default c = missing_here c.args.self.now _ _ (nothing_at c.args.name 
 
 pub returns : goal.returns
 returns c =
-    let read = read_at c.deref.ensures.value c.self.invariant c.in-Some.ensures.place c.index.ensures in
+    let read = read_at c.deref.ensures.value c.self.invariant.0 c.in-Some.ensures.place c.index.ensures in
     subst (λ (t : List JobParts). outcome t (Shown c.in_ok-shown.shown) ≡ after_command t (Fetch c.args.name)) c.self.view_is
     (fetch_done c.args.name c.self.inside.jobs.items c.in-Some.place _ c.in_ok-shown.shown read.found read.same c.in_ok-shown.ensures)

@@ -9,5 +9,5 @@ returns-in_default-clause-job c = sym (nothing_at c.args.name (c.deref.ensures.v
 
 pub returns-clause-job : goal.returns-clause-job
 returns-clause-job c =
-    let read = read_at c.deref.ensures.value c.self.invariant c.in-Some.ensures.place c.index.ensures in
+    let read = read_at c.deref.ensures.value c.self.invariant.0 c.in-Some.ensures.place c.index.ensures in
     ap (λ (j : JobParts). Some j) read.same ∙ sym read.found.there ∙ ap (job_named c.args.name) c.self.view_is

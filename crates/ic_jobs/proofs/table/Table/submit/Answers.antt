@@ -30,10 +30,12 @@ invariant_of-self-2 c =
     let free : is_some (position_from (is_named c.args.name) 0 c.self.inside.jobs.items) ≡ false =
     ap (λ (l : List JobParts). is_some (position_from (is_named c.args.name) 0 l)) (sym c.deref.ensures.value) ∙ ap is_some (sym c.place_of.ensures.place) ∙ sym c.is_some.ensures ∙ c.if-is_some.false in
     let few : length c.self.inside.jobs.items < MAX_JOBS =
-    omega (arith, c.if-len-ge-MAX_JOBS.false, c.len.ensures, c.deref.ensures.len, ap length c.deref.ensures.value) in
-    IsTable-submitted c.args.name c.args.system c.self.inside.jobs.items _ c.self.invariant
-    (subst (λ (j : JobParts). IsJob j) c.begin.ensures.job c.begin.ensures.sound) free few
-    (c.in_ok-push.ensures.items ∙ ap (λ (j : JobParts). c.self.inside.jobs.items ++ j ∷ []) c.begin.ensures.job)
+    omega (arith, c.if-len-ge-MAX_JOBS.false, c.len.ensures, c.deref.ensures.len, ap length c.deref.ensures.value) in (
+      IsTable-submitted c.args.name c.args.system c.self.inside.jobs.items _ c.self.invariant.0
+          (subst (λ (j : JobParts). IsJob j) c.in_ok-job.ensures.job c.in_ok-job.ensures.sound) free few
+          (c.in_ok-push.ensures.items ∙ ap (λ (j : JobParts). c.self.inside.jobs.items ++ j ∷ []) c.in_ok-job.ensures.job),
+      tt,
+    )
 
 pub returns-clause-event : goal.returns-clause-event
 returns-clause-event c =
@@ -42,5 +44,5 @@ returns-clause-event c =
     let few : length c.self.inside.jobs.items < MAX_JOBS =
     omega (arith, c.if-len-ge-MAX_JOBS.false, c.len.ensures, c.deref.ensures.len, ap length c.deref.ensures.value) in
     submit_done c.args.name c.args.system c.self.inside.jobs.items _ free few
-    (c.in_ok-push.ensures.items ∙ ap (λ (j : JobParts). c.self.inside.jobs.items ++ j ∷ []) c.begin.ensures.job)
+    (c.in_ok-push.ensures.items ∙ ap (λ (j : JobParts). c.self.inside.jobs.items ++ j ∷ []) c.in_ok-job.ensures.job)
     ∙ ap (λ (t : List JobParts). after_command t (Submit c.args.name c.args.system)) c.self.view_is

@@ -1,6 +1,6 @@
 use Rattle.std.proofs.Common.{◌≡◌, map, take}
 use Rattle.ic_jobs.specs.Shown.{listed}
-use Rattle.ic_jobs.proofs.table.Table.list.Given as goal
+use Rattle.ic_jobs.proofs.table.Table.lines.Given as goal
 
 -- the jobs so far are listed
 abbrev pub invariant-loop-job : goal.invariant-loop-job
