@@ -9,6 +9,7 @@ ghost use Rattle.ic_slots.specs.Keeper as keeper_parts;
 ghost use Rattle.ic_desk.specs.Kept.{HoldsKeptOrAll, IsHistory, IsOnDisk};
 ghost use Rattle.ic_desk.specs.lemmas.OneProof.{IsHistory-prop, IsOnDisk-prop, IsOnNewest-prop};
 
+mod awaited;
 mod checks;
 mod close;
 mod command;

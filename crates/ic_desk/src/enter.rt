@@ -1,8 +1,9 @@
 //! Entries that are added to a history, with the change of the table that they tell.
 
-ghost use Rattle.std.specs.Prelude.{◌≡◌, ◌<◌, ◌++◌, ◌∷◌, [], IfOk, OnErr, IsTrue, vec_len, vec_capacity};
+ghost use Rattle.std.specs.Prelude.{◌≡◌, ◌<◌, ◌++◌, ◌∷◌, [], Ok, IfOk, OnErr, IsTrue, vec_len, vec_capacity};
 ghost use Rattle.ic_pool.specs.Flight.{is_blocked};
 ghost use Rattle.ic_jobs.specs.Landing.{Awaits};
+ghost use Rattle.ic_jobs.specs.declared.landed.Landed.TheVariants.{Moved};
 ghost use Rattle.ic_jobs.specs.declared.reply.Reply.TheVariants as reply;
 ghost use Rattle.ic_desk.specs.Entries.{AddsCommand, round_entry};
 ghost use Rattle.ic_desk.specs.inner.Entering.{EntersRound};
@@ -28,7 +29,7 @@ pub(crate) fn enter_command(
     let event = Event::Command(command.copy(alloc)?);
     log.reserve(1)?;
     let answer = table.apply(command)?;
-    let reply = answer.copy(alloc)?;
+    let reply = answer.copy()?;
     log.push_reserved(Entry { who, event, reply });
     Ok(answer)
 }
@@ -56,14 +57,50 @@ pub(crate) fn enter_played(
         (Awaits table.old played.name played.rules played.before played.rounds)
         result log.old.items log.new.items table.old table.new }
 {
+    if log.len() < log.capacity() {
+        return Ok(land_in_room(log, table, played));
+    }
     let name = played.name();
     if !table.awaits(name, played.rules(), played.before(), played.rounds()) {
         return Ok(Landed::Stale);
     }
     log.reserve(1)?;
+    Ok(land_in_room(log, table, played))
+}
+
+// Puts a round that was made, with its entry, in a log that has room, unless it is stale.
+fn land_in_room(log: &mut Vec<Entry>, table: &mut Table, played: Played) -> Landed
+    requires { vec_len log.old < vec_capacity log.old }
+    ensures { EntersRound {E = Unit {0}} (round_entry played.name reply.Moved)
+        (Awaits table.old played.name played.rules played.before played.rounds)
+        (Ok result) log.old.items log.new.items table.old table.new }
+{
+    let name = played.name();
     let landed = table.land(played);
+    match landed {
+        Landed::Moved => enter_round(log, name, Reply::Moved),
+        Landed::Stale => {}
+    }
+    landed
+}
+
+// Puts a round that is awaited, with its entry.
+pub(crate) fn land_entered(
+    log: &mut Vec<Entry>,
+    table: &mut Table,
+    played: Played,
+) -> Result<Landed, AllocError>
+    requires { Awaits table.old played.name played.rules played.before played.rounds }
+    ensures enters { EntersRound (round_entry played.name reply.Moved)
+        (Awaits table.old played.name played.rules played.before played.rounds)
+        result log.old.items log.new.items table.old table.new }
+    ensures moves { IfOk result (λ landed. landed ≡ Moved) }
+{
+    let name = played.name();
+    log.reserve(1)?;
+    table.land_awaited(played);
     enter_round(log, name, Reply::Moved);
-    Ok(landed)
+    Ok(Landed::Moved)
 }
 
 // Halts a job whose round can't be made, with its entry, unless the flight is stale.
@@ -78,12 +115,53 @@ pub(crate) fn enter_halted(
         flight.now.name flight.now.rules flight.now.config flight.now.rounds)
         result log.old.items log.new.items table.old table.new }
 {
+    if log.len() < log.capacity() {
+        return Ok(halt_in_room(log, table, flight));
+    }
     let name = flight.name();
     if !table.awaits(name, flight.rules(), flight.config(), flight.rounds()) {
         return Ok(Landed::Stale);
     }
     log.reserve(1)?;
+    Ok(halt_in_room(log, table, flight))
+}
+
+// Halts a job, with its entry, in a log that has room, unless the flight is stale.
+fn halt_in_room(log: &mut Vec<Entry>, table: &mut Table, flight: &Flight) -> Landed
+    requires room { vec_len log.old < vec_capacity log.old }
+    requires blocked { IsTrue (is_blocked flight.now) }
+    ensures { EntersRound {E = Unit {0}} (round_entry flight.now.name reply.Halted)
+        (Awaits table.old
+        flight.now.name flight.now.rules flight.now.config flight.now.rounds)
+        (Ok result) log.old.items log.new.items table.old table.new }
+{
+    let name = flight.name();
     let landed = table.halt(flight);
+    match landed {
+        Landed::Moved => enter_round(log, name, Reply::Halted),
+        Landed::Stale => {}
+    }
+    landed
+}
+
+// Halts a job whose round can't be made and is awaited, with its entry.
+pub(crate) fn halt_entered(
+    log: &mut Vec<Entry>,
+    table: &mut Table,
+    flight: &Flight,
+) -> Result<Landed, AllocError>
+    requires blocked { IsTrue (is_blocked flight.now) }
+    requires awaited { Awaits table.old
+        flight.now.name flight.now.rules flight.now.config flight.now.rounds }
+    ensures enters { EntersRound (round_entry flight.now.name reply.Halted)
+        (Awaits table.old
+        flight.now.name flight.now.rules flight.now.config flight.now.rounds)
+        result log.old.items log.new.items table.old table.new }
+    ensures moves { IfOk result (λ landed. landed ≡ Moved) }
+{
+    let name = flight.name();
+    log.reserve(1)?;
+    table.halt_awaited(flight);
     enter_round(log, name, Reply::Halted);
-    Ok(landed)
+    Ok(Landed::Moved)
 }
