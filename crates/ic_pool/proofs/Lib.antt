@@ -1,4 +1,3 @@
 pub mod Refusals
 pub mod CutWorks
-pub mod RoundAnswers
 pub mod AnswerLemmas

@@ -2,3 +2,4 @@ pub mod Flight
 pub mod Played
 pub mod PoolFault
 pub mod Workers
+pub mod lemmas

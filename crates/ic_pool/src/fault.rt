@@ -4,7 +4,7 @@ ghost use Rattle.std.specs.Prelude.{◌≡◌};
 ghost use Rattle.ic_pool.specs.declared.fault.PoolFault.TheVariants.{Memory};
 
 use ic_round::{GatherFault, RoundFault};
-use std::alloc::AllocError;
+use std::alloc::{AllocError, AllocFailed};
 
 /// Why a flight isn't played. The numbers are lasting. The checks come in this order: `NoWorkers`,
 /// `RoundsOut`, `Overgrown`, `NamesOut`, then the others.
@@ -53,6 +53,14 @@ impl From<AllocError> for PoolFault {
     ghost from_gives = { λ _ fault. fault ≡ Memory };
 
     fn from(_error: AllocError) -> PoolFault {
+        PoolFault::Memory
+    }
+}
+
+impl<T: Drop> From<AllocFailed<T>> for PoolFault {
+    ghost from_gives = { λ _ fault. fault ≡ Memory };
+
+    fn from(_error: AllocFailed<T>) -> PoolFault {
         PoolFault::Memory
     }
 }

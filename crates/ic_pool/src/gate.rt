@@ -1,10 +1,16 @@
 //! What watches a round or a server at work.
 
+ghost use Rattle.std.specs.Prelude.{ℕ};
+
 /// What watches a round or a server at work: tests use it to hold threads up. A gate that waits
 /// holds up only the thread that called it.
 pub trait Gate: Sync {
+    /// That a place has passed. Only `pass` says so, and no work is fired without it.
+    ghost has_passed: { Self → ℕ → Type 0 } = { λ _ _. Unit {0} };
+
     /// Called by a worker before it fires the work of this place.
-    fn pass(&self, place: u64);
+    fn pass(&self, place: u64)
+        ensures { has_passed self.now place };
 
     /// Called for this client after each of its answers.
     fn answered(&self, who: u64);

@@ -7,7 +7,8 @@ ghost use Rattle.ic_round.specs.WorkViews.{work_of, fired_of};
 
 use crate::fault::WorkerFault;
 use crate::gate::Gate;
-use ic_round::{Fired, Work, fire};
+use crate::passed::fire_passed;
+use ic_round::{Fired, Work};
 use ic_rules::RuleSet;
 use std::alloc::{AllocError, Global};
 use std::snapshot::Snapshot;
@@ -109,7 +110,7 @@ fn fire_batch<G: Gate>(
     let mut results = Vec::with_capacity(alloc, batch.len())?;
     for work in batch {
         gate.pass(work.place);
-        results.push(fire(alloc, rules, work)?)?;
+        results.push(fire_passed(alloc, rules, gate, work)?)?;
     }
     Ok(results)
 }

@@ -6,7 +6,7 @@ use Rattle.ic_round.specs.Works.{result_of}
 use Rattle.ic_round.specs.WorkViews.{work_of, fired_of}
 use Rattle.ic_round.specs.lemmas.RoundLemmas.{plan_completes}
 use Rattle.ic_round.specs.lemmas.SettledLemmas.{settled_over}
-use Rattle.ic_pool.proofs.RoundAnswers.{planned_fits, round_answered, in_order}
+use Rattle.ic_pool.specs.lemmas.RoundAnswers.{planned_fits, round_answered, in_order}
 use Rattle.ic_pool.proofs.playing.round_by_workers.Goals as goal
 
 pub gather-requires : goal.gather-requires

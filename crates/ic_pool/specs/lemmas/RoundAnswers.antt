@@ -4,10 +4,11 @@ use Rattle.std.specs.List.Sorted.{IsPermutation}
 use Rattle.std.proofs.lemmas.List.Sorted.{IsPermutation-refl}
 use Rattle.ic_term.specs.Configuration.{Configuration}
 use Rattle.ic_rules.specs.Rule.{Rule}
-use Rattle.ic_round.specs.Rounds.{round, is_small, has_names, unless_unfit}
+use Rattle.ic_round.specs.Rounds.{round, fits, is_small, has_names, unless_unfit}
 use Rattle.ic_round.specs.Works.{PlainFired}
 use Rattle.ic_round.specs.declared.round_fault.RoundFault.{RoundFault}
 use Rattle.ic_round.specs.declared.round_fault.RoundFault.TheVariants.{Overgrown, NamesOut}
+use Rattle.ic_pool.specs.declared.fault.PoolFault.TheVariants as PoolFault
 use Rattle.ic_pool.specs.Workers.{round_or_refusal}
 
 abbrev answer_if : {T : Type 0} → Bool → Bool → T → Result T RoundFault
@@ -26,3 +27,15 @@ round_answered rs c d fit e = rw (fit.0, fit.1) (ap (λ (r : Configuration). Ok 
 
 pub in_order : (all fs : List PlainFired) → fs ≡ all → IsPermutation all fs
 in_order all fs e = let P : List PlainFired → Type 0 = λ l. IsPermutation all l in subst P (sym e) (IsPermutation-refl all)
+
+answered_at : (small named : Bool) (d e : Configuration) → Ok d ≡ (cond small (cond named (Ok e) (Err PoolFault.NamesOut)) (Err PoolFault.Overgrown))
+    → ((small ≡ true) × (named ≡ true)) × (d ≡ e)
+answered_at true true d e same = ((refl, refl), cc)
+answered_at true false d e same = cc
+answered_at false named d e same = cc
+
+-- what was answered is the round, and the configuration fits
+pub round_given : (rs : List Rule) (c d : Configuration) → Ok d ≡ round_or_refusal rs c → (fits rs c ≡ true) × (d ≡ round rs c)
+round_given rs c d e =
+    let at = answered_at (is_small rs c) (has_names rs c) d (round rs c) e in
+    (rw (at.0.0, at.0.1) refl, at.1)

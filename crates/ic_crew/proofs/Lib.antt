@@ -1,0 +1,3 @@
+pub mod Weighs
+pub mod Puts
+pub mod Matches

@@ -1,0 +1,25 @@
+//! Laws of the definitions that the contracts of this crate cite.
+
+ghost use Rattle.std.specs.Prelude.{◌≡◌, ◌≤◌, ◌<◌, ℕ, List, IsPermutation, IsTrue, ◌↔◌, length};
+ghost use Rattle.std.specs.List.{AllByRecursion};
+ghost use Rattle.ic_rules.specs.Rule.{Rule};
+ghost use Rattle.ic_round.specs.Works.{PlainWork};
+ghost use Rattle.ic_crew.specs.Dealing.{IsDealing, joined};
+ghost use Rattle.ic_crew.specs.Matching.{work_eq};
+
+/// What is dealt to so many parts is all that there was, each work once. Where there are at least as
+/// many works as parts, none is left empty.
+pub fn dealing_is_fair()
+    ensures count { (rs : List Rule) (n : ℕ) (ws : List PlainWork) (parts : List (List PlainWork))
+        → IsDealing rs n ws parts → length parts ≡ n }
+    ensures each_once { (rs : List Rule) (n : ℕ) (ws : List PlainWork)
+        (parts : List (List PlainWork)) → IsDealing rs n ws parts → IsPermutation ws (joined parts) }
+    ensures none_empty { (rs : List Rule) (n : ℕ) (ws : List PlainWork)
+        (parts : List (List PlainWork)) → IsDealing rs n ws parts → n ≤ length ws
+        → AllByRecursion (λ part. 0 < length part) parts }
+{}
+
+/// The test of equality tells exactly whether two works are the same.
+pub fn equality_is_exact()
+    ensures { (v w : PlainWork) → IsTrue (work_eq v w) ↔ (v ≡ w) }
+{}
