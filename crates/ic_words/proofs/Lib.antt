@@ -7,3 +7,4 @@ pub mod ServeNumbers
 pub mod Steps
 pub mod LineRows
 pub mod TakenLines
+mod HelpLemmas

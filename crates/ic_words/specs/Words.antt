@@ -11,6 +11,7 @@ use Rattle.clap.specs.declared.error.ErrorKind.TheVariants.{DisplayHelp, Display
 use Rattle.ic_words.specs.declared.words.Task.{Task}
 use Rattle.ic_words.specs.declared.words.Task.TheVariants.{Settle, Once, Create, Serve}
 use Rattle.ic_words.specs.declared.words.Task.TheVariants.{Help, Version}
+use Rattle.ic_words.specs.Help.{help_of, program_help}
 use Rattle.ic_words.specs.declared.words.WordsFault.{WordsFault}
 use Rattle.ic_words.specs.declared.words.WordsFault.TheVariants.{Words, Memory}
 
@@ -99,9 +100,9 @@ GivesTask task (Ok answer) = answer ≡ task
 GivesTask task (Err (Words text)) = ⊥
 GivesTask task (Err Memory) = Unit {0}
 
--- help is answered, unless a growth was refused
+-- the program's help is answered, unless a growth was refused
 abbrev pub GivesHelp : Result Task WordsFault → Type 0
-GivesHelp (Ok (Help text)) = Unit {0}
+GivesHelp (Ok (Help text)) = string_bytes text ≡ program_help
 GivesHelp (Err Memory) = Unit {0}
 GivesHelp (Ok Settle) = ⊥
 GivesHelp (Ok Once) = ⊥
@@ -112,7 +113,7 @@ GivesHelp (Err (Words text)) = ⊥
 
 -- the version is answered, unless a growth was refused
 abbrev pub GivesVersion : Result Task WordsFault → Type 0
-GivesVersion (Ok (Version text)) = Unit {0}
+GivesVersion (Ok (Version text)) = string_bytes text ≡ version_line
 GivesVersion (Err Memory) = Unit {0}
 GivesVersion (Ok Settle) = ⊥
 GivesVersion (Ok Once) = ⊥
@@ -149,7 +150,7 @@ IsNumberOf option most words number =
     IsDecimal (value_met option (subcommand_of command_line words)) number
     × (1 ≤ number) × (number ≤ most)
 
--- the words name the task
+-- the words name the task, and the text of help and of the version is this
 abbrev pub Names : List (List ℕ) → Task → Type 0
 Names words Settle = NamesCommand (codes "settle") words
 Names words Once = NamesCommand (codes "once") words
@@ -158,5 +159,5 @@ Names words (Create disk) = BeginsWith (codes "create") words
 Names words (Serve disk workers every) = BeginsWith (codes "serve") words
     × (string_bytes disk ≡ value_met (codes "disk") (subcommand_of command_line words))
     × IsNumberOf (codes "workers") 64 words workers × IsNumberOf (codes "every") 1000000 words every
-Names words (Help text) = Unit {0}
-Names words (Version text) = Unit {0}
+Names words (Help text) = string_bytes text ≡ help_of words
+Names words (Version text) = string_bytes text ≡ version_line

@@ -1,6 +1,7 @@
 //! Laws of the words after the program's name, in words of their own.
 
-ghost use Rattle.std.specs.Prelude.{◌≡◌, ◌↔◌, ◌⊎◌, ◌<◌, ◌≤◌, ◌^◌, ℕ, List, [], ◌∷◌, ◌++◌, Ok, Err, codes, string_bytes};
+ghost use Rattle.std.specs.Prelude.{◌≡◌, ◌≢◌, ◌↔◌, ◌⊎◌, ◌<◌, ◌≤◌, ◌^◌, ℕ, List, [], ◌∷◌, ◌++◌, Ok, Err, codes, string_bytes};
+ghost use Rattle.std.specs.List.{AllByRecursion};
 ghost use Rattle.std.specs.Fmt.{decimal};
 ghost use Rattle.clap.specs.Words.{Text, fault_of};
 ghost use Rattle.clap.specs.declared.error.ErrorKind.{ErrorKind};
@@ -8,6 +9,7 @@ ghost use Rattle.clap.specs.declared.error.ErrorKind.TheVariants.{DisplayHelp, D
 ghost use Rattle.ic_words.specs.declared.words.Task.TheVariants.{Settle, Once, Create, Serve, Help, Version};
 ghost use Rattle.ic_words.specs.declared.words.WordsFault.TheVariants.{Words, Memory};
 ghost use Rattle.ic_words.specs.Words.{AnswersWords, command_line, words_fault_number, IsDecimal, Names};
+ghost use Rattle.ic_words.specs.Help.{help_of, Says, program_help, settle_help, once_help, create_help, serve_help};
 ghost use Rattle.ic_words.specs.Lines.{IsCreateLine, IsServeLine};
 
 /// A number's text is the number in decimal digits, before which a plus may stand, and no other
@@ -70,6 +72,28 @@ pub fn help_and_version_are_asked()
         ≡ DisplayHelp ∷ [] }
     ensures version { fault_of command_line (codes "--version" ∷ []) ≡ DisplayVersion ∷ [] }
     ensures short_version { fault_of command_line (codes "-V" ∷ []) ≡ DisplayVersion ∷ [] }
+{}
+
+/// The help is that of the command which the first word names, and the program's where it names none.
+/// It says how the command is called, with each option, its range and its default; the program's
+/// names the commands.
+pub fn each_command_has_its_help()
+    ensures settle { (words : List Text) → help_of (codes "settle" ∷ words) ≡ settle_help }
+    ensures once { (words : List Text) → help_of (codes "once" ∷ words) ≡ once_help }
+    ensures create { (words : List Text) → help_of (codes "create" ∷ words) ≡ create_help }
+    ensures serve { (words : List Text) → help_of (codes "serve" ∷ words) ≡ serve_help }
+    ensures program { (word : Text) (words : List Text) → AllByRecursion (λ name. word ≢ name)
+        (codes "settle" ∷ codes "once" ∷ codes "create" ∷ codes "serve" ∷ [])
+        → help_of (word ∷ words) ≡ program_help }
+    ensures commands { AllByRecursion (Says program_help) (codes "  settle  " ∷ codes "  once  "
+        ∷ codes "  create  " ∷ codes "  serve  " ∷ codes "-h, --help" ∷ codes "-V, --version" ∷ []) }
+    ensures streams { Says settle_help (codes "icserve settle")
+        × Says once_help (codes "icserve once") }
+    ensures disk { AllByRecursion (Says create_help)
+        (codes "icserve create" ∷ codes "--disk <F>" ∷ []) }
+    ensures numbers { AllByRecursion (Says serve_help) (codes "icserve serve" ∷ codes "--disk <F>"
+        ∷ codes "--workers <N>" ∷ codes "from 1 to 64 [default: 2]"
+        ∷ codes "--every <K>" ∷ codes "from 1 to 1000000 [default: 100]" ∷ []) }
 {}
 
 /// A well-formed line of `create` is taken, and names the file that it is given.

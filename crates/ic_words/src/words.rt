@@ -1,13 +1,14 @@
 //! The words after the program's name.
 
 ghost use Rattle.std.specs.Prelude.{◌≡◌, ◌≤◌, ℕ, false, map, IfOk, codes, [], ◌∷◌, string_bytes};
-ghost use Rattle.clap.specs.Words.{app_of, fault_of, new_app, rule_of, subcommand_rows_of};
+ghost use Rattle.clap.specs.Words.{app_of, fault_of, rule_of, subcommand_rows_of};
 ghost use Rattle.clap.specs.declared.builder.command.Command.TheViews.{out-Command};
 ghost use Rattle.ic_words.specs.Words.{AnswersWords, GivesHelp, GivesTask, GivesVersion, Names};
 ghost use Rattle.ic_words.specs.Words.{command_line, create_command, program, serve_command, with_streams};
 ghost use Rattle.ic_words.specs.Words.{disk_option, every_option, workers_option};
 ghost use Rattle.ic_words.specs.Words.{IsDecimal, number_met, value_met};
 
+use crate::help::help_of;
 use clap::error::ErrorKind;
 use clap::{Arg, ArgMatches, Command, value_parser};
 use std::alloc::{AllocError, AllocFailed, Global};
@@ -82,7 +83,7 @@ impl From<AllocError> for WordsFault {
 }
 
 /// Reads the words after the program's name. Help is asked for by `--help` or `-h`, after a command too, and the version
-/// by `--version` or `-V`.
+/// by `--version` or `-V`. The text of a refusal is clap's, with the usage; that of help is the one of `help`.
 pub fn read_words(alloc: Global, words: &[String]) -> Result<Task, WordsFault>
     ensures answers { AnswersWords (fault_of command_line (map string_bytes words.now)) result }
     ensures named { IfOk result (Names (map string_bytes words.now)) }
@@ -114,7 +115,7 @@ pub fn read_words(alloc: Global, words: &[String]) -> Result<Task, WordsFault>
         },
         Err(error) => match error.kind() {
             ErrorKind::OutOfMemory => Err(WordsFault::Memory),
-            ErrorKind::DisplayHelp => Ok(Task::Help(error.to_string(alloc)?)),
+            ErrorKind::DisplayHelp => Ok(Task::Help(String::from_str(alloc, help_of(words))?)),
             ErrorKind::DisplayVersion => Ok(Task::Version(format!(in alloc;
                 "icserve {VERSION}\n"
             )?)),
@@ -149,7 +150,7 @@ fn number_of(matches: &ArgMatches, option: &str, most: u32) -> u32
 }
 
 /// The option that names a file.
-fn disk_option<'a>(alloc: Global, help: &'a str) -> Arg<'a>
+fn disk_option<'a>(alloc: Global) -> Arg<'a>
     ensures rule { rule_of result ≡ disk_option }
     ensures local { result.global ≡ false }
 {
@@ -157,7 +158,6 @@ fn disk_option<'a>(alloc: Global, help: &'a str) -> Arg<'a>
         .long("disk")
         .value_name("F")
         .required(true)
-        .help(help)
 }
 
 /// The option that says how many threads make a round.
@@ -169,7 +169,6 @@ fn workers_option<'a>(alloc: Global) -> Arg<'a>
         .long("workers")
         .value_name("N")
         .default_value("2")
-        .help("Threads for a round of 1000 equations or more, from 1 to 64")
         .value_parser(value_parser!(u32).range(1..65))
 }
 
@@ -182,7 +181,6 @@ fn every_option<'a>(alloc: Global) -> Arg<'a>
         .long("every")
         .value_name("K")
         .default_value("100")
-        .help("After how many rounds of a run they are kept, from 1 to 1000000")
         .value_parser(value_parser!(u32).range(1..1_000_001))
 }
 
@@ -191,13 +189,8 @@ fn create_command<'a>(alloc: Global) -> Result<Command<'a>, AllocError>
     ensures shape { IfOk result (λ command. app_of command ≡ create_command) }
     ensures local { IfOk result (λ command. (out-Command command).has_globals ≡ false) }
 {
-    let disk = disk_option(
-        alloc,
-        "The path of the file, which is made where it is missing",
-    );
-    Command::new(alloc, "create")
-        .about("Makes the file F an empty disk, whatever it held")
-        .arg(disk)
+    let disk = disk_option(alloc);
+    Command::new(alloc, "create").arg(disk)
 }
 
 /// The command that serves lines.
@@ -205,22 +198,13 @@ fn serve_command<'a>(alloc: Global) -> Result<Command<'a>, AllocError>
     ensures shape { IfOk result (λ command. app_of command ≡ serve_command) }
     ensures local { IfOk result (λ command. (out-Command command).has_globals ≡ false) }
 {
-    let disk = disk_option(alloc, "The path of the file, which has to be a disk");
+    let disk = disk_option(alloc);
     let workers = workers_option(alloc);
     let every = every_option(alloc);
     Command::new(alloc, "serve")
-        .about("Serves the lines of standard input over the disk in the file F")
         .arg(disk)?
         .arg(workers)?
         .arg(every)
-}
-
-/// A command without options of its own.
-fn plain_command<'a>(alloc: Global, name: &'a str, about: &'a str) -> Command<'a>
-    ensures shape { app_of result ≡ new_app name.entry.now }
-    ensures local { (out-Command result).has_globals ≡ false }
-{
-    Command::new(alloc, name).about(about)
 }
 
 /// The program without its commands.
@@ -229,7 +213,6 @@ fn program<'a>(alloc: Global) -> Result<Command<'a>, AllocError>
 {
     let program = Command::new(alloc, "icserve")
         .bin_name("icserve")?
-        .about("A job server for the interaction calculus")
         .version(VERSION);
     Ok(
         program
@@ -243,17 +226,9 @@ fn program<'a>(alloc: Global) -> Result<Command<'a>, AllocError>
 fn with_streams<'a>(alloc: Global) -> Result<Command<'a>, AllocError>
     ensures { IfOk result (λ command. app_of command ≡ with_streams) }
 {
-    let settle = plain_command(
-        alloc,
-        "settle",
-        "Settles the configuration on standard input and prints it",
-    );
+    let settle = Command::new(alloc, "settle");
     let program = program(alloc)?.subcommand(settle)?;
-    let once = plain_command(
-        alloc,
-        "once",
-        "Makes one round of the system on standard input and prints the configuration",
-    );
+    let once = Command::new(alloc, "once");
     program.subcommand(once)
 }
 

@@ -5,7 +5,7 @@ use Rattle.ic_words.proofs.words.create_command.Goals as goal
 
 pub returns : goal.returns
 returns c =
-    let bare : app_of c.about.result ≡ new_app (codes "create") = search rules in
+    let bare : app_of c.new.result ≡ new_app (codes "create") = c.new.ensures.app in
     let option = c.disk_option-disk.ensures in
     record {
       shape = IfOk-weaker c.arg.result _ _ (λ command h. h.shape option.local ∙ ap₂ with_rule bare option.rule) c.arg.ensures;

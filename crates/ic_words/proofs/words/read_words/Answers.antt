@@ -110,11 +110,11 @@ returns-in-DisplayVersion c =
     let mistake = mistake_made _ _ c.in-Err.error _ c.in_ok-command.ensures c.in-Err.ensures.kinds (sym c.kind.ensures ∙ c.in-DisplayVersion.is) (λ e. cc) in
     record {
       answers = (mistake, c.in_ok-format-in-DisplayVersion.ensures.ok);
-      named = tt;
+      named = c.in_ok-format-in-DisplayVersion.ensures.ok;
       settle = λ is. absurd (taken_alone _ _ _ settle_taken is mistake);
       once = λ is. absurd (taken_alone _ _ _ once_taken is mistake);
       help = λ is. (let e = asked_alone _ _ _ _ help_asked is mistake in cc);
-      version = λ is. tt;
+      version = λ is. c.in_ok-format-in-DisplayVersion.ensures.ok;
     }
 
 pub returns : goal.returns

@@ -5,7 +5,7 @@ use Rattle.ic_words.proofs.words.serve_command.Goals as goal
 
 pub returns : goal.returns
 returns c =
-    let bare : app_of c.about.result ≡ new_app (codes "serve") = search rules in
+    let bare : app_of c.new.result ≡ new_app (codes "serve") = c.new.ensures.app in
     let disk = c.disk_option-disk.ensures in
     let workers = c.workers_option-workers.ensures in
     let every = c.every_option-every.ensures in

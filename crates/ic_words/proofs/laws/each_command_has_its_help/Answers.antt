@@ -1,0 +1,30 @@
+use Rattle.std.proofs.Common.{refl}
+use Rattle.ic_words.proofs.HelpLemmas.{other_help}
+use Rattle.ic_words.proofs.laws.each_command_has_its_help.Goals as goal
+
+pub returns-clause-settle : goal.returns-clause-settle
+returns-clause-settle c = λ words. refl
+
+pub returns-clause-once : goal.returns-clause-once
+returns-clause-once c = λ words. refl
+
+pub returns-clause-create : goal.returns-clause-create
+returns-clause-create c = λ words. refl
+
+pub returns-clause-serve : goal.returns-clause-serve
+returns-clause-serve c = λ words. refl
+
+pub returns-clause-program : goal.returns-clause-program
+returns-clause-program c = λ word words other. other_help word words other.0 other.1.0 other.1.1.0 other.1.1.1.0
+
+pub returns-clause-commands : goal.returns-clause-commands
+returns-clause-commands c = ((79, refl), ((147, refl), ((234, refl), ((293, refl), ((378, refl), ((406, refl), tt))))))
+
+pub returns-clause-streams : goal.returns-clause-streams
+returns-clause-streams c = ((66, refl), (85, refl))
+
+pub returns-clause-disk : goal.returns-clause-disk
+returns-clause-disk c = ((57, refl), ((72, refl), tt))
+
+pub returns-clause-numbers : goal.returns-clause-numbers
+returns-clause-numbers c = ((71, refl), ((95, refl), ((188, refl), ((250, refl), ((282, refl), ((343, refl), tt))))))

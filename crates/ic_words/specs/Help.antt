@@ -1,0 +1,79 @@
+-- To be believed: the help of the program and of each of its commands, line by line (this project's
+-- choice).
+use Rattle.std.specs.Prelude.{◌≡◌, ℕ, List, [], ◌∷◌, ◌++◌, codes, bytes_eq, if◌then◌else◌, length, take, drop}
+use Rattle.std.specs.List.{flat_map}
+use Rattle.clap.specs.Words.{Text}
+
+-- lines, each with a line feed behind it
+abbrev pub text_of : List Text → Text
+text_of lines = flat_map (λ line. line ++ 10 ∷ []) lines
+
+abbrev pub program_help : Text
+program_help = text_of (codes "A job server for the interaction calculus"
+    ∷ []
+    ∷ codes "Usage: icserve <COMMAND>"
+    ∷ []
+    ∷ codes "Commands:"
+    ∷ codes "  settle  Settles the configuration on standard input and prints it"
+    ∷ codes "  once    Makes one round of the system on standard input and prints the configuration"
+    ∷ codes "  create  Makes the file F an empty disk, whatever it held"
+    ∷ codes "  serve   Serves the lines of standard input over the disk in the file F"
+    ∷ []
+    ∷ codes "Options:"
+    ∷ codes "  -h, --help     Print help"
+    ∷ codes "  -V, --version  Print version"
+    ∷ [])
+
+abbrev pub settle_help : Text
+settle_help = text_of (codes "Settles the configuration on standard input and prints it"
+    ∷ []
+    ∷ codes "Usage: icserve settle"
+    ∷ []
+    ∷ codes "Options:"
+    ∷ codes "  -h, --help  Print help"
+    ∷ [])
+
+abbrev pub once_help : Text
+once_help = text_of (codes "Makes one round of the system on standard input and prints the configuration"
+    ∷ []
+    ∷ codes "Usage: icserve once"
+    ∷ []
+    ∷ codes "Options:"
+    ∷ codes "  -h, --help  Print help"
+    ∷ [])
+
+abbrev pub create_help : Text
+create_help = text_of (codes "Makes the file F an empty disk, whatever it held"
+    ∷ []
+    ∷ codes "Usage: icserve create --disk <F>"
+    ∷ []
+    ∷ codes "Options:"
+    ∷ codes "      --disk <F>  The path of the file, which is made where it is missing"
+    ∷ codes "  -h, --help      Print help"
+    ∷ [])
+
+abbrev pub serve_help : Text
+serve_help = text_of (codes "Serves the lines of standard input over the disk in the file F"
+    ∷ []
+    ∷ codes "Usage: icserve serve [OPTIONS] --disk <F>"
+    ∷ []
+    ∷ codes "Options:"
+    ∷ codes "      --disk <F>     The path of the file, which has to be a disk"
+    ∷ (codes "      --workers <N>  Threads for a round of 1000 equations or more,"
+    ++ codes " from 1 to 64 [default: 2]")
+    ∷ (codes "      --every <K>    After how many rounds of a run they are kept,"
+    ++ codes " from 1 to 1000000 [default: 100]")
+    ∷ codes "  -h, --help         Print help"
+    ∷ [])
+
+-- the help that words ask for: that of the command that the first one names, or the program's
+abbrev pub help_of : List Text → Text
+help_of [] = program_help
+help_of (word ∷ words) = if bytes_eq word (codes "settle") then settle_help
+    else if bytes_eq word (codes "once") then once_help
+    else if bytes_eq word (codes "create") then create_help
+    else if bytes_eq word (codes "serve") then serve_help else program_help
+
+-- this part stands in a text
+abbrev pub Says : Text → Text → Type 0
+Says text part = (place : ℕ) × (take (length part) (drop place text) ≡ part)

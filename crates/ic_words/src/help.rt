@@ -1,0 +1,81 @@
+//! The help of the program and of each of its commands.
+
+ghost use Rattle.std.specs.Prelude.{◌≡◌, map, string_bytes};
+ghost use Rattle.ic_words.specs.Help.{help_of};
+
+/// The help of the program.
+const PROGRAM: &str = "\
+A job server for the interaction calculus
+
+Usage: icserve <COMMAND>
+
+Commands:
+  settle  Settles the configuration on standard input and prints it
+  once    Makes one round of the system on standard input and prints the configuration
+  create  Makes the file F an empty disk, whatever it held
+  serve   Serves the lines of standard input over the disk in the file F
+
+Options:
+  -h, --help     Print help
+  -V, --version  Print version
+";
+
+/// The help of `settle`.
+const SETTLE: &str = "\
+Settles the configuration on standard input and prints it
+
+Usage: icserve settle
+
+Options:
+  -h, --help  Print help
+";
+
+/// The help of `once`.
+const ONCE: &str = "\
+Makes one round of the system on standard input and prints the configuration
+
+Usage: icserve once
+
+Options:
+  -h, --help  Print help
+";
+
+/// The help of `create`.
+const CREATE: &str = "\
+Makes the file F an empty disk, whatever it held
+
+Usage: icserve create --disk <F>
+
+Options:
+      --disk <F>  The path of the file, which is made where it is missing
+  -h, --help      Print help
+";
+
+/// The help of `serve`.
+const SERVE: &str = "\
+Serves the lines of standard input over the disk in the file F
+
+Usage: icserve serve [OPTIONS] --disk <F>
+
+Options:
+      --disk <F>     The path of the file, which has to be a disk
+      --workers <N>  Threads for a round of 1000 equations or more, from 1 to 64 [default: 2]
+      --every <K>    After how many rounds of a run they are kept, from 1 to 1000000 [default: 100]
+  -h, --help         Print help
+";
+
+/// The help that words ask for: that of the command that the first one names, or the program's.
+pub(crate) fn help_of(words: &[String]) -> &'static str
+    ensures { result.now ≡ help_of (map string_bytes words.now) }
+{
+    let Some(word) = words.first() else {
+        return PROGRAM;
+    };
+    match word.as_str() {
+        "settle" => SETTLE,
+        "once" => ONCE,
+        "create" => CREATE,
+        "serve" => SERVE,
+        _ => PROGRAM,
+    }
+}
