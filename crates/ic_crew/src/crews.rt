@@ -128,7 +128,7 @@ impl Crew {
         }
         let config = flight.config().copy(alloc)?;
         let after = round_by_lines(rt, alloc, &self.lines, flight.rules(), config)?;
-        Ok(made_for(flight, after)?)
+        Ok(made_for(alloc, flight, after)?)
     }
 }
 

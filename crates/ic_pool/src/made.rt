@@ -9,10 +9,10 @@ ghost use Rattle.ic_pool.specs.declared.limits.TheConstants.{MAX_ROUNDS};
 use crate::flight::Flight;
 use crate::played::Played;
 use ic_term::Config;
-use std::alloc::AllocError;
+use std::alloc::{AllocError, Global};
 
 /// The round of a flight, from the configuration after it.
-pub fn made_for(flight: &Flight, after: Config) -> Result<Played, AllocError>
+pub fn made_for(alloc: Global, flight: &Flight, after: Config) -> Result<Played, AllocError>
     requires counted { flight.now.rounds < MAX_ROUNDS }
     requires fitting { IsTrue (fits flight.now.rules.rules flight.now.config) }
     requires made { after ≡ round flight.now.rules.rules flight.now.config }
@@ -21,5 +21,6 @@ pub fn made_for(flight: &Flight, after: Config) -> Result<Played, AllocError>
 {
     let before = flight.shared_config().clone()?;
     let rules = flight.rules().clone()?;
-    Ok(Played::new(flight.name(), rules, before, after, flight.rounds()))
+    let rounds = flight.rounds();
+    Ok(Played::new(alloc, flight.name(), rules, before, after, rounds)?)
 }
