@@ -1,0 +1,51 @@
+//! What a server has after any run.
+
+ghost use Rattle.std.specs.Prelude.{◌≡◌, ◌⊎◌, ◌∷◌, ◌++◌, ℕ, List, length, take};
+ghost use Rattle.ic_jobs.specs.declared.command.Command.{Command};
+ghost use Rattle.ic_jobs.specs.declared.reply.Reply.{Reply};
+ghost use Rattle.ic_frames.specs.declared.faults.OpenCause.{OpenCause};
+ghost use Rattle.ic_frames.specs.declared.faults.OpenCause.TheVariants.{Device, Memory};
+ghost use Rattle.ic_desk.specs.Book.{table_of};
+ghost use Rattle.ic_desk.specs.Moves.{Move, answers, refuses};
+ghost use Rattle.ic_desk.specs.Server.{Reaches, down, up};
+ghost use Rattle.ic_lives.specs.Past.{Past, IsPast};
+ghost use Rattle.ic_lives.specs.Headline.{IsTableAfter, HoldsPrefixAfter};
+
+use ic_desk::Book;
+use ic_disk::Disk;
+
+/// Stopped at any moment, inside a write or between two, the server opens again with the job table
+/// after a prefix of the commands and rounds so far that holds every answered command. And after any
+/// number of stops, with any number of workers, each job's configuration after its r-th round is the
+/// r-th iterate of the sequential round on the configuration that it began with.
+///
+/// So it is after every list of moves from a disk on which `create` has answered.
+pub fn the_headline<D: Disk>(book: &Book<D>, found: &D)
+    // An open book has the table after all that has come.
+    ensures open { (moves : List Move) → Reaches moves (up book.now)
+        → IsTableAfter moves (table_of book.now) }
+
+    // A disk that will be found has the table after a prefix, in whatever image is found.
+    ensures stopped { (moves : List Move) (file : List ℕ)
+        → Reaches {ghosts = D.Disk} moves (down found.now) → D.image found.now file
+        → HoldsPrefixAfter moves file }
+
+    // An opening is refused only where a call to the disk fails or memory is out.
+    ensures opens_again { (moves : List Move) (cause : OpenCause)
+        → Reaches {ghosts = D.Disk} (refuses cause ∷ moves) (down found.now)
+        → (cause ≡ Device) ⊎ (cause ≡ Memory) }
+{
+    let _ = book;
+    let _ = found;
+    ic_jobs::laws::histories_split_and_join();
+    ic_jobs::laws::life_law();
+    ic_slots::laws::one_is_held();
+}
+
+/// What has come up to an answered command, and the command, begins the history for ever after.
+pub fn an_answer_stays()
+    ensures { (later earlier : List Move) (who : ℕ) (command : Command) (reply : Reply) (now : Past)
+        → IsPast (later ++ answers who command reply ∷ earlier) now
+        → (then : Past) × IsPast (answers who command reply ∷ earlier) then
+        × (take (length then.entries) now.entries ≡ then.entries) }
+{}

@@ -1,0 +1,5 @@
+//! Laws over the lives of a server: what its open book and its disk have after any list of moves,
+//! stopped at any moment. No program calls them; they say what the calls of a book come to.
+#![tactic(auto)]
+
+pub mod laws;
