@@ -5,6 +5,8 @@ ghost use Rattle.ic_jobs.specs.declared.event.Event.TheVariants.{Round};
 ghost use Rattle.ic_jobs.specs.declared.reply.Reply.{Reply};
 ghost use Rattle.ic_jobs.specs.declared.limits.TheConstants.{MAX_JOBS};
 ghost use Rattle.ic_jobs.specs.Landing.{due, Awaits};
+ghost use Rattle.ic_pool.specs.Played.{round_of};
+ghost use Rattle.ic_pool.specs.Workers.{ByWorkers, played_by};
 ghost use Rattle.ic_desk.specs.declared.limits.TheConstants.{MAX_ENTRIES};
 ghost use Rattle.ic_desk.specs.Book.{is_broken, start_of, table_of, log_of, keeper_of, IsUnchanged};
 ghost use Rattle.ic_desk.specs.Entries.{round_entry};
@@ -17,7 +19,7 @@ use crate::fault::ServeFault;
 use crate::limits::FEW;
 use ic_desk::{Book, MAX_ENTRIES};
 use ic_disk::Disk;
-use ic_pool::{Flight, OpenGate, play, play_alone};
+use ic_pool::{Flight, OpenGate, Played, PoolFault, play, play_alone};
 use std::alloc::Global;
 use std::sync::Wait;
 use std::thread::Threads;
@@ -86,8 +88,7 @@ pub(crate) fn make_round<T: Threads + Wait, D: Disk>(
     Ok(Some(place))
 }
 
-/// Makes a round that the book awaits and lands it, or halts its job where it can't be made. A round
-/// of few equations is made in this thread.
+/// Makes a round that the book awaits and lands it, or halts its job where it can't be made.
 fn land_or_halt<T: Threads + Wait, D: Disk>(
     rt: &T,
     alloc: Global,
@@ -108,15 +109,36 @@ fn land_or_halt<T: Threads + Wait, D: Disk>(
     ensures keeper { keeper_of book.new ≡ keeper_of book.old }
 {
     book.facts();
-    if flight.blocked() {
-        book.halt(flight)?;
-    } else if flight.config().equations().len() < FEW {
-        ic_pool::laws::blocked_flights_are_refused();
-        let played = play_alone(alloc, flight)?;
-        book.land(played)?;
-    } else {
-        let played = play(rt, alloc, flight, workers, &OpenGate)?;
-        book.land(played)?;
-    }
+    ic_pool::laws::refused_flights_are_blocked();
+    let played = match play_flight(rt, alloc, flight, workers) {
+        Ok(played) => played,
+        Err(fault) => {
+            if !fault.is_of_flight() {
+                return Err(ServeFault::Pool(fault));
+            }
+            book.halt_awaited(flight)?;
+            return Ok(());
+        }
+    };
+    book.land_awaited(played)?;
     Ok(())
+}
+
+/// The round of a flight. One of few equations is made in this thread.
+fn play_flight<T: Threads + Wait>(
+    rt: &T,
+    alloc: Global,
+    flight: &Flight,
+    workers: usize,
+) -> Result<Played, PoolFault>
+    requires { 1 ≤ workers }
+    ensures answer { ByWorkers result (played_by workers flight.now) }
+    ensures round { IfOk result (λ played. played ≡ round_of flight.now) }
+{
+    if flight.config().equations().len() < FEW {
+        ic_pool::laws::workers_answer_so();
+        ic_pool::laws::refusals_come_in_order();
+        return play_alone(alloc, flight);
+    }
+    play(rt, alloc, flight, workers, &OpenGate)
 }
