@@ -9,10 +9,13 @@ use ic_streams::{StreamFault, once_stream, settle_stream};
 use ic_words::{Task, WordsFault, read_words};
 use std::env;
 use std::fs::File;
-use std::io::{self, ErrorKind, Write};
+use std::io::{self, BufWriter, ErrorKind, Write};
 use std::process::ExitCode;
 use std::sync::Wait;
 use std::thread::Threads;
+
+/// How many bytes of answers are gathered at most before they are written.
+const ANSWERS: usize = 65_536;
 
 fn main(rt: HostRuntime) -> ExitCode {
     match run(&rt, &rt) {
@@ -92,8 +95,8 @@ fn open(rt: &HostRuntime, path: &str) -> Result<Book<FileDisk>, Failure> {
     }
 }
 
-/// Serves the lines of standard input over the book, and closes it. Every answer is flushed, also
-/// where the serving ended at a fault.
+/// Serves the lines of standard input over the book, and closes it. Answers to lines that were read together are
+/// written together; every answer is flushed before the input is waited for, and also where the serving ended at a fault.
 fn serve<T: Threads + Wait>(
     rt: &HostRuntime,
     threads: &T,
@@ -103,8 +106,11 @@ fn serve<T: Threads + Wait>(
 ) -> Result<(), ServeFault> {
     let workers = workers.max(1) as usize;
     let every = u64::from(every.max(1));
+    let Ok(mut output) = BufWriter::with_capacity(rt.alloc(), ANSWERS, io::writer(rt)) else {
+        book.close();
+        return Err(ServeFault::Memory);
+    };
     let mut input = rt.reader();
-    let mut output = io::writer(rt);
     let served = serve_lines(
         threads,
         rt.alloc(),
