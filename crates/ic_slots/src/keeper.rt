@@ -104,7 +104,7 @@ impl<D: Disk> Keeper<D> {
         self.frames.open_gate()
     }
 
-    /// Puts this table in the place of the one that is kept. It takes no memory.
+    /// Puts this table in the place of the one that is kept. It isn't answered want of memory.
     pub fn keep(&mut self, table: &Table) -> Result<(), KeepFault>
         ensures fault { FaultLeaves result (frames_of self.old) (frames_of self.new) }
         ensures turns { TakesTurns result (frames_of self.old) (frames_of self.new) }
