@@ -19,9 +19,11 @@ def sources():
 
 
 def proofs_are_cited_at_home():
-    """No crate cites another's proofs, nor what stands in its specs/inner."""
+    """No crate cites another's proofs, nor what stands in its specs/inner. That a type may cross threads is in no file:
+    the check writes it, as `TheSendSync` and `TheKnot`."""
     for path, number, line in sources():
-        for crate, part in re.findall(r"Rattle\.(ic_\w+)\.(proofs|specs\.inner)\b", line):
+        cited = re.sub(r"Rattle\.ic_\w+\.proofs\.\S+\.(?:TheSendSync|TheKnot)\b", "", line)
+        for crate, part in re.findall(r"Rattle\.(ic_\w+)\.(proofs|specs\.inner)\b", cited):
             if crate != path.parts[1]:
                 yield path, number, f"cites {part} of {crate}"
 

@@ -1,0 +1,86 @@
+-- Which values may cross threads. Each step is proved by itself: all at once is too much for one search.
+use denote.RattleType.{RattleType}
+use denote.Param.Send.{IsSend, IsSync, sendable}
+use Rattle.std.proofs.Crossing.{crosses}
+use Rattle.std.proofs.MapsCrossing.{crosses as maps}
+use Rattle.ic_term.proofs.term.Term.TheLaws.TheKnot.{crosses as terms}
+use Rattle.ic_term.proofs.symbols.Symbols.TheSendSync as symbols
+use Rattle.ic_rules.proofs.rule_set.SymbolPair.TheSendSync as pair
+use Rattle.ic_rules.proofs.job_name.JobName.TheSendSync as name
+use Rattle.ic_jobs.proofs.shown.JobList.TheSendSync as list
+use Rattle.ic_jobs.proofs.state.State.TheSendSync as state
+use Rattle.ic_jobs.proofs.reply.Refusal.TheSendSync as refusal
+use Rattle.ic_term.specs.contracts.config.Config as Config
+use Rattle.ic_rules.specs.contracts.rule.Rule as Rule
+use Rattle.ic_rules.specs.contracts.rule_set.RuleSet as RuleSet
+use Rattle.ic_rules.specs.contracts.system.System as System
+use Rattle.ic_jobs.specs.contracts.command.Command as Command
+use Rattle.ic_jobs.specs.contracts.event.Event as Event
+use Rattle.ic_jobs.specs.contracts.event.Entry as Entry
+use Rattle.ic_jobs.specs.contracts.reply.Reply as Reply
+use Rattle.ic_jobs.specs.contracts.shown.ShownJob as ShownJob
+use Rattle.ic_jobs.specs.contracts.job.Job as Job
+use Rattle.ic_jobs.specs.contracts.table.Table as Table
+use Rattle.ic_disk.specs.declared.disk.Disk.{Ghosts}
+use Rattle.ic_slots.proofs.keeper.Keeper.TheSendSync as keeper
+use Rattle.ic_desk.specs.contracts.book.Book as Book
+use Rattle.ic_attend.specs.contracts.desk.Desk as Desk
+use Rattle.ic_attend.specs.contracts.attended.ClientRun as ClientRun
+use Rattle.ic_attend.specs.contracts.client.Speech as Speech
+
+pub Config_send : IsSend Config.the_field.row
+Config_send = search (sendable, crosses, terms) depth 40
+
+pub Config_sync : IsSync Config.the_field.row
+Config_sync = search (sendable, crosses, terms) depth 40
+
+Rule_send : IsSend Rule.the_field.row
+Rule_send = search (sendable, crosses, terms) depth 40
+
+Rule_sync : IsSync Rule.the_field.row
+Rule_sync = search (sendable, crosses, terms) depth 40
+
+pub RuleSet_send : IsSend RuleSet.the_field.row
+RuleSet_send = search (Rule_send, symbols.the_send, pair.the_field_send, sendable, crosses, maps) depth 40
+
+pub RuleSet_sync : IsSync RuleSet.the_field.row
+RuleSet_sync = search (Rule_sync, symbols.the_sync, pair.the_field_sync, sendable, crosses, maps) depth 40
+
+System_send : IsSend System.the_field.row
+System_send = search (Config_send, RuleSet_send, RuleSet_sync, sendable, crosses) depth 40
+
+pub Command_send : IsSend Command.the_field.row
+Command_send = search (System_send, name.the_send, sendable, crosses) depth 40
+
+ShownJob_send : IsSend ShownJob.the_field.row
+ShownJob_send = search (Config_send, Config_sync, RuleSet_send, RuleSet_sync, name.the_send, state.the_field_send, sendable, crosses) depth 40
+
+pub Reply_send : IsSend Reply.the_field.row
+Reply_send = search (ShownJob_send, list.the_send, refusal.the_field_send, sendable, crosses) depth 40
+
+Event_send : IsSend Event.the_field.row
+Event_send = search (Command_send, name.the_send, sendable, crosses) depth 40
+
+pub Entry_send : IsSend Entry.the_field.row
+Entry_send = search (Event_send, Reply_send, sendable, crosses) depth 40
+
+Job_send : IsSend Job.the_field.row
+Job_send = search (Config_send, Config_sync, RuleSet_send, RuleSet_sync, name.the_send, state.the_field_send, sendable, crosses) depth 40
+
+pub Table_send : IsSend Table.the_field.row
+Table_send = search (Job_send, sendable, crosses) depth 40
+
+ClientRun_send : IsSend ClientRun.the_field.row
+ClientRun_send = search (Command_send, Reply_send, sendable, crosses) depth 40
+
+pub Speech_send : IsSend Speech.the_field.row
+Speech_send = search (ClientRun_send, sendable, crosses) depth 40
+
+Book_send : (D : RattleType) (g : Ghosts D.Denot) → IsSend D → IsSend (Book.the_field D g).row
+Book_send D g s = let k = keeper.the_field_send D g s in search (Table_send, Entry_send, sendable, crosses) depth 40
+
+pub Command_row_send : IsSend Command.the_row
+Command_row_send = search (System_send, name.the_send, sendable, crosses) depth 40
+
+pub Desk_row_sync : (D : RattleType) (g : Ghosts D.Denot) → IsSend D → IsSync (Desk.the_row D g)
+Desk_row_sync D g s = let b = Book_send D g s in search (sendable, crosses) depth 40

@@ -1,0 +1,13 @@
+use denote.Param.Send.{sendable}
+use Rattle.std.proofs.Crossing.{crosses}
+use Rattle.ic_attend.proofs.runner.Duty.TheSendSync as duty
+use Rattle.ic_attend.proofs.signs.Signs.TheSendSync as signs
+use Rattle.ic_attend.proofs.Crossings.{Desk_row_sync}
+use Rattle.ic_attend.proofs.threads.start_runner.Goals as goal
+
+pub spawn-started-requires-send-F : goal.spawn-started-requires-send-F
+spawn-started-requires-send-F g c κs within =
+    let send = c.type_bounds.send-D in
+    let share = c.type_bounds.sync-R in
+    let gate = c.type_bounds.sync-G in
+    search (Desk_row_sync, signs.the_sync, duty.the_send, sendable, crosses) depth 60

@@ -1,0 +1,47 @@
+-- What the faults of an attendance say.
+use Rattle.std.specs.Prelude.{◌≡◌, List, [], Result, Ok, Err, IsTrue}
+use Rattle.ic_disk.specs.declared.disk.Disk.{Ghosts}
+use Rattle.ic_frames.specs.Faults.{CountsOpen}
+use Rattle.ic_frames.specs.Opening.{LeavesAsFound}
+use Rattle.ic_frames.specs.declared.faults.OpenFault.{OpenFault}
+use Rattle.ic_slots.specs.Held.{IsHeld, the_table}
+use Rattle.ic_slots.specs.Opening.{Says}
+use Rattle.ic_desk.specs.declared.book.Book.{Book}
+use Rattle.ic_desk.specs.Book.{start_of, log_of, table_of}
+use Rattle.ic_attend.specs.declared.attended.Attended.{Attended}
+use Rattle.ic_attend.specs.declared.fault.AttendFault.{AttendFault}
+use Rattle.ic_attend.specs.declared.fault.AttendFault.TheVariants.{Open, NoThread, Memory, Torn}
+
+-- where the disk wasn't opened, this holds of the refusal
+abbrev pub IfUnopened : {D : Type 0} {ghosts : Ghosts D}
+    → Result (Attended D ghosts) (AttendFault D ghosts) → (OpenFault D → Type 0) → Type 0
+IfUnopened (Ok a) what = Unit {0}
+IfUnopened (Err (Open fault)) what = what fault
+IfUnopened (Err (NoThread a)) what = Unit {0}
+IfUnopened (Err (Memory book)) what = Unit {0}
+IfUnopened (Err (Torn a)) what = Unit {0}
+
+-- where memory was refused before any thread was started, this holds of the book
+abbrev pub IfUnbegun : {D : Type 0} {ghosts : Ghosts D}
+    → Result (Attended D ghosts) (AttendFault D ghosts) → (Book D ghosts → Type 0) → Type 0
+IfUnbegun (Ok a) what = Unit {0}
+IfUnbegun (Err (Open fault)) what = Unit {0}
+IfUnbegun (Err (NoThread a)) what = Unit {0}
+IfUnbegun (Err (Memory book)) what = what book
+IfUnbegun (Err (Torn a)) what = Unit {0}
+
+-- The disk is handed back as the opening found it, and the refusal says what reads give.
+pub record IsUnopened {D : Type 0} (ghosts : Ghosts D) (disk : D) (fault : OpenFault D)
+    : Type 0 where
+  pub found : LeavesAsFound {T = Unit {0}} ghosts.keeps ghosts.content ghosts.image
+      ghosts.clock ghosts.left (Err fault.cause) disk fault.disk
+  pub counted : CountsOpen {T = Unit {0}} (Err fault.cause)
+      (ghosts.failures disk) (ghosts.failures fault.disk)
+  pub says : IsTrue (ghosts.keeps disk) → Says fault.cause (ghosts.content disk)
+
+-- The book is as it was opened: it has the table that the disk holds, and an empty log.
+pub record IsAsOpened {D : Type 0} {ghosts : Ghosts D} (disk : D) (book : Book D ghosts)
+    : Type 0 where
+  pub held : IsTrue (ghosts.keeps disk) → IsHeld (the_table (start_of book)) (ghosts.content disk)
+  pub table : table_of book ≡ start_of book
+  pub log : log_of book ≡ []

@@ -1,0 +1,38 @@
+//! What clients and runners leave: a book, what each client was answered, and how each runner ended.
+
+use ic_desk::{Book, BookFault};
+use ic_disk::Disk;
+use ic_jobs::{Command, Reply};
+use ic_pool::PoolFault;
+
+/// What a client was answered.
+#[derive(Debug, Drop)]
+pub struct ClientRun {
+    /// Its commands that were answered, in order, each with its reply.
+    pub answers: Vec<(Command, Reply)>,
+    /// Why it ended before its script did; none where the script was finished.
+    pub end: Option<BookFault>,
+}
+
+/// How a runner ended.
+#[derive(Clone, Copy, Debug, PartialEq, Eq)]
+pub enum RunnerEnd {
+    /// Nothing was due, once all scripts had ended.
+    Idle,
+    /// It has used up its turns, which count once all scripts have ended.
+    Turns,
+    /// The book refused it.
+    Book(BookFault),
+    /// A round could not be made.
+    Pool(PoolFault),
+}
+
+/// What clients and runners leave.
+#[derive(Drop)]
+pub struct Attended<D: Disk> {
+    pub book: Book<D>,
+    /// One for each script, in their order.
+    pub answers: Vec<ClientRun>,
+    /// One for each runner.
+    pub ends: Vec<RunnerEnd>,
+}

@@ -1,0 +1,90 @@
+//! A client: it gives the commands of its script, one by one, and gathers the answers.
+
+ghost use Rattle.std.specs.Prelude.{◌≡◌, ◌++◌, ◌∷◌, [], OnOk, OnErr, true};
+ghost use Rattle.ic_jobs.specs.declared.reply.Reply.{Reply as Answer};
+ghost use Rattle.ic_attend.specs.inner.Speech.{Speaks};
+
+use crate::attended::ClientRun;
+use crate::desk::Desk;
+use crate::signs::Signs;
+use ic_desk::BookFault;
+use ic_disk::Disk;
+use ic_jobs::{Command, Reply};
+use ic_pool::Gate;
+use std::alloc::Global;
+use std::sync::Wait;
+
+/// What a client's thread hands over: what it was answered, and whether it was told to stop.
+#[derive(Drop)]
+pub(crate) struct Speech {
+    pub run: ClientRun,
+    pub stopped: bool,
+}
+
+impl Speech {
+    fn new(answers: Vec<(Command, Reply)>, end: Option<BookFault>, stopped: bool) -> Speech
+        ensures answers { result.run.answers.items ≡ answers.items }
+        ensures end { result.run.end ≡ end }
+        ensures stopped { result.stopped ≡ stopped }
+    {
+        Speech {
+            run: ClientRun { answers, end },
+            stopped,
+        }
+    }
+
+    /// The speech of a client whose thread wasn't started.
+    pub(crate) fn none(alloc: Global) -> Speech
+        ensures answers { result.run.answers.items ≡ [] }
+        ensures stopped { result.stopped ≡ true }
+    {
+        Speech::new(Vec::new(alloc), None, true)
+    }
+}
+
+/// Gives the commands of a script, until one is refused or the threads are told to stop. The gate is
+/// told of each answer.
+pub(crate) fn speak<R: Wait, D: Disk, G: Gate>(
+    rt: &R,
+    alloc: Global,
+    desk: &Desk<D>,
+    signs: &Signs,
+    gate: &G,
+    who: u64,
+    script: Vec<Command>,
+) -> Speech
+    ensures { Speaks script.items result }
+{
+    let mut answers = Vec::new(alloc);
+    for command in script {
+        if signs.are_told_to_stop() {
+            return Speech::new(answers, None, true);
+        }
+        match ask(rt, alloc, desk, who, command, &mut answers) {
+            Ok(()) => gate.answered(who),
+            Err(fault) => return Speech::new(answers, Some(fault), false),
+        }
+    }
+    Speech::new(answers, None, false)
+}
+
+/// Gives a command, and puts it behind the answers with its reply. The copy and the room are made
+/// first, so a command that is answered is never lost.
+fn ask<R: Wait, D: Disk>(
+    rt: &R,
+    alloc: Global,
+    desk: &Desk<D>,
+    who: u64,
+    command: Command,
+    answers: &mut Vec<(Command, Reply)>,
+) -> Result<(), BookFault>
+    ensures answered { OnOk result ((reply : Answer)
+        × (answers.new.items ≡ answers.old.items ++ (command, reply) ∷ [])) }
+    ensures refused { OnErr result (answers.new.items ≡ answers.old.items) }
+{
+    let copy = command.copy(alloc)?;
+    answers.reserve(1)?;
+    let reply = desk.command(rt, alloc, who, command)?;
+    answers.push_reserved((copy, reply));
+    Ok(())
+}

@@ -1,0 +1,177 @@
+//! The history compared with what the threads gathered. It takes no memory.
+
+ghost use Rattle.std.specs.Prelude.{◌≡◌, ◌-◌, Some, IsTrue, length, take, map, slice_get};
+ghost use Rattle.std.specs.List.{All};
+ghost use Rattle.ic_jobs.specs.declared.event.Event.TheVariants.{Command as by_command};
+ghost use Rattle.ic_desk.specs.declared.fault.BookFault.TheVariants.{Device as by_device};
+ghost use Rattle.ic_desk.specs.Entries.{is_round, AreRounds};
+ghost use Rattle.ic_attend.specs.declared.attended.ClientRun.{ClientRun as Run};
+ghost use Rattle.ic_attend.specs.Parts.{part, AreOfClients};
+ghost use Rattle.ic_attend.specs.Clients.{AreParts, MayStandBehind};
+ghost use Rattle.ic_attend.specs.Runners.{NoneRuns, rounds_among, EndHolds};
+ghost use Rattle.ic_attend.specs.OneHistory.{Agrees};
+
+use crate::attended::{Attended, ClientRun, RunnerEnd};
+use crate::same::{same_command, same_reply};
+use ic_desk::BookFault;
+use ic_disk::Disk;
+use ic_jobs::{Command, Entry, Event, Job, Reply, State, Table};
+
+impl<D: Disk> Attended<D> {
+    /// Whether the book's history goes on from this table and tells of these clients and runners.
+    pub(crate) fn agrees(&self, opening: &Table, turns: usize) -> bool
+        ensures { IsTrue result → Agrees opening.now turns self.now }
+    {
+        self.book.facts();
+        ic_jobs::laws::equality_is_exact();
+        let log = self.book.log();
+        let (kept, unkept) = log.split_at(self.book.kept());
+        let answers = self.answers.as_slice();
+        let ends = self.ends.as_slice();
+        *self.book.start() == *opening
+            && are_of_clients(log, answers.len())
+            && are_parts(kept, answers)
+            && may_stand_behind(unkept, answers)
+            && ends_hold(ends, turns, self.book.table().jobs(), log)
+    }
+}
+
+fn is_round(event: &Event) -> bool
+    ensures { result ≡ is_round event.now }
+{
+    matches!(event, Event::Round(_))
+}
+
+/// Whether each entry is a round, or a command of one of so many clients.
+fn are_of_clients(entries: &[Entry], clients: usize) -> bool
+    ensures { IsTrue result → AreOfClients clients entries.now }
+{
+    for entry in entries {
+        if !is_round(&entry.event) && entry.who >= clients as u64 {
+            return false;
+        }
+    }
+    true
+}
+
+/// Whether the answers of each client are its part of these entries.
+fn are_parts(entries: &[Entry], runs: &[ClientRun]) -> bool
+    ensures { IsTrue result → AreParts entries.now runs.now }
+{
+    for who in 0..runs.len() {
+        if !is_part(entries, who as u64, runs[who].answers.as_slice()) {
+            return false;
+        }
+    }
+    true
+}
+
+/// Whether these answers are a client's part of these entries.
+fn is_part(entries: &[Entry], who: u64, answers: &[(Command, Reply)]) -> bool
+    ensures { IsTrue result → answers.now ≡ part who entries.now }
+{
+    let mut given = 0;
+    for entry in entries {
+        if entry.who == who && !is_round(&entry.event) {
+            if given >= answers.len() || !is_answer(entry, &answers[given]) {
+                return false;
+            }
+            given += 1;
+        }
+    }
+    given == answers.len()
+}
+
+/// Whether an entry is a command that was answered so.
+fn is_answer(entry: &Entry, answer: &(Command, Reply)) -> bool
+    ensures { IsTrue result → (entry.now.event ≡ by_command answer.now.0)
+        × (entry.now.reply ≡ answer.now.1) }
+{
+    match &entry.event {
+        Event::Command(command) => {
+            same_command(command, &answer.0) && same_reply(&entry.reply, &answer.1)
+        }
+        Event::Round(_) => false,
+    }
+}
+
+/// Whether these entries are rounds, or rounds and one last command of a client that a failing disk
+/// has ended.
+fn may_stand_behind(entries: &[Entry], runs: &[ClientRun]) -> bool
+    requires { AreRounds (take (length entries.now - 1) entries.now) }
+    ensures { IsTrue result → MayStandBehind runs.now entries.now }
+{
+    match entries.split_last() {
+        None => true,
+        Some((last, _)) => is_round(&last.event) || has_failed(runs, last.who),
+    }
+}
+
+/// Whether a failing disk has ended this client.
+fn has_failed(runs: &[ClientRun], who: u64) -> bool
+    ensures { IsTrue result → (run : Run) × (slice_get runs.now who ≡ Some run)
+        × (run.end ≡ Some by_device) }
+{
+    match runs.get(who as usize) {
+        Some(run) => is_device(run.end),
+        None => false,
+    }
+}
+
+/// Whether a client was ended by a failing disk.
+fn is_device(end: Option<BookFault>) -> bool
+    ensures { IsTrue result → end ≡ Some by_device }
+{
+    match end {
+        Some(fault) => fault == BookFault::Device,
+        None => false,
+    }
+}
+
+/// Whether each runner's end is as the jobs and the entries have it.
+fn ends_hold(ends: &[RunnerEnd], turns: usize, jobs: &[Job], entries: &[Entry]) -> bool
+    ensures { IsTrue result → All (EndHolds turns jobs.now entries.now) ends.now }
+{
+    for end in ends {
+        if !end_holds(*end, turns, jobs, entries) {
+            return false;
+        }
+    }
+    true
+}
+
+/// Whether a runner's end is as the jobs and the entries have it.
+fn end_holds(end: RunnerEnd, turns: usize, jobs: &[Job], entries: &[Entry]) -> bool
+    ensures { IsTrue result → EndHolds turns jobs.now entries.now end }
+{
+    match end {
+        RunnerEnd::Idle => none_runs(jobs),
+        RunnerEnd::Turns => turns <= count_rounds(entries),
+        RunnerEnd::Book(_) | RunnerEnd::Pool(_) => true,
+    }
+}
+
+/// Whether no job runs.
+fn none_runs(jobs: &[Job]) -> bool
+    ensures { IsTrue result → NoneRuns jobs.now }
+{
+    for job in jobs {
+        if matches!(job.state(), State::Running) {
+            return false;
+        }
+    }
+    true
+}
+
+/// How many rounds stand among these entries.
+fn count_rounds(entries: &[Entry]) -> usize
+    ensures { result ≡ rounds_among entries.now }
+{
+    let mut rounds = 0;
+    for entry in entries {
+        if is_round(&entry.event) {
+            rounds += 1;
+        }
+    }
+    rounds
+}

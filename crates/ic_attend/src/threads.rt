@@ -1,0 +1,207 @@
+//! The threads of an attendance: one for each script, one for each runner. All are started before the
+//! first is joined, and all have ended when they are gathered.
+
+ghost use Rattle.std.specs.Prelude.{◌≡◌, ◌≤◌, map, vec_items, vec_len, vec_capacity, IfSome, length};
+ghost use Rattle.ic_attend.specs.inner.Speech.{Speaks};
+ghost use Rattle.ic_attend.specs.inner.Gathering.{HasGathered, IsReady};
+
+use crate::attended::RunnerEnd;
+use crate::client::{Speech, speak};
+use crate::desk::Desk;
+use crate::gathered::Gathered;
+use crate::runner::{Duty, make_rounds};
+use crate::signs::Signs;
+use ic_disk::Disk;
+use ic_jobs::Command;
+use ic_pool::Gate;
+use std::alloc::Global;
+use std::snapshot::Snapshot;
+use std::sync::Wait;
+use std::thread;
+use std::thread::{JoinHandle, Promise, PromisedHandle, Scope, Threads};
+
+/// What a client's thread promises: to keep to its script.
+#[derive(Drop)]
+struct Script {
+    commands: Snapshot<Vec<Command>>,
+}
+
+impl Promise<Speech> for Script {
+    ghost use Rattle.ic_attend.specs.inner.Speech.{Speaks};
+
+    ghost kept_by = { λ p speech. Speaks p.commands.value.items speech };
+}
+
+/// Gives the scripts and makes rounds, each script and each runner in a thread of its own. All
+/// threads that were started have ended when this returns.
+pub(crate) fn gather<R: Threads + Wait + Sync, D: Disk + Send, G: Gate>(
+    rt: &R,
+    alloc: Global,
+    desk: &Desk<D>,
+    signs: &Signs,
+    gate: &G,
+    scripts: Vec<Vec<Command>>,
+    runners: usize,
+    duty: Duty,
+    gathered: Gathered,
+) -> Gathered
+    requires { IsReady (vec_len scripts) runners gathered }
+    ensures { HasGathered (map vec_items scripts.items) runners result }
+{
+    thread::scope(
+        thread::scope_env(),
+        rt,
+        |scope| -> Gathered
+            requires { IsReady (vec_len scripts) runners gathered }
+            ensures { HasGathered (map vec_items scripts.items) runners result }
+        {
+            start_clients(
+                rt, alloc, scope, desk, signs, gate, scripts, runners, duty, gathered,
+            )
+        },
+    )
+}
+
+/// Starts a client for the last script, then those for the scripts before it and the runners, and
+/// joins it once these are joined.
+fn start_clients<'s, R: Threads + Wait + Sync, E, D: Disk + Send, G: Gate>(
+    rt: &'s R,
+    alloc: Global,
+    scope: &'s Scope<'s, E>,
+    desk: &'s Desk<D>,
+    signs: &'s Signs,
+    gate: &'s G,
+    mut scripts: Vec<Vec<Command>>,
+    runners: usize,
+    duty: Duty,
+    gathered: Gathered,
+) -> Gathered
+    requires { IsReady (vec_len scripts) runners gathered }
+    ensures gathered { HasGathered (map vec_items scripts.items) runners result }
+    ensures len { vec_len result.answers ≡ vec_len scripts }
+    ensures room { vec_capacity result.answers ≡ vec_capacity gathered.answers }
+{
+    let Some(script) = scripts.pop() else {
+        return start_runners(rt, alloc, scope, desk, signs, gate, runners, duty, gathered);
+    };
+    let who = scripts.len() as u64;
+    let commands = Snapshot::of(&script);
+    let client = start_client(rt, alloc, scope, desk, signs, gate, who, script);
+    let mut gathered = start_clients(
+        rt, alloc, scope, desk, signs, gate, scripts, runners, duty, gathered,
+    );
+    let speech = hear(rt, alloc, client, commands);
+    gathered.add_speech(speech);
+    gathered
+}
+
+/// Starts a client, unless the threads are told to stop. Where no thread can be had it tells them.
+fn start_client<'s, R: Threads + Wait + Sync, E, D: Disk + Send, G: Gate>(
+    rt: &'s R,
+    alloc: Global,
+    scope: &'s Scope<'s, E>,
+    desk: &'s Desk<D>,
+    signs: &'s Signs,
+    gate: &'s G,
+    who: u64,
+    script: Vec<Command>,
+) -> Option<PromisedHandle<Speech, Script>>
+    ensures { IfSome result (λ client. client.promise.commands.value.items ≡ script.items) }
+{
+    if signs.are_told_to_stop() {
+        return None;
+    }
+    let promise = Script {
+        commands: Snapshot::of(&script),
+    };
+    let started = scope.spawn_with(
+        promise,
+        move || -> Speech
+            ensures { Speaks script.items result }
+        {
+            let speech = speak(rt, alloc, desk, signs, gate, who, script);
+            signs.end_script();
+            speech
+        },
+    );
+    let Ok(client) = started else {
+        signs.tell_to_stop();
+        return None;
+    };
+    Some(client)
+}
+
+/// What a client hands over at its end: nothing where its thread wasn't started.
+fn hear<R: Threads>(
+    rt: &R,
+    alloc: Global,
+    client: Option<PromisedHandle<Speech, Script>>,
+    commands: Snapshot<Vec<Command>>,
+) -> Speech
+    requires { IfSome client (λ started. started.promise.commands.value.items
+        ≡ commands.value.items) }
+    ensures { Speaks commands.value.items result }
+{
+    match client {
+        Some(client) => client.join(rt),
+        None => Speech::none(alloc),
+    }
+}
+
+/// Starts a runner, then the others, and joins it once these are joined.
+fn start_runners<'s, R: Threads + Wait + Sync, E, D: Disk + Send, G: Gate>(
+    rt: &'s R,
+    alloc: Global,
+    scope: &'s Scope<'s, E>,
+    desk: &'s Desk<D>,
+    signs: &'s Signs,
+    gate: &'s G,
+    runners: usize,
+    duty: Duty,
+    gathered: Gathered,
+) -> Gathered
+    requires { IsReady 0 runners gathered }
+    ensures count { length result.ends.items ≡ runners }
+    ensures len { vec_len result.ends ≡ runners }
+    ensures room { vec_capacity result.ends ≡ vec_capacity gathered.ends }
+    ensures answers { result.answers ≡ gathered.answers }
+{
+    if runners == 0 {
+        return gathered;
+    }
+    let runner = start_runner(rt, alloc, scope, desk, signs, gate, duty);
+    let mut gathered = start_runners(
+        rt,
+        alloc,
+        scope,
+        desk,
+        signs,
+        gate,
+        runners - 1,
+        duty,
+        gathered,
+    );
+    gathered.add_end(runner.map(|runner| runner.join(rt)));
+    gathered
+}
+
+/// Starts a runner, unless the threads are told to stop. Where no thread can be had it tells them.
+fn start_runner<'s, R: Threads + Wait + Sync, E, D: Disk + Send, G: Gate>(
+    rt: &'s R,
+    alloc: Global,
+    scope: &'s Scope<'s, E>,
+    desk: &'s Desk<D>,
+    signs: &'s Signs,
+    gate: &'s G,
+    duty: Duty,
+) -> Option<JoinHandle<RunnerEnd>> {
+    if signs.are_told_to_stop() {
+        return None;
+    }
+    let started = scope.spawn(move || make_rounds(rt, alloc, desk, signs, gate, duty));
+    let Ok(runner) = started else {
+        signs.tell_to_stop();
+        return None;
+    };
+    Some(runner)
+}
