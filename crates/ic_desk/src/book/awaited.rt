@@ -8,6 +8,8 @@ ghost use Rattle.ic_jobs.specs.Landing.{Awaits};
 ghost use Rattle.ic_desk.specs.Entries.{round_entry};
 ghost use Rattle.ic_desk.specs.Book.{log_of, table_of};
 ghost use Rattle.ic_desk.specs.Calls.{LeavesKeptOrAll, RefusesRound, TakesRound};
+ghost use Rattle.ic_desk.specs.Moves.{round_move};
+ghost use Rattle.ic_desk.specs.Server.{Step, up};
 
 use super::Book;
 use crate::BookFault;
@@ -22,6 +24,9 @@ impl<D: Disk> Book<D> {
     pub fn land_awaited(&mut self, played: Played) -> Result<Landed, BookFault>
         requires { Awaits (table_of self.old)
             played.name played.rules played.before played.rounds }
+
+        ensures step { Step (round_move played.name reply.Moved result)
+            (up self.old) (up self.new) }
 
         // Refusals: broken and full, in this order. `Memory` comes behind them.
         ensures fault { RefusesRound result self.old self.new }
@@ -45,6 +50,9 @@ impl<D: Disk> Book<D> {
         requires blocked { IsTrue (is_blocked flight.now) }
         requires awaited { Awaits (table_of self.old)
             flight.now.name flight.now.rules flight.now.config flight.now.rounds }
+
+        ensures step { Step (round_move flight.now.name reply.Halted result)
+            (up self.old) (up self.new) }
 
         // Refusals: broken and full, in this order. `Memory` comes behind them.
         ensures fault { RefusesRound result self.old self.new }
