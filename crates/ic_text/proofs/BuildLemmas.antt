@@ -1,17 +1,26 @@
 -- Terms taken from the end of a list, and words put in front of them.
-use Rattle.std.proofs.Common.{◌≡◌, ℕ, zero, suc, ◌+◌, List, [], ◌∷◌, ◌++◌, Option, None, Some, reverse, map, take, drop, length, refl, sym, ap, ◌∙◌, append-nil, arith}
+use Rattle.std.proofs.Common.{◌≡◌, ℕ, zero, suc, ◌+◌, List, [], ◌∷◌, ◌++◌, Option, None, Some, Result, Ok, Err, reverse, map, take, drop, length, refl, sym, ap, ◌∙◌, append-nil, arith}
 use Rattle.std.specs.Option.{option_to_list}
 use Rattle.std.specs.List.{flat_map}
+use Rattle.std.specs.Result.{result_err}
 use Rattle.std.proofs.lemmas.List.{reverse-append, reverse-reverse, map-append}
 use Rattle.ic_term.specs.declared.term.Term.{Term}
 use Rattle.ic_term.specs.declared.term.Cell.{Cell, out-Cell}
+use Rattle.ic_term.specs.Configuration.{Configuration}
 use Rattle.ic_term.specs.Tree.{Tree, agent, trees_of, list_of, names}
 use Rattle.ic_term.specs.Term.{tree, cell_tree}
 use Rattle.ic_term.specs.lemmas.TermLaws.{cell_tree-out}
 use Rattle.ic_rules.specs.Renaming.{first_occurrences}
+use Rattle.ic_rules.specs.RuleSet.{Rules}
+use Rattle.ic_rules.specs.System.{SystemParts}
 use Rattle.ic_rules.specs.Written.{written}
+use Rattle.ic_rules.specs.declared.rule_set.RuleFault.{RuleFault}
+use Rattle.ic_rules.specs.declared.rule_set.RuleFault.TheVariants.{Limit as TooMany, Arity as OtherArity, NameCount as Uncounted, Twice as Repeated, Lopsided as Uneven, Memory as NoRoom}
 use Rattle.ic_text.specs.declared.number.Item.{Item}
-use Rattle.ic_text.specs.inner.Built.{with_item, built_before, rule_in}
+use Rattle.ic_text.specs.declared.fault.TextFault.{TextFault}
+use Rattle.ic_text.specs.declared.fault.TextFault.TheVariants.{Syntax, Limit, Arity, NameCount, Name, Twice, Lopsided, Memory}
+use Rattle.ic_text.specs.inner.Built.{with_item, built_before, rule_in, joined, refusal}
+use Rattle.ic_text.specs.inner.Numbered.{Refuses}
 use Rattle.ic_text.specs.inner.Terms.{trees, upright}
 use Rattle.ic_text.proofs.Scanning.{map-reverse}
 
@@ -75,3 +84,30 @@ written-agents l r =
 -- terms turned round stand upright
 pub upright-reverse : (ts : List Term) → upright (reverse ts) ≡ trees ts
 upright-reverse ts = ap reverse (map-reverse tree ts) ∙ reverse-reverse (trees ts)
+
+-- ---- rules that are refused
+
+refuses : (fault : TextFault) → Refuses {A = SystemParts} fault (Err fault)
+refuses Syntax = refl
+refuses Limit = refl
+refuses Arity = refl
+refuses (NameCount i) = refl
+refuses (Name n) = refl
+refuses (Twice i) = refl
+refuses (Lopsided i) = refl
+refuses Memory = tt
+
+refuses_both : (fault : RuleFault) (config : Result Configuration TextFault)
+    → Refuses (refusal fault (result_err config)) (joined (Err fault) config)
+refuses_both TooMany config = refl
+refuses_both (OtherArity n) config = refl
+refuses_both (Uncounted i) config = refl
+refuses_both (Repeated i) (Ok c) = refl
+refuses_both (Repeated i) (Err e) = refuses e
+refuses_both (Uneven i) (Ok c) = refl
+refuses_both (Uneven i) (Err e) = refuses e
+refuses_both NoRoom config = tt
+
+pub refuses_joined : (answer : TextFault) (fault : RuleFault) (rules : Result Rules RuleFault) (own : Option TextFault) (config : Result Configuration TextFault)
+    → rules ≡ Err fault → own ≡ result_err config → answer ≡ refusal fault own → Refuses answer (joined rules config)
+refuses_joined answer fault rules own config is owned same = rw (same, owned, is) (refuses_both fault config)

@@ -6,7 +6,7 @@ ghost use Rattle.ic_term.specs.Term.{tree, pair};
 ghost use Rattle.ic_term.specs.Configuration.{restored};
 ghost use Rattle.ic_rules.specs.RuleSet.{built};
 ghost use Rattle.ic_rules.specs.Written.{written};
-ghost use Rattle.ic_text.specs.inner.Built.{built_before, pairs_of, configuration_from, rule_in, rules_in, joined, with_item};
+ghost use Rattle.ic_text.specs.inner.Built.{built_before, pairs_of, configuration_from, rule_in, rules_in, joined, refusal, with_item};
 ghost use Rattle.ic_text.specs.inner.Numbered.{Gives, as_text_answer};
 ghost use Rattle.ic_text.specs.inner.Terms.{trees, upright};
 
@@ -124,8 +124,22 @@ fn rules_of(alloc: Global, mut agents: Vec<Term>) -> Result<Vec<(Cell, Cell)>, A
     Ok(rules)
 }
 
-/// The system of rules and a configuration, or the first refusal of both. That of a rule's names comes before that of
-/// the configuration, and those of pairs and of lopsided rules come behind it.
+/// The refusal of rules, but that of the configuration, if it has one, comes before those of pairs and of lopsided
+/// rules.
+fn refusal(rules: RuleFault, config: Option<TextFault>) -> TextFault
+    ensures { result ≡ refusal rules config }
+{
+    match rules {
+        RuleFault::Limit => TextFault::Limit,
+        RuleFault::Arity(_) => TextFault::Arity,
+        RuleFault::NameCount(place) => TextFault::NameCount(place),
+        RuleFault::Twice(place) => config.unwrap_or(TextFault::Twice(place)),
+        RuleFault::Lopsided(place) => config.unwrap_or(TextFault::Lopsided(place)),
+        RuleFault::Memory => TextFault::Memory,
+    }
+}
+
+/// The system of rules and a configuration, or the first refusal of both.
 fn join(
     alloc: Global,
     rules: Result<RuleSet, RuleFault>,
@@ -138,19 +152,25 @@ fn join(
             Some(system) => Ok(system),
             None => Err(TextFault::Arity),
         },
-        Err(RuleFault::Limit) => Err(TextFault::Limit),
-        Err(RuleFault::Arity(_)) => Err(TextFault::Arity),
-        Err(RuleFault::NameCount(place)) => Err(TextFault::NameCount(place)),
-        Err(RuleFault::Twice(place)) => {
-            config?;
-            Err(TextFault::Twice(place))
-        }
-        Err(RuleFault::Lopsided(place)) => {
-            config?;
-            Err(TextFault::Lopsided(place))
-        }
-        Err(RuleFault::Memory) => Err(TextFault::Memory),
+        Err(fault) => Err(refusal(fault, config.err())),
     }
+}
+
+/// The rules of words in prefix notation, the first of which write so many agents, and the terms behind these, from the
+/// last to the first.
+fn parted(
+    alloc: Global,
+    items: Vec<Item>,
+    agents: usize,
+) -> Result<(Vec<(Cell, Cell)>, Vec<Term>), AllocError>
+    ensures rules { IfOk result (λ parts.
+        map written parts.0.items ≡ rules_in (take agents (built_before items.items []))) }
+    ensures terms { IfOk result (λ parts.
+        upright parts.1.items ≡ drop agents (built_before items.items [])) }
+{
+    let mut stack = terms_of(alloc, items)?;
+    let agents = take_last(alloc, &mut stack, agents)?;
+    Ok((rules_of(alloc, agents)?, stack))
 }
 
 /// The system of words in prefix notation, the first of which write so many agents, the sides of rules.
@@ -166,9 +186,8 @@ pub(crate) fn system_of(
         (as_text_answer (restored
         (configuration_from terms (drop agents (built_before items.items [])))))) }
 {
-    let mut stack = terms_of(alloc, items)?;
-    let agents = take_last(alloc, &mut stack, agents)?;
-    let rules = RuleSet::build(alloc, symbols, rules_of(alloc, agents)?);
+    let (rules, stack) = parted(alloc, items, agents)?;
+    let rules = RuleSet::build(alloc, symbols, rules);
     let config = configure(alloc, stack, terms);
     join(alloc, rules, config)
 }

@@ -1,6 +1,6 @@
 //! Symbols as numbers: the limits of words, and the arities of symbols.
 
-ghost use Rattle.std.specs.Prelude.{◌≡◌, is_ok, if◌then◌else◌};
+ghost use Rattle.std.specs.Prelude.{◌≡◌, is_ok, [], if◌then◌else◌};
 ghost use Rattle.std.specs.List.{AllByRecursion};
 ghost use Rattle.ic_text.specs.inner.Prefix.{node_of, nodes_of};
 ghost use Rattle.ic_text.specs.inner.Numbered.{IsWord, ItemAnswers, item_found, table_with, numbered_words, Gives};
@@ -37,16 +37,20 @@ fn item_of(symbols: &mut Symbols, node: &Node) -> Result<Item, SymbolFault>
     }
 }
 
-/// The words with their numbers, and the table of symbols. Limits come before arities.
-pub(crate) fn number_words(alloc: Global, nodes: &[Node]) -> Result<(Symbols, Vec<Item>), TextFault>
-    requires { AllByRecursion IsWord (nodes_of nodes.now) }
-    ensures { Gives (λ v. (v.0, v.1.items)) result (numbered_words (nodes_of nodes.now)) }
+/// Numbers the words. Limits come before arities.
+fn number_nodes(
+    nodes: &[Node],
+    symbols: &mut Symbols,
+    items: &mut Vec<Item>,
+) -> Result<(), TextFault>
+    requires words { AllByRecursion IsWord (nodes_of nodes.now) }
+    requires no_symbol { symbols.old ≡ [] }
+    requires no_item { items.old.items ≡ [] }
+    ensures { Gives (λ _. (symbols.new, items.new.items)) result (numbered_words (nodes_of nodes.now)) }
 {
-    let mut symbols = Symbols::new(alloc);
-    let mut items = Vec::with_capacity(alloc, nodes.len())?;
     let mut clash = false;
     for node in nodes {
-        match item_of(&mut symbols, node) {
+        match item_of(symbols, node) {
             Ok(item) => items.push(item)?,
             Err(SymbolFault::Limit) => return Err(TextFault::Limit),
             Err(SymbolFault::Arity(_)) => clash = true,
@@ -56,5 +60,16 @@ pub(crate) fn number_words(alloc: Global, nodes: &[Node]) -> Result<(Symbols, Ve
     if clash {
         return Err(TextFault::Arity);
     }
+    Ok(())
+}
+
+/// The words with their numbers, and the table of symbols.
+pub(crate) fn number_words(alloc: Global, nodes: &[Node]) -> Result<(Symbols, Vec<Item>), TextFault>
+    requires { AllByRecursion IsWord (nodes_of nodes.now) }
+    ensures { Gives (λ v. (v.0, v.1.items)) result (numbered_words (nodes_of nodes.now)) }
+{
+    let mut items = Vec::with_capacity(alloc, nodes.len())?;
+    let mut symbols = Symbols::new(alloc);
+    number_nodes(nodes, &mut symbols, &mut items)?;
     Ok((symbols, items))
 }

@@ -1,5 +1,5 @@
 -- For private functions: terms made of their words in prefix notation, the last word first.
-use Rattle.std.specs.Prelude.{ℕ, List, [], ◌∷◌, ◌++◌, Result, Ok, Err, length, take, drop, if◌then◌else◌}
+use Rattle.std.specs.Prelude.{ℕ, List, [], ◌∷◌, ◌++◌, Option, Result, Ok, Err, length, take, drop, unwrap_or, if◌then◌else◌}
 use Rattle.std.specs.List.{flat_map}
 use Rattle.ic_term.specs.Tree.{Tree, name, agent, trees_of, list_of, names, Pair}
 use Rattle.ic_term.specs.Symbol.{is_over}
@@ -70,3 +70,12 @@ joined (Err NoRoom) c = Err Memory
 joined (Ok rs) (Err e) = Err e
 joined (Ok rs) (Ok c) =
     if is_over rs.symbols c then Ok (record { rules = rs; config = c }) else Err Arity
+
+-- the refusal of rules, but that of the configuration, if any, comes before those of pairs and of lopsided rules
+abbrev pub refusal : RuleFault → Option TextFault → TextFault
+refusal TooMany config = Limit
+refusal (OtherArity n) config = Arity
+refusal (Uncounted i) config = NameCount i
+refusal (Repeated i) config = unwrap_or config (Twice i)
+refusal (Uneven i) config = unwrap_or config (Lopsided i)
+refusal NoRoom config = Memory
