@@ -1,10 +1,10 @@
 -- What a buffer of lines takes.
 use Rattle.std.proofs.Common.{◌≡◌, ℕ, suc, ◌+◌, ◌-◌, ◌<◌, ◌≤◌, ◌==◌, List, [], ◌∷◌, ◌++◌, Bool, true, false, not, Option, None, Some, Result, Ok, Err, is_none, unwrap_or, length, take, drop, refl, sym, ap, subst, ◌∙◌, inl, inr, arith, append-nil, append_assoc, length-append}
-use Rattle.std.specs.Prelude.{position, nat_lt, OnErr}
+use Rattle.std.specs.Prelude.{◌≢◌, position, nat_lt}
 use Rattle.std.specs.Result.{IsErrAnd}
 use Rattle.std.specs.List.{position_or_len}
 use Rattle.std.specs.Io.KnownBytes.{Consumes, IsAtEnd, Keeps, prepend_known}
-use Rattle.std.proofs.lemmas.Bool.{cases_Bool, or_from, not-true, eqb-true, ltb-true, ltb-false}
+use Rattle.std.proofs.lemmas.Bool.{cases_Bool, false≢true, or_from, eqb-true, ltb-true, ltb-false}
 use Rattle.std.proofs.lemmas.List.{take-append-drop, length-take, length-drop, take_all, drop-drop, drop_all}
 use Rattle.std.proofs.lemmas.List.Folds.{list_any-append}
 use Rattle.ic_text.specs.declared.limits.TheConstants.{MAX_TEXT}
@@ -12,7 +12,7 @@ use Rattle.ic_lines.specs.declared.buffer.LineFault.{LineFault}
 use Rattle.ic_lines.specs.declared.buffer.LineFault.TheVariants.{LongLine}
 use Rattle.ic_lines.specs.Lines.{has_feed, lines}
 use Rattle.ic_lines.specs.Taking.{BufferParts, to_come, TakesLine, HasNoLine, HasLongLine, IsTooLong}
-use Rattle.ic_lines.specs.inner.Front.{IsFront, IsLongFront, MovesFront}
+use Rattle.ic_lines.specs.inner.Front.{IsFront, IsLongFront, MovesFront, Advances}
 use Rattle.ic_lines.proofs.LineLemmas.{lines_first, lines_last, lines_begin}
 
 abbrev is_feed : ℕ → Bool
@@ -102,10 +102,6 @@ long_text text more h = long_of h.front (h.rest ++ more) (text ++ more) (ap (λ 
           long = omega (arith, long, length-append (b ∷ bs) h.more);
         }
 
-pub fault_is : {T : Type 0} (r : Result T LineFault) (e : LineFault) → IsErrAnd r (λ x. x ≡ e) → r ≡ Err LongLine → e ≡ LongLine
-fault_is (Ok v) e is long = absurd is
-fault_is (Err x) e is long = let same : x ≡ e = is in cc
-
 -- the bytes to come are these, and then those that the reader has left
 abbrev pub Begun : BufferParts → Option (List ℕ) → Option (List ℕ) → List ℕ → Type 0
 Begun b old new front = Consumes (to_come b old) new front
@@ -185,7 +181,7 @@ took some front ahead line left before now is moved p =
     takes_line before now (front ++ ahead) line left p m.0.unfed m.1
 
 -- what was moved is the line, and nothing of the next one has come
-pub took_swapped : (some : Bool) (front ahead line left x y : List ℕ) (before now : Option (List ℕ)) → some ≡ true → MovesFront (Ok some) front ahead line left
+took_swapped : (some : Bool) (front ahead line left x y : List ℕ) (before now : Option (List ℕ)) → some ≡ true → MovesFront (Ok some) front ahead line left
     → Consumes before now (front ++ ahead) → x ≡ line → y ≡ [] → TakesLine x before (prepend_known (y ++ left) now)
 took_swapped some front ahead line left x y before now is moved p ex ey = rw (ex, ey) (took some front ahead line left before now is moved p)
 
@@ -213,10 +209,6 @@ same_front old now front line p is = subst (Consumes old now) is p
 pub moved_behind : (front ahead line left : List ℕ) → left ≡ [] → front ++ ahead ≡ line → line ++ left ≡ front ++ ahead
 moved_behind front ahead line left none all = ap (λ xs. line ++ xs) none ∙ append-nil line ∙ sym all
 
-pub at_fault : {T : Type 0} {P : Type 0} (r : Result T LineFault) → P → OnErr r P
-at_fault (Ok v) p = tt
-at_fault (Err e) p = p
-
 pub drop_all_behind : (bytes ahead : List ℕ) (start : ℕ) {count : ℕ} → drop start bytes ≡ ahead → length ahead ≤ count → drop (start + count) bytes ≡ []
 drop_all_behind bytes ahead start {count} is all =
     sym (drop-drop count start bytes) ∙ ap (drop count) is ∙ drop_all count ahead all
@@ -240,18 +232,78 @@ took_last (Some t) (Some xs) (Some ys) line more left p q none end unfed some em
     let all : t ≡ line ++ ys = p ∙ ap (λ zs. line ++ zs) (q ∙ ap (λ zs. zs ++ ys) none) in
     takes_last (Some t) (Some ys) line left all over unfed some empty
 
-pub took_last_swapped : (old now next : Option (List ℕ)) (line more x y : List ℕ) → Consumes old now line → Consumes now next more
+took_last_swapped : (old now next : Option (List ℕ)) (line more x y : List ℕ) → Consumes old now line → Consumes now next more
     → more ≡ [] → IsAtEnd now → has_feed line ≡ false → x ≡ line → y ≡ [] → (length x == 0) ≡ false
     → TakesLine x old (prepend_known (y ++ more) next)
 took_last_swapped old now next line more x y p q none end unfed ex ey some =
     let filled : (length line == 0) ≡ false = ap (λ xs. length xs == 0) (sym ex) ∙ some in
     rw (ex, ey) (took_last old now next line more more p q none end unfed filled none)
 
+-- ---- what a call that takes the next line does
+
+no_bytes : (xs : List ℕ) → (length xs == 0) ≡ true → xs ≡ []
+no_bytes [] e = refl
+no_bytes (b ∷ bs) e = let zero : length (b ∷ bs) ≡ 0 = eqb-true (length (b ∷ bs)) 0 e in absurd (omega (arith, zero))
+
+pub kept_parts : (front ahead line left : List ℕ) → line ≡ front → left ≡ ahead → line ++ left ≡ front ++ ahead
+kept_parts front ahead line left p q = rw (p, q) refl
+
 abbrev said : Bool → Result Bool LineFault
 said b = Ok b
 
-pub some_byte : (r : Bool) (len : ℕ) (line : List ℕ) → said (not r) ≡ said true → r ≡ (len == 0) → len ≡ length line
-    → (length line == 0) ≡ false
-some_byte r len line is empty same =
-    let yes : not r ≡ true = cc in
-    ap (λ n. n == 0) (sym same) ∙ sym empty ∙ not-true r yes
+apart : said true ≡ said false → ⊥
+apart is = let bad : false ≡ true = cc in false≢true bad
+
+advanced : (line : List ℕ) (old new : Option (List ℕ)) → TakesLine line old new → length line ≤ MAX_TEXT → Advances (Ok true) line old new
+advanced line old new taken short = record {
+  taken = λ is. taken;
+  short = λ is. short;
+  end = λ is. absurd (apart is);
+  long = λ is. (let never : ⊥ = cc in absurd never);
+  fault = tt;
+  none = λ other. absurd (other refl);
+}
+
+advanced_none : (line : List ℕ) (old new : Option (List ℕ)) → HasNoLine old → line ≡ [] → Advances (Ok false) line old new
+advanced_none line old new end none = record {
+  taken = λ is. absurd (apart (sym is));
+  short = λ is. absurd (apart (sym is));
+  end = λ is. end;
+  long = λ is. (let never : ⊥ = cc in absurd never);
+  fault = tt;
+  none = λ other. none;
+}
+
+pub advanced_fault : (r : Result Bool LineFault) (fault : LineFault) (line : List ℕ) (old new : Option (List ℕ)) → IsErrAnd r (λ x. x ≡ fault)
+    → Keeps old new → line ≡ [] → (fault ≡ LongLine → HasLongLine old) → Advances r line old new
+advanced_fault (Ok v) fault line old new is kept none long = absurd is
+advanced_fault (Err e) fault line old new is kept none long = record {
+  taken = λ other. (let never : ⊥ = cc in absurd never);
+  short = λ other. (let never : ⊥ = cc in absurd never);
+  end = λ other. (let never : ⊥ = cc in absurd never);
+  long = λ same. (let named : e ≡ fault = is in long cc);
+  fault = kept;
+  none = λ other. none;
+}
+
+-- a line feed is met: what was moved is the line, and nothing of the next one has come
+pub advanced_line : (some : Bool) (front ahead line left x y : List ℕ) (before now : Option (List ℕ)) → some ≡ true → MovesFront (Ok some) front ahead line left
+    → Consumes before now (front ++ ahead) → x ≡ line → y ≡ [] → Advances (Ok true) x before (prepend_known (y ++ left) now)
+advanced_line some front ahead line left x y before now is moved p ex ey =
+    let m : MovesFront (Ok true) front ahead line left = rw is at moved in
+    advanced x before (prepend_known (y ++ left) now) (took_swapped some front ahead line left x y before now is moved p ex ey) (rw ex m.0.short)
+
+-- the end is met: what has come is the last line, unless it has no byte
+pub advanced_last : (some empty : Bool) (len : ℕ) (old now next : Option (List ℕ)) (line more x y : List ℕ) → some ≡ false → empty ≡ (len == 0) → len ≡ length x
+    → Consumes old now line → Consumes now next more → (said some ≢ said true → more ≡ []) → (said some ≡ said false → IsAtEnd now)
+    → IsFront line → x ≡ line → y ≡ [] → Advances (Ok (not empty)) x old (prepend_known (y ++ more) next)
+advanced_last some false len old now next line more x y off blank same p q none end f ex ey =
+    let byte : (length x == 0) ≡ false = ap (λ n. n == 0) (sym same) ∙ sym blank in
+    advanced x old (prepend_known (y ++ more) next)
+    (took_last_swapped old now next line more x y p q (none (λ on. let bad : false ≡ true = cc in false≢true bad)) (end (ap said off)) f.unfed ex ey byte)
+    (rw ex f.short)
+advanced_last some true len old now next line more x y off blank same p q none end f ex ey =
+    let all : (length x == 0) ≡ true = ap (λ n. n == 0) (sym same) ∙ sym blank in
+    advanced_none x old (prepend_known (y ++ more) next)
+    (takes_none old now line p (end (ap said off)) (ap (λ xs. length xs == 0) (sym ex) ∙ all))
+    (no_bytes x all)

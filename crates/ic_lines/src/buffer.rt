@@ -148,6 +148,8 @@ impl Model for LineBuffer {
 }
 
 impl LineBuffer {
+    ghost use Rattle.ic_lines.specs.inner.Front.{Advances};
+
     /// An empty buffer. Later calls take their memory from the allocator.
     pub fn new(alloc: Global) -> LineBuffer
         ensures line { result.line ≡ [] }
@@ -187,6 +189,20 @@ impl LineBuffer {
         ensures kept { Keeps (W.contents writer.old) (W.contents writer.new) }
     {
         self.line.clear();
+        self.advance(reader, writer)
+    }
+
+    /// Moves the next line from what stands ahead, and from what the reader has behind it, into an empty line.
+    fn advance<R: Read, W: Write>(
+        &mut self,
+        reader: &mut R,
+        writer: &mut W,
+    ) -> Result<bool, LineFault>
+        requires { self.old.line ≡ [] }
+        ensures line { Advances result self.new.line (to_come self.old (R.remaining reader.old))
+            (to_come self.new (R.remaining reader.new)) }
+        ensures kept { Keeps (W.contents writer.old) (W.contents writer.new) }
+    {
         for _ in 0..u64::MAX {
             if self.ahead.move_line(&mut self.front)? {
                 swap(&mut self.line, &mut self.front);

@@ -2,7 +2,7 @@ use Rattle.std.proofs.Common.{◌≡◌, ◌++◌, []}
 use Rattle.std.specs.Io.KnownBytes.{Consumes, Keeps}
 use Rattle.ic_lines.specs.Taking.{to_come}
 use Rattle.ic_lines.specs.inner.Front.{IsFront}
-use Rattle.ic_lines.proofs.buffer.LineBuffer.take_line.Given as goal
+use Rattle.ic_lines.proofs.buffer.LineBuffer.advance.Given as goal
 
 -- what has come of the line, and what stands ahead, are what came first of the bytes to come
 abbrev pub invariant-loop : goal.invariant-loop
