@@ -9,6 +9,7 @@ ghost use Rattle.ic_rules.specs.inner.Arguments.{firsts_of, is_own_swap};
 
 use crate::renaming::{first_occurrences, names_of, number_terms};
 use ic_term::{Cell, Term, same_terms};
+use indexmap::IndexSet;
 use std::alloc::{AllocError, Global};
 use std::marker::Model;
 
@@ -150,6 +151,28 @@ struct Arguments {
     names: usize,
 }
 
+/// The arguments with their names numbered by their places among these.
+fn number_by(
+    alloc: Global,
+    left: &[Term],
+    right: &[Term],
+    firsts: &IndexSet<u64>,
+) -> Result<Arguments, AllocError>
+    ensures left { IfOk result
+        (λ n. map tree n.left.items
+        ≡ map (renamed (number_among firsts.now.keys)) (map tree left.now)) }
+    ensures right { IfOk result
+        (λ n. map tree n.right.items
+        ≡ map (renamed (number_among firsts.now.keys)) (map tree right.now)) }
+    ensures names { IfOk result (λ n. n.names ≡ length firsts.now.keys) }
+{
+    Ok(Arguments {
+        left: number_terms(alloc, left, firsts)?,
+        right: number_terms(alloc, right, firsts)?,
+        names: firsts.len(),
+    })
+}
+
 /// The arguments with their names numbered by first occurrence, the left ones first.
 fn number(alloc: Global, left: &[Term], right: &[Term]) -> Result<Arguments, AllocError>
     ensures left { IfOk result
@@ -162,11 +185,7 @@ fn number(alloc: Global, left: &[Term], right: &[Term]) -> Result<Arguments, All
 {
     let names = names_of(alloc, left, right)?;
     let firsts = first_occurrences(alloc, &names)?;
-    Ok(Arguments {
-        left: number_terms(alloc, left, &firsts)?,
-        right: number_terms(alloc, right, &firsts)?,
-        names: firsts.len(),
-    })
+    number_by(alloc, left, right, &firsts)
 }
 
 /// Whether numbered arguments are their own swap: the right ones before the left ones, numbered anew.

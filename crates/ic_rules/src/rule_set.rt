@@ -1,9 +1,10 @@
 //! Rule sets: how they are built, why rules make none, and the rule of two symbols.
 
-ghost use Rattle.std.specs.Prelude.{◌≡◌, ◌≤◌, length, map, min, sum_by, None, is_some, ◌||◌, IfOk, IfErr, OnOk};
+ghost use Rattle.std.specs.Prelude.{◌≡◌, ◌≤◌, length, map, min, sum_by, None, is_some, ◌||◌, IfOk, IfErr, OnOk, Ok, Err};
 ghost use Rattle.std.specs.List.{AllByRecursion};
 ghost use Rattle.ic_rules.specs.Rule.{rule_nodes, numbered, IsRule};
-ghost use Rattle.ic_rules.specs.RuleSet.{are_few, first_uncounted, first_repeated, first_lopsided};
+ghost use Rattle.ic_rules.specs.RuleFault.{Answers};
+ghost use Rattle.ic_rules.specs.RuleSet.{built, are_few, IsRuleSet, first_uncounted, first_repeated, first_lopsided};
 ghost use Rattle.ic_rules.specs.inner.RuleFault.{IsTwice, IsLopsided};
 ghost use Rattle.ic_rules.specs.Written.{written};
 ghost use Rattle.ic_rules.specs.inner.Places.{ArePlaces, pair_eq};
@@ -85,9 +86,7 @@ impl Model for RuleSet {
 }
 
 impl RuleSet {
-    ghost use Rattle.ic_rules.specs.RuleSet.{built, rule_for, IsRuleSet};
-    ghost use Rattle.ic_rules.specs.RuleFault.{Answers};
-    ghost use Rattle.ic_rules.specs.Written.{written};
+    ghost use Rattle.ic_rules.specs.RuleSet.{rule_for};
 
     /// The rule set of these rules, the names of each numbered by first occurrence.
     pub fn build(
@@ -97,17 +96,7 @@ impl RuleSet {
     ) -> Result<RuleSet, RuleFault>
         ensures { Answers result (built symbols (map written rules.items)) }
     {
-        if !are_few(&rules) {
-            return Err(RuleFault::Limit);
-        }
-        if let Some(sym) = first_unfit(&symbols, &rules) {
-            return Err(RuleFault::Arity(sym));
-        }
-        if let Some(place) = first_uncounted(alloc, &rules)? {
-            return Err(RuleFault::NameCount(place));
-        }
-        let places = places_of(alloc, &rules)?;
-        let rules = number_rules(alloc, &rules)?;
+        let (rules, places) = prepared(alloc, &symbols, &rules)?;
         Ok(RuleSet {
             symbols,
             rules,
@@ -170,6 +159,34 @@ impl Eq for RuleSet {
     ghost use Rattle.ic_rules.specs.lemmas.RuleLaws.{rules_eq-equivalence};
 
     ghost laws = { rules_eq-equivalence };
+}
+
+/// The rules with their names numbered, and the place of each by its symbols, or why they make no rule set.
+fn prepared(
+    alloc: Global,
+    symbols: &Symbols,
+    rules: &[(Cell, Cell)],
+) -> Result<(Vec<Rule>, HashMap<SymbolPair, usize>), RuleFault>
+    ensures built { IfOk result (λ parts. Ok (record { symbols = symbols.now; rules = parts.0.items })
+        ≡ built symbols.now (map written rules.now)) }
+    ensures sound { IfOk result
+        (λ parts. IsRuleSet (record { symbols = symbols.now; rules = parts.0.items })) }
+    ensures places { IfOk result (λ parts. ArePlaces parts.1 parts.0.items) }
+    ensures refused { IfErr result
+        (λ fault. Answers (Err fault) (built symbols.now (map written rules.now))) }
+{
+    if !are_few(rules) {
+        return Err(RuleFault::Limit);
+    }
+    if let Some(sym) = first_unfit(symbols, rules) {
+        return Err(RuleFault::Arity(sym));
+    }
+    if let Some(place) = first_uncounted(alloc, rules)? {
+        return Err(RuleFault::NameCount(place));
+    }
+    let places = places_of(alloc, rules)?;
+    let rules = number_rules(alloc, rules)?;
+    Ok((rules, places))
 }
 
 /// Whether neither the rules nor the nodes of their arguments are too many.
