@@ -1,18 +1,17 @@
 -- Lemmas: the rule of an active equation, the names of its products, and products with terms put for names and with names
 -- renamed.
-use Rattle.std.proofs.Common.{◌≡◌, ◌⊎◌, ℕ, zero, suc, ◌+◌, ◌-◌, ◌≤◌, ◌<◌, ◌==◌, ◌&&◌, List, [], ◌∷◌, ◌++◌, Bool, true, false, cond, Option, None, Some, slice_get, length, map, refl, sym, ap, ◌∙◌, arith, inl, inr, subst as transport}
+use Rattle.std.proofs.Common.{◌≡◌, ℕ, zero, suc, ◌+◌, ◌-◌, ◌≤◌, ◌<◌, ◌==◌, List, [], ◌∷◌, ◌++◌, Bool, true, false, cond, Option, None, Some, slice_get, length, map, refl, sym, ap, ◌∙◌, arith, inl, inr, subst as transport}
 use Rattle.std.proofs.lemmas.Bool.{and_parts}
-use Rattle.std.proofs.lemmas.Grind.{flat_map-append}
 use Rattle.std.proofs.lemmas.List.{map-append}
 use Rattle.std.specs.Cmp.{unsigned_Decides}
-use Rattle.std.specs.List.{AllByRecursion, flat_map, list_all}
+use Rattle.std.specs.List.{flat_map, list_all}
 use Rattle.std.specs.Option.{option_map, option_map_or}
-use Rattle.ic_term.specs.Tree.{Tree, name, agent, Trees, no_trees, more_trees, list_of, names, names_of, Pair, pair_names}
+use Rattle.ic_term.specs.Tree.{Tree, name, agent, Trees, no_trees, more_trees, list_of, names, Pair, pair_names}
 use Rattle.ic_term.specs.Configuration.{occurrences}
 use Rattle.ic_term.specs.Symbol.{is_pair_over}
-use Rattle.ic_rules.specs.Renaming.{renamed, renamed_trees, are_paired}
+use Rattle.ic_rules.specs.Renaming.{renamed, renamed_trees}
 use Rattle.ic_rules.specs.Rule.{Rule, IsRule, rule_names}
-use Rattle.ic_rules.specs.RuleSet.{Rules, IsRuleSet, rule_for}
+use Rattle.ic_rules.specs.RuleSet.{Rules, IsRuleSet}
 use Rattle.ic_rules.specs.lemmas.RenamingLaws.{Through, through-append, terms-through}
 use Rattle.ic_settle.specs.Settling.{subst, subst_all, subst_pair}
 use Rattle.ic_settle.specs.lemmas.SubstitutionLaws.{occurrences-append, occurrences-cons}

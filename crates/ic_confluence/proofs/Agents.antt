@@ -1,5 +1,5 @@
 -- Lemmas: configurations of one net have the same agents.
-use Rattle.std.proofs.Common.{◌≡◌, ◌⊎◌, ℕ, zero, suc, ◌+◌, ◌≤◌, ◌<◌, ◌==◌, List, [], ◌∷◌, ◌++◌, Bool, true, false, cond, map, refl, sym, ap, ◌∙◌, append_assoc, append-nil, arith, inl, inr, subst as transport}
+use Rattle.std.proofs.Common.{◌≡◌, ◌⊎◌, ℕ, ◌≤◌, ◌<◌, ◌==◌, List, [], ◌∷◌, ◌++◌, Bool, true, false, cond, map, refl, sym, ap, ◌∙◌, append_assoc, arith, inl, inr, subst as transport}
 use Rattle.std.specs.Prelude.{IsPermutation}
 use Rattle.std.specs.List.{flat_map}
 use Rattle.std.proofs.lemmas.Bool.{cases_lt}
@@ -10,7 +10,7 @@ use Rattle.ic_rules.specs.Renaming.{renamed, renamed_trees}
 use Rattle.ic_settle.specs.Settling.{subst, subst_all}
 use Rattle.ic_settle.specs.lemmas.SubstitutionLaws.{occurrences-append, subst-absent, subst_all-absent}
 use Rattle.ic_confluence.specs.Agents.{symbols, symbols_of, pair_symbols, configuration_symbols}
-use Rattle.ic_confluence.specs.Sameness.{turned, Alike, itself, exchanged, rotated, in_turn, Rearranged, nothing, kept, swapped, one_by_one, renamed_pair, renamed_in, Renames, Rearranges, Same, renaming, rearranging, through}
+use Rattle.ic_confluence.specs.Sameness.{Alike, itself, exchanged, rotated, in_turn, Rearranged, nothing, kept, swapped, one_by_one, renamed_pair, Same, renaming, rearranging, through}
 use Rattle.ic_confluence.proofs.Counts.{alone_other}
 
 -- three parts, the last two exchanged

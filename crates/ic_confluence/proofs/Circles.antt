@@ -1,5 +1,5 @@
 -- Lemmas: the smallest circle that indirection ends in two ways.
-use Rattle.std.proofs.Common.{◌≡◌, ℕ, ◌<◌, List, [], ◌∷◌, refl, sym, ap, ◌∙◌, arith, inl}
+use Rattle.std.proofs.Common.{◌≡◌, ℕ, [], ◌∷◌, refl, sym, ap, arith, inl}
 use Rattle.ic_term.specs.Tree.{Tree, name, agent, Trees, Pair}
 use Rattle.ic_settle.specs.NameSteps.{NameStep}
 use Rattle.ic_confluence.specs.Circle.{one_argument, of_equations, uncut, cut_at_x, cut_at_y}

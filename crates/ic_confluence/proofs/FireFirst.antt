@@ -1,26 +1,25 @@
 -- Lemmas: one active equation fired before the others goes on to the fired configuration.
-use Rattle.std.proofs.Common.{◌≡◌, ◌⊎◌, ◌↔◌, ℕ, zero, suc, ◌+◌, ◌≤◌, ◌<◌, List, [], ◌∷◌, ◌++◌, true, Option, None, Some, length, map, refl, sym, ap, ◌∙◌, append_assoc, append-nil, arith, inl, inr, subst as transport}
+use Rattle.std.proofs.Common.{◌≡◌, ℕ, ◌+◌, ◌≤◌, ◌<◌, List, [], ◌∷◌, ◌++◌, true, Option, None, Some, length, map, refl, sym, ap, ◌∙◌, append_assoc, append-nil, arith, subst as transport}
 use Rattle.std.proofs.lemmas.Bool.{and_parts}
 use Rattle.std.proofs.lemmas.List.{map-append}
 use Rattle.std.proofs.lemmas.List.Folds.{list_all-append}
 use Rattle.std.specs.List.{flat_map, list_all}
 use Rattle.std.specs.Option.{option_map_or}
 use Rattle.ic_term.specs.Tree.{Tree, names, Pair, pair_names}
-use Rattle.ic_term.specs.Configuration.{Configuration, configuration_names, names_in, occurrences}
+use Rattle.ic_term.specs.Configuration.{Configuration, configuration_names, occurrences}
 use Rattle.ic_term.specs.Symbol.{is_over, is_tree_over, is_pair_over}
-use Rattle.ic_rules.specs.Renaming.{renamed}
 use Rattle.ic_rules.specs.Rule.{Rule}
 use Rattle.ic_rules.specs.RuleSet.{Rules, IsRuleSet}
 use Rattle.ic_settle.specs.lemmas.MiddleLaws.{over-middle}
 use Rattle.ic_round.specs.Firing.{Active, active_pair, products_by, count_of, names_taken, fired_pair, fired_from, next_behind, fired}
 use Rattle.ic_round.specs.Naming.{HasNames}
-use Rattle.ic_round.specs.Steps.{Interaction, Step, interaction, Steps, no_steps, then_step}
+use Rattle.ic_round.specs.Steps.{Interaction, interaction, Steps, no_steps, then_step}
 use Rattle.ic_round.specs.lemmas.ChainLemmas.{steps-over, steps-names}
-use Rattle.ic_confluence.specs.Sameness.{renamed_pair, renamed_in, Renames, Same, renaming}
+use Rattle.ic_confluence.specs.Sameness.{renamed_pair, renamed_in, Same, renaming}
 use Rattle.ic_confluence.proofs.Counts.{in_configuration, in_more, below_next}
 use Rattle.ic_confluence.proofs.Replacing.{in_both}
-use Rattle.ic_confluence.proofs.Actives.{HasRule, has_rule, renamed_active, renamed_products}
-use Rattle.ic_confluence.proofs.TwoFirings.{block, block_low, block_high, block_first, block_second, block_back, renamed_terms_stay, renamed_pair_stays, renamed_pairs_stay, active_stays}
+use Rattle.ic_confluence.proofs.Actives.{has_rule, renamed_products}
+use Rattle.ic_confluence.proofs.TwoFirings.{block, block_low, block_high, block_first, block_second, block_back, renamed_terms_stay, renamed_pair_stays, active_stays}
 use Rattle.ic_confluence.proofs.Chains.{first_step, step_free}
 
 -- ---- names taken

@@ -1,11 +1,11 @@
 -- Lemmas: configurations of one net are one net with all active equations fired, settled, and after rounds.
-use Rattle.std.proofs.Common.{◌≡◌, ◌⊎◌, ℕ, zero, suc, ◌+◌, ◌≤◌, ◌<◌, List, [], ◌∷◌, ◌++◌, true, Option, None, Some, slice_get, map, refl, sym, ap, ◌∙◌, append_assoc, append-nil, arith, inl, inr, subst as transport}
+use Rattle.std.proofs.Common.{◌≡◌, ℕ, zero, suc, ◌+◌, ◌≤◌, ◌<◌, List, [], ◌∷◌, ◌++◌, true, Option, None, Some, map, refl, sym, ap, ◌∙◌, append_assoc, append-nil, arith, inl, inr, subst as transport}
 use Rattle.std.proofs.lemmas.Bool.{and_parts}
 use Rattle.std.proofs.lemmas.List.{map-append}
 use Rattle.std.specs.List.{flat_map, list_all}
 use Rattle.std.specs.Option.{option_map, option_map_or}
-use Rattle.ic_term.specs.Tree.{Tree, name, names, Pair, pair_names}
-use Rattle.ic_term.specs.Configuration.{Configuration, configuration_names, names_in, occurrences}
+use Rattle.ic_term.specs.Tree.{Tree, names, Pair, pair_names}
+use Rattle.ic_term.specs.Configuration.{Configuration, configuration_names, occurrences}
 use Rattle.ic_term.specs.Symbol.{is_over, is_tree_over, is_pair_over}
 use Rattle.ic_rules.specs.Renaming.{renamed}
 use Rattle.ic_rules.specs.Rule.{Rule}
@@ -14,11 +14,11 @@ use Rattle.ic_settle.specs.Settling.{settled}
 use Rattle.ic_settle.specs.NameSteps.{NameStep}
 use Rattle.ic_round.specs.Firing.{Active, oriented, rule_of_sides, active_pair, products_by, count_of, names_taken, fired_pair, fired_from, next_behind, fired}
 use Rattle.ic_round.specs.Naming.{HasNames}
-use Rattle.ic_round.specs.Rounds.{round, iterate, IsQuiet}
-use Rattle.ic_round.specs.Steps.{Steps, no_steps}
+use Rattle.ic_round.specs.Rounds.{round, iterate}
+use Rattle.ic_round.specs.Steps.{Steps}
 use Rattle.ic_round.specs.lemmas.ChainLemmas.{steps-over, steps-names}
-use Rattle.ic_round.specs.lemmas.StepsLemmas.{round_reached, iterate_reached}
-use Rattle.ic_confluence.specs.Sameness.{turned, Alike, itself, exchanged, rotated, in_turn, Rearranged, nothing, kept, swapped, one_by_one, renamed_pair, renamed_in, Renames, Rearranges, Same, renaming, rearranging, through}
+use Rattle.ic_round.specs.lemmas.StepsLemmas.{iterate_reached}
+use Rattle.ic_confluence.specs.Sameness.{turned, Alike, itself, exchanged, rotated, in_turn, Rearranged, nothing, kept, swapped, one_by_one, renamed_pair, renamed_in, Renames, Same, renaming, rearranging, through}
 use Rattle.ic_confluence.proofs.Counts.{in_configuration, in_more, below_next}
 use Rattle.ic_confluence.proofs.Equivalence.{Rearranged-refl, Same-refl, Same-sym, same_equations}
 use Rattle.ic_confluence.proofs.Replacing.{in_both}
@@ -28,8 +28,8 @@ use Rattle.ic_confluence.proofs.Strip.{Chain as Way, chain_too, good_chain}
 use Rattle.ic_confluence.proofs.NameOrder.{Labelled, name_laws, way_of, steps_of, settles_so, step_too}
 use Rattle.ic_confluence.proofs.Actives.{HasRule, has_rule, count_is, renamed_active, renamed_products, oriented_renamed, sides_renamed}
 use Rattle.ic_confluence.proofs.Firings.{Sound}
-use Rattle.ic_confluence.proofs.TwoFirings.{block, block_low, block_high, block_first, block_second, block_back, renamed_terms_stay, renamed_pair_stays, renamed_pairs_stay, active_stays}
-use Rattle.ic_confluence.proofs.Mirrored.{turned_active, TurnedActive, turn_active, Mirrors, mirrors, mirrored_from, from_low, mirrored_from_back, mirrored_from_fresh, mirrored_products}
+use Rattle.ic_confluence.proofs.TwoFirings.{block, block_low, block_high, block_first, block_second, block_back, renamed_terms_stay, renamed_pairs_stay, active_stays}
+use Rattle.ic_confluence.proofs.Mirrored.{turned_active, turn_active, Mirrors, mirrors, mirrored_from, from_low, mirrored_from_back, mirrored_from_fresh, mirrored_products}
 use Rattle.ic_confluence.proofs.FiringToo.{same_sound, arranged_behind, arranged_before, arranged_comm, other_products, other_arranged}
 use Rattle.ic_confluence.proofs.FireFirst.{taken, behind_is, renamed_found, renamed_fired, among, fire_part, free_since, over_both}
 

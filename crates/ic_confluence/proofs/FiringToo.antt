@@ -1,22 +1,18 @@
 -- Lemmas: an interaction is made by each configuration of the same net.
-use Rattle.std.proofs.Common.{◌≡◌, ◌⊎◌, ℕ, zero, suc, ◌+◌, ◌≤◌, ◌<◌, List, [], ◌∷◌, ◌++◌, Option, None, Some, slice_get, map, refl, sym, ap, ◌∙◌, append-nil, arith, inl, inr, subst as transport}
+use Rattle.std.proofs.Common.{◌≡◌, ◌⊎◌, ℕ, ◌+◌, ◌≤◌, ◌<◌, List, [], ◌∷◌, ◌++◌, Option, None, Some, slice_get, refl, sym, ap, ◌∙◌, append-nil, arith, inl, inr, subst as transport}
 use Rattle.std.proofs.lemmas.Bool.{cases_lt}
 use Rattle.std.proofs.lemmas.List.{map-append}
 use Rattle.std.specs.List.{flat_map}
-use Rattle.std.specs.Option.{option_map_or}
-use Rattle.ic_term.specs.Tree.{Tree, name, names, Pair, pair_names}
-use Rattle.ic_term.specs.Configuration.{Configuration, configuration_names, names_in, occurrences}
-use Rattle.ic_rules.specs.Renaming.{renamed}
+use Rattle.ic_term.specs.Tree.{names, Pair, pair_names}
+use Rattle.ic_term.specs.Configuration.{Configuration, names_in, occurrences}
 use Rattle.ic_rules.specs.Rule.{Rule}
 use Rattle.ic_rules.specs.RuleSet.{Rules, IsRuleSet}
-use Rattle.ic_settle.specs.Settling.{subst}
 use Rattle.ic_round.specs.Instance.{inst}
 use Rattle.ic_round.specs.Firing.{Active, active_pair, arguments, against, products_by, count_of}
-use Rattle.ic_round.specs.Naming.{HasNames}
 use Rattle.ic_round.specs.lemmas.FreshNames.{absent_above}
-use Rattle.ic_confluence.specs.Sameness.{turned, Rotated, Alike, itself, exchanged, rotated, in_turn, Rearranged, nothing, kept, swapped, one_by_one, renamed_pair, renamed_in, Renames, Rearranges, Same, renaming, rearranging, through}
+use Rattle.ic_confluence.specs.Sameness.{turned, Alike, itself, exchanged, rotated, in_turn, Rearranged, nothing, kept, swapped, one_by_one, renamed_pair, renamed_in, Renames, Rearranges, Same, renaming, rearranging, through}
 use Rattle.ic_confluence.proofs.Counts.{in_configuration, below_next}
-use Rattle.ic_confluence.proofs.Equivalence.{Rearranged-refl, Rearranged-sym, Same-refl, Same-sym, same_equations}
+use Rattle.ic_confluence.proofs.Equivalence.{Rearranged-refl, Rearranged-sym, Same-sym, same_equations}
 use Rattle.ic_confluence.proofs.Replacing.{Replaced, replaced_counts, in_both}
 use Rattle.ic_confluence.proofs.Arranged.{FoundAlike, found_alike}
 use Rattle.ic_confluence.proofs.Moving.{same_names}

@@ -1,22 +1,20 @@
 -- Lemmas: interactions without their places, beside steps that put terms for names and under renaming.
-use Rattle.std.proofs.Common.{◌≡◌, ◌⊎◌, ℕ, zero, suc, ◌+◌, ◌≤◌, ◌<◌, ◌==◌, ◌&&◌, List, [], ◌∷◌, ◌++◌, Bool, true, false, Option, None, Some, length, map, refl, sym, ap, ◌∙◌, arith, inl, inr, subst as transport}
+use Rattle.std.proofs.Common.{◌≡◌, ◌⊎◌, ℕ, ◌+◌, ◌≤◌, ◌<◌, List, [], ◌∷◌, ◌++◌, true, Option, None, Some, length, map, refl, sym, ap, ◌∙◌, arith, inl, inr, subst as transport}
 use Rattle.std.proofs.lemmas.Bool.{and_parts, cases_lt}
-use Rattle.std.specs.List.{flat_map, list_all}
-use Rattle.ic_term.specs.Tree.{Tree, name, names, Pair, pair_names}
+use Rattle.std.specs.List.{list_all}
+use Rattle.ic_term.specs.Tree.{Pair}
 use Rattle.ic_term.specs.Configuration.{Configuration, configuration_names, names_in, occurrences}
 use Rattle.ic_term.specs.Symbol.{Symbol, is_over, is_tree_over, is_pair_over}
-use Rattle.ic_rules.specs.Renaming.{renamed}
 use Rattle.ic_rules.specs.Rule.{Rule}
 use Rattle.ic_rules.specs.RuleSet.{Rules, IsRuleSet}
-use Rattle.ic_settle.specs.Settling.{Binding, occurs, subst, subst_pair, subst_in}
+use Rattle.ic_settle.specs.Settling.{Binding, occurs, subst_pair}
 use Rattle.ic_settle.specs.NameSteps.{Binds}
 use Rattle.ic_round.specs.Firing.{Active, active_pair, products_by, count_of}
 use Rattle.ic_round.specs.Naming.{HasNames}
 use Rattle.ic_round.specs.Steps.{Interaction}
 use Rattle.ic_round.specs.lemmas.ActivityLemmas.{active_right_name}
-use Rattle.ic_confluence.specs.Sameness.{renamed_pair, renamed_in, Renames, Same, renaming}
+use Rattle.ic_confluence.specs.Sameness.{renamed_pair, renamed_in, Renames}
 use Rattle.ic_confluence.proofs.Counts.{in_configuration, below_next}
-use Rattle.ic_confluence.proofs.Puts.{undone_is_one_to_one}
 use Rattle.ic_confluence.proofs.Replacing.{Replaced, replaced_at, place_of, TwoReplaced, two_replaced, replaced_mapped, replaced_counts}
 use Rattle.ic_confluence.proofs.Putting.{occurs_some, bound_in, Putting, Counted, counted}
 use Rattle.ic_confluence.proofs.Actives.{HasRule, has_rule, older_products, put_active, put_products, active_put, renamed_active, renamed_products, active_renamed}

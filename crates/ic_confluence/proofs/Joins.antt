@@ -1,5 +1,5 @@
 -- Lemmas: where any two steps from one state meet within one step, any two ways from it can be joined.
-use Rattle.std.proofs.Common.{◌≡◌, ◌⊎◌, ℕ, List, [], ◌∷◌, ◌++◌, append-nil, true, refl, sym, ap, ◌∙◌, inl, inr, subst as transport}
+use Rattle.std.proofs.Common.{◌≡◌, ◌⊎◌, List, [], ◌∷◌, ◌++◌, append-nil, true, refl, sym, inl, inr, subst as transport}
 use Rattle.std.specs.Prelude.{IsPermutation}
 use Rattle.std.proofs.lemmas.List.Sorted.{IsPermutation-refl, IsPermutation-sym, IsPermutation-trans, IsPermutation-cons, IsPermutation-middle, IsPermutation-append}
 use Rattle.ic_term.specs.Configuration.{Configuration}

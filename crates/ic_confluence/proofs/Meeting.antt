@@ -1,14 +1,13 @@
 -- Lemmas: two steps that put terms for names, from one configuration.
-use Rattle.std.proofs.Common.{◌≡◌, ◌⊎◌, ℕ, zero, suc, ◌+◌, ◌*◌, ◌≤◌, ◌<◌, ◌==◌, List, [], ◌∷◌, ◌++◌, Bool, true, false, cond, map, refl, sym, ap, ◌∙◌, arith, inl, inr, subst as transport}
+use Rattle.std.proofs.Common.{◌≡◌, ◌⊎◌, ℕ, zero, suc, ◌+◌, ◌*◌, ◌≤◌, ◌<◌, ◌==◌, List, [], ◌∷◌, Bool, true, false, map, refl, sym, ap, ◌∙◌, arith, inl, inr, subst as transport}
 use Rattle.std.specs.Cmp.{unsigned_Decides}
-use Rattle.std.specs.List.{flat_map}
-use Rattle.ic_term.specs.Tree.{Tree, name, names, Pair, pair_names}
+use Rattle.ic_term.specs.Tree.{Tree, name, names, Pair}
 use Rattle.ic_term.specs.Configuration.{Configuration, configuration_names, names_in, occurrences}
 use Rattle.ic_rules.specs.Renaming.{renamed}
 use Rattle.ic_rules.specs.lemmas.RenamingLaws.{names-renamed}
-use Rattle.ic_settle.specs.Settling.{Binding, occurs, subst, subst_pair, subst_in}
+use Rattle.ic_settle.specs.Settling.{Binding, subst, subst_pair, subst_in}
 use Rattle.ic_settle.specs.NameSteps.{Binds}
-use Rattle.ic_settle.specs.lemmas.SubstitutionLaws.{occurrences-cons, subst-absent}
+use Rattle.ic_settle.specs.lemmas.SubstitutionLaws.{subst-absent}
 use Rattle.ic_settle.specs.lemmas.StepLaws.{occurrences-binds}
 use Rattle.ic_round.specs.Naming.{HasNames}
 use Rattle.ic_confluence.specs.Sameness.{turned, Rotated, Alike, itself, exchanged, rotated, Rearranged, kept, one_by_one, renamed_pair, renamed_in, Renames, Same, renaming, through}

@@ -1,11 +1,11 @@
 -- Lemmas: an active equation turned round. It has the same rule and the same products, but for a rule of a symbol with
 -- itself: that is its own mirror.
-use Rattle.std.proofs.Common.{◌≡◌, ◌⊎◌, ℕ, zero, suc, ◌+◌, ◌-◌, ◌≤◌, ◌<◌, ◌==◌, ◌&&◌, ◌||◌, List, [], ◌∷◌, ◌++◌, Bool, true, false, not, cond, ltb, Option, None, Some, IfSome, slice_get, length, map, refl, sym, ap, ◌∙◌, arith, inl, inr, subst as transport}
-use Rattle.std.proofs.lemmas.Bool.{and_from, and_parts, or_left, or_right, cases_lt, cases_Bool, lt-ltb, le-ltb, true≢false}
+use Rattle.std.proofs.Common.{◌≡◌, ◌⊎◌, ℕ, zero, suc, ◌+◌, ◌-◌, ◌≤◌, ◌<◌, ◌==◌, ◌&&◌, List, [], ◌∷◌, ◌++◌, Bool, true, false, not, cond, ltb, Option, None, Some, IfSome, slice_get, length, map, refl, sym, ap, ◌∙◌, arith, inl, inr, subst as transport}
+use Rattle.std.proofs.lemmas.Bool.{and_from, and_parts, or_left, or_right, cases_lt, lt-ltb, le-ltb, true≢false}
 use Rattle.std.proofs.lemmas.List.{map-append}
 use Rattle.std.proofs.lemmas.Option.{same_Some}
 use Rattle.std.specs.Cmp.{unsigned_Decides}
-use Rattle.std.specs.List.{AllByRecursion, flat_map, list_any, position_from}
+use Rattle.std.specs.List.{flat_map, list_any, position_from}
 use Rattle.ic_term.specs.Tree.{Tree, name, agent, Trees, names, Pair}
 use Rattle.ic_term.specs.Configuration.{occurrences}
 use Rattle.ic_rules.specs.Renaming.{renamed, first_occurrences, number_among}

@@ -1,21 +1,20 @@
 -- Lemmas: a step that puts a term for a name is taken by each configuration of the same net.
-use Rattle.std.proofs.Common.{◌≡◌, ◌⊎◌, ℕ, zero, suc, ◌+◌, ◌≤◌, ◌<◌, ◌==◌, List, [], ◌∷◌, ◌++◌, Bool, true, false, map, refl, sym, ap, ◌∙◌, arith, inl, inr, subst as transport}
+use Rattle.std.proofs.Common.{◌≡◌, ℕ, ◌<◌, List, [], map, refl, sym, ap, ◌∙◌, arith, inl, inr, subst as transport}
 use Rattle.std.proofs.lemmas.Bool.{cases_lt}
-use Rattle.std.specs.List.{flat_map}
-use Rattle.ic_term.specs.Tree.{Tree, name, names, Pair, pair_names}
+use Rattle.ic_term.specs.Tree.{Tree, Pair}
 use Rattle.ic_term.specs.Configuration.{Configuration, configuration_names, names_in, occurrences}
 use Rattle.ic_rules.specs.Renaming.{renamed}
-use Rattle.ic_settle.specs.Settling.{Binding, occurs, subst, subst_pair, subst_in}
+use Rattle.ic_settle.specs.Settling.{Binding, subst_pair}
 use Rattle.ic_settle.specs.NameSteps.{Binds}
-use Rattle.ic_settle.specs.lemmas.SubstitutionLaws.{occurrences_some, occurrences-cons}
+use Rattle.ic_settle.specs.lemmas.SubstitutionLaws.{occurrences_some}
 use Rattle.ic_round.specs.Naming.{HasNames}
 use Rattle.ic_confluence.specs.Sameness.{Rearranged, renamed_pair, renamed_in, Renames, Rearranges, Same, renaming, rearranging, through}
 use Rattle.ic_confluence.proofs.Counts.{All_from, names_like, below_next, in_configuration}
 use Rattle.ic_confluence.proofs.Puts.{OneToOne, undone_is_one_to_one, occurrences-renamed_in, renamed_in-subst_in}
 use Rattle.ic_confluence.proofs.Equivalence.{same_equations}
-use Rattle.ic_confluence.proofs.Replacing.{Replaced, replaced_mapped, removed_counts}
-use Rattle.ic_confluence.proofs.Arranged.{arranged_counts, FoundAlike, found_alike, alike_binds, alike_counts, put_arranged}
-use Rattle.ic_confluence.proofs.Putting.{occurs_some, bound_in, Putting, counted, free_before, putting_names}
+use Rattle.ic_confluence.proofs.Replacing.{replaced_mapped, removed_counts}
+use Rattle.ic_confluence.proofs.Arranged.{arranged_counts, found_alike, alike_binds, put_arranged}
+use Rattle.ic_confluence.proofs.Putting.{occurs_some, bound_in, Putting, counted, free_before}
 
 -- ---- what configurations of the same net keep
 

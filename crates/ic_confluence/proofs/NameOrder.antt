@@ -1,5 +1,5 @@
 -- Lemmas: whatever order the steps have that put terms for names, they end in the same net.
-use Rattle.std.proofs.Common.{◌≡◌, ◌⊎◌, ◌↔◌, ℕ, List, [], ◌∷◌, ◌++◌, refl, sym, ap, ◌∙◌, inl, inr, subst as transport}
+use Rattle.std.proofs.Common.{◌≡◌, ◌⊎◌, ◌↔◌, ℕ, List, [], ◌∷◌, ◌++◌, refl, sym, ◌∙◌, inl, inr, subst as transport}
 use Rattle.ic_term.specs.Configuration.{Configuration, configuration_names, occurrences}
 use Rattle.ic_settle.specs.Settling.{settled}
 use Rattle.ic_settle.specs.NameSteps.{NameStep, NameSteps, no_step, one_more}

@@ -1,8 +1,8 @@
 -- Lemmas: whatever order steps have, they end in the same net.
-use Rattle.std.proofs.Common.{◌≡◌, ◌⊎◌, ◌↔◌, ℕ, ◌+◌, ◌≤◌, List, [], ◌∷◌, ◌++◌, true, length, refl, sym, ap, ◌∙◌, length-append, arith, inl, inr, subst as transport}
+use Rattle.std.proofs.Common.{◌≡◌, ◌⊎◌, ℕ, ◌≤◌, List, [], ◌∷◌, ◌++◌, true, length, refl, sym, ap, ◌∙◌, length-append, arith, inl, inr}
 use Rattle.std.specs.Prelude.{IsPermutation}
 use Rattle.std.proofs.lemmas.List.Sorted.{length_permutation}
-use Rattle.ic_term.specs.Configuration.{Configuration, configuration_names, occurrences}
+use Rattle.ic_term.specs.Configuration.{Configuration}
 use Rattle.ic_term.specs.Symbol.{is_over}
 use Rattle.ic_rules.specs.Rule.{Rule}
 use Rattle.ic_rules.specs.RuleSet.{Rules, IsRuleSet}
@@ -10,19 +10,19 @@ use Rattle.ic_settle.specs.NameSteps.{NameStep}
 use Rattle.ic_round.specs.Firing.{Active}
 use Rattle.ic_round.specs.Naming.{HasNames}
 use Rattle.ic_round.specs.Rounds.{IsQuiet}
-use Rattle.ic_round.specs.Steps.{Interaction, Step, interaction, indirection, collect, Steps, no_steps, then_step}
+use Rattle.ic_round.specs.Steps.{Interaction, Step, interaction, indirection, collect, no_steps, then_step}
 use Rattle.ic_round.specs.lemmas.ChainLemmas.{steps-over, steps-names}
 use Rattle.ic_round.specs.lemmas.NameStepLemmas.{name_step, indirection_step, collect_step}
 use Rattle.ic_confluence.specs.Kinds.{Kind, naming, firing, StepOf, Chain}
-use Rattle.ic_confluence.specs.Sameness.{Renames, Rearranges, Same, renaming, rearranging, through}
+use Rattle.ic_confluence.specs.Sameness.{Same, renaming, rearranging, through}
 use Rattle.ic_confluence.proofs.Equivalence.{Same-refl, Same-sym}
 use Rattle.ic_confluence.proofs.Putting.{Putting, from_step, to_step}
 use Rattle.ic_confluence.proofs.Moving.{taken_too}
 use Rattle.ic_confluence.proofs.Meeting.{two_puttings}
 use Rattle.ic_confluence.proofs.Firings.{Firing, from_interaction, to_interaction, Sound, put_and_fire}
 use Rattle.ic_confluence.proofs.TwoFirings.{TwoFired, two_firings}
-use Rattle.ic_confluence.proofs.FiringToo.{same_sound, FiredToo, fired_too}
-use Rattle.ic_confluence.proofs.Strip.{Meeting, Chain as Way, Ended, same_end, GoesOn, goes_on}
+use Rattle.ic_confluence.proofs.FiringToo.{same_sound, fired_too}
+use Rattle.ic_confluence.proofs.Strip.{Meeting, Chain as Way, Ended, same_end, goes_on}
 
 -- ---- steps of each kind, with and without places
 

@@ -1,14 +1,14 @@
 -- Lemmas: configurations of the same net are over the same symbols.
-use Rattle.std.proofs.Common.{◌≡◌, ℕ, suc, ◌+◌, ◌*◌, ◌≤◌, ◌==◌, ◌&&◌, List, [], ◌∷◌, Bool, true, false, cond, length, map, refl, sym, ap, ◌∙◌, eq-eqb, arith, inl, inr, subst as transport}
+use Rattle.std.proofs.Common.{◌≡◌, ℕ, suc, ◌+◌, ◌≤◌, ◌==◌, ◌&&◌, List, [], ◌∷◌, Bool, true, false, cond, length, map, refl, sym, ap, ◌∙◌, arith, inl, inr}
 use Rattle.std.proofs.lemmas.Bool.{and_parts, cases_lt}
 use Rattle.std.specs.List.{list_all, slice_get}
-use Rattle.ic_term.specs.Tree.{Tree, name, agent, Trees, no_trees, more_trees, list_of, names, names_of, Pair, pair_names}
+use Rattle.ic_term.specs.Tree.{Tree, name, agent, Trees, no_trees, more_trees, list_of, names, names_of, Pair}
 use Rattle.ic_term.specs.Configuration.{Configuration, occurrences}
 use Rattle.ic_term.specs.Symbol.{Symbol, is_tree_over, are_trees_over, is_pair_over, is_over, has_arity}
 use Rattle.ic_rules.specs.Renaming.{renamed, renamed_trees}
 use Rattle.ic_settle.specs.Settling.{subst, subst_all}
-use Rattle.ic_settle.specs.lemmas.SubstitutionLaws.{and_both, list_of-subst_all, over-subst, occurrences-append, occurrences-cons}
-use Rattle.ic_confluence.specs.Sameness.{turned, Rotated, Alike, itself, exchanged, rotated, in_turn, Rearranged, nothing, kept, swapped, one_by_one, renamed_pair, renamed_in, Renames, Rearranges, Same, renaming, rearranging, through}
+use Rattle.ic_settle.specs.lemmas.SubstitutionLaws.{and_both, list_of-subst_all, over-subst, occurrences-append}
+use Rattle.ic_confluence.specs.Sameness.{Alike, itself, exchanged, rotated, in_turn, Rearranged, nothing, kept, swapped, one_by_one, renamed_pair, Same, renaming, rearranging, through}
 
 -- ---- a term with a term put in
 

@@ -1,17 +1,17 @@
 -- Lemmas: terms put for names one after another, and renaming.
-use Rattle.std.proofs.Common.{◌≡◌, ℕ, zero, suc, ◌+◌, ◌*◌, ◌≤◌, ◌==◌, List, [], ◌∷◌, ◌++◌, Bool, true, false, cond, map, refl, sym, ap, ◌∙◌, eq-eqb, arith, inl, inr, subst as transport}
+use Rattle.std.proofs.Common.{◌≡◌, ℕ, ◌==◌, List, [], ◌∷◌, ◌++◌, Bool, true, false, cond, map, refl, sym, ap, ◌∙◌, arith}
 use Rattle.std.specs.Cmp.{unsigned_Decides}
 use Rattle.std.proofs.lemmas.List.{map-append}
 use Rattle.std.specs.List.{flat_map}
-use Rattle.ic_term.specs.Tree.{Tree, name, agent, Trees, no_trees, more_trees, names, names_of, Pair, pair_names}
-use Rattle.ic_term.specs.Configuration.{Configuration, configuration_names, names_in, occurrences}
+use Rattle.ic_term.specs.Tree.{Tree, name, agent, Trees, no_trees, more_trees, names, Pair, pair_names}
+use Rattle.ic_term.specs.Configuration.{Configuration, configuration_names, occurrences}
 use Rattle.ic_rules.specs.Renaming.{renamed, renamed_trees}
 use Rattle.ic_rules.specs.lemmas.RenamingLaws.{names-renamed, flat_names-renamed}
 use Rattle.ic_settle.specs.Settling.{subst, subst_all, subst_pair, subst_in}
 use Rattle.ic_settle.specs.lemmas.SubstitutionLaws.{occurrences-append, occurrences-cons, subst-absent}
 use Rattle.ic_round.specs.lemmas.FreshNames.{apart_false}
 use Rattle.ic_confluence.specs.Sameness.{renamed_pair, renamed_in}
-use Rattle.ic_confluence.proofs.Counts.{in_pair, in_more, apart_sym}
+use Rattle.ic_confluence.proofs.Counts.{in_pair, in_more}
 
 -- ---- two terms put for two names
 

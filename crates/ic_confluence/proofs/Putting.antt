@@ -1,17 +1,16 @@
 -- Lemmas: a step that puts a term for a name, wherever its equation stands, and how often names occur before and behind it.
-use Rattle.std.proofs.Common.{◌≡◌, ◌⊎◌, ℕ, zero, suc, ◌+◌, ◌*◌, ◌≤◌, ◌==◌, List, [], ◌∷◌, ◌++◌, Bool, true, false, cond, map, refl, sym, ap, ◌∙◌, eq-eqb, arith, inl, inr, subst as transport}
-use Rattle.std.proofs.lemmas.Bool.{cases_Bool, true_from_ne_false}
+use Rattle.std.proofs.Common.{◌≡◌, ℕ, ◌+◌, ◌*◌, ◌≤◌, ◌==◌, List, [], ◌∷◌, ◌++◌, Bool, true, false, cond, refl, sym, ap, ◌∙◌, eq-eqb, arith, subst as transport}
+use Rattle.std.proofs.lemmas.Bool.{true_from_ne_false}
 use Rattle.std.specs.Cmp.{unsigned_Decides}
-use Rattle.std.specs.List.{flat_map}
-use Rattle.ic_term.specs.Tree.{Tree, name, names, Pair, pair_names}
+use Rattle.ic_term.specs.Tree.{names, Pair}
 use Rattle.ic_term.specs.Configuration.{Configuration, configuration_names, names_in, occurrences}
-use Rattle.ic_settle.specs.Settling.{Binding, occurs, subst, subst_pair, subst_in}
+use Rattle.ic_settle.specs.Settling.{Binding, occurs, subst_in}
 use Rattle.ic_settle.specs.NameSteps.{Binds, NameStep}
 use Rattle.ic_settle.specs.lemmas.SubstitutionLaws.{occurrences_none, occurrences_some, occurrences-cons}
 use Rattle.ic_settle.specs.lemmas.StepLaws.{occurrences-binds}
 use Rattle.ic_round.specs.Naming.{HasNames}
 use Rattle.ic_round.specs.lemmas.NamesLemmas.{name_step-names}
-use Rattle.ic_confluence.proofs.Counts.{alone_itself, occurrences-put_in, occurrences-gone_in}
+use Rattle.ic_confluence.proofs.Counts.{occurrences-put_in, occurrences-gone_in}
 use Rattle.ic_confluence.proofs.Replacing.{Replaced, replaced_at, place_of, removed_counts}
 
 pub occurs_some : (n : ℕ) (ns : List ℕ) → 1 ≤ occurrences n ns → occurs n ns ≡ true

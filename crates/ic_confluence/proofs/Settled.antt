@@ -1,12 +1,12 @@
 -- Lemmas: settling is a chain of steps that put terms for names, behind which there is none.
-use Rattle.std.proofs.Common.{◌≡◌, ℕ, zero, suc, ◌+◌, ◌≤◌, List, [], ◌∷◌, ◌++◌, true, Option, None, Some, is_none, length, map, refl, sym, ap, ◌∙◌, arith, length-append, subst as transport}
+use Rattle.std.proofs.Common.{◌≡◌, ℕ, zero, suc, ◌≤◌, List, [], ◌∷◌, ◌++◌, true, Option, None, Some, is_none, length, map, refl, ap, ◌∙◌, arith, length-append}
 use Rattle.std.specs.List.{list_all}
 use Rattle.ic_term.specs.Tree.{Tree, name, agent, Pair}
 use Rattle.ic_term.specs.Configuration.{Configuration}
 use Rattle.ic_settle.specs.Settling.{Choice, subst_pair, first_choice, applied, settled_in, settled}
 use Rattle.ic_settle.specs.NameSteps.{NameStep, NameSteps, no_step, one_more}
 use Rattle.ic_round.specs.Firing.{active_pair}
-use Rattle.ic_round.specs.Quiet.{is_inert, is_settled}
+use Rattle.ic_round.specs.Quiet.{is_settled}
 use Rattle.ic_settle.specs.lemmas.SubstitutionLaws.{and_both}
 use Rattle.ic_round.specs.lemmas.NameStepLemmas.{name_step}
 use Rattle.ic_round.specs.lemmas.SettledLemmas.{choice_step}

@@ -1,19 +1,17 @@
 -- Lemmas: what configurations of the same net have in common.
-use Rattle.std.proofs.Common.{◌≡◌, ◌⊎◌, ◌↔◌, ℕ, suc, ◌+◌, ◌*◌, ◌≤◌, List, [], ◌∷◌, ◌++◌, true, length, map, refl, sym, ap, ◌∙◌, arith, subst as transport}
+use Rattle.std.proofs.Common.{◌≡◌, ◌↔◌, ℕ, suc, ◌+◌, ◌*◌, ◌≤◌, List, [], ◌∷◌, true, length, map, refl, sym, ap, ◌∙◌, arith, subst as transport}
 use Rattle.std.proofs.lemmas.List.Sums.{sum_by-cons}
 use Rattle.std.specs.Prelude.{sum_by}
-use Rattle.std.specs.List.{flat_map}
 use Rattle.ic_term.specs.Tree.{Tree, name, agent, Trees, no_trees, more_trees, names, nodes, nodes_of, Pair, pair_nodes}
 use Rattle.ic_term.specs.Configuration.{Configuration, configuration_names, configuration_nodes, occurrences}
 use Rattle.ic_term.specs.Symbol.{is_over}
 use Rattle.ic_rules.specs.Renaming.{renamed, renamed_trees}
 use Rattle.ic_rules.specs.RuleSet.{Rules, IsRuleSet}
-use Rattle.ic_settle.specs.Settling.{subst}
 use Rattle.ic_settle.specs.lemmas.SubstitutionLaws.{nodes-subst}
 use Rattle.ic_round.specs.Naming.{HasNames}
 use Rattle.ic_round.specs.Rounds.{IsQuiet}
 use Rattle.ic_round.specs.Steps.{Steps}
-use Rattle.ic_confluence.specs.Sameness.{turned, Rotated, Alike, itself, exchanged, rotated, in_turn, Rearranged, nothing, kept, swapped, one_by_one, renamed_pair, renamed_in, Renames, Rearranges, Same, renaming, rearranging, through}
+use Rattle.ic_confluence.specs.Sameness.{Alike, itself, exchanged, rotated, in_turn, Rearranged, nothing, kept, swapped, one_by_one, renamed_pair, renamed_in, Same, renaming, rearranging, through}
 use Rattle.ic_confluence.proofs.Counts.{in_configuration}
 use Rattle.ic_confluence.proofs.Puts.{undone_is_one_to_one, occurrences-renamed_in}
 use Rattle.ic_confluence.proofs.Equivalence.{Same-sym}

@@ -1,8 +1,8 @@
 -- Lemmas: where any two steps from one state meet within one step, all ways to a state without steps are equally long and
 -- end in the same state (Newman's lemma has less to go on: here one step is enough on each side).
-use Rattle.std.proofs.Common.{◌≡◌, ◌⊎◌, ℕ, List, [], ◌∷◌, ◌++◌, append-nil, refl, sym, ap, ◌∙◌, inl, inr, subst as transport}
+use Rattle.std.proofs.Common.{◌≡◌, ◌⊎◌, List, [], ◌∷◌, ◌++◌, append-nil, refl, sym, inl, inr, subst as transport}
 use Rattle.std.specs.Prelude.{IsPermutation}
-use Rattle.std.proofs.lemmas.List.Sorted.{IsPermutation-refl, IsPermutation-trans, IsPermutation-cons, IsPermutation-middle, IsPermutation-sym}
+use Rattle.std.proofs.lemmas.List.Sorted.{IsPermutation-refl, IsPermutation-trans, IsPermutation-cons, IsPermutation-middle}
 
 -- What is asked of labelled steps between states, and of when two states are the same.
 pub record Meeting (L C : Type 0) (Good : C → Type 0) (Step : L → C → C → Type 0) (Same : C → C → Type 0) : Type 0 where

@@ -1,6 +1,5 @@
 -- Lemmas: two names exchanged.
-use Rattle.std.proofs.Common.{◌≡◌, ℕ, zero, suc, ◌+◌, ◌≤◌, ◌<◌, ◌==◌, List, [], ◌∷◌, ◌++◌, Bool, true, false, cond, map, refl, sym, ap, ◌∙◌, eq-eqb, arith, subst as transport}
-use Rattle.std.proofs.lemmas.Bool.{true≢false}
+use Rattle.std.proofs.Common.{◌≡◌, ℕ, ◌<◌, ◌==◌, List, [], ◌∷◌, Bool, true, false, cond, map, refl, sym, ap, ◌∙◌, eq-eqb, arith}
 use Rattle.std.specs.Cmp.{unsigned_Decides}
 use Rattle.std.specs.List.{flat_map}
 use Rattle.ic_term.specs.Tree.{Tree, name, agent, Trees, no_trees, more_trees, names, names_of, Pair, pair_names}
@@ -8,10 +7,9 @@ use Rattle.ic_term.specs.Configuration.{Configuration, configuration_names, occu
 use Rattle.ic_rules.specs.Renaming.{renamed, renamed_trees}
 use Rattle.ic_settle.specs.Settling.{subst, subst_all, subst_pair}
 use Rattle.ic_settle.specs.lemmas.SubstitutionLaws.{occurrences-append, occurrences-cons}
-use Rattle.ic_round.specs.Naming.{HasNames}
 use Rattle.ic_round.specs.lemmas.FreshNames.{apart_false}
 use Rattle.ic_confluence.specs.Sameness.{renamed_pair, renamed_in, Renames}
-use Rattle.ic_confluence.proofs.Counts.{in_pair, in_more, below_next}
+use Rattle.ic_confluence.proofs.Counts.{in_pair, in_more}
 use Rattle.ic_confluence.proofs.Puts.{not_both}
 
 abbrev pub swap : ℕ → ℕ → ℕ → ℕ

@@ -1,5 +1,5 @@
 -- Lemmas: two interactions from one configuration.
-use Rattle.std.proofs.Common.{◌≡◌, ◌⊎◌, ℕ, zero, suc, ◌+◌, ◌-◌, ◌≤◌, ◌<◌, List, [], ◌∷◌, ◌++◌, Bool, true, false, cond, ltb, Some, map, refl, sym, ap, ◌∙◌, append_assoc, arith, inl, inr, subst as transport}
+use Rattle.std.proofs.Common.{◌≡◌, ◌⊎◌, ℕ, ◌+◌, ◌-◌, ◌≤◌, ◌<◌, List, [], ◌∷◌, ◌++◌, cond, ltb, Some, map, refl, sym, ap, ◌∙◌, append_assoc, arith, inl, inr, subst as transport}
 use Rattle.std.proofs.lemmas.Bool.{cases_lt, lt-ltb, le-ltb}
 use Rattle.std.proofs.lemmas.List.{map-append}
 use Rattle.std.proofs.lemmas.Option.{same_Some}
@@ -9,14 +9,14 @@ use Rattle.ic_term.specs.Configuration.{Configuration, configuration_names, name
 use Rattle.ic_rules.specs.Renaming.{renamed, renamed_trees}
 use Rattle.ic_rules.specs.Rule.{Rule}
 use Rattle.ic_rules.specs.RuleSet.{Rules, IsRuleSet}
-use Rattle.ic_settle.specs.lemmas.SubstitutionLaws.{occurrences-append, occurrences-cons}
+use Rattle.ic_settle.specs.lemmas.SubstitutionLaws.{occurrences-append}
 use Rattle.ic_round.specs.Firing.{Active, active_pair, products_by, count_of}
 use Rattle.ic_round.specs.Naming.{HasNames}
 use Rattle.ic_round.specs.lemmas.FreshNames.{absent_above}
-use Rattle.ic_confluence.specs.Sameness.{renamed_pair, renamed_in, Renames, Same, renaming}
+use Rattle.ic_confluence.specs.Sameness.{renamed_pair, Same, renaming}
 use Rattle.ic_confluence.proofs.Counts.{alone_itself, in_configuration, in_pair, in_more, below_next}
 use Rattle.ic_confluence.proofs.Equivalence.{Same-refl, Same-sym}
-use Rattle.ic_confluence.proofs.Replacing.{Replaced, replaced_at, replaced_behind, PlaceOf, place_of, in_both}
+use Rattle.ic_confluence.proofs.Replacing.{replaced_at, replaced_behind, PlaceOf, place_of, in_both}
 use Rattle.ic_confluence.proofs.Actives.{HasRule, older_products, later_products, fresh_products, renamed_active, renamed_products}
 use Rattle.ic_confluence.proofs.Firings.{fired_in, Firing, Sound, rule_of}
 

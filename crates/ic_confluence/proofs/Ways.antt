@@ -1,7 +1,6 @@
 -- Lemmas: the way round a circle is the same, but for where it begins.
-use Rattle.std.proofs.Common.{◌≡◌, ℕ, zero, suc, ◌+◌, ◌*◌, ◌≤◌, ◌<◌, ◌==◌, ◌||◌, List, [], ◌∷◌, ◌++◌, Bool, true, false, cond, map, length, refl, sym, ap, ◌∙◌, append_assoc, append-nil, arith, inl, inr, subst as transport}
+use Rattle.std.proofs.Common.{◌≡◌, ℕ, zero, suc, ◌+◌, ◌*◌, ◌==◌, ◌||◌, List, [], ◌∷◌, ◌++◌, Bool, true, false, cond, map, length, refl, sym, ap, ◌∙◌, append_assoc, append-nil, arith, subst as transport}
 use Rattle.std.specs.Prelude.{count_by}
-use Rattle.std.proofs.lemmas.Bool.{true≢false}
 use Rattle.std.proofs.lemmas.List.Sums.{sum_by-cons}
 use Rattle.ic_term.specs.Tree.{Tree, name, agent, Trees, no_trees, more_trees, names, names_of, Pair}
 use Rattle.ic_term.specs.Configuration.{Configuration, occurrences}
@@ -10,7 +9,7 @@ use Rattle.ic_rules.specs.lemmas.RenamingLaws.{names-renamed}
 use Rattle.ic_settle.specs.Settling.{occurs, subst, subst_all}
 use Rattle.ic_settle.specs.lemmas.SubstitutionLaws.{occurrences-append, occurrences_none, occurrences_some, subst-absent}
 use Rattle.ic_confluence.specs.Agents.{way_to, way_through, way_between, way_round}
-use Rattle.ic_confluence.specs.Sameness.{turned, Rotated, Alike, itself, exchanged, rotated, in_turn, Rearranged, nothing, kept, swapped, one_by_one, renamed_pair, renamed_in, Renames, Rearranges, Same, renaming, rearranging, through}
+use Rattle.ic_confluence.specs.Sameness.{Rotated, Alike, itself, exchanged, rotated, in_turn, Rearranged, nothing, kept, swapped, one_by_one, renamed_pair, Same, renaming, rearranging, through}
 use Rattle.ic_confluence.proofs.Counts.{alone_other, occurrences-gone}
 use Rattle.ic_confluence.proofs.Putting.{occurs_some}
 use Rattle.ic_confluence.proofs.Puts.{OneToOne, undone_is_one_to_one, renamed_test}
