@@ -88,6 +88,8 @@ pub fn settled_disk_begins<D: Disk>(disk: &D)
 
 /// Writes, as `write_at` does: what that does to the state of the written model.
 pub fn write_as_modelled<D: Disk>(disk: &mut D, at: u64, bytes: &[u8]) -> Result<(), DiskFault>
+    ensures counted { CountsFailure result (D.failures disk.old) (D.failures disk.new) }
+
     // At Err nothing has changed, or the range is pending and the content torn there.
     ensures may { (s : State) → IsTrue (D.keeps disk.old) → IsInState D.content D.image disk.old s
         → (now : State) × MayWrite (record { at = at; bytes = bytes.now }) result s now
@@ -111,6 +113,7 @@ pub fn write_as_modelled<D: Disk>(disk: &mut D, at: u64, bytes: &[u8]) -> Result
 
 /// Syncs, as `sync` does: what that does to the state of the written model.
 pub fn sync_as_modelled<D: Disk>(disk: &mut D) -> Result<(), DiskFault>
+    ensures counted { CountsFailure result (D.failures disk.old) (D.failures disk.new) }
     ensures may { (s : State) → IsTrue (D.keeps disk.old) → IsInState D.content D.image disk.old s
         → (now : State) × MaySync result s now × IsInState D.content D.image disk.new now }
     ensures reached { IsTrue (D.keeps disk.old) → (file : List ℕ)
@@ -123,6 +126,7 @@ pub fn sync_as_modelled<D: Disk>(disk: &mut D) -> Result<(), DiskFault>
 
 /// Asks for the length, as `len` does, which changes nothing in the written model.
 pub fn len_as_modelled<D: Disk>(disk: &mut D) -> Result<u64, DiskFault>
+    ensures counted { CountsFailure result (D.failures disk.old) (D.failures disk.new) }
     ensures may { (s : State) → IsTrue (D.keeps disk.old) → IsInState D.content D.image disk.old s
         → MayTell result s }
     ensures same { (s : State) → IsTrue (D.keeps disk.old) → IsInState D.content D.image disk.old s
@@ -136,6 +140,7 @@ pub fn len_as_modelled<D: Disk>(disk: &mut D) -> Result<u64, DiskFault>
 /// Reads, as `read` does, which changes nothing in the written model.
 pub fn read_as_modelled<D: Disk>(disk: &mut D, at: u64, into: &mut [u8]) -> Result<(), DiskFault>
     requires { IsTrue (D.keeps disk.old) → at + length into.old ≤ length (D.content disk.old) }
+    ensures counted { CountsFailure result (D.failures disk.old) (D.failures disk.new) }
     ensures may { (s : State) → IsTrue (D.keeps disk.old) → IsInState D.content D.image disk.old s
         → MayRead at result into.old into.new s }
     ensures same { (s : State) → IsTrue (D.keeps disk.old) → IsInState D.content D.image disk.old s
