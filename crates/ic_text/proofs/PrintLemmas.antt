@@ -1,7 +1,7 @@
 -- Writing tokens one behind the other.
 use Rattle.std.proofs.Common.{◌≡◌, ℕ, zero, suc, ◌+◌, ◌/◌, ◌%◌, ◌<◌, ◌≤◌, ◌^◌, true, Bool, List, [], ◌∷◌, ◌++◌, Option, None, Some, length, map, get_or, drop, drop-cons, add-one, IsTrue, refl, sym, ap, ◌∙◌, append_assoc, arith}
 use Rattle.std.specs.Prelude.{option_map}
-use Rattle.std.specs.List.{slice_get}
+use Rattle.std.specs.List.{slice_get, list_all}
 use Rattle.std.specs.Fmt.{decimal}
 use Rattle.std.specs.Int.Digits.{digits_of}
 use Rattle.std.proofs.lemmas.Fmt.{decimal-digits_of}
@@ -71,7 +71,7 @@ arguments_in ss ts = sources_of ss (trees_of (map tree ts))
 abbrev are_over : List Symbol → List Term → Bool
 are_over ss ts = are_trees_over ss (trees_of (map tree ts))
 
-next_term : (i : ℕ) (ts : List Term) (t : Term) → i < length ts → t ≡ get_or ts i t → drop i ts ≡ t ∷ drop (i + 1) ts
+next_term : {A : Type 0} (i : ℕ) (ts : List A) (t : A) → i < length ts → t ≡ get_or ts i t → drop i ts ≡ t ∷ drop (i + 1) ts
 next_term i ts t below is = rw add-one (drop-cons ts i t below ∙ ap (λ x. x ∷ drop (suc i) ts) (sym is))
 
 pub next_sign : (i : ℕ) → 44 ≡ sign_at (i + 1)
@@ -113,3 +113,47 @@ first_whole ss cell out new text ts same known written =
 
 pub first_over : (ss : List Symbol) (cell : Cell) (ts : List Term) → ts ≡ (out-Cell cell).args.items → IsTrue (is_tree_over ss (cell_tree cell)) → are_over ss ts ≡ true
 first_over ss cell ts same over = ap (are_over ss) same ∙ (cell_over ss cell over).1
+
+-- ---- one more of a list with commas between
+
+-- a comma stands before each but the first
+abbrev pub Begun : ℕ → List ℕ → List ℕ → Type 0
+Begun zero out begun = begun ≡ out
+Begun (suc n) out begun = begun ≡ out ++ 44 ∷ []
+
+pub begun_first : (n : ℕ) (out begun : List ℕ) → n ≤ 0 → begun ≡ out → Begun n out begun
+begun_first zero out begun none is = is
+begun_first (suc n) out begun none is = absurd (omega (arith, none))
+
+pub begun_further : (n : ℕ) (out begun : List ℕ) → 0 < n → begun ≡ out ++ 44 ∷ [] → Begun n out begun
+begun_further zero out begun some is = absurd (omega (arith, some))
+begun_further (suc n) out begun some is = is
+
+further_text : (n : ℕ) (rest : List (List Token)) → text_of (separated_from (n + 1) rest) ≡ text_of (behind_commas rest)
+further_text n rest = let next : n + 1 ≡ suc n = omega arith in ap (λ m. text_of (separated_from m rest)) next
+
+next_list : (n : ℕ) (ts : List Token) (rest : List (List Token)) (out begun new whole : List ℕ) → Begun n out begun → new ≡ begun ++ text_of ts
+    → out ++ text_of (separated_from n (ts ∷ rest)) ≡ whole → new ++ text_of (separated_from (n + 1) rest) ≡ whole
+next_list zero ts rest out begun new whole is put all =
+    (λ k. put k ++ further_text 0 rest k)
+    ∙ ap (λ l. (l ++ text_of ts) ++ text_of (behind_commas rest)) is
+    ∙ append_assoc out (text_of ts) (text_of (behind_commas rest))
+    ∙ ap (λ l. out ++ l) (sym (text_of-append ts (behind_commas rest))) ∙ all
+next_list (suc n) ts rest out begun new whole is put all =
+    (λ k. put k ++ further_text (suc n) rest k)
+    ∙ ap (λ l. (l ++ text_of ts) ++ text_of (behind_commas rest)) is
+    ∙ append_assoc (out ++ 44 ∷ []) (text_of ts) (text_of (behind_commas rest))
+    ∙ append_assoc out (44 ∷ []) (text_of ts ++ text_of (behind_commas rest))
+    ∙ ap (λ l. out ++ 44 ∷ l) (sym (text_of-append ts (behind_commas rest))) ∙ all
+
+pub next_listed : {A B C : Type 0} (f : A → B) (g : B → C) (h : C → List Token) (n : ℕ) (xs : List A) (x : A) (out begun new whole : List ℕ)
+    → n < length xs → x ≡ get_or xs n x → Begun n out begun → new ≡ begun ++ text_of (h (g (f x)))
+    → out ++ text_of (separated_from n (map h (map g (map f (drop n xs))))) ≡ whole
+    → new ++ text_of (separated_from (n + 1) (map h (map g (map f (drop (n + 1) xs))))) ≡ whole
+next_listed f g h n xs x out begun new whole below is started put all =
+    next_list n (h (g (f x))) (map h (map g (map f (drop (n + 1) xs)))) out begun new whole started put
+    (ap (λ l. out ++ text_of (separated_from n (map h (map g (map f l))))) (sym (next_term n xs x below is)) ∙ all)
+
+pub next_all : {A B : Type 0} (p : B → Bool) (f : A → B) (n : ℕ) (xs : List A) (x : A) → n < length xs → x ≡ get_or xs n x
+    → list_all p (map f (drop n xs)) ≡ true → list_all p (map f (drop (n + 1) xs)) ≡ true
+next_all p f n xs x below is all = (and_parts _ _ (ap (λ l. list_all p (map f l)) (sym (next_term n xs x below is)) ∙ all)).1
