@@ -4,7 +4,8 @@ use Rattle.ic_jobs.specs.declared.event.Entry.{Entry}
 use Rattle.ic_desk.specs.Entries.{command_entry, round_entry}
 use Rattle.ic_desk.specs.Moves.{Move, opens, refuses, answers, fails, rounds, stays, closes, stops, brings}
 
--- All that has come, in order, and how many entries there were when a command was last answered.
+-- All that has come but for what openings didn't find, in order, and how many entries there were
+-- when a command was last answered.
 pub record Past : Type 0 where
   pub entries : List Entry
   pub answered : ℕ

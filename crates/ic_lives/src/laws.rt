@@ -21,11 +21,11 @@ use ic_disk::Disk;
 ///
 /// So it is after every list of moves from a disk on which `create` has answered.
 pub fn the_headline<D: Disk>(book: &Book<D>, found: &D)
-    // An open book has the table after all that has come.
+    // An open book has the table after a past of these moves.
     ensures open { (moves : List Move) → Reaches moves (up book.now)
         → IsTableAfter moves (table_of book.now) }
 
-    // A disk that will be found has the table after a prefix, in whatever image is found.
+    // A disk that will be found has the table after a prefix of one, in whatever image is found.
     ensures stopped { (moves : List Move) (file : List ℕ)
         → Reaches {ghosts = D.Disk} moves (down found.now) → D.image found.now file
         → HoldsPrefixAfter moves file }

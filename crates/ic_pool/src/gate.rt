@@ -5,7 +5,7 @@ ghost use Rattle.std.specs.Prelude.{ℕ};
 /// What watches a round or a server at work: tests use it to hold threads up. A gate that waits
 /// holds up only the thread that called it.
 pub trait Gate: Sync {
-    /// That a place has passed. Only `pass` says so, and no work is fired without it.
+    /// That a place has passed. Of any gate only `pass` says so, and `fire_passed` asks for it.
     ghost has_passed: { Self → ℕ → Type 0 } = { λ _ _. Unit {0} };
 
     /// Called by a worker before it fires the work of this place.
