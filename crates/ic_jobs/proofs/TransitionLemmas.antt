@@ -1,5 +1,5 @@
 -- What events make of the state of a job.
-use Rattle.std.proofs.Common.{◌≡◌, ℕ, List, [], ◌∷◌, ◌++◌, Bool, true, false, cond, Option, None, Some, is_some, nat_lt, length, refl, ap, ◌∙◌}
+use Rattle.std.proofs.Common.{◌≡◌, ℕ, List, [], ◌∷◌, ◌++◌, map, Bool, true, false, cond, Option, None, Some, is_some, nat_lt, length, refl, ap, ◌∙◌}
 use Rattle.std.specs.Option.{option_map, option_or}
 use Rattle.std.specs.Str.{bytes_eq}
 use Rattle.std.specs.Cmp.Lexicographic.{bytes_decides}
@@ -24,7 +24,8 @@ use Rattle.ic_jobs.specs.Job.{JobParts, begun, open_state, can_move, moved, in_s
 use Rattle.ic_jobs.specs.Table.{job_named, with_changed, without}
 use Rattle.ic_jobs.specs.Shown.{shown}
 use Rattle.ic_jobs.specs.Events.{Outcome, outcome, refused, unless_missing, paused, resumed, after_command, after_round, where_running, apply}
-use Rattle.ic_jobs.specs.Transitions.{state_of, Leads, row, submit_row, pause_row, resume_row, cancel_row, fetch_reply, round_row_in, round_row, LeadsBy, LeadsWhere, CommandLeads, EventLeads}
+use Rattle.ic_jobs.specs.Names.{command_names}
+use Rattle.ic_jobs.specs.Transitions.{state_of, Leads, Row, row, submit_row, pause_row, resume_row, cancel_row, fetch_reply, round_row_in, round_row, LeadsBy, LeadsWhere, leaves_one, CommandLeadsBy, CommandLeads, EventLeads}
 use Rattle.ic_jobs.proofs.TableLookups.{KeepsName, job_named-changed, job_named-without, job_named-append}
 
 abbrev state_in : Option JobParts → Option State
@@ -202,11 +203,20 @@ fetches : (t : List JobParts) (o : Option JobParts) → unless_missing t (λ j. 
 fetches t None = refl
 fetches t (Some j) = refl
 
+-- a command that names one job goes by that job's row
+of_one : (t : List JobParts) (c : Command) (n : List ℕ) (w : Row) → command_names c ≡ n ∷ [] → LeadsBy t (by_command c) n w → CommandLeadsBy t c (leaves_one w)
+of_one t c n w names l =
+    record {
+        outcome = l.outcome;
+        defined = l.defined;
+        replied = l.replied;
+        left = ap (map (λ (name : List ℕ). state_of name l.outcome.table)) names ∙ ap (λ (s : Option State). s ∷ []) l.left }
+
 command_leads : (t : List JobParts) (c : Command) → CommandLeads t c
-command_leads t (Submit n s) = submit_rows t n s (state_of n t) (nat_lt (length t) MAX_JOBS) refl refl
-command_leads t (Pause n) = pause_rows t n (state_of n t) refl
-command_leads t (Resume n) = resume_rows t n (state_of n t) refl
-command_leads t (Cancel n) = cancel_rows t n (state_of n t) refl
+command_leads t (Submit n s) = of_one t (Submit n s) n _ refl (submit_rows t n s (state_of n t) (nat_lt (length t) MAX_JOBS) refl refl)
+command_leads t (Pause n) = of_one t (Pause n) n _ refl (pause_rows t n (state_of n t) refl)
+command_leads t (Resume n) = of_one t (Resume n) n _ refl (resume_rows t n (state_of n t) refl)
+command_leads t (Cancel n) = of_one t (Cancel n) n _ refl (cancel_rows t n (state_of n t) refl)
 command_leads t (Fetch n) = ap (λ (o : Outcome). Some o) (fetches t (job_named n t))
 command_leads t list_jobs = refl
 

@@ -1,5 +1,5 @@
 -- What an event answers, and the state of the job of its name before and after it.
-use Rattle.std.specs.Prelude.{◌≡◌, ℕ, List, Bool, true, false, Option, None, Some, length, nat_lt, if◌then◌else◌}
+use Rattle.std.specs.Prelude.{◌≡◌, ℕ, List, [], ◌∷◌, map, Bool, true, false, Option, None, Some, length, nat_lt, if◌then◌else◌}
 use Rattle.std.specs.Option.{option_map}
 use Rattle.ic_round.specs.Rounds.{round}
 use Rattle.ic_jobs.specs.declared.limits.TheConstants.{MAX_JOBS}
@@ -16,6 +16,7 @@ use Rattle.ic_jobs.specs.Job.{JobParts, open_state, can_move}
 use Rattle.ic_jobs.specs.Table.{job_named}
 use Rattle.ic_jobs.specs.Shown.{shown, listed}
 use Rattle.ic_jobs.specs.Events.{Outcome, outcome, apply}
+use Rattle.ic_jobs.specs.Names.{command_names}
 
 -- the state of the job of a name, where there is one
 abbrev pub state_of : List ℕ → List JobParts → Option State
@@ -94,17 +95,43 @@ abbrev pub LeadsWhere : List JobParts → Event → List ℕ → Option Row → 
 LeadsWhere t e name None = apply t e ≡ None
 LeadsWhere t e name (Some w) = LeadsBy t e name w
 
--- what is said of each command; fetch and list leave the whole table
-abbrev pub CommandLeads : List JobParts → Command → Type 0
-CommandLeads t (Submit n s) =
-    LeadsBy t (by_command (Submit n s)) n
+-- What a command leads to: it tells and leaves the whole table as it was, or it is answered and
+-- leaves the jobs that it names, in their order, in these states.
+pub data CommandRow : Type 0 where
+  tells : Reply → CommandRow
+  leaves : Reply → List (Option State) → CommandRow
+
+-- one that names one job goes by a row
+abbrev pub leaves_one : Row → CommandRow
+leaves_one w = leaves w.reply (w.after ∷ [])
+
+-- the table of the commands
+abbrev pub command_row : List JobParts → Command → CommandRow
+command_row t (Submit n s) = leaves_one
     (submit_row (open_state s.rules s.config) (state_of n t) (nat_lt (length t) MAX_JOBS))
-CommandLeads t (Pause n) = LeadsBy t (by_command (Pause n)) n (pause_row (state_of n t))
-CommandLeads t (Resume n) = LeadsBy t (by_command (Resume n)) n (resume_row (state_of n t))
-CommandLeads t (Cancel n) = LeadsBy t (by_command (Cancel n)) n (cancel_row (state_of n t))
-CommandLeads t (Fetch n) =
-    apply t (by_command (Fetch n)) ≡ Some (outcome t (fetch_reply (job_named n t)))
-CommandLeads t list_jobs = apply t (by_command list_jobs) ≡ Some (outcome t (Listed (listed t)))
+command_row t (Pause n) = leaves_one (pause_row (state_of n t))
+command_row t (Resume n) = leaves_one (resume_row (state_of n t))
+command_row t (Cancel n) = leaves_one (cancel_row (state_of n t))
+command_row t (Fetch n) = tells (fetch_reply (job_named n t))
+command_row t list_jobs = tells (Listed (listed t))
+
+-- A command has this reply, and it leaves the jobs of these names in these states (or none of that
+-- name).
+pub record LeadsEach (t : List JobParts) (c : Command) (r : Reply) (names : List (List ℕ))
+    (after : List (Option State)) : Type 0 where
+  pub outcome : Outcome
+  pub defined : apply t (by_command c) ≡ Some outcome
+  pub replied : outcome.reply ≡ r
+  pub left : map (λ name. state_of name outcome.table) names ≡ after
+
+-- a command goes as a row says
+abbrev pub CommandLeadsBy : List JobParts → Command → CommandRow → Type 0
+CommandLeadsBy t c (tells r) = apply t (by_command c) ≡ Some (outcome t r)
+CommandLeadsBy t c (leaves r after) = LeadsEach t c r (command_names c) after
+
+-- what is said of each command
+abbrev pub CommandLeads : List JobParts → Command → Type 0
+CommandLeads t c = CommandLeadsBy t c (command_row t c)
 
 -- what is said of each event
 abbrev pub EventLeads : List JobParts → Event → Type 0
