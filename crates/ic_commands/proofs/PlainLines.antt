@@ -1,9 +1,12 @@
 -- Lines in their plainest form.
 use Rattle.std.proofs.Common.{◌≡◌, ℕ, List, [], ◌∷◌, ◌++◌, ◌≤◌, Ok, length, refl, sym, ap, subst, arith, append-nil, append_assoc}
-use Rattle.std.specs.Prelude.{codes, map, Contains}
+use Rattle.std.specs.Prelude.{codes, map, Bool, false, Contains, IsTrue}
 use Rattle.std.specs.List.{flat_map, join_with_byte}
 use Rattle.ic_jobs.specs.declared.command.Command.{Command}
 use Rattle.ic_jobs.specs.declared.command.Command.TheVariants as command
+use Rattle.ic_jobs.specs.Memory.{is_submit}
+use Rattle.ic_jobs.specs.Names.{command_names}
+use Rattle.ic_rules.specs.JobName.{is_job_name}
 use Rattle.ic_jobs.specs.declared.state.State.{State}
 use Rattle.ic_jobs.specs.declared.state.State.TheVariants.{Running, Paused, Done, Halted as halted_state}
 use Rattle.ic_jobs.specs.declared.reply.Refusal.{Refusal}
@@ -18,7 +21,7 @@ use Rattle.ic_commands.specs.declared.line.Verb.{Verb}
 use Rattle.ic_commands.specs.declared.line.Verb.TheVariants.{Pause, Resume, Cancel, Fetch}
 use Rattle.ic_commands.specs.LineSource.{LinePhrase, nothing, submit, about, list, run, line_words}
 use Rattle.ic_commands.specs.LineText.{ReadsLine}
-use Rattle.ic_commands.specs.LinePlain.{AsksPlainly, IsPlainly, phrase_texts}
+use Rattle.ic_commands.specs.LinePlain.{IsOfJob, AsksPlainly, IsPlainly, phrase_texts}
 use Rattle.ic_commands.specs.ReplyText.{listed_text, listed_word, reply_text, reply_words}
 use Rattle.ic_commands.proofs.LineLaws.{about_text, submit_whole, list_text, run_text, blank_text}
 
@@ -35,6 +38,21 @@ plain_command (command.Cancel name) text is =
 plain_command (command.Fetch name) text is =
     subst (λ t. ReadsLine t (Ok (Asks (command.Fetch name)))) (sym is.written) (about_text Fetch name refl (omega arith) is.named)
 plain_command command.List text is = subst (λ t. ReadsLine t (Ok (Asks command.List))) (sym is) list_text
+
+-- a line that asks for this
+abbrev HasLine : Command → Type 0
+HasLine c = (text : List ℕ) × ReadsLine text (Ok (Asks c))
+
+of_job : (c : Command) (word name : List ℕ) → (IsOfJob word name (word ++ name) → AsksPlainly c (word ++ name)) → IsTrue (is_job_name name) → HasLine c
+of_job c word name asks named = (word ++ name, plain_command c (word ++ name) (asks (record { named = named; written = refl })))
+
+pub has_line : (c : Command) → is_submit c ≡ false → ((name : List ℕ) → Contains (command_names c) name → IsTrue (is_job_name name)) → HasLine c
+has_line (command.Submit name system) other named = cc
+has_line (command.Pause name) other named = of_job (command.Pause name) (codes "pause ") name (λ is. is) (named name (0, omega arith, refl))
+has_line (command.Resume name) other named = of_job (command.Resume name) (codes "resume ") name (λ is. is) (named name (0, omega arith, refl))
+has_line (command.Cancel name) other named = of_job (command.Cancel name) (codes "cancel ") name (λ is. is) (named name (0, omega arith, refl))
+has_line (command.Fetch name) other named = of_job (command.Fetch name) (codes "fetch ") name (λ is. is) (named name (0, omega arith, refl))
+has_line command.List other named = (codes "list", plain_command command.List (codes "list") refl)
 
 pub plain_line : (line : Line) (text : List ℕ) → IsPlainly line text → ReadsLine text (Ok line)
 plain_line Blank text is = blank_text text is.0 is.1

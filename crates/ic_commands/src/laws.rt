@@ -1,7 +1,7 @@
 //! What is proved of the definitions alone: each law is the contract of a function that does nothing, or calls the laws
 //! that it comes of.
 
-ghost use Rattle.std.specs.Prelude.{◌≡◌, ◌≢◌, ◌<◌, ◌≤◌, ◌+◌, ◌^◌, ◌&&◌, ◌||◌, ◌==◌, ℕ, List, [], ◌∷◌, ◌++◌, Option, None, Some, Result, Ok, Err, true, length, map, codes, not, nat_le, Contains, IsTrue};
+ghost use Rattle.std.specs.Prelude.{◌≡◌, ◌≢◌, ◌<◌, ◌≤◌, ◌+◌, ◌^◌, ◌&&◌, ◌||◌, ◌==◌, ℕ, List, [], ◌∷◌, ◌++◌, Option, None, Some, Result, Ok, Err, true, false, length, map, codes, not, nat_le, Contains, IsTrue};
 ghost use Rattle.std.specs.List.{list_all, join_with_byte};
 ghost use Rattle.std.specs.Str.{bytes_eq};
 ghost use Rattle.std.specs.Char.{is_ascii_lowercase, is_ascii_digit};
@@ -33,6 +33,8 @@ ghost use Rattle.ic_commands.specs.LineSource.{LinePhrase, run, is_number, verb_
 ghost use Rattle.ic_commands.specs.LineSense.{submitted};
 ghost use Rattle.ic_commands.specs.LineText.{SpellsLine, ReadsLine};
 ghost use Rattle.ic_jobs.specs.declared.command.Command.{Command};
+ghost use Rattle.ic_jobs.specs.Memory.{is_submit};
+ghost use Rattle.ic_jobs.specs.Names.{command_names};
 ghost use Rattle.ic_commands.specs.ScriptSense.{without_run, ReadsScriptLine};
 ghost use Rattle.ic_commands.specs.LinePlain.{IsPlainly, phrase_texts};
 ghost use Rattle.ic_commands.specs.ReplyText.{state_text, refusal_text, reply_text, reply_words};
@@ -77,6 +79,14 @@ pub fn commands_ask()
     ensures too_many { (digits : List ℕ) → IsTrue (is_number digits) →
         MAX_RUN < number_in digits → length digits + 4 ≤ MAX_TEXT →
         ReadsLine (codes "run " ++ digits) (Err Limit) }
+{}
+
+/// Each command but a submit is asked by some line, where its names are names of jobs. A submit is asked by its system,
+/// as `a_submit_is_read_as_its_system` says.
+pub fn each_command_has_a_line()
+    ensures { (c : Command) → is_submit c ≡ false →
+        ((name : List ℕ) → Contains (command_names c) name → IsTrue (is_job_name name)) →
+        (text : List ℕ) × ReadsLine text (Ok (Asks c)) }
 {}
 
 /// A submit's system is read as a system by itself, where its name is a job's name: then the line is a submit of what

@@ -207,10 +207,11 @@ fetches t (Some j) = refl
 of_one : (t : List JobParts) (c : Command) (n : List ℕ) (w : Row) → command_names c ≡ n ∷ [] → LeadsBy t (by_command c) n w → CommandLeadsBy t c (leaves_one w)
 of_one t c n w names l =
     record {
-        outcome = l.outcome;
-        defined = l.defined;
-        replied = l.replied;
-        left = ap (map (λ (name : List ℕ). state_of name l.outcome.table)) names ∙ ap (λ (s : Option State). s ∷ []) l.left }
+      outcome = l.outcome;
+      defined = l.defined;
+      replied = l.replied;
+      left = ap (map (λ (name : List ℕ). state_of name l.outcome.table)) names ∙ ap (λ (s : Option State). s ∷ []) l.left;
+    }
 
 command_leads : (t : List JobParts) (c : Command) → CommandLeads t c
 command_leads t (Submit n s) = of_one t (Submit n s) n _ refl (submit_rows t n s (state_of n t) (nat_lt (length t) MAX_JOBS) refl refl)
