@@ -14,7 +14,7 @@ use Rattle.ic_desk.specs.Book.{start_of, log_of, table_of, kept_of, disk_of}
 use Rattle.ic_desk.specs.Calls.{LeavesKeptOrAll}
 use Rattle.ic_desk.specs.Entries.{AddsCommand, command_entry, round_entry}
 use Rattle.ic_desk.specs.inner.Entering.{EntersRound}
-use Rattle.ic_desk.specs.Moves.{Move, answers, fails, rounds, stays, brings, round_move}
+use Rattle.ic_desk.specs.Moves.{Move, answers, fails, rounds, keeps, stays, brings, round_move, keep_move}
 use Rattle.ic_desk.specs.Server.{up, Does, Step, StepsByCommand}
 use Rattle.ic_desk.proofs.BookLemmas.{unchanged}
 
@@ -33,15 +33,21 @@ module _ {D : Type 0} {ghosts : Ghosts D} where
   pub stays_on : (old new : Book D ghosts) → start_of new ≡ start_of old → log_of new ≡ log_of old → table_of new ≡ table_of old → kept_of old ≤ kept_of new
       → LeavesKeptOrAll (log_of old) old new → Does stays old new
   stays_on old new start log table kept crash = record {
-    page = inl (record { start = start; log = log; table = table; kept = kept });
+    page = record { start = start; log = log; table = table; kept = kept };
     crash = crash_with old new (log_of old) [] (sym (append-nil (log_of old))) crash;
   }
 
-  pub turns : (old new : Book D ghosts) → start_of new ≡ table_of old → log_of new ≡ [] → table_of new ≡ table_of old → LeavesKeptOrAll (log_of old) old new → Does stays old new
-  turns old new start log table crash = record {
-    page = inr (record { start = start; log = log; table = table });
+  -- all is kept, on the same page
+  pub keeps_page : (old new : Book D ghosts) → start_of new ≡ start_of old → log_of new ≡ log_of old → table_of new ≡ table_of old → kept_of old ≤ kept_of new
+      → kept_of new ≡ length (log_of new) → LeavesKeptOrAll (log_of old) old new → Does keeps old new
+  keeps_page old new start log table kept all crash = record {
+    page = (inl (record { start = start; log = log; table = table; kept = kept }), all);
     crash = crash_with old new (log_of old) [] (sym (append-nil (log_of old))) crash;
   }
+
+  -- a keep is refused
+  pub keep_refused : {T E : Type 0} (result : Result T E) (fault : E) (old new : Book D ghosts) → result ≡ Err fault → Does stays old new → Step (keep_move result) (up old) (up new)
+  keep_refused {T} {E} result fault old new is done = subst (λ (r : Result T E). Step (keep_move r) (up old) (up new)) (sym is) done
 
   -- nothing is done at all
   pub idles : ((disk : D) (file : List ℕ) → ghosts.left disk (ghosts.clock disk) file → ghosts.image disk file) → (book : Book D ghosts) → Does stays book book

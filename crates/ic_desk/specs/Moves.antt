@@ -13,7 +13,8 @@ use Rattle.ic_desk.specs.Entries.{command_entry, round_entry}
 -- - the disk is opened, or the opening is refused;
 -- - a command is answered, or the disk fails at it, and nobody is told the reply;
 -- - a round is landed, or its job is halted;
--- - nothing comes to the history, as at a keep, a new page, a stale round, a refusal or a look;
+-- - all that has come is kept, as by a keep or for a new page;
+-- - nothing comes to the history, as at a stale round, a refusal or a look;
 -- - the disk is closed;
 -- - a stop comes in the midst of a move.
 pub data Move : Type 0 where
@@ -22,6 +23,7 @@ pub data Move : Type 0 where
   answers : (who : ℕ) (command : Command) (reply : Reply) → Move
   fails : (who : ℕ) (command : Command) (reply : Reply) → Move
   rounds : (name : List ℕ) (reply : Reply) → Move
+  keeps : Move
   stays : Move
   closes : Move
   stops : Move → Move
@@ -33,6 +35,7 @@ brings (refuses cause) = []
 brings (answers who command reply) = command_entry who command reply ∷ []
 brings (fails who command reply) = command_entry who command reply ∷ []
 brings (rounds name reply) = round_entry name reply ∷ []
+brings keeps = []
 brings stays = []
 brings closes = []
 brings (stops move) = brings move
@@ -42,3 +45,8 @@ abbrev pub round_move : {E : Type 0} → (name : List ℕ) (reply : Reply) → R
 round_move name reply (Ok Moved) = rounds name reply
 round_move name reply (Ok Stale) = stays
 round_move name reply (Err fault) = stays
+
+-- which move a keep is
+abbrev pub keep_move : {T E : Type 0} → Result T E → Move
+keep_move (Ok value) = keeps
+keep_move (Err fault) = stays

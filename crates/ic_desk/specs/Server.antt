@@ -19,7 +19,7 @@ use Rattle.ic_desk.specs.Book.{start_of, log_of, table_of, kept_of, disk_of}
 use Rattle.ic_desk.specs.Calls.{LeavesKeptOrAll}
 use Rattle.ic_desk.specs.Entries.{Adds, command_entry, round_entry}
 use Rattle.ic_desk.specs.Kept.{HoldsKeptOrAll}
-use Rattle.ic_desk.specs.Moves.{Move, opens, refuses, answers, fails, rounds, stays, closes, stops, brings}
+use Rattle.ic_desk.specs.Moves.{Move, opens, refuses, answers, fails, rounds, keeps, stays, closes, stops, brings}
 
 -- A server is down, and this disk will be found, or it is up over a book.
 pub data Server {D : Type 0} (ghosts : Ghosts D) : Type 0 where
@@ -52,7 +52,7 @@ pub record TurnsPage {D : Type 0} {ghosts : Ghosts D} (old new : Book D ghosts) 
   pub log : log_of new ≡ []
   pub table : table_of new ≡ table_of old
 
--- What a call makes of the page. At an answer all is kept.
+-- What a call makes of the page. At an answer and at a keep all is kept.
 abbrev pub Turns : {D : Type 0} {ghosts : Ghosts D}
     → Move → Book D ghosts → Book D ghosts → Type 0
 Turns (answers who command reply) old new =
@@ -61,7 +61,9 @@ Turns (fails who command reply) old new =
     GoesOn (command_entry who command reply) old new × (kept_of new ≡ kept_of old)
 Turns (rounds name reply) old new =
     GoesOn (round_entry name reply) old new × (kept_of new ≡ kept_of old)
-Turns stays old new = StaysOnPage old new ⊎ TurnsPage old new
+Turns keeps old new =
+    (StaysOnPage old new ⊎ TurnsPage old new) × (kept_of new ≡ length (log_of new))
+Turns stays old new = StaysOnPage old new
 Turns opens old new = ⊥
 Turns (refuses cause) old new = ⊥
 Turns closes old new = ⊥
@@ -138,17 +140,12 @@ pub record Reaches {D : Type 0} {ghosts : Ghosts D} (moves : List Move)
 
 -- ---- which step a call is, by its answer
 
--- an opening that was answered or refused
-abbrev pub opening_move : {D : Type 0} {ghosts : Ghosts D}
-    → Result (Book D ghosts) (OpenFault D) → Move
-opening_move (Ok book) = opens
-opening_move (Err fault) = refuses fault.cause
-
--- and the server that it leaves
-abbrev pub server_after : {D : Type 0} {ghosts : Ghosts D}
-    → Result (Book D ghosts) (OpenFault D) → Server ghosts
-server_after (Ok book) = up book
-server_after (Err fault) = down fault.disk
+-- The disk is opened, or the opening is refused.
+abbrev pub StepsByOpening : {D : Type 0} (ghosts : Ghosts D) (disk : D)
+    → Result (Book D ghosts) (OpenFault D) → Type 0
+StepsByOpening g disk (Ok book) = Step {ghosts = g} opens (down disk) (up book)
+StepsByOpening g disk (Err fault) =
+    Step {ghosts = g} (refuses fault.cause) (down disk) (down fault.disk)
 
 -- A command is answered, or the disk fails at it, or nothing comes to the history.
 pub record StepsByCommand {D : Type 0} {ghosts : Ghosts D} (who : ℕ) (command : Command)

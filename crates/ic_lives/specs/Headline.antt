@@ -1,5 +1,6 @@
 -- What the law over all runs of a server concludes.
-use Rattle.std.specs.Prelude.{◌≡◌, ◌≤◌, ℕ, List, [], None, Some, length, take}
+use Rattle.std.specs.Prelude.{◌≡◌, ◌≤◌, ℕ, List, [], ◌∷◌, None, Some, length, take}
+use Rattle.ic_disk.specs.declared.disk.Disk.{Ghosts}
 use Rattle.ic_round.specs.Rounds.{iterate}
 use Rattle.ic_jobs.specs.declared.event.Entry.{Entry}
 use Rattle.ic_jobs.specs.Job.{JobParts}
@@ -7,8 +8,10 @@ use Rattle.ic_jobs.specs.Table.{job_named}
 use Rattle.ic_jobs.specs.History.{replay, IsLegal}
 use Rattle.ic_jobs.specs.Life.{Life, life}
 use Rattle.ic_slots.specs.Held.{HoldsTable}
+use Rattle.ic_desk.specs.Book.{table_of}
 use Rattle.ic_desk.specs.Moves.{Move}
-use Rattle.ic_lives.specs.Past.{Past, IsPast}
+use Rattle.ic_desk.specs.Server.{Server, down, up, Runs}
+use Rattle.ic_lives.specs.Past.{Past, nothing, Next, IsPast}
 
 -- A job after its r-th round has the rules of the life that it began, and its configuration is the
 -- r-th iterate of the sequential round on the one that it began with.
@@ -24,23 +27,45 @@ pub record AreIterates (history : List Entry) (table : List JobParts) : Type 0 w
       → (began : Life) × (life name history ≡ Some began) × IsIterate job began
   pub no_other : (name : List ℕ) → job_named name table ≡ None → life name history ≡ None
 
--- The table after these moves: the replay of all that has come, a legal history that has every
--- answered command.
-pub record IsTableAfter (moves : List Move) (table : List JobParts) : Type 0 where
-  pub past : Past
-  pub comes : IsPast moves past
-  pub answered : past.answered ≤ length past.entries
+-- A past tells of a table: it is a legal history, the table is the replay of all its entries, and
+-- each job is an iterate.
+pub record TellsTable (past : Past) (table : List JobParts) : Type 0 where
   pub legal : IsLegal [] past.entries
+  pub lasting : past.lasting ≤ length past.entries
   pub replayed : table ≡ replay [] past.entries
   pub jobs : AreIterates past.entries table
 
--- A file that is found after these moves: it holds the table after a prefix of all that has come, a
--- legal history, and the prefix has every answered command.
+-- A past tells of a file: it is a legal history, and the file holds the table after a prefix of it
+-- that has all entries that last.
+pub record TellsFile (past : Past) (file : List ℕ) : Type 0 where
+  pub legal : IsLegal [] past.entries
+  pub prefix : ℕ
+  pub lasting : past.lasting ≤ prefix
+  pub within : prefix ≤ length past.entries
+  pub holds : HoldsTable (replay [] (take prefix past.entries)) file
+
+-- the table after these moves is the one that a past of them tells
+pub record IsTableAfter (moves : List Move) (table : List JobParts) : Type 0 where
+  pub past : Past
+  pub comes : IsPast moves past
+  pub tells : TellsTable past table
+
+-- a file that is found after these moves holds what a past of them tells
 pub record HoldsPrefixAfter (moves : List Move) (file : List ℕ) : Type 0 where
   pub past : Past
   pub comes : IsPast moves past
-  pub legal : IsLegal [] past.entries
-  pub prefix : ℕ
-  pub answered : past.answered ≤ prefix
-  pub within : prefix ≤ length past.entries
-  pub holds : HoldsTable (replay [] (take prefix past.entries)) file
+  pub tells : TellsFile past file
+
+-- ---- several looks at one server
+
+-- a past tells of an open book's table, or of whatever image is found of a disk
+abbrev pub Tells : {D : Type 0} {ghosts : Ghosts D} → Past → Server ghosts → Type 0
+Tells past (up book) = TellsTable past (table_of book)
+Tells {ghosts = g} past (down disk) = (file : List ℕ) → g.image disk file → TellsFile past file
+
+-- Each server along a run is told by a past, and each of these pasts goes on from the one before.
+abbrev pub AreTold : {D : Type 0} {ghosts : Ghosts D} (moves : List Move)
+    (first last : Server ghosts) → Runs moves first last → Past → Type 0
+AreTold [] first last runs past = (past ≡ nothing) × Tells past last
+AreTold (move ∷ moves) first last runs past =
+    (before : Past) × AreTold moves first runs.0 runs.1 before × Next move before past × Tells past last

@@ -2,29 +2,37 @@
 use Rattle.std.specs.Prelude.{◌≡◌, ◌≤◌, ℕ, List, [], ◌∷◌, ◌++◌, length, take}
 use Rattle.ic_jobs.specs.declared.event.Entry.{Entry}
 use Rattle.ic_desk.specs.Entries.{command_entry, round_entry}
-use Rattle.ic_desk.specs.Moves.{Move, opens, refuses, answers, fails, rounds, stays, closes, stops, brings}
+use Rattle.ic_desk.specs.Moves.{Move, opens, refuses, answers, fails, rounds, keeps, stays, closes, stops, brings}
 
--- All that has come but for what openings didn't find, in order, and how many entries there were
--- when a command was last answered.
+-- All that has come but for what openings didn't find, in order, and how many of these entries last
+-- whatever stop comes: those up to the last answered command, keep or opening.
 pub record Past : Type 0 where
   pub entries : List Entry
-  pub answered : ℕ
+  pub lasting : ℕ
+
+-- before anything has come
+abbrev pub nothing : Past
+nothing = record { entries = []; lasting = 0 }
 
 -- these entries stand at the end
 abbrev pub Grows : List Entry → Past → Past → Type 0
 Grows more old new = new.entries ≡ old.entries ++ more
 
--- no command more is answered
-abbrev pub AnswersNone : Past → Past → Type 0
-AnswersNone old new = new.answered ≡ old.answered
+-- all entries last
+abbrev pub AllLast : Past → Type 0
+AllLast new = new.lasting ≡ length new.entries
 
--- An opening finds a prefix that has every answered command.
+-- no more of them last than before
+abbrev pub NoMoreLast : Past → Past → Type 0
+NoMoreLast old new = new.lasting ≡ old.lasting
+
+-- An opening finds a prefix that has all entries that last; and all that is found lasts.
 pub record Cuts (old new : Past) : Type 0 where
   pub left : ℕ
   pub entries : new.entries ≡ take left old.entries
   pub within : left ≤ length old.entries
-  pub holds : old.answered ≤ left
-  pub answered : AnswersNone old new
+  pub holds : old.lasting ≤ left
+  pub lasting : AllLast new
 
 -- What one move makes of the past. What was under way at a stop stands in doubt at its end, until an
 -- opening finds it or doesn't.
@@ -32,16 +40,22 @@ abbrev pub Next : Move → Past → Past → Type 0
 Next opens old new = Cuts old new
 Next (refuses cause) old new = new ≡ old
 Next (answers who command reply) old new =
-    Grows (command_entry who command reply ∷ []) old new × (new.answered ≡ length new.entries)
+    Grows (command_entry who command reply ∷ []) old new × AllLast new
 Next (fails who command reply) old new =
-    Grows (command_entry who command reply ∷ []) old new × AnswersNone old new
+    Grows (command_entry who command reply ∷ []) old new × NoMoreLast old new
 Next (rounds name reply) old new =
-    Grows (round_entry name reply ∷ []) old new × AnswersNone old new
+    Grows (round_entry name reply ∷ []) old new × NoMoreLast old new
+Next keeps old new = (new.entries ≡ old.entries) × AllLast new
 Next stays old new = new ≡ old
 Next closes old new = new ≡ old
-Next (stops move) old new = Grows (brings move) old new × AnswersNone old new
+Next (stops move) old new = Grows (brings move) old new × NoMoreLast old new
 
--- A past to which these moves may have come, the newest first.
+-- These moves may lead from one past to another. The newest stands first.
+abbrev pub Leads : List Move → (first last : Past) → Type 0
+Leads [] first last = last ≡ first
+Leads (move ∷ moves) first last =
+    (before : Past) × Leads moves first before × Next move before last
+
+-- a past to which these moves may have come
 abbrev pub IsPast : List Move → Past → Type 0
-IsPast [] past = past ≡ record { entries = []; answered = 0 }
-IsPast (move ∷ moves) past = (before : Past) × IsPast moves before × Next move before past
+IsPast moves past = Leads moves nothing past

@@ -1,15 +1,15 @@
 //! What a server has after any run.
 
-ghost use Rattle.std.specs.Prelude.{◌≡◌, ◌⊎◌, ◌∷◌, ◌++◌, ℕ, List, length, take};
+ghost use Rattle.std.specs.Prelude.{◌≡◌, ◌⊎◌, ◌≤◌, ◌∷◌, ◌++◌, ℕ, List, length, take};
 ghost use Rattle.ic_jobs.specs.declared.command.Command.{Command};
 ghost use Rattle.ic_jobs.specs.declared.reply.Reply.{Reply};
 ghost use Rattle.ic_frames.specs.declared.faults.OpenCause.{OpenCause};
 ghost use Rattle.ic_frames.specs.declared.faults.OpenCause.TheVariants.{Device, Memory};
 ghost use Rattle.ic_desk.specs.Book.{table_of};
 ghost use Rattle.ic_desk.specs.Moves.{Move, answers, refuses};
-ghost use Rattle.ic_desk.specs.Server.{Reaches, down, up};
-ghost use Rattle.ic_lives.specs.Past.{Past, IsPast};
-ghost use Rattle.ic_lives.specs.Headline.{IsTableAfter, HoldsPrefixAfter};
+ghost use Rattle.ic_desk.specs.Server.{Server, Reaches, Runs, down, up};
+ghost use Rattle.ic_lives.specs.Past.{Past, Next, Leads, IsPast};
+ghost use Rattle.ic_lives.specs.Headline.{IsTableAfter, HoldsPrefixAfter, Tells, AreTold};
 
 use ic_desk::Book;
 use ic_disk::Disk;
@@ -42,10 +42,39 @@ pub fn the_headline<D: Disk>(book: &Book<D>, found: &D)
     ic_slots::laws::one_is_held();
 }
 
-/// What has come up to an answered command, and the command, begins the history for ever after.
+/// Several looks at one server are told by one history that goes on: a later look has the past of an
+/// earlier one, as the moves between them have led it on. Each look has the conclusion of the
+/// headline.
+pub fn looks_go_on<D: Disk>(disk: &D)
+    ensures two { (earlier later : List Move) (mid last : Server D.Disk)
+        → Reaches earlier mid → Runs later mid last
+        → (then now : Past) × IsPast earlier then × Tells then mid
+        × Leads later then now × Tells now last }
+    ensures all { (moves : List Move) (server : Server D.Disk) (run : Reaches moves server)
+        → (past : Past) × AreTold moves (down run.disk) server run.runs past }
+{
+    let _ = disk;
+    ic_jobs::laws::histories_split_and_join();
+    ic_jobs::laws::life_law();
+    ic_slots::laws::one_is_held();
+}
+
+/// What lasts begins the history for ever after, and lasts.
+pub fn what_lasts_stays()
+    ensures { (later : List Move) (then now : Past)
+        → then.lasting ≤ length then.entries → Leads later then now
+        → (take then.lasting now.entries ≡ take then.lasting then.entries)
+        × (then.lasting ≤ now.lasting) }
+{}
+
+/// What has come up to an answered command, and the command, begins the history for ever after: of
+/// the past that was told then, and so of one for each past that is told later.
 pub fn an_answer_stays()
-    ensures { (later earlier : List Move) (who : ℕ) (command : Command) (reply : Reply) (now : Past)
-        → IsPast (later ++ answers who command reply ∷ earlier) now
+    ensures told { (later : List Move) (who : ℕ) (command : Command) (reply : Reply)
+        (before then now : Past) → Next (answers who command reply) before then
+        → Leads later then now → take (length then.entries) now.entries ≡ then.entries }
+    ensures some { (later earlier : List Move) (who : ℕ) (command : Command) (reply : Reply)
+        (now : Past) → IsPast (later ++ answers who command reply ∷ earlier) now
         → (then : Past) × IsPast (answers who command reply ∷ earlier) then
         × (take (length then.entries) now.entries ≡ then.entries) }
 {}

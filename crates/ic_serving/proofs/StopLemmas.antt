@@ -32,6 +32,7 @@ use Rattle.ic_serving.specs.Booked.{last_kept, IsAllKept, IsOnMadeDisk, StaysPut
 use Rattle.ic_serving.specs.Answered.{IsKeptFor}
 use Rattle.ic_serving.specs.Parts.{IsPart, IsKeptWithin, IsInLine, IsInFirst}
 use Rattle.ic_serving.specs.Stopped.{HoldsOne, IsReached, MayStand}
+use Rattle.ic_serving.specs.ByCalls.{IsByCalls}
 use Rattle.ic_serving.specs.Moments.{FaultLeaves, Leaves, IsKeptOrNow, IsKeptInLine}
 use Rattle.ic_serving.specs.declared.fault.ServeFault.{ServeFault}
 use Rattle.ic_serving.specs.declared.fault.ServeFault.TheVariants.{Write, Memory}
@@ -40,6 +41,7 @@ use Rattle.ic_serving.specs.Served.{OfLines, MayBeServed, SaysOf, IsEnded, IsCut
 use Rattle.ic_serving.specs.Serving.{IsServing}
 use Rattle.ic_lines.specs.Serving.{IsServed}
 use Rattle.ic_serving.specs.inner.Progress.{AreFirst, AreToCome, IsUnderWay}
+use Rattle.ic_serving.proofs.CallLemmas.{by_calls_then}
 use Rattle.ic_serving.proofs.LineLemmas.{kept_behind}
 use Rattle.ic_serving.proofs.RunLemmas.{InRun, run_begun}
 use Rattle.ic_serving.proofs.ServeLemmas.{SomeWay, in_line, in_first, served_none, of_lines, none_ahead, over, ended_at, cut_before, left_first, may_come, counts_as}
@@ -120,6 +122,7 @@ module _ {D : Type 0} {ghosts : Ghosts D} where
     stays = run.stays;
     any_moment = λ is. leaves_weaker ghosts.clock ghosts.left (disk_of old) (disk_of new) (HoldsOne P) (HoldsOne Q) (run.any_moment is)
         (λ file holds. (holds.0, weaker holds.0 holds.1, holds.2));
+    done = run.done;
   }
 
   -- one call after another
@@ -131,37 +134,40 @@ module _ {D : Type 0} {ghosts : Ghosts D} where
     any_moment = λ is. then_runs ghosts.clock ghosts.left (disk_of old) (disk_of mid) (disk_of new) (HoldsOne P) (HoldsOne Q)
         (first.any_moment is) (second.any_moment (first.stays is))
         (λ file holds. (holds.0, weaker holds.0 holds.1, holds.2));
+    done = by_calls_then old mid new first.stays first.done second.done;
   }
 
   -- a call after which the disk is the same
   pub leaves_still : (old mid new : Book D ghosts) (P : List JobParts → Type 0) → Leaves old mid P → keeper_of new ≡ keeper_of mid
-      → Leaves old new P
-  leaves_still old mid new P run keeper =
+      → IsByCalls mid new → Leaves old new P
+  leaves_still old mid new P run keeper done =
       let disk : disk_of new ≡ disk_of mid = ap (λ (k : Keeper D ghosts). keeper_parts.disk_of k) keeper in
       record {
         keeps = ap ghosts.keeps disk ∙ run.keeps;
         stays = λ is. (ap ghosts.keeps disk ∙ (run.stays is).0, subst (λ (d : D). Within (ghosts.image d) IsMade) (sym disk) (run.stays is).1);
         any_moment = λ is. subst (λ (d : D). LeavesOnly ghosts.clock ghosts.left (disk_of old) d (HoldsOne P)) (sym disk) (run.any_moment is);
+        done = by_calls_then old mid new run.stays run.done done;
       }
 
   -- a call of the book
   pub leaves_call : (old new : Book D ghosts) (a b : List JobParts) (P : List JobParts → Type 0)
       → ghosts.keeps (disk_of new) ≡ ghosts.keeps (disk_of old) → (IsTrue (ghosts.keeps (disk_of old)) → Within (ghosts.image (disk_of old)) IsMade → Within (ghosts.image (disk_of new)) IsMade)
       → (IsTrue (ghosts.keeps (disk_of old)) → Within (ghosts.image (disk_of old)) IsMade → LeavesOnly ghosts.clock ghosts.left (disk_of old) (disk_of new) (HoldsEitherTable a b))
-      → P a → P b → Leaves old new P
-  leaves_call old new a b P keeps made run first second = record {
+      → IsByCalls old new → P a → P b → Leaves old new P
+  leaves_call old new a b P keeps made run done first second = record {
     keeps = keeps;
     stays = λ is. (keeps ∙ is.0, made is.0 is.1);
     any_moment = λ is. leaves_weaker ghosts.clock ghosts.left (disk_of old) (disk_of new) (HoldsEitherTable a b) (HoldsOne P) (run is.0 is.1)
         (λ file holds. ⊎_elim (λ (h : HoldsTable a file). (a, first, h)) (λ (h : HoldsTable b file). (b, second, h)) holds);
+    done = done;
   }
 
   -- no call at all
   pub leaves_nothing : (book : Book D ghosts) (P : List JobParts → Type 0)
       → ((file : List ℕ) → ghosts.left (disk_of book) (ghosts.clock (disk_of book)) file → ghosts.image (disk_of book) file)
       → (IsTrue (ghosts.keeps (disk_of book)) → Within (ghosts.image (disk_of book)) IsMade → Within (ghosts.image (disk_of book)) (HoldsKeptOrAll (start_of book) (log_of book) (kept_of book)))
-      → replay (start_of book) (log_of book) ≡ table_of book → P (last_kept book) → P (table_of book) → Leaves book book P
-  leaves_nothing book P law either replayed kept now =
+      → replay (start_of book) (log_of book) ≡ table_of book → IsByCalls book book → P (last_kept book) → P (table_of book) → Leaves book book P
+  leaves_nothing book P law either replayed done kept now =
       let all : P (replay (start_of book) (log_of book)) = subst P (sym replayed) now in
       record {
         keeps = refl;
@@ -170,6 +176,7 @@ module _ {D : Type 0} {ghosts : Ghosts D} where
             (λ (h : HoldsTable (last_kept book) file). (last_kept book, kept, h))
             (λ (h : HoldsTable (replay (start_of book) (log_of book)) file). (replay (start_of book) (log_of book), all, h))
             (either is.0 is.1 file (law file left)));
+        done = done;
       }
 
   -- a command that stands in the book
@@ -179,8 +186,8 @@ module _ {D : Type 0} {ghosts : Ghosts D} where
       → ghosts.keeps (disk_of new) ≡ ghosts.keeps (disk_of mid) → (IsTrue (ghosts.keeps (disk_of mid)) → Within (ghosts.image (disk_of mid)) IsMade → Within (ghosts.image (disk_of new)) IsMade)
       → (IsTrue (ghosts.keeps (disk_of mid)) → Within (ghosts.image (disk_of mid)) IsMade
       → LeavesOnly ghosts.clock ghosts.left (disk_of mid) (disk_of new) (HoldsKeptOrAll (start_of mid) (log_of new) (kept_of mid)))
-      → Leaves old new (IsKeptWithin (table_of old) (last_kept old) (by_command c ∷ []))
-  leaves_command old mid new c r so_far put replayed within adds keeps made run =
+      → IsByCalls mid new → Leaves old new (IsKeptWithin (table_of old) (last_kept old) (by_command c ∷ []))
+  leaves_command old mid new c r so_far put replayed within adds keeps made run done =
       let kept_there : table_kept (start_of mid) (log_of new) (kept_of mid) ≡ last_kept mid =
       kept_behind (start_of mid) (start_of mid) (log_of mid) (log_of new) (command_entry 0 c r) (kept_of mid) (kept_of mid) refl adds.entry refl within in
       let all_there : replay (start_of mid) (log_of new) ≡ table_after (table_of old) (by_command c) =
@@ -190,7 +197,7 @@ module _ {D : Type 0} {ghosts : Ghosts D} where
       (leaves_more old mid (IsKeptOrNow old) (IsKeptWithin (table_of old) (last_kept old) (by_command c ∷ [])) so_far
       (kept_or_now (table_of old) (last_kept old) (by_command c ∷ [])))
       (leaves_call mid new (table_kept (start_of mid) (log_of new) (kept_of mid)) (replay (start_of mid) (log_of new))
-      (IsKeptWithin (table_of old) (last_kept old) (by_command c ∷ [])) keeps made run
+      (IsKeptWithin (table_of old) (last_kept old) (by_command c ∷ [])) keeps made run done
       (subst (IsKeptWithin (table_of old) (last_kept old) (by_command c ∷ [])) (sym kept_there) (kept_or_now (table_of old) (last_kept old) (by_command c ∷ []) (last_kept mid) put.kept))
       (inr (record { front = by_command c ∷ []; rest = []; parted = refl; leaves = all_there })))
       (λ u is. is)
@@ -221,8 +228,8 @@ module _ {D : Type 0} {ghosts : Ghosts D} where
   pub stops_first : SomeWay → (book : Book D ghosts)
       → ((file : List ℕ) → ghosts.left (disk_of book) (ghosts.clock (disk_of book)) file → ghosts.image (disk_of book) file)
       → (IsTrue (ghosts.keeps (disk_of book)) → Within (ghosts.image (disk_of book)) IsMade → Within (ghosts.image (disk_of book)) (HoldsKeptOrAll (start_of book) (log_of book) (kept_of book)))
-      → replay (start_of book) (log_of book) ≡ table_of book → (IsAllKept book → last_kept book ≡ table_of book) → LeavesServed book book []
-  stops_first law book images either replayed whole = leaves_nothing book (MayStand (IsAllKept book) (last_kept book) (table_of book) []) images either replayed
+      → replay (start_of book) (log_of book) ≡ table_of book → IsByCalls book book → (IsAllKept book → last_kept book ≡ table_of book) → LeavesServed book book []
+  stops_first law book images either replayed done whole = leaves_nothing book (MayStand (IsAllKept book) (last_kept book) (table_of book) []) images either replayed done
       (⊎_elim (λ all. inl (subst (IsReached (table_of book) []) (sym (whole all)) (reached_now law (table_of book) []))) (λ less. inr (less, refl))
       (all_or_not (kept_of book) (length (log_of book))))
       (inl (reached_now law (table_of book) []))

@@ -8,6 +8,7 @@ use Rattle.ic_desk.specs.Book.{disk_of, is_broken, number_of, table_of}
 use Rattle.ic_serving.specs.declared.fault.ServeFault.{ServeFault}
 use Rattle.ic_serving.specs.Faults.{CountsServe, StaysReady}
 use Rattle.ic_serving.specs.Booked.{last_kept, IsOnMadeDisk}
+use Rattle.ic_serving.specs.ByCalls.{IsByCalls}
 use Rattle.ic_serving.specs.Parts.{IsInLine}
 use Rattle.ic_serving.specs.Stopped.{HoldsOne}
 
@@ -23,13 +24,14 @@ pub record FaultLeaves {T : Type 0} {D : Type 0} {ghosts : Ghosts D} (may : Serv
       → IfErr result (λ fault. StaysReady fault (is_broken new) (number_of new))
 
 -- the disk keeps the model where it did, a made one stays made, and a crash at any moment leaves one
--- of these tables
+-- of these tables; all that was done is calls of the book
 pub record Leaves {D : Type 0} {ghosts : Ghosts D} (old new : Book D ghosts)
     (tables : List JobParts → Type 0) : Type 0 where
   pub keeps : ghosts.keeps (disk_of new) ≡ ghosts.keeps (disk_of old)
   pub stays : IsOnMadeDisk old → IsOnMadeDisk new
   pub any_moment : IsOnMadeDisk old
       → LeavesOnly ghosts.clock ghosts.left (disk_of old) (disk_of new) (HoldsOne tables)
+  pub done : IsByCalls old new
 
 -- the table, or the one that was kept last
 abbrev pub IsKeptOrNow : {D : Type 0} {ghosts : Ghosts D} → Book D ghosts → List JobParts → Type 0

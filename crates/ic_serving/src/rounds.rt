@@ -11,6 +11,7 @@ ghost use Rattle.ic_desk.specs.declared.limits.TheConstants.{MAX_ENTRIES};
 ghost use Rattle.ic_desk.specs.Book.{is_broken, start_of, table_of, log_of, keeper_of, IsUnchanged};
 ghost use Rattle.ic_desk.specs.Entries.{round_entry};
 ghost use Rattle.ic_serving.specs.Booked.{last_kept, IsAllKept, Advances, MakesRound, StaysPut};
+ghost use Rattle.ic_serving.specs.ByCalls.{IsByCalls};
 ghost use Rattle.ic_serving.specs.Faults.{ComesInLine};
 ghost use Rattle.ic_serving.specs.Grown.{IsSamePage};
 ghost use Rattle.ic_serving.specs.Moments.{FaultLeaves, Leaves, IsKeptOrNow};
@@ -107,6 +108,7 @@ fn land_or_halt<T: Threads + Wait, D: Disk>(
     ensures refused { OnErr result (IsUnchanged book.old book.new) }
     ensures fault { FaultLeaves ComesInLine result book.old book.new }
     ensures keeper { keeper_of book.new ≡ keeper_of book.old }
+    ensures done { IsByCalls book.old book.new }
 {
     book.facts();
     ic_pool::laws::refused_flights_are_blocked();

@@ -2,10 +2,9 @@
 
 ghost use Rattle.std.specs.Prelude.{◌≡◌, ◌↔◌, ◌+◌, ◌-◌, ◌^◌, ◌<◌, ◌≤◌, true, false, length, IsTrue, OnOk, IsErrOf, IfOk};
 ghost use Rattle.ic_disk.specs.Images.{Within};
-ghost use Rattle.ic_jobs.specs.declared.reply.Reply.{Reply as Answer};
 ghost use Rattle.ic_frames.specs.Fields.{IsMade};
 ghost use Rattle.ic_desk.specs.declared.limits.TheConstants.{MAX_ENTRIES};
-ghost use Rattle.ic_desk.specs.Entries.{AddsCommand, leaves_table};
+ghost use Rattle.ic_desk.specs.Entries.{leaves_table};
 ghost use Rattle.ic_desk.specs.Book.{start_of, log_of, table_of, kept_of, keeper_of, disk_of, is_broken, number_of};
 ghost use Rattle.ic_desk.specs.Calls.{BreaksOrStays, LeavesKeptOrAll, TellsFull};
 ghost use Rattle.ic_desk.specs.Server.{StepsByCommand};
@@ -24,6 +23,8 @@ impl<D: Disk> Book<D> {
     /// end, unanswered, and the book is broken. A fetch, a list or a refusal makes no call to the
     /// disk where all was kept.
     pub fn command(&mut self, alloc: Global, who: u64, command: Command) -> Result<Reply, BookFault>
+        // At Ok the command is answered by its event, and all is kept. At `Device` the event stands
+        // at the end of the log, and nothing more is kept.
         ensures step { StepsByCommand who command result self.old self.new }
 
         // Refusals: broken, full and worn, in this order. `Memory` comes behind them, and then
@@ -34,18 +35,8 @@ impl<D: Disk> Book<D> {
             ↔ ((is_broken self.old ≡ false) × (length (log_of self.old) < MAX_ENTRIES)
             × (number_of self.old ≡ 2 ^ 64 - 1)) }
 
-        // The command is answered by its event, and all is kept.
-        ensures answered { IfOk result (λ answer. AddsCommand who command answer
-            (log_of self.old) (log_of self.new) (table_of self.old) (table_of self.new)) }
-        ensures kept { OnOk result (kept_of self.new ≡ length (log_of self.new)) }
-        ensures ready { OnOk result (is_broken self.new ≡ false) }
-
-        // After `Device` the event stands at the end of the log.
-        ensures unanswered { IsErrOf result BookFault.Device
-            → (answer : Answer) × AddsCommand who command answer
-            (log_of self.old) (log_of self.new) (table_of self.old) (table_of self.new) }
-        ensures unkept { IsErrOf result BookFault.Device → kept_of self.new ≡ kept_of self.old }
         ensures start { start_of self.new ≡ start_of self.old }
+        ensures ready { OnOk result (is_broken self.new ≡ false) }
 
         // A crash leaves the table that was kept, or the one after the command. Once a change is
         // answered the disk is made.

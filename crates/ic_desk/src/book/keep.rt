@@ -3,7 +3,7 @@
 ghost use Rattle.std.specs.Prelude.{◌≡◌, ◌≢◌, length, OnOk, IfErr};
 ghost use Rattle.ic_desk.specs.Book.{start_of, log_of, kept_of};
 ghost use Rattle.ic_desk.specs.Calls.{BreaksOrStays, KeepsAll, LeavesKeptOrAll, TellsWorn};
-ghost use Rattle.ic_desk.specs.Moves.{stays};
+ghost use Rattle.ic_desk.specs.Moves.{keep_move};
 ghost use Rattle.ic_desk.specs.Server.{Step, up};
 
 use super::Book;
@@ -15,7 +15,7 @@ impl<D: Disk> Book<D> {
     /// Keeps what has come since the last keep. Where all is kept it makes no call to the disk. It
     /// isn't answered want of memory.
     pub fn keep(&mut self) -> Result<(), BookFault>
-        ensures step { Step stays (up self.old) (up self.new) }
+        ensures step { Step (keep_move result) (up self.old) (up self.new) }
 
         // Refusals: broken and worn, in this order. `Device` comes behind them.
         ensures fault { BreaksOrStays result self.old self.new }

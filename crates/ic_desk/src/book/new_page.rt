@@ -3,7 +3,7 @@
 ghost use Rattle.std.specs.Prelude.{◌≡◌, [], OnOk, OnErr, IsErrOf};
 ghost use Rattle.ic_desk.specs.Book.{start_of, log_of, table_of, kept_of};
 ghost use Rattle.ic_desk.specs.Calls.{BreaksOrStays, KeepsAll, LeavesKeptOrAll, TellsWorn};
-ghost use Rattle.ic_desk.specs.Moves.{stays};
+ghost use Rattle.ic_desk.specs.Moves.{keep_move};
 ghost use Rattle.ic_desk.specs.Server.{Step, up};
 
 use super::Book;
@@ -15,7 +15,7 @@ impl<D: Disk> Book<D> {
     /// Keeps what isn't kept, and begins a new page: the log is empty, and begins with the table as
     /// it is now.
     pub fn new_page(&mut self, alloc: Global) -> Result<(), BookFault>
-        ensures step { Step stays (up self.old) (up self.new) }
+        ensures step { Step (keep_move result) (up self.old) (up self.new) }
 
         // Refusals: broken and worn, in this order. `Memory` comes behind them, and then `Device`.
         ensures fault { BreaksOrStays result self.old self.new }

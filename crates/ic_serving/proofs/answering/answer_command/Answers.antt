@@ -7,6 +7,7 @@ use Rattle.ic_slots.specs.Keeper as keeper_parts
 use Rattle.ic_desk.specs.Entries.{command_entry}
 use Rattle.ic_serving.specs.Booked.{last_kept, Begins}
 use Rattle.ic_serving.proofs.RunLemmas.{kept_same, on_err}
+use Rattle.ic_serving.proofs.CallLemmas.{by_answer, by_failure, by_refusal}
 use Rattle.ic_serving.proofs.LineLemmas.{device_or_not, begun_none, begun_one, begun_kept, after_event, kept_behind, kept_all}
 use Rattle.ic_serving.proofs.PageLemmas.{command_goes, one_room, same_then, within_all, within_none}
 use Rattle.ic_serving.specs.Parts.{IsKeptWithin}
@@ -28,15 +29,15 @@ pub returns-in_err-reply-clause-begun : goal.returns-in_err-reply-clause-begun
 returns-in_err-reply-clause-begun g c =
     let s = c.in_ok-make_room.ensures.stays in
     elim (device_or_not c.in_err-reply.field-0.0) [
-      | inl is ↦ (let err = ap (λ e. Err e) is in
-          let added = c.in_err-reply.ensures.unanswered err in
-          let moved = after_event (table_of c.make_room.new.book) (table_of c.command.new.self) (by_command c.args.command) added.0 added.1.event in
+      | inl is ↦ (let failed = c.in_err-reply.ensures.step.failed (ap (λ e. Err e) is) in
+          let added = failed.1.page.0.adds in
+          let moved = after_event (table_of c.make_room.new.book) (table_of c.command.new.self) (by_command c.args.command) failed.0 added.event in
           let same : last_kept c.command.new.self ≡ last_kept c.make_room.new.book = kept_behind (start_of c.make_room.new.book) (start_of c.command.new.self)
-          (log_of c.make_room.new.book) (log_of c.command.new.self) (command_entry 0 c.args.command added.0) (kept_of c.make_room.new.book) (kept_of c.command.new.self)
-          c.command.ensures.start added.1.entry (c.in_err-reply.ensures.unkept err) c.facts.ensures.history.within in
+          (log_of c.make_room.new.book) (log_of c.command.new.self) (command_entry 0 c.args.command failed.0) (kept_of c.make_room.new.book) (kept_of c.command.new.self)
+          c.command.ensures.start added.entry failed.1.page.1 c.facts.ensures.history.within in
           let b = begun_one (table_of c.args.book.now) (last_kept c.args.book.now) (by_command c.args.command) (table_of c.command.new.self) (last_kept c.command.new.self)
           (moved ∙ ap (λ y. table_after y (by_command c.args.command)) s.table) (rw same s.kept) in
-          on_err c.from_residual-in_err-reply.result _ (record { table = b.0; kept = b.1; page = λ room. within_all (by_command c.args.command ∷ []) c.args.book.now c.command.new.self (command_goes c.args.command added.0 c.args.book.now c.make_room.new.book c.command.new.self (s.page (one_room c.args.book.now c.args.command room)) c.command.ensures.start added.1.entry) }))
+          on_err c.from_residual-in_err-reply.result _ (record { table = b.0; kept = b.1; page = λ room. within_all (by_command c.args.command ∷ []) c.args.book.now c.command.new.self (command_goes c.args.command failed.0 c.args.book.now c.make_room.new.book c.command.new.self (s.page (one_room c.args.book.now c.args.command room)) c.command.ensures.start added.entry) }))
       | inr other ↦ (let u : IsUnchanged c.make_room.new.book c.command.new.self = c.in_err-reply.ensures.fault.refused refl (λ same. other (cc)) in
           let same : last_kept c.command.new.self ≡ last_kept c.make_room.new.book = kept_same (start_of c.make_room.new.book) (start_of c.command.new.self)
           (log_of c.make_room.new.book) (log_of c.command.new.self) (kept_of c.make_room.new.book) (kept_of c.command.new.self)
@@ -49,22 +50,22 @@ returns-in_err-reply-clause-begun g c =
 pub returns-in_err-print_reply-clause-begun : goal.returns-in_err-print_reply-clause-begun
 returns-in_err-print_reply-clause-begun g c =
     let s = c.in_ok-make_room.ensures.stays in
-    let moved = after_event (table_of c.make_room.new.book) (table_of c.command.new.self) (by_command c.args.command) c.in_ok-reply.reply c.in_ok-reply.ensures.answered.event in
+    let moved = after_event (table_of c.make_room.new.book) (table_of c.command.new.self) (by_command c.args.command) c.in_ok-reply.reply c.in_ok-reply.ensures.step.answered.page.0.adds.event in
     let all = kept_all (start_of c.command.new.self) (table_of c.command.new.self) (log_of c.command.new.self) (kept_of c.command.new.self)
-    c.facts-2.ensures.history.replayed c.in_ok-reply.ensures.kept in
+    c.facts-2.ensures.history.replayed c.in_ok-reply.ensures.step.answered.page.1 in
     let b = begun_kept (table_of c.args.book.now) (last_kept c.args.book.now) (by_command c.args.command) (table_of c.command.new.self) (last_kept c.command.new.self)
     (moved ∙ ap (λ y. table_after y (by_command c.args.command)) s.table) all in
-    on_err c.from_residual-in_err-print_reply.result _ (record { table = b.0; kept = b.1; page = λ room. within_all (by_command c.args.command ∷ []) c.args.book.now c.command.new.self (command_goes c.args.command c.in_ok-reply.reply c.args.book.now c.make_room.new.book c.command.new.self (s.page (one_room c.args.book.now c.args.command room)) c.command.ensures.start c.in_ok-reply.ensures.answered.entry) })
+    on_err c.from_residual-in_err-print_reply.result _ (record { table = b.0; kept = b.1; page = λ room. within_all (by_command c.args.command ∷ []) c.args.book.now c.command.new.self (command_goes c.args.command c.in_ok-reply.reply c.args.book.now c.make_room.new.book c.command.new.self (s.page (one_room c.args.book.now c.args.command room)) c.command.ensures.start c.in_ok-reply.ensures.step.answered.page.0.adds.entry) })
 
 pub returns-in_err-ended-clause-begun : goal.returns-in_err-ended-clause-begun
 returns-in_err-ended-clause-begun g c =
     let s = c.in_ok-make_room.ensures.stays in
-    let moved = after_event (table_of c.make_room.new.book) (table_of c.command.new.self) (by_command c.args.command) c.in_ok-reply.reply c.in_ok-reply.ensures.answered.event in
+    let moved = after_event (table_of c.make_room.new.book) (table_of c.command.new.self) (by_command c.args.command) c.in_ok-reply.reply c.in_ok-reply.ensures.step.answered.page.0.adds.event in
     let all = kept_all (start_of c.command.new.self) (table_of c.command.new.self) (log_of c.command.new.self) (kept_of c.command.new.self)
-    c.facts-2.ensures.history.replayed c.in_ok-reply.ensures.kept in
+    c.facts-2.ensures.history.replayed c.in_ok-reply.ensures.step.answered.page.1 in
     let b = begun_kept (table_of c.args.book.now) (last_kept c.args.book.now) (by_command c.args.command) (table_of c.command.new.self) (last_kept c.command.new.self)
     (moved ∙ ap (λ y. table_after y (by_command c.args.command)) s.table) all in
-    on_err c.from_residual-in_err-ended.result _ (record { table = b.0; kept = b.1; page = λ room. within_all (by_command c.args.command ∷ []) c.args.book.now c.command.new.self (command_goes c.args.command c.in_ok-reply.reply c.args.book.now c.make_room.new.book c.command.new.self (s.page (one_room c.args.book.now c.args.command room)) c.command.ensures.start c.in_ok-reply.ensures.answered.entry) })
+    on_err c.from_residual-in_err-ended.result _ (record { table = b.0; kept = b.1; page = λ room. within_all (by_command c.args.command ∷ []) c.args.book.now c.command.new.self (command_goes c.args.command c.in_ok-reply.reply c.args.book.now c.make_room.new.book c.command.new.self (s.page (one_room c.args.book.now c.args.command room)) c.command.ensures.start c.in_ok-reply.ensures.step.answered.page.0.adds.entry) })
 
 pub returns-in_err-make_room-clause-crash : goal.returns-in_err-make_room-clause-crash
 returns-in_err-make_room-clause-crash g c = leaves_more c.args.book.now c.make_room.new.book (IsKeptOrNow c.args.book.now)
@@ -74,35 +75,41 @@ returns-in_err-make_room-clause-crash g c = leaves_more c.args.book.now c.make_r
 pub returns-in_err-reply-clause-crash : goal.returns-in_err-reply-clause-crash
 returns-in_err-reply-clause-crash g c =
     elim (device_or_not c.in_err-reply.field-0.0) [
-      | inl is ↦ (let added = c.in_err-reply.ensures.unanswered (ap (λ e. Err e) is) in
-          leaves_command c.args.book.now c.make_room.new.book c.command.new.self c.args.command added.0 c.make_room.ensures.crash c.in_ok-make_room.ensures.stays
-          c.facts.ensures.history.replayed c.facts.ensures.history.within added.1 c.command.ensures.crash.keeps c.command.ensures.crash.made c.command.ensures.crash.any_moment)
+      | inl is ↦ (let device = ap (λ e. Err e) is in
+          let failed = c.in_err-reply.ensures.step.failed device in
+          leaves_command c.args.book.now c.make_room.new.book c.command.new.self c.args.command failed.0 c.make_room.ensures.crash c.in_ok-make_room.ensures.stays
+          c.facts.ensures.history.replayed c.facts.ensures.history.within failed.1.page.0.adds c.command.ensures.crash.keeps c.command.ensures.crash.made c.command.ensures.crash.any_moment
+          (by_failure _ 0 c.args.command failed.0 c.make_room.new.book c.command.new.self c.in_err-reply.ensures.fault device failed.1))
       | inr other ↦ (let u : IsUnchanged c.make_room.new.book c.command.new.self = c.in_err-reply.ensures.fault.refused refl (λ same. other (cc)) in
           leaves_still c.args.book.now c.make_room.new.book c.command.new.self (IsKeptWithin (table_of c.args.book.now) (last_kept c.args.book.now) (by_command c.args.command ∷ []))
           (leaves_more c.args.book.now c.make_room.new.book (IsKeptOrNow c.args.book.now)
           (IsKeptWithin (table_of c.args.book.now) (last_kept c.args.book.now) (by_command c.args.command ∷ [])) c.make_room.ensures.crash
           (kept_or_now (table_of c.args.book.now) (last_kept c.args.book.now) (by_command c.args.command ∷ [])))
-          u.same_keeper)
+          u.same_keeper
+          (by_refusal _ c.make_room.new.book c.command.new.self c.in_err-reply.ensures.fault (c.in_err-reply.ensures.step.refused refl (λ same. other (cc)))))
     ]
 
 pub returns-in_err-print_reply-clause-crash : goal.returns-in_err-print_reply-clause-crash
 returns-in_err-print_reply-clause-crash g c =
     leaves_command c.args.book.now c.make_room.new.book c.command.new.self c.args.command c.in_ok-reply.reply c.make_room.ensures.crash c.in_ok-make_room.ensures.stays
-    c.facts.ensures.history.replayed c.facts.ensures.history.within c.in_ok-reply.ensures.answered c.command.ensures.crash.keeps c.command.ensures.crash.made c.command.ensures.crash.any_moment
+    c.facts.ensures.history.replayed c.facts.ensures.history.within c.in_ok-reply.ensures.step.answered.page.0.adds c.command.ensures.crash.keeps c.command.ensures.crash.made c.command.ensures.crash.any_moment
+    (by_answer _ 0 c.args.command c.in_ok-reply.reply c.make_room.new.book c.command.new.self c.in_ok-reply.ensures.fault c.in_ok-reply.ensures.step.answered)
 
 pub returns-in_err-ended-clause-crash : goal.returns-in_err-ended-clause-crash
 returns-in_err-ended-clause-crash g c =
     leaves_command c.args.book.now c.make_room.new.book c.command.new.self c.args.command c.in_ok-reply.reply c.make_room.ensures.crash c.in_ok-make_room.ensures.stays
-    c.facts.ensures.history.replayed c.facts.ensures.history.within c.in_ok-reply.ensures.answered c.command.ensures.crash.keeps c.command.ensures.crash.made c.command.ensures.crash.any_moment
+    c.facts.ensures.history.replayed c.facts.ensures.history.within c.in_ok-reply.ensures.step.answered.page.0.adds c.command.ensures.crash.keeps c.command.ensures.crash.made c.command.ensures.crash.any_moment
+    (by_answer _ 0 c.args.command c.in_ok-reply.reply c.make_room.new.book c.command.new.self c.in_ok-reply.ensures.fault c.in_ok-reply.ensures.step.answered)
 
 pub returns-clause-crash : goal.returns-clause-crash
 returns-clause-crash g c =
     leaves_command c.args.book.now c.make_room.new.book c.command.new.self c.args.command c.in_ok-reply.reply c.make_room.ensures.crash c.in_ok-make_room.ensures.stays
-    c.facts.ensures.history.replayed c.facts.ensures.history.within c.in_ok-reply.ensures.answered c.command.ensures.crash.keeps c.command.ensures.crash.made c.command.ensures.crash.any_moment
+    c.facts.ensures.history.replayed c.facts.ensures.history.within c.in_ok-reply.ensures.step.answered.page.0.adds c.command.ensures.crash.keeps c.command.ensures.crash.made c.command.ensures.crash.any_moment
+    (by_answer _ 0 c.args.command c.in_ok-reply.reply c.make_room.new.book c.command.new.self c.in_ok-reply.ensures.fault c.in_ok-reply.ensures.step.answered)
 
 pub returns-clause-page : goal.returns-clause-page
 returns-clause-page g c = λ room. command_goes c.args.command c.in_ok-reply.reply c.args.book.now c.make_room.new.book c.command.new.self
-    (c.in_ok-make_room.ensures.stays.page (one_room c.args.book.now c.args.command room)) c.command.ensures.start c.in_ok-reply.ensures.answered.entry
+    (c.in_ok-make_room.ensures.stays.page (one_room c.args.book.now c.args.command room)) c.command.ensures.start c.in_ok-reply.ensures.step.answered.page.0.adds.entry
 
 not_true : (b : Bool) → ¬ (b ≡ true) → b ≡ false
 not_true true other = absurd (other refl)
@@ -116,3 +123,10 @@ returns-clause-fresh g c = λ room worn.
     let whole : is_broken c.make_room.new.book ≡ false =
     not_true (is_broken c.make_room.new.book) (λ is. (let told = c.in_ok-reply.ensures.fault.broken.1 is in cc)) in
     let told = c.in_ok-reply.ensures.worn.1 (whole, c.in_ok-make_room.ensures.spare, number) in cc
+
+pub returns-clause-kept : goal.returns-clause-kept
+returns-clause-kept g c = c.in_ok-reply.ensures.step.answered.page.1
+
+pub returns-clause-table : goal.returns-clause-table
+returns-clause-table g c = after_event (table_of c.make_room.new.book) (table_of c.command.new.self) (by_command c.args.command) c.in_ok-reply.reply
+    c.in_ok-reply.ensures.step.answered.page.0.adds.event ∙ ap (λ y. table_after y (by_command c.args.command)) c.in_ok-make_room.ensures.stays.table

@@ -11,6 +11,7 @@ use Rattle.ic_text.specs.declared.fault.TextFault.{TextFault}
 use Rattle.ic_lines.specs.Answers.{answer, after_line, events}
 use Rattle.ic_serving.specs.Booked.{last_kept, IsAllKept}
 use Rattle.ic_serving.specs.Grown.{GoesOn, HasRoom}
+use Rattle.ic_serving.proofs.CallLemmas.{by_nothing}
 use Rattle.ic_serving.proofs.LineLemmas.{begun_none}
 use Rattle.ic_serving.proofs.PageLemmas.{goes_none, within_none}
 use Rattle.ic_serving.proofs.RunLemmas.{on_err}
@@ -85,17 +86,17 @@ returns-in-Ok-Run-clause-crash g c = leaves_more c.args.book.now c.answer_run.ne
 
 pub returns-in-Err-Memory-clause-crash : goal.returns-in-Err-Memory-clause-crash
 returns-in-Err-Memory-clause-crash g c = leaves_nothing c.args.book.now (IsKeptInLine (table_of c.args.book.now) (last_kept c.args.book.now) c.args.line.now)
-    (g.met.D.Disk.left_is_image _) c.facts.ensures.either c.facts.ensures.history.replayed (inl refl)
+    (g.met.D.Disk.left_is_image _) c.facts.ensures.either c.facts.ensures.history.replayed (by_nothing c.args.book.now c.facts.ensures.step) (inl refl)
     (inr (in_line c.one_line_reading.ensures.total (table_of c.args.book.now) c.args.line.now))
 
 pub returns-in-Ok-Blank-clause-crash : goal.returns-in-Ok-Blank-clause-crash
 returns-in-Ok-Blank-clause-crash g c = leaves_nothing c.args.book.now (IsKeptInLine (table_of c.args.book.now) (last_kept c.args.book.now) c.args.line.now)
-    (g.met.D.Disk.left_is_image _) c.facts.ensures.either c.facts.ensures.history.replayed (inl refl)
+    (g.met.D.Disk.left_is_image _) c.facts.ensures.either c.facts.ensures.history.replayed (by_nothing c.args.book.now c.facts.ensures.step) (inl refl)
     (inr (in_line c.one_line_reading.ensures.total (table_of c.args.book.now) c.args.line.now))
 
 pub returns-in-Err-clause-crash : goal.returns-in-Err-clause-crash
 returns-in-Err-clause-crash g c = leaves_nothing c.args.book.now (IsKeptInLine (table_of c.args.book.now) (last_kept c.args.book.now) c.args.line.now)
-    (g.met.D.Disk.left_is_image _) c.facts.ensures.either c.facts.ensures.history.replayed (inl refl)
+    (g.met.D.Disk.left_is_image _) c.facts.ensures.either c.facts.ensures.history.replayed (by_nothing c.args.book.now c.facts.ensures.step) (inl refl)
     (inr (in_line c.one_line_reading.ensures.total (table_of c.args.book.now) c.args.line.now))
 
 pub returns-in-Err-clause-fault : goal.returns-in-Err-clause-fault

@@ -2,6 +2,8 @@ use Rattle.std.proofs.Common.{◌≡◌, subst, sym, ◌∙◌}
 use Rattle.ic_pool.specs.Played.{PlayedParts}
 use Rattle.ic_jobs.specs.Landing.{Awaits}
 use Rattle.ic_desk.specs.Book.{table_of}
+use Rattle.ic_jobs.specs.declared.reply.Reply.TheVariants.{Moved, Halted}
+use Rattle.ic_serving.proofs.CallLemmas.{by_nothing, by_round}
 use Rattle.ic_serving.proofs.rounds.land_or_halt.Goals as goal
 
 pub land_awaited-requires : goal.land_awaited-requires
@@ -11,3 +13,18 @@ land_awaited-requires g c =
 pub halt_awaited-requires-clause-blocked : goal.halt_awaited-requires-clause-blocked
 halt_awaited-requires-clause-blocked g c =
     c.refused_flights_are_blocked.ensures.workers c.args.workers c.args.flight.now c.in-Err.fault c.in-Err.ensures.answer (sym c.is_of_flight.ensures ∙ c.if-not-is_of_flight.false)
+
+pub returns-then-not-is_of_flight-clause-done : goal.returns-then-not-is_of_flight-clause-done
+returns-then-not-is_of_flight-clause-done g c = by_nothing c.args.book.now c.facts.ensures.step
+
+pub returns-in_err-halt_awaited-in-Err-clause-done : goal.returns-in_err-halt_awaited-in-Err-clause-done
+returns-in_err-halt_awaited-in-Err-clause-done g c = by_round _ Halted c.halt_awaited.result c.args.book.now c.halt_awaited.new.self c.halt_awaited.ensures.round.keeper c.halt_awaited.ensures.step
+
+pub returns-in-Err-clause-done : goal.returns-in-Err-clause-done
+returns-in-Err-clause-done g c = by_round _ Halted c.halt_awaited.result c.args.book.now c.halt_awaited.new.self c.halt_awaited.ensures.round.keeper c.halt_awaited.ensures.step
+
+pub returns-in_err-land_awaited-clause-done : goal.returns-in_err-land_awaited-clause-done
+returns-in_err-land_awaited-clause-done g c = by_round _ Moved c.land_awaited.result c.args.book.now c.land_awaited.new.self c.land_awaited.ensures.round.keeper c.land_awaited.ensures.step
+
+pub returns-clause-done : goal.returns-clause-done
+returns-clause-done g c = by_round _ Moved c.land_awaited.result c.args.book.now c.land_awaited.new.self c.land_awaited.ensures.round.keeper c.land_awaited.ensures.step

@@ -7,6 +7,7 @@ use Rattle.ic_serving.proofs.RunLemmas.{InRun, IsRun, at_first, one_more, keep_o
 use Rattle.ic_serving.proofs.PageLemmas.{page_first, page_more, page_whole, page_within}
 use Rattle.ic_lines.specs.Turns.{turns}
 use Rattle.ic_serving.specs.Parts.{IsKeptWithin}
+use Rattle.ic_serving.proofs.CallLemmas.{by_nothing}
 use Rattle.ic_serving.proofs.StopLemmas.{leaves_nothing, leaves_in_run}
 use Rattle.ic_serving.proofs.running.make_rounds.Given as given
 use Rattle.ic_serving.proofs.running.make_rounds.Goals as goal
@@ -18,7 +19,8 @@ loop-made-init g c = record {
   ready = λ is. is;
   page = page_first c.args.count c.args.book.now;
   moments = leaves_nothing c.args.book.now (IsKeptWithin (table_of c.args.book.now) (last_kept c.args.book.now) (turns c.args.count 0 (table_of c.args.book.now)))
-      (g.met.D.Disk.left_is_image _) c.facts.ensures.either c.facts.ensures.history.replayed (inl refl)
+      (g.met.D.Disk.left_is_image _) c.facts.ensures.either c.facts.ensures.history.replayed
+      (by_nothing c.args.book.now c.facts.ensures.step) (inl refl)
       (inr (record { front = []; rest = turns c.args.count 0 (table_of c.args.book.now); parted = refl; leaves = refl }));
 }
 

@@ -11,6 +11,7 @@ use Rattle.ic_serving.specs.declared.fault.ServeFault.TheVariants.{TooManyLines}
 use Rattle.ic_serving.specs.declared.limits.TheConstants.{MAX_LINES}
 use Rattle.ic_serving.specs.Answered.{IsAnswered, IsBegun}
 use Rattle.ic_serving.specs.Moments.{Leaves, IsKeptInLine}
+use Rattle.ic_serving.proofs.CallLemmas.{by_nothing}
 use Rattle.ic_serving.proofs.LineLemmas.{kept_all}
 use Rattle.ic_serving.proofs.ServeLemmas.{under_first, under_more, ahead, taken, ended_at, cut_behind, kept_part, left_within, says_book, not_taken, none_behind, not_write, counts_behind, ready_behind}
 use Rattle.ic_serving.proofs.StopLemmas.{stops_first, stops_more, serving_over, serving_err, serving_untaken, fault_behind, kept_or_same, still_all, still_last}
@@ -24,6 +25,7 @@ loop-init g c = record {
   ready = λ is. is;
   last = inr refl;
   moments = stops_first c.one_line_reading.ensures.total c.args.book.now (g.met.D.Disk.left_is_image _) c.facts.ensures.either c.facts.ensures.history.replayed
+      (by_nothing c.args.book.now c.facts.ensures.step)
       (kept_all (start_of c.args.book.now) (table_of c.args.book.now) (log_of c.args.book.now) (kept_of c.args.book.now) c.facts.ensures.history.replayed);
 }
 

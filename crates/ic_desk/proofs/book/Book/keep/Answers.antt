@@ -1,6 +1,7 @@
-use Rattle.std.proofs.Common.{◌≡◌, ◌∙◌, true, false, length, refl, sym, arith}
+use Rattle.std.proofs.Common.{◌≡◌, ◌≤◌, ◌∙◌, true, false, length, refl, sym, arith}
+use Rattle.std.proofs.lemmas.Result.{err_from_is_err_and}
 use Rattle.ic_desk.proofs.BookLemmas.{failed_on_disk, kept_on_disk, stands_here, unchanged, written}
-use Rattle.ic_desk.proofs.StepLemmas.{idles, stays_on}
+use Rattle.ic_desk.proofs.StepLemmas.{idles, keep_refused, keeps_page, stays_on}
 use Rattle.ic_desk.proofs.book.Book.keep.Goals as goal
 
 pub returns-in_err-check_keepable-clause-crash : goal.returns-in_err-check_keepable-clause-crash
@@ -39,13 +40,19 @@ returns-clause-crash g c =
     c.keep_table.ensures.keeps c.keep_table.ensures.any_moment
 
 pub returns-in_err-check_keepable-clause-step : goal.returns-in_err-check_keepable-clause-step
-returns-in_err-check_keepable-clause-step g c = idles g.met.D.Disk.left_is_image c.args.self.now
+returns-in_err-check_keepable-clause-step g c =
+    let e = err_from_is_err_and c.from_residual.result c.from_residual.ensures.1 in
+    keep_refused c.from_residual.result e.0 c.args.self.now c.args.self.now e.1 (idles g.met.D.Disk.left_is_image c.args.self.now)
 
 pub returns-in_err-keep_table-clause-step : goal.returns-in_err-keep_table-clause-step
-returns-in_err-keep_table-clause-step g c = stays_on c.args.self.now _ refl refl refl (omega arith) (returns-in_err-keep_table-clause-crash g c)
+returns-in_err-keep_table-clause-step g c =
+    let e = err_from_is_err_and c.from_residual-in_err-keep_table.result c.from_residual-in_err-keep_table.ensures.1 in
+    let same : c.args.self.now.kept ≤ c.args.self.now.kept = omega arith in
+    keep_refused c.from_residual-in_err-keep_table.result e.0 c.args.self.now _ e.1
+    (stays_on c.args.self.now _ refl refl refl same (returns-in_err-keep_table-clause-crash g c))
 
 pub returns-clause-step : goal.returns-clause-step
 returns-clause-step g c =
     let book = c.args.self.now in
     let count : c.len-self.result ≡ length book.log.items = omega (arith, c.len-self.ensures) in
-    stays_on book _ refl refl refl (omega (arith, count, book.history.within)) (returns-clause-crash g c)
+    keeps_page book _ refl refl refl (omega (arith, count, book.history.within)) count (returns-clause-crash g c)
