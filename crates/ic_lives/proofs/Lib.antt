@@ -1,3 +1,4 @@
 pub mod PastLemmas
 pub mod RunLemmas
 pub mod JobLemmas
+pub mod ServedLemmas
