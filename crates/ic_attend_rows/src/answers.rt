@@ -1,0 +1,68 @@
+//! What a row may ask. Commands of a script stand between ` ; `, scripts between ` | `.
+//!
+//! - `attended RUNNERS TURNS WORKERS SCRIPTS`: what each client is answered, and the jobs that are left.
+//! - `meeting WANTED RUNNERS TURNS WORKERS SCRIPTS`: the same, where each work waits until so many have begun.
+//! - `during COMMAND | SCRIPT`: a script of two commands, the second answered while a round of the job is made.
+//! - `drawn SEED COUNT`: so many drawn sets of scripts.
+//! - `fused CALLS`: two clients on a disk that fails at a call, once for each call up to this one.
+
+use crate::attending::{Wanted, attended};
+use crate::drawn::{drawn, each_fused};
+use crate::gates::{Meeting, answered_during_round};
+use ic_notation::{Row, Trouble, expanded};
+use ic_pool::OpenGate;
+use std::alloc::Global;
+use std::sync::Wait;
+use std::thread::Threads;
+use std::time::Clock;
+
+/// The first word as a number, and what stands behind it.
+fn number_first(text: &str) -> (usize, &str) {
+    let (first, rest) = text.split_once(' ').unwrap_or((text, ""));
+    (usize::from_str_radix(first, 10).unwrap_or(0), rest)
+}
+
+/// What is answered to a row.
+pub fn answer<R: Threads + Wait + Clock + Sync>(
+    rt: &R,
+    alloc: Global,
+    row: &Row<'_>,
+) -> Result<Vec<u8>, Trouble> {
+    let Ok(text) = String::from_utf8(expanded(alloc, row.text)?) else {
+        return Err(Trouble("no text"));
+    };
+    match row.kind {
+        "attended" => {
+            let (wanted, scripts) = wanted_of(&text);
+            attended(rt, alloc, wanted, scripts, &OpenGate)
+        }
+        "meeting" => {
+            let (count, rest) = number_first(&text);
+            let (wanted, scripts) = wanted_of(rest);
+            let meeting = Meeting::new(rt, count as u64);
+            let line = attended(rt, alloc, wanted, scripts, &meeting)?;
+            meeting.kept()?;
+            Ok(line)
+        }
+        "during" => answered_during_round(rt, alloc, &text),
+        "drawn" => {
+            let (seed, rest) = number_first(&text);
+            drawn(rt, alloc, seed as u64, number_first(rest).0)
+        }
+        "fused" => each_fused(rt, alloc, number_first(&text).0 as u64),
+        _ => Err(Trouble("no such kind")),
+    }
+}
+
+/// How a row wants its scripts attended: runners, turns and workers, and then the scripts.
+fn wanted_of(text: &str) -> (Wanted, &str) {
+    let (runners, rest) = number_first(text);
+    let (turns, rest) = number_first(rest);
+    let (workers, scripts) = number_first(rest);
+    let wanted = Wanted {
+        runners,
+        turns,
+        workers,
+    };
+    (wanted, scripts)
+}

@@ -1,0 +1,129 @@
+//! Gates that hold works and clients up, each for at most 10,000 turns of a millisecond.
+
+use crate::attending::{Wanted, attended_on, new_disk};
+use crate::checker::{Past, check};
+use crate::scripts::{command_of, scripts_of};
+use ic_desk::Book;
+use ic_notation::Trouble;
+use ic_pool::Gate;
+use std::alloc::Global;
+use std::sync::Wait;
+use std::sync::atomic::{AtomicBool, AtomicU64, Ordering};
+use std::thread::{self, Threads};
+use std::time::{Clock, Duration};
+
+/// Waits until a counter has come so far. Once one wait has run out, none goes on.
+fn wait<R: Clock>(rt: &R, counter: &AtomicU64, wanted: u64, missed: &AtomicBool) {
+    for _ in 0..10_000u32 {
+        if counter.load(Ordering::SeqCst) >= wanted || missed.load(Ordering::SeqCst) {
+            return;
+        }
+        thread::sleep(rt, Duration::from_millis(1));
+    }
+    missed.store(true, Ordering::SeqCst);
+}
+
+/// A gate that holds each work up until so many have begun.
+#[derive(Drop)]
+pub struct Meeting<'a, R> {
+    rt: &'a R,
+    wanted: u64,
+    begun: AtomicU64,
+    missed: AtomicBool,
+}
+
+impl<'a, R> Meeting<'a, R> {
+    pub fn new(rt: &'a R, wanted: u64) -> Meeting<'a, R> {
+        Meeting {
+            rt,
+            wanted,
+            begun: AtomicU64::new(0),
+            missed: AtomicBool::new(false),
+        }
+    }
+
+    /// Whether no wait has run out.
+    pub fn kept(&self) -> Result<(), Trouble> {
+        if self.missed.load(Ordering::SeqCst) {
+            return Err(Trouble("a wait ran out"));
+        }
+        Ok(())
+    }
+}
+
+impl<'a, R: Clock + Sync> Gate for Meeting<'a, R> {
+    fn pass(&self, _place: u64) {
+        self.begun.fetch_add(1, Ordering::SeqCst);
+        wait(self.rt, &self.begun, self.wanted, &self.missed);
+    }
+
+    fn answered(&self, _who: u64) {}
+}
+
+/// A gate at which the first answer waits until a work has begun, and each work until the second answer was given.
+#[derive(Drop)]
+struct During<'a, R> {
+    rt: &'a R,
+    begun: AtomicU64,
+    answers: AtomicU64,
+    missed: AtomicBool,
+}
+
+impl<'a, R: Clock + Sync> Gate for During<'a, R> {
+    fn pass(&self, _place: u64) {
+        self.begun.fetch_add(1, Ordering::SeqCst);
+        wait(self.rt, &self.answers, 2, &self.missed);
+    }
+
+    fn answered(&self, _who: u64) {
+        if self.answers.fetch_add(1, Ordering::SeqCst) == 0 {
+            wait(self.rt, &self.begun, 1, &self.missed);
+        }
+    }
+}
+
+/// One client gives two commands on a disk with a job that runs, and is answered the second while a round is made.
+pub fn answered_during_round<R: Threads + Wait + Clock + Sync>(
+    rt: &R,
+    alloc: Global,
+    text: &str,
+) -> Result<Vec<u8>, Trouble> {
+    let (job, script) = text.split_once(" | ").unwrap_or((text, ""));
+    let Ok(mut book) = Book::open(alloc, new_disk(alloc)?) else {
+        return Err(Trouble("not opened"));
+    };
+    if book.command(alloc, 0, command_of(alloc, job)?).is_err() {
+        return Err(Trouble("not submitted"));
+    }
+    let opening = book.table().copy(alloc)?;
+    let during = During {
+        rt,
+        begun: AtomicU64::new(0),
+        answers: AtomicU64::new(0),
+        missed: AtomicBool::new(false),
+    };
+    let wanted = Wanted {
+        runners: 1,
+        turns: 0,
+        workers: 1,
+    };
+    let done = attended_on(
+        rt,
+        alloc,
+        book.close(),
+        wanted,
+        scripts_of(alloc, script)?,
+        &during,
+    )?;
+    if during.missed.load(Ordering::SeqCst) {
+        return Err(Trouble("a wait ran out"));
+    }
+    let past = Past {
+        opening,
+        scripts: scripts_of(alloc, script)?,
+        runners: wanted.runners,
+        turns: wanted.turns,
+    };
+    check(alloc, past, &done)?;
+    Ok(Vec::from_slice(alloc, b"answered")?)
+}

@@ -1,0 +1,38 @@
+//! Scripts of rows.
+
+use ic_commands::{Line, read_command};
+use ic_jobs::Command;
+use ic_notation::Trouble;
+use std::alloc::Global;
+
+/// The command of a line.
+pub fn command_of(alloc: Global, line: &str) -> Result<Command, Trouble> {
+    match read_command(alloc, line.as_bytes()) {
+        Ok(Line::Command(command)) => Ok(command),
+        _ => Err(Trouble("no command")),
+    }
+}
+
+/// The commands of each script; none where there is no text.
+pub fn scripts_of(alloc: Global, text: &str) -> Result<Vec<Vec<Command>>, Trouble> {
+    let mut scripts = Vec::new(alloc);
+    if text.is_empty() {
+        return Ok(scripts);
+    }
+    for part in text.split(" | ") {
+        scripts.push(script_of(alloc, part)?)?;
+    }
+    Ok(scripts)
+}
+
+/// The commands of one script; none where there is no text.
+fn script_of(alloc: Global, text: &str) -> Result<Vec<Command>, Trouble> {
+    let mut commands = Vec::new(alloc);
+    if text.is_empty() {
+        return Ok(commands);
+    }
+    for line in text.split(" ; ") {
+        commands.push(command_of(alloc, line)?)?;
+    }
+    Ok(commands)
+}
