@@ -1,2 +1,3 @@
 pub mod PartLemmas
 pub mod Crossings
+pub mod Exact

@@ -1,9 +1,12 @@
 -- What the faults of an attendance say.
-use Rattle.std.specs.Prelude.{◌≡◌, List, [], Result, Ok, Err, IsTrue}
+use Rattle.std.specs.Prelude.{◌≡◌, ℕ, List, [], Result, Ok, Err, IsTrue, length}
+use Rattle.std.specs.List.{AllZip}
 use Rattle.ic_disk.specs.declared.disk.Disk.{Ghosts}
 use Rattle.ic_frames.specs.Faults.{CountsOpen}
 use Rattle.ic_frames.specs.Opening.{LeavesAsFound}
 use Rattle.ic_frames.specs.declared.faults.OpenFault.{OpenFault}
+use Rattle.ic_jobs.specs.declared.command.Command.{Command}
+use Rattle.ic_jobs.specs.Job.{JobParts}
 use Rattle.ic_slots.specs.Held.{IsHeld, the_table}
 use Rattle.ic_slots.specs.Opening.{Says}
 use Rattle.ic_desk.specs.declared.book.Book.{Book}
@@ -11,6 +14,9 @@ use Rattle.ic_desk.specs.Book.{start_of, log_of, table_of}
 use Rattle.ic_attend.specs.declared.attended.Attended.{Attended}
 use Rattle.ic_attend.specs.declared.fault.AttendFault.{AttendFault}
 use Rattle.ic_attend.specs.declared.fault.AttendFault.TheVariants.{Open, NoThread, Memory, Torn}
+use Rattle.ic_attend.specs.Clients.{KeepsTo}
+use Rattle.ic_attend.specs.OneHistory.{IsOneHistory}
+use Rattle.ic_attend.specs.Ends.{EndsTell}
 
 -- where the disk wasn't opened, this holds of the refusal
 abbrev pub IfUnopened : {D : Type 0} {ghosts : Ghosts D}
@@ -30,6 +36,15 @@ IfUnbegun (Err (NoThread a)) what = Unit {0}
 IfUnbegun (Err (Memory book)) what = what book
 IfUnbegun (Err (Torn a)) what = Unit {0}
 
+-- where the history isn't what the threads were answered, this holds of what is left
+abbrev pub IfTorn : {D : Type 0} {ghosts : Ghosts D}
+    → Result (Attended D ghosts) (AttendFault D ghosts) → (Attended D ghosts → Type 0) → Type 0
+IfTorn (Ok a) what = Unit {0}
+IfTorn (Err (Open fault)) what = Unit {0}
+IfTorn (Err (NoThread a)) what = Unit {0}
+IfTorn (Err (Memory book)) what = Unit {0}
+IfTorn (Err (Torn a)) what = what a
+
 -- The disk is handed back as the opening found it, and the refusal says what reads give.
 pub record IsUnopened {D : Type 0} (ghosts : Ghosts D) (disk : D) (fault : OpenFault D)
     : Type 0 where
@@ -45,3 +60,20 @@ pub record IsAsOpened {D : Type 0} {ghosts : Ghosts D} (disk : D) (book : Book D
   pub held : IsTrue (ghosts.keeps disk) → IsHeld (the_table (start_of book)) (ghosts.content disk)
   pub table : table_of book ≡ start_of book
   pub log : log_of book ≡ []
+
+-- Each client keeps to its script and each runner has an end. But the book began with another table,
+-- or its log isn't one history of them, or an end by a refusal isn't borne out.
+pub record Differs {D : Type 0} {ghosts : Ghosts D} (opening : List JobParts)
+    (scripts : List (List Command)) (runners turns workers : ℕ) (a : Attended D ghosts)
+    : Type 0 where
+  pub scripts_kept : AllZip KeepsTo scripts a.answers.items
+  pub counted : length a.ends.items ≡ runners
+  pub differs : start_of a.book ≡ opening → IsOneHistory scripts runners turns a
+      → ¬ EndsTell workers a
+
+-- It differs from what was attended on the table that the disk holds.
+pub record IsTorn {D : Type 0} (ghosts : Ghosts D) (disk : D) (scripts : List (List Command))
+    (runners turns workers : ℕ) (a : Attended D ghosts) : Type 0 where
+  pub opening : List JobParts
+  pub held : IsTrue (ghosts.keeps disk) → IsHeld (the_table opening) (ghosts.content disk)
+  pub torn : Differs opening scripts runners turns workers a

@@ -1,6 +1,7 @@
 pub mod Parts
 pub mod Clients
 pub mod Runners
+pub mod Ends
 pub mod OneHistory
 pub mod Desk
 pub mod Faults

@@ -4,7 +4,8 @@ ghost use Rattle.std.specs.Prelude.{◌≡◌, map, vec_items, vec_len, IsTrue, 
 ghost use Rattle.ic_slots.specs.Held.{IsHeld, the_table};
 ghost use Rattle.ic_desk.specs.Book.{start_of};
 ghost use Rattle.ic_attend.specs.OneHistory.{IsOneHistory};
-ghost use Rattle.ic_attend.specs.Faults.{IfUnopened, IfUnbegun, IsUnopened, IsAsOpened};
+ghost use Rattle.ic_attend.specs.Ends.{EndsTell};
+ghost use Rattle.ic_attend.specs.Faults.{IfUnopened, IfUnbegun, IfTorn, IsUnopened, IsAsOpened, IsTorn, Differs};
 ghost use Rattle.ic_attend.specs.inner.Gathering.{IsReady, IsBegun};
 
 use crate::attended::Attended;
@@ -42,11 +43,16 @@ pub fn attend<R: Threads + Wait + Sync, D: Disk + Send, G: Gate>(
         IsHeld (the_table (start_of attended.book)) (D.content disk)) }
     ensures history { IfOk result (λ attended.
         IsOneHistory (map vec_items scripts.items) runners turns attended) }
+    ensures ends { IfOk result (λ attended. EndsTell workers attended) }
 
     // A disk that isn't opened is handed back. Where memory is out before any thread is started
     // the book is as it was opened.
     ensures unopened { IfUnopened result (λ fault. IsUnopened D.Disk disk fault) }
     ensures unbegun { IfUnbegun result (λ book. IsAsOpened disk book) }
+
+    // `Torn` comes only where one of these facts fails.
+    ensures torn { IfTorn result (λ attended.
+        IsTorn D.Disk disk (map vec_items scripts.items) runners turns workers attended) }
 {
     let book = match Book::open(alloc, disk) {
         Ok(book) => book,
@@ -94,7 +100,10 @@ fn attend_book<R: Threads + Wait + Sync, D: Disk + Send, G: Gate>(
     ensures start { IfOk result (λ attended. start_of attended.book ≡ opening.now) }
     ensures history { IfOk result (λ attended.
         IsOneHistory (map vec_items scripts.items) runners duty.turns attended) }
+    ensures ends { IfOk result (λ attended. EndsTell duty.workers attended) }
     ensures begun { IsBegun result }
+    ensures torn { IfTorn result (λ attended. Differs opening.now
+        (map vec_items scripts.items) runners duty.turns duty.workers attended) }
 {
     let signs = Signs::new(scripts.len() as u64);
     let desk = Desk::new(book);
@@ -109,7 +118,7 @@ fn attend_book<R: Threads + Wait + Sync, D: Disk + Send, G: Gate>(
         return Err(AttendFault::NoThread(attended));
     }
     attended.book.facts();
-    if !attended.agrees(opening, duty.turns) {
+    if !attended.is_borne_out(opening, duty.turns, duty.workers) {
         return Err(AttendFault::Torn(attended));
     }
     Ok(attended)

@@ -1,6 +1,6 @@
-//! The history compared with what the threads gathered. It takes no memory.
+//! The history compared with what the threads gathered, exactly. It takes no memory.
 
-ghost use Rattle.std.specs.Prelude.{◌≡◌, ◌-◌, Some, IsTrue, length, take, map, slice_get};
+ghost use Rattle.std.specs.Prelude.{◌≡◌, ◌↔◌, ◌-◌, Some, IsTrue, length, take, map, slice_get};
 ghost use Rattle.std.specs.List.{All};
 ghost use Rattle.ic_jobs.specs.declared.event.Event.TheVariants.{Command as by_command};
 ghost use Rattle.ic_desk.specs.declared.fault.BookFault.TheVariants.{Device as by_device};
@@ -10,6 +10,7 @@ ghost use Rattle.ic_attend.specs.Parts.{part, AreOfClients};
 ghost use Rattle.ic_attend.specs.Clients.{AreParts, MayStandBehind};
 ghost use Rattle.ic_attend.specs.Runners.{NoneRuns, rounds_among, EndHolds};
 ghost use Rattle.ic_attend.specs.OneHistory.{Agrees};
+ghost use Rattle.ic_attend.specs.Ends.{EndsTell};
 
 use crate::attended::{Attended, ClientRun, RunnerEnd};
 use crate::same::{same_command, same_reply};
@@ -18,9 +19,16 @@ use ic_disk::Disk;
 use ic_jobs::{Command, Entry, Event, Job, Reply, State, Table};
 
 impl<D: Disk> Attended<D> {
+    /// Whether the book bears out what the threads gathered.
+    pub(crate) fn is_borne_out(&self, opening: &Table, turns: usize, workers: usize) -> bool
+        ensures { IsTrue result ↔ (Agrees opening.now turns self.now × EndsTell workers self.now) }
+    {
+        self.agrees(opening, turns) && self.ends_tell(workers)
+    }
+
     /// Whether the book's history goes on from this table and tells of these clients and runners.
-    pub(crate) fn agrees(&self, opening: &Table, turns: usize) -> bool
-        ensures { IsTrue result → Agrees opening.now turns self.now }
+    fn agrees(&self, opening: &Table, turns: usize) -> bool
+        ensures { IsTrue result ↔ Agrees opening.now turns self.now }
     {
         self.book.facts();
         ic_jobs::laws::equality_is_exact();
@@ -44,7 +52,7 @@ fn is_round(event: &Event) -> bool
 
 /// Whether each entry is a round, or a command of one of so many clients.
 fn are_of_clients(entries: &[Entry], clients: usize) -> bool
-    ensures { IsTrue result → AreOfClients clients entries.now }
+    ensures { IsTrue result ↔ AreOfClients clients entries.now }
 {
     for entry in entries {
         if !is_round(&entry.event) && entry.who >= clients as u64 {
@@ -56,7 +64,7 @@ fn are_of_clients(entries: &[Entry], clients: usize) -> bool
 
 /// Whether the answers of each client are its part of these entries.
 fn are_parts(entries: &[Entry], runs: &[ClientRun]) -> bool
-    ensures { IsTrue result → AreParts entries.now runs.now }
+    ensures { IsTrue result ↔ AreParts entries.now runs.now }
 {
     for who in 0..runs.len() {
         if !is_part(entries, who as u64, runs[who].answers.as_slice()) {
@@ -68,7 +76,7 @@ fn are_parts(entries: &[Entry], runs: &[ClientRun]) -> bool
 
 /// Whether these answers are a client's part of these entries.
 fn is_part(entries: &[Entry], who: u64, answers: &[(Command, Reply)]) -> bool
-    ensures { IsTrue result → answers.now ≡ part who entries.now }
+    ensures { IsTrue result ↔ (answers.now ≡ part who entries.now) }
 {
     let mut given = 0;
     for entry in entries {
@@ -84,8 +92,8 @@ fn is_part(entries: &[Entry], who: u64, answers: &[(Command, Reply)]) -> bool
 
 /// Whether an entry is a command that was answered so.
 fn is_answer(entry: &Entry, answer: &(Command, Reply)) -> bool
-    ensures { IsTrue result → (entry.now.event ≡ by_command answer.now.0)
-        × (entry.now.reply ≡ answer.now.1) }
+    ensures { IsTrue result ↔ ((entry.now.event ≡ by_command answer.now.0)
+        × (entry.now.reply ≡ answer.now.1)) }
 {
     match &entry.event {
         Event::Command(command) => {
@@ -99,7 +107,7 @@ fn is_answer(entry: &Entry, answer: &(Command, Reply)) -> bool
 /// has ended.
 fn may_stand_behind(entries: &[Entry], runs: &[ClientRun]) -> bool
     requires { AreRounds (take (length entries.now - 1) entries.now) }
-    ensures { IsTrue result → MayStandBehind runs.now entries.now }
+    ensures { IsTrue result ↔ MayStandBehind runs.now entries.now }
 {
     match entries.split_last() {
         None => true,
@@ -109,8 +117,8 @@ fn may_stand_behind(entries: &[Entry], runs: &[ClientRun]) -> bool
 
 /// Whether a failing disk has ended this client.
 fn has_failed(runs: &[ClientRun], who: u64) -> bool
-    ensures { IsTrue result → (run : Run) × (slice_get runs.now who ≡ Some run)
-        × (run.end ≡ Some by_device) }
+    ensures { IsTrue result ↔ ((run : Run) × (slice_get runs.now who ≡ Some run)
+        × (run.end ≡ Some by_device)) }
 {
     match runs.get(who as usize) {
         Some(run) => is_device(run.end),
@@ -120,7 +128,7 @@ fn has_failed(runs: &[ClientRun], who: u64) -> bool
 
 /// Whether a client was ended by a failing disk.
 fn is_device(end: Option<BookFault>) -> bool
-    ensures { IsTrue result → end ≡ Some by_device }
+    ensures { IsTrue result ↔ (end ≡ Some by_device) }
 {
     match end {
         Some(fault) => fault == BookFault::Device,
@@ -130,7 +138,7 @@ fn is_device(end: Option<BookFault>) -> bool
 
 /// Whether each runner's end is as the jobs and the entries have it.
 fn ends_hold(ends: &[RunnerEnd], turns: usize, jobs: &[Job], entries: &[Entry]) -> bool
-    ensures { IsTrue result → All (EndHolds turns jobs.now entries.now) ends.now }
+    ensures { IsTrue result ↔ All (EndHolds turns jobs.now entries.now) ends.now }
 {
     for end in ends {
         if !end_holds(*end, turns, jobs, entries) {
@@ -142,7 +150,7 @@ fn ends_hold(ends: &[RunnerEnd], turns: usize, jobs: &[Job], entries: &[Entry]) 
 
 /// Whether a runner's end is as the jobs and the entries have it.
 fn end_holds(end: RunnerEnd, turns: usize, jobs: &[Job], entries: &[Entry]) -> bool
-    ensures { IsTrue result → EndHolds turns jobs.now entries.now end }
+    ensures { IsTrue result ↔ EndHolds turns jobs.now entries.now end }
 {
     match end {
         RunnerEnd::Idle => none_runs(jobs),
@@ -153,7 +161,7 @@ fn end_holds(end: RunnerEnd, turns: usize, jobs: &[Job], entries: &[Entry]) -> b
 
 /// Whether no job runs.
 fn none_runs(jobs: &[Job]) -> bool
-    ensures { IsTrue result → NoneRuns jobs.now }
+    ensures { IsTrue result ↔ NoneRuns jobs.now }
 {
     for job in jobs {
         if matches!(job.state(), State::Running) {

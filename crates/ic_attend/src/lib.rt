@@ -17,6 +17,7 @@ pub mod laws;
 mod runner;
 mod same;
 mod signs;
+mod telling;
 mod threads;
 
 pub use attended::{Attended, ClientRun, RunnerEnd};

@@ -1,19 +1,19 @@
 //! Whether two commands, or two replies, are the same. It takes no memory.
 
-ghost use Rattle.std.specs.Prelude.{◌≡◌, IsTrue};
+ghost use Rattle.std.specs.Prelude.{◌≡◌, ◌↔◌, IsTrue};
 ghost use Rattle.ic_jobs.specs.declared.state.State.{State as JobState};
 
 use ic_jobs::{Command, Reply, ShownJob, State};
 use ic_rules::{JobName, System};
 
 fn same_name(left: &JobName, right: &JobName) -> bool
-    ensures { IsTrue result → left.now ≡ right.now }
+    ensures { IsTrue result ↔ (left.now ≡ right.now) }
 {
     left.as_bytes() == right.as_bytes()
 }
 
 fn same_system(left: &System, right: &System) -> bool
-    ensures { IsTrue result → left.now ≡ right.now }
+    ensures { IsTrue result ↔ (left.now ≡ right.now) }
 {
     ic_term::laws::equality_is_exact();
     ic_rules::laws::equality_is_exact();
@@ -21,7 +21,7 @@ fn same_system(left: &System, right: &System) -> bool
 }
 
 pub(crate) fn same_command(left: &Command, right: &Command) -> bool
-    ensures { IsTrue result → left.now ≡ right.now }
+    ensures { IsTrue result ↔ (left.now ≡ right.now) }
 {
     match left {
         Command::Submit(name, system) => match right {
@@ -49,13 +49,13 @@ pub(crate) fn same_command(left: &Command, right: &Command) -> bool
 }
 
 fn same_state(left: State, right: State) -> bool
-    ensures { IsTrue result → left ≡ right }
+    ensures { IsTrue result ↔ (left ≡ right) }
 {
     left == right
 }
 
 fn same_shown(left: &ShownJob, right: &ShownJob) -> bool
-    ensures { IsTrue result → left.now ≡ right.now }
+    ensures { IsTrue result ↔ (left.now ≡ right.now) }
 {
     ic_term::laws::equality_is_exact();
     ic_rules::laws::equality_is_exact();
@@ -67,13 +67,13 @@ fn same_shown(left: &ShownJob, right: &ShownJob) -> bool
 }
 
 fn same_line(left: &(JobName, State, u64), right: &(JobName, State, u64)) -> bool
-    ensures { IsTrue result → left.now ≡ right.now }
+    ensures { IsTrue result ↔ (left.now ≡ right.now) }
 {
     same_name(&left.0, &right.0) && same_state(left.1, right.1) && left.2 == right.2
 }
 
 fn same_lines(left: &[(JobName, State, u64)], right: &[(JobName, State, u64)]) -> bool
-    ensures { IsTrue result → left.now ≡ right.now }
+    ensures { IsTrue result ↔ (left.now ≡ right.now) }
 {
     if left.len() != right.len() {
         return false;
@@ -87,7 +87,7 @@ fn same_lines(left: &[(JobName, State, u64)], right: &[(JobName, State, u64)]) -
 }
 
 pub(crate) fn same_reply(left: &Reply, right: &Reply) -> bool
-    ensures { IsTrue result → left.now ≡ right.now }
+    ensures { IsTrue result ↔ (left.now ≡ right.now) }
 {
     match left {
         Reply::Accepted => matches!(right, Reply::Accepted),

@@ -1,10 +1,20 @@
-use Rattle.std.proofs.Common.{refl, length}
+use Rattle.std.proofs.Common.{◌≡◌, Some, refl, sym, ap, ◌∙◌, length}
+use Rattle.std.specs.Prelude.{slice_get}
 use Rattle.std.proofs.lemmas.Option.{slice_get_read}
+use Rattle.ic_attend.specs.declared.attended.ClientRun.{ClientRun}
 use Rattle.ic_attend.proofs.comparing.has_failed.Goals as goal
 
 pub returns-in-Some : goal.returns-in-Some
-returns-in-Some c = λ yes.
+returns-in-Some c =
     let runs = c.args.runs.now in
     let run = c.in-Some.run'.now in
     let found = c.in-Some.ensures.lookup in
-    (run, slice_get_read runs (length runs) c.args.who run refl found.3.0 found.1, c.is_device.ensures yes)
+    let read : slice_get runs c.args.who ≡ Some run =
+    slice_get_read runs (length runs) c.args.who run refl found.3.0 found.1 in (
+      λ yes. (run, read, c.is_device.ensures.0 yes),
+      λ has. c.is_device.ensures.1 (
+          let one : Some run ≡ Some has.0 = sym read ∙ has.1 in
+          let same : run ≡ has.0 = cc in
+          ap (λ (r : ClientRun). r.end) same ∙ has.2
+          ),
+    )

@@ -1,8 +1,5 @@
-use Rattle.std.proofs.Common.{◌≡◌, List, [], ◌∷◌, ◌++◌, Bool, true, false, ◌&&◌, not, map, ap, sym, subst, ◌∙◌, vec_items, vec_len, length, ◌+◌}
-use Rattle.std.specs.List.{AllZip}
+use Rattle.std.proofs.Common.{◌≡◌, [], ◌∷◌, ◌++◌, not, map, ap, sym, ◌∙◌, vec_items, vec_len, length, ◌+◌}
 use Rattle.std.proofs.lemmas.List.{map-append, length_push}
-use Rattle.ic_jobs.specs.declared.command.Command.{Command}
-use Rattle.ic_attend.specs.declared.attended.ClientRun.{ClientRun}
 use Rattle.ic_attend.specs.Clients.{KeepsTo}
 use Rattle.ic_attend.proofs.PartLemmas.{both_true, keeps_to, runs_more}
 use Rattle.ic_attend.proofs.threads.+start_clients.Goals as goal

@@ -1,0 +1,122 @@
+-- Where something differs, the comparison says so.
+use Rattle.std.proofs.Common.{◌≡◌, ℕ, ◌+◌, ◌<◌, ◌≤◌, suc, arith, List, [], ◌∷◌, ◌++◌, Option, Some, true, false, length, take, drop, refl, sym, ap, subst, ◌∙◌, inl, inr}
+use Rattle.std.specs.Prelude.{Result, Ok, Err, IsTrue, slice_index_or, slice_get}
+use Rattle.std.specs.Cmp.{unsigned_Decides}
+use Rattle.std.specs.List.{cons_option}
+use Rattle.std.proofs.Math.Seq.{drop-cons, get_or-append_seam}
+use Rattle.std.proofs.lemmas.Bool.{cases_lt}
+use Rattle.std.proofs.lemmas.List.{get_or_default, length_push, length-append, length-take-le, take-append-drop}
+use Rattle.ic_disk.specs.declared.disk.Disk.{Ghosts}
+use Rattle.ic_jobs.specs.declared.command.Command.{Command}
+use Rattle.ic_jobs.specs.declared.event.Event.{Event}
+use Rattle.ic_jobs.specs.declared.event.Event.TheVariants.{Command as by_command, Round}
+use Rattle.ic_jobs.specs.declared.event.Entry.{Entry}
+use Rattle.ic_jobs.specs.declared.reply.Reply.{Reply}
+use Rattle.ic_jobs.specs.Job.{JobParts}
+use Rattle.ic_slots.specs.Held.{IsHeld, the_table}
+use Rattle.ic_desk.specs.declared.fault.BookFault.TheVariants.{Device}
+use Rattle.ic_desk.specs.Entries.{is_round, AreRounds}
+use Rattle.ic_attend.specs.declared.attended.Attended.{Attended}
+use Rattle.ic_attend.specs.declared.attended.ClientRun.{ClientRun}
+use Rattle.ic_attend.specs.declared.fault.AttendFault.{AttendFault}
+use Rattle.ic_attend.specs.declared.fault.AttendFault.TheVariants.{Open, NoThread, Memory, Torn}
+use Rattle.ic_desk.specs.Book.{start_of, log_of}
+use Rattle.ic_attend.specs.Parts.{answer_to, part, AreOfClients}
+use Rattle.ic_attend.specs.Clients.{MayStandBehind}
+use Rattle.ic_attend.specs.Faults.{IfTorn, IsTorn, Differs}
+use Rattle.ic_attend.specs.OneHistory.{Agrees, IsOneHistory}
+use Rattle.ic_attend.proofs.PartLemmas.{answer_to-own, part-append, runs_counted}
+
+-- what holds of the elements before one and of it holds of those up to it
+pub one_more : {X : Type 0} (P : X → Type 0) (xs : List X) (i : ℕ) (e : X) → i < length xs
+    → ((k : ℕ) (d : X) → k < i → P (slice_index_or xs k d)) → P (slice_index_or xs i e)
+    → (k : ℕ) (d : X) → k < i + 1 → P (slice_index_or xs k d)
+one_more P xs i e within before here k d below =
+    elim (cases_lt k i) [
+      | inl h ↦ before k d h
+      | inr h ↦
+          let same : i ≡ k = omega (arith, h, below) in
+          subst (λ (n : ℕ). P (slice_index_or xs n d)) same (subst P (get_or_default xs i e d within) here)
+    ]
+
+-- an event that is no round is a command's
+pub command_of : (event : Event) → is_round event ≡ false → (c : Command) × (event ≡ by_command c)
+command_of (by_command c) is = (c, refl)
+command_of (Round name) is = absurd (let no : true ≡ false = is in cc)
+
+-- Where so many answers are the part of the entries so far, and all answers that of all entries, the
+-- next answer is that of the client's next entry.
+pub next_own : (who : ℕ) (es : List Entry) (answers : List (Command × Reply)) (i given : ℕ) (e : Entry) (c : Command)
+    → i < length es → e ≡ slice_index_or es i e → e.who ≡ who → e.event ≡ by_command c
+    → given ≤ length answers → take given answers ≡ part who (take i es) → answers ≡ part who es
+    → (given < length answers) × ((d : Command × Reply) → slice_index_or answers given d ≡ (c, e.reply))
+next_own who es answers i given e c below item own event within so whole =
+    let a : Command × Reply = (c, e.reply) in
+    let rest : List (Command × Reply) = part who (drop (suc i) es) in
+    let cut : es ≡ take i es ++ e ∷ drop (suc i) es =
+    sym (take-append-drop i es)
+    ∙ ap (λ (l : List Entry). take i es ++ l) (drop-cons es i e below ∙ ap (λ (x : Entry). x ∷ drop (suc i) es) (sym item)) in
+    let told : answer_to who e ≡ Some a = answer_to-own who e c e.reply ((unsigned_Decides e.who who).1 own) event refl in
+    let split : answers ≡ take given answers ++ a ∷ rest =
+    whole ∙ ap (part who) cut ∙ part-append who (take i es) (e ∷ drop (suc i) es)
+    ∙ ap (λ (o : Option (Command × Reply)). part who (take i es) ++ cons_option o rest) told
+    ∙ ap (λ (l : List (Command × Reply)). l ++ a ∷ rest) (sym so) in
+    let len : length (take given answers) ≡ given = length-take-le given answers within in
+    let count : length answers ≡ length (take given answers) + length (a ∷ rest) =
+    ap length split ∙ length-append (take given answers) (a ∷ rest) in
+    let short : given < length answers = omega (arith, count, len) in (
+      short,
+      λ (d : Command × Reply).
+          ap (λ (l : List (Command × Reply)). slice_index_or l given d) split
+          ∙ ap (λ (k : ℕ). slice_index_or (take given answers ++ a ∷ rest) k d) (sym len)
+          ∙ get_or-append_seam (take given answers) a rest d,
+    )
+
+-- two lists that are the same end alike
+pub same_last : (xs ys : List Entry) (x y : Entry) → xs ++ x ∷ [] ≡ ys ++ y ∷ [] → x ≡ y
+same_last xs ys x y is =
+    let n : length xs ≡ length ys = omega (arith, ap length is, length_push xs x, length_push ys y) in
+    sym (get_or-append_seam xs x [] x) ∙ ap (λ (l : List Entry). slice_index_or l (length xs) x) is
+    ∙ ap (λ (k : ℕ). slice_index_or (ys ++ y ∷ []) k x) n ∙ get_or-append_seam ys y [] x
+
+pub last_round : (front : List Entry) (last : Entry) → AreRounds (front ++ last ∷ []) → IsTrue (is_round last.event)
+last_round [] last rounds = rounds.0
+last_round (e ∷ front) last rounds = last_round front last rounds.1
+
+-- the last of what may stand behind is a round, or of a client that a failing disk has ended
+pub last_behind : (runs : List ClientRun) (es front : List Entry) (last : Entry) → es ≡ front ++ last ∷ []
+    → is_round last.event ≡ false → MayStandBehind runs es
+    → (run : ClientRun) × (slice_get runs last.who ≡ Some run) × (run.end ≡ Some Device)
+last_behind runs es front last is no_round (inl rounds) =
+    let yes : is_round last.event ≡ true = last_round front last (subst AreRounds is rounds) in absurd (let no : true ≡ false = sym yes ∙ no_round in cc)
+last_behind runs es front last is no_round (inr ends) =
+    let same : ends.last ≡ last = same_last ends.front front ends.last last (sym ends.entries ∙ is) in (
+      ends.client,
+      ap (λ (e : Entry). slice_get runs e.who) (sym same) ∙ ends.sender,
+      ends.failed,
+    )
+
+-- what is one history of scripts agrees with what was gathered
+pub agrees_of : {D : Type 0} {ghosts : Ghosts D} (opening : List JobParts) (scripts : List (List Command)) (runners turns : ℕ)
+    (a : Attended D ghosts) → start_of a.book ≡ opening → IsOneHistory scripts runners turns a → Agrees opening turns a
+agrees_of opening scripts runners turns a start history =
+    let counted = runs_counted scripts a.answers.items history.scripts_kept in
+    record {
+      start = start;
+      clients = subst (λ (n : ℕ). AreOfClients n (log_of a.book)) (sym counted) history.clients;
+      answers = history.answers;
+      behind = history.behind;
+      ends = history.ends;
+    }
+
+-- what is torn on this table is torn on the table that the disk holds
+pub torn_of : {D : Type 0} {ghosts : Ghosts D} (disk : D) (opening : List JobParts) (scripts : List (List Command))
+    (runners turns workers : ℕ) (r : Result (Attended D ghosts) (AttendFault D ghosts))
+    → (IsTrue (ghosts.keeps disk) → IsHeld (the_table opening) (ghosts.content disk))
+    → IfTorn r (Differs opening scripts runners turns workers)
+    → IfTorn r (IsTorn ghosts disk scripts runners turns workers)
+torn_of disk opening scripts runners turns workers (Ok a) held torn = tt
+torn_of disk opening scripts runners turns workers (Err (Open fault)) held torn = tt
+torn_of disk opening scripts runners turns workers (Err (NoThread a)) held torn = tt
+torn_of disk opening scripts runners turns workers (Err (Memory book)) held torn = tt
+torn_of disk opening scripts runners turns workers (Err (Torn a)) held torn = record { opening = opening; held = held; torn = torn }
