@@ -1,0 +1,4 @@
+pub mod Words
+pub mod Flat
+pub mod lemmas
+pub mod inner
