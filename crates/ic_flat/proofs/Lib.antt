@@ -1,0 +1,3 @@
+pub mod StackLemmas
+pub mod WritingLemmas
+pub mod TestingLemmas

@@ -1,2 +1,3 @@
 -- For private functions. No public clause needs what stands here.
 pub mod Stacks
+pub mod Testing

@@ -5,7 +5,15 @@
 //! `Config`. Nothing here recurses on the depth of a term.
 #![tactic(auto)]
 
+mod arities;
+mod equality;
+mod flat;
 pub mod laws;
+mod reading;
+mod testing;
 mod word;
+mod writing;
 
+pub use arities::over;
+pub use flat::Flat;
 pub use word::{Word, terms_in};

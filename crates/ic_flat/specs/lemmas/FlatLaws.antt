@@ -1,6 +1,10 @@
 -- Lemmas, which no clause is read by: configurations against the words that write them.
-use Rattle.std.specs.Prelude.{◌≡◌, ℕ, ◌+◌, ◌*◌, List, [], ◌∷◌, ◌++◌, Bool, true, false, ◌&&◌, length, take, drop, sum_by, refl}
+use Rattle.std.specs.Prelude.{◌≡◌, ℕ, ◌+◌, ◌*◌, ◌==◌, List, [], ◌∷◌, ◌++◌, Bool, true, false, ◌&&◌, length, take, drop, sum_by, refl}
 use Rattle.std.specs.List.{flat_map, list_all}
+use Rattle.std.specs.Cmp.{unsigned_Decides}
+use Rattle.std.specs.Cmp.Lexicographic.{pointwise, pointwise_decides}
+use Rattle.std.proofs.lemmas.Bool.{and_parts}
+use Rattle.std.proofs.lemmas.Bool.Decides.{same_from_decides}
 use Rattle.std.proofs.Common.{sym, ◌∙◌, ap, arith, append_assoc, zero, suc}
 use Rattle.std.proofs.lemmas.List.{length-append, length-take-le, length-drop, take-append-drop, take_at, drop_at}
 use Rattle.std.proofs.lemmas.List.Concat.{flat_map-append}
@@ -8,12 +12,13 @@ use Rattle.std.proofs.lemmas.List.Folds.{list_all-append}
 use Rattle.std.proofs.lemmas.List.Sums.{sum_by-cons, sum_by-append}
 use Rattle.ic_term.specs.Tree.{Tree, Pair, nodes, names, pair_nodes, pair_names}
 use Rattle.ic_term.specs.Symbol.{Symbol, is_tree_over, is_pair_over, is_over}
-use Rattle.ic_term.specs.Configuration.{Configuration, IsConfiguration, configuration_nodes, configuration_names}
+use Rattle.ic_term.specs.Configuration.{Configuration, IsConfiguration, configuration_nodes, configuration_names, configuration_eq}
+use Rattle.ic_term.specs.lemmas.ConfigurationEq.{configuration_eq-Decides}
 use Rattle.ic_flat.specs.declared.word.Word.{Word}
-use Rattle.ic_flat.specs.Words.{forest, IsWhole, tree_words}
+use Rattle.ic_flat.specs.Words.{forest, IsWhole, tree_words, word_eq}
 use Rattle.ic_flat.specs.Flat.{pairs_of, sides, configuration_of, configuration_words, IsFlat}
 use Rattle.ic_flat.specs.lemmas.WordLaws.{forest-words, whole-words, words-forest, nodes-forest}
-use Rattle.ic_flat.specs.lemmas.WordTests.{word_names, names-forest, is_word_over, over-forest}
+use Rattle.ic_flat.specs.lemmas.WordTests.{word_names, names-forest, is_word_over, over-forest, word_eq-Decides}
 
 -- ---- sides and equations
 
@@ -120,3 +125,42 @@ IsFlat-configuration_words c sound = record {
   counted = counted-configuration_words c;
   sound = rw (configuration_of-words c) sound;
 }
+
+-- a configuration is over symbols where its words are
+pub over-words : (ss : List Symbol) (c : Configuration) → list_all (is_word_over ss) (configuration_words c) ≡ is_over ss c
+over-words ss c =
+    sym (over-configuration_of (configuration_words c) (length c.interface) (length c.equations) c.next (counted-configuration_words c) ss (whole-words (all_terms c)))
+    ∙ ap (is_over ss) (configuration_of-words c)
+
+-- ---- equality
+
+-- whether two configurations have the same words, as many terms in their interfaces, and the same `next`
+abbrev pub same_words : Configuration → Configuration → Bool
+same_words c d =
+    c.next == d.next && length c.interface == length d.interface && pointwise word_eq (configuration_words c) (configuration_words d)
+
+same_words-true : (c d : Configuration) → same_words c d ≡ true → c ≡ d
+same_words-true c d e =
+    let last = and_parts (c.next == d.next && length c.interface == length d.interface) (pointwise word_eq (configuration_words c) (configuration_words d)) e in
+    let first = and_parts (c.next == d.next) (length c.interface == length d.interface) last.0 in
+    let next = (unsigned_Decides c.next d.next).0 first.0 in
+    let terms = (unsigned_Decides (length c.interface) (length d.interface)).0 first.1 in
+    let words = (pointwise_decides word_eq-Decides (configuration_words c) (configuration_words d)).0 last.1 in
+    sym (configuration_of-words c) ∙ (λ i. configuration_of (words i) (terms i) (next i)) ∙ configuration_of-words d
+
+same_words-refl : (c : Configuration) → same_words c c ≡ true
+same_words-refl c =
+    rw ((unsigned_Decides c.next c.next).1 refl, (unsigned_Decides (length c.interface) (length c.interface)).1 refl)
+    ((pointwise_decides word_eq-Decides (configuration_words c) (configuration_words c)).1 refl)
+
+same_words-is : (c d : Configuration) → same_words c d ≡ configuration_eq c d
+same_words-is c d =
+    same_from_decides (same_words c d) (configuration_eq c d) (same_words-true c d, λ e. ap (same_words c) (sym e) ∙ same_words-refl c) (configuration_eq-Decides c d)
+
+-- where `next` and the terms of the interface agree, the words tell whether they are the same
+pub word_eq-configuration_eq : (c d : Configuration) → c.next ≡ d.next → length c.interface ≡ length d.interface
+    → pointwise word_eq (configuration_words c) (configuration_words d) ≡ configuration_eq c d
+word_eq-configuration_eq c d next terms =
+    let same_next = (unsigned_Decides c.next d.next).1 next in
+    let same_terms = (unsigned_Decides (length c.interface) (length d.interface)).1 terms in
+    sym (λ i. same_next i && same_terms i && pointwise word_eq (configuration_words c) (configuration_words d)) ∙ same_words-is c d

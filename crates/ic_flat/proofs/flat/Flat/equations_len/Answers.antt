@@ -1,0 +1,7 @@
+use Rattle.std.proofs.Common.{sym}
+use Rattle.ic_flat.specs.lemmas.FlatLaws.{length-equations}
+use Rattle.ic_flat.proofs.flat.Flat.equations_len.Goals as goal
+
+pub returns-clause-equations : goal.returns-clause-equations
+returns-clause-equations c =
+    let f = c.self.inside in rw (← c.self.view_is) (sym (length-equations f.words.items f.terms f.equations f.next c.self.invariant.counted))
