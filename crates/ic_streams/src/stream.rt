@@ -62,7 +62,7 @@ pub fn once_stream<R: Read, W: Write>(
 }
 
 /// All that the reader has, or its first 262,145 bytes.
-fn read_text<R: Read>(alloc: Global, reader: &mut R) -> Result<Vec<u8>, StreamFault>
+pub fn read_text<R: Read>(alloc: Global, reader: &mut R) -> Result<Vec<u8>, StreamFault>
     ensures text { IfOk result
         (λ text. TakesIt text.items (R.remaining reader.old) (R.remaining reader.new)) }
     ensures some { OnErr result (TakesSome (R.remaining reader.old) (R.remaining reader.new)) }
@@ -111,7 +111,7 @@ fn once_line(alloc: Global, text: &[u8]) -> Result<Vec<u8>, StreamFault>
 }
 
 /// The line of a configuration.
-fn config_line(alloc: Global, symbols: &Symbols, config: &Config) -> Result<Vec<u8>, AllocError>
+pub fn config_line(alloc: Global, symbols: &Symbols, config: &Config) -> Result<Vec<u8>, AllocError>
     requires { IsTrue (is_over symbols.now config.now) }
     ensures { IfOk result (λ line. line.items ≡ line_of symbols.now config.now) }
 {
@@ -121,7 +121,7 @@ fn config_line(alloc: Global, symbols: &Symbols, config: &Config) -> Result<Vec<
 }
 
 /// Writes a line and flushes it.
-fn write_line<W: Write>(writer: &mut W, line: &[u8]) -> Result<(), StreamFault>
+pub fn write_line<W: Write>(writer: &mut W, line: &[u8]) -> Result<(), StreamFault>
     ensures written { OnOk result
         (Appends (W.contents writer.old) (W.contents writer.new) line.now) }
     ensures refused { IfErr result (λ fault. fault ≡ StreamFault.Write) }

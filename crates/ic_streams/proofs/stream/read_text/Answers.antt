@@ -1,6 +1,6 @@
 use Rattle.std.proofs.Common.{arith}
 use Rattle.std.proofs.lemmas.List.{length-take}
-use Rattle.ic_streams.proofs.Reading.{taken_more}
+use Rattle.ic_streams.specs.lemmas.Reading.{taken_more}
 use Rattle.ic_streams.proofs.stream.read_text.Goals as goal
 
 pub returns-in_err-extend_from_slice-in-Ok-clause-some : goal.returns-in_err-extend_from_slice-in-Ok-clause-some

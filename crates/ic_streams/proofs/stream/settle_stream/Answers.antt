@@ -1,5 +1,5 @@
 use Rattle.ic_streams.specs.Streams.{Settles}
-use Rattle.ic_streams.proofs.Reading.{settles_carried, refused_of_taken, unread, written_of_taken}
+use Rattle.ic_streams.specs.lemmas.Reading.{settles_carried, refused_of_taken, unread, written_of_taken}
 use Rattle.ic_streams.proofs.stream.settle_stream.Goals as goal
 
 pub returns-in_err-text-clause-answered : goal.returns-in_err-text-clause-answered

@@ -22,13 +22,27 @@ taken_more (Err e) a b c xs ys p q bound = (xs ++ ys, Consumes-trans a b c xs ys
 
 -- a text is read as this front of it is, where the front is too long, or the whole text
 module _ {P V : Type 0} (SpellsOne : List ℕ → P → Type 0) (sense : P → Result V TextFault) where
-  read_as : (front rest : List ℕ) → (length front ≤ MAX_TEXT → rest ≡ []) → (answer : Result V TextFault)
+  pub read_as : (front rest : List ℕ) → (length front ≤ MAX_TEXT → rest ≡ []) → (answer : Result V TextFault)
       → IsReading SpellsOne sense front answer → IsReading SpellsOne sense (front ++ rest) answer
   read_as front rest end answer reads = elim (cases_lt MAX_TEXT (length front)) [
     | inl long ↦ (let more : MAX_TEXT < length (front ++ rest) = rw length-append (omega arith) in
         record { long = λ _. reads.long long; spelled = λ fits. absurd (omega arith); malformed = λ fits. absurd (omega arith) })
     | inr fits ↦ (let whole : front ++ rest ≡ front = ap (λ r. front ++ r) (end fits) ∙ append-nil front in rw whole reads)
   ]
+
+-- what is so of a front that was taken is so of the text that it is a front of
+abbrev pub OfFronts : (List ℕ → Type 0) → Type 0
+OfFronts Holds = (front rest : List ℕ) → (length front ≤ MAX_TEXT → rest ≡ []) → Holds front → Holds (front ++ rest)
+
+pub of_front : (Holds : List ℕ → Type 0) → OfFronts Holds → (old new : Option (List ℕ)) (front : List ℕ) → TakesIt front old new → Holds front → OfText old Holds
+of_front Holds law None new front takes h = (front, h)
+of_front Holds law (Some text) None front takes h = absurd takes.0
+of_front Holds law (Some text) (Some rest) front takes h = rw takes.0 (law front rest takes.2 h)
+
+-- what is so of each text
+pub of_each : (Holds : List ℕ → Type 0) → ((text : List ℕ) → Holds text) → (old : Option (List ℕ)) → OfText old Holds
+of_each Holds all None = ([], all [])
+of_each Holds all (Some text) = all text
 
 -- what answers the front answers the text
 abbrev Carries : Answering → List ℕ → List ℕ → Type 0
@@ -62,17 +76,15 @@ fault_as Answers front text Memory same f = tt
 fault_as Answers front text Write same f = (f.0, same _ f.1)
 
 module _ (Answers : Answering) {T : Type 0} where
-  answered_as : (r : Result T StreamFault) (front text : List ℕ) (before after : Option (List ℕ)) → Carries Answers front text
+  pub answered_as : (r : Result T StreamFault) (front text : List ℕ) (before after : Option (List ℕ)) → Carries Answers front text
       → IsAnswered Answers front r before after → IsAnswered Answers text r before after
   answered_as (Ok v) front text before after same a = record { written = (a.written.0, same _ a.written.1, a.written.2); refused = tt }
   answered_as (Err e) front text before after same a = record { written = tt; refused = fault_as Answers front text e same a.refused }
 
-  of_taken : Carried Answers → (r : Result T StreamFault) (old new before after : Option (List ℕ)) (front : List ℕ) → TakesIt front old new
+  pub of_taken : Carried Answers → (r : Result T StreamFault) (old new before after : Option (List ℕ)) (front : List ℕ) → TakesIt front old new
       → IsAnswered Answers front r before after → OfText old (λ text. IsAnswered Answers text r before after)
-  of_taken law r None new before after front takes a = (front, a)
-  of_taken law r (Some text) None before after front takes a = absurd takes.0
-  of_taken law r (Some text) (Some rest) before after front takes a =
-      rw takes.0 (answered_as r front (front ++ rest) before after (law front rest takes.2) a)
+  of_taken law r old new before after front takes a =
+      of_front (λ text. IsAnswered Answers text r before after) (λ front rest end h. answered_as r front (front ++ rest) before after (law front rest end) h) old new front takes a
 
   -- ---- by what the calls answered
 
@@ -80,14 +92,10 @@ module _ (Answers : Answering) {T : Type 0} where
   pub unread : (r : Result T StreamFault) (old before after : Option (List ℕ)) (fault : StreamFault) → IsErrAnd r (λ e. e ≡ fault) → (fault ≡ Read) ⊎ (fault ≡ Memory)
       → OfText old (λ text. IsAnswered Answers text r before after)
   unread (Ok v) old before after fault fails which = absurd fails
-  unread (Err e) old before after fault fails which = of_any old (λ text. record { written = tt; refused = says text })
+  unread (Err e) old before after fault fails which = of_each (λ text. IsAnswered {T = T} Answers text (Err e) before after) (λ text. record { written = tt; refused = says text }) old
     where
       says : (text : List ℕ) → FaultOf Answers text e
       says text = rw fails (⊎_elim (λ is. rw is tt) (λ is. rw is tt) which)
-
-      of_any : (old : Option (List ℕ)) → ((text : List ℕ) → IsAnswered {T = T} Answers text (Err e) before after) → OfText old (λ text. IsAnswered {T = T} Answers text (Err e) before after)
-      of_any None all = ([], all [])
-      of_any (Some text) all = all text
 
   -- the text that was read is refused
   pub refused_of_taken : Carried Answers → (r : Result T StreamFault) (old new before after : Option (List ℕ)) (front seen : List ℕ) (fault : StreamFault)
