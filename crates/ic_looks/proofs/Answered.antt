@@ -1,0 +1,66 @@
+-- What answers the front of a text that was taken answers the text.
+use Rattle.std.proofs.Common.{◌≡◌, ◌⊎◌, ⊎_elim, ℕ, List, [], ◌++◌, Option, Result, Ok, Err, OnErr, length}
+use Rattle.std.specs.Prelude.{IfOk, IfErr, OnOk}
+use Rattle.std.specs.Result.{IsErrAnd}
+use Rattle.std.specs.Io.KnownBytes.{Appends}
+use Rattle.ic_streams.specs.Streams.{Answering, FaultOf, IsAnswered, OfText, TakesIt}
+use Rattle.ic_streams.specs.lemmas.Reading.{Carried, OfFronts, answered_as, of_each, of_front, read_as}
+use Rattle.ic_streams.specs.declared.fault.StreamFault.{StreamFault}
+use Rattle.ic_streams.specs.declared.fault.StreamFault.TheVariants.{Read, Text, Round, Memory, Write}
+use Rattle.ic_looks.specs.Reductions.{EndsAs, Reduces}
+use Rattle.ic_looks.specs.declared.reduction.Reduction.{Reduction}
+
+reduces_carried : (most : ℕ) → Carried (Reduces most)
+reduces_carried most front rest end (Ok line) s =
+    record { system = s.system; rounds = s.rounds; reads = read_as _ _ front rest end _ s.reads; reduced = s.reduced; prints = s.prints }
+reduces_carried most front rest end (Err (Text fault)) s = (read_as _ _ front rest end _ s.0, s.1)
+reduces_carried most front rest end (Err (Round fault)) s = record { system = s.system; rounds = s.rounds; reads = read_as _ _ front rest end _ s.reads; refused = s.refused }
+reduces_carried most front rest end (Err Read) s = absurd s
+reduces_carried most front rest end (Err Memory) s = absurd s
+reduces_carried most front rest end (Err Write) s = absurd s
+
+ends_carried : (most : ℕ) (reduction : Reduction) → OfFronts (λ text. EndsAs most text reduction)
+ends_carried most reduction front rest end s =
+    record { system = s.system; rounds = s.rounds; reads = read_as _ _ front rest end _ s.reads; reduced = s.reduced; told = s.told }
+
+module _ (most : ℕ) where
+  -- a text is answered, and how its rounds ended is told
+  abbrev pub Told : Result Reduction StreamFault → (before after : Option (List ℕ)) → List ℕ → Type 0
+  Told r before after text = IsAnswered (Reduces most) text r before after × IfOk r (EndsAs most text)
+
+  told_carried : (r : Result Reduction StreamFault) (before after : Option (List ℕ)) → OfFronts (Told r before after)
+  told_carried (Ok reduction) before after front rest end told =
+      (answered_as (Reduces most) (Ok reduction) front (front ++ rest) before after (reduces_carried most front rest end) told.0, ends_carried most reduction front rest end told.1)
+  told_carried (Err fault) before after front rest end told =
+      (answered_as (Reduces most) (Err fault) front (front ++ rest) before after (reduces_carried most front rest end) told.0, tt)
+
+  -- no text was read
+  pub unread : (r : Result Reduction StreamFault) (old before after : Option (List ℕ)) (fault : StreamFault) → IsErrAnd r (λ e. e ≡ fault)
+      → (fault ≡ Read) ⊎ (fault ≡ Memory) → OfText old (Told r before after)
+  unread (Ok v) old before after fault fails which = absurd fails
+  unread (Err e) old before after fault fails which = of_each (Told (Err e) before after) (λ text. (record { written = tt; refused = says text }, tt)) old
+    where
+      says : (text : List ℕ) → FaultOf (Reduces most) text e
+      says text = rw fails (⊎_elim (λ is. rw is tt) (λ is. rw is tt) which)
+
+  -- the text that was read is refused
+  pub refused_of_taken : (r : Result Reduction StreamFault) (old new before after : Option (List ℕ)) (front seen : List ℕ) (fault : StreamFault)
+      → TakesIt front old new → seen ≡ front → FaultOf (Reduces most) seen fault → IsErrAnd r (λ e. e ≡ fault) → OfText old (Told r before after)
+  refused_of_taken (Ok v) old new before after front seen fault takes is refused fails = absurd fails
+  refused_of_taken (Err e) old new before after front seen fault takes is refused fails =
+      of_front (Told (Err e) before after) (told_carried (Err e) before after) old new front takes (record { written = tt; refused = rw fails (rw is at refused) }, tt)
+
+  -- its line couldn't be written
+  pub unwritten_of_taken : (r : Result Reduction StreamFault) (old new before after : Option (List ℕ)) (front seen line : List ℕ) (fault : StreamFault)
+      → TakesIt front old new → seen ≡ front → Reduces most seen (Ok line) → fault ≡ Write → IsErrAnd r (λ e. e ≡ fault) → OfText old (Told r before after)
+  unwritten_of_taken (Ok v) old new before after front seen line fault takes is has write fails = absurd fails
+  unwritten_of_taken (Err e) old new before after front seen line fault takes is has write fails =
+      of_front (Told (Err e) before after) (told_carried (Err e) before after) old new front takes (record { written = tt; refused = rw fails (rw write (line, rw is at has)) }, tt)
+
+  -- its line is written
+  pub written_of_taken : (reduction : Reduction) (old new before after : Option (List ℕ)) (front seen line given : List ℕ)
+      → TakesIt front old new → seen ≡ front → Reduces most seen (Ok line) → EndsAs most seen reduction → given ≡ line → Appends before after given
+      → OfText old (Told (Ok reduction) before after)
+  written_of_taken reduction old new before after front seen line given takes is has ends same appends =
+      of_front (Told (Ok reduction) before after) (told_carried (Ok reduction) before after) old new front takes
+      (record { written = (line, rw is at has, rw same at appends); refused = tt }, rw is at ends)

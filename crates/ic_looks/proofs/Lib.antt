@@ -1,0 +1,4 @@
+pub mod Rounds
+pub mod Reductions
+pub mod Symbols
+pub mod Answered

@@ -1,0 +1,28 @@
+-- Rounds that are made one after the other, and what the answer of a round says of them.
+use Rattle.std.proofs.Common.{◌≡◌, ◌&&◌, ℕ, ◌+◌, ◌<◌, List, Bool, true, false, Ok, Err, cond, refl, arith}
+use borrow.Author.Count.{below_more}
+use Rattle.ic_term.specs.Configuration.{Configuration}
+use Rattle.ic_rules.specs.Rule.{Rule}
+use Rattle.ic_round.specs.Rounds.{IsQuiet, fits, is_small, has_names, iterate, round, unless_unfit}
+use Rattle.ic_round.specs.RoundAnswers.{Answers}
+use Rattle.ic_round.specs.declared.round_fault.RoundFault.TheVariants.{Overgrown, NamesOut}
+use Rattle.ic_looks.specs.Reducing.{AreMade}
+
+pub none_made : (rs : List Rule) (c : Configuration) → AreMade rs c 0
+none_made rs c = record { going = λ n low. absurd (omega arith); fitting = λ n low. absurd (omega arith) }
+
+pub one_more_made : (rs : List Rule) (c : Configuration) (n : ℕ) → AreMade rs c n → ¬ IsQuiet rs (iterate rs n c) → fits rs (iterate rs n c) ≡ true → AreMade rs c (n + 1)
+one_more_made rs c n made going fit =
+    let Going : ℕ → Type 0 = λ k. ¬ IsQuiet rs (iterate rs k c) in
+    let Fitting : ℕ → Type 0 = λ k. fits rs (iterate rs k c) ≡ true in
+    record { going = below_more Going n made.going going; fitting = below_more Fitting n made.fitting fit }
+
+-- ---- what a round answers
+
+fits_by : {T : Type 0} (small named : Bool) (a b : T) → Ok a ≡ cond small (cond named (Ok b) (Err NamesOut)) (Err Overgrown) → (small && named) ≡ true
+fits_by true true a b e = refl
+fits_by true false a b e = cc
+fits_by false named a b e = cc
+
+pub answered_fits : (rs : List Rule) (c after : Configuration) → Answers (Ok after) (unless_unfit rs c (round rs c)) → fits rs c ≡ true
+answered_fits rs c after e = fits_by (is_small rs c) (has_names rs c) after (round rs c) e

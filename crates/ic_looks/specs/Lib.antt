@@ -1,0 +1,4 @@
+pub mod Reducing
+pub mod Stuck
+pub mod Reductions
+pub mod inner

@@ -1,0 +1,27 @@
+-- Reducing a configuration: rounds up to the first one in which no step is possible, or as many as
+-- may be made (this project's choice).
+use Rattle.std.specs.Prelude.{◌≡◌, ℕ, suc, ◌<◌, ◌≤◌, ◌⊎◌, List, Err, true}
+use Rattle.ic_term.specs.Configuration.{Configuration}
+use Rattle.ic_rules.specs.Rule.{Rule}
+use Rattle.ic_round.specs.Rounds.{IsQuiet, fits, iterate, unless_unfit}
+use Rattle.ic_round.specs.declared.round_fault.RoundFault.{RoundFault}
+
+-- So many rounds are made: each begins where a step is possible, at a configuration that fits.
+pub record AreMade (rs : List Rule) (c : Configuration) (rounds : ℕ) : Type 0 where
+  pub going : (n : ℕ) → n < rounds → ¬ IsQuiet rs (iterate rs n c)
+  pub fitting : (n : ℕ) → n < rounds → fits rs (iterate rs n c) ≡ true
+
+-- Of at most so many rounds these are made. Behind them no step is possible, or no round is left.
+pub record IsReducedBy (rs : List Rule) (c : Configuration) (most rounds : ℕ) : Type 0 where
+  pub within : rounds ≤ most
+  pub made : AreMade rs c rounds
+  pub ended : (rounds ≡ most) ⊎ IsQuiet rs (iterate rs rounds c)
+
+-- Of at most so many rounds these are made. Behind them a step is possible and a round is left,
+-- which is refused.
+pub record IsRefusedAfter (rs : List Rule) (c : Configuration) (most rounds : ℕ)
+    (fault : RoundFault) : Type 0 where
+  pub left : rounds < most
+  pub made : AreMade rs c rounds
+  pub going : ¬ IsQuiet rs (iterate rs rounds c)
+  pub refused : unless_unfit rs (iterate rs rounds c) (iterate rs (suc rounds) c) ≡ Err fault

@@ -1,0 +1,70 @@
+//! Laws of the definitions that the contracts of this crate cite.
+
+ghost use Rattle.std.specs.Prelude.{◌≡◌, ◌↔◌, ◌⊎◌, ℕ, ◌+◌, ◌≤◌, List, None, Some, false};
+ghost use Rattle.std.specs.List.{AllByRecursion, find};
+ghost use Rattle.ic_term.specs.Tree.{Pair};
+ghost use Rattle.ic_term.specs.Configuration.{Configuration};
+ghost use Rattle.ic_term.specs.Symbol.{Symbol};
+ghost use Rattle.ic_rules.specs.Rule.{Rule};
+ghost use Rattle.ic_round.specs.Firing.{rule_of_sides};
+ghost use Rattle.ic_round.specs.Rounds.{IsQuiet, iterate};
+ghost use Rattle.ic_round.specs.declared.round_fault.RoundFault.{RoundFault};
+ghost use Rattle.ic_looks.specs.Reducing.{IsReducedBy, IsRefusedAfter};
+ghost use Rattle.ic_looks.specs.Stuck.{is_of_agents, stuck_text};
+
+/// Where no step is possible, rounds change nothing. So what is reached by reducing is what all the
+/// rounds that may be made would reach.
+pub fn quiet_configurations_stay()
+    ensures quiet { (rs : List Rule) (c : Configuration) (n : ℕ)
+        → IsQuiet rs c → iterate rs n c ≡ c }
+    ensures reduced { (rs : List Rule) (c : Configuration) (most rounds : ℕ)
+        → IsReducedBy rs c most rounds → iterate rs rounds c ≡ iterate rs most c }
+{}
+
+/// What is reached is quiet exactly where one of the configurations up to the last round is, and no
+/// fewer rounds reach a quiet one.
+pub fn the_first_quiet_one_is_reached()
+    ensures quiet { (rs : List Rule) (c : Configuration) (most rounds : ℕ)
+        → IsReducedBy rs c most rounds → IsQuiet rs (iterate rs rounds c)
+        ↔ ((n : ℕ) × (n ≤ most) × IsQuiet rs (iterate rs n c)) }
+    ensures least { (rs : List Rule) (c : Configuration) (most rounds n : ℕ)
+        → IsReducedBy rs c most rounds → IsQuiet rs (iterate rs n c) → rounds ≤ n }
+{}
+
+/// A configuration is reduced by at most so many rounds, or one of them is refused; not both, and in
+/// one way only.
+pub fn one_way_of_reducing()
+    ensures some { (rs : List Rule) (c : Configuration) (most : ℕ)
+        → ((rounds : ℕ) × IsReducedBy rs c most rounds)
+        ⊎ ((rounds : ℕ) × (fault : RoundFault) × IsRefusedAfter rs c most rounds fault) }
+    ensures rounds { (rs : List Rule) (c : Configuration) (most m n : ℕ)
+        → IsReducedBy rs c most m → IsReducedBy rs c most n → m ≡ n }
+    ensures fault { (rs : List Rule) (c : Configuration) (most m n : ℕ) (e f : RoundFault)
+        → IsRefusedAfter rs c most m e → IsRefusedAfter rs c most n f → (m ≡ n) × (e ≡ f) }
+    ensures apart { (rs : List Rule) (c : Configuration) (most m n : ℕ) (fault : RoundFault)
+        → IsReducedBy rs c most m → ¬ IsRefusedAfter rs c most n fault }
+{}
+
+/// Reducing by at most so many rounds and then by at most so many more is reducing by at most their
+/// sum, and what is refused is refused in one go too.
+pub fn reducing_goes_on()
+    ensures reduced { (rs : List Rule) (c : Configuration) (most more m n : ℕ)
+        → IsReducedBy rs c most m → IsReducedBy rs (iterate rs m c) more n
+        → IsReducedBy rs c (most + more) (m + n) }
+    ensures refused { (rs : List Rule) (c : Configuration) (most more m n : ℕ) (fault : RoundFault)
+        → IsReducedBy rs c most m → IsRefusedAfter rs (iterate rs m c) more n fault
+        → IsRefusedAfter rs c (most + more) (m + n) fault }
+    ensures refused_at_once { (rs : List Rule) (c : Configuration) (most more m : ℕ)
+        (fault : RoundFault) → IsRefusedAfter rs c most m fault
+        → IsRefusedAfter rs c (most + more) m fault }
+{}
+
+/// Where no step is possible, the first equation of two agents has no rule; and none is told where
+/// each equation has a name as a side.
+pub fn stuck_pairs_have_no_rule()
+    ensures no_rule { (rs : List Rule) (c : Configuration) (p : Pair) → IsQuiet rs c
+        → find is_of_agents c.equations ≡ Some p → rule_of_sides rs p.left p.right ≡ None }
+    ensures none { (symbols : List Symbol) (c : Configuration)
+        → (stuck_text symbols c ≡ None)
+        ↔ AllByRecursion (λ p. is_of_agents p ≡ false) c.equations }
+{}

@@ -1,0 +1,58 @@
+//! Rounds of a configuration until no step is possible.
+
+ghost use Rattle.std.specs.Prelude.{◌≡◌, ◌≢◌, ◌↔◌, ℕ, IsTrue, IfOk, IfErr};
+ghost use Rattle.ic_term.specs.Symbol.{is_over};
+ghost use Rattle.ic_round.specs.Rounds.{IsQuiet, iterate};
+ghost use Rattle.ic_looks.specs.Reducing.{IsReducedBy, IsRefusedAfter};
+
+use ic_round::{RoundFault, quiet, round};
+use ic_rules::RuleSet;
+use ic_term::Config;
+use std::alloc::Global;
+
+/// A configuration that was reduced.
+#[derive(Debug, Drop)]
+pub struct Reduced {
+    /// The configuration behind the rounds.
+    pub config: Config,
+    /// How many rounds were made.
+    pub rounds: u64,
+    /// Whether no step is possible in it.
+    pub is_quiet: bool,
+}
+
+/// Makes rounds of a configuration until no step is possible, but at most so many.
+pub fn reduce(
+    alloc: Global,
+    rules: &RuleSet,
+    mut config: Config,
+    most: u64,
+) -> Result<Reduced, RoundFault>
+    requires { IsTrue (is_over rules.now.symbols config) }
+    ensures reduced { IfOk result
+        (λ reduced. IsReducedBy rules.now.rules config most reduced.rounds) }
+    ensures after { IfOk result
+        (λ reduced. reduced.config ≡ iterate rules.now.rules reduced.rounds config) }
+    ensures quiet { IfOk result
+        (λ reduced. IsTrue reduced.is_quiet ↔ IsQuiet rules.now.rules reduced.config) }
+    ensures over { IfOk result (λ reduced. IsTrue (is_over rules.now.symbols reduced.config)) }
+    ensures refused { IfErr result (λ fault. fault ≢ RoundFault.Memory
+        → (rounds : ℕ) × IsRefusedAfter rules.now.rules config most rounds fault) }
+{
+    for rounds in 0..most {
+        if quiet(rules, &config) {
+            return Ok(Reduced {
+                config,
+                rounds,
+                is_quiet: true,
+            });
+        }
+        config = round(alloc, rules, config)?;
+    }
+    let is_quiet = quiet(rules, &config);
+    Ok(Reduced {
+        config,
+        rounds: most,
+        is_quiet,
+    })
+}

@@ -1,0 +1,79 @@
+//! Reducing what a reader gives.
+
+ghost use Rattle.std.specs.Prelude.{◌≡◌, ◌≢◌, ◌↔◌, Ok, IfOk, IfErr, IsTrue, OnOk};
+ghost use Rattle.std.specs.Io.KnownBytes.{Keeps};
+ghost use Rattle.ic_term.specs.Symbol.{is_over};
+ghost use Rattle.ic_round.specs.Rounds.{IsQuiet};
+ghost use Rattle.ic_streams.specs.Streams.{OfText, IsAnswered, FaultOf, TakesAt, TakesText};
+ghost use Rattle.ic_looks.specs.Reductions.{Reduces, EndsAs, Tells};
+
+use crate::reducing::{Reduced, reduce};
+use crate::reduction::Reduction;
+use crate::stuck::stuck_text;
+use ic_rules::RuleSet;
+use ic_streams::{StreamFault, config_line, read_text, write_line};
+use ic_text::read_system;
+use std::alloc::{AllocError, Global};
+use std::io::{Read, Write};
+
+/// Makes rounds of the system that the reader gives until no step is possible, but at most so many,
+/// and writes its configuration as a line.
+///
+/// Nothing is written before the text is read and the rounds are made. A text of more than 262,144 bytes is
+/// `TextFault::Limit`, and at most 262,145 bytes are read.
+pub fn reduce_stream<R: Read, W: Write>(
+    alloc: Global,
+    rounds: u64,
+    reader: &mut R,
+    writer: &mut W,
+) -> Result<Reduction, StreamFault>
+    // There is a text of which this holds: the reader's, where it tells its bytes.
+    ensures answered { OfText (R.remaining reader.old)
+        (λ text. IsAnswered (Reduces rounds) text result
+        (W.contents writer.old) (W.contents writer.new) × IfOk result (EndsAs rounds text)) }
+    ensures silent { IfErr result (λ fault. fault ≢ StreamFault.Write
+        → Keeps (W.contents writer.old) (W.contents writer.new)) }
+    ensures taken { OnOk result (TakesText (R.remaining reader.old) (R.remaining reader.new)) }
+    ensures taken_at_fault { IfErr result
+        (λ fault. TakesAt fault (R.remaining reader.old) (R.remaining reader.new)) }
+{
+    let text = read_text(alloc, reader)?;
+    let (line, reduction) = reduced_line(alloc, &text, rounds)?;
+    write_line(writer, &line)?;
+    Ok(reduction)
+}
+
+/// The line of a text that is reduced by at most so many rounds, and how they ended.
+fn reduced_line(
+    alloc: Global,
+    text: &[u8],
+    rounds: u64,
+) -> Result<(Vec<u8>, Reduction), StreamFault>
+    ensures line { IfOk result (λ answer. Reduces rounds text.now (Ok answer.0.items)) }
+    ensures ended { IfOk result (λ answer. EndsAs rounds text.now answer.1) }
+    ensures refused { IfErr result (λ fault. FaultOf (Reduces rounds) text.now fault) }
+    ensures sort { IfErr result
+        (λ fault. (fault ≢ StreamFault.Write) × (fault ≢ StreamFault.Read)) }
+{
+    let (rules, config) = read_system(alloc, text)?.into_parts();
+    let reduced = reduce(alloc, &rules, config, rounds)?;
+    let line = config_line(alloc, rules.symbols(), &reduced.config)?;
+    let reduction = ending(alloc, &rules, &reduced)?;
+    Ok((line, reduction))
+}
+
+/// How the rounds of a configuration that was reduced ended.
+fn ending(alloc: Global, rules: &RuleSet, reduced: &Reduced) -> Result<Reduction, AllocError>
+    requires over { IsTrue (is_over rules.now.symbols reduced.now.config) }
+    requires quiet { IsTrue reduced.now.is_quiet ↔ IsQuiet rules.now.rules reduced.now.config }
+    ensures { IfOk result (Tells rules.now reduced.now.rounds reduced.now.config) }
+{
+    if !reduced.is_quiet {
+        return Ok(Reduction::NotDone);
+    }
+    let stuck = stuck_text(alloc, rules.symbols(), &reduced.config)?;
+    Ok(Reduction::Done {
+        rounds: reduced.rounds,
+        stuck,
+    })
+}
