@@ -1,0 +1,62 @@
+"""Runs the trials of the built program, as many side by side as there are processors: python3 trials [WORD..], where only
+those are run in whose name each word stands. The last line is `N passed, M failed`."""
+
+import os
+import sys
+import time
+import unittest
+from concurrent.futures import ProcessPoolExecutor, as_completed
+from pathlib import Path
+
+HERE = Path(__file__).resolve().parent
+sys.path.insert(0, str(HERE))
+sys.dont_write_bytecode = True
+
+from program import PROGRAM, SEED  # noqa: E402
+
+
+def trials_in(suite):
+    for it in suite:
+        if isinstance(it, unittest.TestSuite):
+            yield from trials_in(it)
+        else:
+            yield it
+
+
+def found(words):
+    """The names of the trials, those that take longest first."""
+    all_of_them = list(trials_in(unittest.defaultTestLoader.discover(str(HERE), top_level_dir=str(HERE))))
+    all_of_them.sort(key=lambda it: -getattr(it, "seconds", 1))
+    return [it.id() for it in all_of_them if all(word in it.id() for word in words)]
+
+
+def tried(name):
+    """Runs one trial: how long it took, how it went and what there is to say of it."""
+    began = time.monotonic()
+    result = unittest.TestResult()
+    unittest.defaultTestLoader.loadTestsFromName(name).run(result)
+    faults = [text for _, text in result.errors + result.failures]
+    skipped = [reason for _, reason in result.skipped]
+    how = "FAILED" if faults else "skipped" if skipped else "ok"
+    return name, time.monotonic() - began, how, "\n".join(faults or skipped)
+
+
+def main(words):
+    print(f"trials: {PROGRAM}, SEED={SEED} (set it to draw the same again)", flush=True)
+    if not os.access(PROGRAM, os.X_OK):
+        print("trials: it isn't there: ./icserve --version proves and builds it, and so does rt ci\n0 passed, 1 failed")
+        return 1
+    counts = {"ok": 0, "FAILED": 0, "skipped": 0}
+    with ProcessPoolExecutor(len(os.sched_getaffinity(0))) as pool:
+        for done in as_completed([pool.submit(tried, name) for name in found(words)]):
+            name, seconds, how, text = done.result()
+            counts[how] += 1
+            print(f"trials: {name}: {how}, {seconds:.1f} s{': ' + text if text else ''}", flush=True)
+    if counts["skipped"]:
+        print(f"trials: {counts['skipped']} skipped, as said above")
+    print(f"{counts['ok']} passed, {counts['FAILED']} failed")
+    return 1 if counts["FAILED"] or not counts["ok"] else 0
+
+
+if __name__ == "__main__":
+    sys.exit(main(sys.argv[1:]))

@@ -1,0 +1,210 @@
+"""How a trial starts the built program, feeds it, stops it and looks at what came. A trial that fails prints the command,
+what was wanted and what came."""
+
+import os
+import random
+import select
+import shlex
+import shutil
+import signal
+import subprocess
+import tempfile
+import time
+import unittest
+from pathlib import Path
+from typing import NamedTuple
+
+TOP = Path(__file__).resolve().parent.parent
+
+# The program that is tried: the one that the launcher `icserve` starts, or that of the variable ICSERVE.
+PROGRAM = os.path.abspath(os.environ.get("ICSERVE") or TOP / "crates/icserve/out/icserve")
+
+# What drawn trials begin with: drawn anew for each run, and given again by the variable SEED.
+SEED = os.environ.setdefault("SEED", str(random.SystemRandom().randrange(10**9)))
+
+# How long a trial waits for the program at most, in seconds. No trial should come near.
+PATIENCE = 120
+
+
+class Ran(NamedTuple):
+    """A run of the program that has ended. A signal that ended it is a negative status, as of `subprocess`."""
+
+    command: str
+    status: int
+    out: bytes
+    err: bytes
+
+
+def as_bytes(text):
+    return text.encode() if isinstance(text, str) else bytes(text)
+
+
+def as_lines(lines):
+    """A text of lines, each with its line feed; a text that is given stays as it is."""
+    if isinstance(lines, (str, bytes, bytearray)):
+        return as_bytes(lines)
+    return b"".join(as_bytes(it) + b"\n" for it in lines)
+
+
+def shown(data, most=1500):
+    """Bytes as a failed trial prints them: the ends of what is long, and how long it is."""
+    data = as_bytes(data)
+    if len(data) <= most:
+        return repr(data)[1:]
+    return f"{repr(data[:most // 2])[1:]} .. {repr(data[-most // 2:])[1:]} ({len(data)} bytes)"
+
+
+def said_of(command, given=b""):
+    """The command as a failed trial prints it, with what was on its standard input."""
+    text = shlex.join([str(it) for it in command])
+    return f"{text}\n  given  {shown(given)}" if given else text
+
+
+def run(*words, given=b"", program=None, seconds=PATIENCE, **how):
+    """Runs the program with these words on a standard input, and waits until it has ended. `how` goes to `Popen`."""
+    command = [program or PROGRAM, *map(str, words)]
+    given = as_lines(given)
+    pipes = {"stdin": subprocess.PIPE, "stdout": subprocess.PIPE, "stderr": subprocess.PIPE}
+    with subprocess.Popen(command, **{**pipes, **how}) as started:
+        try:
+            out, err = started.communicate(given if started.stdin else None, timeout=seconds)
+        except subprocess.TimeoutExpired:
+            started.kill()
+            out, err = started.communicate()
+            err = (err or b"") + f"\n(the trial stopped it after {seconds} seconds)".encode()
+    return Ran(said_of(command, given), started.returncode, out or b"", err or b"")
+
+
+class Server:
+    """A server that runs, over pipes. Used in a `with`, which kills what still runs at its end."""
+
+    def __init__(self, disk, *words, program=None, **how):
+        self.command = [program or PROGRAM, "serve", "--disk", str(disk), *map(str, words)]
+        pipes = {"stdin": subprocess.PIPE, "stdout": subprocess.PIPE, "stderr": subprocess.PIPE}
+        self.process = subprocess.Popen(self.command, bufsize=0, **{**pipes, **how})
+        self.given = bytearray()
+        self.came = bytearray()
+        self.taken = 0
+
+    def __enter__(self):
+        return self
+
+    def __exit__(self, *_):
+        if self.process.poll() is None:
+            self.process.kill()
+        for pipe in (self.process.stdin, self.process.stdout, self.process.stderr):
+            if pipe and not pipe.closed:
+                pipe.close()
+        self.process.wait()
+
+    def send(self, lines):
+        """Writes lines, and waits until the program has room for them."""
+        text = as_lines([lines] if isinstance(lines, (str, bytes)) else lines)
+        self.given += text
+        self.process.stdin.write(text)
+
+    def answer(self, seconds=PATIENCE):
+        """The next line that the program answers, without its line feed; None where it ends or is silent before."""
+        end = time.monotonic() + seconds
+        while b"\n" not in self.came[self.taken :]:
+            left = end - time.monotonic()
+            if left <= 0 or not select.select([self.process.stdout], [], [], left)[0]:
+                return None
+            more = os.read(self.process.stdout.fileno(), 65536)
+            if not more:
+                return None
+            self.came += more
+        at = self.came.index(b"\n", self.taken)
+        line, self.taken = bytes(self.came[self.taken : at]), at + 1
+        return line.decode()
+
+    def ask(self, line):
+        self.send(line)
+        return self.answer()
+
+    def end(self, seconds=PATIENCE):
+        """Closes the program's standard input, and waits until it has ended: the whole of what it wrote."""
+        if not self.process.stdin.closed:
+            self.process.stdin.close()
+        return self.gather(seconds)
+
+    def stop(self, sign=signal.SIGKILL, seconds=PATIENCE):
+        """Sends a signal, and waits until the program has ended."""
+        self.process.send_signal(sign)
+        return self.gather(seconds)
+
+    def gather(self, seconds=PATIENCE):
+        self.process.stdin = None
+        try:
+            out, err = self.process.communicate(timeout=seconds)
+        except subprocess.TimeoutExpired:
+            self.process.kill()
+            out, err = self.process.communicate()
+            err += f"\n(the trial stopped it after {seconds} seconds)".encode()
+        self.came += out
+        return Ran(said_of(self.command, self.given), self.process.returncode, bytes(self.came), err)
+
+
+class Trial(unittest.TestCase):
+    """A trial with a folder of its own, `self.room`, which is deleted after it."""
+
+    # About how many seconds a trial takes: those that take longest are begun first.
+    seconds = 1
+
+    def setUp(self):
+        self.room = Path(tempfile.mkdtemp(prefix="trial-"))
+        self.addCleanup(shutil.rmtree, self.room, ignore_errors=True)
+
+    def draws(self, about=""):
+        """The numbers that this trial draws from, which the seed fixes."""
+        self.drawn = f"drawn with SEED={SEED}"
+        return random.Random(f"{SEED} {self.id()} {about}")
+
+    def told(self, command, what, wanted, came):
+        """Fails, and says of a command what was wanted of it and what came."""
+        parts = [f"  tried  {command}", f"  {what}", f"  wanted {wanted}", f"  came   {came}", f"  {getattr(self, 'drawn', '')}"]
+        self.fail("\n" + "\n".join(it for it in parts if it.strip()))
+
+    def agrees(self, command, what, wanted, came):
+        """Fails where other bytes came than were wanted."""
+        wanted, came = as_bytes(wanted), as_bytes(came)
+        if wanted == came:
+            return
+        at = next((i for i, (a, b) in enumerate(zip(wanted, came)) if a != b), min(len(wanted), len(came)))
+        if max(len(wanted), len(came)) > 1500:
+            what += f", from byte {at} on (line {wanted[:at].count(10) + 1})"
+            wanted, came = wanted[max(0, at - 200) : at + 700], came[max(0, at - 200) : at + 700]
+        self.told(command, what, shown(wanted), shown(came))
+
+    def ended(self, ran, out=b"", err=b"", status=0):
+        """Fails unless a run ended so: with this standard output and error, and this status. Hands the run on."""
+        if ran.status != status:
+            self.told(ran.command, f"status; it said {shown(ran.err)}", status, f"{ran.status}, out {shown(ran.out)}")
+        self.agrees(ran.command, "standard output", as_lines(out), ran.out)
+        self.agrees(ran.command, "standard error", as_lines(err), ran.err)
+        return ran
+
+    def runs(self, *words, given=b"", out=b"", err=b"", status=0, **how):
+        """Runs the program, and fails unless it ends so. Lines may be given as lists."""
+        return self.ended(run(*words, given=given, **how), out, err, status)
+
+    def refuses(self, *words, line, status, given=b"", out=b"", **how):
+        """Fails unless the program ends with this status and the line `icserve: LINE` on standard error."""
+        return self.runs(*words, given=given, out=out, err=[f"icserve: {line}"], status=status, **how)
+
+    def disk(self, name="jobs.disk"):
+        """The path of a new disk, as `create` makes it."""
+        path = self.room / name
+        self.runs("create", "--disk", path)
+        return path
+
+    def serves(self, disk, lines, answers, *words, **how):
+        """Fails unless the lines are served over the disk with these answers and no fault."""
+        return self.runs("serve", "--disk", disk, *words, given=lines, out=answers, **how)
+
+    def asks(self, disk, lines):
+        """The answers of a new server on the disk, which must end well."""
+        ran = run("serve", "--disk", disk, given=lines)
+        if ran.status or ran.err:
+            self.told(ran.command, "how it ended", "status 0", f"status {ran.status}, {shown(ran.err)}")
+        return ran.out.decode().splitlines()

@@ -1,0 +1,92 @@
+"""What the pages show is what the program does: their sessions are read from the pages themselves, and run word for word."""
+
+import re
+import subprocess
+
+from program import PROGRAM, TOP, Trial
+
+
+def blocks_of(page):
+    """The indented blocks of a page, each as its lines."""
+    blocks, before = [], ""
+    for line in (TOP / page).read_text().split("\n"):
+        if line.startswith("    "):
+            if not before.startswith("    "):
+                blocks.append([])
+            blocks[-1].append(line[4:])
+        before = line
+    return blocks
+
+
+def typed_in(block):
+    """The commands of a block of a terminal, each with the lines that stand behind it."""
+    commands = []
+    for line in block:
+        if line.startswith("$ "):
+            commands.append((line[2:], []))
+        elif commands:
+            commands[-1][1].append(line)
+    return commands
+
+
+class Pages(Trial):
+    def setUp(self):
+        super().setUp()
+        (self.room / "icserve").symlink_to(PROGRAM)
+        (self.room / "examples").symlink_to(TOP / "examples")
+
+    def typed(self, page, commands, wanted, streams=subprocess.STDOUT):
+        """Runs the commands of a page by a shell in the trial's folder: they print just these lines."""
+        text = "\n".join(commands).replace("/tmp/", f"{self.room}/")
+        ran = subprocess.run(["sh", "-c", text], cwd=self.room, stdin=subprocess.DEVNULL, stdout=subprocess.PIPE, stderr=streams)
+        self.agrees(f"{page}: {text}", "what it prints", "".join(f"{it}\n" for it in wanted), ran.stdout)
+
+    def test_the_session_of_the_readme_prints_what_the_readme_says(self):
+        section = (TOP / "README.md").read_text().split("## A session")[1].split("\n## ")[0]
+        (self.room / "session.md").write_text(section)
+        served, prints, killed, prints_then, console = blocks_of(self.room / "session.md")
+        self.assertIn("KILL", killed[0])
+        self.typed("README.md", served, prints)
+        self.typed("README.md", killed, prints_then, subprocess.DEVNULL)
+        self.assertEqual(len(typed_in(console)), 3)
+
+    def test_what_is_typed_on_a_page_prints_what_the_page_says(self):
+        consoles = []
+        for page in sorted([*TOP.glob("*.md"), *TOP.glob("docs/*.md")]):
+            consoles += [(page.relative_to(TOP), typed_in(block)) for block in blocks_of(page) if block[0].startswith("$ ")]
+        self.assertLessEqual({"README.md", "docs/rounds.md", "docs/settling.md"}, {str(page) for page, _ in consoles})
+        for page, commands in consoles:
+            for command, wanted in commands:
+                with self.subTest(page=str(page), command=command):
+                    if not wanted and "examples/addition.session" in command:
+                        wanted = (TOP / "examples/addition.answers").read_text().splitlines()
+                    self.typed(page, [command], wanted)
+
+    def test_each_line_of_the_session_on_serving_has_the_answer_behind_it(self):
+        block = next(it for it in blocks_of("docs/serving.md") if it[0].startswith("submit "))
+        lines, answers = zip(*(re.split(r" {2,}", it, maxsplit=1) for it in block))
+        self.assertGreaterEqual(len(lines), 6)
+        self.serves(self.disk(), lines, answers)
+
+    def test_each_session_in_examples_has_its_answers_by_any_number_of_workers(self):
+        sessions = sorted(TOP.glob("examples/*.session"))
+        self.assertEqual(len(sessions), 5)
+        for session in sessions:
+            answers = session.with_suffix(".answers").read_bytes()
+            for workers, every in ((1, 1), (2, 100), (7, 3), (64, 1_000_000)):
+                with self.subTest(session=session.name, workers=workers, every=every):
+                    disk = self.disk(f"{session.stem}.{workers}.disk")
+                    self.serves(disk, session.read_bytes(), answers, "--workers", workers, "--every", every)
+
+    def test_each_text_in_examples_has_the_answer_of_its_row(self):
+        """The answers stand in the file of rows that the gate runs, in rows of the files' names."""
+        rows = (TOP / "crates/ic_rows/stdin").read_text().splitlines()
+        texts = sorted(TOP.glob("examples/*.ic"))
+        self.assertEqual(len(texts), 8)
+        for text in texts:
+            word = "once" if text.read_text().startswith("{") else "settle"
+            asked = f"{text.name}: {word} {text.read_text()}".replace("\n", "~n")
+            with self.subTest(text=text.name):
+                answers = [it[len(asked) + 4 :] for it in rows if it.startswith(f"{asked} => ")]
+                self.assertEqual(len(answers), 1, f"crates/ic_rows/stdin has no row {asked}")
+                self.runs(word, given=text.read_bytes(), out=answers)

@@ -1,0 +1,301 @@
+"""Each exit status and each line of standard error that README.md and docs/serving.md name, and what a refusal leaves.
+Want of memory and of threads is tried in test_growths.py."""
+
+import os
+import resource
+import shutil
+import signal
+import subprocess
+
+from disks import EMPTY, HEAD, SECOND, disk_of, slot, table_by_hand
+from program import PROGRAM, Server, Trial, run
+
+ADD = "{Add(x,x)><Z;Add(S(x),y)><S(Add(x,y))}"
+TWO = f"submit two {ADD} <r|Add(r,S(Z))=S(Z)>"
+
+# Texts that `settle` refuses, and those that `once` refuses.
+CONFIGS = [
+    ("", "bad syntax"),
+    ("<|", "bad syntax"),
+    ("<|A(", "bad syntax"),
+    ("<x0|>", "bad syntax"),
+    ("<|A()=B>", "bad syntax"),
+    ("<|>\0", "bad syntax"),
+    ("<|> <|>", "bad syntax"),
+    ("<" + ",".join("A" * 65) + "|>", "bad limit"),
+    ("<" + ",".join("A" * 65) + "|", "bad syntax"),
+    ("<w165191049|>", "bad limit"),
+    (" " * 262_142 + "<|>", "bad limit"),
+    ("<" * 300_000, "bad limit"),
+    ("<|" + "A(" * 80_000 + "B" + ")" * 80_000 + "=C>", "bad limit"),
+    ("<|" + "A(" * 80_000 + "B" + "=C>", "bad syntax"),
+    ("<A|A(x)=B>", "bad arity"),
+    ("<x|x=A(x)>", "bad name x"),
+    ("<a1,a1|B(a1)=C>", "bad name a1"),
+]
+SYSTEMS = [
+    ("<|>", "bad syntax"),
+    ("{x><A} <|>", "bad syntax"),
+    ("{A(x)><B} <|A(", "bad syntax"),
+    ("{A><B} <|A(x)=B>", "bad arity"),
+    ("{A><B;A(x,y)><B(x)} <|>", "bad arity"),
+    ("{A(x,y)><B(x)} <|>", "bad namecount 1"),
+    ("{A><B;C(x)><D} <|>", "bad namecount 2"),
+    ("{A(x)><B(x)} <x|x=A(x)>", "bad name x"),
+    ("{A(x)><B(x);B(y)><A(y)} <|>", "bad twice 2"),
+    ("{A(B,x)><A(x,C)} <|>", "bad lopsided 1"),
+    ("{" + ";".join(f"A{i}><B" for i in range(64)) + "} <|>", "bad limit"),
+    ("{A><B(C(C(D)))} <|A=B(P)," + "C(" * 8187 + "D" + ")" * 8187 + "=Q>", "overgrown"),
+]
+
+
+class Texts(Trial):
+    def test_what_goes_well_ends_with_status_0_and_says_nothing_else(self):
+        self.runs("settle", given="<r | r = S(s), s = Z>", out=["<S(Z)|>"])
+        self.runs("once", given=f"{ADD} <r|Add(r,S(Z))=S(Z)>", out=["<S(s)|Z=Add(s,S(Z))>"])
+        self.runs("settle", given="<|" + "A(" * 8190 + "B" + ")" * 8190 + "=C>", out=["<|" + "A(" * 8190 + "B" + ")" * 8190 + "=C>"])
+        self.runs("once", given="{A><B(C(C(D)))} <|A=B(P)," + "C(" * 8186 + "D" + ")" * 8186 + "=Q>", out=["<|P=C(C(D))," + "C(" * 8186 + "D" + ")" * 8186 + "=Q>"])
+        disk = self.disk()
+        self.serves(disk, [TWO, "run 10", "fetch two"], ["accepted", "ran 2", "two done 2 <S(S(Z))|>"])
+        self.serves(disk, "", "")
+
+    def test_a_refused_configuration_ends_with_status_1_and_its_fault(self):
+        for text, fault in CONFIGS:
+            with self.subTest(text=text[:60]):
+                self.refuses("settle", given=text, line=fault, status=1)
+
+    def test_a_refused_system_or_round_ends_with_status_1_and_its_fault(self):
+        for text, fault in SYSTEMS:
+            with self.subTest(text=text[:60]):
+                self.refuses("once", given=text, line=fault, status=1)
+
+    def test_refused_lines_are_answered_and_the_serving_goes_on(self):
+        refused = [(f"submit a {text}", fault) for text, fault in SYSTEMS if fault != "overgrown"]
+        refused += [("run 007", "bad syntax"), ("run 1001", "bad limit"), ("run", "bad syntax"), ("submit Two {} <|>", "bad syntax")]
+        refused += [("list list", "bad syntax"), ("lists", "bad syntax"), ("pause " + "a" * 17, "bad limit"), ("\0", "bad syntax")]
+        lines, answers = zip(*refused)
+        self.serves(self.disk(), [*lines, "", " \t\r", "list"], [*answers, "jobs"])
+
+
+class Words(Trial):
+    REFUSED = [
+        (),
+        ("serve",),
+        ("create",),
+        ("settle", "more"),
+        ("once", "--disk", "F"),
+        ("settles",),
+        ("--disk", "F", "serve"),
+        ("serve", "F"),
+        ("serve", "--disk"),
+        ("serve", "--disk", "F", "--disk", "G"),
+        ("serve", "--disk", "F", "--workers", "0"),
+        ("serve", "--disk", "F", "--workers", "65"),
+        ("serve", "--disk", "F", "--workers", "two"),
+        ("serve", "--disk", "F", "--workers", "-1"),
+        ("serve", "--disk", "F", "--every", "0"),
+        ("serve", "--disk", "F", "--every", "1000001"),
+        ("serve", "--disk", "F", "--every", ""),
+        ("serve", "--disk", "F", "--sometimes", "1"),
+        ("create", "--disk", "F", "--workers", "2"),
+    ]
+
+    def test_refused_words_end_with_status_2_and_touch_no_file(self):
+        for words in [*self.REFUSED, ("serve", "--disk", os.fsdecode(b"\xff"))]:
+            with self.subTest(words=words):
+                ran = run(*words, cwd=self.room)
+                if ran.status != 2 or ran.out or not ran.err.startswith(b"error: ") or not ran.err.endswith(b"\n"):
+                    self.told(ran.command, "the end", "status 2, nothing on standard output, `error: ..`", ran[1:])
+                self.assertEqual(os.listdir(self.room), [])
+
+    def test_help_and_version_go_to_standard_output(self):
+        for words in (["--help"], ["-h"], ["--version"], ["-V"], *([word, "--help"] for word in ("settle", "once", "create", "serve"))):
+            with self.subTest(words=words):
+                ran = run(*words)
+                wanted = b"icserve " if "ersion" in words[-1] or words == ["-V"] else b"Usage: icserve"
+                if ran.status or ran.err or wanted not in ran.out:
+                    self.told(ran.command, "the end", f"status 0 and {wanted} on standard output", ran[1:])
+
+    def test_each_option_may_be_written_with_an_equals_sign_and_in_any_order(self):
+        disk = self.room / ("a-path-of-more-than-sixteen-bytes" * 6)
+        self.runs("create", f"--disk={disk}")
+        self.runs("serve", "--every=1000000", "--workers", "64", f"--disk={disk}", given="list", out=["jobs"])
+        self.runs("serve", "--workers=1", "--disk", disk, "--every", "1", given="list\nlist", out=["jobs", "jobs"])
+
+
+class Disks(Trial):
+    def leaves(self, path, line, program=PROGRAM, **how):
+        """Serving is refused with status 3 and this line, and the file is left as it is."""
+        before = path.read_bytes() if path.is_file() else None
+        self.refuses("serve", "--disk", path, line=line, status=3, given="list", program=program, **how)
+        self.assertEqual(path.read_bytes() if path.is_file() else None, before, "a file that isn't opened has changed")
+
+    def file(self, name, data):
+        path = self.room / name
+        path.write_bytes(data)
+        return path
+
+    def test_create_makes_the_empty_disk_of_the_pages_whatever_the_file_held(self):
+        empty = disk_of(slot(1, EMPTY))
+        self.assertEqual(len(empty), 4_194_317)
+        for name, before in [("missing", None), ("short", b"x" * 100), ("zeros", bytes(5_000_000))]:
+            with self.subTest(before=name):
+                path = self.room / name
+                if before is not None:
+                    path.write_bytes(before)
+                self.runs("create", "--disk", path)
+                rest = before[len(empty) :] if before else b""
+                self.assertEqual(len(path.read_bytes()), len(empty + rest))
+                self.assertEqual(path.read_bytes()[:18], empty[:18])
+                self.assertEqual(path.read_bytes()[SECOND:], empty[SECOND:] + rest)
+                self.serves(path, "list", ["jobs"])
+        disk = self.disk()
+        self.assertEqual(disk.read_bytes(), empty)
+        self.serves(disk, [TWO], ["accepted"])
+        self.runs("create", "--disk", disk)
+        self.serves(disk, "list", ["jobs"])
+
+    def test_what_is_kept_is_the_table_that_the_page_writes_by_hand(self):
+        table = table_by_hand()
+        self.assertEqual(len(table), 126)
+        disk = self.disk()
+        self.serves(disk, [TWO], ["accepted"])
+        self.assertEqual(disk.read_bytes(), disk_of(slot(1, EMPTY), slot(2, table)))
+        made = self.file("made", disk_of(slot(1, EMPTY), slot(2, table)))
+        self.serves(made, ["list", "fetch two"], ["jobs two:running:0", "two running 0 <r|Add(r,S(Z))=S(Z)>"])
+
+    def test_device_where_the_file_is_missing_and_then_it_isnt_made(self):
+        missing = self.room / "missing"
+        self.leaves(missing, "device")
+        self.assertFalse(missing.exists())
+        self.refuses("create", "--disk", self.room / "no/folder", line="device", status=3)
+        self.refuses("serve", "--disk", "", line="device", status=3)
+
+    def test_device_where_the_file_is_a_folder_or_what_cant_be_synced(self):
+        self.leaves(self.room, "device")
+        self.refuses("create", "--disk", self.room, line="device", status=3)
+        for path in ("/dev/full", "/dev/null"):
+            self.refuses("create", "--disk", path, line="device", status=3)
+
+    def test_device_where_the_file_may_not_be_read_and_written(self):
+        """Root may do all, so as root the program runs as nobody."""
+        program, how = PROGRAM, {}
+        if os.geteuid() == 0:
+            program = shutil.copy(PROGRAM, self.room / "icserve")
+            os.chmod(self.room, 0o711)
+            os.chmod(program, 0o755)
+            how = {"preexec_fn": lambda: os.setuid(65534)}
+        for mode in (0o444, 0o222, 0o000):
+            with self.subTest(mode=oct(mode)):
+                path = self.disk()
+                os.chmod(path, mode)
+                ran = run("serve", "--disk", path, given="list", program=program, **how)
+                self.ended(ran, err=["icserve: device"], status=3)
+                self.ended(run("create", "--disk", path, program=program, **how), err=["icserve: device"], status=3)
+                os.chmod(path, 0o644)
+                self.serves(path, "list", ["jobs"])
+                path.unlink()
+
+    def test_no_slot_where_no_slot_is_open(self):
+        table = table_by_hand()
+        cases = [b"", b"\1", bytes(12), bytes(5_000_000), slot(1, EMPTY)[:12], slot(1, EMPTY, 0), b"\xff" * 100]
+        cases += [disk_of(slot(1, EMPTY, 0), slot(2, table, 0)), disk_of(slot(1, EMPTY, 2), slot(2, table, 255))]
+        for i, data in enumerate(cases):
+            with self.subTest(case=i):
+                self.leaves(self.file("disk", data), "no slot")
+
+    def test_two_alike_where_both_slots_are_open_with_one_number(self):
+        for number in (0, 1, 2**64 - 1):
+            self.leaves(self.file("disk", disk_of(slot(number, EMPTY), slot(number, table_by_hand()))), "two alike")
+
+    def test_damaged_where_the_newest_slot_holds_no_table(self):
+        table = table_by_hand()
+        whole = disk_of(slot(1, EMPTY), slot(2, table))
+        cases = [whole[:-1], whole[: SECOND + HEAD], disk_of(slot(1, EMPTY), slot(2, table[:-1])), disk_of(slot(1, EMPTY), slot(2, table + b"\0"))]
+        cases += [disk_of(slot(1, EMPTY), slot(2, b"ICT0" + table[4:])), disk_of(slot(1, EMPTY), slot(2, b""))]
+        long = slot(2, b"")[:9] + (3_036_422).to_bytes(4, "big")
+        cases += [disk_of(slot(1, EMPTY), long + table.ljust(3_036_422, b"\0")), disk_of(slot(3, b"x"), slot(2, table))]
+        for i, data in enumerate(cases):
+            with self.subTest(case=i):
+                self.leaves(self.file("disk", data), "damaged")
+
+    def test_a_disk_cut_to_any_length_below_its_first_body(self):
+        whole = disk_of(slot(1, EMPTY))
+        for length in range(18):
+            self.leaves(self.file("disk", whole[:length]), "no slot" if length < 13 else "damaged")
+        for length in (18, 19, SECOND, SECOND + 12, SECOND + 13):
+            self.serves(self.file("disk", whole[:length]), ["list", TWO, "list"], ["jobs", "accepted", "jobs two:running:0"])
+            self.serves(self.room / "disk", "list", ["jobs two:running:0"])
+
+
+class Servings(Trial):
+    def test_read_where_standard_input_cant_be_read(self):
+        disk = self.disk()
+        folder = os.open(self.room, os.O_RDONLY)
+        self.addCleanup(os.close, folder)
+        for words in (["settle"], ["once"], ["serve", "--disk", disk]):
+            self.refuses(*words, line="read", status=4, stdin=folder)
+
+    def test_write_where_standard_output_cant_be_written(self):
+        disk = self.disk()
+        with open("/dev/full", "wb") as full:
+            self.refuses("settle", given="<|>", line="write", status=4, stdout=full)
+            self.refuses("once", given="{} <|>", line="write", status=4, stdout=full)
+            self.refuses("serve", "--disk", disk, given=[TWO], line="write", status=4, stdout=full)
+            self.refuses("--help", line="write", status=4, stdout=full)
+            self.runs("serve", "--disk", disk, given="\n \n", stdout=full)
+        self.serves(disk, "list", ["jobs two:running:0"])
+
+    def test_write_where_the_reader_of_the_answers_has_gone(self):
+        disk = self.disk()
+        with Server(disk) as server:
+            server.process.stdout.close()
+            server.process.stdout = None
+            server.send(TWO)
+            server.process.stdin.close()
+            ran = server.process.wait(60)
+            said = server.process.stderr.read()
+        if (ran, said) != (4, b"icserve: write\n"):
+            self.told(server.command, "the end", "status 4, `icserve: write`", (ran, said))
+        self.serves(disk, "list", ["jobs two:running:0"])
+
+    def test_long_line_and_what_stood_before_it_is_answered(self):
+        disk = self.disk()
+        self.serves(disk, " " * 262_140 + "list\nlist", ["jobs", "jobs"])
+        for long in (" " * 262_141 + "list\nlist\n", " " * 262_145, "x" * 10_000_000):
+            self.refuses("serve", "--disk", disk, given=f"list\n{long}", out=["jobs"], line="long line", status=4)
+
+    def test_too_many_lines_behind_the_1000000th(self):
+        disk = self.disk()
+        self.serves(disk, "\n" * 999_999 + "list\n", ["jobs"])
+        for more in ("list\n", "list", "x" * 300_000):
+            self.refuses("serve", "--disk", disk, given="\n" * 999_999 + f"list\n{more}", out=["jobs"], line="too many lines", status=4)
+
+    def test_worn_where_the_numbers_of_the_slots_are_used_up(self):
+        disk = self.room / "worn"
+        disk.write_bytes(disk_of(slot(2**64 - 1, table_by_hand())))
+        before = disk.read_bytes()
+        for line in (TWO, "list", "fetch two", "pause two", "run 1"):
+            self.refuses("serve", "--disk", disk, given=[line], line="worn", status=4)
+        self.serves(disk, ["", "run 0", "no command"], ["ran 0", "bad syntax"])
+        self.assertEqual(disk.read_bytes(), before)
+        disk.write_bytes(disk_of(slot(2**64 - 2, table_by_hand())))
+        self.refuses("serve", "--disk", disk, given=["list", "pause two", "list"], out=["jobs two:running:0", "ok"], line="worn", status=4)
+        self.assertEqual(disk.read_bytes()[SECOND : SECOND + 9], b"\1" + b"\xff" * 8)
+
+    def test_device_where_a_file_may_grow_no_further(self):
+        """The limit on a file's size stands for a full device: the table of 126 bytes ends at 4,194,443."""
+
+        def limited(most):
+            return {"preexec_fn": lambda: resource.setrlimit(resource.RLIMIT_FSIZE, (most, most)), "restore_signals": False}
+
+        signal.signal(signal.SIGXFSZ, signal.SIG_IGN)
+        for most in (0, 1, 18, SECOND, SECOND + 1, SECOND + 12):
+            self.refuses("create", "--disk", self.room / "new", line="device", status=3, **limited(most))
+        self.runs("create", "--disk", self.room / "new", **limited(SECOND + 13))
+        for most in (0, SECOND, SECOND + 1, SECOND + 13, SECOND + 138):
+            disk = self.disk()
+            self.refuses("serve", "--disk", disk, given=["list", TWO, "list"], out=["jobs"], line="device", status=4, **limited(most))
+            self.serves(disk, "list", ["jobs"])
+        self.serves(disk, [TWO], ["accepted"], **limited(SECOND + 139))
+        self.serves(disk, "list", ["jobs two:running:0"])
