@@ -13,6 +13,7 @@ sys.path.insert(0, str(HERE))
 sys.dont_write_bytecode = True
 
 from program import PROGRAM, SEED  # noqa: E402
+from shim import prepare  # noqa: E402
 
 
 def trials_in(suite):
@@ -46,6 +47,7 @@ def main(words):
     if not os.access(PROGRAM, os.X_OK):
         print("trials: it isn't there: ./icserve --version proves and builds it, and so does rt ci\n0 passed, 1 failed")
         return 1
+    prepare()
     counts = {"ok": 0, "FAILED": 0, "skipped": 0}
     with ProcessPoolExecutor(len(os.sched_getaffinity(0))) as pool:
         for done in as_completed([pool.submit(tried, name) for name in found(words)]):

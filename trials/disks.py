@@ -19,6 +19,14 @@ def disk_of(first, second=bytes(HEAD)):
     return first.ljust(SECOND, b"\0") + second
 
 
+def put(path, first, second=bytes(HEAD)):
+    """Writes a disk with these bytes in its two slots to a file, which has no blocks between them."""
+    with open(path, "wb") as file:
+        file.write(first)
+        file.seek(SECOND)
+        file.write(second)
+
+
 def table_by_hand():
     """The bytes of the table that docs/byte-form.md writes down by hand: the job `two` as it is submitted."""
     rows = (TOP / "docs/byte-form.md").read_text().split("## A table by hand")[1].split("\n## ")[0]

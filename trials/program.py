@@ -22,6 +22,9 @@ PROGRAM = os.path.abspath(os.environ.get("ICSERVE") or TOP / "crates/icserve/out
 # What drawn trials begin with: drawn anew for each run, and given again by the variable SEED.
 SEED = os.environ.setdefault("SEED", str(random.SystemRandom().randrange(10**9)))
 
+# A folder in memory, where there is one: a sync there costs nothing.
+IN_MEMORY = "/dev/shm" if os.access("/dev/shm", os.W_OK) else None
+
 # How long a trial waits for the program at most, in seconds. No trial should come near.
 PATIENCE = 120
 
@@ -151,8 +154,11 @@ class Trial(unittest.TestCase):
     # About how many seconds a trial takes: those that take longest are begun first.
     seconds = 1
 
+    # The folder in which its folder is made: None is the system's for temporary files.
+    rooms = None
+
     def setUp(self):
-        self.room = Path(tempfile.mkdtemp(prefix="trial-"))
+        self.room = Path(tempfile.mkdtemp(prefix="trial-", dir=self.rooms))
         self.addCleanup(shutil.rmtree, self.room, ignore_errors=True)
 
     def draws(self, about=""):

@@ -1,0 +1,193 @@
+"""Each call of the program to the system goes wrong in turn: a growth of memory, a thread, a call on the disk's file, a read,
+a write. Each fault gives the defined line and status, and leaves the disk to be opened with all that was answered."""
+
+from disks import EMPTY, put, slot
+from known import ADD, LOOP, TWO
+from program import Server, run
+from shim import shimmed, was_refused
+from stops import Stops
+
+# The lines of the worked row `looping`.
+LOOPING = [f"submit loop {LOOP.text}", "run 5", "fetch loop", "pause loop", "pause loop", "run 3"]
+LOOPING += ["resume loop", "resume loop", "run 2", "fetch loop"]
+SUMS = [f"submit two {TWO.text}", "run 1", "list", "", f"submit more {TWO.text}", "fetch two", "run 10", "cancel two", "list"]
+
+# A system of 1,000 equations, the fewest of which a round is made by threads.
+WIDE = "{A(x)><B(x)} <" + "|" + ",".join("A(P)=B(P)" for _ in range(1000)) + ">"
+
+
+class Faults(Stops):
+    seconds = 15
+
+    def setUp(self):
+        super().setUp()
+        shimmed()
+        self.log = self.room / "log"
+
+    def in_turn(self, what, ways, attempt):
+        """Has each call of a kind go wrong, in each of these ways, until an attempt makes fewer calls: how many there were."""
+        for how in ways:
+            number, is_over = 0, False
+            while not is_over:
+                number += 1
+                attempt(shimmed(f"{what} {number} {how}", self.log), f"{what} {number} {how}")
+                is_over = not was_refused(self.log)
+        return number - 1
+
+    def is_fault(self, ran, call, *faults):
+        """Fails unless a run in which a call went wrong ended with one of these (status, word)."""
+        if (ran.status, ran.err) not in [(status, f"icserve: {word}\n".encode()) for status, word in faults]:
+            self.told(ran.command, f"the end, where it went wrong: {call}", f"one of {faults}", (ran.status, ran.out, ran.err))
+
+    def stream_by(self, word, text, answer, status=0, line=b""):
+        """Each growth of a run over streams is refused: want of memory, or all goes as if it weren't."""
+
+        def attempt(env, call):
+            ran = run(word, given=text, env=env)
+            if (ran.status, ran.out, ran.err) == (status, answer, line):
+                return
+            self.is_fault(ran, call, (4, "memory"))
+            self.agrees(ran.command, f"standard output, where it went wrong: {call}", b"", ran.out)
+
+        return self.in_turn("growth", ("once", "on"), attempt)
+
+    def test_each_growth_of_settle_is_refused_in_turn(self):
+        self.assertGreater(self.stream_by("settle", "<r|r=S(s),s=Z>", b"<S(Z)|>\n"), 20)
+        self.stream_by("settle", "<x|x=A(x)>", b"", 1, b"icserve: bad name x\n")
+
+    def test_each_growth_of_once_is_refused_in_turn(self):
+        self.assertGreater(self.stream_by("once", f"{ADD} <r|Add(r,S(Z))=S(Z)>", b"<S(s)|Z=Add(s,S(Z))>\n"), 40)
+        self.stream_by("once", "{A(B,x)><A(x,C)} <|>", b"", 1, b"icserve: bad lopsided 1\n")
+
+    def test_each_growth_over_words_is_refused_in_turn(self):
+        for words in (["--help"], ["--version"], ["settles"], ["serve"], ["serve", "--disk", "F", "--workers", "65"]):
+            well = run(*words)
+
+            def attempt(env, call, words=words, well=well):
+                ran = run(*words, env=env)
+                if (ran.status, ran.out, ran.err) != (well.status, well.out, well.err):
+                    self.is_fault(ran, call, (4, "memory"))
+                    self.agrees(ran.command, f"standard output, where it went wrong: {call}", b"", ran.out)
+
+            self.in_turn("growth", ("once", "on"), attempt)
+
+    def created(self, env, call, *faults):
+        """A `create` in which a call goes wrong. It is done again, and the disk is empty and serves."""
+        disk = self.room / "created.disk"
+        ran = run("create", "--disk", disk, env=env)
+        if ran.status:
+            self.is_fault(ran, call, *faults)
+        elif ran.out or ran.err:
+            self.told(ran.command, f"what it wrote, where it went wrong: {call}", "nothing", (ran.out, ran.err))
+        else:
+            self.assertEqual(self.asks(disk, ["list"]), ["jobs"])
+        self.runs("create", "--disk", disk)
+        self.assertEqual(self.asks(disk, ["list"]), ["jobs"])
+        disk.unlink()
+        return ran
+
+    def test_each_growth_of_create_is_refused_in_turn(self):
+        calls = self.in_turn("growth", ("once", "on"), lambda *it: self.created(*it, (4, "memory"), (3, "memory"), (3, "device")))
+        self.assertGreater(calls, 5)
+
+    def test_each_call_of_create_on_the_disk_fails_in_turn(self):
+        def attempt(env, call):
+            ran = self.created(env, call, (3, "device"))
+            if not ran.status and was_refused(self.log):
+                self.told(ran.command, f"the end, where it went wrong: {call}", "status 3", ran.status)
+
+        self.assertGreater(self.in_turn("disk", ("once", "on", "done", "half"), attempt), 10)
+
+    def served(self, lines, ways, what, *faults, words=(), may_go_well=False):
+        """Serves lines, one at a time, over a new disk each time, while each call of a kind goes wrong in turn. What was
+        answered is there at the next opening, and of the next line a front of what it keeps."""
+        disk, every = self.room / "jobs.disk", 2
+
+        def attempt(env, call):
+            put(disk, slot(1, EMPTY))
+            ran = self.spoken(disk, lines, env, "--every", every, *words)
+            if was_refused(self.log) and not (may_go_well and ran.status == 0):
+                self.is_fault(ran, call, *faults)
+            elif (ran.status, ran.err) != (0, b""):
+                self.told(ran.command, f"the end, where it went wrong: {call}", "status 0", (ran.status, ran.err))
+            tables = self.may_be_left(ran, lines, (), every, ahead=1)
+            self.found(ran, disk, tables)
+
+        return self.in_turn(what, ways, attempt)
+
+    def spoken(self, disk, lines, env, *words):
+        """A server that is asked line by line until it ends."""
+        with Server(disk, *words, env=env) as server:
+            for line in lines:
+                try:
+                    server.send(line)
+                except BrokenPipeError:
+                    break
+                if line and server.answer() is None:
+                    break
+            return server.end()
+
+    def test_each_growth_of_a_serving_is_refused_in_turn(self):
+        faults = [(4, "memory"), (4, "pool"), (3, "memory"), (3, "device")]
+        for lines, ways in ((LOOPING, ("once", "on")), (SUMS, ("once",))):
+            self.assertGreater(self.served(lines, ways, "growth", *faults, may_go_well=True), 200)
+
+    def test_each_growth_of_an_opening_is_refused_in_turn(self):
+        """Over a disk that holds jobs, which stay."""
+        disk = self.disk()
+        self.serves(disk, SUMS[:5], ["accepted", "ran 1", "jobs two:running:1", "accepted"])
+        before = disk.read_bytes()
+
+        def attempt(env, call):
+            ran = run("serve", "--disk", disk, env=env)
+            if ran.status:
+                self.is_fault(ran, call, (4, "memory"), (3, "memory"), (3, "device"))
+            self.agrees(ran.command, f"standard output, where it went wrong: {call}", b"", ran.out)
+            self.assertEqual(disk.read_bytes(), before)
+
+        self.assertGreater(self.in_turn("growth", ("once", "on"), attempt), 50)
+
+    def test_each_call_of_a_serving_on_the_disk_fails_in_turn(self):
+        for lines in (LOOPING, SUMS):
+            calls = self.served(lines, ("once", "on", "done", "half"), "disk", (4, "device"), (3, "device"))
+            self.assertGreater(calls, 50)
+
+    def test_each_read_of_a_serving_fails_in_turn(self):
+        self.assertGreater(self.served(LOOPING, ("once", "on"), "read", (4, "read")), len(LOOPING))
+        self.served(LOOPING, ("interrupt", "short"), "read", may_go_well=True)
+
+    def test_each_write_of_a_serving_fails_in_turn(self):
+        self.assertEqual(self.served(LOOPING, ("once", "on", "nothing", "half"), "write", (4, "write")), len(LOOPING))
+        self.served(LOOPING, ("interrupt", "short"), "write", may_go_well=True)
+
+    def test_each_read_and_write_of_a_stream_fails_in_turn(self):
+        for what, line in (("read", "read"), ("write", "write")):
+            for how in ("once", "on", "interrupt", "short"):
+
+                def attempt(env, call, how=how, line=line):
+                    ran = run("settle", given="<r|r=S(s),s=Z>", env=env)
+                    if how in ("interrupt", "short") or not was_refused(self.log):
+                        self.ended(ran, out=["<S(Z)|>"])
+                    else:
+                        self.is_fault(ran, call, (4, line))
+
+                self.assertGreater(self.in_turn(what, [how], attempt), 0)
+
+    def test_each_start_of_a_thread_is_refused_in_turn(self):
+        """Rounds of 1,000 equations are made by threads: a thread that can't be started is `pool`, and nothing is lost."""
+        disk = self.disk()
+        lines, answers = [f"submit wide {WIDE}", "run 1", "fetch wide"], [b"accepted\n", b"ran 1\n", None]
+        well = run("serve", "--disk", self.disk("well.disk"), given=lines)
+        self.assertEqual(well.out.splitlines(keepends=True)[:2], answers[:2])
+
+        def attempt(env, call):
+            self.runs("create", "--disk", disk)
+            ran = run("serve", "--disk", disk, "--workers", "4", given=lines, env=env)
+            if was_refused(self.log):
+                self.is_fault(ran, call, (4, "pool"))
+                self.agrees(ran.command, "standard output", answers[0], ran.out)
+                self.assertEqual(self.asks(disk, ["list", "run 1"]), ["jobs wide:running:0", "ran 1"])
+            else:
+                self.ended(ran, out=well.out)
+
+        self.assertGreaterEqual(self.in_turn("thread", ("once", "on"), attempt), 1)

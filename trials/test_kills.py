@@ -1,0 +1,83 @@
+"""A server that is killed or told to end at any moment has lost nothing that it answered."""
+
+import signal
+import time
+
+from known import LOOP, drawn_line
+from program import Server
+from stops import Stops
+
+
+class Kills(Stops):
+    seconds = 30
+
+    def lives(self, kills, stop):
+        """Serves drawn lines over one disk in many lives, each of which is ended by `stop` at a drawn moment: while a text of
+        lines is served, or a moment after one line more was sent than was answered."""
+        draw, disk, table = self.draws(), self.disk(), ()
+        counts = {"answers": 0, "unanswered, but kept": 0}
+        for _ in range(kills):
+            every, workers = draw.choice((1, 3, 100)), draw.choice((1, 2, 7))
+            lines = [drawn_line(draw) for _ in range(draw.choice((15, 30, 300)))]
+            with Server(disk, "--every", every, "--workers", workers) as server:
+                if len(lines) == 300:
+                    server.send(lines)
+                    time.sleep(draw.random() * 0.012)
+                else:
+                    for line in lines[:-1]:
+                        server.send(line)
+                        if line:
+                            server.answer()
+                    server.send(lines[-1])
+                    time.sleep(draw.random() * 0.0006)
+                ran = stop(server, draw)
+            tables = self.may_be_left(ran, lines, table, every)
+            counts["answers"] += ran.out.count(b"\n")
+            table = self.found(ran, disk, tables)
+            counts["unanswered, but kept"] += table != tables[0]
+        return counts
+
+    def test_200_kills_at_drawn_moments_lose_nothing_that_was_answered(self):
+        def kill(server, _):
+            ran = server.stop(signal.SIGKILL)
+            self.assertEqual(ran.status, -signal.SIGKILL, ran.command)
+            return ran
+
+        counts = self.lives(200, kill)
+        self.assertGreater(counts["answers"], 1000, counts)
+        self.assertGreater(counts["unanswered, but kept"], 0, counts)
+
+    def test_a_signal_to_end_is_obeyed_at_once_and_loses_nothing_that_was_answered(self):
+        def end(server, draw):
+            sign = draw.choice((signal.SIGTERM, signal.SIGINT, signal.SIGHUP))
+            began = time.monotonic()
+            ran = server.stop(sign)
+            took = time.monotonic() - began
+            if ran.status != -sign or ran.err or took > 2:
+                self.told(ran.command, f"the end by {sign!r}", "by the signal, at once and silent", (ran.status, ran.err, f"{took:.1f} s"))
+            return ran
+
+        self.lives(60, end)
+
+    def test_a_signal_to_end_in_the_midst_of_a_long_run_is_obeyed_at_once(self):
+        for sign in (signal.SIGTERM, signal.SIGINT, signal.SIGHUP, signal.SIGKILL):
+            disk = self.disk(f"{sign}.disk")
+            lines = [f"submit loop {LOOP.text}", "run 1000", "list"] + ["run 1000"] * 5
+            with Server(disk, "--every", "1") as server:
+                server.send(lines[:2])
+                self.assertEqual([server.answer(), server.answer()], ["accepted", "ran 1000"])
+                server.send(lines[2:])
+                time.sleep(0.1)
+                began = time.monotonic()
+                ran = server.stop(sign)
+            self.assertLess(time.monotonic() - began, 2, ran.command)
+            self.assertEqual((ran.status, ran.err), (-sign, b""), ran.command)
+            table = self.found(ran, disk, self.may_be_left(ran, lines, (), 1))
+            self.assertGreater(table[0].rounds, 1000, "the run hadn't begun")
+
+    def test_sigpipe_is_no_reason_to_end(self):
+        with Server(self.disk()) as server:
+            self.assertEqual(server.ask(f"submit loop {LOOP.text}"), "accepted")
+            server.process.send_signal(signal.SIGPIPE)
+            self.assertEqual(server.ask("run 3"), "ran 3")
+            self.ended(server.end(), out=["accepted", "ran 3"])
