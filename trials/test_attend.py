@@ -1,0 +1,131 @@
+"""The word `attend`: scripts of several clients over one disk, with runners beside them."""
+
+import signal
+import subprocess
+import time
+
+from known import LOOP, TWO, fetched, submitted
+from program import IN_MEMORY, PROGRAM, Ran, Server, Trial, run, said_of
+from shim import shimmed, was_refused
+
+SCRIPTS = [[f"submit two {TWO.text}", "pause no"], [f"submit loop {LOOP.text}", f"submit loop {LOOP.text}"]]
+ANSWERS = [["accepted", "refused nojob"], ["accepted", "refused taken"]]
+TOLD = [it for i, answers in enumerate(ANSWERS) for it in (f"client {i}", *answers)]
+
+# The words that may end a client, a runner or the whole where a growth was refused.
+MEMORY = ("memory", "pool", "no thread", "device")
+
+
+class Attend(Trial):
+    seconds = 20
+    rooms = IN_MEMORY
+
+    def setUp(self):
+        super().setUp()
+        if b"attend" not in run("--help").out:
+            self.skipTest("the program has no word `attend` yet")
+        self.jobs = self.disk()
+        self.paths = [self.script(f"client {i}", lines) for i, lines in enumerate(SCRIPTS)]
+
+    def script(self, name, lines):
+        path = self.room / name
+        path.write_text("".join(f"{it}\n" for it in lines))
+        return path
+
+    def attends(self, *paths, runners=2, turns=10, workers=2, disk=None):
+        return ["attend", "--disk", disk or self.jobs, "--runners", runners, "--turns", turns, "--workers", workers, *paths]
+
+    def rounds(self):
+        """Looks at the disk: each job's rounds, None where it isn't there. Its configuration is that of its rounds."""
+        found = {}
+        for line in self.asks(self.jobs, ["list"])[0].split()[1:]:
+            name, state, rounds = line.split(":")
+            job = submitted((), name, {"two": TWO, "loop": LOOP}[name])[0][0].at(int(rounds))
+            self.assertEqual(state, job.state)
+            self.assertEqual(self.asks(self.jobs, [f"fetch {name}"]), [fetched(job)])
+            found[name] = int(rounds)
+        return found
+
+    def test_two_clients_are_answered_and_their_jobs_run(self):
+        for _ in range(20):
+            self.runs("create", "--disk", self.jobs)
+            self.runs(*self.attends(*self.paths), out=TOLD)
+            found = self.rounds()
+            self.assertEqual(found["two"], 2)
+            self.assertGreater(found["loop"], 0)
+
+    def test_without_scripts_and_runners_nothing_is_told(self):
+        self.runs(*self.attends(runners=0))
+        self.runs("attend", "--disk", self.jobs)
+        self.runs(*self.attends(*self.paths, runners=0), out=TOLD)
+        self.assertEqual(self.rounds(), {"two": 0, "loop": 0})
+
+    def test_a_script_with_a_fault_is_told_with_its_number_and_line_before_the_disk_is_opened(self):
+        bad = [(["list", "", "lists"], 3, "bad syntax"), (["run 1"], 1, "bad syntax"), ([f"submit {'a' * 17} {{}} <|>"], 1, "bad limit")]
+        bad += [(["submit n {} <x|x=A(x)>"], 1, "bad name x"), (["list"] * 65_537, 65_537, "bad limit")]
+        for lines, number, fault in bad:
+            path = self.script("bad", lines)
+            for disk in (self.jobs, self.room / "missing"):
+                line = f"script 1 line {number}: {fault}"
+                self.refuses(*self.attends(self.paths[0], path, disk=disk), line=line, status=1)
+        self.assertEqual(self.rounds(), {})
+
+    def test_a_script_that_cant_be_read_is_read(self):
+        for path in (self.room / "missing", self.room):
+            self.refuses(*self.attends(self.paths[0], path), line="read", status=4)
+        self.assertEqual(self.rounds(), {})
+
+    def test_a_disk_that_cant_be_opened_ends_with_status_3(self):
+        self.refuses(*self.attends(*self.paths, disk=self.room / "missing"), line="device", status=3)
+        (self.room / "zeros").write_bytes(bytes(100))
+        self.refuses(*self.attends(*self.paths, disk=self.room / "zeros"), line="no slot", status=3)
+        with Server(self.jobs) as server:
+            self.assertEqual(server.ask("list"), "jobs")
+            self.refuses(*self.attends(*self.paths), line="device", status=3)
+
+    def test_write_where_standard_output_cant_be_written(self):
+        with open("/dev/full", "wb") as full:
+            self.refuses(*self.attends(*self.paths), line="write", status=4, stdout=full)
+        self.assertEqual(self.rounds()["two"], 2)
+
+    def test_refused_words_end_with_status_2(self):
+        for words in (["--runners", "65"], ["--turns", "1000001"], ["--workers", "0"], ["--workers", "65"], ["--runners", "-1"]):
+            ran = run("attend", "--disk", self.jobs, *words)
+            self.assertEqual((ran.status, ran.out, ran.err[:7]), (2, b"", b"error: "), ran)
+
+    def holds_what_was_answered(self, ran):
+        """The jobs of which `accepted` was told are there."""
+        told, client, found = ran.out.decode().splitlines(), None, self.rounds()
+        for before, line in zip([None, *told], told):
+            client = int(line.split()[1]) if line.startswith("client ") else client
+            if line == "accepted" and before == f"client {client}" and ("two", "loop")[client] not in found:
+                self.told(ran.command, "the jobs that are there", f"that of client {client}, which was told `accepted`", found)
+
+    def test_each_growth_and_start_of_a_thread_is_refused_in_turn(self):
+        for what, how in (("growth", "once"), ("growth", "on"), ("thread", "once"), ("thread", "on")):
+            number, spared, log = 0, 0, self.room / "log"
+            while spared < 5:
+                number += 1
+                self.runs("create", "--disk", self.jobs)
+                ran = run(*self.attends(*self.paths), env=shimmed(f"{what} {number} {how}", log))
+                spared = 0 if was_refused(log) else spared + 1
+                lines = [f"icserve: {it}\n".encode() for it in MEMORY]
+                if ran.status not in (0, 3, 4) or (ran.status and ran.err not in lines) or (not ran.status and ran.out.decode().splitlines() != TOLD):
+                    self.told(ran.command, f"the end, where it went wrong: {what} {number} {how}", f"one of {MEMORY}, or all as ever", ran[1:])
+                self.holds_what_was_answered(ran)
+            self.assertGreater(number, 6)
+
+    def test_kills_at_drawn_moments_leave_jobs_at_some_round(self):
+        draw = self.draws()
+        for _ in range(60):
+            self.runs("create", "--disk", self.jobs)
+            ran = self.killed(self.attends(*self.paths, turns=100_000), draw.random() * 0.02)
+            self.holds_what_was_answered(ran)
+
+    def killed(self, words, seconds):
+        command = [PROGRAM, *map(str, words)]
+        with subprocess.Popen(command, stdout=subprocess.PIPE, stderr=subprocess.PIPE) as started:
+            time.sleep(seconds)
+            started.send_signal(signal.SIGKILL)
+            out, err = started.communicate(timeout=60)
+        return Ran(said_of(command), started.returncode, out, err)

@@ -1,0 +1,104 @@
+"""The launcher `icserve`: it builds the program where that is missing or its sources have changed, and starts it. In place of
+the prover stands a script, so nothing is proved here."""
+
+import os
+import shutil
+import signal
+import subprocess
+import time
+
+from program import PROGRAM, TOP, Trial
+
+# What the launcher and the build call, but for make and rt.
+TOOLS = "sh env cat chmod cp cut dirname find flock grep head ls mkdir mv nice readlink rm sed setsid sha256sum sleep sort xargs touch".split()
+
+# Stands for `rt run` in crates/icserve: counts its calls, and puts the program where the prover would.
+RT = f"""#!/bin/sh
+echo called >> "$CALLS"
+[ -z "$SLOW" ] || sleep "$SLOW"
+[ -z "$FAILS" ] || exit 1
+cp "{PROGRAM}" out/icserve
+"""
+
+
+class Launcher(Trial):
+    def setUp(self):
+        super().setUp()
+        self.calls = self.room / "calls"
+        self.calls.write_text("")
+        for name in ("icserve", "build.mk"):
+            shutil.copy(TOP / name, self.room / name)
+        (self.room / "crates.txt").write_text("icserve:\n")
+        for part in ("src", "specs", "proofs"):
+            (self.room / "crates/icserve" / part).mkdir(parents=True)
+        (self.room / "crates/icserve/src/main.rt").write_text("first\n")
+        self.tools = self.room / "tools"
+        self.tools.mkdir()
+        (self.tools / "rt").write_text(RT)
+        (self.tools / "rt").chmod(0o755)
+        for name in ("make", *TOOLS):
+            if shutil.which(name):
+                (self.tools / name).symlink_to(shutil.which(name))
+
+    def launch(self, *words, given=b"<r|r=Z>", path=None, **variables):
+        env = {"PATH": str(self.tools), "CALLS": str(self.calls), **variables}
+        return subprocess.run([path or self.room / "icserve", *words], input=given, env=env, cwd="/", stdout=subprocess.PIPE, stderr=subprocess.PIPE)
+
+    def built(self):
+        return len(self.calls.read_text().splitlines())
+
+    def test_it_builds_once_and_again_where_a_source_has_changed(self):
+        first = self.launch("settle")
+        self.assertEqual((first.returncode, first.stdout), (0, b"<Z|>\n"), first.stderr)
+        self.assertTrue(first.stderr.startswith(b"icserve: proving and building what has changed"), first.stderr)
+        for _ in range(3):
+            again = self.launch("settle")
+            self.assertEqual((again.returncode, again.stdout, again.stderr), (0, b"<Z|>\n", b""))
+        self.assertEqual(self.built(), 1)
+        (self.room / "crates/icserve/src/main.rt").write_text("second\n")
+        self.assertEqual(self.launch("settle").stdout, b"<Z|>\n")
+        self.assertEqual(self.built(), 2)
+
+    def test_it_hands_on_words_input_and_status_through_links_too(self):
+        (self.room / "folder").mkdir()
+        (self.room / "folder/link").symlink_to("../icserve")
+        self.launch("--version")
+        for path in (self.room / "icserve", self.room / "folder/link"):
+            for words, given, status, said in ((["settle"], b"<|", 1, b"icserve: bad syntax\n"), (["serve", "--disk", "no file"], b"", 3, b"icserve: device\n")):
+                ran = self.launch(*words, given=given, path=path)
+                self.assertEqual((ran.returncode, ran.stdout, ran.stderr), (status, b"", said))
+
+    def test_status_4_where_what_it_is_made_from_isnt_proved(self):
+        ran = self.launch("settle", FAILS="yes")
+        self.assertEqual((ran.returncode, ran.stdout), (4, b""))
+        self.assertIn(b"icserve could not be proved and built; see ", ran.stderr)
+        self.assertEqual(self.launch("settle").stdout, b"<Z|>\n")
+
+    def test_status_4_where_make_is_wanting(self):
+        (self.tools / "make").unlink()
+        ran = self.launch("settle")
+        self.assertEqual((ran.returncode, ran.stdout), (4, b""))
+        self.assertTrue(ran.stderr.endswith(b"icserve: GNU make is wanting\n"), ran.stderr)
+        self.assertEqual(self.built(), 0)
+
+    def test_two_launches_build_once(self):
+        env = {"PATH": str(self.tools), "CALLS": str(self.calls), "SLOW": "0.5"}
+        pipes = {"stdin": subprocess.DEVNULL, "stdout": subprocess.PIPE, "stderr": subprocess.PIPE}
+        started = [subprocess.Popen([self.room / "icserve", "--version"], env=env, **pipes) for _ in range(3)]
+        ended = [it.communicate(timeout=60) for it in started]
+        self.assertEqual([it.returncode for it in started], [0, 0, 0], ended)
+        self.assertEqual(self.built(), 1)
+        self.assertEqual(sum(b"waiting for another launch" in err for _, err in ended), 2, ended)
+
+    def test_a_build_that_is_interrupted_ends_with_its_launch_and_is_begun_anew(self):
+        env = {"PATH": str(self.tools), "CALLS": str(self.calls), "SLOW": "30"}
+        for sign in (signal.SIGINT, signal.SIGTERM, signal.SIGHUP):
+            begun = self.built()
+            started = subprocess.Popen([self.room / "icserve", "settle"], env=env, stdin=subprocess.DEVNULL, stdout=subprocess.PIPE, stderr=subprocess.DEVNULL)
+            while self.built() == begun:
+                time.sleep(0.02)
+            started.send_signal(sign)
+            self.assertEqual(started.wait(20), 4)
+            started.stdout.close()
+            self.assertFalse((self.room / "crates/icserve/out/rooms").exists())
+        self.assertEqual(self.launch("settle").stdout, b"<Z|>\n")
