@@ -1,0 +1,172 @@
+"""Texts, well and badly formed, of all sizes up to the limits: what the program reads, prints and refuses, as the model."""
+
+import draws
+import model
+from against_model import ModelTrial
+from worked_rows import short_texts
+
+SYSTEMS = short_texts("ic_rows", "system", "once")
+CONFIGS = short_texts("ic_rows", "config", "settle", "both_bodies")
+LINES = short_texts("ic_job_rows", "line")
+
+
+def nested(depth, closed=True):
+    return "A(" * depth + "Z" + ")" * (depth if closed else 0)
+
+
+class DrawnTexts(ModelTrial):
+    seconds = 8
+
+    def reads(self, texts):
+        """Texts as systems that are submitted, shown and cancelled again."""
+        lines = []
+        for text in texts:
+            lines += [b"submit a " + (text.encode() if isinstance(text, str) else text), b"fetch a", b"cancel a"]
+        for at in range(0, len(lines), 3_000):
+            self.serve(self.new_disk(), lines[at : at + 3_000])
+
+    def test_each_front_of_a_system(self):
+        self.reads(dict.fromkeys(text[:at] for text in SYSTEMS for at in range(len(text) + 1)))
+
+    def test_each_front_of_a_configuration(self):
+        self.reads(dict.fromkeys(b"{}" + text[:at] for text in CONFIGS for at in range(len(text) + 1)))
+
+    def test_each_front_of_a_line(self):
+        self.serve(self.new_disk(), list(dict.fromkeys(text[:at] for text in LINES for at in range(len(text) + 1))))
+
+    def test_one_byte_changed(self):
+        drawn = self.draws()
+        changed = []
+        for text in SYSTEMS + [b"{}" + it for it in CONFIGS]:
+            for at in drawn.sample(range(len(text)), min(len(text), 40)):
+                changed.append(text[:at] + bytes([drawn.choice([*draws.BYTES, drawn.randrange(256)])]) + text[at + 1 :])
+        self.reads(changed)
+
+    def test_one_byte_of_a_line_changed(self):
+        drawn = self.draws()
+        changed = []
+        for text in LINES:
+            for at in drawn.sample(range(len(text)), min(len(text), 20)):
+                changed.append(text[:at] + bytes([drawn.choice([*draws.BYTES, drawn.randrange(256)])]) + text[at + 1 :])
+        self.serve(self.new_disk(), changed)
+
+    def test_systems(self):
+        drawn = self.draws()
+        texts = []
+        for _ in range(700):
+            text = draws.system_text(*draws.system(drawn, drawn.choice([1, 2, 3, 5, 9]), drawn.choice([3, 6, 15])))
+            texts.append(draws.spaced(drawn, text) if drawn.random() < 0.3 else text)
+        self.reads(texts)
+
+    def test_spoilt_systems(self):
+        drawn = self.draws()
+        texts = []
+        for _ in range(1_500):
+            text = draws.system_text(*draws.system(drawn, drawn.choice([1, 1, 2, 3]), drawn.choice([2, 3, 6]))).encode()
+            for _ in range(drawn.choice([1, 1, 2, 3])):
+                text = draws.spoilt(drawn, text)
+            texts.append(text)
+        self.reads(texts)
+
+    def test_rules_with_faults(self):
+        drawn = self.draws()
+        texts = []
+        for _ in range(1_000):
+            rule_set, config = draws.system(drawn, drawn.choice([1, 2, 3]), 4, lopsided=0.5)
+            listed = [draws.rule_text(rule_set, it) for it in rule_set.rules]
+            if listed and drawn.random() < 0.4:
+                left, right = drawn.choice(listed).split("><")
+                again = drawn.choice([f"{right}><{left}", f"{left}><{right}", f"{left}><{left}"])
+                listed.insert(drawn.randrange(len(listed) + 1), again)
+            text = "{" + ";".join(listed) + "}" + model.printed(rule_set, config)
+            texts.append(draws.altered(drawn, text.encode()) if drawn.random() < 0.3 else text)
+        self.reads(texts)
+
+    def test_texts_of_1_000_to_16_000_bytes(self):
+        drawn = self.draws()
+        texts = [draws.sized_system(drawn, 1_000, 16_000) for _ in range(60)]
+        self.reads(texts)
+        self.reads(draws.spoilt(drawn, text.encode()) for text in texts[:40])
+
+    def test_texts_up_to_the_limit(self):
+        drawn = self.draws()
+        texts = [draws.sized_system(drawn, 16_000, 262_000) for _ in range(8)]
+        self.reads(texts)
+        self.reads([draws.spoilt(drawn, text.encode()) for text in texts[:4]])
+
+    def test_lengths_at_the_limit(self):
+        drawn = self.draws()
+        for length in (262_143, 262_144, 262_145, 262_146):
+            line = draws.padded(drawn, "submit a {A(x)><B(x)}<z|A(x)=B(y),x=y>", length)
+            for lines in (f"list\n{line}\nlist\n", f"list\n{line}", f"{line[:length - 1]}\r\nfetch a"):
+                self.serve(self.new_disk(), lines.encode())
+            self.streamed("settle", draws.padded(drawn, "<r|r=S(s),s=Z>", length).encode())
+            self.streamed("once", draws.padded(drawn, "{A(x)><B(x)}<z|A(x)=B(y),x=y>", length).encode())
+            self.streamed("settle", b"<" * length)
+
+    def test_configurations_settled(self):
+        drawn = self.draws()
+        for _ in range(400):
+            symbols = draws.symbols(drawn, drawn.randint(1, 5), 3)
+            config = draws.configuration(
+                drawn, model.Rules(symbols, []), drawn.randrange(4), drawn.randrange(12), drawn.choice([1, 2, 4])
+            )
+            text = model.printed(model.Rules(symbols, []), config).encode()
+            self.streamed("settle", text)
+            self.streamed("settle", draws.spoilt(drawn, text))
+
+    def test_long_chains_settled(self):
+        drawn = self.draws()
+        for _ in range(30):
+            count = drawn.randint(1, 2_700)
+            links = [f"{model.name_text(at)}=S({model.name_text(at + 1)})" for at in range(count)]
+            if drawn.random() < 0.7:
+                drawn.shuffle(links)
+            links = ["=".join(reversed(it.split("="))) if drawn.random() < 0.3 else it for it in links]
+            self.streamed("settle", f"<a|{','.join(links)}>".encode())
+
+    def test_deep_terms(self):
+        for depth in (2_045, 2_047, 2_048, 8_180, 8_190, 8_191, 8_192, 8_193, 80_000):
+            for closed in (True, False):
+                deep = nested(depth, closed)
+                self.streamed("settle", f"<{deep}|>".encode())
+                self.streamed("settle", f"<|x={deep},x=y>".encode())
+                self.streamed("once", f"{{B({deep})><C}}<|B({deep})=C>".encode())
+                self.reads([f"{{}}<{deep}|>", f"{{B({deep})><C}}<|>", f"{{B><A(x)}}<|{deep}=B>"])
+
+    def test_limits(self):
+        def many(count, text="A", between=","):
+            return between.join([text] * count)
+
+        def counted(count, text, between=","):
+            return between.join(text.replace("#", str(at)) for at in range(1, count + 1))
+
+        texts = []
+        for more in (-1, 0, 1):
+            texts += [
+                f"{{}}<|{many(4_096 + more, 'A=A')}>",
+                f"{{}}<|{many(4_095, 'Z=Z')},Z={nested(more + 1)}>",
+                f"{{}}<{many(64 + more)}|>",
+                f"{{}}<{counted(64 + more, 'A#')}|>",
+                f"{{{counted(64 + more, 'A#><B', ';')}}}<|>",
+                f"{{}}<{'A' * (32 + more)}|>",
+                f"{{{'A' * (32 + more)}><B}}<|>",
+                f"{{}}<A({many(15 + more, 'Z')})|>",
+                f"{{A({many(15 + more, 'Z')})><B}}<|>",
+                f"{{A><B;A><B({many(15 + more, 'x')})}}<|>",
+                "{" + ";".join(f"A{at % 16}><B{at // 16}" for at in range(256 + more)) + "}<|>",
+                f"{{C({nested(2_046 + more)})><B(Z)}}<|>",
+                f"{{B({nested(1_022)})><C(Z);C({nested(1_021 + more)})><D(Z)}}<|>",
+                f"{{}}<{model.name_text(2**32 - 1 + more)}|>",
+                f"{{}}<|A=B({model.name_text(2**32 - 1 + more)})>",
+                f"{{A({model.name_text(2**32 - 1 + more)})><B({model.name_text(2**32 - 1 + more)})}}<|>",
+            ]
+        texts += [f"{{}}<{letter}{'9' * digits}|>" for letter in "az" for digits in (8, 9, 10, 19, 20, 39, 5_000)]
+        self.reads(texts)
+
+    def test_names_of_jobs_and_numbers_of_runs(self):
+        words = [f"{'a' * length}{end}" for length in (1, 14, 15, 16, 17, 40, 9_999) for end in ("", "-", "9")]
+        lines = [f"{word} {name}" for name in words for word in ("fetch", "pause", "resume", "cancel")]
+        lines += [f"submit {name} {{}} <|>" for name in words] + [f"submit {name} {{A><B}} <|A(x)=B>" for name in words]
+        numbers = ["0", "00", "1", "01", "007", "999", "1000", "1001", "9999", "10000", "4294967296", "9" * 20, "9" * 9_999, "1e3", "-1"]
+        self.serve(self.new_disk(), lines + [f"run {number}" for number in numbers])

@@ -1,0 +1,114 @@
+"""The model answers the worked rows as they stand, so model and rows, which the gate tries, say the same."""
+
+import unittest
+
+import model
+import model_disk
+from model import Fault, Refusal
+from worked_rows import expanded, rows
+
+def printed_or_fault(read, text):
+    try:
+        return model.printed(*read(text))
+    except Fault as fault:
+        return str(fault)
+
+
+def rounds(text, most, kind):
+    """What rows of rounds tell: each round with its next name, or how many there are until nothing moves."""
+    rules, config = model.read_system(text)
+    told = []
+    while len(told) < most and not (kind == "ends" and model.is_quiet(rules, config)):
+        try:
+            config = model.round_of(rules, config)
+        except Refusal as refusal:
+            return f"{len(told)} {refusal}"
+        told.append(f"{config.next} {model.printed(rules, config)} ")
+    ending = "quiet" if model.is_quiet(rules, config) else "on"
+    return f"{len(told)} {ending} {model.printed(rules, config)}" if kind == "ends" else "".join(told) + ending
+
+
+def line_told(text):
+    """A line as it is read."""
+    try:
+        word, *rest = model.read_line(text)
+    except Fault as fault:
+        return str(fault)
+    if word == "submit":
+        rest = [rest[0], model.printed(*rest[1:])]
+    return " ".join(map(str, [word, *rest])).strip()
+
+
+def served(text):
+    """What is answered to each of the lines, and the disk that they leave."""
+    disk = model_disk.Disk()
+    disk.create()
+    _, every, lines = text.split(" ", 2)
+    told = []
+    for part in lines.split(" + "):
+        server = model_disk.Server(disk, int(every))
+        told += [server.answer(line) for line in expanded(part).split(b" ; ")]
+    return " ; ".join(it for it in told if it is not None), server
+
+
+class TheModelAnswersTheRows(unittest.TestCase):
+    def answers(self, answer, crate, *kinds):
+        found = rows(crate, *kinds)
+        self.assertTrue(found)
+        for name, kind, text, wanted in found:
+            with self.subTest(name, kind=kind, text=text[:200]):
+                wanted = wanted.partition(b", jobs before")[0]
+                self.assertEqual(answer(kind, text).encode()[:2000], wanted[:2000])
+
+    def test_of_settling(self):
+        def answer(_, text):
+            ran = model_disk.settle(expanded(text))
+            return (ran.out or b"%d " % ran.status + ran.err).decode()[:-1].replace("1 icserve: ", "")
+
+        self.answers(answer, "ic_rows", "settle", "both_bodies")
+
+    def test_of_one_round(self):
+        def answer(_, text):
+            ran = model_disk.once(expanded(text))
+            return (ran.out or ran.err).decode()[:-1].replace("icserve: ", "")
+
+        self.answers(answer, "ic_rows", "once")
+
+    def test_of_texts(self):
+        reads = {"config": model.read_configuration, "system": model.read_system}
+        self.answers(lambda kind, text: printed_or_fault(reads[kind], expanded(text)), "ic_rows", "config", "system")
+
+    def test_of_rounds(self):
+        def answer(kind, text):
+            most, _, system = text.partition(" ")
+            return rounds(expanded(system), int(most), kind)
+
+        self.answers(answer, "ic_rows", "rounds", "ends")
+
+    def test_of_lines(self):
+        self.answers(lambda _, text: line_told(expanded(text)), "ic_job_rows", "line")
+
+    def test_of_served_lines(self):
+        self.answers(lambda _, text: served(text)[0], "ic_serving_rows", "serve", "again")
+
+    def test_of_numbers_of_slots(self):
+        self.answers(lambda _, text: str(served(text)[1].disk.number), "ic_serving_rows", "newest")
+
+    def test_of_histories(self):
+        def answer(_, text):
+            server = served(text)[1]
+            return f"entries {server.entries}, kept {server.kept}"
+
+        self.answers(answer, "ic_serving_rows", "history")
+
+    def test_of_byte_forms(self):
+        def answer(_, text):
+            form = bytes.fromhex(expanded(text).decode())
+            table = model_disk.decode(form)
+            return "not a table" if table is None else table.apply("list")
+
+        self.answers(answer, "ic_job_rows", "bytes")
+
+
+if __name__ == "__main__":
+    unittest.main()
