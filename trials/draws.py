@@ -6,7 +6,8 @@ Each function takes the numbers that it draws from, a `random.Random`. Terms are
 import string
 
 import model
-from model import MAX_NAME, Config, Rule, Rules
+from model import MAX_NAME, Rule, Rules
+from program import TOP
 
 LETTERS = string.ascii_uppercase + string.digits
 TEXTS = LETTERS + string.ascii_lowercase
@@ -70,7 +71,8 @@ def fill(holes, names):
 
 
 def rule(draws, terms, left, right, size=2, lopsided=0.0):
-    """A rule of two symbols, each name twice in it; of a symbol with itself one that is its own swap, or with some luck not."""
+    """A rule of two symbols, each name twice in it. Of a symbol with itself one that is its own swap; the share `lopsided`
+    of them need not be."""
     left_args = terms.arguments(left, size)
     if left == right and draws.random() >= lopsided:
         right_args = [list(term) for term in left_args]
@@ -119,13 +121,13 @@ def names(draws, count, greatest=None):
     return drawn
 
 
-def configuration(draws, rule_set, interface=2, equations=3, size=4, greatest=None):
-    """A configuration over these rules, most of whose equations are active where there are rules."""
+def configuration(draws, rule_set, interface=2, equations=3, size=4, greatest=None, active=0.7):
+    """A configuration over these rules. Where there are rules, such a share of its equations is active."""
     terms = Terms(draws, rule_set.arities)
     face = [terms.term(size) for _ in range(interface)]
     pairs = []
     for _ in range(equations):
-        if rule_set.rules and draws.random() < 0.7:
+        if rule_set.rules and draws.random() < active:
             pair = draws.choice(rule_set.rules)
             sides = [terms.agent(pair.left, size), terms.agent(pair.right, size)]
             draws.shuffle(sides)
@@ -189,6 +191,12 @@ def blanks(draws, count):
     return draws.choice(" \t\r") * count
 
 
+def known_rules():
+    """The rule sets of the folder `examples`, by the names of the files."""
+    texts = {path.stem: path.read_bytes() for path in sorted((TOP / "examples").glob("*.ic"))}
+    return {name: model.read_system(text)[0] for name, text in texts.items() if b"{" in text}
+
+
 def spaced(draws, text):
     """A text with some blanks between its tokens."""
     between = draws.choice([" ", "  ", "\t", " \r"])
@@ -237,5 +245,6 @@ def altered(draws, text):
 
 def joined(parts):
     """A text of tokens, with blanks only where two words would become one."""
-    between = [b" " if one[-1:].isalnum() and two[:1].isalnum() else b"" for one, two in zip(parts, parts[1:])]
+    marks = [part[:1] in b"{}<>|=,;()" for part in parts]
+    between = [b"" if one or two else b" " for one, two in zip(marks, marks[1:])]
     return b"".join(model.flat(zip(parts, between + [b""])))

@@ -1,8 +1,8 @@
 """A small model of the program, written from the pages in docs/ and sharing nothing with it: texts and their faults,
 settling, rounds, and tables of jobs. Bytes, disks and served lines stand in `model_disk`.
 
-A term is a tuple of numbers, its nodes in the order of the text. A name is its number; an agent is -1 less the number of
-its symbol, and its arguments follow. So a term of any depth is a flat list, and the number of its nodes is its length.
+A term is a tuple of numbers, its nodes in the order of the text. A name is its number; an agent is -1 less its symbol's
+number, and its arguments follow. So a term of any depth is a flat list, and its length is the number of its nodes.
 """
 
 import re
@@ -56,7 +56,7 @@ def name_text(name):
     return chr(ord("a") + letter) + (str(digits) if digits else "")
 
 
-# Phrases. As it is written, a term is a list of nodes too: a name's number, or a symbol's text with its number of arguments.
+# Phrases. A term as it is written is a list of nodes too: a name's number, or a symbol's text and how many arguments it has.
 
 
 class Reader:

@@ -121,7 +121,7 @@ class FormReader:
             rules.append(Rule(left, right, *model.numbered(*arguments)))
             need(rules[-1][2:4] == (arguments[0], arguments[1]))
         need(len(rules) <= model.MAX_RULES)
-        need(sum(len(term) for rule in rules for term in rule.left_args + rule.right_args) <= model.MAX_RULE_NODES)
+        need(sum(len(term) for it in rules for term in it.left_args + it.right_args) <= model.MAX_RULE_NODES)
         need(not (model.first_unpaired(rules) or model.first_repeated(rules) or model.first_lopsided(rules)))
         return Rules(symbols, rules)
 

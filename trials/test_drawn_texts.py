@@ -1,4 +1,4 @@
-"""Texts, well and badly formed, of all sizes up to the limits: what the program reads, prints and refuses, as the model."""
+"""Texts, well and badly formed, of all sizes up to the limits: what the program reads, prints and refuses."""
 
 import draws
 import model
@@ -168,5 +168,5 @@ class DrawnTexts(ModelTrial):
         words = [f"{'a' * length}{end}" for length in (1, 14, 15, 16, 17, 40, 9_999) for end in ("", "-", "9")]
         lines = [f"{word} {name}" for name in words for word in ("fetch", "pause", "resume", "cancel")]
         lines += [f"submit {name} {{}} <|>" for name in words] + [f"submit {name} {{A><B}} <|A(x)=B>" for name in words]
-        numbers = ["0", "00", "1", "01", "007", "999", "1000", "1001", "9999", "10000", "4294967296", "9" * 20, "9" * 9_999, "1e3", "-1"]
-        self.serve(self.new_disk(), lines + [f"run {number}" for number in numbers])
+        numbers = ["0", "00", "1", "01", "007", "999", "1000", "1001", "9999", "10000", "4294967296", "1e3", "-1", "9" * 20]
+        self.serve(self.new_disk(), lines + [f"run {number}" for number in [*numbers, "9" * 9_999]])
