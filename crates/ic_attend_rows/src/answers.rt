@@ -4,11 +4,20 @@
 //! - `meeting WANTED RUNNERS TURNS WORKERS SCRIPTS`: the same, where each work waits until so many have begun.
 //! - `during COMMAND | SCRIPT`: a script of two commands, the second answered while a round of the job is made.
 //! - `drawn SEED COUNT`: so many drawn sets of scripts.
-//! - `fused CALLS`: two clients on a disk that fails at a call, once for each call up to this one.
+//! - `counted DISK RUNNERS TURNS WORKERS SCRIPTS`: how many answers each client has, and why it ended; on a `new` disk or
+//!   a changed one.
+//! - `unopened DISK`: why a disk isn't attended that is cut to a length, or has a slot `twice`.
+//! - `served SCRIPT`: a script attended, and given to a book.
+//! - `fused WHEN CALLS`: two clients on a disk that fails at a call, once for each call up to this one, `before` the call
+//!   is made or `after`.
 
-use crate::attending::{Wanted, attended};
-use crate::drawn::{drawn, each_fused};
+use crate::attending::{Wanted, attended, counted};
+use crate::disks::{changed, unopened};
+use crate::drawn::drawn;
+use crate::failing::each_fused;
 use crate::gates::{Meeting, answered_during_round};
+use crate::served::served;
+use ic_disk::Blow;
 use ic_notation::{Row, Trouble, expanded};
 use ic_pool::OpenGate;
 use std::alloc::Global;
@@ -49,7 +58,14 @@ pub fn answer<R: Threads + Wait + Clock + Sync>(
             let (seed, rest) = number_first(&text);
             drawn(rt, alloc, seed as u64, number_first(rest).0)
         }
-        "fused" => each_fused(rt, alloc, number_first(&text).0 as u64),
+        "counted" => {
+            let (disk, rest) = text.split_once(' ').unwrap_or((&text, ""));
+            let (wanted, scripts) = wanted_of(rest);
+            counted(rt, alloc, changed(alloc, disk)?, wanted, scripts)
+        }
+        "unopened" => unopened(rt, alloc, &text),
+        "served" => served(rt, alloc, &text),
+        "fused" => fused_of(rt, alloc, &text),
         _ => Err(Trouble("no such kind")),
     }
 }
@@ -65,4 +81,18 @@ fn wanted_of(text: &str) -> (Wanted, &str) {
         workers,
     };
     (wanted, scripts)
+}
+
+fn fused_of<R: Threads + Wait + Sync>(
+    rt: &R,
+    alloc: Global,
+    text: &str,
+) -> Result<Vec<u8>, Trouble> {
+    let (when, calls) = text.split_once(' ').unwrap_or((text, ""));
+    let blow = if when == "after" {
+        Blow::After
+    } else {
+        Blow::Before
+    };
+    each_fused(rt, alloc, number_first(calls).0 as u64, blow)
 }

@@ -1,14 +1,15 @@
-//! Scripts that are attended on a new disk, and what is told of it.
+//! Scripts that are attended, and what is told of it.
 
 use crate::checker::{Past, check};
+use crate::disks::new_disk;
 use crate::scripts::scripts_of;
 use ic_attend::{AttendFault, Attended, ClientRun, RunnerEnd, attend};
 use ic_commands::print_reply;
-use ic_disk::{Disk, MemDisk};
+use ic_desk::BookFault;
+use ic_disk::Disk;
 use ic_jobs::{Command, Job, State, Table};
 use ic_notation::{Trouble, decimal, printed};
-use ic_pool::Gate;
-use ic_slots::create;
+use ic_pool::{Gate, OpenGate};
 use std::alloc::Global;
 use std::sync::Wait;
 use std::thread::Threads;
@@ -19,15 +20,6 @@ pub struct Wanted {
     pub runners: usize,
     pub turns: usize,
     pub workers: usize,
-}
-
-/// A new disk with the empty table.
-pub fn new_disk(alloc: Global) -> Result<MemDisk, Trouble> {
-    let mut disk = MemDisk::new(alloc);
-    match create(alloc, &mut disk) {
-        Ok(()) => Ok(disk),
-        Err(_fault) => Err(Trouble("not created")),
-    }
 }
 
 /// Scripts attended on a disk.
@@ -53,6 +45,25 @@ pub fn attended_on<R: Threads + Wait + Sync, D: Disk + Send + Drop, G: Gate>(
     }
 }
 
+/// Scripts attended on a disk that holds the empty table, and the history looked over.
+pub fn looked_over<R: Threads + Wait + Sync, D: Disk + Send + Drop, G: Gate>(
+    rt: &R,
+    alloc: Global,
+    disk: D,
+    wanted: Wanted,
+    scripts: &str,
+    gate: &G,
+) -> Result<Attended<D>, Trouble> {
+    let done = attended_on(rt, alloc, disk, wanted, scripts_of(alloc, scripts)?, gate)?;
+    let past = Past {
+        opening: Table::new(alloc),
+        scripts: scripts_of(alloc, scripts)?,
+        wanted,
+    };
+    check(alloc, past, &done)?;
+    Ok(done)
+}
+
 /// What each client is answered, and the jobs that are left: a job that runs without its rounds, which differ from run to
 /// run.
 pub fn attended<R: Threads + Wait + Sync, G: Gate>(
@@ -62,15 +73,7 @@ pub fn attended<R: Threads + Wait + Sync, G: Gate>(
     scripts: &str,
     gate: &G,
 ) -> Result<Vec<u8>, Trouble> {
-    let disk = new_disk(alloc)?;
-    let done = attended_on(rt, alloc, disk, wanted, scripts_of(alloc, scripts)?, gate)?;
-    let past = Past {
-        opening: Table::new(alloc),
-        scripts: scripts_of(alloc, scripts)?,
-        runners: wanted.runners,
-        turns: wanted.turns,
-    };
-    check(alloc, past, &done)?;
+    let done = looked_over(rt, alloc, new_disk(alloc)?, wanted, scripts, gate)?;
     let mut line = Vec::new(alloc);
     for run in &done.answers {
         tell_run(alloc, &mut line, run)?;
@@ -91,6 +94,36 @@ pub fn attended<R: Threads + Wait + Sync, G: Gate>(
         line.pop();
     }
     Ok(line)
+}
+
+/// How many answers each client has, and why it ended.
+pub fn counted<R: Threads + Wait + Sync, D: Disk + Send + Drop>(
+    rt: &R,
+    alloc: Global,
+    disk: D,
+    wanted: Wanted,
+    scripts: &str,
+) -> Result<Vec<u8>, Trouble> {
+    let done = looked_over(rt, alloc, disk, wanted, scripts, &OpenGate)?;
+    let mut line = Vec::new(alloc);
+    for run in &done.answers {
+        decimal(&mut line, run.answers.len() as u64)?;
+        line.extend_from_slice(end_words(run.end))?;
+    }
+    decimal(&mut line, done.answers.len() as u64)?;
+    line.extend_from_slice(b" clients")?;
+    Ok(line)
+}
+
+fn end_words(end: Option<BookFault>) -> &'static [u8] {
+    match end {
+        None => b" ; ",
+        Some(BookFault::Broken) => b" broken ; ",
+        Some(BookFault::LogFull) => b" log full ; ",
+        Some(BookFault::Worn) => b" worn ; ",
+        Some(BookFault::Memory) => b" memory ; ",
+        Some(BookFault::Device) => b" device ; ",
+    }
 }
 
 /// What a client was answered.

@@ -1,23 +1,23 @@
 //! A checker of histories. It replays the log on the opening table, entry by entry, and takes each command of the log as the
-//! next of its client's script. It has nothing of the code that attends.
+//! next of its client's script. It shares no code with what attends.
 
+use crate::attending::Wanted;
 use ic_attend::{Attended, ClientRun, RunnerEnd};
 use ic_commands::print_reply;
-use ic_desk::BookFault;
+use ic_desk::{Book, BookFault};
 use ic_disk::Disk;
 use ic_jobs::{Command, Entry, Event, Landed, Reply, State, Table};
 use ic_notation::{Trouble, printed};
-use ic_pool::play_alone;
+use ic_pool::{PoolFault, play_alone};
 use ic_rules::{JobName, System};
 use std::alloc::Global;
 
-/// What was attended: on which table, by which scripts, with how many runners and turns.
+/// What was attended: on which table, which scripts, and how.
 #[derive(Drop)]
 pub struct Past {
     pub opening: Table,
     pub scripts: Vec<Vec<Command>>,
-    pub runners: usize,
-    pub turns: usize,
+    pub wanted: Wanted,
 }
 
 /// Makes sure that what was attended is one history of these scripts.
@@ -25,7 +25,7 @@ pub fn check<D: Disk>(alloc: Global, past: Past, done: &Attended<D>) -> Result<(
     if *done.book.start() != past.opening {
         return Err(Trouble("another opening table"));
     }
-    if done.answers.len() != past.scripts.len() || done.ends.len() != past.runners {
+    if done.answers.len() != past.scripts.len() || done.ends.len() != past.wanted.runners {
         return Err(Trouble("a thread has no end"));
     }
     let mut table = past.opening;
@@ -55,11 +55,11 @@ pub fn check<D: Disk>(alloc: Global, past: Past, done: &Attended<D>) -> Result<(
         return Err(Trouble("another table is left"));
     }
     check_clients(&past.scripts, &given, done)?;
-    check_runners(past.turns, done)
+    check_runners(past.wanted, done)
 }
 
 /// The round of a job that runs, on the table.
-fn make_round(
+pub fn make_round(
     alloc: Global,
     table: &mut Table,
     name: JobName,
@@ -164,15 +164,29 @@ fn check_clients<D: Disk>(
         if run.answers.len() != *count {
             return Err(Trouble("an answer too many"));
         }
-        if run.end.is_none() && *count != script.len() {
-            return Err(Trouble("a script isn't finished"));
+        let holds = match run.end {
+            None => *count == script.len(),
+            Some(fault) => is_so(fault, &done.book),
+        };
+        if !holds {
+            return Err(Trouble("a client's end isn't so"));
         }
     }
     Ok(())
 }
 
-/// Each runner's end is as the table and the log have it.
-fn check_runners<D: Disk>(turns: usize, done: &Attended<D>) -> Result<(), Trouble> {
+/// Whether a book is as a refusal says. Memory is ample.
+fn is_so<D: Disk>(fault: BookFault, book: &Book<D>) -> bool {
+    match fault {
+        BookFault::Broken | BookFault::Device => book.broken(),
+        BookFault::LogFull => book.log().len() == 65_536,
+        BookFault::Worn => book.worn(),
+        BookFault::Memory => false,
+    }
+}
+
+/// Each runner's end is as the book has it. Threads are there to be had.
+fn check_runners<D: Disk>(wanted: Wanted, done: &Attended<D>) -> Result<(), Trouble> {
     let mut rounds = 0usize;
     for entry in done.book.log() {
         if matches!(entry.event, Event::Round(_)) {
@@ -187,12 +201,12 @@ fn check_runners<D: Disk>(turns: usize, done: &Attended<D>) -> Result<(), Troubl
                 .jobs()
                 .iter()
                 .all(|job| job.state() != State::Running),
-            RunnerEnd::Turns => rounds >= turns,
-            RunnerEnd::Book(_) => true,
-            RunnerEnd::Pool(_) => true,
+            RunnerEnd::Turns => rounds >= wanted.turns,
+            RunnerEnd::Book(fault) => is_so(*fault, &done.book),
+            RunnerEnd::Pool(fault) => *fault == PoolFault::NoWorkers && wanted.workers == 0,
         };
         if !holds {
-            return Err(Trouble("an end that isn't so"));
+            return Err(Trouble("a runner's end isn't so"));
         }
     }
     Ok(())

@@ -1,7 +1,8 @@
 //! Gates that hold works and clients up, each for at most 10,000 turns of a millisecond.
 
-use crate::attending::{Wanted, attended_on, new_disk};
+use crate::attending::{Wanted, attended_on};
 use crate::checker::{Past, check};
+use crate::disks::new_disk;
 use crate::scripts::{command_of, scripts_of};
 use ic_desk::Book;
 use ic_notation::Trouble;
@@ -121,8 +122,7 @@ pub fn answered_during_round<R: Threads + Wait + Clock + Sync>(
     let past = Past {
         opening,
         scripts: scripts_of(alloc, script)?,
-        runners: wanted.runners,
-        turns: wanted.turns,
+        wanted,
     };
     check(alloc, past, &done)?;
     Ok(Vec::from_slice(alloc, b"answered")?)

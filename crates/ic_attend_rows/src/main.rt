@@ -5,9 +5,12 @@
 mod answers;
 mod attending;
 mod checker;
+mod disks;
 mod drawn;
+mod failing;
 mod gates;
 mod scripts;
+mod served;
 
 use crate::answers::answer;
 use ic_notation::{Row, Tally};

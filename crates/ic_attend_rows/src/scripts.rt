@@ -26,7 +26,7 @@ pub fn scripts_of(alloc: Global, text: &str) -> Result<Vec<Vec<Command>>, Troubl
 }
 
 /// The commands of one script; none where there is no text.
-fn script_of(alloc: Global, text: &str) -> Result<Vec<Command>, Trouble> {
+pub fn script_of(alloc: Global, text: &str) -> Result<Vec<Command>, Trouble> {
     let mut commands = Vec::new(alloc);
     if text.is_empty() {
         return Ok(commands);
