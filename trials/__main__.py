@@ -39,7 +39,8 @@ def tried(name):
     faults = [text for _, text in result.errors + result.failures]
     skipped = [reason for _, reason in result.skipped]
     how = "FAILED" if faults else "skipped" if skipped else "ok"
-    return name, time.monotonic() - began, how, "\n".join(faults or skipped)
+    text = "\n".join(faults or skipped).encode("ascii", "backslashreplace").decode()
+    return name, time.monotonic() - began, how, text
 
 
 def main(words):

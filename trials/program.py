@@ -63,6 +63,12 @@ def said_of(command, given=b""):
     return f"{text}\n  given  {shown(given)}" if given else text
 
 
+def heeds_signals():
+    """Has a program that is started heed the signals to end, which a shell in the background has it ignore."""
+    for sign in (signal.SIGINT, signal.SIGTERM, signal.SIGHUP):
+        signal.signal(sign, signal.SIG_DFL)
+
+
 def run(*words, given=b"", program=None, seconds=PATIENCE, **how):
     """Runs the program with these words on a standard input, and waits until it has ended. `how` goes to `Popen`."""
     command = [program or PROGRAM, *map(str, words)]

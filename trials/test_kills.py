@@ -4,7 +4,7 @@ import signal
 import time
 
 from known import LOOP, drawn_line
-from program import Server
+from program import Server, heeds_signals
 from stops import Stops
 
 
@@ -19,7 +19,7 @@ class Kills(Stops):
         for _ in range(kills):
             every, workers = draw.choice((1, 3, 100)), draw.choice((1, 2, 7))
             lines = [drawn_line(draw) for _ in range(draw.choice((15, 30, 300)))]
-            with Server(disk, "--every", every, "--workers", workers) as server:
+            with Server(disk, "--every", every, "--workers", workers, preexec_fn=heeds_signals) as server:
                 if len(lines) == 300:
                     server.send(lines)
                     time.sleep(draw.random() * 0.012)
@@ -63,7 +63,7 @@ class Kills(Stops):
         for sign in (signal.SIGTERM, signal.SIGINT, signal.SIGHUP, signal.SIGKILL):
             disk = self.disk(f"{sign}.disk")
             lines = [f"submit loop {LOOP.text}", "run 1000", "list"] + ["run 1000"] * 5
-            with Server(disk, "--every", "1") as server:
+            with Server(disk, "--every", "1", preexec_fn=heeds_signals) as server:
                 server.send(lines[:2])
                 self.assertEqual([server.answer(), server.answer()], ["accepted", "ran 1000"])
                 server.send(lines[2:])

@@ -7,7 +7,7 @@ import signal
 import subprocess
 import time
 
-from program import PROGRAM, TOP, Trial
+from program import PROGRAM, TOP, Trial, heeds_signals
 
 # What the launcher and the build call, but for make and rt.
 TOOLS = "sh env cat chmod cp cut dirname find flock grep head ls mkdir mv nice readlink rm sed setsid sha256sum sleep sort xargs touch".split()
@@ -94,11 +94,12 @@ class Launcher(Trial):
         env = {"PATH": str(self.tools), "CALLS": str(self.calls), "SLOW": "30"}
         for sign in (signal.SIGINT, signal.SIGTERM, signal.SIGHUP):
             begun = self.built()
-            started = subprocess.Popen([self.room / "icserve", "settle"], env=env, stdin=subprocess.DEVNULL, stdout=subprocess.PIPE, stderr=subprocess.DEVNULL)
+            pipes = {"stdin": subprocess.DEVNULL, "stdout": subprocess.DEVNULL, "stderr": subprocess.DEVNULL}
+            started = subprocess.Popen([self.room / "icserve", "settle"], env=env, preexec_fn=heeds_signals, **pipes)
+            self.addCleanup(started.kill)
             while self.built() == begun:
                 time.sleep(0.02)
             started.send_signal(sign)
             self.assertEqual(started.wait(20), 4)
-            started.stdout.close()
             self.assertFalse((self.room / "crates/icserve/out/rooms").exists())
         self.assertEqual(self.launch("settle").stdout, b"<Z|>\n")
