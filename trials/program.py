@@ -69,9 +69,10 @@ def heeds_signals():
         signal.signal(sign, signal.SIG_DFL)
 
 
-def run(*words, given=b"", program=None, seconds=PATIENCE, **how):
-    """Runs the program with these words on a standard input, and waits until it has ended. `how` goes to `Popen`."""
-    command = [program or PROGRAM, *map(str, words)]
+def run(*words, given=b"", program=None, before=(), seconds=PATIENCE, **how):
+    """Runs the program with these words on a standard input, and waits until it has ended. `before` is a command that starts
+    it, and `how` goes to `Popen`."""
+    command = [*before, program or PROGRAM, *map(str, words)]
     given = as_lines(given)
     pipes = {"stdin": subprocess.PIPE, "stdout": subprocess.PIPE, "stderr": subprocess.PIPE}
     with subprocess.Popen(command, **{**pipes, **how}) as started:
@@ -87,8 +88,8 @@ def run(*words, given=b"", program=None, seconds=PATIENCE, **how):
 class Server:
     """A server that runs, over pipes. Used in a `with`, which kills what still runs at its end."""
 
-    def __init__(self, disk, *words, program=None, **how):
-        self.command = [program or PROGRAM, "serve", "--disk", str(disk), *map(str, words)]
+    def __init__(self, disk, *words, program=None, before=(), **how):
+        self.command = [*before, program or PROGRAM, "serve", "--disk", str(disk), *map(str, words)]
         pipes = {"stdin": subprocess.PIPE, "stdout": subprocess.PIPE, "stderr": subprocess.PIPE}
         self.process = subprocess.Popen(self.command, bufsize=0, **{**pipes, **how})
         self.given = bytearray()

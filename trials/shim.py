@@ -1,7 +1,9 @@
-"""The shim between the program and the C library (shim.c): it refuses one call of the program, or records its calls."""
+"""The shim between the program and the C library (shim.c): it refuses one call of the program, or records its calls. Where
+there is none, strace records them."""
 
 import atexit
 import os
+import re
 import shutil
 import subprocess
 import tempfile
@@ -64,17 +66,56 @@ def shimmed(refused="", log=None):
     return {**os.environ, **how}
 
 
+def recording(log):
+    """How the program is started so that what it does with files is recorded: by the shim, or else by strace. A trial that
+    asks for it is skipped where neither is there."""
+    prepare()
+    if "SHIM_AT" in os.environ:
+        return {"env": shimmed(log=log)}
+    calls = "trace=openat,open,lseek,read,write,fsync,fdatasync,ftruncate"
+    tracing = ["strace", "-f", "-xx", "-s", "100000000", "-e", calls, "-e", "signal=none", "-o", str(log)]
+    if not shutil.which("strace") or subprocess.run([*tracing, "true"], stderr=subprocess.DEVNULL).returncode:
+        raise unittest.SkipTest(f"{os.environ['SHIM_MISSING']}, and there is no strace that may trace")
+    return {"before": tracing}
+
+
 def noted(log):
-    """What the shim has recorded, in order."""
-    data, at, calls = Path(log).read_bytes(), 0, []
+    """What the shim, or strace, has recorded, in order."""
+    data = Path(log).read_bytes()
+    return list(noted_by_strace(data.decode()) if re.match(rb"\d+ +\w+\(", data) else noted_by_shim(data))
+
+
+def noted_by_shim(data):
+    at = 0
     while at < len(data):
         end = data.index(b"\n", at)
         kind, where, length = data[at:end].decode().split()
         at = end + 1
         size = int(length) if kind in "WO" else 0
-        calls.append(Noted(kind, int(where), int(length), data[at : at + size]))
+        yield Noted(kind, int(where), int(length), data[at : at + size])
         at += size
-    return calls
+
+
+def noted_by_strace(text):
+    """Where a write goes is told by the calls before it on its file."""
+    places = {}
+    for name, words, answer in re.findall(r"(?m)^\d+ +(\w+)\((.*)\) += (-?\d+)", text):
+        first, count = words.split(",")[0], int(answer)
+        if count < 0:
+            continue
+        if name in ("open", "openat"):
+            places[str(answer)] = 0
+        elif name == "lseek":
+            places[first] = count
+        elif name in ("fsync", "fdatasync"):
+            yield Noted("S", 0, 0, b"")
+        elif name == "ftruncate":
+            yield Noted("T", int(words.split(",")[1]), 0, b"")
+        elif name in ("read", "write"):
+            if name == "write" and first != "2":
+                data = bytes.fromhex(words.split('"')[1].replace("\\x", ""))[:count]
+                yield Noted("O" if first == "1" else "W", places.get(first, 0), count, data)
+            places[first] = places.get(first, 0) + count
 
 
 def was_refused(log):

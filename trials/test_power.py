@@ -6,7 +6,7 @@ from typing import NamedTuple
 from disks import EMPTY, SECOND, put, slot
 from known import answered, drawn_line
 from program import Server
-from shim import noted, shimmed
+from shim import noted, recording
 from stops import Stops
 
 LIVES = 25
@@ -96,7 +96,6 @@ class Power(Stops):
 
     def setUp(self):
         super().setUp()
-        shimmed()
         self.file = self.room / "image.disk"
 
     def life(self, draw, begun, table):
@@ -104,7 +103,7 @@ class Power(Stops):
         every, disk, log = draw.choice((1, 2, 100)), self.room / "life.disk", self.room / "log"
         lines = [drawn_line(draw, 6, (0, 1, 2, 7)) for _ in range(LINES)]
         begun.write(disk)
-        with Server(disk, "--every", every, env=shimmed(log=log)) as server:
+        with Server(disk, "--every", every, **recording(log)) as server:
             for line in lines:
                 server.send(line)
                 if line:
@@ -146,7 +145,7 @@ class Power(Stops):
         draw, disk, log = self.draws(), self.room / "new.disk", self.room / "log"
         for before in (Content(b"", b"", 0), Content(slot(5, EMPTY), slot(6, b"torn"), SECOND + 17)):
             before.write(disk)
-            self.runs("create", "--disk", disk, env=shimmed(log=log))
+            self.runs("create", "--disk", disk, **recording(log))
             for moment in moments_of(before, noted(log)):
                 for _ in range(4):
                     image_of(draw, moment).write(self.file)
