@@ -113,7 +113,7 @@ class Server:
         self.given += text
         self.process.stdin.write(text)
 
-    def answer(self, seconds=PATIENCE):
+    def answer(self, seconds=PATIENCE / 4):
         """The next line that the program answers, without its line feed; None where it ends or is silent before."""
         end = time.monotonic() + seconds
         while b"\n" not in self.came[self.taken :]:

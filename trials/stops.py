@@ -18,6 +18,12 @@ class Stops(Trial):
         wanted = [asked_for(it)[1] for it in tables]
         self.told(ran.command, f"what the next server finds, after {ran.out.count(10)} answers", f"one of {wanted[:9]}", came)
 
+    def answers_to(self, lines, every, table=()):
+        """The answers to lines over a table, None of a blank one."""
+        for line in lines:
+            _, table, answer = answered(table, line, every)
+            yield answer
+
     def may_be_left(self, ran, lines, table, every, ahead=None):
         """Compares the answers of a server that has ended with the lines that it was given: the tables that it may have left.
         The last answer may be cut; so many lines may be done that aren't answered."""

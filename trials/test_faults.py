@@ -110,8 +110,10 @@ class Faults(Stops):
                 self.is_fault(ran, call, *faults)
             elif (ran.status, ran.err) != (0, b""):
                 self.told(ran.command, f"the end, where it went wrong: {call}", "status 0", (ran.status, ran.err))
-            tables = self.may_be_left(ran, lines, (), every, ahead=1)
-            self.found(ran, disk, tables)
+            answers = [it for it in self.answers_to(lines, every) if it is not None]
+            if not ran.status:
+                self.agrees(ran.command, "the answers of a serving that went well", "\n".join(answers) + "\n", ran.out)
+            self.found(ran, disk, self.may_be_left(ran, lines, (), every, ahead=1))
 
         return self.in_turn(what, ways, attempt)
 

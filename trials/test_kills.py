@@ -26,8 +26,8 @@ class Kills(Stops):
                 else:
                     for line in lines[:-1]:
                         server.send(line)
-                        if line:
-                            server.answer()
+                        if line and server.answer() is None:
+                            self.told(server.command, f"the answer to {line}", "a line", "nothing")
                     server.send(lines[-1])
                     time.sleep(draw.random() * 0.0006)
                 ran = stop(server, draw)

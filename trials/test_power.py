@@ -106,8 +106,8 @@ class Power(Stops):
         with Server(disk, "--every", every, **recording(log)) as server:
             for line in lines:
                 server.send(line)
-                if line:
-                    server.answer()
+                if line and server.answer() is None:
+                    break
             ran = server.end()
         kept, behind, answers = [table], [1], []
         for line in lines:
