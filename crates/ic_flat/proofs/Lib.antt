@@ -1,3 +1,4 @@
 pub mod StackLemmas
 pub mod WritingLemmas
 pub mod TestingLemmas
+pub mod PlaceLemmas

@@ -9,6 +9,7 @@ mod arities;
 mod equality;
 mod flat;
 pub mod laws;
+mod places;
 mod reading;
 mod testing;
 mod word;
@@ -16,4 +17,5 @@ mod writing;
 
 pub use arities::over;
 pub use flat::Flat;
+pub use places::end_of_term;
 pub use word::{Word, terms_in};

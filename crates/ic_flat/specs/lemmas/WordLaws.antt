@@ -105,6 +105,15 @@ length-with_word (Agent s arity) ts there = omega (arith, length-drop arity ts)
 pub length-forest : (w : Word) (ws : List Word) → arguments w ≤ length (forest ws) → length (forest (w ∷ ws)) + arguments w ≡ length (forest ws) + 1
 length-forest w ws there = length-with_word w (forest ws) there
 
+-- there are no more terms than words
+length-with_word-le : (w : Word) (ts : List Tree) → length (with_word w ts) ≤ length ts + 1
+length-with_word-le (Name n) ts = omega arith
+length-with_word-le (Agent s arity) ts = omega (arith, length-drop arity ts)
+
+pub forest-le : (ws : List Word) → length (forest ws) ≤ length ws
+forest-le [] = omega arith
+forest-le (w ∷ ws) = omega (arith, length-with_word-le w (forest ws), forest-le ws)
+
 -- each word is a node
 pub nodes-forest : (ws : List Word) → sum_by nodes (forest ws) ≡ length ws
 nodes-forest [] = refl

@@ -1,0 +1,23 @@
+//! Places of terms among words.
+
+ghost use Rattle.std.specs.Prelude.{◌≡◌, ◌<◌, ◌≤◌, length, drop};
+ghost use Rattle.ic_flat.specs.Words.{forest, IsWhole};
+
+use crate::word::Word;
+
+/// The place behind the term that begins at a place. Takes as many steps as the term has nodes.
+pub fn end_of_term(words: &[Word], place: usize) -> usize
+    requires whole { IsWhole words.now }
+    requires there { place < length words.now }
+    ensures behind { place < result }
+    ensures within { result ≤ length words.now }
+    ensures rest { forest (drop result words.now) ≡ drop 1 (forest (drop place words.now)) }
+{
+    let mut due = 1;
+    let mut end = place;
+    while due > 0 {
+        due = due - 1 + words[end].arguments();
+        end += 1;
+    }
+    end
+}
