@@ -1,13 +1,14 @@
 -- What answers the front of a text that was taken answers the text.
-use Rattle.std.proofs.Common.{◌≡◌, ◌⊎◌, ⊎_elim, ℕ, List, [], ◌++◌, Option, Result, Ok, Err, OnErr, length}
-use Rattle.std.specs.Prelude.{IfOk, IfErr, OnOk}
+use Rattle.std.proofs.Common.{◌≡◌, ◌⊎◌, ⊎_elim, ℕ, List, ◌++◌, Option, Result, Ok, Err}
+use Rattle.std.specs.Prelude.{IfOk}
 use Rattle.std.specs.Result.{IsErrAnd}
 use Rattle.std.specs.Io.KnownBytes.{Appends}
-use Rattle.ic_streams.specs.Streams.{Answering, FaultOf, IsAnswered, OfText, TakesIt}
+use Rattle.ic_streams.specs.Streams.{FaultOf, IsAnswered, OfText, TakesIt}
 use Rattle.ic_streams.specs.lemmas.Reading.{Carried, OfFronts, answered_as, of_each, of_front, read_as}
 use Rattle.ic_streams.specs.declared.fault.StreamFault.{StreamFault}
 use Rattle.ic_streams.specs.declared.fault.StreamFault.TheVariants.{Read, Text, Round, Memory, Write}
 use Rattle.ic_looks.specs.Reductions.{EndsAs, Reduces}
+use Rattle.ic_looks.specs.Tables.{Traces}
 use Rattle.ic_looks.specs.declared.reduction.Reduction.{Reduction}
 
 reduces_carried : (most : ℕ) → Carried (Reduces most)
@@ -18,6 +19,15 @@ reduces_carried most front rest end (Err (Round fault)) s = record { system = s.
 reduces_carried most front rest end (Err Read) s = absurd s
 reduces_carried most front rest end (Err Memory) s = absurd s
 reduces_carried most front rest end (Err Write) s = absurd s
+
+pub traces_carried : (most : ℕ) → Carried (Traces most)
+traces_carried most front rest end (Ok table) s =
+    record { system = s.system; rows = s.rows; reads = read_as _ _ front rest end _ s.reads; traced = s.traced; prints = s.prints }
+traces_carried most front rest end (Err (Text fault)) s = (read_as _ _ front rest end _ s.0, s.1)
+traces_carried most front rest end (Err (Round fault)) s = record { system = s.system; rounds = s.rounds; reads = read_as _ _ front rest end _ s.reads; refused = s.refused }
+traces_carried most front rest end (Err Read) s = absurd s
+traces_carried most front rest end (Err Memory) s = absurd s
+traces_carried most front rest end (Err Write) s = absurd s
 
 ends_carried : (most : ℕ) (reduction : Reduction) → OfFronts (λ text. EndsAs most text reduction)
 ends_carried most reduction front rest end s =

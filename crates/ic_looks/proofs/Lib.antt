@@ -2,3 +2,5 @@ pub mod Rounds
 pub mod Reductions
 pub mod Symbols
 pub mod Answered
+pub mod Counting
+pub mod Interactions

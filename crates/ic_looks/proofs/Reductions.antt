@@ -1,5 +1,5 @@
 -- Lemmas for the laws of reducing.
-use Rattle.std.proofs.Common.{◌≡◌, ◌⊎◌, inl, inr, ℕ, zero, suc, ◌+◌, ◌-◌, ◌&&◌, ◌<◌, ◌≤◌, List, [], ◌∷◌, ◌++◌, Bool, true, false, Option, None, Some, is_none, Result, Ok, Err, cond, refl, sym, ap, ◌∙◌, arith, add-one, add-suc, add-zero, subst}
+use Rattle.std.proofs.Common.{◌≡◌, ◌⊎◌, inl, inr, ℕ, zero, suc, ◌+◌, ◌-◌, ◌&&◌, ◌<◌, ◌≤◌, List, [], ◌∷◌, ◌++◌, Bool, true, false, Option, None, Some, is_none, Ok, Err, cond, refl, sym, ap, ◌∙◌, arith, add-one, add-suc, add-zero, subst}
 use Rattle.std.proofs.lemmas.Bool.{and_parts, cases_Bool, cases_lt, true≢false}
 use Rattle.std.specs.Prelude.{◌↔◌}
 use Rattle.std.specs.List.{AllByRecursion, find, list_all}
@@ -10,7 +10,7 @@ use Rattle.ic_term.specs.Configuration.{Configuration}
 use Rattle.ic_rules.specs.Rule.{Rule}
 use Rattle.ic_settle.specs.Settling.{Choice, applied, first_choice, settled}
 use Rattle.ic_settle.specs.lemmas.ChoiceLaws.{settled-stop}
-use Rattle.ic_round.specs.Firing.{Active, active_pair, count_of, fired, fired_from, fired_pair, names_taken, next_behind, oriented, products_by, rule_of_sides}
+use Rattle.ic_round.specs.Firing.{active_pair, count_of, fired, fired_from, fired_pair, names_taken, next_behind, oriented, products_by, rule_of_sides}
 use Rattle.ic_round.specs.Quiet.{is_inert, is_quiet, is_settled}
 use Rattle.ic_round.specs.Rounds.{IsQuiet, fits, is_small, has_names, iterate, round, unless_unfit}
 use Rattle.ic_round.specs.lemmas.QuietLemmas.{no_step, is_quiet_where}

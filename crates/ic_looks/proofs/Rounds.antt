@@ -1,12 +1,15 @@
 -- Rounds that are made one after the other, and what the answer of a round says of them.
-use Rattle.std.proofs.Common.{◌≡◌, ◌&&◌, ℕ, ◌+◌, ◌<◌, List, Bool, true, false, Ok, Err, cond, refl, arith}
+use Rattle.std.proofs.Common.{◌≡◌, ◌≢◌, ◌&&◌, ℕ, ◌+◌, ◌<◌, List, Bool, true, false, Result, Ok, Err, cond, refl, sym, ap, ◌∙◌, arith, subst}
+use Rattle.std.specs.Prelude.{IfErr}
+use Rattle.std.specs.Result.{IsErrAnd}
 use borrow.Author.Count.{below_more}
 use Rattle.ic_term.specs.Configuration.{Configuration}
 use Rattle.ic_rules.specs.Rule.{Rule}
 use Rattle.ic_round.specs.Rounds.{IsQuiet, fits, is_small, has_names, iterate, round, unless_unfit}
 use Rattle.ic_round.specs.RoundAnswers.{Answers}
-use Rattle.ic_round.specs.declared.round_fault.RoundFault.TheVariants.{Overgrown, NamesOut}
-use Rattle.ic_looks.specs.Reducing.{AreMade}
+use Rattle.ic_round.specs.declared.round_fault.RoundFault.{RoundFault}
+use Rattle.ic_round.specs.declared.round_fault.RoundFault.TheVariants.{Overgrown, NamesOut, Memory}
+use Rattle.ic_looks.specs.Reducing.{AreMade, IsRefusedAfter}
 
 pub none_made : (rs : List Rule) (c : Configuration) → AreMade rs c 0
 none_made rs c = record { going = λ n low. absurd (omega arith); fitting = λ n low. absurd (omega arith) }
@@ -26,3 +29,25 @@ fits_by false named a b e = cc
 
 pub answered_fits : (rs : List Rule) (c after : Configuration) → Answers (Ok after) (unless_unfit rs c (round rs c)) → fits rs c ≡ true
 answered_fits rs c after e = fits_by (is_small rs c) (has_names rs c) after (round rs c) e
+
+answered_fault : {T : Type 0} (fault : RoundFault) (answer : Result T RoundFault) → Answers (Err fault) answer → fault ≢ Memory → answer ≡ Err fault
+answered_fault Overgrown answer e apart = sym e
+answered_fault NamesOut answer e apart = sym e
+answered_fault Memory answer e apart = absurd (apart refl)
+
+-- so many rounds were made of a configuration, in which a step is possible, and the next one was refused
+pub refused_behind : {T : Type 0} (r : Result T RoundFault) (rs : List Rule) (c now : Configuration) (most n : ℕ) (fault : RoundFault) → IsErrAnd r (λ e. e ≡ fault)
+    → n < most → AreMade rs c n → now ≡ iterate rs n c → ¬ IsQuiet rs now → Answers {T = Configuration} (Err fault) (unless_unfit rs now (round rs now))
+    → IfErr r (λ e. e ≢ Memory → (rounds : ℕ) × IsRefusedAfter rs c most rounds e)
+refused_behind (Ok v) rs c now most n fault fails left made is going answer = tt
+refused_behind (Err e) rs c now most n fault fails left made is going answer = λ apart. (
+  n,
+  record {
+    left = left;
+    made = made;
+    going = let Going : Configuration → Type 0 = λ d. ¬ IsQuiet rs d in subst Going is going;
+    refused =
+        let apart_too : fault ≢ Memory = λ same. apart (fails ∙ same) in
+        ap (λ d. unless_unfit rs d (round rs d)) (sym is) ∙ answered_fault fault (unless_unfit rs now (round rs now)) answer apart_too ∙ ap (λ f. Err f) (sym fails);
+  },
+)

@@ -1,4 +1,7 @@
 pub mod Reducing
 pub mod Stuck
 pub mod Reductions
+pub mod Tracing
+pub mod Tables
+pub mod Interacting
 pub mod inner

@@ -1,16 +1,19 @@
 //! Laws of the definitions that the contracts of this crate cite.
 
-ghost use Rattle.std.specs.Prelude.{◌≡◌, ◌↔◌, ◌⊎◌, ℕ, ◌+◌, ◌≤◌, List, None, Some, false};
+ghost use Rattle.std.specs.Prelude.{◌≡◌, ◌↔◌, ◌⊎◌, ℕ, ◌+◌, ◌≤◌, List, None, Some, false, length, sum_by};
 ghost use Rattle.std.specs.List.{AllByRecursion, find};
 ghost use Rattle.ic_term.specs.Tree.{Pair};
 ghost use Rattle.ic_term.specs.Configuration.{Configuration};
 ghost use Rattle.ic_term.specs.Symbol.{Symbol};
 ghost use Rattle.ic_rules.specs.Rule.{Rule};
-ghost use Rattle.ic_round.specs.Firing.{rule_of_sides};
+ghost use Rattle.ic_round.specs.Firing.{active, rule_of_sides};
 ghost use Rattle.ic_round.specs.Rounds.{IsQuiet, iterate};
+ghost use Rattle.ic_round.specs.Steps.{Steps};
 ghost use Rattle.ic_round.specs.declared.round_fault.RoundFault.{RoundFault};
+ghost use Rattle.ic_looks.specs.Interacting.{interactions_of};
 ghost use Rattle.ic_looks.specs.Reducing.{IsReducedBy, IsRefusedAfter};
 ghost use Rattle.ic_looks.specs.Stuck.{is_of_agents, stuck_text};
+ghost use Rattle.ic_looks.specs.Tracing.{active_count, rows_of};
 
 /// Where no step is possible, rounds change nothing. So what is reached by reducing is what all the
 /// rounds that may be made would reach.
@@ -67,4 +70,16 @@ pub fn stuck_pairs_have_no_rule()
     ensures none { (symbols : List Symbol) (c : Configuration)
         → (stuck_text symbols c ≡ None)
         ↔ AllByRecursion (λ p. is_of_agents p ≡ false) c.equations }
+{}
+
+/// A row for each round. The equations that rounds fire are, all together, the interactions of a chain
+/// of steps to the configuration behind them; and a round fires the equations at its active places.
+pub fn rows_count_interactions()
+    ensures rows { (rs : List Rule) (c : Configuration) (n : ℕ) → length (rows_of rs c n) ≡ n }
+    ensures chain { (rs : List Rule) (c : Configuration) (n : ℕ)
+        → (steps : Steps rs c (iterate rs n c))
+        × (interactions_of rs c (iterate rs n c) steps
+        ≡ sum_by (λ row. row.pairs) (rows_of rs c n)) }
+    ensures places { (rs : List Rule) (c : Configuration)
+        → active_count rs c ≡ length (active rs c) }
 {}

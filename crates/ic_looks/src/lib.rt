@@ -1,15 +1,21 @@
 //! What the program does for whoever looks at nets, but for its own input and output.
 //!
 //! `reduce` makes rounds of a configuration until no step is possible, and `reduce_stream` does so of the system that
-//! a reader gives.
+//! a reader gives. `trace` tells of each round how many equations it fires and what there is behind it, and
+//! `trace_stream` writes that as a table.
 #![tactic(auto)]
 
 pub mod laws;
 mod reducing;
 mod reduction;
+mod row;
 mod stream;
 mod stuck;
+mod table;
+mod tracing;
 
 pub use reducing::{Reduced, reduce};
 pub use reduction::Reduction;
-pub use stream::reduce_stream;
+pub use row::Row;
+pub use stream::{reduce_stream, trace_stream};
+pub use tracing::trace;

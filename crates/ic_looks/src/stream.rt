@@ -1,4 +1,4 @@
-//! Reducing what a reader gives.
+//! Reducing and tracing what a reader gives.
 
 ghost use Rattle.std.specs.Prelude.{◌≡◌, ◌≢◌, ◌↔◌, Ok, IfOk, IfErr, IsTrue, OnOk};
 ghost use Rattle.std.specs.Io.KnownBytes.{Keeps};
@@ -6,10 +6,13 @@ ghost use Rattle.ic_term.specs.Symbol.{is_over};
 ghost use Rattle.ic_round.specs.Rounds.{IsQuiet};
 ghost use Rattle.ic_streams.specs.Streams.{OfText, IsAnswered, FaultOf, TakesAt, TakesText};
 ghost use Rattle.ic_looks.specs.Reductions.{Reduces, EndsAs, Tells};
+ghost use Rattle.ic_looks.specs.Tables.{Traces};
 
 use crate::reducing::{Reduced, reduce};
 use crate::reduction::Reduction;
 use crate::stuck::stuck_text;
+use crate::table::table;
+use crate::tracing::trace;
 use ic_rules::RuleSet;
 use ic_streams::{StreamFault, config_line, read_text, write_line};
 use ic_text::read_system;
@@ -41,6 +44,42 @@ pub fn reduce_stream<R: Read, W: Write>(
     let (line, reduction) = reduced_line(alloc, &text, rounds)?;
     write_line(writer, &line)?;
     Ok(reduction)
+}
+
+/// Makes rounds of the system that the reader gives until no step is possible, but at most so many,
+/// and writes what each of them does as a table.
+///
+/// Nothing is written before the text is read and the rounds are made. The reader is read as by `reduce_stream`.
+pub fn trace_stream<R: Read, W: Write>(
+    alloc: Global,
+    rounds: u64,
+    reader: &mut R,
+    writer: &mut W,
+) -> Result<(), StreamFault>
+    // There is a text of which this holds: the reader's, where it tells its bytes.
+    ensures answered { OfText (R.remaining reader.old) (λ text. IsAnswered (Traces rounds) text
+        result (W.contents writer.old) (W.contents writer.new)) }
+    ensures silent { IfErr result (λ fault. fault ≢ StreamFault.Write
+        → Keeps (W.contents writer.old) (W.contents writer.new)) }
+    ensures taken { OnOk result (TakesText (R.remaining reader.old) (R.remaining reader.new)) }
+    ensures taken_at_fault { IfErr result
+        (λ fault. TakesAt fault (R.remaining reader.old) (R.remaining reader.new)) }
+{
+    let text = read_text(alloc, reader)?;
+    let table = traced_table(alloc, &text, rounds)?;
+    write_line(writer, &table)
+}
+
+/// The table of a text that is traced for at most so many rounds.
+fn traced_table(alloc: Global, text: &[u8], rounds: u64) -> Result<Vec<u8>, StreamFault>
+    ensures table { IfOk result (λ table. Traces rounds text.now (Ok table.items)) }
+    ensures refused { IfErr result (λ fault. FaultOf (Traces rounds) text.now fault) }
+    ensures sort { IfErr result
+        (λ fault. (fault ≢ StreamFault.Write) × (fault ≢ StreamFault.Read)) }
+{
+    let (rules, config) = read_system(alloc, text)?.into_parts();
+    let rows = trace(alloc, &rules, config, rounds)?;
+    Ok(table(alloc, &rows)?)
 }
 
 /// The line of a text that is reduced by at most so many rounds, and how they ended.
