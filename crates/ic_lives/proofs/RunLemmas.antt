@@ -1,12 +1,10 @@
 -- What stands after each list of moves: of an open book, and of a disk that will be found.
-use Rattle.std.proofs.Common.{◌≡◌, ◌⊎◌, inl, inr, ⊎_elim, suc, ℕ, ◌+◌, ◌≤◌, List, [], ◌∷◌, ◌++◌, Ok, Err, length, take, drop, refl, sym, ap, subst, ◌∙◌, arith, append_assoc}
+use Rattle.std.proofs.Common.{◌≡◌, ◌⊎◌, inl, inr, ⊎_elim, suc, ℕ, ◌+◌, ◌≤◌, List, [], ◌∷◌, ◌++◌, length, take, drop, refl, sym, ap, subst, ◌∙◌, arith, append_assoc}
 use Rattle.std.specs.Prelude.{◌↔◌, IsTrue}
-use Rattle.std.proofs.lemmas.List.{take-append-drop, take_all, take-append-le, length-take-le, length-append, append-nil}
+use Rattle.std.proofs.lemmas.List.{take-append-drop, take_all, length-take-le, length-append, append-nil}
 use Rattle.ic_disk.specs.declared.disk.Disk.{Ghosts}
 use Rattle.ic_disk.specs.Images.{Within}
-use Rattle.ic_jobs.specs.declared.command.Command.{Command}
 use Rattle.ic_jobs.specs.declared.event.Entry.{Entry}
-use Rattle.ic_jobs.specs.declared.reply.Reply.{Reply}
 use Rattle.ic_jobs.specs.Job.{JobParts}
 use Rattle.ic_jobs.specs.History.{replay, IsLegal}
 use Rattle.ic_frames.specs.declared.faults.OpenCause.{OpenCause}
@@ -18,13 +16,12 @@ use Rattle.ic_desk.specs.declared.book.Book.{Book}
 use Rattle.ic_desk.specs.Book.{start_of, log_of, table_of, kept_of, disk_of}
 use Rattle.ic_desk.specs.Calls.{LeavesKeptOrAll}
 use Rattle.ic_desk.specs.Entries.{command_entry, round_entry}
-use Rattle.ic_desk.specs.Kept.{HoldsKeptOrAll, table_kept}
+use Rattle.ic_desk.specs.Kept.{HoldsKeptOrAll}
 use Rattle.ic_desk.specs.Moves.{Move, opens, refuses, answers, fails, rounds, keeps, stays, closes, stops, brings}
 use Rattle.ic_desk.specs.Server.{Server, down, up, disk_in, GoesOn, StaysOnPage, TurnsPage, Turns, Does, Opens, Refuses, Closes, IsFound, Step, Runs, Reaches}
 use Rattle.ic_desk.specs.lemmas.Facts.{history_of}
-use Rattle.ic_lives.specs.Past.{Past, nothing, Cuts, Next, Leads, IsPast}
+use Rattle.ic_lives.specs.Past.{Past, nothing, Next, Leads, IsPast}
 use Rattle.ic_lives.specs.Headline.{TellsTable, TellsFile, IsTableAfter, HoldsPrefixAfter, Tells, AreTold}
-use Rattle.ic_lives.proofs.PastLemmas.{joined}
 use Rattle.ic_lives.proofs.JobLemmas.{Lives, are_iterates}
 
 -- ---- what is known of histories and of files

@@ -1,7 +1,6 @@
 -- What a server has after calls over its book, ended or stopped in their midst.
 use Rattle.std.proofs.Common.{◌≡◌, ◌⊎◌, ℕ, ◌≤◌, List, [], ◌∷◌, ◌++◌, take, refl, sym, ap, subst}
 use Rattle.ic_disk.specs.declared.disk.Disk.{Ghosts}
-use Rattle.ic_slots.specs.Held.{the_table}
 use Rattle.ic_jobs.specs.History.{replay, IsLegal}
 use Rattle.ic_frames.specs.declared.faults.OpenCause.{OpenCause}
 use Rattle.ic_frames.specs.declared.faults.OpenCause.TheVariants.{Device, Memory}
