@@ -2,3 +2,4 @@ pub mod PastLemmas
 pub mod RunLemmas
 pub mod JobLemmas
 pub mod ServedLemmas
+pub mod AmongLemmas

@@ -35,7 +35,7 @@ Joins = (t : List JobParts) (h k : List Entry) → IsLegal t (h ++ k) ↔ (IsLeg
 abbrev pub HoldsOne : Type 0
 HoldsOne = (file : List ℕ) (one other : Held) → IsHeld one file → IsHeld other file → one ≡ other
 
-legal_front : Joins → (h : List Entry) (n : ℕ) → IsLegal [] h → IsLegal [] (take n h)
+pub legal_front : Joins → (h : List Entry) (n : ℕ) → IsLegal [] h → IsLegal [] (take n h)
 legal_front joins h n legal =
     let parts = (joins [] (take n h) (drop n h)).0 (subst (λ (l : List Entry). IsLegal [] l) (sym (take-append-drop n h)) legal) in parts.0
 

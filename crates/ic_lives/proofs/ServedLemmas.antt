@@ -1,14 +1,17 @@
 -- What a server has after calls over its book, ended or stopped in their midst.
-use Rattle.std.proofs.Common.{◌≡◌, ◌⊎◌, ℕ, ◌≤◌, List, [], ◌∷◌, ◌++◌, take, refl, sym, ap, subst}
+use Rattle.std.proofs.Common.{◌≡◌, ◌⊎◌, Bool, true, false, ℕ, ◌≤◌, List, [], ◌∷◌, ◌++◌, take, refl, sym, ap, subst}
+use Rattle.std.specs.List.{AllByRecursion}
 use Rattle.ic_disk.specs.declared.disk.Disk.{Ghosts}
+use Rattle.ic_jobs.specs.declared.command.Command.{Command}
+use Rattle.ic_jobs.specs.declared.reply.Reply.{Reply}
 use Rattle.ic_jobs.specs.History.{replay, IsLegal}
 use Rattle.ic_frames.specs.declared.faults.OpenCause.{OpenCause}
 use Rattle.ic_frames.specs.declared.faults.OpenCause.TheVariants.{Device, Memory}
 use Rattle.ic_desk.specs.declared.book.Book.{Book}
-use Rattle.ic_desk.specs.Book.{table_of, disk_of}
+use Rattle.ic_desk.specs.Book.{table_of, disk_of, is_broken}
 use Rattle.ic_desk.specs.Moves.{Move, opens, refuses, answers, fails, rounds, keeps, stays, closes, stops, brings}
 use Rattle.ic_desk.specs.Server.{Server, down, up, Does, Opens, Refuses, IsFound, Step, Runs, Reaches}
-use Rattle.ic_serving.specs.ByCalls.{Calls, IsByCalls, IsLeftWithin}
+use Rattle.ic_serving.specs.ByCalls.{Calls, IsByCalls, IsLeftWithin, IsNoFailure}
 use Rattle.ic_lives.specs.Past.{Past, nothing, IsPast}
 use Rattle.ic_lives.specs.Headline.{IsTableAfter, HoldsPrefixAfter}
 use Rattle.ic_lives.specs.Served.{IsCutShort}
@@ -113,3 +116,17 @@ module _ {D : Type 0} {ghosts : Ghosts D} where
     refused_then moves old new done found after cause run here call =
         let at = stops_at moves old new done (ghosts.content found) run (here.left (ghosts.content found) (content_is_image found)) in
         refuses_no_table one cause (replay [] (take at.holds.prefix at.past.entries)) (ghosts.content found) at.holds.holds.held (call.says here.keeps)
+
+-- a failure is among the moves
+failed_among : (later earlier : List Move) (who : ℕ) (command : Command) (reply : Reply) → ¬ AllByRecursion IsNoFailure (later ++ fails who command reply ∷ earlier)
+failed_among [] earlier who command reply is = is.0
+failed_among (move ∷ later) earlier who command reply is = failed_among later earlier who command reply is.1
+
+not_false : (b : Bool) → ¬ (b ≡ false) → b ≡ true
+not_false true other = refl
+not_false false other = absurd (other refl)
+
+pub broken_by : {D : Type 0} {ghosts : Ghosts D} (old new : Book D ghosts) (done : IsByCalls old new) (later earlier : List Move) (who : ℕ) (command : Command) (reply : Reply)
+    → done.moves ≡ later ++ fails who command reply ∷ earlier → is_broken new ≡ true
+broken_by old new done later earlier who command reply same =
+    not_false (is_broken new) (λ whole. failed_among later earlier who command reply (subst (λ (ms : List Move). AllByRecursion IsNoFailure ms) same (done.answered whole)))

@@ -68,4 +68,5 @@ abbrev pub AreTold : {D : Type 0} {ghosts : Ghosts D} (moves : List Move)
     (first last : Server ghosts) → Runs moves first last → Past → Type 0
 AreTold [] first last runs past = (past ≡ nothing) × Tells past last
 AreTold (move ∷ moves) first last runs past =
-    (before : Past) × AreTold moves first runs.0 runs.1 before × Next move before past × Tells past last
+    (before : Past) × AreTold moves first runs.0 runs.1 before
+    × Next move before past × Tells past last

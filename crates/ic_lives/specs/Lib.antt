@@ -1,3 +1,4 @@
 pub mod Past
 pub mod Headline
 pub mod Served
+pub mod Histories

@@ -34,8 +34,8 @@ pub record Cuts (old new : Past) : Type 0 where
   pub holds : old.lasting ≤ left
   pub lasting : AllLast new
 
--- What one move makes of the past. What was under way at a stop stands in doubt at its end, until an
--- opening finds it or doesn't.
+-- What one move makes of the past. What was under way at a stop stands in doubt at its end, until
+-- an opening finds it or doesn't.
 abbrev pub Next : Move → Past → Past → Type 0
 Next opens old new = Cuts old new
 Next (refuses cause) old new = new ≡ old

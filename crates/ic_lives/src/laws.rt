@@ -1,13 +1,17 @@
 //! What a server has after any run.
 
-ghost use Rattle.std.specs.Prelude.{◌≡◌, ◌⊎◌, ◌≤◌, ◌∷◌, ◌++◌, ℕ, List, length, take};
+ghost use Rattle.std.specs.Prelude.{◌≡◌, ◌⊎◌, ◌≤◌, [], ◌∷◌, ◌++◌, ℕ, List, length, take};
 ghost use Rattle.ic_jobs.specs.declared.command.Command.{Command};
+ghost use Rattle.ic_jobs.specs.declared.event.Entry.{Entry};
 ghost use Rattle.ic_jobs.specs.declared.reply.Reply.{Reply};
+ghost use Rattle.ic_jobs.specs.History.{replay};
 ghost use Rattle.ic_frames.specs.declared.faults.OpenCause.{OpenCause};
 ghost use Rattle.ic_frames.specs.declared.faults.OpenCause.TheVariants.{Device, Memory};
+ghost use Rattle.ic_slots.specs.Held.{HoldsTable};
 ghost use Rattle.ic_desk.specs.Book.{table_of};
-ghost use Rattle.ic_desk.specs.Moves.{Move, answers, refuses};
+ghost use Rattle.ic_desk.specs.Moves.{Move, answers, keeps, opens, refuses};
 ghost use Rattle.ic_desk.specs.Server.{Server, Reaches, Runs, down, up};
+ghost use Rattle.ic_lives.specs.Histories.{IsHistoryOf};
 ghost use Rattle.ic_lives.specs.Past.{Past, Next, Leads, IsPast};
 ghost use Rattle.ic_lives.specs.Headline.{IsTableAfter, HoldsPrefixAfter, Tells, AreTold};
 
@@ -30,7 +34,7 @@ pub fn the_headline<D: Disk>(book: &Book<D>, found: &D)
         → Reaches {ghosts = D.Disk} moves (down found.now) → D.image found.now file
         → HoldsPrefixAfter moves file }
 
-    // An opening is refused only where a call to the disk fails or memory is out.
+    // An opening is refused for no other cause than these.
     ensures opens_again { (moves : List Move) (cause : OpenCause)
         → Reaches {ghosts = D.Disk} (refuses cause ∷ moves) (down found.now)
         → (cause ≡ Device) ⊎ (cause ≡ Memory) }
@@ -42,9 +46,27 @@ pub fn the_headline<D: Disk>(book: &Book<D>, found: &D)
     ic_slots::laws::one_is_held();
 }
 
-/// Several looks at one server are told by one history that goes on: a later look has the past of an
-/// earlier one, as the moves between them have led it on. Each look has the conclusion of the
-/// headline.
+/// The headline by histories alone: what an open book has, and whatever file is found of a disk, is
+/// the table after a legal history that has every answered command with its reply, each once and in
+/// order, and nothing but what has come.
+pub fn every_answer_stands<D: Disk>(book: &Book<D>, found: &D)
+    ensures open { (moves : List Move) → Reaches moves (up book.now)
+        → (history : List Entry) × IsHistoryOf moves history
+        × (table_of book.now ≡ replay [] history) }
+    ensures stopped { (moves : List Move) (file : List ℕ)
+        → Reaches {ghosts = D.Disk} moves (down found.now) → D.image found.now file
+        → (history : List Entry) × IsHistoryOf moves history
+        × HoldsTable (replay [] history) file }
+{
+    let _ = book;
+    let _ = found;
+    ic_jobs::laws::histories_split_and_join();
+    ic_jobs::laws::life_law();
+    ic_slots::laws::one_is_held();
+}
+
+/// Several looks at one server are told by one past that goes on: a later look has that of an earlier
+/// one, as the moves between them have led it on. Each look has the conclusion of the headline.
 pub fn looks_go_on<D: Disk>(disk: &D)
     ensures two { (earlier later : List Move) (mid last : Server D.Disk)
         → Reaches earlier mid → Runs later mid last
@@ -65,6 +87,16 @@ pub fn what_lasts_stays()
         → then.lasting ≤ length then.entries → Leads later then now
         → (take then.lasting now.entries ≡ take then.lasting then.entries)
         × (then.lasting ≤ now.lasting) }
+{}
+
+/// What had come when all was kept begins the history for ever after, and so does what an opening
+/// has found.
+pub fn what_is_kept_stays()
+    ensures kept { (later : List Move) (before then now : Past) → Next keeps before then
+        → Leads later then now → (then.entries ≡ before.entries)
+        × (take (length then.entries) now.entries ≡ then.entries) }
+    ensures found { (later : List Move) (before then now : Past) → Next opens before then
+        → Leads later then now → take (length then.entries) now.entries ≡ then.entries }
 {}
 
 /// What has come up to an answered command, and the command, begins the history for ever after: of

@@ -1,10 +1,12 @@
 //! What a server has after lines were served over its book.
 
-ghost use Rattle.std.specs.Prelude.{◌≡◌, ◌⊎◌, ◌∷◌, ◌++◌, ℕ, List};
+ghost use Rattle.std.specs.Prelude.{◌≡◌, ◌⊎◌, ◌∷◌, ◌++◌, ℕ, List, true};
+ghost use Rattle.ic_jobs.specs.declared.command.Command.{Command};
+ghost use Rattle.ic_jobs.specs.declared.reply.Reply.{Reply};
 ghost use Rattle.ic_frames.specs.declared.faults.OpenCause.{OpenCause};
 ghost use Rattle.ic_frames.specs.declared.faults.OpenCause.TheVariants.{Device, Memory};
-ghost use Rattle.ic_desk.specs.Book.{disk_of, table_of};
-ghost use Rattle.ic_desk.specs.Moves.{Move, opens};
+ghost use Rattle.ic_desk.specs.Book.{disk_of, is_broken, table_of};
+ghost use Rattle.ic_desk.specs.Moves.{Move, fails, opens};
 ghost use Rattle.ic_desk.specs.Server.{IsFound, Opens, Reaches, Refuses, up};
 ghost use Rattle.ic_serving.specs.ByCalls.{IsByCalls};
 ghost use Rattle.ic_lives.specs.Headline.{HoldsPrefixAfter, IsTableAfter};
@@ -15,8 +17,8 @@ use ic_disk::Disk;
 
 /// The headline of a server that serves lines. `serve_lines` and `answer_line` are made of calls of
 /// the book alone, as their clauses say (`crash.done`), whatever they answer. So the moves that they
-/// made go on from those that came before; and where one of them was stopped at any moment, the
-/// moves that it would have made were cut short in the midst of one.
+/// made go on from those before; and where they are stopped at any moment, the moves that they would
+/// have made are cut short in the midst of one.
 pub fn the_served_headline<D: Disk>(old: &Book<D>, new: &Book<D>, found: &D, next: &Book<D>)
     // Behind a serving the open book is reached, and has the table after a past of all moves.
     ensures ended { (moves : List Move) (done : IsByCalls old.now new.now)
@@ -27,7 +29,8 @@ pub fn the_served_headline<D: Disk>(old: &Book<D>, new: &Book<D>, found: &D, nex
     // Whatever file a stop in its midst leaves holds the table after a prefix of a past of the moves
     // that were cut short.
     ensures stopped { (moves : List Move) (done : IsByCalls old.now new.now) (file : List ℕ)
-        → Reaches moves (up old.now) → D.left (disk_of new.now) (D.clock (disk_of old.now)) file
+        → Reaches moves (up old.now)
+        → D.left (disk_of new.now) (D.clock (disk_of old.now)) file
         → (cut : List Move) × IsCutShort done.moves cut × HoldsPrefixAfter (cut ++ moves) file }
 
     // The next book that is opened has the table after a past of them.
@@ -42,6 +45,11 @@ pub fn the_served_headline<D: Disk>(old: &Book<D>, new: &Book<D>, found: &D, nex
         (after : D) (cause : OpenCause) → Reaches moves (up old.now)
         → IsFound D.Disk (disk_of old.now) (disk_of new.now) found.now
         → Refuses D.Disk cause found.now after → (cause ≡ Device) ⊎ (cause ≡ Memory) }
+
+    // A command among the moves at which the disk failed has broken the book.
+    ensures broken { (done : IsByCalls old.now new.now) (later earlier : List Move)
+        (who : ℕ) (command : Command) (reply : Reply)
+        → done.moves ≡ later ++ fails who command reply ∷ earlier → is_broken new.now ≡ true }
 {
     let _ = old;
     let _ = new;

@@ -1,5 +1,5 @@
 use Rattle.ic_lives.proofs.RunLemmas.{table_after}
-use Rattle.ic_lives.proofs.ServedLemmas.{reaches_more, stopped_so, opened_so, refused_then}
+use Rattle.ic_lives.proofs.ServedLemmas.{reaches_more, stopped_so, opened_so, refused_then, broken_by}
 use Rattle.ic_lives.proofs.served.the_served_headline.Goals as goal
 
 pub returns-clause-ended : goal.returns-clause-ended
@@ -23,3 +23,6 @@ pub returns-clause-opens_again : goal.returns-clause-opens_again
 returns-clause-opens_again g c moves done after cause = refused_then c.histories_split_and_join.ensures.table c.histories_split_and_join.ensures.legal c.one_is_held.ensures
     g.met.D.Disk.content_is_image g.met.D.Disk.image_is_left g.met.D.Disk.left_is_image
     moves c.args.old.now c.args.new.now done c.args.found.now after cause
+
+pub returns-clause-broken : goal.returns-clause-broken
+returns-clause-broken g c = broken_by c.args.old.now c.args.new.now
