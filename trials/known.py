@@ -42,6 +42,10 @@ LOOP = Loops()
 TWO = Ends(f"{ADD} <r|Add(r,S(Z))=S(Z)>", ("<r|Add(r,S(Z))=S(Z)>", "<S(s)|Z=Add(s,S(Z))>", "<S(S(Z))|>"))
 STILL = Ends("{} <|x=x>", ("<|x=x>",))
 
+# As many equations as the smallest round has that is made by threads.
+WIDE_ROUNDS = tuple("<|" + ",".join([it] * 1000) + ">" for it in ("A(P)=B(P)", "P=P"))
+WIDE = Ends("{A(x)><B(x)} " + WIDE_ROUNDS[0], WIDE_ROUNDS)
+
 
 class Job(NamedTuple):
     name: str
@@ -119,7 +123,7 @@ def answered(table, line, every):
     if line == "list":
         return [], table, listed(table)
     if words[0] == "submit":
-        system = next(it for it in (LOOP, TWO, STILL) if it.text == words[2])
+        system = next(it for it in (LOOP, TWO, STILL, WIDE) if it.text == words[2])
         after, answer = submitted(table, words[1], system)
     else:
         after, answer = commanded(table, words[0], words[1])

@@ -25,8 +25,8 @@ SEED = os.environ.setdefault("SEED", str(random.SystemRandom().randrange(10**9))
 # A folder in memory, where there is one: a sync there costs nothing.
 IN_MEMORY = "/dev/shm" if os.access("/dev/shm", os.W_OK) else None
 
-# How long a trial waits for the program at most, in seconds. No trial should come near.
-PATIENCE = 120
+# How long a trial waits for the program at most, in seconds. No trial should come near; on a slow machine give more.
+PATIENCE = float(os.environ.get("PATIENCE") or 120)
 
 
 class Ran(NamedTuple):

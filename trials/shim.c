@@ -13,7 +13,7 @@
 
    SHIM_LOG=PATH: a line is appended to this file for each call that changes a file, syncs it, writes answers or goes wrong,
    as "KIND AT LENGTH\n" and, of a write, its bytes. KIND is W (written), T (cut or made longer), S (synced), O (written to
-   standard output), E (gone wrong, with the call's number in place of AT). */
+   standard output), E (gone wrong, with the call's number in place of AT), C (at the end: how many calls of WHAT there were). */
 #define _GNU_SOURCE
 #include <dlfcn.h>
 #include <errno.h>
@@ -71,6 +71,12 @@ static enum outcome outcome_of(const char *kind, int error) {
     if (!strcmp(how, "nothing")) return NOTHING;
     errno = error;
     return REFUSED;
+}
+
+void _exit(int status) {
+    if (is_set) note('C', seen, 0, NULL);
+    NEXT(_exit)(status);
+    __builtin_unreachable();
 }
 
 static int is_open_file(int fd) { return fd >= 0 && fd < 1024 && is_file[fd]; }

@@ -2,18 +2,16 @@
 a write. Each fault gives the defined line and status, and leaves the disk to be opened with all that was answered."""
 
 from disks import EMPTY, put, slot
-from known import ADD, LOOP, TWO
+from known import ADD, LOOP, TWO, WIDE
 from program import Server, run
-from shim import shimmed, was_refused
+from shim import noted, shimmed, was_refused
 from stops import Stops
 
 # The lines of the worked row `looping`.
 LOOPING = [f"submit loop {LOOP.text}", "run 5", "fetch loop", "pause loop", "pause loop", "run 3"]
 LOOPING += ["resume loop", "resume loop", "run 2", "fetch loop"]
 SUMS = [f"submit two {TWO.text}", "run 1", "list", "", f"submit more {TWO.text}", "fetch two", "run 10", "cancel two", "list"]
-
-# A system of 1,000 equations, the fewest of which a round is made by threads.
-WIDE = "{A(x)><B(x)} <" + "|" + ",".join("A(P)=B(P)" for _ in range(1000)) + ">"
+ROUND = [f"submit wide {WIDE.text}", "list", "run 1", "fetch wide"]
 
 
 class Faults(Stops):
@@ -23,6 +21,7 @@ class Faults(Stops):
         super().setUp()
         shimmed()
         self.log = self.room / "log"
+        self.came = set()
 
     def in_turn(self, what, ways, attempt):
         """Has each call of a kind go wrong, in each of these ways, until an attempt makes fewer calls: how many there were."""
@@ -38,6 +37,7 @@ class Faults(Stops):
         """Fails unless a run in which a call went wrong ended with one of these (status, word)."""
         if (ran.status, ran.err) not in [(status, f"icserve: {word}\n".encode()) for status, word in faults]:
             self.told(ran.command, f"the end, where it went wrong: {call}", f"one of {faults}", (ran.status, ran.out, ran.err))
+        self.came.add((ran.status, ran.err.decode()[9:-1]))
 
     def stream_by(self, word, text, answer, status=0, line=b""):
         """Each growth of a run over streams is refused: want of memory, or all goes as if it weren't."""
@@ -89,6 +89,7 @@ class Faults(Stops):
     def test_each_growth_of_create_is_refused_in_turn(self):
         calls = self.in_turn("growth", ("once", "on"), lambda *it: self.created(*it, (4, "memory"), (3, "memory"), (3, "device")))
         self.assertGreater(calls, 5)
+        self.assertLessEqual({(3, "memory"), (4, "memory")}, self.came)
 
     def test_each_call_of_create_on_the_disk_fails_in_turn(self):
         def attempt(env, call):
@@ -133,6 +134,7 @@ class Faults(Stops):
         faults = [(4, "memory"), (4, "pool"), (3, "memory"), (3, "device")]
         for lines, ways in ((LOOPING, ("once", "on")), (SUMS, ("once",))):
             self.assertGreater(self.served(lines, ways, "growth", *faults, may_go_well=True), 200)
+        self.assertLessEqual({(3, "memory"), (4, "memory"), (4, "pool")}, self.came)
 
     def test_each_growth_of_an_opening_is_refused_in_turn(self):
         """Over a disk that holds jobs, which stay."""
@@ -148,11 +150,13 @@ class Faults(Stops):
             self.assertEqual(disk.read_bytes(), before)
 
         self.assertGreater(self.in_turn("growth", ("once", "on"), attempt), 50)
+        self.assertLessEqual({(3, "memory"), (4, "memory")}, self.came)
 
     def test_each_call_of_a_serving_on_the_disk_fails_in_turn(self):
         for lines in (LOOPING, SUMS):
             calls = self.served(lines, ("once", "on", "done", "half"), "disk", (4, "device"), (3, "device"))
             self.assertGreater(calls, 50)
+        self.assertEqual(self.came, {(4, "device"), (3, "device")})
 
     def test_each_read_of_a_serving_fails_in_turn(self):
         self.assertGreater(self.served(LOOPING, ("once", "on"), "read", (4, "read")), len(LOOPING))
@@ -177,19 +181,22 @@ class Faults(Stops):
 
     def test_each_start_of_a_thread_is_refused_in_turn(self):
         """Rounds of 1,000 equations are made by threads: a thread that can't be started is `pool`, and nothing is lost."""
-        disk = self.disk()
-        lines, answers = [f"submit wide {WIDE}", "run 1", "fetch wide"], [b"accepted\n", b"ran 1\n", None]
-        well = run("serve", "--disk", self.disk("well.disk"), given=lines)
-        self.assertEqual(well.out.splitlines(keepends=True)[:2], answers[:2])
+        calls = self.served(ROUND, ("once", "on"), "thread", (4, "pool"), words=("--workers", "4"))
+        self.assertEqual((calls, self.came), (4, {(4, "pool")}))
 
-        def attempt(env, call):
-            self.runs("create", "--disk", disk)
-            ran = run("serve", "--disk", disk, "--workers", "4", given=lines, env=env)
-            if was_refused(self.log):
-                self.is_fault(ran, call, (4, "pool"))
-                self.agrees(ran.command, "standard output", answers[0], ran.out)
-                self.assertEqual(self.asks(disk, ["list", "run 1"]), ["jobs wide:running:0", "ran 1"])
-            else:
-                self.ended(ran, out=well.out)
+    def test_drawn_growths_of_a_round_by_threads_are_refused(self):
+        draw, disk = self.draws(), self.room / "jobs.disk"
 
-        self.assertGreaterEqual(self.in_turn("thread", ("once", "on"), attempt), 1)
+        def attempt(call):
+            put(disk, slot(1, EMPTY))
+            ran = self.spoken(disk, ROUND, shimmed(call, self.log), "--workers", "3")
+            if ran.status or ran.err:
+                self.is_fault(ran, call, (4, "memory"), (4, "pool"), (3, "memory"), (3, "device"))
+            self.found(ran, disk, self.may_be_left(ran, ROUND, (), 100, ahead=1))
+
+        attempt(f"growth {10**9} once")
+        growths = next(it.at for it in noted(self.log) if it.kind == "C")
+        self.assertGreater(growths, 3000)
+        for number in sorted(draw.sample(range(1, growths + 1), 150)):
+            attempt(f"growth {number} {draw.choice(('once', 'on'))}")
+        self.assertLessEqual({(4, "memory"), (4, "pool")}, self.came)
