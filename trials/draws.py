@@ -243,6 +243,15 @@ def altered(draws, text):
     return joined(parts)
 
 
+def renamed(draws, text):
+    """A text with one name changed to another one that stands in it."""
+    parts = model.TOKEN.findall(text)
+    places = [at for at, part in enumerate(parts) if part[:1].islower()]
+    if places:
+        parts[draws.choice(places)] = parts[draws.choice(places)]
+    return joined(parts)
+
+
 def joined(parts):
     """A text of tokens, with blanks only where two words would become one."""
     marks = [part[:1] in b"{}<>|=,;()" for part in parts]

@@ -180,7 +180,8 @@ class Disk:
 
     def head(self, slot):
         """The number and the length of an open slot, or nothing."""
-        head = self.content[slot * SECOND_SLOT :][:HEAD]
+        begin = slot * SECOND_SLOT
+        head = self.content[begin : begin + HEAD]
         if len(head) < HEAD or head[0] != 1:
             return None
         return int.from_bytes(head[1:9], "big"), int.from_bytes(head[9:13], "big")

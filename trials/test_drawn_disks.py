@@ -39,11 +39,11 @@ def other_symbols(drawn, rule_set, config):
     return Rules(symbols, rules), Config([*map(term, config.interface)], equations, config.next)
 
 
-def table(drawn, most=6):
+def table(drawn, most=6, least=0, sizes=(1, 1, 2, 4)):
     """A table with jobs in all states, and numbers up to the limits."""
     jobs = []
-    for name in job_names(drawn, drawn.randint(0, most)):
-        rule_set, config = draws.system(drawn, drawn.choice([1, 1, 2, 4]), 3)
+    for name in job_names(drawn, drawn.randint(least, most)):
+        rule_set, config = draws.system(drawn, drawn.choice(sizes), 3)
         rule_set, config = other_symbols(drawn, rule_set, config)
         if drawn.random() < 0.5:
             # Names as they stand after many rounds, up to the limit.
@@ -58,6 +58,62 @@ def table(drawn, most=6):
             job.state = drawn.choice(["running", "running", "paused", "halted"])
         jobs.append(job)
     return Table(jobs)
+
+
+def unsound(drawn, jobs):
+    """Changes one value of a table, most often so that it is none any more."""
+    if not jobs.jobs:
+        return
+    job = drawn.choice(jobs.jobs)
+    rules, config = job.rules, job.config
+    symbols, listed, equations = list(rules.symbols), list(rules.rules), list(config.equations)
+    how = drawn.randrange(12)
+    if how == 0:
+        job.state = drawn.choice(model.STATES)
+    elif how == 1:
+        job.rounds = drawn.choice([MAX_ROUNDS, MAX_ROUNDS + 1, 2**63, 2**64 - 1])
+    elif how == 2:
+        job.config = config._replace(next=drawn.choice([0, 1, config.next - 1, MAX_NEXT, MAX_NEXT + 1, 2**64 - 1]) % 2**64)
+    elif how == 3:
+        job.name = drawn.choice([drawn.choice(jobs.jobs).name, "", "A", "-a", "a_", "9", "a" * 16, "a" * 17])
+    elif how == 4 and symbols:
+        at = drawn.randrange(len(symbols))
+        text, arity = drawn.choice(symbols)
+        symbols[at] = drawn.choice([text, text + "a", "a", "", "A-", "A" * 32, "A" * 33]), symbols[at][1]
+    elif how == 5:
+        symbols += [(f"Z{at}y", drawn.choice([0, 15, 16])) for at in range(drawn.choice([1, 2, 64 - len(symbols), 65]))]
+    elif how == 6 and listed:
+        # Names of a rule in another order, or one in the place of another.
+        at = drawn.randrange(len(listed))
+        turned = list(range(listed[at].names))
+        drawn.shuffle(turned)
+        if drawn.random() < 0.3:
+            turned = [drawn.choice(turned) for _ in turned]
+        sides = [[tuple(turned[it] if it >= 0 else it for it in term) for term in side] for side in listed[at][2:4]]
+        listed[at] = listed[at]._replace(left_args=sides[0], right_args=sides[1])
+    elif how == 7 and listed:
+        # A rule again, or turned round.
+        it = drawn.choice(listed)
+        turned = model.Rule(it.right, it.left, *model.numbered(it.right_args, it.left_args))
+        listed.insert(drawn.randrange(len(listed) + 1), drawn.choice([it, turned]))
+    elif how == 8 and listed:
+        # A rule turned round in its place, or of other symbols.
+        at = drawn.randrange(len(listed))
+        it = listed[at]
+        turned = model.Rule(it.right, it.left, *model.numbered(it.right_args, it.left_args))
+        listed[at] = drawn.choice([turned, it._replace(right=it.left), it._replace(left=len(symbols))])
+    elif how == 9 and equations:
+        # An equation again, or another's side.
+        one, two = drawn.choice(equations), drawn.choice(equations)
+        equations.append(drawn.choice([one, (one[0], two[1]), (one[0], one[0])]))
+    elif how == 10:
+        face = list(config.interface) + [drawn.choice([(drawn.randrange(30),), (~drawn.randrange(9),)])] * drawn.choice([1, 2, 3, 65])
+        job.config = config._replace(interface=face[:200])
+    elif how == 11:
+        more = [Job(f"{letter}x", Rules([], []), Config([], [], 0)) for letter in "abcdefghijklmnopqrstuvwxyz0123456789"]
+        jobs.jobs += more[: drawn.choice([1, 25, 28, 30, 31, 32, 36])]
+    job.rules = Rules(symbols, listed)
+    job.config = job.config._replace(equations=equations)
 
 
 class DrawnDisks(ModelTrial):
@@ -82,9 +138,10 @@ class DrawnDisks(ModelTrial):
             near = {(now + 1) % 256, (now - 1) % 256, now ^ 1, 0, 1, 2, 3, 255} - {now}
             others = drawn.sample(sorted(set(range(256)) - near - {now}), max(count // 2, count - len(near)))
             for value in others + drawn.sample(sorted(near), count - len(others)):
-                spoilt = bytearray(content)
-                spoilt[at] = value
-                self.opened(spoilt)
+                disk = Disk(content)
+                disk.content[at] = value
+                self.lay(disk)
+                self.serve(disk, QUESTIONS)
 
     def test_what_create_leaves(self):
         drawn = self.draws()
@@ -207,6 +264,42 @@ class DrawnDisks(ModelTrial):
             disk = Disk(bytes(SECOND_SLOT + HEAD))
             disk.put_slot(0, 1, bytes(form))
             self.opened(disk.content, ["list", "run 1", "list"])
+
+    def test_values_that_are_no_table(self):
+        drawn = self.draws()
+        for _ in range(600):
+            jobs = table(drawn, drawn.choice([1, 2, 4]), least=1, sizes=(1, 2, 3))
+            for _ in range(drawn.choice([1, 1, 2])):
+                unsound(drawn, jobs)
+            disk = Disk(bytes(SECOND_SLOT + HEAD))
+            disk.put_slot(0, 1, model_disk.encode(jobs))
+            self.opened(disk.content, ["list", "run 1", "list"])
+
+    def test_tables_at_each_limit(self):
+        symbols = [("Z", 0), ("S", 1), ("P", 2), ("W", 15)]
+        zero, deep = (~0,), lambda size: (~1,) * (size - 1) + (~0,)
+        none, empty = Rules(symbols, []), Config([], [], 0)
+        for more in (-1, 0, 1):
+            listed = [model.Rule(1, 2, [deep(2_045 + more)], [zero, deep(2)], 0)]
+            pairs = [model.Rule(one, two, [], [], 0) for one in range(32) for two in range(32, 64)]
+            for rules, config in (
+                (none, Config([deep(8_192 + more)], [], 0)),
+                (none, Config([], [(deep(8_191 + more), zero)], 0)),
+                (none, Config([], [(zero, zero)] * 4_095 + [(deep(1 + more), zero)] * (more >= 0), 0)),
+                (none, Config([zero] * (64 + more), [], 0)),
+                (none, Config([(at,) for at in range(64)], [], 63 + more)),
+                (Rules(symbols, listed), empty),
+                (Rules([(f"A{at}", 0) for at in range(64)], pairs[: 256 + more]), empty),
+                (Rules([(f"A{at}", 0) for at in range(64 + more)], []), empty),
+                (Rules([("A" * (32 + more), 15)], []), empty),
+                (Rules([("A", 15 + more)], []), empty),
+                (none, empty._replace(next=MAX_NEXT + more)),
+            ):
+                for state in ("done", "running"):
+                    jobs = [Job("two", rules, config, 0, state), Job("b", none, empty, MAX_ROUNDS + min(more, 0), "done")]
+                    disk = Disk(bytes(SECOND_SLOT + HEAD))
+                    disk.put_slot(0, 1, model_disk.encode(Table(jobs)))
+                    self.opened(disk.content, ["list", "fetch two", "run 1", "cancel b"])
 
     def test_names_and_rounds_that_run_out(self):
         drawn = self.draws()

@@ -152,11 +152,20 @@ class DrawnServing(ModelTrial):
         self.serve(disk, ["list", *lines, "list"], *words)
 
     def test_pages_turned(self):
-        disk = self.new_disk()
-        lines = [f"submit loop {LOOP}<|A(x)=B(x)>"] + ["list"] * 40_000 + ["fetch loop"] * 25_000 + ["run 900", "list"]
-        self.serve(disk, lines, every=1_000_000)
-        between = ["run 5", "fetch loop", "run 90", "submit two {}<|>", "list", "cancel loop"]
-        self.serve(disk, ["pause no"] * 65_500 + between + ["list"] * 65_536, every=40)
+        drawn = self.draws()
+        for count in (1, 2, 9, 32):
+            disk = self.new_disk()
+            names = job_names(drawn, count)
+            lines = [f"submit {name} {loops(drawn.choice([1, 2, 40]))}" for name in names]
+            lines += [drawn.choice(["list", f"fetch {names[-1]}", "pause no"])] * (65_400 - drawn.randrange(99))
+            lines += ["run 300", "list", f"fetch {names[0]}", f"cancel {names[-1]}", "run 50", "list"]
+            self.serve(disk, lines, every=drawn.choice([40, 100, 1_000_000]))
+        self.serve(disk, ["list"] * 65_535 + ["cancel no", "submit last {}<|>", "list"] + ["run 0"] * 9)
+
+    def test_a_million_lines(self):
+        lines = b"list\n" + b"\n" * 499_998 + b"x\n" * 3 + b"\t\n" * 499_997 + b"list\n"
+        for more in (b"", b"list\n", b"list", b"\n"):
+            self.serve(self.new_disk(), lines + more)
 
     def test_many_answers_at_once(self):
         drawn = self.draws()

@@ -68,6 +68,22 @@ class DrawnTexts(ModelTrial):
             texts.append(text)
         self.reads(texts)
 
+    def test_several_faults_at_once(self):
+        drawn = self.draws()
+        texts = []
+        for _ in range(1_000):
+            rule_set, config = draws.system(drawn, drawn.choice([2, 3, 4]), 3, lopsided=0.4)
+            listed = [draws.rule_text(rule_set, it) for it in rule_set.rules]
+            listed += drawn.sample(listed, min(len(listed), drawn.choice([0, 0, 1, 2])))
+            drawn.shuffle(listed)
+            rules, rest = ("{" + ";".join(listed) + "}").encode(), model.printed(rule_set, config).encode()
+            for _ in range(drawn.choice([0, 0, 1, 3])):
+                rules = draws.renamed(drawn, rules)
+            for _ in range(drawn.choice([0, 1, 4])):
+                rest = draws.renamed(drawn, rest)
+            texts.append(rules + rest)
+        self.reads(texts)
+
     def test_rules_with_faults(self):
         drawn = self.draws()
         texts = []
