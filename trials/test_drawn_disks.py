@@ -62,58 +62,74 @@ def table(drawn, most=6, least=0, sizes=(1, 1, 2, 4)):
 
 def unsound(drawn, jobs):
     """Changes one value of a table, most often so that it is none any more."""
-    if not jobs.jobs:
-        return
     job = drawn.choice(jobs.jobs)
-    rules, config = job.rules, job.config
-    symbols, listed, equations = list(rules.symbols), list(rules.rules), list(config.equations)
-    how = drawn.randrange(12)
+    how = drawn.randrange(4)
     if how == 0:
-        job.state = drawn.choice(model.STATES)
+        change = drawn.choice(["state", "rounds", "name", "jobs"])
+        if change == "state":
+            job.state = drawn.choice(model.STATES)
+        elif change == "rounds":
+            job.rounds = drawn.choice([MAX_ROUNDS, MAX_ROUNDS + 1, 2**63, 2**64 - 1])
+        elif change == "name":
+            job.name = drawn.choice([drawn.choice(jobs.jobs).name, "", "A", "-a", "a_", "9", "a" * 16, "a" * 17])
+        else:
+            more = [Job(f"n{at}", Rules([], []), Config([], [], 0)) for at in range(40)]
+            jobs.jobs += more[: drawn.choice([1, 28, 30, 31, 32, 33])]
     elif how == 1:
-        job.rounds = drawn.choice([MAX_ROUNDS, MAX_ROUNDS + 1, 2**63, 2**64 - 1])
+        job.rules = Rules(unsound_symbols(drawn, list(job.rules.symbols)), job.rules.rules)
     elif how == 2:
-        job.config = config._replace(next=drawn.choice([0, 1, config.next - 1, MAX_NEXT, MAX_NEXT + 1, 2**64 - 1]) % 2**64)
-    elif how == 3:
-        job.name = drawn.choice([drawn.choice(jobs.jobs).name, "", "A", "-a", "a_", "9", "a" * 16, "a" * 17])
-    elif how == 4 and symbols:
+        job.rules = Rules(job.rules.symbols, unsound_rules(drawn, job.rules))
+    else:
+        job.config = unsound_config(drawn, job.config)
+
+
+def unsound_symbols(drawn, symbols):
+    if symbols and drawn.random() < 0.5:
         at = drawn.randrange(len(symbols))
-        text, arity = drawn.choice(symbols)
+        text = drawn.choice(symbols)[0]
         symbols[at] = drawn.choice([text, text + "a", "a", "", "A-", "A" * 32, "A" * 33]), symbols[at][1]
-    elif how == 5:
-        symbols += [(f"Z{at}y", drawn.choice([0, 15, 16])) for at in range(drawn.choice([1, 2, 64 - len(symbols), 65]))]
-    elif how == 6 and listed:
-        # Names of a rule in another order, or one in the place of another.
-        at = drawn.randrange(len(listed))
-        turned = list(range(listed[at].names))
-        drawn.shuffle(turned)
-        if drawn.random() < 0.3:
-            turned = [drawn.choice(turned) for _ in turned]
-        sides = [[tuple(turned[it] if it >= 0 else it for it in term) for term in side] for side in listed[at][2:4]]
-        listed[at] = listed[at]._replace(left_args=sides[0], right_args=sides[1])
-    elif how == 7 and listed:
-        # A rule again, or turned round.
-        it = drawn.choice(listed)
-        turned = model.Rule(it.right, it.left, *model.numbered(it.right_args, it.left_args))
+        return symbols
+    more, arity = drawn.choice([1, 2, 64 - len(symbols), 65 - len(symbols)]), drawn.choice([0, 15, 15, 16])
+    return symbols + [(f"Z{at}y", arity) for at in range(more)]
+
+
+def unsound_rules(drawn, rules):
+    listed = list(rules.rules)
+    if drawn.random() < 0.3 and rules.symbols:
+        # One more rule, of a symbol with itself.
+        terms, symbol = draws.Terms(drawn, rules.arities, 0.8), drawn.randrange(len(rules.symbols))
+        return listed + [draws.rule(drawn, terms, symbol, symbol, 2, lopsided=0.8)]
+    if not listed:
+        return listed
+    how = drawn.randrange(6)
+    at = max(range(len(listed)), key=lambda place: listed[place].names) if how > 1 else drawn.randrange(len(listed))
+    it = listed[at]
+    turned = model.Rule(it.right, it.left, *model.numbered(it.right_args, it.left_args))
+    if how == 0:
         listed.insert(drawn.randrange(len(listed) + 1), drawn.choice([it, turned]))
-    elif how == 8 and listed:
-        # A rule turned round in its place, or of other symbols.
-        at = drawn.randrange(len(listed))
-        it = listed[at]
-        turned = model.Rule(it.right, it.left, *model.numbered(it.right_args, it.left_args))
-        listed[at] = drawn.choice([turned, it._replace(right=it.left), it._replace(left=len(symbols))])
-    elif how == 9 and equations:
-        # An equation again, or another's side.
+    elif how == 1:
+        listed[at] = drawn.choice([turned, it._replace(left=len(rules.symbols))])
+    elif it.names:
+        # Its names in another order, or two of them made one.
+        numbers = [*reversed(range(it.names))]
+        if how > 3:
+            numbers[0] = numbers[-1]
+        sides = [[tuple(numbers[node] if node >= 0 else node for node in term) for term in side] for side in it[2:4]]
+        listed[at] = model.Rule(it.left, it.right, *(sides if how < 5 else model.numbered(*sides)[:2]), it.names)
+    return listed
+
+
+def unsound_config(drawn, config):
+    face, equations, how = list(config.interface), list(config.equations), drawn.randrange(3)
+    if how == 0:
+        nexts = [0, 1, max(0, config.next - 1), MAX_NEXT, MAX_NEXT + 1, 2**64 - 1]
+        return config._replace(next=drawn.choice(nexts))
+    if how == 1 and equations:
         one, two = drawn.choice(equations), drawn.choice(equations)
         equations.append(drawn.choice([one, (one[0], two[1]), (one[0], one[0])]))
-    elif how == 10:
-        face = list(config.interface) + [drawn.choice([(drawn.randrange(30),), (~drawn.randrange(9),)])] * drawn.choice([1, 2, 3, 65])
-        job.config = config._replace(interface=face[:200])
-    elif how == 11:
-        more = [Job(f"{letter}x", Rules([], []), Config([], [], 0)) for letter in "abcdefghijklmnopqrstuvwxyz0123456789"]
-        jobs.jobs += more[: drawn.choice([1, 25, 28, 30, 31, 32, 36])]
-    job.rules = Rules(symbols, listed)
-    job.config = job.config._replace(equations=equations)
+    else:
+        face += [(drawn.choice([drawn.randrange(30), ~0, ~drawn.randrange(9)]),)] * drawn.choice([1, 2, 3, 64, 65])
+    return Config(face[:200], equations, config.next)
 
 
 class DrawnDisks(ModelTrial):

@@ -70,11 +70,13 @@ class DrawnServing(ModelTrial):
     seconds = 12
 
     def stopped_and_opened(self, drawn, lines, every, *words):
-        """Lines served by several servers, one after the other, over one disk."""
+        """Lines served by several servers, one after the other, over one disk. What ends a line is drawn too."""
         disk = self.new_disk()
         while lines:
             now = drawn.randint(1, len(lines))
-            self.serve(disk, lines[:now], *words, every=every)
+            end = drawn.choice(["\n", "\n", "\r\n", " \n", "\n\n"])
+            text = end.join(lines[:now]) + drawn.choice([end, ""])
+            self.serve(disk, text, *words, every=every)
             lines = lines[now:]
         self.serve(disk, ["list"], every=every)
 

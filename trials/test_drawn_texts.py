@@ -98,17 +98,46 @@ class DrawnTexts(ModelTrial):
             texts.append(draws.altered(drawn, text.encode()) if drawn.random() < 0.3 else text)
         self.reads(texts)
 
+    def test_faults_of_late_rules(self):
+        drawn = self.draws()
+        texts = []
+        for _ in range(150):
+            symbols = draws.symbols(drawn, drawn.randint(20, 60), 2, 3)
+            lopsided = drawn.choice([0, 0, 0.1])
+            rule_set = draws.rules(drawn, symbols, drawn.choice([9, 17, 65, 130, 256]), 1, lopsided)
+            listed = [draws.rule_text(rule_set, it) for it in rule_set.rules]
+            for _ in range(drawn.choice([0, 1, 1, 2])):
+                at, how = drawn.randrange(len(listed)), drawn.randrange(4)
+                left, right = listed[at].split("><")
+                if how == 0:
+                    listed[at] = draws.renamed(drawn, listed[at].encode()).decode()
+                elif how == 1:
+                    listed[at] = drawn.choice([f"{left}><{left}", f"{right}><{left}"])
+                elif how == 2 and len(listed) < 256:
+                    listed.insert(drawn.randrange(len(listed)), f"{right}><{left}")
+                else:
+                    listed[at] = draws.altered(drawn, listed[at].encode()).decode()
+            texts.append("{" + ";".join(listed) + "}<|>")
+        self.reads(texts)
+
     def test_texts_of_1_000_to_16_000_bytes(self):
         drawn = self.draws()
         texts = [draws.sized_system(drawn, 1_000, 16_000) for _ in range(60)]
         self.reads(texts)
-        self.reads(draws.spoilt(drawn, text.encode()) for text in texts[:40])
+        change = [draws.spoilt, draws.altered, draws.renamed]
+        self.reads([drawn.choice(change)(drawn, text.encode()) for text in texts])
+        for text in texts[:20]:
+            self.streamed("once", text.encode())
+            self.streamed("settle", text[text.index("}") + 1 :].encode())
 
     def test_texts_up_to_the_limit(self):
         drawn = self.draws()
-        texts = [draws.sized_system(drawn, 16_000, 262_000) for _ in range(8)]
+        texts = [draws.sized_system(drawn, 16_000, drawn.choice([100_000, 262_000])) for _ in range(10)]
         self.reads(texts)
-        self.reads([draws.spoilt(drawn, text.encode()) for text in texts[:4]])
+        self.reads([draws.renamed(drawn, text.encode()) for text in texts[:5]])
+        for text in texts:
+            self.streamed("once", text.encode())
+            self.streamed("settle", text[text.index("}") + 1 :].encode())
 
     def test_lengths_at_the_limit(self):
         drawn = self.draws()
@@ -140,6 +169,20 @@ class DrawnTexts(ModelTrial):
                 drawn.shuffle(links)
             links = ["=".join(reversed(it.split("="))) if drawn.random() < 0.3 else it for it in links]
             self.streamed("settle", f"<a|{','.join(links)}>".encode())
+
+    def test_long_chains_of_names_settled(self):
+        drawn = self.draws()
+        for _ in range(30):
+            count = drawn.choice([2, 3, 10, drawn.randint(1, 4_000), 4_090])
+            names = [model.name_text(at) for at in drawn.sample(range(10_000), count + 1)]
+            if drawn.random() < 0.3:
+                names[-1] = names[0]
+            links = [drawn.sample(pair, 2) for pair in zip(names, names[1:])]
+            if drawn.random() < 0.7:
+                drawn.shuffle(links)
+            # Each end may stand in the interface, and nowhere else.
+            ends = [it for it in {names[0], names[-1]} if drawn.random() < 0.5 and names[0] != names[-1]]
+            self.streamed("settle", f"<{','.join(ends)}|{','.join('='.join(it) for it in links)}>".encode())
 
     def test_deep_terms(self):
         for depth in (2_045, 2_047, 2_048, 8_180, 8_190, 8_191, 8_192, 8_193, 80_000):
