@@ -19,7 +19,7 @@ TOP = Path(__file__).resolve().parent.parent
 # The program that is tried: the one that the launcher `icserve` starts, or that of the variable ICSERVE.
 PROGRAM = os.path.abspath(os.environ.get("ICSERVE") or TOP / "crates/icserve/out/icserve")
 
-# What drawn trials begin with: drawn anew for each run, and given again by the variable SEED.
+# What drawn trials begin with: drawn anew for each run, and given again by the variable SEED. The gate gives 1.
 SEED = os.environ.setdefault("SEED", str(random.SystemRandom().randrange(10**9)))
 
 # A folder in memory, where there is one: a sync there costs nothing.
