@@ -75,6 +75,25 @@ def the_longest_form_is_said_once():
             yield path, number, "says MAX_BYTES as a number"
 
 
+def layers_are_as_built():
+    """docs/layers.md has a row for each crate, with the crates of this repository that crates.txt lets it use."""
+    built = {}
+    for line in Path("crates.txt").read_text().split("\n"):
+        crate = re.match(r"(\w+) *:(.*)", line)
+        if crate:
+            built[crate[1]] = set(crate[2].split())
+    told = {}
+    for path, number, line in lines_of("docs/layers.md"):
+        cells = [re.findall(r"`(\w+)`", it) for it in line.split("|")]
+        if len(cells) == 6 and len(cells[1]) == 1:
+            name = cells[1][0]
+            told[name] = number
+            if name in built and set(cells[3]) != built[name] & set(built):
+                yield path, number, f"{name} may use other crates by crates.txt"
+    for name in sorted(set(built) ^ set(told)):
+        yield Path("docs/layers.md"), told.get(name, 1), f"{name} stands in one of crates.txt and this table alone"
+
+
 def texts(path):
     """The paragraphs, headings, items of lists and cells of tables of a page, each as its words with their lines."""
     found, is_code, is_open = [], False, False
@@ -105,7 +124,7 @@ def sentences_are_short():
 
 def main():
     checks = [proofs_are_cited_at_home, definitions_stand_by_themselves, public_clauses_cite_definitions]
-    checks += [files_say_what_they_hold, the_longest_form_is_said_once, sentences_are_short]
+    checks += [files_say_what_they_hold, the_longest_form_is_said_once, layers_are_as_built, sentences_are_short]
     failed = 0
     for check in checks:
         faults = list(check())
