@@ -1,0 +1,51 @@
+//! What is answered to a row, by its kind.
+//!
+//! - `moves MOVE ; MOVE ..`: what each move is answered, from a disk that was just created (`moves` has the words).
+//! - `runs SEED COUNT`: whether so many drawn runs keep the law, the first with this seed, each further one with the next.
+
+use crate::drawn::runs;
+use crate::moves::move_of;
+use crate::origins::{Origin, origins};
+use crate::server::Server;
+use ic_notation::{Answers, Row, Trouble};
+use std::alloc::Global;
+
+/// The kinds of these rows.
+#[derive(Drop)]
+pub struct Kinds;
+
+impl Answers for Kinds {
+    fn answer(&self, alloc: Global, row: &Row<'_>) -> Result<Vec<u8>, Trouble> {
+        let origins = origins(alloc)?;
+        match row.kind {
+            "moves" => moves(alloc, &origins, row.text),
+            "runs" => {
+                let (seed, count) = row.text.split_once(' ').unwrap_or((row.text, "1"));
+                let seed = u64::from_str_radix(seed, 10).unwrap_or(0);
+                runs(
+                    alloc,
+                    &origins,
+                    seed,
+                    u32::from_str_radix(count, 10).unwrap_or(0),
+                )
+            }
+            _ => Err(Trouble("no such kind")),
+        }
+    }
+}
+
+/// What each move is answered.
+fn moves(alloc: Global, origins: &[Origin], text: &str) -> Result<Vec<u8>, Trouble> {
+    let mut server = Server::new(alloc, origins)?;
+    let mut line = Vec::new(alloc);
+    for word in text.split(" ; ") {
+        let Some(next) = move_of(word) else {
+            return Err(Trouble("no such move"));
+        };
+        if !line.is_empty() {
+            line.extend_from_slice(b" ; ")?;
+        }
+        line.append(&mut server.make(next)?)?;
+    }
+    Ok(line)
+}
