@@ -67,6 +67,22 @@ def files_say_what_they_hold():
             yield path, number, "doesn't begin with a line //!"
 
 
+def calls_of_a_book_are_steps():
+    """Each public call that may change or close a book says by its clause `step` which move of a server it is."""
+    calls = 0
+    desk = Path("crates/ic_desk/src")
+    for path in sorted([*desk.glob("book*.rt"), *desk.glob("book*/**/*.rt")]):
+        number = 1
+        for part in re.split(r"(?m)^(?= *(?:pub(?:\(\w+\))? )?fn )", path.read_text()):
+            call = re.match(r" *pub fn (\w+)\(\s*(?:&mut |mut )?self\b", part)
+            calls += bool(call)
+            if call and "ensures step " not in part:
+                yield path, number, f"{call[1]} has no clause step"
+            number += part.count("\n")
+    if not calls:
+        yield desk, 1, "has no call that changes a book"
+
+
 def the_longest_form_is_said_once():
     """Code and clauses say how long a table's form is by a constant, but for its definition and the law of the limits."""
     for path, number, line in sources():
@@ -124,7 +140,8 @@ def sentences_are_short():
 
 def main():
     checks = [proofs_are_cited_at_home, definitions_stand_by_themselves, public_clauses_cite_definitions]
-    checks += [files_say_what_they_hold, the_longest_form_is_said_once, layers_are_as_built, sentences_are_short]
+    checks += [files_say_what_they_hold, calls_of_a_book_are_steps, the_longest_form_is_said_once]
+    checks += [layers_are_as_built, sentences_are_short]
     failed = 0
     for check in checks:
         faults = list(check())
