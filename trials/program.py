@@ -189,6 +189,10 @@ class Trial(unittest.TestCase):
             wanted, came = wanted[max(0, at - 200) : at + 700], came[max(0, at - 200) : at + 700]
         self.told(command, what, shown(wanted), shown(came))
 
+    def holds(self, path, data):
+        """Fails unless the file holds just these bytes."""
+        self.agrees(path, "the bytes of the file", data, path.read_bytes())
+
     def ended(self, ran, out=b"", err=b"", status=0):
         """Fails unless a run ended so: with this standard output and error, and this status. Hands the run on."""
         if ran.status != status:

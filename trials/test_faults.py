@@ -147,7 +147,7 @@ class Faults(Stops):
             if ran.status:
                 self.is_fault(ran, call, (4, "memory"), (3, "memory"), (3, "device"))
             self.agrees(ran.command, f"standard output, where it went wrong: {call}", b"", ran.out)
-            self.assertEqual(disk.read_bytes(), before)
+            self.holds(disk, before)
 
         self.assertGreater(self.in_turn("growth", ("once", "on"), attempt), 50)
         self.assertLessEqual({(3, "memory"), (4, "memory")}, self.came)

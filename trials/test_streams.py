@@ -105,7 +105,7 @@ class Closed(Trial):
             status, out, err = self.closed(streams, "serve", "--disk", disk, given=b"list\nfetch two\npause no\n")
             self.assertEqual(status, 4 if {0, 1} & {*streams} else 0, streams)
             self.assertEqual(err, b"" if 2 in streams or not status else b"icserve: read\n" if 0 in streams else b"icserve: write\n")
-            self.assertEqual(disk.read_bytes(), before, streams)
+            self.holds(disk, before)
             status, out, err = self.closed(streams, "serve", "--disk", self.room / "no slot", given=b"list\n")
             self.assertEqual((status, out), (3, b""), streams)
             self.closed(streams, "serve", "--disk", disk, given=b"pause two\n")
@@ -187,7 +187,7 @@ class Locked(Trial):
                 for other in paths:
                     self.refuses("serve", "--disk", other, given="cancel two", line="device", status=3, cwd=self.room)
                     self.refuses("create", "--disk", other, line="device", status=3, cwd=self.room)
-                self.assertEqual(disk.read_bytes(), held, "a server that was refused has changed the disk")
+                self.holds(disk, held)
                 self.assertEqual(server.ask("fetch two"), fetched(job))
                 self.assertEqual(server.ask("cancel two"), "ok")
                 self.assertEqual(server.end().status, 0)
