@@ -3,7 +3,7 @@ a write. Each fault gives the defined line and status, and leaves the disk to be
 
 from disks import EMPTY, put, slot
 from known import ADD, LOOP, TWO, WIDE
-from program import Server, run
+from program import TOP, Server, run
 from shim import noted, shimmed, was_refused
 from stops import Stops
 
@@ -152,6 +152,27 @@ class Faults(Stops):
         self.assertGreater(self.in_turn("growth", ("once", "on"), attempt), 50)
         self.assertLessEqual({(3, "memory"), (4, "memory")}, self.came)
 
+    def test_drawn_growths_of_an_opening_of_many_jobs_are_refused(self):
+        """Over a disk with the jobs of all sessions in examples/."""
+        submits = [line for it in sorted(TOP.glob("examples/*.session")) for line in it.read_text().splitlines() if line.startswith("submit ")]
+        draw, disk = self.draws(), self.disk()
+        wanted = self.asks(disk, [*submits, "run 7", "list"])[-1]
+        before = disk.read_bytes()
+
+        def attempt(call):
+            ran = run("serve", "--disk", disk, given=["list"], env=shimmed(call, self.log))
+            if ran.status:
+                self.is_fault(ran, call, (4, "memory"), (3, "memory"), (3, "device"))
+            self.agrees(ran.command, "the list", b"" if ran.status else f"{wanted}\n", ran.out)
+
+        attempt(f"growth {10**9} once")
+        growths = next(it.at for it in noted(self.log) if it.kind == "C")
+        self.assertGreater(growths, 500)
+        for number in sorted(draw.sample(range(1, growths + 1), 300)):
+            attempt(f"growth {number} once")
+        self.assertLessEqual({(3, "memory"), (4, "memory")}, self.came)
+        self.holds(disk, before)
+
     def test_each_call_of_a_serving_on_the_disk_fails_in_turn(self):
         for lines in (LOOPING, SUMS):
             calls = self.served(lines, ("once", "on", "done", "half"), "disk", (4, "device"), (3, "device"))
@@ -183,6 +204,18 @@ class Faults(Stops):
         """Rounds of 1,000 equations are made by threads: a thread that can't be started is `pool`, and nothing is lost."""
         calls = self.served(ROUND, ("once", "on"), "thread", (4, "pool"), words=("--workers", "4"))
         self.assertEqual((calls, self.came), (4, {(4, "pool")}))
+
+    def test_rounds_of_1000_equations_and_more_are_made_by_as_many_threads_as_said(self):
+        """Smaller ones are made by the thread that serves. The shim counts the threads that are started."""
+        disk = self.room / "jobs.disk"
+        for count in (1, 999, 1000, 1300):
+            for workers in (1, 2, 7, 64):
+                put(disk, slot(1, EMPTY))
+                text = "{A(x)><B(x)} <|" + ",".join(["A(P)=B(P)"] * count) + ">"
+                ran = run("serve", "--disk", disk, "--workers", workers, given=[f"submit a {text}", "run 1"], env=shimmed("thread 1000000 once", self.log))
+                self.ended(ran, out=["accepted", "ran 1"])
+                threads = next(it.at for it in noted(self.log) if it.kind == "C")
+                self.assertEqual(threads, workers if count >= 1000 else 0, f"threads of a round of {count} equations by {workers} workers")
 
     def test_drawn_growths_of_a_round_by_threads_are_refused(self):
         draw, disk = self.draws(), self.room / "jobs.disk"

@@ -170,6 +170,31 @@ class Long(Trial):
         times = 100_000_000 // len(block) // 10 * 10 + 10
         self.is_flat(self.fed(block, times, b"bad limit\n" * 3))
 
+    def most_memory(self, before, lines, answers):
+        """The most memory, in kilobytes, of a server that was asked some lines and then these."""
+        with Server(self.disk()) as server:
+            for line in before:
+                self.assertEqual(server.ask(line), "accepted")
+            feeder = threading.Thread(target=server.send, args=(lines,))
+            feeder.start()
+            for answer in answers:
+                self.assertEqual(server.answer(), answer)
+            feeder.join()
+            return memory_of(server.process, "VmHWM")
+
+    def test_a_thousand_fetches_of_a_large_job_copy_it_not_once(self):
+        """docs/speed.md: 5 MB. Copies of its 8,182 nodes would take some 600."""
+        config = "<|P=" + "C(" * 8180 + "D" + ")" * 8180 + ">"
+        most = self.most_memory([f"submit big {{}} {config}"], ["fetch big"] * 1000, [f"big done 0 {config}"] * 1000)
+        self.assertLess(most, 15_000, "kilobytes")
+
+    def test_65_000_lists_over_32_jobs_share_one_list(self):
+        """docs/speed.md: 13 MB. Copies of the list would take some 90."""
+        jobs = [f"job-of-long-name{i}"[-16:] for i in range(32)]
+        listed = "jobs" + "".join(f" {it}:done:0" for it in jobs)
+        most = self.most_memory([f"submit {it} {{}} <|>" for it in jobs], ["list"] * 65_000, [listed] * 65_000)
+        self.assertLess(most, 40_000, "kilobytes")
+
 
 class Locked(Trial):
     def test_a_second_server_is_refused_by_whatever_path_it_comes(self):
