@@ -1,15 +1,7 @@
 """What trials share that compare the program with the model."""
 
-import os
-import shutil
-import tempfile
-from pathlib import Path
-
 import model_disk
-from program import Trial, as_bytes, as_lines, run, shown
-
-# Where files lie in memory, nothing waits for a device.
-MEMORY = "/dev/shm" if os.access("/dev/shm", os.W_OK) else None
+from program import IN_MEMORY, Trial, as_bytes, as_lines, run, shown
 
 ZEROS = bytes(65_536)
 
@@ -17,10 +9,10 @@ ZEROS = bytes(65_536)
 class ModelTrial(Trial):
     """A trial that asks the program and the model the same."""
 
+    rooms = IN_MEMORY
+
     def setUp(self):
         super().setUp()
-        self.room = Path(tempfile.mkdtemp(prefix="trial-against-the-model-", dir=MEMORY))
-        self.addCleanup(shutil.rmtree, self.room, ignore_errors=True)
         self.path = self.room / "jobs.disk"
 
     def agree(self, ran, wanted):

@@ -309,8 +309,8 @@ def read_system(text):
     return meaning(*phrases)
 
 
-def read_line(text):
-    """What a line asks: its first word, or `blank`, and what stands behind it."""
+def read_line(text, in_script=False):
+    """What a line asks: its first word, or `blank`, and what stands behind it. A script has no runs."""
     reader = Reader(text)
     if reader.passes(""):
         return ("blank",)
@@ -318,7 +318,7 @@ def read_line(text):
     name = number = ""
     if word in ("submit", "pause", "resume", "cancel", "fetch"):
         name = reader.take(JOB_NAME)
-    elif word == "run":
+    elif word == "run" and not in_script:
         number = reader.take(NUMBER)
     elif word != "list":
         raise Fault("bad syntax")

@@ -275,6 +275,21 @@ def lines_of(text):
     return lines if lines[-1] else lines[:-1]
 
 
+def read_script(text):
+    """The commands of a script's lines, or its first fault with the number of its line."""
+    commands = []
+    for number, line in enumerate(lines_of(text), 1):
+        try:
+            asked = model.read_line(line, in_script=True)
+            if asked != ("blank",) and len(commands) == MAX_ENTRIES:
+                raise Fault("bad limit")
+        except Fault as fault:
+            raise Fault(f"line {number}: {fault}") from None
+        if asked != ("blank",):
+            commands.append(asked)
+    return commands
+
+
 # What the program writes and how it ends, by its words.
 
 

@@ -197,6 +197,20 @@ class DrawnDisks(ModelTrial):
         body = range(SECOND_SLOT + HEAD, len(disk.content))
         self.changed(bytes(disk.content), [SECOND_SLOT + 12, drawn.choice(body)], drawn, 255)
 
+    def test_each_front_of_a_table(self):
+        for lines in ([TWO], [TWO, "run 10"], [TWO, "pause two", f"submit loop {LOOP}<|A(x)=B(x)>"]):
+            disk = self.kept(*lines)
+            form = model_disk.encode(disk.open())
+            for length in range(len(form) + 1):
+                disk = Disk(bytes(SECOND_SLOT + HEAD))
+                disk.put_slot(0, 1, form[:length])
+                self.opened(disk.content)
+
+    def test_a_new_disk_cut_to_each_length(self):
+        content = bytes(self.kept().content)
+        for length in range(19):
+            self.opened(content[:length])
+
     def test_cut_disks(self):
         drawn = self.draws()
         for lines in ([], [TWO], [TWO, "run 10"], [TWO, "run 1", "run 1"]):

@@ -184,6 +184,20 @@ class DrawnTexts(ModelTrial):
             ends = [it for it in {names[0], names[-1]} if drawn.random() < 0.5 and names[0] != names[-1]]
             self.streamed("settle", f"<{','.join(ends)}|{','.join('='.join(it) for it in links)}>".encode())
 
+    def test_each_front_of_one_sum(self):
+        text = b"{Add(x,x)><Z;Add(S(x),y)><S(Add(x,y))}<r|Add(r,S(Z))=S(Z)>"
+        for at in range(len(text) + 1):
+            self.streamed("once", text[:at])
+        self.reads(text[:at] for at in range(len(text) + 1))
+
+    def test_agents_nested_80_000_deep(self):
+        for depth in (8_189, 8_190, 8_191, 80_000):
+            for end in (")" * depth, ")" * (depth - 1), ""):
+                text = f"<|{'A(' * depth}B{end}=C>"
+                self.streamed("settle", text.encode())
+                self.streamed("once", f"{{}}{text}".encode())
+                self.reads([f"{{}}{text}"])
+
     def test_deep_terms(self):
         for depth in (2_045, 2_047, 2_048, 8_180, 8_190, 8_191, 8_192, 8_193, 80_000):
             for closed in (True, False):

@@ -31,9 +31,13 @@ def rounds(text, most, kind):
 def line_told(text):
     """A line as it is read."""
     try:
-        word, *rest = model.read_line(text)
+        return asked_told(model.read_line(text))
     except Fault as fault:
         return str(fault)
+
+
+def asked_told(asked):
+    word, *rest = asked
     if word == "submit":
         rest = [rest[0], model.printed(*rest[1:])]
     return " ".join(map(str, [word, *rest])).strip()
@@ -100,6 +104,16 @@ class TheModelAnswersTheRows(unittest.TestCase):
             return f"entries {server.entries}, kept {server.kept}"
 
         self.answers(answer, "ic_serving_rows", "history")
+
+    def test_of_scripts(self):
+        def answer(_, text):
+            try:
+                commands = model_disk.read_script(expanded(text).replace(b"/", b"\n"))
+            except Fault as fault:
+                return str(fault).replace(":", "")
+            return " ; ".join(map(asked_told, commands)) or "nothing"
+
+        self.answers(answer, "ic_job_rows", "read_script")
 
     def test_of_byte_forms(self):
         def answer(_, text):
