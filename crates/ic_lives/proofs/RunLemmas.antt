@@ -120,7 +120,7 @@ refuses_no_table one Damaged t file held says = let never : the_table t ≡ dama
 refuses_no_table one Device t file held says = inl refl
 refuses_no_table one Memory t file held says = inr refl
 
-abbrev table_in : Held → List JobParts
+abbrev pub table_in : Held → List JobParts
 table_in (the_table t) = t
 table_in no_slot = []
 table_in two_alike = []

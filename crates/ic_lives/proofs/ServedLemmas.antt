@@ -1,9 +1,12 @@
 -- What a server has after calls over its book, ended or stopped in their midst.
-use Rattle.std.proofs.Common.{◌≡◌, ◌⊎◌, Bool, true, false, ℕ, ◌≤◌, List, [], ◌∷◌, ◌++◌, take, refl, sym, ap, subst}
+use Rattle.std.proofs.Common.{◌≡◌, ◌⊎◌, Bool, true, false, Option, Result, ℕ, ◌≤◌, List, [], ◌∷◌, ◌++◌, take, refl, sym, ap, subst}
 use Rattle.std.specs.List.{AllByRecursion}
 use Rattle.ic_disk.specs.declared.disk.Disk.{Ghosts}
+use Rattle.ic_slots.specs.Held.{HoldsTable, the_table}
 use Rattle.ic_jobs.specs.declared.command.Command.{Command}
 use Rattle.ic_jobs.specs.declared.reply.Reply.{Reply}
+use Rattle.ic_jobs.specs.declared.event.Entry.{Entry}
+use Rattle.ic_jobs.specs.Job.{JobParts}
 use Rattle.ic_jobs.specs.History.{replay, IsLegal}
 use Rattle.ic_frames.specs.declared.faults.OpenCause.{OpenCause}
 use Rattle.ic_frames.specs.declared.faults.OpenCause.TheVariants.{Device, Memory}
@@ -11,13 +14,19 @@ use Rattle.ic_desk.specs.declared.book.Book.{Book}
 use Rattle.ic_desk.specs.Book.{table_of, disk_of, is_broken}
 use Rattle.ic_desk.specs.Moves.{Move, opens, refuses, answers, fails, rounds, keeps, stays, closes, stops, brings}
 use Rattle.ic_desk.specs.Server.{Server, down, up, Does, Opens, Refuses, IsFound, Step, Runs, Reaches}
+use Rattle.ic_serving.specs.declared.fault.ServeFault.{ServeFault}
+use Rattle.ic_serving.specs.Booked.{IsAllKept, last_kept}
+use Rattle.ic_serving.specs.Serving.{IsServing}
+use Rattle.ic_serving.specs.Stopped.{MayStand}
 use Rattle.ic_serving.specs.ByCalls.{Calls, IsByCalls, IsLeftWithin, IsNoFailure}
 use Rattle.ic_lives.specs.Past.{Past, nothing, IsPast}
 use Rattle.ic_lives.specs.Headline.{IsTableAfter, HoldsPrefixAfter}
+use Rattle.ic_lives.specs.Histories.{IsHistoryOf}
 use Rattle.ic_lives.specs.Served.{IsCutShort}
 use Rattle.ic_lives.proofs.JobLemmas.{Lives}
+use Rattle.ic_lives.proofs.AmongLemmas.{file_stands}
 use Rattle.ic_lives.proofs.PastLemmas.{joined}
-use Rattle.ic_lives.proofs.RunLemmas.{Replays, Joins, HoldsOne, HoldsPrefix, IsUp, legal_moved, left_within, found_book, goes_on, reached, tells_file, tells_table, refuses_no_table}
+use Rattle.ic_lives.proofs.RunLemmas.{Replays, Joins, HoldsOne, HoldsPrefix, IsUp, legal_moved, left_within, found_book, goes_on, reached, tells_file, tells_table, refuses_no_table, table_in}
 
 -- a past of the moves that were cut short tells of a file
 record StopsAt (all moves : List Move) (file : List ℕ) : Type 0 where
@@ -116,6 +125,20 @@ module _ {D : Type 0} {ghosts : Ghosts D} where
     refused_then moves old new done found after cause run here call =
         let at = stops_at moves old new done (ghosts.content found) run (here.left (ghosts.content found) (content_is_image found)) in
         refuses_no_table one cause (replay [] (take at.holds.prefix at.past.entries)) (ghosts.content found) at.holds.holds.held (call.says here.keeps)
+
+    -- in the words of the lines
+    pub lines_stopped : {T : Type 0} (result : Result T ServeFault) (moves : List Move) (old new : Book D ghosts) (ls : List (List ℕ)) (before behind : Option (List ℕ))
+        (serving : IsServing result ls old new before behind) (file : List ℕ) → Reaches moves (up old) → ghosts.left (disk_of new) (ghosts.clock (disk_of old)) file
+        → (cut : List Move) × IsCutShort serving.crash.done.moves cut × (t : List JobParts) × HoldsTable t file × MayStand (IsAllKept old) (last_kept old) (table_of old) ls t
+        × (history : List Entry) × IsHistoryOf (cut ++ moves) history × (t ≡ replay [] history)
+    lines_stopped result moves old new ls before behind serving file run left =
+        let there = reached replays joins one content_is_image image_is_left left_is_image moves (up old) run in
+        let is : IsUp there.0 old = there.2 in
+        let held = (serving.crash.any_moment (is.keeps, is.made)).each file left in
+        let so = stopped_so moves old new serving.crash.done file run left in
+        let told = file_stands joins (so.0 ++ moves) file so.2 in
+        let same : held.0 ≡ replay [] told.0 = ap table_in (one file (the_table held.0) (the_table (replay [] told.0)) held.2.held told.2.held) in
+        (so.0, so.1, held.0, held.2, held.1, told.0, told.1, same)
 
 -- a failure is among the moves
 failed_among : (later earlier : List Move) (who : ℕ) (command : Command) (reply : Reply) → ¬ AllByRecursion IsNoFailure (later ++ fails who command reply ∷ earlier)

@@ -1,5 +1,5 @@
 use Rattle.ic_lives.proofs.RunLemmas.{table_after}
-use Rattle.ic_lives.proofs.ServedLemmas.{reaches_more, stopped_so, opened_so, refused_then, broken_by}
+use Rattle.ic_lives.proofs.ServedLemmas.{reaches_more, stopped_so, broken_by}
 use Rattle.ic_lives.proofs.served.the_served_headline.Goals as goal
 
 pub returns-clause-ended : goal.returns-clause-ended
@@ -13,16 +13,6 @@ returns-clause-ended g c moves done run =
 pub returns-clause-stopped : goal.returns-clause-stopped
 returns-clause-stopped g c moves = stopped_so c.histories_split_and_join.ensures.table c.histories_split_and_join.ensures.legal c.one_is_held.ensures
     g.met.D.Disk.content_is_image g.met.D.Disk.image_is_left g.met.D.Disk.left_is_image moves c.args.old.now c.args.new.now
-
-pub returns-clause-opened : goal.returns-clause-opened
-returns-clause-opened g c moves done run here call = opened_so c.histories_split_and_join.ensures.table c.histories_split_and_join.ensures.legal c.one_is_held.ensures
-    g.met.D.Disk.content_is_image g.met.D.Disk.image_is_left g.met.D.Disk.left_is_image c.life_law.ensures
-    moves c.args.old.now c.args.new.now done c.args.found.now c.args.next.now run here call
-
-pub returns-clause-opens_again : goal.returns-clause-opens_again
-returns-clause-opens_again g c moves done after cause = refused_then c.histories_split_and_join.ensures.table c.histories_split_and_join.ensures.legal c.one_is_held.ensures
-    g.met.D.Disk.content_is_image g.met.D.Disk.image_is_left g.met.D.Disk.left_is_image
-    moves c.args.old.now c.args.new.now done c.args.found.now after cause
 
 pub returns-clause-broken : goal.returns-clause-broken
 returns-clause-broken g c = broken_by c.args.old.now c.args.new.now
