@@ -326,9 +326,9 @@ class DrawnDisks(ModelTrial):
                 (none, empty._replace(next=MAX_NEXT + more)),
             ):
                 for state in ("done", "running"):
-                    jobs = [Job("two", rules, config, 0, state), Job("b", none, empty, MAX_ROUNDS + min(more, 0), "done")]
+                    other = Job("b", none, empty, MAX_ROUNDS + min(more, 0), "done")
                     disk = Disk(bytes(SECOND_SLOT + HEAD))
-                    disk.put_slot(0, 1, model_disk.encode(Table(jobs)))
+                    disk.put_slot(0, 1, model_disk.encode(Table([Job("two", rules, config, 0, state), other])))
                     self.opened(disk.content, ["list", "fetch two", "run 1", "cancel b"])
 
     def test_names_and_rounds_that_run_out(self):
