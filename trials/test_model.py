@@ -1,11 +1,16 @@
-"""The model answers the worked rows as they stand, so model and rows, which the gate tries, say the same."""
+"""The model answers the worked rows as they stand, so model and rows, which the gate tries, say the same. Its settling is the
+one of docs/settling.md, step after step."""
 
+import random
 import unittest
 
+import draws
 import model
 import model_disk
 from model import Fault, Refusal
+from program import SEED
 from worked_rows import expanded, rows
+
 
 def printed_or_fault(read, text):
     try:
@@ -53,6 +58,20 @@ def served(text):
         server = model_disk.Server(disk, int(every))
         told += [server.answer(line) for line in expanded(part).split(b" ; ")]
     return " ; ".join(it for it in told if it is not None), server
+
+
+class TheModelSettlesAsDefined(unittest.TestCase):
+    def test_one_walk_is_step_after_step(self):
+        drawn = random.Random(f"{SEED} {self.id()}")
+        for _ in range(1_500):
+            rules, config = draws.system(drawn, drawn.choice([1, 2, 3]), 3)
+            after = model.fired(rules, config)
+            with self.subTest(model.printed(rules, config), seed=SEED):
+                settled = model.settled_by_steps(after)
+                self.assertEqual(model.settled(after), settled)
+                active = any(rules.find(*equation) for equation in settled.equations)
+                self.assertEqual(model.is_quiet(rules, settled), not active)
+                self.assertEqual(model.is_quiet(rules, after), model.settled_by_steps(after) == after and not active)
 
 
 class TheModelAnswersTheRows(unittest.TestCase):
