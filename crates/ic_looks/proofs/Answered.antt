@@ -8,7 +8,8 @@ use Rattle.ic_streams.specs.lemmas.Reading.{Carried, OfFronts, answered_as, of_e
 use Rattle.ic_streams.specs.declared.fault.StreamFault.{StreamFault}
 use Rattle.ic_streams.specs.declared.fault.StreamFault.TheVariants.{Read, Text, Round, Memory, Write}
 use Rattle.ic_looks.specs.Reductions.{EndsAs, Reduces}
-use Rattle.ic_looks.specs.Tables.{Traces}
+use Rattle.ic_looks.specs.Traces.{Traces}
+use Rattle.ic_looks.specs.declared.sums.Format.{Format}
 use Rattle.ic_looks.specs.declared.reduction.Reduction.{Reduction}
 
 reduces_carried : (most : ℕ) → Carried (Reduces most)
@@ -20,14 +21,14 @@ reduces_carried most front rest end (Err Read) s = absurd s
 reduces_carried most front rest end (Err Memory) s = absurd s
 reduces_carried most front rest end (Err Write) s = absurd s
 
-pub traces_carried : (most : ℕ) → Carried (Traces most)
-traces_carried most front rest end (Ok table) s =
-    record { system = s.system; rows = s.rows; reads = read_as _ _ front rest end _ s.reads; traced = s.traced; prints = s.prints }
-traces_carried most front rest end (Err (Text fault)) s = (read_as _ _ front rest end _ s.0, s.1)
-traces_carried most front rest end (Err (Round fault)) s = record { system = s.system; rounds = s.rounds; reads = read_as _ _ front rest end _ s.reads; refused = s.refused }
-traces_carried most front rest end (Err Read) s = absurd s
-traces_carried most front rest end (Err Memory) s = absurd s
-traces_carried most front rest end (Err Write) s = absurd s
+pub traces_carried : (most : ℕ) (format : Format) → Carried (Traces most format)
+traces_carried most format front rest end (Ok output) s =
+    record { system = s.system; rows = s.rows; reads = read_as _ _ front rest end _ s.reads; traced = s.traced; shows = s.shows }
+traces_carried most format front rest end (Err (Text fault)) s = (read_as _ _ front rest end _ s.0, s.1)
+traces_carried most format front rest end (Err (Round fault)) s = record { system = s.system; rounds = s.rounds; reads = read_as _ _ front rest end _ s.reads; refused = s.refused }
+traces_carried most format front rest end (Err Read) s = absurd s
+traces_carried most format front rest end (Err Memory) s = absurd s
+traces_carried most format front rest end (Err Write) s = absurd s
 
 ends_carried : (most : ℕ) (reduction : Reduction) → OfFronts (λ text. EndsAs most text reduction)
 ends_carried most reduction front rest end s =

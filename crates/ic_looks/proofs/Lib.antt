@@ -4,3 +4,4 @@ pub mod Symbols
 pub mod Answered
 pub mod Counting
 pub mod Interactions
+pub mod Greatest

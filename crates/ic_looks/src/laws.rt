@@ -1,7 +1,7 @@
 //! Laws of the definitions that the contracts of this crate cite.
 
-ghost use Rattle.std.specs.Prelude.{◌≡◌, ◌↔◌, ◌⊎◌, ℕ, ◌+◌, ◌≤◌, List, None, Some, false, length, sum_by};
-ghost use Rattle.std.specs.List.{AllByRecursion, find};
+ghost use Rattle.std.specs.Prelude.{◌≡◌, ◌↔◌, ◌⊎◌, ℕ, ◌+◌, ◌≤◌, ◌==◌, ◌∷◌, IsTrue, List, None, Some, false, length, sum_by};
+ghost use Rattle.std.specs.List.{AllByRecursion, find, list_any};
 ghost use Rattle.ic_term.specs.Tree.{Pair};
 ghost use Rattle.ic_term.specs.Configuration.{Configuration};
 ghost use Rattle.ic_term.specs.Symbol.{Symbol};
@@ -11,9 +11,11 @@ ghost use Rattle.ic_round.specs.Rounds.{IsQuiet, iterate};
 ghost use Rattle.ic_round.specs.Steps.{Steps};
 ghost use Rattle.ic_round.specs.declared.round_fault.RoundFault.{RoundFault};
 ghost use Rattle.ic_looks.specs.Interacting.{interactions_of};
+ghost use Rattle.ic_looks.specs.Pictures.{greatest};
 ghost use Rattle.ic_looks.specs.Reducing.{IsReducedBy, IsRefusedAfter};
 ghost use Rattle.ic_looks.specs.Stuck.{is_of_agents, stuck_text};
 ghost use Rattle.ic_looks.specs.Tracing.{active_count, rows_of};
+ghost use Rattle.ic_looks.specs.declared.row.Row.{Row};
 
 /// Where no step is possible, rounds change nothing. So what is reached by reducing is what all the
 /// rounds that may be made would reach.
@@ -82,4 +84,12 @@ pub fn rows_count_interactions()
         ≡ sum_by (λ row. row.pairs) (rows_of rs c n)) }
     ensures places { (rs : List Rule) (c : Configuration)
         → active_count rs c ≡ length (active rs c) }
+{}
+
+/// The greatest number of rows is the number of one of them, and none of them has a greater one.
+pub fn the_greatest_is_of_a_row()
+    ensures none_greater { (number : Row → ℕ) (rows : List Row)
+        → AllByRecursion (λ row. number row ≤ greatest number rows) rows }
+    ensures reached { (number : Row → ℕ) (row : Row) (rows : List Row)
+        → IsTrue (list_any (λ it. number it == greatest number (row ∷ rows)) (row ∷ rows)) }
 {}

@@ -2,15 +2,17 @@
 //!
 //! `reduce` makes rounds of a configuration until no step is possible, and `reduce_stream` does so of the system that
 //! a reader gives. `trace` tells of each round how many equations it fires and what there is behind it, and
-//! `trace_stream` writes that as a table.
+//! `trace_stream` writes that as a table or a picture.
 #![tactic(auto)]
 
 pub mod laws;
+mod picture;
 mod reducing;
 mod reduction;
 mod row;
 mod stream;
 mod stuck;
+mod sums;
 mod table;
 mod tracing;
 
@@ -18,4 +20,5 @@ pub use reducing::{Reduced, reduce};
 pub use reduction::Reduction;
 pub use row::Row;
 pub use stream::{reduce_stream, trace_stream};
+pub use sums::Format;
 pub use tracing::trace;

@@ -6,11 +6,15 @@ ghost use Rattle.ic_term.specs.Symbol.{is_over};
 ghost use Rattle.ic_round.specs.Rounds.{IsQuiet};
 ghost use Rattle.ic_streams.specs.Streams.{OfText, IsAnswered, FaultOf, TakesAt, TakesText};
 ghost use Rattle.ic_looks.specs.Reductions.{Reduces, EndsAs, Tells};
-ghost use Rattle.ic_looks.specs.Tables.{Traces};
+ghost use Rattle.ic_looks.specs.Pictures.{shown_as};
+ghost use Rattle.ic_looks.specs.Traces.{Traces};
 
+use crate::picture::picture;
 use crate::reducing::{Reduced, reduce};
 use crate::reduction::Reduction;
+use crate::row::Row;
 use crate::stuck::stuck_text;
+use crate::sums::Format;
 use crate::table::table;
 use crate::tracing::trace;
 use ic_rules::RuleSet;
@@ -47,18 +51,19 @@ pub fn reduce_stream<R: Read, W: Write>(
 }
 
 /// Makes rounds of the system that the reader gives until no step is possible, but at most so many,
-/// and writes what each of them does as a table.
+/// and writes what each of them does as a table or a picture.
 ///
 /// Nothing is written before the text is read and the rounds are made. The reader is read as by `reduce_stream`.
 pub fn trace_stream<R: Read, W: Write>(
     alloc: Global,
     rounds: u64,
+    format: Format,
     reader: &mut R,
     writer: &mut W,
 ) -> Result<(), StreamFault>
     // There is a text of which this holds: the reader's, where it tells its bytes.
-    ensures answered { OfText (R.remaining reader.old) (λ text. IsAnswered (Traces rounds) text
-        result (W.contents writer.old) (W.contents writer.new)) }
+    ensures answered { OfText (R.remaining reader.old) (λ text. IsAnswered (Traces rounds format)
+        text result (W.contents writer.old) (W.contents writer.new)) }
     ensures silent { IfErr result (λ fault. fault ≢ StreamFault.Write
         → Keeps (W.contents writer.old) (W.contents writer.new)) }
     ensures taken { OnOk result (TakesText (R.remaining reader.old) (R.remaining reader.new)) }
@@ -66,20 +71,35 @@ pub fn trace_stream<R: Read, W: Write>(
         (λ fault. TakesAt fault (R.remaining reader.old) (R.remaining reader.new)) }
 {
     let text = read_text(alloc, reader)?;
-    let table = traced_table(alloc, &text, rounds)?;
-    write_line(writer, &table)
+    let shown = shown_trace(alloc, &text, rounds, format)?;
+    write_line(writer, &shown)
 }
 
-/// The table of a text that is traced for at most so many rounds.
-fn traced_table(alloc: Global, text: &[u8], rounds: u64) -> Result<Vec<u8>, StreamFault>
-    ensures table { IfOk result (λ table. Traces rounds text.now (Ok table.items)) }
-    ensures refused { IfErr result (λ fault. FaultOf (Traces rounds) text.now fault) }
+/// A text that is traced for at most so many rounds, in a format.
+fn shown_trace(
+    alloc: Global,
+    text: &[u8],
+    rounds: u64,
+    format: Format,
+) -> Result<Vec<u8>, StreamFault>
+    ensures shown { IfOk result (λ shown. Traces rounds format text.now (Ok shown.items)) }
+    ensures refused { IfErr result (λ fault. FaultOf (Traces rounds format) text.now fault) }
     ensures sort { IfErr result
         (λ fault. (fault ≢ StreamFault.Write) × (fault ≢ StreamFault.Read)) }
 {
     let (rules, config) = read_system(alloc, text)?.into_parts();
     let rows = trace(alloc, &rules, config, rounds)?;
-    Ok(table(alloc, &rows)?)
+    Ok(shown_as(alloc, format, &rows)?)
+}
+
+/// Rows in a format.
+fn shown_as(alloc: Global, format: Format, rows: &[Row]) -> Result<Vec<u8>, AllocError>
+    ensures { IfOk result (λ shown. shown.items ≡ shown_as format rows.now) }
+{
+    match format {
+        Format::Table => table(alloc, rows),
+        Format::Picture => picture(alloc, rows),
+    }
 }
 
 /// The line of a text that is reduced by at most so many rounds, and how they ended.

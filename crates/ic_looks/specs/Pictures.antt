@@ -1,0 +1,104 @@
+-- Rows of rounds as a picture, in SVG (this project's choice).
+use Rattle.std.specs.Prelude.{ℕ, ◌*◌, ◌/◌, ◌%◌, List, [], ◌∷◌, codes, length, max, min, sum_by}
+use Rattle.std.specs.List.{concat, flat_map}
+use Rattle.std.specs.Fmt.{decimal}
+use Rattle.ic_looks.specs.Tables.{table_of}
+use Rattle.ic_looks.specs.declared.row.Row.{Row}
+use Rattle.ic_looks.specs.declared.sums.Sums.{Sums}
+use Rattle.ic_looks.specs.declared.sums.Format.{Format}
+use Rattle.ic_looks.specs.declared.sums.Format.TheVariants.{Table, Picture}
+
+-- a number of 64 bits, which stands for all above
+abbrev pub MOST : ℕ
+MOST = 18446744073709551615
+
+abbrev pub greatest : (Row → ℕ) → List Row → ℕ
+greatest number [] = 0
+greatest number (row ∷ rows) = max (number row) (greatest number rows)
+
+-- how many equations all rounds fire
+abbrev pub interactions_in : List Row → ℕ
+interactions_in rows = min (sum_by (λ row. row.pairs) rows) MOST
+
+-- ten times how many equations a round fires on average
+abbrev pub tenths_in : List Row → ℕ
+tenths_in rows = min (interactions_in rows * 10) MOST / max (length rows) 1
+
+-- what the rows say all together, and the sizes of the windows that they are drawn in, which aren't 0
+abbrev pub sums_of : List Row → Sums
+sums_of rows = record {
+  rounds = length rows;
+  interactions = interactions_in rows;
+  greatest = greatest (λ row. row.pairs) rows;
+  nodes = greatest (λ row. row.nodes) rows;
+  whole = tenths_in rows / 10;
+  tenth = tenths_in rows % 10;
+  width = max (length rows) 1;
+  bars = max (greatest (λ row. row.pairs) rows) 1;
+  line = max (greatest (λ row. row.nodes) rows) 1;
+}
+
+-- the end of a line
+abbrev pub feed : List ℕ
+feed = 10 ∷ []
+
+-- how a picture begins, and its title
+abbrev pub title_of : Sums → List ℕ
+title_of s = concat (
+    codes "<svg xmlns='http://www.w3.org/2000/svg' viewBox='0 0 800 450' font-family='sans-serif'>"
+    ∷ feed ∷ codes "<rect width='800' height='450' fill='white'/>" ∷ feed
+    ∷ codes "<text x='400' y='24' text-anchor='middle'>" ∷ decimal s.rounds ∷ codes " rounds, "
+    ∷ decimal s.interactions ∷ codes " interactions, at most " ∷ decimal s.greatest
+    ∷ codes " and on average " ∷ decimal s.whole ∷ codes "." ∷ decimal s.tenth
+    ∷ codes " in a round</text>" ∷ feed ∷ [])
+
+-- behind the title: the window in which a unit is one round and one equation
+abbrev pub top_of : Sums → List ℕ
+top_of s = concat (
+    codes "<svg x='80' y='50' width='640' height='350' preserveAspectRatio='none' viewBox='0.95 0 "
+    ∷ decimal s.width ∷ codes " " ∷ decimal s.bars ∷ codes "'>" ∷ feed
+    ∷ codes "<g fill='#aaa' transform='matrix(1 0 0 -1 0 " ∷ decimal s.bars
+    ∷ codes ")'>" ∷ feed ∷ [])
+
+-- a bar for the equations that a round fires
+abbrev pub bar_of : Row → List ℕ
+bar_of row = concat (codes "<rect width='0.9' x='" ∷ decimal row.round ∷ codes "' height='"
+    ∷ decimal row.pairs ∷ codes "'/>" ∷ feed ∷ [])
+
+-- behind the bars: the window in which a unit is one round and one node, and a line in it
+abbrev pub middle_of : Sums → List ℕ
+middle_of s = concat (codes "</g></svg>" ∷ feed
+    ∷ codes "<svg x='80' y='50' width='640' height='350' preserveAspectRatio='none' viewBox='0.5 0 "
+    ∷ decimal s.width ∷ codes " " ∷ decimal s.line ∷ codes "'>" ∷ feed
+    ∷ codes "<g transform='matrix(1 0 0 -1 0 " ∷ decimal s.line ∷ codes ")'>" ∷ feed
+    ∷ codes "<polyline fill='none' stroke='black' stroke-width='2'"
+    ∷ codes " vector-effect='non-scaling-stroke' points='" ∷ feed ∷ [])
+
+-- a point of the line: the nodes behind a round
+abbrev pub point_of : Row → List ℕ
+point_of row = concat (decimal row.round ∷ codes "," ∷ decimal row.nodes ∷ feed ∷ [])
+
+-- behind the line: the axes and their numbers
+abbrev pub bottom_of : Sums → List ℕ
+bottom_of s = concat (codes "'/></g></svg>" ∷ feed
+    ∷ codes "<path d='M80 50V400H720V50' fill='none' stroke='black'/>" ∷ feed
+    ∷ codes "<text x='80' y='42'>pairs fired (bars)</text>" ∷ feed
+    ∷ codes "<text x='720' y='42' text-anchor='end'>nodes (line)</text>" ∷ feed
+    ∷ codes "<text x='74' y='56' text-anchor='end'>" ∷ decimal s.greatest ∷ codes "</text>" ∷ feed
+    ∷ codes "<text x='74' y='404' text-anchor='end'>0</text>" ∷ feed
+    ∷ codes "<text x='726' y='56'>" ∷ decimal s.nodes ∷ codes "</text>" ∷ feed
+    ∷ codes "<text x='726' y='404'>0</text>" ∷ feed
+    ∷ codes "<text x='80' y='420'>1</text>" ∷ feed
+    ∷ codes "<text x='400' y='440' text-anchor='middle'>round</text>" ∷ feed
+    ∷ codes "<text x='720' y='420' text-anchor='end'>" ∷ decimal s.rounds ∷ codes "</text>" ∷ feed
+    ∷ codes "</svg>" ∷ feed ∷ [])
+
+-- the picture of rows: a bar for each, and a line through the nodes behind each
+abbrev pub picture_of : List Row → List ℕ
+picture_of rows = concat (title_of (sums_of rows) ∷ top_of (sums_of rows) ∷ flat_map bar_of rows
+    ∷ middle_of (sums_of rows) ∷ flat_map point_of rows ∷ bottom_of (sums_of rows) ∷ [])
+
+-- rows in a format
+abbrev pub shown_as : Format → List Row → List ℕ
+shown_as Table rows = table_of rows
+shown_as Picture rows = picture_of rows

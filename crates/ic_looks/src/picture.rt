@@ -1,0 +1,126 @@
+//! Rows of rounds as a picture, in SVG.
+
+ghost use Rattle.std.specs.Prelude.{◌≡◌, ◌++◌, IfOk, OnOk};
+ghost use Rattle.std.specs.List.{flat_map};
+ghost use Rattle.ic_looks.specs.Pictures.{bar_of, bottom_of, middle_of, picture_of, point_of, title_of, top_of};
+
+use crate::row::Row;
+use crate::sums::{Sums, sums_of};
+use std::alloc::{AllocError, Global};
+
+/// The picture of these rows.
+pub(crate) fn picture(alloc: Global, rows: &[Row]) -> Result<Vec<u8>, AllocError>
+    ensures { IfOk result (λ picture. picture.items ≡ picture_of rows.now) }
+{
+    let sums = sums_of(rows);
+    let mut picture = Vec::new(alloc);
+    put_title(alloc, &sums, &mut picture)?;
+    put_top(alloc, &sums, &mut picture)?;
+    put_bars(alloc, rows, &mut picture)?;
+    put_middle(alloc, &sums, &mut picture)?;
+    put_points(alloc, rows, &mut picture)?;
+    put_bottom(alloc, &sums, &mut picture)?;
+    Ok(picture)
+}
+
+/// Appends how a picture begins, and its title.
+fn put_title(alloc: Global, sums: &Sums, picture: &mut Vec<u8>) -> Result<(), AllocError>
+    ensures { OnOk result (picture.new.items ≡ picture.old.items ++ title_of sums.now) }
+{
+    let Sums {
+        rounds,
+        interactions,
+        greatest,
+        whole,
+        tenth,
+        ..
+    } = *sums;
+    let text = format!(in alloc;
+        "<svg xmlns='http://www.w3.org/2000/svg' viewBox='0 0 800 450' font-family='sans-serif'>\n<rect width='800' height='450' fill='white'/>\n<text x='400' y='24' text-anchor='middle'>{rounds} rounds, {interactions} interactions, at most {greatest} and on average {whole}.{tenth} in a round</text>\n"
+    )?;
+    picture.extend_from_slice(text.as_bytes())?;
+    Ok(())
+}
+
+/// Appends what stands between the title and the bars.
+fn put_top(alloc: Global, sums: &Sums, picture: &mut Vec<u8>) -> Result<(), AllocError>
+    ensures { OnOk result (picture.new.items ≡ picture.old.items ++ top_of sums.now) }
+{
+    let Sums { width, bars, .. } = *sums;
+    let text = format!(in alloc;
+        "<svg x='80' y='50' width='640' height='350' preserveAspectRatio='none' viewBox='0.95 0 {width} {bars}'>\n<g fill='#aaa' transform='matrix(1 0 0 -1 0 {bars})'>\n"
+    )?;
+    picture.extend_from_slice(text.as_bytes())?;
+    Ok(())
+}
+
+/// Appends the bars.
+fn put_bars(alloc: Global, rows: &[Row], picture: &mut Vec<u8>) -> Result<(), AllocError>
+    ensures { OnOk result (picture.new.items ≡ picture.old.items ++ flat_map bar_of rows.now) }
+{
+    for row in rows {
+        put_bar(alloc, row, picture)?;
+    }
+    Ok(())
+}
+
+/// Appends the bar of a round.
+fn put_bar(alloc: Global, row: &Row, picture: &mut Vec<u8>) -> Result<(), AllocError>
+    ensures { OnOk result (picture.new.items ≡ picture.old.items ++ bar_of row.now) }
+{
+    let round = row.round;
+    let pairs = row.pairs;
+    let text = format!(in alloc; "<rect width='0.9' x='{round}' height='{pairs}'/>\n")?;
+    picture.extend_from_slice(text.as_bytes())?;
+    Ok(())
+}
+
+/// Appends what stands between the bars and the line.
+fn put_middle(alloc: Global, sums: &Sums, picture: &mut Vec<u8>) -> Result<(), AllocError>
+    ensures { OnOk result (picture.new.items ≡ picture.old.items ++ middle_of sums.now) }
+{
+    let Sums { width, line, .. } = *sums;
+    let text = format!(in alloc;
+        "</g></svg>\n<svg x='80' y='50' width='640' height='350' preserveAspectRatio='none' viewBox='0.5 0 {width} {line}'>\n<g transform='matrix(1 0 0 -1 0 {line})'>\n<polyline fill='none' stroke='black' stroke-width='2' vector-effect='non-scaling-stroke' points='\n"
+    )?;
+    picture.extend_from_slice(text.as_bytes())?;
+    Ok(())
+}
+
+/// Appends the points of the line.
+fn put_points(alloc: Global, rows: &[Row], picture: &mut Vec<u8>) -> Result<(), AllocError>
+    ensures { OnOk result (picture.new.items ≡ picture.old.items ++ flat_map point_of rows.now) }
+{
+    for row in rows {
+        put_point(alloc, row, picture)?;
+    }
+    Ok(())
+}
+
+/// Appends the point of a round.
+fn put_point(alloc: Global, row: &Row, picture: &mut Vec<u8>) -> Result<(), AllocError>
+    ensures { OnOk result (picture.new.items ≡ picture.old.items ++ point_of row.now) }
+{
+    let round = row.round;
+    let nodes = row.nodes;
+    let text = format!(in alloc; "{round},{nodes}\n")?;
+    picture.extend_from_slice(text.as_bytes())?;
+    Ok(())
+}
+
+/// Appends the axes and their numbers.
+fn put_bottom(alloc: Global, sums: &Sums, picture: &mut Vec<u8>) -> Result<(), AllocError>
+    ensures { OnOk result (picture.new.items ≡ picture.old.items ++ bottom_of sums.now) }
+{
+    let Sums {
+        rounds,
+        greatest,
+        nodes,
+        ..
+    } = *sums;
+    let text = format!(in alloc;
+        "'/></g></svg>\n<path d='M80 50V400H720V50' fill='none' stroke='black'/>\n<text x='80' y='42'>pairs fired (bars)</text>\n<text x='720' y='42' text-anchor='end'>nodes (line)</text>\n<text x='74' y='56' text-anchor='end'>{greatest}</text>\n<text x='74' y='404' text-anchor='end'>0</text>\n<text x='726' y='56'>{nodes}</text>\n<text x='726' y='404'>0</text>\n<text x='80' y='420'>1</text>\n<text x='400' y='440' text-anchor='middle'>round</text>\n<text x='720' y='420' text-anchor='end'>{rounds}</text>\n</svg>\n"
+    )?;
+    picture.extend_from_slice(text.as_bytes())?;
+    Ok(())
+}
