@@ -204,12 +204,12 @@ front_rounds es front last is rounds =
     subst AreRounds same rounds
 
 -- scripts and runs, one more of each
-pub runs_more : (scripts : List (List Command)) (runs : List ClientRun) (script : List Command) (run : ClientRun)
-    → AllZip KeepsTo scripts runs → KeepsTo script run → AllZip KeepsTo (scripts ++ script ∷ []) (runs ++ run ∷ [])
-runs_more [] [] script run all one = (one, tt)
-runs_more [] (r ∷ rs) script run all one = absurd all
-runs_more (s ∷ ss) [] script run all one = absurd all
-runs_more (s ∷ ss) (r ∷ rs) script run all one = (all.0, runs_more ss rs script run all.1 one)
+pub runs_more : (R : List Command → ClientRun → Type 0) (scripts : List (List Command)) (runs : List ClientRun) (script : List Command) (run : ClientRun)
+    → AllZip R scripts runs → R script run → AllZip R (scripts ++ script ∷ []) (runs ++ run ∷ [])
+runs_more R [] [] script run all one = (one, tt)
+runs_more R [] (r ∷ rs) script run all one = absurd all
+runs_more R (s ∷ ss) [] script run all one = absurd all
+runs_more R (s ∷ ss) (r ∷ rs) script run all one = (all.0, runs_more R ss rs script run all.1 one)
 
 pub runs_counted : (scripts : List (List Command)) (runs : List ClientRun) → AllZip KeepsTo scripts runs → length runs ≡ length scripts
 runs_counted [] [] all = refl

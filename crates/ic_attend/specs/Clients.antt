@@ -12,9 +12,13 @@ use Rattle.ic_attend.specs.Parts.{part}
 abbrev pub asked : ClientRun → List Command
 asked run = map (λ (a : Command × Reply). a.0) run.answers.items
 
+-- A client is answered the first commands of its script in order.
+abbrev pub Begins : (script : List Command) (run : ClientRun) → Type 0
+Begins script run = asked run ≡ take (length (asked run)) script
+
 -- A client is answered the first commands of its script in order, and all of them where it finished.
 pub record KeepsTo (script : List Command) (run : ClientRun) : Type 0 where
-  pub first : asked run ≡ take (length (asked run)) script
+  pub first : Begins script run
   pub finished : run.end ≡ None → asked run ≡ script
 
 -- The answers of each client, numbered from 0, are its part of these entries.

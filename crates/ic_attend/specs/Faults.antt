@@ -14,7 +14,7 @@ use Rattle.ic_desk.specs.Book.{start_of, log_of, table_of}
 use Rattle.ic_attend.specs.declared.attended.Attended.{Attended}
 use Rattle.ic_attend.specs.declared.fault.AttendFault.{AttendFault}
 use Rattle.ic_attend.specs.declared.fault.AttendFault.TheVariants.{Open, NoThread, Memory, Torn}
-use Rattle.ic_attend.specs.Clients.{KeepsTo}
+use Rattle.ic_attend.specs.Clients.{Begins, KeepsTo}
 use Rattle.ic_attend.specs.OneHistory.{IsOneHistory}
 use Rattle.ic_attend.specs.Ends.{EndsTell}
 
@@ -26,6 +26,15 @@ IfUnopened (Err (Open fault)) what = what fault
 IfUnopened (Err (NoThread a)) what = Unit {0}
 IfUnopened (Err (Memory book)) what = Unit {0}
 IfUnopened (Err (Torn a)) what = Unit {0}
+
+-- where a thread could not be started, this holds of what the others left
+abbrev pub IfStopped : {D : Type 0} {ghosts : Ghosts D}
+    → Result (Attended D ghosts) (AttendFault D ghosts) → (Attended D ghosts → Type 0) → Type 0
+IfStopped (Ok a) what = Unit {0}
+IfStopped (Err (Open fault)) what = Unit {0}
+IfStopped (Err (NoThread a)) what = what a
+IfStopped (Err (Memory book)) what = Unit {0}
+IfStopped (Err (Torn a)) what = Unit {0}
 
 -- where memory was refused before any thread was started, this holds of the book
 abbrev pub IfUnbegun : {D : Type 0} {ghosts : Ghosts D}
@@ -60,6 +69,12 @@ pub record IsAsOpened {D : Type 0} {ghosts : Ghosts D} (disk : D) (book : Book D
   pub held : IsTrue (ghosts.keeps disk) → IsHeld (the_table (start_of book)) (ghosts.content disk)
   pub table : table_of book ≡ start_of book
   pub log : log_of book ≡ []
+
+-- For each script a client was answered its first commands, or none. Each runner has an end.
+pub record IsStopped {D : Type 0} {ghosts : Ghosts D} (scripts : List (List Command))
+    (runners : ℕ) (a : Attended D ghosts) : Type 0 where
+  pub begun : AllZip Begins scripts a.answers.items
+  pub counted : length a.ends.items ≡ runners
 
 -- Each client keeps to its script and each runner has an end. But the book began with another table,
 -- or its log isn't one history of them, or an end by a refusal isn't borne out.

@@ -5,7 +5,7 @@ ghost use Rattle.ic_slots.specs.Held.{IsHeld, the_table};
 ghost use Rattle.ic_desk.specs.Book.{start_of};
 ghost use Rattle.ic_attend.specs.OneHistory.{IsOneHistory};
 ghost use Rattle.ic_attend.specs.Ends.{EndsTell};
-ghost use Rattle.ic_attend.specs.Faults.{IfUnopened, IfUnbegun, IfTorn, IsUnopened, IsAsOpened, IsTorn, Differs};
+ghost use Rattle.ic_attend.specs.Faults.{IfUnopened, IfUnbegun, IfStopped, IfTorn, IsUnopened, IsAsOpened, IsStopped, IsTorn, Differs};
 ghost use Rattle.ic_attend.specs.inner.Gathering.{IsReady, IsBegun};
 
 use crate::attended::Attended;
@@ -50,7 +50,10 @@ pub fn attend<R: Threads + Wait + Sync, D: Disk + Send, G: Gate>(
     ensures unopened { IfUnopened result (λ fault. IsUnopened D.Disk disk fault) }
     ensures unbegun { IfUnbegun result (λ book. IsAsOpened disk book) }
 
-    // `Torn` comes only where one of these facts fails.
+    // At `NoThread` the first commands of each script were answered, or none. `Torn` comes only
+    // where one of the facts at Ok fails.
+    ensures stopped { IfStopped result (λ attended.
+        IsStopped (map vec_items scripts.items) runners attended) }
     ensures torn { IfTorn result (λ attended.
         IsTorn D.Disk disk (map vec_items scripts.items) runners turns workers attended) }
 {
@@ -102,6 +105,8 @@ fn attend_book<R: Threads + Wait + Sync, D: Disk + Send, G: Gate>(
         IsOneHistory (map vec_items scripts.items) runners duty.turns attended) }
     ensures ends { IfOk result (λ attended. EndsTell duty.workers attended) }
     ensures begun { IsBegun result }
+    ensures stopped { IfStopped result (λ attended.
+        IsStopped (map vec_items scripts.items) runners attended) }
     ensures torn { IfTorn result (λ attended. Differs opening.now
         (map vec_items scripts.items) runners duty.turns duty.workers attended) }
 {

@@ -7,7 +7,7 @@ use Rattle.ic_attend.specs.declared.attended.Attended.{Attended}
 use Rattle.ic_attend.specs.declared.fault.AttendFault.{AttendFault}
 use Rattle.ic_attend.specs.declared.fault.AttendFault.TheVariants.{Open, NoThread, Memory, Torn}
 use Rattle.ic_attend.specs.declared.gathered.Gathered.{Gathered}
-use Rattle.ic_attend.specs.Clients.{KeepsTo}
+use Rattle.ic_attend.specs.Clients.{Begins, KeepsTo}
 
 -- nothing yet, and room for so many clients and runners
 pub record IsReady (clients runners : ℕ) (g : Gathered) : Type 0 where
@@ -18,12 +18,13 @@ pub record IsReady (clients runners : ℕ) (g : Gathered) : Type 0 where
   pub ends_len : vec_len g.ends ≡ 0
   pub ends_room : runners ≤ vec_capacity g.ends
 
--- The ends of so many runners, and where no thread was refused or stopped the run of each script's
--- client.
+-- The ends of so many runners, and the run of each script's client. It is finished, or has an end,
+-- where no thread was refused or stopped.
 pub record HasGathered (scripts : List (List Command)) (runners : ℕ) (g : Gathered) : Type 0 where
   pub ends : length g.ends.items ≡ runners
   pub ends_len : vec_len g.ends ≡ runners
   pub answers_len : vec_len g.answers ≡ length scripts
+  pub begun : AllZip Begins scripts g.answers.items
   pub runs : IsTrue g.complete → AllZip KeepsTo scripts g.answers.items
 
 -- threads were to be started

@@ -1,6 +1,7 @@
-use Rattle.std.proofs.Common.{◌≡◌, [], ◌∷◌, ◌++◌, not, map, ap, sym, ◌∙◌, vec_items, vec_len, length, ◌+◌}
+use Rattle.std.proofs.Common.{◌≡◌, List, [], ◌∷◌, ◌++◌, not, map, ap, sym, subst, ◌∙◌, vec_items, vec_len, length, ◌+◌}
 use Rattle.std.proofs.lemmas.List.{map-append, length_push}
-use Rattle.ic_attend.specs.Clients.{KeepsTo}
+use Rattle.ic_jobs.specs.declared.command.Command.{Command}
+use Rattle.ic_attend.specs.Clients.{Begins, KeepsTo}
 use Rattle.ic_attend.proofs.PartLemmas.{both_true, keeps_to, runs_more}
 use Rattle.ic_attend.proofs.threads.+start_clients.Goals as goal
 
@@ -12,13 +13,18 @@ returns-clause-gathered g t c =
     let before = map vec_items c.pop.new.self.items in
     let all : map vec_items c.args.scripts.items ≡ before ++ script.items ∷ [] =
     ap (map vec_items) c.in-Some.ensures.items ∙ map-append vec_items c.pop.new.self.items (script ∷ []) in
+    let run = c.hear-speech.result.run in
+    let speaks = c.hear-speech.ensures in
+    let same : c.of-commands.result.value.items ≡ script.items = ap (λ v. v.items) c.of-commands.ensures in
     record {
       ends = ap (λ v. length v.items) c.add_speech.ensures.ends ∙ rec.ends;
       ends_len = ap vec_len c.add_speech.ensures.ends ∙ rec.ends_len;
       answers_len = c.add_speech.ensures.len ∙ ap (λ n. n + 1) rec.answers_len ∙ sym (ap length all ∙ length_push before script.items);
+      begun =
+          let said : Begins script.items run = subst (λ (l : List Command). Begins l run) same speaks.first in
+          rw (all, c.add_speech.ensures.answers) (runs_more Begins before old.answers.items script.items run rec.begun said);
       runs = λ complete.
           let parts = both_true old.complete (not c.hear-speech.result.stopped) (sym c.add_speech.ensures.complete ∙ complete) in
-          let speaks = c.hear-speech.ensures in
-          let one : KeepsTo script.items c.hear-speech.result.run = keeps_to c.of-commands.result.value.items script.items c.hear-speech.result (ap (λ v. v.items) c.of-commands.ensures) speaks parts.1 in
-          rw (all, c.add_speech.ensures.answers) (runs_more before old.answers.items script.items c.hear-speech.result.run (rec.runs parts.0) one);
+          let one : KeepsTo script.items run = keeps_to c.of-commands.result.value.items script.items c.hear-speech.result same speaks parts.1 in
+          rw (all, c.add_speech.ensures.answers) (runs_more KeepsTo before old.answers.items script.items run (rec.runs parts.0) one);
     }
