@@ -175,8 +175,8 @@ class Trial(unittest.TestCase):
 
     def told(self, command, what, wanted, came):
         """Fails, and says of a command what was wanted of it and what came."""
-        parts = [f"  tried  {command}", f"  {what}", f"  wanted {wanted}", f"  came   {came}", f"  {getattr(self, 'drawn', '')}"]
-        self.fail("\n" + "\n".join(it for it in parts if it.strip()))
+        drawn = f"\n  {self.drawn}" if hasattr(self, "drawn") else ""
+        self.fail(f"\n  tried  {command}\n  {what}\n  wanted {wanted}\n  came   {came}{drawn}")
 
     def agrees(self, command, what, wanted, came):
         """Fails where other bytes came than were wanted."""

@@ -13,7 +13,8 @@
 
    SHIM_LOG=PATH: a line is appended to this file for each call that changes a file, syncs it, writes answers or goes wrong,
    as "KIND AT LENGTH\n" and, of a write, its bytes. KIND is W (written), T (cut or made longer), S (synced), O (written to
-   standard output), E (gone wrong, with the call's number in place of AT), C (at the end: how many calls of WHAT there were). */
+   standard output), E (gone wrong, with the call's number in place of AT), C (at the end:
+   how many calls of WHAT there were). */
 #define _GNU_SOURCE
 #include <dlfcn.h>
 #include <errno.h>

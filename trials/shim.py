@@ -32,7 +32,8 @@ def build():
         return None, "no C compiler (cc, gcc or clang) is on the path"
     room = tempfile.mkdtemp(prefix="trial-shim-")
     atexit.register(shutil.rmtree, room, ignore_errors=True)
-    made = subprocess.run([compiler, "-O1", "-shared", "-fPIC", "-o", f"{room}/shim.so", str(SOURCE), "-ldl", "-lpthread"], stderr=subprocess.PIPE)
+    command = [compiler, "-O1", "-shared", "-fPIC", "-o", f"{room}/shim.so", str(SOURCE), "-ldl", "-lpthread"]
+    made = subprocess.run(command, stderr=subprocess.PIPE)
     # The program has to hear of it: a program without dynamic linking, or another C library, doesn't.
     if made.returncode:
         return None, f"{compiler} doesn't build trials/shim.c: {made.stderr.decode(errors='replace')[-300:]}"

@@ -15,8 +15,8 @@ class Stops(Trial):
             answers = [answered(table, f"fetch {it}", 1)[2] for it in names]
             if came == [listed(table), *answers]:
                 return table
-        wanted = [asked_for(it)[1] for it in tables]
-        self.told(ran.command, f"what the next server finds, after {ran.out.count(10)} answers", f"one of {wanted[:9]}", came)
+        wanted = [asked_for(it)[1] for it in tables[:9]]
+        self.told(ran.command, f"what the next server finds, after {ran.out.count(10)} answers", f"one of {wanted}", came)
 
     def answers_to(self, lines, every, table=()):
         """The answers to lines over a table, None of a blank one."""

@@ -33,7 +33,8 @@ class Attend(Trial):
         return path
 
     def attends(self, *paths, runners=2, turns=10, workers=2, disk=None):
-        return ["attend", "--disk", disk or self.jobs, "--runners", runners, "--turns", turns, "--workers", workers, *paths]
+        numbers = ["--runners", runners, "--turns", turns, "--workers", workers]
+        return ["attend", "--disk", disk or self.jobs, *numbers, *paths]
 
     def rounds(self):
         """Looks at the disk: each job's rounds, None where it isn't there. Its configuration is that of its rounds."""
@@ -61,8 +62,9 @@ class Attend(Trial):
         self.assertEqual(self.rounds(), {"two": 0, "loop": 0})
 
     def test_a_script_with_a_fault_is_told_with_its_number_and_line_before_the_disk_is_opened(self):
-        bad = [(["list", "", "lists"], 3, "bad syntax"), (["run 1"], 1, "bad syntax"), ([f"submit {'a' * 17} {{}} <|>"], 1, "bad limit")]
-        bad += [(["submit n {} <x|x=A(x)>"], 1, "bad name x"), (["list"] * 65_537, 65_537, "bad limit")]
+        bad = [(["list", "", "lists"], 3, "bad syntax"), (["run 1"], 1, "bad syntax")]
+        bad += [([f"submit {'a' * 17} {{}} <|>"], 1, "bad limit"), (["submit n {} <x|x=A(x)>"], 1, "bad name x")]
+        bad += [(["list"] * 65_537, 65_537, "bad limit")]
         for lines, number, fault in bad:
             path = self.script("bad", lines)
             for disk in (self.jobs, self.room / "missing"):
@@ -89,8 +91,8 @@ class Attend(Trial):
         self.assertEqual(self.rounds()["two"], 2)
 
     def test_refused_words_end_with_status_2(self):
-        for words in (["--runners", "65"], ["--turns", "1000001"], ["--workers", "0"], ["--workers", "65"], ["--runners", "-1"]):
-            ran = run("attend", "--disk", self.jobs, *words)
+        for option, value in (("runners", 65), ("runners", -1), ("turns", 1_000_001), ("workers", 0), ("workers", 65)):
+            ran = run("attend", "--disk", self.jobs, f"--{option}", value)
             self.assertEqual((ran.status, ran.out, ran.err[:7]), (2, b"", b"error: "), ran)
 
     def holds_what_was_answered(self, ran):
@@ -99,7 +101,7 @@ class Attend(Trial):
         for before, line in zip([None, *told], told):
             client = int(line.split()[1]) if line.startswith("client ") else client
             if line == "accepted" and before == f"client {client}" and ("two", "loop")[client] not in found:
-                self.told(ran.command, "the jobs that are there", f"that of client {client}, which was told `accepted`", found)
+                self.told(ran.command, "the jobs that are there", f"that of client {client}, told `accepted`", found)
 
     def test_each_growth_and_start_of_a_thread_is_refused_in_turn(self):
         for what, how in (("growth", "once"), ("growth", "on"), ("thread", "once"), ("thread", "on")):
@@ -109,9 +111,11 @@ class Attend(Trial):
                 self.runs("create", "--disk", self.jobs)
                 ran = run(*self.attends(*self.paths), env=shimmed(f"{what} {number} {how}", log))
                 spared = 0 if was_refused(log) else spared + 1
-                lines = [f"icserve: {it}\n".encode() for it in MEMORY]
-                if ran.status not in (0, 3, 4) or (ran.status and ran.err not in lines) or (not ran.status and ran.out.decode().splitlines() != TOLD):
-                    self.told(ran.command, f"the end, where it went wrong: {what} {number} {how}", f"one of {MEMORY}, or all as ever", ran[1:])
+                is_fault = ran.status in (3, 4) and ran.err in [f"icserve: {it}\n".encode() for it in MEMORY]
+                is_well = (ran.status, ran.out.decode().splitlines(), ran.err) == (0, TOLD, b"")
+                if not is_fault and not is_well:
+                    call = f"the end, where it went wrong: {what} {number} {how}"
+                    self.told(ran.command, call, f"one of {MEMORY}, or all as ever", ran[1:])
                 self.holds_what_was_answered(ran)
             self.assertGreater(number, 6)
 

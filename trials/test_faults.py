@@ -10,7 +10,8 @@ from stops import Stops
 # The lines of the worked row `looping`.
 LOOPING = [f"submit loop {LOOP.text}", "run 5", "fetch loop", "pause loop", "pause loop", "run 3"]
 LOOPING += ["resume loop", "resume loop", "run 2", "fetch loop"]
-SUMS = [f"submit two {TWO.text}", "run 1", "list", "", f"submit more {TWO.text}", "fetch two", "run 10", "cancel two", "list"]
+SUMS = [f"submit two {TWO.text}", "run 1", "list", "", f"submit more {TWO.text}"]
+SUMS += ["fetch two", "run 10", "cancel two", "list"]
 ROUND = [f"submit wide {WIDE.text}", "list", "run 1", "fetch wide"]
 
 
@@ -36,7 +37,7 @@ class Faults(Stops):
     def is_fault(self, ran, call, *faults):
         """Fails unless a run in which a call went wrong ended with one of these (status, word)."""
         if (ran.status, ran.err) not in [(status, f"icserve: {word}\n".encode()) for status, word in faults]:
-            self.told(ran.command, f"the end, where it went wrong: {call}", f"one of {faults}", (ran.status, ran.out, ran.err))
+            self.told(ran.command, f"the end, where it went wrong: {call}", f"one of {faults}", ran[1:])
         self.came.add((ran.status, ran.err.decode()[9:-1]))
 
     def stream_by(self, word, text, answer, status=0, line=b""):
@@ -87,7 +88,8 @@ class Faults(Stops):
         return ran
 
     def test_each_growth_of_create_is_refused_in_turn(self):
-        calls = self.in_turn("growth", ("once", "on"), lambda *it: self.created(*it, (4, "memory"), (3, "memory"), (3, "device")))
+        faults = [(4, "memory"), (3, "memory"), (3, "device")]
+        calls = self.in_turn("growth", ("once", "on"), lambda *it: self.created(*it, *faults))
         self.assertGreater(calls, 5)
         self.assertLessEqual({(3, "memory"), (4, "memory")}, self.came)
 
@@ -154,7 +156,8 @@ class Faults(Stops):
 
     def test_drawn_growths_of_an_opening_of_many_jobs_are_refused(self):
         """Over a disk with the jobs of all sessions in examples/."""
-        submits = [line for it in sorted(TOP.glob("examples/*.session")) for line in it.read_text().splitlines() if line.startswith("submit ")]
+        lines = [line for it in sorted(TOP.glob("examples/*.session")) for line in it.read_text().splitlines()]
+        submits = [it for it in lines if it.startswith("submit ")]
         draw, disk = self.draws(), self.disk()
         wanted = self.asks(disk, [*submits, "run 7", "list"])[-1]
         before = disk.read_bytes()
@@ -211,11 +214,11 @@ class Faults(Stops):
         for count in (1, 999, 1000, 1300):
             for workers in (1, 2, 7, 64):
                 put(disk, slot(1, EMPTY))
-                text = "{A(x)><B(x)} <|" + ",".join(["A(P)=B(P)"] * count) + ">"
-                ran = run("serve", "--disk", disk, "--workers", workers, given=[f"submit a {text}", "run 1"], env=shimmed("thread 1000000 once", self.log))
-                self.ended(ran, out=["accepted", "ran 1"])
+                lines = ["submit a {A(x)><B(x)} <|" + ",".join(["A(P)=B(P)"] * count) + ">", "run 1"]
+                counts = shimmed(f"thread {10**9} once", self.log)
+                self.serves(disk, lines, ["accepted", "ran 1"], "--workers", workers, env=counts)
                 threads = next(it.at for it in noted(self.log) if it.kind == "C")
-                self.assertEqual(threads, workers if count >= 1000 else 0, f"threads of a round of {count} equations by {workers} workers")
+                self.assertEqual(threads, workers if count >= 1000 else 0, f"{count} equations, {workers} workers")
 
     def test_drawn_growths_of_a_round_by_threads_are_refused(self):
         draw, disk = self.draws(), self.room / "jobs.disk"

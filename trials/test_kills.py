@@ -54,7 +54,8 @@ class Kills(Stops):
             ran = server.stop(sign)
             took = time.monotonic() - began
             if ran.status != -sign or ran.err or took > 2:
-                self.told(ran.command, f"the end by {sign!r}", "by the signal, at once and silent", (ran.status, ran.err, f"{took:.1f} s"))
+                came = f"status {ran.status}, {ran.err}, after {took:.1f} s"
+                self.told(ran.command, f"the end by {sign!r}", "by the signal, at once and silent", came)
             return ran
 
         self.lives(60, end)

@@ -10,7 +10,7 @@ import time
 from program import PROGRAM, TOP, Trial, heeds_signals
 
 # What the launcher and the build call, but for make and rt.
-TOOLS = "sh env cat chmod cp cut dirname find flock grep head ls mkdir mv nice readlink rm sed setsid sha256sum sleep sort xargs touch".split()
+TOOLS = "sh env cat cp dirname find flock grep mkdir mv nice readlink rm sed setsid sha256sum sleep sort xargs".split()
 
 # Stands for `rt run` in crates/icserve: counts its calls, and puts the program where the prover would.
 RT = f"""#!/bin/sh
@@ -42,7 +42,8 @@ class Launcher(Trial):
 
     def launch(self, *words, given=b"<r|r=Z>", path=None, **variables):
         env = {"PATH": str(self.tools), "CALLS": str(self.calls), **variables}
-        return subprocess.run([path or self.room / "icserve", *words], input=given, env=env, cwd="/", stdout=subprocess.PIPE, stderr=subprocess.PIPE)
+        how = {"env": env, "cwd": "/", "stdout": subprocess.PIPE, "stderr": subprocess.PIPE}
+        return subprocess.run([path or self.room / "icserve", *words], input=given, **how)
 
     def built(self):
         return len(self.calls.read_text().splitlines())
@@ -64,9 +65,10 @@ class Launcher(Trial):
         (self.room / "folder/link").symlink_to("../icserve")
         self.launch("--version")
         for path in (self.room / "icserve", self.room / "folder/link"):
-            for words, given, status, said in ((["settle"], b"<|", 1, b"icserve: bad syntax\n"), (["serve", "--disk", "no file"], b"", 3, b"icserve: device\n")):
-                ran = self.launch(*words, given=given, path=path)
-                self.assertEqual((ran.returncode, ran.stdout, ran.stderr), (status, b"", said))
+            ran = self.launch("settle", given=b"<|", path=path)
+            self.assertEqual((ran.returncode, ran.stdout, ran.stderr), (1, b"", b"icserve: bad syntax\n"))
+            ran = self.launch("serve", "--disk", "no file", path=path)
+            self.assertEqual((ran.returncode, ran.stdout, ran.stderr), (3, b"", b"icserve: device\n"))
 
     def test_status_4_where_what_it_is_made_from_isnt_proved(self):
         ran = self.launch("settle", FAILS="yes")

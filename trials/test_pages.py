@@ -38,7 +38,8 @@ class Pages(Trial):
     def typed(self, page, commands, wanted, streams=subprocess.STDOUT):
         """Runs the commands of a page by a shell in the trial's folder: they print just these lines."""
         text = "\n".join(commands).replace("/tmp/", f"{self.room}/")
-        ran = subprocess.run(["sh", "-c", text], cwd=self.room, stdin=subprocess.DEVNULL, stdout=subprocess.PIPE, stderr=streams)
+        how = {"cwd": self.room, "stdin": subprocess.DEVNULL, "stdout": subprocess.PIPE, "stderr": streams}
+        ran = subprocess.run(["sh", "-c", text], **how)
         self.agrees(f"{page}: {text}", "what it prints", "".join(f"{it}\n" for it in wanted), ran.stdout)
 
     def test_the_session_of_the_readme_prints_what_the_readme_says(self):
@@ -53,7 +54,8 @@ class Pages(Trial):
     def test_what_is_typed_on_a_page_prints_what_the_page_says(self):
         consoles = []
         for page in sorted([*TOP.glob("*.md"), *TOP.glob("docs/*.md")]):
-            consoles += [(page.relative_to(TOP), typed_in(block)) for block in blocks_of(page) if block[0].startswith("$ ")]
+            blocks = [it for it in blocks_of(page) if it[0].startswith("$ ")]
+            consoles += [(page.relative_to(TOP), typed_in(it)) for it in blocks]
         self.assertLessEqual({"README.md", "docs/rounds.md", "docs/settling.md"}, {str(page) for page, _ in consoles})
         for page, commands in consoles:
             for command, wanted in commands:

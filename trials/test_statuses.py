@@ -13,6 +13,12 @@ from program import PROGRAM, Server, Trial, run
 ADD = "{Add(x,x)><Z;Add(S(x),y)><S(Add(x,y))}"
 TWO = f"submit two {ADD} <r|Add(r,S(Z))=S(Z)>"
 
+
+def nested(count):
+    """A term of so many agents round one more."""
+    return "C(" * count + "D" + ")" * count
+
+
 # Texts that `settle` refuses, and those that `once` refuses.
 CONFIGS = [
     ("", "bad syntax"),
@@ -27,8 +33,9 @@ CONFIGS = [
     ("<w165191049|>", "bad limit"),
     (" " * 262_142 + "<|>", "bad limit"),
     ("<" * 300_000, "bad limit"),
-    ("<|" + "A(" * 80_000 + "B" + ")" * 80_000 + "=C>", "bad limit"),
-    ("<|" + "A(" * 80_000 + "B" + "=C>", "bad syntax"),
+    (f"<|{nested(8191)}=E>", "bad limit"),
+    (f"<|{nested(80_000)}=E>", "bad limit"),
+    (f"<|{nested(80_000)[:-80_000]}=E>", "bad syntax"),
     ("<A|A(x)=B>", "bad arity"),
     ("<x|x=A(x)>", "bad name x"),
     ("<a1,a1|B(a1)=C>", "bad name a1"),
@@ -45,7 +52,7 @@ SYSTEMS = [
     ("{A(x)><B(x);B(y)><A(y)} <|>", "bad twice 2"),
     ("{A(B,x)><A(x,C)} <|>", "bad lopsided 1"),
     ("{" + ";".join(f"A{i}><B" for i in range(64)) + "} <|>", "bad limit"),
-    ("{A><B(C(C(D)))} <|A=B(P)," + "C(" * 8187 + "D" + ")" * 8187 + "=Q>", "overgrown"),
+    (f"{{A><B(C(C(D)))}} <|A=B(P),{nested(8187)}=Q>", "overgrown"),
 ]
 
 
@@ -53,8 +60,8 @@ class Texts(Trial):
     def test_what_goes_well_ends_with_status_0_and_says_nothing_else(self):
         self.runs("settle", given="<r | r = S(s), s = Z>", out=["<S(Z)|>"])
         self.runs("once", given=f"{ADD} <r|Add(r,S(Z))=S(Z)>", out=["<S(s)|Z=Add(s,S(Z))>"])
-        self.runs("settle", given="<|" + "A(" * 8190 + "B" + ")" * 8190 + "=C>", out=["<|" + "A(" * 8190 + "B" + ")" * 8190 + "=C>"])
-        self.runs("once", given="{A><B(C(C(D)))} <|A=B(P)," + "C(" * 8186 + "D" + ")" * 8186 + "=Q>", out=["<|P=C(C(D))," + "C(" * 8186 + "D" + ")" * 8186 + "=Q>"])
+        self.runs("settle", given=f"<|{nested(8190)}=E>", out=[f"<|{nested(8190)}=E>"])
+        self.runs("once", given=f"{{A><B(C(C(D)))}} <|A=B(P),{nested(8186)}=Q>", out=[f"<|P=C(C(D)),{nested(8186)}=Q>"])
         disk = self.disk()
         self.serves(disk, [TWO, "run 10", "fetch two"], ["accepted", "ran 2", "two done 2 <S(S(Z))|>"])
         self.serves(disk, "", "")
@@ -71,8 +78,9 @@ class Texts(Trial):
 
     def test_refused_lines_are_answered_and_the_serving_goes_on(self):
         refused = [(f"submit a {text}", fault) for text, fault in SYSTEMS if fault != "overgrown"]
-        refused += [("run 007", "bad syntax"), ("run 1001", "bad limit"), ("run", "bad syntax"), ("submit Two {} <|>", "bad syntax")]
-        refused += [("list list", "bad syntax"), ("lists", "bad syntax"), ("pause " + "a" * 17, "bad limit"), ("\0", "bad syntax")]
+        refused += [("run 1001", "bad limit"), ("pause " + "a" * 17, "bad limit")]
+        bad = ["run 007", "run", "submit Two {} <|>", "list list", "lists", "\0"]
+        refused += [(it, "bad syntax") for it in bad]
         lines, answers = zip(*refused)
         self.serves(self.disk(), [*lines, "", " \t\r", "list"], [*answers, "jobs"])
 
@@ -109,10 +117,11 @@ class Words(Trial):
                 self.assertEqual(os.listdir(self.room), [])
 
     def test_help_and_version_go_to_standard_output(self):
-        for words in (["--help"], ["-h"], ["--version"], ["-V"], *([word, "--help"] for word in ("settle", "once", "create", "serve"))):
+        helps = [["--help"], ["-h"], *([word, "--help"] for word in ("settle", "once", "create", "serve"))]
+        for words in (*helps, ["--version"], ["-V"]):
             with self.subTest(words=words):
                 ran = run(*words)
-                wanted = b"icserve " if "ersion" in words[-1] or words == ["-V"] else b"Usage: icserve"
+                wanted = b"Usage: icserve" if words in helps else b"icserve "
                 if ran.status or ran.err or wanted not in ran.out:
                     self.told(ran.command, "the end", f"status 0 and {wanted} on standard output", ran[1:])
 
@@ -211,8 +220,8 @@ class Disks(Trial):
     def test_damaged_where_the_newest_slot_holds_no_table(self):
         table = table_by_hand()
         whole = disk_of(slot(1, EMPTY), slot(2, table))
-        cases = [whole[:-1], whole[: SECOND + HEAD], disk_of(slot(1, EMPTY), slot(2, table[:-1])), disk_of(slot(1, EMPTY), slot(2, table + b"\0"))]
-        cases += [disk_of(slot(1, EMPTY), slot(2, b"ICT0" + table[4:])), disk_of(slot(1, EMPTY), slot(2, b""))]
+        bodies = [table[:-1], table + b"\0", b"ICT0" + table[4:], b""]
+        cases = [whole[:-1], whole[: SECOND + HEAD], *(disk_of(slot(1, EMPTY), slot(2, it)) for it in bodies)]
         long = slot(2, b"")[:9] + (3_036_422).to_bytes(4, "big")
         cases += [disk_of(slot(1, EMPTY), long + table.ljust(3_036_422, b"\0")), disk_of(slot(3, b"x"), slot(2, table))]
         for i, data in enumerate(cases):
@@ -224,8 +233,9 @@ class Disks(Trial):
         for length in range(18):
             self.leaves(self.file("disk", whole[:length]), "no slot" if length < 13 else "damaged")
         for length in (18, 19, SECOND, SECOND + 12, SECOND + 13):
-            self.serves(self.file("disk", whole[:length]), ["list", TWO, "list"], ["jobs", "accepted", "jobs two:running:0"])
-            self.serves(self.room / "disk", "list", ["jobs two:running:0"])
+            disk = self.file("disk", whole[:length])
+            self.serves(disk, ["list", TWO, "list"], ["jobs", "accepted", "jobs two:running:0"])
+            self.serves(disk, "list", ["jobs two:running:0"])
 
 
 class Servings(Trial):
@@ -269,7 +279,8 @@ class Servings(Trial):
         disk = self.disk()
         self.serves(disk, "\n" * 999_999 + "list\n", ["jobs"])
         for more in ("list\n", "list", "x" * 300_000):
-            self.refuses("serve", "--disk", disk, given="\n" * 999_999 + f"list\n{more}", out=["jobs"], line="too many lines", status=4)
+            given = "\n" * 999_999 + f"list\n{more}"
+            self.refuses("serve", "--disk", disk, given=given, out=["jobs"], line="too many lines", status=4)
 
     def test_worn_where_the_numbers_of_the_slots_are_used_up(self):
         disk = self.room / "worn"
@@ -280,14 +291,16 @@ class Servings(Trial):
         self.serves(disk, ["", "run 0", "no command"], ["ran 0", "bad syntax"])
         self.holds(disk, before)
         disk.write_bytes(disk_of(slot(2**64 - 2, table_by_hand())))
-        self.refuses("serve", "--disk", disk, given=["list", "pause two", "list"], out=["jobs two:running:0", "ok"], line="worn", status=4)
+        given, out = ["list", "pause two", "list"], ["jobs two:running:0", "ok"]
+        self.refuses("serve", "--disk", disk, given=given, out=out, line="worn", status=4)
         self.assertEqual(disk.read_bytes()[SECOND : SECOND + 9], b"\1" + b"\xff" * 8)
 
     def test_device_where_a_file_may_grow_no_further(self):
         """The limit on a file's size stands for a full device: the table of 126 bytes ends at 4,194,443."""
 
         def limited(most):
-            return {"preexec_fn": lambda: resource.setrlimit(resource.RLIMIT_FSIZE, (most, most)), "restore_signals": False}
+            limit = resource.RLIMIT_FSIZE
+            return {"preexec_fn": lambda: resource.setrlimit(limit, (most, most)), "restore_signals": False}
 
         signal.signal(signal.SIGXFSZ, signal.SIG_IGN)
         for most in (0, 1, 18, SECOND, SECOND + 1, SECOND + 12):
@@ -295,7 +308,8 @@ class Servings(Trial):
         self.runs("create", "--disk", self.room / "new", **limited(SECOND + 13))
         for most in (0, SECOND, SECOND + 1, SECOND + 13, SECOND + 138):
             disk = self.disk()
-            self.refuses("serve", "--disk", disk, given=["list", TWO, "list"], out=["jobs"], line="device", status=4, **limited(most))
+            how = limited(most)
+            self.refuses("serve", "--disk", disk, given=["list", TWO, "list"], out=["jobs"], line="device", status=4, **how)
             self.serves(disk, "list", ["jobs"])
         self.serves(disk, [TWO], ["accepted"], **limited(SECOND + 139))
         self.serves(disk, "list", ["jobs two:running:0"])
