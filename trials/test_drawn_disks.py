@@ -163,8 +163,9 @@ class DrawnDisks(ModelTrial):
         drawn = self.draws()
         lengths = [0, 1, 12, 13, 17, 18, 19, *(SECOND_SLOT + more for more in (-1, 0, 12, HEAD, 900))]
         for length in [None] + lengths:
-            disk = Disk() if length is None else Disk(drawn.randbytes(length))
+            disk = Disk()
             if length is not None:
+                disk.content = bytearray((drawn.getrandbits(8 * length + 1) >> 1).to_bytes(length, "big"))
                 self.lay(disk)
             disk.create()
             ran = run("create", "--disk", self.path)

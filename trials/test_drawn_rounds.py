@@ -105,6 +105,16 @@ class DrawnRounds(ModelTrial):
             text = f"{GROWING}<r,{'S(' * rest}Z{')' * rest}|A(x,r)=B(x)>"
             self.makes_rounds([text], [1, 1, 40])
 
+    def test_systems_that_grow(self):
+        drawn = self.draws()
+        texts = []
+        for _ in range(60):
+            symbols = draws.symbols(drawn, drawn.randint(3, 6), 3)
+            rule_set = draws.rules(drawn, symbols, drawn.randint(6, 15), size=drawn.choice([3, 4, 6]))
+            config = draws.configuration(drawn, rule_set, drawn.randrange(5), drawn.randint(3, 30), 6, active=1.0)
+            texts.append(draws.system_text(rule_set, config))
+        self.makes_rounds(texts, [1, 1, 5, 60], "--workers", drawn.randint(1, 64))
+
     def test_threads(self):
         drawn = self.draws()
         for workers in [1, 2, 3, 4, 7, 8, 16, 31, 32, 33, 63, 64] + [drawn.randint(1, 64) for _ in range(8)]:
