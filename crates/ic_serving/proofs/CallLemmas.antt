@@ -17,7 +17,7 @@ use Rattle.ic_desk.specs.Book.{start_of, log_of, kept_of, keeper_of, disk_of, is
 use Rattle.ic_desk.specs.Calls.{BreaksOrStays}
 use Rattle.ic_desk.specs.Kept.{HoldsKeptOrAll}
 use Rattle.ic_desk.specs.Moves.{Move, opens, refuses, answers, fails, rounds, keeps, stays, closes, stops, brings, round_move, keep_move}
-use Rattle.ic_desk.specs.Server.{up, Does, Step, StepsByCommand}
+use Rattle.ic_desk.specs.Server.{up, Does, Step}
 use Rattle.ic_serving.specs.Booked.{IsOnMadeDisk}
 use Rattle.ic_serving.specs.ByCalls.{Calls, IsNoFailure, IsByCalls, IsLeftWithin}
 

@@ -1,5 +1,5 @@
 -- What a crash in the midst of a call leaves, call by call.
-use Rattle.std.proofs.Common.{false, Result, Ok, Err, ◌≡◌, ◌≢◌, ◌⊎◌, inl, inr, ⊎_elim, ℕ, ◌+◌, ◌<◌, ◌≤◌, List, [], ◌∷◌, ◌++◌, Option, None, Some, true, length, refl, sym, ap, subst, ◌∙◌, arith, append-nil, append_assoc}
+use Rattle.std.proofs.Common.{false, Result, Ok, Err, ◌≡◌, ◌≢◌, ◌⊎◌, inl, inr, ⊎_elim, ℕ, ◌≤◌, List, [], ◌∷◌, ◌++◌, Option, length, refl, sym, ap, subst, ◌∙◌, arith, append-nil, append_assoc}
 use Rattle.std.specs.Prelude.{IsTrue, IfErr}
 use Rattle.std.specs.Result.{IsErrAnd}
 use Rattle.std.specs.Io.KnownBytes.{Keeps}
@@ -28,9 +28,9 @@ use Rattle.ic_desk.specs.declared.book.Book.{Book}
 use Rattle.ic_desk.specs.Book.{is_broken, start_of, log_of, table_of, kept_of, keeper_of, disk_of, IsUnchanged}
 use Rattle.ic_desk.specs.Entries.{AddsCommand, command_entry}
 use Rattle.ic_desk.specs.Kept.{HoldsKeptOrAll, table_kept}
-use Rattle.ic_serving.specs.Booked.{last_kept, IsAllKept, IsOnMadeDisk, StaysPut}
+use Rattle.ic_serving.specs.Booked.{last_kept, IsAllKept, StaysPut}
 use Rattle.ic_serving.specs.Answered.{IsKeptFor}
-use Rattle.ic_serving.specs.Parts.{IsPart, IsKeptWithin, IsInLine, IsInFirst}
+use Rattle.ic_serving.specs.Parts.{IsKeptWithin, IsInLine, IsInFirst}
 use Rattle.ic_serving.specs.Stopped.{HoldsOne, IsReached, MayStand}
 use Rattle.ic_serving.specs.ByCalls.{IsByCalls}
 use Rattle.ic_serving.specs.Moments.{FaultLeaves, Leaves, IsKeptOrNow, IsKeptInLine}

@@ -1,11 +1,11 @@
-use Rattle.std.proofs.Common.{◌≡◌, ◌⊎◌, ◌-◌, ◌^◌, Bool, true, false, inl, inr, Err, refl, ap, sym, ◌∙◌, [], ◌∷◌}
+use Rattle.std.proofs.Common.{◌≡◌, ◌-◌, ◌^◌, Bool, true, false, inl, inr, Err, refl, ap, ◌∙◌, [], ◌∷◌}
 use Rattle.ic_jobs.specs.declared.event.Event.TheVariants.{Command as by_command}
 use Rattle.ic_jobs.specs.History.{table_after}
 use Rattle.ic_desk.specs.Book.{is_broken, number_of, table_of, start_of, log_of, kept_of, IsUnchanged}
 use Rattle.ic_slots.specs.declared.keeper.Keeper.{Keeper}
 use Rattle.ic_slots.specs.Keeper as keeper_parts
 use Rattle.ic_desk.specs.Entries.{command_entry}
-use Rattle.ic_serving.specs.Booked.{last_kept, Begins}
+use Rattle.ic_serving.specs.Booked.{last_kept}
 use Rattle.ic_serving.proofs.RunLemmas.{kept_same, on_err}
 use Rattle.ic_serving.proofs.CallLemmas.{by_answer, by_failure, by_refusal}
 use Rattle.ic_serving.proofs.LineLemmas.{device_or_not, begun_none, begun_one, begun_kept, after_event, kept_behind, kept_all}

@@ -1,4 +1,4 @@
-use Rattle.std.proofs.Common.{◌≡◌, subst, sym, ◌∙◌}
+use Rattle.std.proofs.Common.{subst, sym, ◌∙◌}
 use Rattle.ic_pool.specs.Played.{PlayedParts}
 use Rattle.ic_jobs.specs.Landing.{Awaits}
 use Rattle.ic_desk.specs.Book.{table_of}

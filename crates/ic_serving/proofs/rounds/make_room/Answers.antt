@@ -1,4 +1,4 @@
-use Rattle.std.proofs.Common.{◌≡◌, inl, inr, refl}
+use Rattle.std.proofs.Common.{inl, inr, refl}
 use Rattle.ic_desk.specs.Book.{start_of, log_of}
 use Rattle.ic_jobs.specs.History.{replay}
 use Rattle.ic_serving.specs.Booked.{last_kept}

@@ -1,4 +1,4 @@
-use Rattle.std.proofs.Common.{◌≡◌, ◌<◌, ◌≤◌, ◌∙◌, inl, inr, refl, sym, Some, length, arith}
+use Rattle.std.proofs.Common.{◌≡◌, ◌≤◌, ◌∙◌, inl, inr, refl, sym, Some, length, arith}
 use Rattle.std.proofs.lemmas.Option.{slice_get_within}
 use Rattle.ic_jobs.specs.declared.limits.TheConstants.{MAX_JOBS}
 use Rattle.ic_jobs.specs.Landing.{due}
