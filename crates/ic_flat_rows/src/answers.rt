@@ -1,0 +1,49 @@
+//! What is answered to a row, by its kind.
+//!
+//! - `words CONFIGURATION`: its words in flat form, and behind `;` how many terms its interface has, how many equations and
+//!   nodes there are, and `next`. A name is its number, and an agent its symbol's number, `/` and how many arguments it has.
+//! - `back CONFIGURATION`: the text that is read back from its flat form, copied and taken apart on the way.
+//! - `same A + B`: whether two configurations are the same in flat form. `over A + B`: whether the second is over the first's
+//!   symbols.
+//! - `restore TERMS NEXT WORDS`, `new TERMS WORDS`: the configuration of words with so many terms in its interface.
+//! - `ends WORDS`: how many terms there are, and the place behind each.
+
+use crate::configurations::{are_over, are_same, read_back, words};
+use crate::words::{ends, made, number};
+use ic_notation::{Answers, Row, Trouble, expanded};
+use std::alloc::Global;
+
+/// The kinds of these rows.
+#[derive(Drop)]
+pub struct Kinds;
+
+impl Answers for Kinds {
+    fn answer(&self, alloc: Global, row: &Row<'_>) -> Result<Vec<u8>, Trouble> {
+        let (first, rest) = row.text.split_once(' ').unwrap_or((row.text, ""));
+        let (one, other) = row.text.split_once(" + ").unwrap_or((row.text, ""));
+        match row.kind {
+            "words" => words(alloc, row.text),
+            "back" => read_back(alloc, row.text),
+            "same" => are_same(alloc, one, other),
+            "over" => are_over(alloc, one, other),
+            "new" => made(
+                alloc,
+                number(first)? as usize,
+                None,
+                &expanded(alloc, rest)?,
+            ),
+            "restore" => {
+                let (next, rest) = rest.split_once(' ').unwrap_or((rest, ""));
+                let next = number(next)?;
+                made(
+                    alloc,
+                    number(first)? as usize,
+                    Some(next),
+                    &expanded(alloc, rest)?,
+                )
+            }
+            "ends" => ends(alloc, &expanded(alloc, row.text)?),
+            _ => Err(Trouble("no such kind")),
+        }
+    }
+}

@@ -1,0 +1,14 @@
+//! The worked rows of configurations in flat form. `answers` says what a row may ask.
+#![tactic(auto)]
+
+mod answers;
+mod configurations;
+mod words;
+
+use crate::answers::Kinds;
+use ic_notation::check_rows;
+use std::io;
+
+fn main(rt: HostRuntime) -> io::Result<()> {
+    check_rows(&rt, rt.alloc(), &Kinds)
+}
