@@ -1,0 +1,4 @@
+pub mod Sending
+pub mod ToldLemmas
+pub mod FirstLemmas
+pub mod OnFault

@@ -1,0 +1,4 @@
+pub mod Telling
+pub mod Outcome
+pub mod Reading
+pub mod Attending
