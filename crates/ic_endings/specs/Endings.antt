@@ -1,5 +1,6 @@
 -- What the program makes of its failures, by cases over all of them (this project's choice).
 use Rattle.std.specs.Prelude.{ℕ, List, [], ◌∷◌, ◌++◌, codes, string_bytes}
+use Rattle.std.specs.Fmt.{decimal}
 use Rattle.ic_text.specs.Text.{fault_text}
 use Rattle.ic_round.specs.declared.round_fault.RoundFault.{RoundFault}
 use Rattle.ic_round.specs.declared.round_fault.RoundFault.TheVariants as round
@@ -7,15 +8,30 @@ use Rattle.ic_frames.specs.declared.faults.OpenCause.{OpenCause}
 use Rattle.ic_frames.specs.declared.faults.OpenCause.TheVariants as opening
 use Rattle.ic_slots.specs.declared.fault.CreateFault.{CreateFault}
 use Rattle.ic_slots.specs.declared.fault.CreateFault.TheVariants as creating
-use Rattle.ic_desk.specs.declared.fault.BookFault.{BookFault}
-use Rattle.ic_desk.specs.declared.fault.BookFault.TheVariants as book
 use Rattle.ic_streams.specs.declared.fault.StreamFault.{StreamFault}
 use Rattle.ic_streams.specs.declared.fault.StreamFault.TheVariants as stream
 use Rattle.ic_serving.specs.declared.fault.ServeFault.{ServeFault}
 use Rattle.ic_serving.specs.declared.fault.ServeFault.TheVariants as serve
+use Rattle.ic_lines.specs.declared.script.ScriptFault.{ScriptFault}
+use Rattle.ic_scripts.specs.Telling.{book_word}
+use Rattle.ic_scripts.specs.declared.fault.ScriptsFault.{ScriptsFault}
+use Rattle.ic_scripts.specs.declared.fault.ScriptsFault.TheVariants as scripts
 use Rattle.ic_words.specs.declared.words.WordsFault.TheVariants as words
 use Rattle.ic_endings.specs.declared.failure.Failure.{Failure}
-use Rattle.ic_endings.specs.declared.failure.Failure.TheVariants.{Words, Stream, Disk, Create, Open, Serve}
+use Rattle.ic_endings.specs.declared.failure.Failure.TheVariants.{Words, Stream, Disk, Create, Open, Serve, Attend}
+
+-- the exit status of `attend`: 1 for a refused script, 3 for a disk that isn't opened, 4 for all
+-- else
+abbrev pub scripts_status : ScriptsFault → ℕ
+scripts_status (scripts.Script place refusal) = 1
+scripts_status (scripts.Open cause) = 3
+scripts_status scripts.Read = 4
+scripts_status scripts.NoThread = 4
+scripts_status scripts.Torn = 4
+scripts_status (scripts.Book fault) = 4
+scripts_status (scripts.Pool fault) = 4
+scripts_status scripts.Memory = 4
+scripts_status scripts.Write = 4
 
 -- the exit status: 1 for a refused text or round, 2 for refused words, 3 for a disk, 4 for all else
 abbrev pub status_of : Failure → ℕ
@@ -30,6 +46,7 @@ status_of (Disk fault) = 3
 status_of (Create fault) = 3
 status_of (Open cause) = 3
 status_of (Serve fault) = 4
+status_of (Attend fault) = scripts_status fault
 
 -- why a round isn't made
 abbrev pub round_word : RoundFault → List ℕ
@@ -58,14 +75,6 @@ open_word opening.TwoAlike = codes "two alike"
 open_word opening.Damaged = codes "damaged"
 open_word opening.Memory = codes "memory"
 
--- why a call on a book was refused
-abbrev pub book_word : BookFault → List ℕ
-book_word book.Broken = codes "broken"
-book_word book.LogFull = codes "log full"
-book_word book.Worn = codes "worn"
-book_word book.Memory = codes "memory"
-book_word book.Device = codes "device"
-
 -- why a serving ended
 abbrev pub serve_word : ServeFault → List ℕ
 serve_word serve.Read = codes "read"
@@ -75,6 +84,24 @@ serve_word (serve.Book fault) = book_word fault
 serve_word (serve.Pool fault) = codes "pool"
 serve_word serve.LongLine = codes "long line"
 serve_word serve.Memory = codes "memory"
+
+-- why the script of a place is refused: at which line, and for what
+abbrev pub script_words : ℕ → ScriptFault → List ℕ
+script_words place refusal =
+    codes "script " ++ decimal place ++ codes " line " ++ decimal refusal.line ++ codes ": "
+    ++ fault_text refusal.fault
+
+-- why scripts aren't attended to, or not in full
+abbrev pub scripts_word : ScriptsFault → List ℕ
+scripts_word scripts.Read = codes "read"
+scripts_word (scripts.Script place refusal) = script_words place refusal
+scripts_word (scripts.Open cause) = open_word cause
+scripts_word scripts.NoThread = codes "no thread"
+scripts_word scripts.Torn = codes "torn"
+scripts_word (scripts.Book fault) = book_word fault
+scripts_word (scripts.Pool fault) = codes "pool"
+scripts_word scripts.Memory = codes "memory"
+scripts_word scripts.Write = codes "write"
 
 -- a word as a line
 abbrev pub told : List ℕ → List ℕ
@@ -89,3 +116,4 @@ failure_line (Disk fault) = told (codes "device")
 failure_line (Create fault) = told (create_word fault)
 failure_line (Open cause) = told (open_word cause)
 failure_line (Serve fault) = told (serve_word fault)
+failure_line (Attend fault) = told (scripts_word fault)

@@ -1,12 +1,14 @@
 //! Why the program doesn't do what it is asked, and what it makes of it.
 
 ghost use Rattle.std.specs.Prelude.{◌≡◌, IfOk};
-ghost use Rattle.ic_endings.specs.Endings.{status_of, failure_line, told};
-ghost use Rattle.ic_endings.specs.Endings.{stream_word, round_word, create_word, open_word, serve_word, book_word};
+ghost use Rattle.ic_endings.specs.Endings.{status_of, scripts_status, failure_line, told};
+ghost use Rattle.ic_endings.specs.Endings.{stream_word, round_word, create_word, open_word, serve_word};
+ghost use Rattle.ic_endings.specs.Endings.{scripts_word, script_words};
 
-use ic_desk::BookFault;
 use ic_disk::DiskFault;
+use ic_lines::ScriptFault;
 use ic_round::RoundFault;
+use ic_scripts::{ScriptsFault, book_word};
 use ic_serving::ServeFault;
 use ic_slots::{CreateFault, OpenCause};
 use ic_streams::StreamFault;
@@ -29,11 +31,13 @@ pub enum Failure {
     Open(OpenCause),
     /// A serving ended before the end of its lines.
     Serve(ServeFault),
+    /// Scripts aren't attended to, or not in full.
+    Attend(ScriptsFault),
 }
 
 impl Failure {
-    /// The exit status of the program: 1 for a refused text or round, 2 for refused words, 3 for a
-    /// disk, and 4 for all else.
+    /// The exit status of the program: 1 for a refused text, round or script, 2 for refused words,
+    /// 3 for a disk, and 4 for all else.
     pub fn status(&self) -> u8
         ensures { result ≡ status_of self.now }
     {
@@ -44,6 +48,7 @@ impl Failure {
             Failure::Stream(StreamFault::Read | StreamFault::Memory | StreamFault::Write) => 4,
             Failure::Disk(_) | Failure::Create(_) | Failure::Open(_) => 3,
             Failure::Serve(_) => 4,
+            Failure::Attend(fault) => scripts_status(*fault),
         }
     }
 
@@ -60,6 +65,7 @@ impl Failure {
             Failure::Create(fault) => told(alloc, create_word(*fault)),
             Failure::Open(cause) => told(alloc, open_word(*cause)),
             Failure::Serve(fault) => told(alloc, serve_word(*fault)),
+            Failure::Attend(fault) => scripts_line(alloc, *fault),
         }
     }
 }
@@ -136,15 +142,45 @@ fn serve_word(fault: ServeFault) -> &'static [u8]
     }
 }
 
-/// The words that tell why a call on a book was refused.
-fn book_word(fault: BookFault) -> &'static [u8]
-    ensures { result.now ≡ book_word fault }
+/// The exit status of `attend`.
+fn scripts_status(fault: ScriptsFault) -> u8
+    ensures { result ≡ scripts_status fault }
 {
     match fault {
-        BookFault::Broken => b"broken",
-        BookFault::LogFull => b"log full",
-        BookFault::Worn => b"worn",
-        BookFault::Memory => b"memory",
-        BookFault::Device => b"device",
+        ScriptsFault::Script(_, _) => 1,
+        ScriptsFault::Open(_) => 3,
+        ScriptsFault::Read | ScriptsFault::NoThread | ScriptsFault::Torn => 4,
+        ScriptsFault::Book(_) | ScriptsFault::Pool(_) => 4,
+        ScriptsFault::Memory | ScriptsFault::Write => 4,
     }
+}
+
+/// The line that tells why scripts aren't attended to.
+fn scripts_line(alloc: Global, fault: ScriptsFault) -> Result<Vec<u8>, AllocError>
+    ensures { IfOk result (λ line. line.items ≡ told (scripts_word fault)) }
+{
+    match fault {
+        ScriptsFault::Read => told(alloc, b"read"),
+        ScriptsFault::Script(place, refusal) => told(alloc, &script_words(alloc, place, refusal)?),
+        ScriptsFault::Open(cause) => told(alloc, open_word(cause)),
+        ScriptsFault::NoThread => told(alloc, b"no thread"),
+        ScriptsFault::Torn => told(alloc, b"torn"),
+        ScriptsFault::Book(refused) => told(alloc, book_word(refused)),
+        ScriptsFault::Pool(_) => told(alloc, b"pool"),
+        ScriptsFault::Memory => told(alloc, b"memory"),
+        ScriptsFault::Write => told(alloc, b"write"),
+    }
+}
+
+/// The words that tell at which line the script of a place is refused, and for what.
+fn script_words(alloc: Global, place: usize, refusal: ScriptFault) -> Result<Vec<u8>, AllocError>
+    ensures { IfOk result (λ words. words.items ≡ script_words place refusal) }
+{
+    let mut words = b"script ".to_vec(alloc)?;
+    words.extend_from_slice(place.to_string(alloc)?.as_bytes())?;
+    words.extend_from_slice(b" line ")?;
+    words.extend_from_slice(refusal.line.to_string(alloc)?.as_bytes())?;
+    words.extend_from_slice(b": ")?;
+    words.extend_from_slice(&print_fault(alloc, &refusal.fault)?)?;
+    Ok(words)
 }

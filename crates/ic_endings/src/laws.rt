@@ -1,6 +1,7 @@
 //! Laws of what the program makes of its failures.
 
-ghost use Rattle.std.specs.Prelude.{◌≡◌, [], ◌∷◌, ◌++◌, map, codes, string_bytes};
+ghost use Rattle.std.specs.Prelude.{◌≡◌, ℕ, [], ◌∷◌, ◌++◌, map, codes, string_bytes};
+ghost use Rattle.std.specs.Fmt.{decimal};
 ghost use Rattle.ic_disk.specs.declared.disk.DiskFault.{DiskFault};
 ghost use Rattle.ic_text.specs.Text.{fault_text};
 ghost use Rattle.ic_text.specs.declared.fault.TextFault.{TextFault};
@@ -11,16 +12,19 @@ ghost use Rattle.ic_frames.specs.declared.faults.OpenCause.{OpenCause};
 ghost use Rattle.ic_frames.specs.declared.faults.OpenCause.TheVariants as opening;
 ghost use Rattle.ic_slots.specs.declared.fault.CreateFault.{CreateFault};
 ghost use Rattle.ic_slots.specs.declared.fault.CreateFault.TheVariants as creating;
+ghost use Rattle.ic_desk.specs.declared.fault.BookFault.{BookFault};
 ghost use Rattle.ic_desk.specs.declared.fault.BookFault.TheVariants as book;
 ghost use Rattle.ic_streams.specs.declared.fault.StreamFault.TheVariants as stream;
 ghost use Rattle.ic_serving.specs.declared.fault.ServeFault.{ServeFault};
 ghost use Rattle.ic_serving.specs.declared.fault.ServeFault.TheVariants as serve;
 ghost use Rattle.ic_words.specs.declared.words.WordsFault.TheVariants as words;
-ghost use Rattle.ic_endings.specs.declared.failure.Failure.TheVariants.{Words, Stream, Disk, Create, Open, Serve};
+ghost use Rattle.ic_lines.specs.declared.script.ScriptFault.{ScriptFault};
+ghost use Rattle.ic_scripts.specs.declared.fault.ScriptsFault.TheVariants as scripts;
+ghost use Rattle.ic_endings.specs.declared.failure.Failure.TheVariants.{Words, Stream, Disk, Create, Open, Serve, Attend};
 ghost use Rattle.ic_endings.specs.Endings.{status_of, failure_line};
 
-/// The exit status is 2 for refused words, 1 for a refused text or round, 3 for a disk that isn't
-/// made or opened, and 4 for all else.
+/// The exit status is 2 for refused words, 1 for a refused text, round or script, 3 for a disk that
+/// isn't made or opened, and 4 for all else.
 pub fn statuses_are(text: &String)
     ensures words { status_of (Words (words.Words text.now)) ≡ 2 }
     ensures text { (fault : TextFault) → status_of (Stream (stream.Text fault)) ≡ 1 }
@@ -29,8 +33,15 @@ pub fn statuses_are(text: &String)
     ensures create { (fault : CreateFault) → status_of (Create fault) ≡ 3 }
     ensures open { (cause : OpenCause) → status_of (Open cause) ≡ 3 }
     ensures serve { (fault : ServeFault) → status_of (Serve fault) ≡ 4 }
+    ensures script { (place : ℕ) (refusal : ScriptFault)
+        → status_of (Attend (scripts.Script place refusal)) ≡ 1 }
+    ensures attended { (cause : OpenCause) → status_of (Attend (scripts.Open cause)) ≡ 3 }
+    ensures stopped { (fault : BookFault) → status_of (Attend (scripts.Book fault)) ≡ 4 }
+    ensures pool { (fault : PoolFault) → status_of (Attend (scripts.Pool fault)) ≡ 4 }
     ensures others { map status_of (Words words.Memory ∷ Stream stream.Read ∷ Stream stream.Memory
         ∷ Stream stream.Write ∷ []) ≡ 4 ∷ 4 ∷ 4 ∷ 4 ∷ [] }
+    ensures attend { map status_of (Attend scripts.Read ∷ Attend scripts.NoThread
+        ∷ Attend scripts.Torn ∷ Attend scripts.Memory ∷ Attend scripts.Write ∷ []) ≡ 4 ∷ 4 ∷ 4 ∷ 4 ∷ 4 ∷ [] }
 {}
 
 /// The line on standard error of refused words, and of each failure of `settle` and `once`.
@@ -85,4 +96,27 @@ pub fn lines_of_servings_are()
     ensures long_line { failure_line (Serve serve.LongLine)
         ≡ codes "icserve: long line" ++ 10 ∷ [] }
     ensures memory { failure_line (Serve serve.Memory) ≡ codes "icserve: memory" ++ 10 ∷ [] }
+{}
+
+/// The line on standard error of each fault of `attend`. That of a script has its place, from 0,
+/// the line, from 1, and what is wrong with it.
+pub fn lines_of_attendances_are()
+    ensures script { (place line : ℕ) (fault : TextFault)
+        → failure_line (Attend (scripts.Script place (record { line = line; fault = fault })))
+        ≡ codes "icserve: script " ++ decimal place ++ codes " line " ++ decimal line ++ codes ": "
+        ++ fault_text fault ++ 10 ∷ [] }
+    ensures read { failure_line (Attend scripts.Read) ≡ codes "icserve: read" ++ 10 ∷ [] }
+    ensures no_slot { failure_line (Attend (scripts.Open opening.NoSlot))
+        ≡ codes "icserve: no slot" ++ 10 ∷ [] }
+    ensures opened { (cause : OpenCause)
+        → failure_line (Attend (scripts.Open cause)) ≡ failure_line (Open cause) }
+    ensures no_thread { failure_line (Attend scripts.NoThread)
+        ≡ codes "icserve: no thread" ++ 10 ∷ [] }
+    ensures torn { failure_line (Attend scripts.Torn) ≡ codes "icserve: torn" ++ 10 ∷ [] }
+    ensures stopped { (fault : BookFault)
+        → failure_line (Attend (scripts.Book fault)) ≡ failure_line (Serve (serve.Book fault)) }
+    ensures pool { (fault : PoolFault) → failure_line (Attend (scripts.Pool fault))
+        ≡ codes "icserve: pool" ++ 10 ∷ [] }
+    ensures memory { failure_line (Attend scripts.Memory) ≡ codes "icserve: memory" ++ 10 ∷ [] }
+    ensures write { failure_line (Attend scripts.Write) ≡ codes "icserve: write" ++ 10 ∷ [] }
 {}

@@ -23,6 +23,22 @@ pub fn words(alloc: Global, line: &str) -> Result<Vec<u8>, Trouble> {
                 every,
             },
         ) => format!(in alloc; "serve {disk} {workers} {every}")?,
+        Ok(
+            Task::Attend {
+                disk,
+                runners,
+                turns,
+                workers,
+                scripts,
+            },
+        ) => {
+            let mut asked = format!(in alloc; "attend {disk} {runners} {turns} {workers}")?;
+            for script in &scripts {
+                asked.push(' ')?;
+                asked.push_str(script.as_str())?;
+            }
+            asked
+        }
         Ok(Task::Help(text)) => of_part(alloc, "help", &text, part)?,
         Ok(Task::Version(text)) => format!(in alloc; "version {text}")?,
         Err(WordsFault::Words(text)) => of_part(alloc, "refused", &text, part)?,

@@ -3,8 +3,13 @@ pub mod WordsExact
 pub mod Numbers
 pub mod OneValue
 pub mod Walks
+pub mod Options
+pub mod Spelt
 pub mod ServeNumbers
+pub mod AttendNumbers
+pub mod AttendTask
 pub mod Steps
 pub mod LineRows
 pub mod TakenLines
 mod HelpLemmas
+pub mod AttendLines

@@ -1,17 +1,14 @@
--- An option with one value, in a parse without a mistake: its row has the one value, which is a number in the range.
+-- An option with one value, in a parse without a mistake: its row has the one value, which its parser accepts.
 use Rattle.std.proofs.Common.{◌≡◌, ℕ, List, [], ◌∷◌, ◌++◌, Bool, true, false, ◌&&◌, ◌||◌, cond, ◌==◌, ne_eqb, arith, Option, None, Some, length, append-nil, refl, sym, ◌∙◌, ap, ap₂, subst, true≢false, option_map}
-use Rattle.std.specs.Prelude.{find, option_and_then, pos, slice_get}
+use Rattle.std.specs.Prelude.{find, option_and_then, slice_get}
 use Rattle.std.specs.Str.{bytes_eq}
 use Rattle.clap.specs.Walk.{Row, Rule, Text, at_row, first_of, has_row, more_values, one_of, row_text, used, with_default, with_values, without}
-use Rattle.clap.specs.Lexer.{without_minus}
 use Rattle.clap.specs.Values.{read_as, reading_of}
 use Rattle.clap.specs.Kinds.{Kinds, or_else, range_kinds, value_kinds, values_kinds}
 use Rattle.clap.specs.Faults.{default_fault, use_fault}
 use Rattle.clap.specs.declared.error.ErrorKind.{ErrorKind}
 use Rattle.clap.specs.declared.error.ErrorKind.TheVariants as kind
 use Rattle.clap.specs.declared.builder.value_parser.ValueParser.{ValueParser}
-use Rattle.clap.specs.declared.builder.value_parser.ValueParser.TheVariants as vp
-use Rattle.clap.specs.declared.builder.value_parser.Reading.TheVariants as reading
 use Rattle.clap.specs.declared.builder.action.ArgAction.TheVariants.{Set}
 use Rattle.clap.specs.declared.parser.matches.ValueSource.TheVariants.{CommandLine, DefaultValue}
 
@@ -74,24 +71,24 @@ one_value id long default parser required = record {
   is_free = true;
 }
 
-module _ (target : Text) (most : ℕ) where
-  -- the row is another's, or has one value, which is a number from 1 to the most
+module _ (target : Text) (q : ValueParser) where
+  -- the row is another's, or has one value, which the parser accepts
   abbrev pub Good : Row → Type 0
   Good r = bytes_eq r.id target ≡ true → (v : Text) × (r.values ≡ v ∷ [])
-      × (value_kinds false (vp.Signed (pos 1) (pos most)) v ≡ []) × (r.reading ≡ reading.WithoutMinus)
+      × (value_kinds false q v ≡ []) × (r.reading ≡ reading_of q)
 
   -- a use of the argument without a mistake leaves good rows
   abbrev pub Passes : Rule → Type 0
   Passes a = (values : List Text) (rows : List Row) → use_fault false a values rows ≡ [] → Each Good rows → Each Good (used a values rows)
 
   abbrev pub Typed : Text → ValueParser → Type 0
-  Typed id parser = bytes_eq id target ≡ true → parser ≡ vp.Signed (pos 1) (pos most)
+  Typed id parser = bytes_eq id target ≡ true → parser ≡ q
 
   good_value : (id v : Text) (parser : ValueParser) (r : Row) → Typed id parser → r.id ≡ id → r.values ≡ v ∷ [] → r.reading ≡ reading_of parser
       → value_kinds false parser v ≡ [] → Good r
   good_value id v parser r typed named values how accepted = λ same.
       let is = typed (subst (λ t. bytes_eq t target ≡ true) named same) in
-      (v, values, subst (λ q. value_kinds false q v ≡ []) is accepted, how ∙ ap reading_of is)
+      (v, values, subst (λ p. value_kinds false p v ≡ []) is accepted, how ∙ ap reading_of is)
 
   pub option_passes : (id long : Text) (default : Option Text) (parser : ValueParser) (required : Bool) → Typed id parser → Passes (one_value id long default parser required)
   option_passes id long default parser required typed [] rows e good = absurd (fails _ _ e)
@@ -132,8 +129,8 @@ module _ (target : Text) (most : ℕ) where
   -- ---- what the rows say of the option
 
   abbrev pub IsFound : List Row → Type 0
-  IsFound rows = (v : Text) × (first_of target rows ≡ Some v) × (one_of target rows ≡ Some (without_minus v))
-      × (value_kinds false (vp.Signed (pos 1) (pos most)) v ≡ [])
+  IsFound rows = (v : Text) × (first_of target rows ≡ Some v) × (one_of target rows ≡ Some (read_as (reading_of q) v))
+      × (value_kinds false q v ≡ [])
 
   pub found : (rows : List Row) → Each Good rows → has_row target rows ≡ true → IsFound rows
   found [] good has = absurd (true≢false (sym has))
@@ -141,8 +138,8 @@ module _ (target : Text) (most : ℕ) where
     where
       go : (has_row target rs ≡ true → IsFound rs) → (b : Bool) → bytes_eq r.id target ≡ b → (b || has_row target rs) ≡ true
           → (v : Text) × (option_and_then (λ (x : Row). slice_get x.values 0) (cond b (Some r) (find (λ x. bytes_eq x.id target) rs)) ≡ Some v)
-          × (option_and_then row_text (cond b (Some r) (find (λ x. bytes_eq x.id target) rs)) ≡ Some (without_minus v))
-          × (value_kinds false (vp.Signed (pos 1) (pos most)) v ≡ [])
+          × (option_and_then row_text (cond b (Some r) (find (λ x. bytes_eq x.id target) rs)) ≡ Some (read_as (reading_of q) v))
+          × (value_kinds false q v ≡ [])
       go rest true is has =
           let one = good.0 is in (
             one.0,
@@ -153,7 +150,7 @@ module _ (target : Text) (most : ℕ) where
       go rest false is has = rest has
 
   -- a row of the option is there once its default was looked at, and stays
-  has_append : (rows more : List Row) → has_row target rows ≡ true → has_row target (rows ++ more) ≡ true
+  pub has_append : (rows more : List Row) → has_row target rows ≡ true → has_row target (rows ++ more) ≡ true
   has_append [] more has = absurd (true≢false (sym has))
   has_append (r ∷ rs) more has = go (has_append rs more) (bytes_eq r.id target) has
     where

@@ -1,18 +1,18 @@
 -- Options that are written one behind the other, word by word.
-use Rattle.std.proofs.Common.{◌≡◌, ◌≢◌, ℕ, zero, suc, List, [], ◌∷◌, ◌++◌, Bool, true, false, ◌&&◌, cond, ◌==◌, ne_eqb, Option, None, Some, length, fold, refl, sym, ◌∙◌, ap, ap₂, append-nil, append_assoc, ◌⊎◌, inl, inr, subst}
-use Rattle.std.specs.Prelude.{find, is_some, option_and_then}
+use Rattle.std.proofs.Common.{◌≡◌, List, [], ◌∷◌, ◌++◌, Bool, true, false, ◌&&◌, cond, ne_eqb, Option, None, Some, fold, refl, sym, ◌∙◌, ap, ap₂, append-nil, append_assoc, inl, inr, subst}
+use Rattle.std.specs.Prelude.{option_and_then}
 use Rattle.std.specs.Option.{option_map_or}
 use Rattle.std.specs.Str.{bytes_eq}
-use Rattle.clap.specs.Walk.{Held, Row, Rule, Step, Text, Waiting, Walk, after_flag, after_step, arg_by_id, arg_by_long, has_row, idle, long_met, long_or_other, next, nothing_held, option, option_word, pushed, reacted, settled, short_or_plain, trailing, used, used_by_id, walk_from, walked, with_values, without, more_values}
+use Rattle.clap.specs.Walk.{Held, Row, Rule, Text, Walk, after_flag, after_step, arg_by_id, arg_by_long, has_row, idle, long_met, long_or_other, option, reacted, settled, trailing, used, used_by_id, walked, with_values, more_values}
 use Rattle.clap.specs.Lexer.{long_of, long_of_rest, short_of, short_of_rest, strip_byte}
 use Rattle.clap.specs.Values.{reading_of}
 use Rattle.clap.specs.Simple.{Shape}
 use Rattle.clap.specs.Kinds.{Kinds, or_else, value_kinds}
-use Rattle.clap.specs.Faults.{flag_word_fault, long_fault, bundle_fault, settle_fault, step_fault, turn_fault, use_fault, walk_fault}
+use Rattle.clap.specs.Faults.{flag_word_fault, long_fault, settle_fault, step_fault, turn_fault, use_fault, walk_fault}
 use Rattle.clap.specs.declared.error.ErrorKind.TheVariants as kind
 use Rattle.clap.specs.declared.builder.value_parser.ValueParser.{ValueParser}
 use Rattle.clap.specs.declared.parser.matches.ValueSource.TheVariants.{CommandLine}
-use Rattle.ic_words.specs.Lines.{Given, HasNoHyphen, IsWritten}
+use Rattle.ic_words.specs.Lines.{HasNoHyphen, IsWritten}
 use Rattle.ic_words.proofs.OneValue.{at_end, one_value}
 
 abbrev dashes : Text
@@ -56,7 +56,7 @@ module _ (base : Shape) (c : List Rule) where
   pub leads_none : (w : Walk) → Leads [] w w
   leads_none w rest = (refl, refl)
 
-  one_turn : (word : Text) (w v : Walk) → turn_fault level [] w word ≡ [] → walked c [] w word ≡ v → Leads (word ∷ []) w v
+  pub one_turn : (word : Text) (w v : Walk) → turn_fault level [] w word ≡ [] → walked c [] w word ≡ v → Leads (word ∷ []) w v
   unfolding walk_fault
   one_turn word w v none moves rest = (
     ap₂ (λ (f : Kinds) (x : Walk). or_else f (walk_fault level [] x rest)) none moves,
@@ -175,6 +175,7 @@ module _ (base : Shape) (c : List Rule) where
       pub behind : Held
       pub leads : Leads words (at h) (at behind)
       pub read : IsRead v h behind
+      pub aside : (other : Text) → bytes_eq id other ≡ false → option_map_or (λ (q : Text × List Text). bytes_eq q.0 other) behind.pending false ≡ false
 
     module _ (one_word_is : (v : Text) → (bytes_eq (45 ∷ 45 ∷ id ++ 61 ∷ v) dashes ≡ false) × (long_of (45 ∷ 45 ∷ id ++ 61 ∷ v) ≡ Some (id, Some v)))
         (two_words_are : (bytes_eq (45 ∷ 45 ∷ id) dashes ≡ false) × (long_of (45 ∷ 45 ∷ id) ≡ Some (id, None))) where
@@ -183,7 +184,7 @@ module _ (base : Shape) (c : List Rule) where
       reads_one words v h (inl alone) settles none accepted =
           let is = one_word_is v in
           let r = one_word (45 ∷ 45 ∷ id ++ 61 ∷ v) v h is.0 is.1 settles none accepted in
-          record { behind = reacted c a (v ∷ []) h; leads = subst (λ (ws : List Text). Leads ws (at h) (at (reacted c a (v ∷ []) h))) (sym alone) r.0; read = r.1 }
+          record { behind = reacted c a (v ∷ []) h; leads = subst (λ (ws : List Text). Leads ws (at h) (at (reacted c a (v ∷ []) h))) (sym alone) r.0; read = r.1; aside = λ other e. refl }
       reads_one words v h (inr parted) settles none accepted =
           let r = two_words (45 ∷ 45 ∷ id) v h two_words_are.0 two_words_are.1 parted.1 settles none accepted in
-          record { behind = valued v h; leads = subst (λ (ws : List Text). Leads ws (at h) (at (valued v h))) (sym parted.0) r.0; read = r.1 }
+          record { behind = valued v h; leads = subst (λ (ws : List Text). Leads ws (at h) (at (valued v h))) (sym parted.0) r.0; read = r.1; aside = λ other e. e }

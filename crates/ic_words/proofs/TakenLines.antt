@@ -1,31 +1,28 @@
 -- Each well-formed line of `create` and of `serve` is taken, with its values.
-use Rattle.std.proofs.Common.{◌≡◌, ◌≢◌, ◌⊎◌, inl, inr, ℕ, ◌≤◌, List, [], ◌∷◌, ◌++◌, Bool, true, false, not, ◌&&◌, ◌||◌, cond, Option, None, Some, codes, fold, is_some, refl, sym, ◌∙◌, ap, ap₂, subst, append-nil, append_assoc, arith, unwrap_or, true≢false}
-use Rattle.std.specs.Prelude.{pos, find}
+use Rattle.std.proofs.Common.{◌≡◌, inl, inr, ℕ, ◌≤◌, List, [], ◌∷◌, ◌++◌, Bool, true, false, not, ◌||◌, cond, Option, None, Some, codes, fold, is_some, refl, sym, ◌∙◌, ap, ap₂, subst, append-nil, append_assoc, arith, unwrap_or, true≢false}
+use Rattle.std.specs.Prelude.{pos}
 use Rattle.std.proofs.lemmas.Bool.{eqb-true}
 use Rattle.std.specs.List.{AllByRecursion}
 use Rattle.std.specs.Option.{option_map_or}
-use Rattle.std.specs.Str.{bytes_eq}
-use Rattle.std.specs.Str.Parse.{IsNumeral, digits_value, starts_with_minus, without_leading_plus}
+use Rattle.std.specs.Str.Parse.{IsNumeral, starts_with_minus, without_leading_plus}
 use Rattle.std.proofs.lemmas.Int.{ints}
 use Rattle.clap.specs.Words.{Kinds, Rule, Row, Text, built, fault_of, subcommand_of}
 use Rattle.clap.specs.Facts.{explicit_source}
 use Rattle.clap.specs.Values.{Accepts, refused_kind}
-use Rattle.clap.specs.ValueTests.{accepts}
 use Rattle.clap.proofs.ValueTestLemmas.{Accepts-accepts}
 use Rattle.clap.specs.Takes.{is_given}
 use Rattle.clap.specs.Kinds.{check_kinds, or_else, value_kinds}
 use Rattle.clap.specs.Simple.{entered}
-use Rattle.clap.specs.Walk.{Held, Walk, arg_by_id, arg_by_long, finished, first_of, has_row, nothing_held, rows_after, settled, walk, walk_from, walked, with_default}
-use Rattle.clap.specs.Faults.{check_fault, default_fault, defaults_fault, entered_fault, level_fault, settle_fault, walk_fault}
+use Rattle.clap.specs.Walk.{Held, Walk, finished, first_of, has_row, nothing_held, settled, walk, walk_from, walked, with_default}
+use Rattle.clap.specs.Faults.{check_fault, defaults_fault, entered_fault, level_fault, settle_fault, walk_fault}
 use Rattle.clap.proofs.OnLiterals.{clap_on_literals}
 use Rattle.clap.specs.declared.builder.value_parser.ValueParser.TheVariants as vp
-use Rattle.ic_words.specs.Words.{IsDecimal, command_line, value_met}
-use Rattle.ic_words.specs.Lines.{AreOnce, AreWritten, Given, Gives, HasValue, IsCreateLine, IsServeLine, IsServeOption, IsWithin, IsWritten}
-use Rattle.ic_words.proofs.OneValue.{one_value}
+use Rattle.ic_words.specs.Words.{command_line, value_met}
+use Rattle.ic_words.specs.Lines.{AreOnce, AreWritten, Given, HasValue, IsCreateLine, IsServeLine, IsServeOption, IsWithin, IsWritten}
 use Rattle.ic_words.proofs.ServeNumbers.{disk, workers, every, options}
-use Rattle.ic_words.proofs.WordsExact.{below, create_stands, help, names_below, no_fault_behind, rules, serve_stands, stopped_at, top}
-use Rattle.ic_words.proofs.Steps.{row_with, Leads, ReadsOne, at, leads_more, leads_none, reads_one}
-use Rattle.ic_words.proofs.LineRows.{AreFresh, AreRowsOf, IsFoundRow, IsRowOf, default_found, first_value, found_in, fresh_behind, fresh_first, given_found, not_given, still_found, still_none}
+use Rattle.ic_words.proofs.WordsExact.{below, create_stands, help, names_below, no_fault_behind, rules, serve_stands, top}
+use Rattle.ic_words.proofs.Steps.{row_with, Leads, at, leads_more, leads_none, reads_one}
+use Rattle.ic_words.proofs.LineRows.{AreFresh, AreRowsOf, IsRowOf, default_found, first_value, found_in, fresh_behind, fresh_first, given_found, not_given, still_found, still_none}
 
 -- ---- a number in its range is accepted
 
@@ -37,7 +34,7 @@ no_minus (x ∷ xs) minus numeral =
     let small = written.1.0 in
     omega (arith, small)
 
-passes : (most : ℕ) (v : Text) → most ≤ 1000000 → IsWithin most v → Accepts false (vp.Signed (pos 1) (pos most)) v
+passes : (most : ℕ) (v : Text) → most ≤ 1000000 → IsWithin 1 most v → Accepts false (vp.Signed (pos 1) (pos most)) v
 passes most v few is = go (starts_with_minus v) refl
   where
     go : (b : Bool) → starts_with_minus v ≡ b → Accepts false (vp.Signed (pos 1) (pos most)) v
@@ -48,7 +45,7 @@ passes most v few is = go (starts_with_minus v) refl
         let greatest = is.3 in
         rw minus (is.1.0, omega (arith, ints), omega (arith, ints), omega (arith, ints))
 
-accepted : (most : ℕ) (v : Text) → most ≤ 1000000 → IsWithin most v → value_kinds false (vp.Signed (pos 1) (pos most)) v ≡ []
+pub accepted : (most : ℕ) (v : Text) → most ≤ 1000000 → IsWithin 1 most v → value_kinds false (vp.Signed (pos 1) (pos most)) v ≡ []
 accepted most v few is =
     ap (λ b. cond b [] (refused_kind (vp.Signed (pos 1) (pos most)) ∷ [])) (Accepts-accepts false (vp.Signed (pos 1) (pos most)) v (passes most v few is))
 
@@ -116,11 +113,11 @@ all_read (g ∷ gs) sorts once words written h settles fresh =
 
 -- ---- behind the options
 
-either_none : (b : Bool) (k : Kinds) → cond (b || true) [] k ≡ []
+pub either_none : (b : Bool) (k : Kinds) → cond (b || true) [] k ≡ []
 either_none true k = refl
 either_none false k = refl
 
-or_none : (b : Bool) (k : Kinds) → k ≡ [] → cond (b || false) [] k ≡ []
+pub or_none : (b : Bool) (k : Kinds) → k ≡ [] → cond (b || false) [] k ≡ []
 or_none true k is = refl
 or_none false k is = is
 
@@ -135,7 +132,7 @@ defaults_none rows =
     (ap₂ or_else (or_none (has_row (codes "every") second) _ refl)
     (ap₂ or_else (either_none (has_row (codes "help") third) _) refl)))
 
-abbrev checks : Bool → Kinds
+abbrev pub checks : Bool → Kinds
 checks given = check_kinds false false (not given || false)
 
 checked : (rows : List Row) → is_given (codes "disk") rows ≡ true → check_fault (below 3) rows false ≡ []
@@ -194,7 +191,7 @@ every_value gs rows value are once (inr default) =
 -- ---- the whole line
 
 -- what the whole command line makes of a walk that was stopped by a command's name
-abbrev top_fault : List Text → Walk → Kinds
+abbrev pub top_fault : List Text → Walk → Kinds
 top_fault words w =
     or_else (walk_fault top (names_below false) (walk_from nothing_held) words)
     (or_else (entered_fault (built command_line) w.stopped)

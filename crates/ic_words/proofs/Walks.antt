@@ -1,21 +1,20 @@
 -- A walk over words without a mistake, where each use of an option leaves good rows.
-use Rattle.std.proofs.Common.{◌≡◌, ℕ, zero, suc, List, [], ◌∷◌, Bool, true, false, cond, Option, None, Some, length, fold, refl, sym, ap, subst}
+use Rattle.std.proofs.Common.{◌≡◌, ℕ, zero, suc, List, [], ◌∷◌, Bool, true, false, ◌&&◌, cond, Option, None, Some, length, fold, refl, sym, subst}
 use Rattle.std.specs.Prelude.{find, is_some, slice_get}
 use Rattle.std.specs.Option.{option_map_or}
 use Rattle.std.specs.Str.{bytes_eq, chars}
-use Rattle.clap.specs.Walk.{Held, Outcome, Row, Rule, Step, Text, Waiting, Walk, after_flag, after_step, arg_by_id, arg_by_index, arg_by_long, arg_by_short, attached_value, bundle_met, bundle_step, done, flag_met, idle, long_met, long_or_other, next, option, option_met, option_word, plain, plain_word, positional, reacted, refused, settled, settled_rows, short_met, short_or_plain, short_word, subcommand, takes_values, to_positional, trailing, used, used_by_id, value, waits, walked, walked_from, word_met}
+use Rattle.clap.specs.Walk.{Held, Outcome, Row, Rule, Step, Text, Waiting, Walk, after_flag, after_step, arg_by_id, arg_by_index, arg_by_long, arg_by_short, attached_value, bundle_met, bundle_step, done, flag_met, idle, is_pending, long_met, long_or_other, next, option, option_met, option_word, plain, plain_word, positional, reacted, refused, settled, settled_rows, short_met, short_or_plain, short_word, subcommand, takes_several, takes_values, to_positional, trailing, used, used_by_id, value, waits, walked, walked_from, word_met}
 use Rattle.clap.specs.Lexer.{long_of, short_of}
 use Rattle.clap.specs.Simple.{Shape}
 use Rattle.clap.specs.Kinds.{Kinds, or_else}
-use Rattle.clap.specs.Faults.{bundle_fault, bundle_step_fault, flag_word_fault, flags_fault, long_fault, option_fault, react_fault, settle_fault, short_fault, step_fault, turn_fault, use_fault, walk_fault, word_fault}
+use Rattle.clap.specs.Faults.{bundle_fault, bundle_step_fault, flag_word_fault, flags_fault, long_fault, option_fault, positional_fault, react_fault, settle_fault, short_fault, step_fault, stray_fault, turn_fault, use_fault, walk_fault, word_fault}
 use Rattle.clap.specs.declared.error.ErrorKind.TheVariants as kind
 use Rattle.ic_words.proofs.OneValue.{Each, both_empty, fails}
 
 abbrev Passes : (Row → Type 0) → Rule → Type 0
 Passes Good a = (values : List Text) (rows : List Row) → use_fault false a values rows ≡ [] → Each Good rows → Each Good (used a values rows)
 
-module _ (base : Shape) (c : List Rule) (Good : Row → Type 0) (sound : (p : Rule → Bool) (a : Rule) → find p c ≡ Some a → Passes Good a)
-    (no_positional : (i : ℕ) → arg_by_index c i ≡ None) where
+module _ (base : Shape) (c : List Rule) (Good : Row → Type 0) (sound : (p : Rule → Bool) (a : Rule) → find p c ≡ Some a → Passes Good a) where
   abbrev level : Shape
   level = record base { rules = c; args_override_self = false }
 
@@ -135,11 +134,20 @@ module _ (base : Shape) (c : List Rule) (Good : Row → Type 0) (sound : (p : Ru
   met_good false (option id) position word h e good = other_good (option id) position word h (bytes_eq word (45 ∷ 45 ∷ [])) e good
   met_good false positional position word h e good = other_good positional position word h (bytes_eq word (45 ∷ 45 ∷ [])) e good
 
-  step_rows : (word : Text) (w : Walk) (h : Held) (step : Step) → (after_step c word w h step).held.rows ≡ h.rows
-  step_rows word w h (next waiting) = refl
-  step_rows word w h (trailing position) = refl
-  step_rows word w h (subcommand name) = refl
-  step_rows word w h value = ap (λ o. (to_positional c o word w h).held.rows) (no_positional w.position)
+  positional_good : (goes_on : Bool) (h : Held) → cond goes_on [] (settle_fault c false h) ≡ [] → Holds h → Holds (cond goes_on h (settled c h))
+  positional_good true h e good = good
+  positional_good false h e good = settled_good h e good
+
+  value_good : (o : Option Rule) (word : Text) (w : Walk) (h : Held) → option_map_or (λ a. positional_fault c false a h) o (stray_fault level) ≡ [] → Holds h
+      → Holds (to_positional c o word w h).held
+  value_good None word w h e good = good
+  value_good (Some a) word w h e good = positional_good (is_pending a h.pending && takes_several a) h e good
+
+  step_good : (word : Text) (w : Walk) (h : Held) (step : Step) → step_fault level w.position h step ≡ [] → Holds h → Holds (after_step c word w h step).held
+  step_good word w h (next waiting) e good = good
+  step_good word w h (trailing position) e good = good
+  step_good word w h (subcommand name) e good = good
+  step_good word w h value e good = value_good (arg_by_index c w.position) word w h e good
 
   -- ---- the words
 
@@ -152,7 +160,9 @@ module _ (base : Shape) (c : List Rule) (Good : Row → Type 0) (sound : (p : Ru
           (step_fault level w.position (word_met c [] w.is_trailing w.waiting w.position word w.held).0 (word_met c [] w.is_trailing w.waiting w.position word w.held).1)) ≡ []
           → Holds (walked_from c [] o w word).held
       go (Some p) e = good
-      go None e = subst (Each Good) (sym (step_rows word w _ _)) (met_good w.is_trailing w.waiting w.position word w.held (both_empty _ _ e).0 good)
+      go None e =
+          let parts = both_empty _ _ e in
+          step_good word w _ _ parts.1 (met_good w.is_trailing w.waiting w.position word w.held parts.0 good)
 
   pub walk_good : (words : List Text) (w : Walk) → walk_fault level [] w words ≡ [] → Holds w.held → Holds (fold (walked c []) w words).held
   unfolding walk_fault

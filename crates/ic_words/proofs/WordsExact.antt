@@ -115,7 +115,7 @@ dashes = 45 ∷ 45 ∷ []
 -- the commands below a level
 abbrev pub names_below : Bool → Names
 names_below true = []
-names_below false = (codes "settle", []) ∷ (codes "once", []) ∷ (codes "create", []) ∷ (codes "serve", []) ∷ []
+names_below false = (codes "settle", []) ∷ (codes "once", []) ∷ (codes "create", []) ∷ (codes "serve", []) ∷ (codes "attend", []) ∷ []
 
 behind_dashes : (base : Shape) (leaf : Bool) (u : Text)
     → turn_fault (level base leaf) (names_below leaf) (walked (rules leaf) (names_below leaf) (walk_from nothing_held) dashes) u ≡ [] → ⊥
@@ -194,9 +194,9 @@ unfolding clap_on_literals
 none_alone e = cc
 
 another_word : (v : Text) (vs : List Text) → bytes_eq (codes "settle") v ≡ false → bytes_eq (codes "once") v ≡ false
-    → bytes_eq (codes "create") v ≡ false → bytes_eq (codes "serve") v ≡ false → fault_of command_line (v ∷ vs) ≡ [] → ⊥
-another_word v vs no_settle no_once no_create no_serve e =
-    let met : subcommand_met (names_below false) idle v ≡ None = rw (no_settle, no_once, no_create, no_serve) refl in
+    → bytes_eq (codes "create") v ≡ false → bytes_eq (codes "serve") v ≡ false → bytes_eq (codes "attend") v ≡ false → fault_of command_line (v ∷ vs) ≡ [] → ⊥
+another_word v vs no_settle no_once no_create no_serve no_attend e =
+    let met : subcommand_met (names_below false) idle v ≡ None = rw (no_settle, no_once, no_create, no_serve, no_attend) refl in
     let none : (w : Text) (ws : List Text) → v ∷ vs ≡ w ∷ ws → subcommand_met (names_below false) idle w ≡ None = λ w ws is. (let same : v ≡ w = cc in rw (← same) met) in
     elim (level_words top false (v ∷ vs) none (both_empty _ _ e).0) [
       | inl empty ↦ cc
@@ -216,26 +216,29 @@ named_first name v vs is after e =
 
 abbrev pub OneCommand : List Text → Type 0
 OneCommand words = NamesCommand (codes "settle") words ⊎ (NamesCommand (codes "once") words
-    ⊎ (BeginsWith (codes "create") words ⊎ BeginsWith (codes "serve") words))
+    ⊎ (BeginsWith (codes "create") words ⊎ (BeginsWith (codes "serve") words ⊎ BeginsWith (codes "attend") words)))
 
 is_first : (name v : Text) (vs : List Text) → bytes_eq name v ≡ true → BeginsWith name (v ∷ vs)
 is_first name v vs is = (vs, ap (λ w. w ∷ vs) (sym ((bytes_eq-Decides name v).0 is)))
 
-first_named : (v : Text) (vs : List Text) (settle once create serve : Bool) → bytes_eq (codes "settle") v ≡ settle → bytes_eq (codes "once") v ≡ once
-    → bytes_eq (codes "create") v ≡ create → bytes_eq (codes "serve") v ≡ serve → fault_of command_line (v ∷ vs) ≡ [] → OneCommand (v ∷ vs)
-first_named v vs true once create serve is _ _ _ e = inl (named_first (codes "settle") v vs is after_settle e)
-first_named v vs false true create serve _ is _ _ e = inr (inl (named_first (codes "once") v vs is after_once e))
-first_named v vs false false true serve _ _ is _ e = inr (inr (inl (is_first (codes "create") v vs is)))
-first_named v vs false false false true _ _ _ is e = inr (inr (inr (is_first (codes "serve") v vs is)))
-first_named v vs false false false false no_settle no_once no_create no_serve e = absurd (another_word v vs no_settle no_once no_create no_serve e)
+first_named : (v : Text) (vs : List Text) (settle once create serve attend : Bool) → bytes_eq (codes "settle") v ≡ settle → bytes_eq (codes "once") v ≡ once
+    → bytes_eq (codes "create") v ≡ create → bytes_eq (codes "serve") v ≡ serve → bytes_eq (codes "attend") v ≡ attend
+    → fault_of command_line (v ∷ vs) ≡ [] → OneCommand (v ∷ vs)
+first_named v vs true once create serve attend is _ _ _ _ e = inl (named_first (codes "settle") v vs is after_settle e)
+first_named v vs false true create serve attend _ is _ _ _ e = inr (inl (named_first (codes "once") v vs is after_once e))
+first_named v vs false false true serve attend _ _ is _ _ e = inr (inr (inl (is_first (codes "create") v vs is)))
+first_named v vs false false false true attend _ _ _ is _ e = inr (inr (inr (inl (is_first (codes "serve") v vs is))))
+first_named v vs false false false false true _ _ _ _ is e = inr (inr (inr (inr (is_first (codes "attend") v vs is))))
+first_named v vs false false false false false no_settle no_once no_create no_serve no_attend e =
+    absurd (another_word v vs no_settle no_once no_create no_serve no_attend e)
 
 -- words without a mistake name one of the commands
 pub one_command : (words : List Text) → fault_of command_line words ≡ [] → OneCommand words
 one_command [] e = absurd (none_alone e)
 one_command (v ∷ vs) e = first_named v vs (bytes_eq (codes "settle") v) (bytes_eq (codes "once") v) (bytes_eq (codes "create") v)
-    (bytes_eq (codes "serve") v) refl refl refl refl e
+    (bytes_eq (codes "serve") v) (bytes_eq (codes "attend") v) refl refl refl refl refl e
 
--- where `create` or `serve` is the first word, the others are its own
+-- where `create`, `serve` or `attend` is the first word, the others are its own
 pub create_stands : (words : List Text) → walk (rules false) (names_below false) nothing_held (codes "create" ∷ words) ≡ stopped_at (codes "create") words
 unfolding walked
 create_stands words = stopped_with (codes "create") [] words
@@ -251,3 +254,11 @@ create_stops words = ap (λ (w : Walk). w.stopped) (create_stands words)
 pub serve_stops : (words : List Text)
     → (walk (rules false) (names_below false) nothing_held (codes "serve" ∷ words)).stopped ≡ Some (codes "serve", words)
 serve_stops words = ap (λ (w : Walk). w.stopped) (serve_stands words)
+
+pub attend_stands : (words : List Text) → walk (rules false) (names_below false) nothing_held (codes "attend" ∷ words) ≡ stopped_at (codes "attend") words
+unfolding walked
+attend_stands words = stopped_with (codes "attend") [] words
+
+pub attend_stops : (words : List Text)
+    → (walk (rules false) (names_below false) nothing_held (codes "attend" ∷ words)).stopped ≡ Some (codes "attend", words)
+attend_stops words = ap (λ (w : Walk). w.stopped) (attend_stands words)

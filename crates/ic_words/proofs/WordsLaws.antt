@@ -1,8 +1,8 @@
 -- What the parser's contract says of the program's words.
-use Rattle.std.proofs.Common.{◌≡◌, ◌≢◌, ℕ, List, [], ◌∷◌, Option, None, Some, true, codes, refl, sym, ◌∙◌, ap, ◌⊎◌, inl, inr, true≢false, ◌==◌, slice_index}
+use Rattle.std.proofs.Common.{◌≡◌, ◌≢◌, ℕ, List, [], ◌∷◌, Option, None, Some, true, codes, map, refl, sym, ◌∙◌, ap, ◌⊎◌, inl, inr, true≢false, ◌==◌, slice_index}
 use Rattle.std.specs.Prelude.{option_map, unwrap_or}
 use Rattle.std.specs.Borrow.{Bor}
-use Rattle.clap.specs.Words.{App, HasKind, HasMatchesOf, IsAmong, Kinds, fault_of, first_of, is_simple, is_simple_and_free, kind_of, rows_of, subcommand_name_of, subcommand_of, subcommand_rows_of}
+use Rattle.clap.specs.Words.{App, HasKind, HasMatchesOf, IsAmong, Kinds, all_of, fault_of, first_of, matched_of, raw_values, is_simple, is_simple_and_free, kind_of, rows_of, subcommand_name_of, subcommand_of, subcommand_rows_of}
 use Rattle.clap.specs.Walk.{Row, Text}
 use Rattle.clap.specs.declared.error.Error.{Error}
 use Rattle.clap.specs.declared.error.ErrorKind.{ErrorKind}
@@ -12,9 +12,9 @@ use Rattle.clap.proofs.OnLiterals.{clap_on_literals}
 use Rattle.clap.specs.Matches.{first_value}
 use Rattle.clap.specs.Simple.{built, entered}
 use Rattle.clap.specs.declared.parser.matches.Found.{Found}
-use Rattle.clap.proofs.WalkLemmas.{first_value-rows}
-use Rattle.ic_words.specs.Words.{BeginsWith, NamesCommand, command_line, value_met}
-use Rattle.ic_words.proofs.WordsExact.{OneCommand, create_stops, serve_stops, one_command}
+use Rattle.clap.proofs.WalkLemmas.{first_value-rows, raw_values-rows}
+use Rattle.ic_words.specs.Words.{BeginsWith, NamesCommand, command_line, value_met, values_met}
+use Rattle.ic_words.proofs.WordsExact.{OneCommand, attend_stops, create_stops, serve_stops, one_command}
 
 command_line_simple : is_simple_and_free command_line ≡ true
 unfolding clap_on_literals
@@ -108,17 +108,22 @@ create_met words begins = ap command_of begins.1 ∙ ap (λ s. option_map (λ (p
 serve_met : (words : List Text) → BeginsWith (codes "serve") words → command_of words ≡ Some (codes "serve")
 serve_met words begins = ap command_of begins.1 ∙ ap (λ s. option_map (λ (p : Text × List Row). p.0) (entered (built command_line) s)) (serve_stops begins.0)
 
+attend_met : (words : List Text) → BeginsWith (codes "attend") words → command_of words ≡ Some (codes "attend")
+attend_met words begins = ap command_of begins.1 ∙ ap (λ s. option_map (λ (p : Text × List Row). p.0) (entered (built command_line) s)) (attend_stops begins.0)
+
 -- the words name a command, which is the one that the parser met
 abbrev pub Met : List Text → Option Text → Type 0
 Met words met = (NamesCommand (codes "settle") words × (met ≡ Some (codes "settle")))
     ⊎ ((NamesCommand (codes "once") words × (met ≡ Some (codes "once")))
-    ⊎ ((BeginsWith (codes "create") words × (met ≡ Some (codes "create"))) ⊎ (BeginsWith (codes "serve") words × (met ≡ Some (codes "serve")))))
+    ⊎ ((BeginsWith (codes "create") words × (met ≡ Some (codes "create")))
+    ⊎ ((BeginsWith (codes "serve") words × (met ≡ Some (codes "serve"))) ⊎ (BeginsWith (codes "attend") words × (met ≡ Some (codes "attend"))))))
 
 met_by : (words : List Text) (met : Option Text) → OneCommand words → met ≡ command_of words → Met words met
 met_by words met (inl settle) is = inl (settle, is ∙ names_met (codes "settle") words settle_met settle)
 met_by words met (inr (inl once)) is = inr (inl (once, is ∙ names_met (codes "once") words once_met once))
 met_by words met (inr (inr (inl create))) is = inr (inr (inl (create, is ∙ create_met words create)))
-met_by words met (inr (inr (inr serve))) is = inr (inr (inr (serve, is ∙ serve_met words serve)))
+met_by words met (inr (inr (inr (inl serve)))) is = inr (inr (inr (inl (serve, is ∙ serve_met words serve))))
+met_by words met (inr (inr (inr (inr attend)))) is = inr (inr (inr (inr (attend, is ∙ attend_met words attend))))
 
 -- words of which matches are made
 pub command_met : (app : App) (words : List Text) (m : ArgMatches) → app ≡ command_line → (is_simple_and_free app ≡ true → fault_of app words ≡ [])
@@ -147,14 +152,26 @@ settle_or_create e = true≢false (ap (λ (o : Option Text). slice_index (unwrap
 pub settle_or_serve : Some (codes "settle") ≡ Some (codes "serve") → ⊥
 settle_or_serve e = true≢false (ap (λ (o : Option Text). slice_index (unwrap_or o []) 2 == 116) e)
 
+pub settle_or_attend : Some (codes "settle") ≡ Some (codes "attend") → ⊥
+settle_or_attend e = true≢false (ap (λ (o : Option Text). slice_index (unwrap_or o []) 0 == 115) e)
+
 pub once_or_create : Some (codes "once") ≡ Some (codes "create") → ⊥
 once_or_create e = true≢false (ap (λ (o : Option Text). slice_index (unwrap_or o []) 0 == 111) e)
 
 pub once_or_serve : Some (codes "once") ≡ Some (codes "serve") → ⊥
 once_or_serve e = true≢false (ap (λ (o : Option Text). slice_index (unwrap_or o []) 0 == 111) e)
 
+pub once_or_attend : Some (codes "once") ≡ Some (codes "attend") → ⊥
+once_or_attend e = true≢false (ap (λ (o : Option Text). slice_index (unwrap_or o []) 0 == 111) e)
+
 pub create_or_serve : Some (codes "create") ≡ Some (codes "serve") → ⊥
 create_or_serve e = true≢false (ap (λ (o : Option Text). slice_index (unwrap_or o []) 0 == 99) e)
+
+pub create_or_attend : Some (codes "create") ≡ Some (codes "attend") → ⊥
+create_or_attend e = true≢false (ap (λ (o : Option Text). slice_index (unwrap_or o []) 0 == 99) e)
+
+pub serve_or_attend : Some (codes "serve") ≡ Some (codes "attend") → ⊥
+serve_or_attend e = true≢false (ap (λ (o : Option Text). slice_index (unwrap_or o []) 0 == 115) e)
 
 -- the command of this name was met
 pub settle_named : (words : List Text) (met : Option Text) (name : Option (Bor Text)) (x : Bor Text) → Met words met
@@ -162,40 +179,54 @@ pub settle_named : (words : List Text) (met : Option Text) (name : Option (Bor T
 settle_named words met name x (inl named) shown is same = named.0
 settle_named words met name x (inr (inl named)) shown is same = absurd (settle_or_once (same_name name x met _ _ shown is same named.1))
 settle_named words met name x (inr (inr (inl named))) shown is same = absurd (settle_or_create (same_name name x met _ _ shown is same named.1))
-settle_named words met name x (inr (inr (inr named))) shown is same = absurd (settle_or_serve (same_name name x met _ _ shown is same named.1))
+settle_named words met name x (inr (inr (inr (inl named)))) shown is same = absurd (settle_or_serve (same_name name x met _ _ shown is same named.1))
+settle_named words met name x (inr (inr (inr (inr named)))) shown is same = absurd (settle_or_attend (same_name name x met _ _ shown is same named.1))
 
 pub once_named : (words : List Text) (met : Option Text) (name : Option (Bor Text)) (x : Bor Text) → Met words met
     → option_map (λ s. s.now) name ≡ met → name ≡ Some x → x.now ≡ codes "once" → NamesCommand (codes "once") words
 once_named words met name x (inl named) shown is same = absurd (settle_or_once (sym (same_name name x met _ _ shown is same named.1)))
 once_named words met name x (inr (inl named)) shown is same = named.0
 once_named words met name x (inr (inr (inl named))) shown is same = absurd (once_or_create (same_name name x met _ _ shown is same named.1))
-once_named words met name x (inr (inr (inr named))) shown is same = absurd (once_or_serve (same_name name x met _ _ shown is same named.1))
+once_named words met name x (inr (inr (inr (inl named)))) shown is same = absurd (once_or_serve (same_name name x met _ _ shown is same named.1))
+once_named words met name x (inr (inr (inr (inr named)))) shown is same = absurd (once_or_attend (same_name name x met _ _ shown is same named.1))
 
 pub create_named : (words : List Text) (met : Option Text) (name : Option (Bor Text)) (x : Bor Text) → Met words met
     → option_map (λ s. s.now) name ≡ met → name ≡ Some x → x.now ≡ codes "create" → BeginsWith (codes "create") words
 create_named words met name x (inl named) shown is same = absurd (settle_or_create (sym (same_name name x met _ _ shown is same named.1)))
 create_named words met name x (inr (inl named)) shown is same = absurd (once_or_create (sym (same_name name x met _ _ shown is same named.1)))
 create_named words met name x (inr (inr (inl named))) shown is same = named.0
-create_named words met name x (inr (inr (inr named))) shown is same = absurd (create_or_serve (same_name name x met _ _ shown is same named.1))
+create_named words met name x (inr (inr (inr (inl named)))) shown is same = absurd (create_or_serve (same_name name x met _ _ shown is same named.1))
+create_named words met name x (inr (inr (inr (inr named)))) shown is same = absurd (create_or_attend (same_name name x met _ _ shown is same named.1))
 
 pub serve_named : (words : List Text) (met : Option Text) (name : Option (Bor Text)) (x : Bor Text) → Met words met
     → option_map (λ s. s.now) name ≡ met → name ≡ Some x → x.now ≡ codes "serve" → BeginsWith (codes "serve") words
 serve_named words met name x (inl named) shown is same = absurd (settle_or_serve (sym (same_name name x met _ _ shown is same named.1)))
 serve_named words met name x (inr (inl named)) shown is same = absurd (once_or_serve (sym (same_name name x met _ _ shown is same named.1)))
 serve_named words met name x (inr (inr (inl named))) shown is same = absurd (create_or_serve (sym (same_name name x met _ _ shown is same named.1)))
-serve_named words met name x (inr (inr (inr named))) shown is same = named.0
+serve_named words met name x (inr (inr (inr (inl named)))) shown is same = named.0
+serve_named words met name x (inr (inr (inr (inr named)))) shown is same = absurd (serve_or_attend (same_name name x met _ _ shown is same named.1))
+
+pub attend_named : (words : List Text) (met : Option Text) (name : Option (Bor Text)) (x : Bor Text) → Met words met
+    → option_map (λ s. s.now) name ≡ met → name ≡ Some x → x.now ≡ codes "attend" → BeginsWith (codes "attend") words
+attend_named words met name x (inl named) shown is same = absurd (settle_or_attend (sym (same_name name x met _ _ shown is same named.1)))
+attend_named words met name x (inr (inl named)) shown is same = absurd (once_or_attend (sym (same_name name x met _ _ shown is same named.1)))
+attend_named words met name x (inr (inr (inl named))) shown is same = absurd (create_or_attend (sym (same_name name x met _ _ shown is same named.1)))
+attend_named words met name x (inr (inr (inr (inl named)))) shown is same = absurd (serve_or_attend (sym (same_name name x met _ _ shown is same named.1)))
+attend_named words met name x (inr (inr (inr (inr named)))) shown is same = named.0
 
 -- no other command was met, and one was met
 pub none_other : (words : List Text) (met : Option Text) (name : Option (Bor Text)) → Met words met → option_map (λ s. s.now) name ≡ met
-    → ((x : Bor Text) → name ≡ Some x → (x.now ≢ codes "settle") × (x.now ≢ codes "once") × (x.now ≢ codes "create") × (x.now ≢ codes "serve")) → ⊥
+    → ((x : Bor Text) → name ≡ Some x → (x.now ≢ codes "settle") × (x.now ≢ codes "once") × (x.now ≢ codes "create") × (x.now ≢ codes "serve") × (x.now ≢ codes "attend")) → ⊥
 none_other words met None (inl named) shown other = let e = shown ∙ named.1 in cc
 none_other words met None (inr (inl named)) shown other = let e = shown ∙ named.1 in cc
 none_other words met None (inr (inr (inl named))) shown other = let e = shown ∙ named.1 in cc
-none_other words met None (inr (inr (inr named))) shown other = let e = shown ∙ named.1 in cc
+none_other words met None (inr (inr (inr (inl named)))) shown other = let e = shown ∙ named.1 in cc
+none_other words met None (inr (inr (inr (inr named)))) shown other = let e = shown ∙ named.1 in cc
 none_other words met (Some x) (inl named) shown other = (other x refl).0 (let e : Some x.now ≡ Some (codes "settle") = shown ∙ named.1 in cc)
 none_other words met (Some x) (inr (inl named)) shown other = (other x refl).1 (let e : Some x.now ≡ Some (codes "once") = shown ∙ named.1 in cc)
 none_other words met (Some x) (inr (inr (inl named))) shown other = (other x refl).2 (let e : Some x.now ≡ Some (codes "create") = shown ∙ named.1 in cc)
-none_other words met (Some x) (inr (inr (inr named))) shown other = (other x refl).3 (let e : Some x.now ≡ Some (codes "serve") = shown ∙ named.1 in cc)
+none_other words met (Some x) (inr (inr (inr (inl named)))) shown other = (other x refl).3 (let e : Some x.now ≡ Some (codes "serve") = shown ∙ named.1 in cc)
+none_other words met (Some x) (inr (inr (inr (inr named)))) shown other = (other x refl).4 (let e : Some x.now ≡ Some (codes "attend") = shown ∙ named.1 in cc)
 
 -- words that name one command aren't another one alone
 pub no_other_alone : (one other : Text) (words : List Text) → NamesCommand one words → words ≡ other ∷ [] → one ≡ other
@@ -227,3 +258,22 @@ value_read option met found read none empty rows is =
 pub value_missing : (option : Text) (met : Option (Text × List Row)) → None ≡ option_map (λ (p : Text × List Row). p.1) met → [] ≡ value_met option met
 value_missing option None is = refl
 value_missing option (Some p) is = cc
+
+-- ---- the values of an argument
+
+values_of_rows : (option : Text) (met : Option (Text × List Row)) (rows : List Row)
+    → Some rows ≡ option_map (λ (p : Text × List Row). p.1) met → values_met option met ≡ unwrap_or (all_of option rows) []
+values_of_rows option None rows is = cc
+values_of_rows option (Some p) rows is = let e : rows ≡ p.1 = cc in ap (λ r. unwrap_or (all_of option r) []) (sym e)
+
+abbrev pub texts : List (Bor Text) → List Text
+texts vs = map (λ (v : Bor Text). v.now) vs
+
+-- the texts of the argument's values in the matches of a command, whose rows these are
+pub values_read : (option : Text) (met : Option (Text × List Row)) (found : Found) (read shown : Option (Bor (List (Bor Text)))) → read ≡ shown
+    → Some (rows_of found) ≡ option_map (λ (p : Text × List Row). p.1) met
+    → option_map (λ (s : Bor (List (Bor Text))). texts s.now) read ≡ option_map raw_values (matched_of found option)
+    → unwrap_or (option_map (λ (s : Bor (List (Bor Text))). texts s.now) shown) [] ≡ values_met option met
+values_read option met found read shown same rows is =
+    ap (λ (o : Option (Bor (List (Bor Text)))). unwrap_or (option_map (λ (s : Bor (List (Bor Text))). texts s.now) o) []) (sym same)
+    ∙ ap (λ o. unwrap_or o []) (is ∙ raw_values-rows found option) ∙ sym (values_of_rows option met (rows_of found) rows)

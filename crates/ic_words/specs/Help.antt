@@ -18,6 +18,8 @@ program_help = text_of (codes "A job server for the interaction calculus"
     ∷ codes "  once    Makes one round of the system on standard input and prints the configuration"
     ∷ codes "  create  Makes the file F an empty disk, whatever it held"
     ∷ codes "  serve   Serves the lines of standard input over the disk in the file F"
+    ∷ (codes "  attend  Gives the commands of scripts to the disk in the file F,"
+    ++ codes " one client to a script")
     ∷ []
     ∷ codes "Options:"
     ∷ codes "  -h, --help     Print help"
@@ -66,13 +68,33 @@ serve_help = text_of (codes "Serves the lines of standard input over the disk in
     ∷ codes "  -h, --help         Print help"
     ∷ [])
 
+abbrev pub attend_help : Text
+attend_help = text_of ((codes "Gives the commands of scripts to the disk in the file F,"
+    ++ codes " one client to a script")
+    ∷ []
+    ∷ codes "Usage: icserve attend [OPTIONS] --disk <F> [SCRIPT]..."
+    ∷ []
+    ∷ codes "Arguments:"
+    ∷ codes "  [SCRIPT]...  The paths of files of commands, one in a line"
+    ∷ []
+    ∷ codes "Options:"
+    ∷ codes "      --disk <F>     The path of the file, which has to be a disk"
+    ∷ (codes "      --runners <R>  Threads that take rounds of running jobs,"
+    ++ codes " from 0 to 64 [default: 2]")
+    ∷ (codes "      --turns <T>    Rounds that each makes at most after the scripts,"
+    ++ codes " from 0 to 1000000 [default: 0]")
+    ∷ codes "      --workers <N>  Threads for each round, from 1 to 64 [default: 2]"
+    ∷ codes "  -h, --help         Print help"
+    ∷ [])
+
 -- the help that words ask for: that of the command that the first one names, or the program's
 abbrev pub help_of : List Text → Text
 help_of [] = program_help
 help_of (word ∷ words) = if bytes_eq word (codes "settle") then settle_help
     else if bytes_eq word (codes "once") then once_help
     else if bytes_eq word (codes "create") then create_help
-    else if bytes_eq word (codes "serve") then serve_help else program_help
+    else if bytes_eq word (codes "serve") then serve_help
+    else if bytes_eq word (codes "attend") then attend_help else program_help
 
 -- this part stands in a text
 abbrev pub Says : Text → Text → Type 0

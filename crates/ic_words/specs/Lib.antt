@@ -1,3 +1,4 @@
 pub mod Help
 pub mod Words
 pub mod Lines
+pub mod inner

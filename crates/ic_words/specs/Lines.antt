@@ -1,5 +1,5 @@
 -- To be believed: the lines of words that are well formed, in words of their own.
-use Rattle.std.specs.Prelude.{◌≡◌, ◌≢◌, ◌⊎◌, ◌≤◌, ℕ, List, [], ◌∷◌, ◌++◌, codes}
+use Rattle.std.specs.Prelude.{◌≡◌, ◌≢◌, ◌⊎◌, ◌<◌, ◌≤◌, ◌^◌, ℕ, List, [], ◌∷◌, ◌++◌, codes, length}
 use Rattle.std.specs.List.{AllByRecursion}
 use Rattle.clap.specs.Words.{Text}
 use Rattle.ic_words.specs.Words.{IsDecimal}
@@ -25,15 +25,22 @@ AreWritten [] words = words ≡ []
 AreWritten (given ∷ more) words = (first : List Text) × (rest : List Text)
     × (words ≡ first ++ rest) × IsWritten given first × AreWritten more rest
 
--- a number from 1 to the most
-abbrev pub IsWithin : ℕ → Text → Type 0
-IsWithin most text = (number : ℕ) × IsDecimal text number × (1 ≤ number) × (number ≤ most)
+-- a number from the least to the most
+abbrev pub IsWithin : (least most : ℕ) → Text → Type 0
+IsWithin least most text = (number : ℕ) × IsDecimal text number × (least ≤ number) × (number ≤ most)
 
 -- an option of `serve`: a disk, or a number in its range
 abbrev pub IsServeOption : Given → Type 0
 IsServeOption given = (given.name ≡ codes "disk")
-    ⊎ (((given.name ≡ codes "workers") × IsWithin 64 given.value)
-    ⊎ ((given.name ≡ codes "every") × IsWithin 1000000 given.value))
+    ⊎ (((given.name ≡ codes "workers") × IsWithin 1 64 given.value)
+    ⊎ ((given.name ≡ codes "every") × IsWithin 1 1000000 given.value))
+
+-- an option of `attend`: a disk, or a number in its range
+abbrev pub IsAttendOption : Given → Type 0
+IsAttendOption given = (given.name ≡ codes "disk")
+    ⊎ (((given.name ≡ codes "runners") × IsWithin 0 64 given.value)
+    ⊎ (((given.name ≡ codes "turns") × IsWithin 0 1000000 given.value)
+    ⊎ ((given.name ≡ codes "workers") × IsWithin 1 64 given.value)))
 
 -- `create --disk F`
 abbrev pub IsCreateLine : Text → List Text → Type 0
@@ -67,3 +74,19 @@ pub record IsServeLine (words : List Text) (path threads rounds : Text) : Type 0
   pub disk : Gives given (codes "disk") path
   pub workers : HasValue given (codes "workers") (codes "2") threads
   pub every : HasValue given (codes "every") (codes "100") rounds
+
+-- `attend --disk F`, with `--runners R`, `--turns T` and `--workers N` or without, in any order,
+-- each once, and behind them the scripts, none of which begins with a hyphen
+pub record IsAttendLine (words : List Text) (path r t n : Text) (scripts : List Text) : Type 0 where
+  pub given : List Given
+  pub front : List Text
+  pub begins : words ≡ codes "attend" ∷ (front ++ scripts)
+  pub written : AreWritten given front
+  pub options : AllByRecursion IsAttendOption given
+  pub once : AreOnce given
+  pub disk : Gives given (codes "disk") path
+  pub runners : HasValue given (codes "runners") (codes "2") r
+  pub turns : HasValue given (codes "turns") (codes "0") t
+  pub workers : HasValue given (codes "workers") (codes "2") n
+  pub plain : AllByRecursion HasNoHyphen scripts
+  pub few : length scripts < 2 ^ 64

@@ -1,15 +1,16 @@
 -- What the words after the program's name ask for (this project's choice).
-use Rattle.std.specs.Prelude.{◌≡◌, ◌≢◌, ◌≤◌, ◌⊎◌, ℕ, pos, List, [], ◌∷◌, ◌++◌, Result, Ok, Err, true}
+use Rattle.std.specs.Prelude.{◌≡◌, ◌≢◌, ◌≤◌, ◌⊎◌, ℕ, pos, map, List, [], ◌∷◌, ◌++◌, Result, Ok, Err, true}
 use Rattle.std.specs.Prelude.{codes, string_bytes, Option, Some, unwrap_or, option_and_then}
 use Rattle.std.specs.Str.Parse.{IsNumeral, digits_value, without_leading_plus}
-use Rattle.clap.specs.Words.{App, IsAmong, Kinds, Row, Rule, Shape, Text, first_of, new_app, one_of}
-use Rattle.clap.specs.Words.{new_rule, subcommand_of, with_rule, with_subcommand}
+use Rattle.clap.specs.Words.{App, IsAmong, Kinds, Row, Rule, Shape, Text, all_of, first_of, new_app}
+use Rattle.clap.specs.Words.{new_rule, one_of, subcommand_of, with_rule, with_subcommand}
+use Rattle.clap.specs.Lexer.{usize_max}
 use Rattle.clap.specs.Simple.{on_top}
 use Rattle.clap.specs.declared.builder.value_parser.ValueParser.TheVariants as parser
 use Rattle.clap.specs.declared.error.ErrorKind.{ErrorKind}
 use Rattle.clap.specs.declared.error.ErrorKind.TheVariants.{DisplayHelp, DisplayVersion}
 use Rattle.ic_words.specs.declared.words.Task.{Task}
-use Rattle.ic_words.specs.declared.words.Task.TheVariants.{Settle, Once, Create, Serve}
+use Rattle.ic_words.specs.declared.words.Task.TheVariants.{Settle, Once, Create, Serve, Attend}
 use Rattle.ic_words.specs.declared.words.Task.TheVariants.{Help, Version}
 use Rattle.ic_words.specs.Help.{help_of, program_help}
 use Rattle.ic_words.specs.declared.words.WordsFault.{WordsFault}
@@ -62,14 +63,45 @@ abbrev pub serve_command : App
 serve_command = with_rule (with_rule (with_rule (new_app (codes "serve")) disk_option) workers_option)
     every_option
 
+-- the option `--runners R`, from 0 to 64, of which the default is 2
+abbrev pub runners_option : Rule
+runners_option = record (new_rule (codes "runners")) {
+  long = Some (codes "runners");
+  value_names = 1;
+  defaults = codes "2" ∷ [];
+  parser = Some (parser.Unsigned 0 64);
+}
+
+-- the option `--turns T`, from 0 to 1,000,000, of which the default is 0
+abbrev pub turns_option : Rule
+turns_option = record (new_rule (codes "turns")) {
+  long = Some (codes "turns");
+  value_names = 1;
+  defaults = codes "0" ∷ [];
+  parser = Some (parser.Unsigned 0 1000000);
+}
+
+-- the arguments `SCRIPT..`, of which there may be any number
+abbrev pub script_argument : Rule
+script_argument = record (new_rule (codes "script")) {
+  range = Some (record { start_inclusive = 0; end_inclusive = usize_max });
+  value_names = 1;
+}
+
+abbrev pub attend_command : App
+attend_command = with_rule (with_rule (with_rule (with_rule (with_rule (new_app (codes "attend"))
+    disk_option) runners_option) turns_option) workers_option) script_argument
+
 -- the program with its commands `settle` and `once`
 abbrev pub with_streams : App
 with_streams = with_subcommand (with_subcommand program
     (new_app (codes "settle")).top) (new_app (codes "once")).top
 
--- the command line of the program, whose commands are `settle`, `once`, `create` and `serve`
+-- the command line of the program, whose commands are `settle`, `once`, `create`, `serve` and
+-- `attend`
 abbrev pub command_line : App
-command_line = with_subcommand (with_subcommand with_streams create_command.top) serve_command.top
+command_line = with_subcommand (with_subcommand (with_subcommand with_streams create_command.top)
+    serve_command.top) attend_command.top
 
 -- the line that tells the version
 abbrev pub version_line : List ℕ
@@ -87,6 +119,7 @@ AnswersWords mistakes (Ok Settle) = mistakes ≡ []
 AnswersWords mistakes (Ok Once) = mistakes ≡ []
 AnswersWords mistakes (Ok (Create disk)) = mistakes ≡ []
 AnswersWords mistakes (Ok (Serve disk workers every)) = mistakes ≡ []
+AnswersWords mistakes (Ok (Attend disk runners turns workers scripts)) = mistakes ≡ []
 AnswersWords mistakes (Ok (Help text)) = IsAmong DisplayHelp mistakes
 AnswersWords mistakes (Ok (Version text)) =
     IsAmong DisplayVersion mistakes × (string_bytes text ≡ version_line)
@@ -108,6 +141,7 @@ GivesHelp (Ok Settle) = ⊥
 GivesHelp (Ok Once) = ⊥
 GivesHelp (Ok (Create disk)) = ⊥
 GivesHelp (Ok (Serve disk workers every)) = ⊥
+GivesHelp (Ok (Attend disk runners turns workers scripts)) = ⊥
 GivesHelp (Ok (Version text)) = ⊥
 GivesHelp (Err (Words text)) = ⊥
 
@@ -119,6 +153,7 @@ GivesVersion (Ok Settle) = ⊥
 GivesVersion (Ok Once) = ⊥
 GivesVersion (Ok (Create disk)) = ⊥
 GivesVersion (Ok (Serve disk workers every)) = ⊥
+GivesVersion (Ok (Attend disk runners turns workers scripts)) = ⊥
 GivesVersion (Ok (Help text)) = ⊥
 GivesVersion (Err (Words text)) = ⊥
 
@@ -129,6 +164,10 @@ NamesCommand command words = (words ≡ command ∷ []) ⊎ (words ≡ command �
 -- the value of an option of a command that is met, or no text where it has none
 abbrev pub value_met : Text → Option (Text × List Row) → Text
 value_met option met = unwrap_or (option_and_then (λ p. first_of option p.1) met) []
+
+-- the values of an argument of a command that is met, none where it has none
+abbrev pub values_met : Text → Option (Text × List Row) → List Text
+values_met argument met = unwrap_or (option_and_then (λ p. all_of argument p.1) met) []
 
 -- the text that the parser reads as the number of an option of a command that is met, or none
 abbrev pub number_met : Text → Option (Text × List Row) → Text
@@ -144,11 +183,21 @@ abbrev pub BeginsWith : List ℕ → List (List ℕ) → Type 0
 BeginsWith command words = (rest : List (List ℕ)) × (words ≡ command ∷ rest)
 
 -- this is the number that the text of an option spells, the default's where it isn't given; it lies
--- between 1 and the most
-abbrev pub IsNumberOf : Text → ℕ → List (List ℕ) → ℕ → Type 0
-IsNumberOf option most words number =
+-- between the least and the most
+abbrev pub IsNumberOf : (option : Text) (least most : ℕ) → List (List ℕ) → ℕ → Type 0
+IsNumberOf option least most words number =
     IsDecimal (value_met option (subcommand_of command_line words)) number
-    × (1 ≤ number) × (number ≤ most)
+    × (least ≤ number) × (number ≤ most)
+
+-- the words of `attend` give a disk's path, three numbers and the paths of scripts
+pub record NamesAttend (words : List Text) (path : Text) (r t n : ℕ) (paths : List Text)
+    : Type 0 where
+  pub begins : BeginsWith (codes "attend") words
+  pub disk : path ≡ value_met (codes "disk") (subcommand_of command_line words)
+  pub runners : IsNumberOf (codes "runners") 0 64 words r
+  pub turns : IsNumberOf (codes "turns") 0 1000000 words t
+  pub workers : IsNumberOf (codes "workers") 1 64 words n
+  pub scripts : paths ≡ values_met (codes "script") (subcommand_of command_line words)
 
 -- the words name the task, and the text of help and of the version is this
 abbrev pub Names : List (List ℕ) → Task → Type 0
@@ -158,6 +207,9 @@ Names words (Create disk) = BeginsWith (codes "create") words
     × (string_bytes disk ≡ value_met (codes "disk") (subcommand_of command_line words))
 Names words (Serve disk workers every) = BeginsWith (codes "serve") words
     × (string_bytes disk ≡ value_met (codes "disk") (subcommand_of command_line words))
-    × IsNumberOf (codes "workers") 64 words workers × IsNumberOf (codes "every") 1000000 words every
+    × IsNumberOf (codes "workers") 1 64 words workers
+    × IsNumberOf (codes "every") 1 1000000 words every
+Names words (Attend disk runners turns workers scripts) =
+    NamesAttend words (string_bytes disk) runners turns workers (map string_bytes scripts.items)
 Names words (Help text) = string_bytes text ≡ help_of words
 Names words (Version text) = string_bytes text ≡ version_line

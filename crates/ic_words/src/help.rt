@@ -14,6 +14,7 @@ Commands:
   once    Makes one round of the system on standard input and prints the configuration
   create  Makes the file F an empty disk, whatever it held
   serve   Serves the lines of standard input over the disk in the file F
+  attend  Gives the commands of scripts to the disk in the file F, one client to a script
 
 Options:
   -h, --help     Print help
@@ -64,6 +65,23 @@ Options:
   -h, --help         Print help
 ";
 
+/// The help of `attend`.
+const ATTEND: &str = "\
+Gives the commands of scripts to the disk in the file F, one client to a script
+
+Usage: icserve attend [OPTIONS] --disk <F> [SCRIPT]...
+
+Arguments:
+  [SCRIPT]...  The paths of files of commands, one in a line
+
+Options:
+      --disk <F>     The path of the file, which has to be a disk
+      --runners <R>  Threads that take rounds of running jobs, from 0 to 64 [default: 2]
+      --turns <T>    Rounds that each makes at most after the scripts, from 0 to 1000000 [default: 0]
+      --workers <N>  Threads for each round, from 1 to 64 [default: 2]
+  -h, --help         Print help
+";
+
 /// The help that words ask for: that of the command that the first one names, or the program's.
 pub(crate) fn help_of(words: &[String]) -> &'static str
     ensures { result.now ≡ help_of (map string_bytes words.now) }
@@ -76,6 +94,7 @@ pub(crate) fn help_of(words: &[String]) -> &'static str
         "once" => ONCE,
         "create" => CREATE,
         "serve" => SERVE,
+        "attend" => ATTEND,
         _ => PROGRAM,
     }
 }

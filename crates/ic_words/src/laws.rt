@@ -1,16 +1,16 @@
 //! Laws of the words after the program's name, in words of their own.
 
-ghost use Rattle.std.specs.Prelude.{◌≡◌, ◌≢◌, ◌↔◌, ◌⊎◌, ◌<◌, ◌≤◌, ◌^◌, ℕ, List, [], ◌∷◌, ◌++◌, Ok, Err, codes, string_bytes};
+ghost use Rattle.std.specs.Prelude.{◌≡◌, ◌≢◌, ◌↔◌, ◌⊎◌, ◌<◌, ◌≤◌, ◌^◌, ℕ, List, [], ◌∷◌, ◌++◌, Ok, Err, codes, map, string_bytes};
 ghost use Rattle.std.specs.List.{AllByRecursion};
 ghost use Rattle.std.specs.Fmt.{decimal};
 ghost use Rattle.clap.specs.Words.{Text, fault_of};
 ghost use Rattle.clap.specs.declared.error.ErrorKind.{ErrorKind};
 ghost use Rattle.clap.specs.declared.error.ErrorKind.TheVariants.{DisplayHelp, DisplayVersion};
-ghost use Rattle.ic_words.specs.declared.words.Task.TheVariants.{Settle, Once, Create, Serve, Help, Version};
+ghost use Rattle.ic_words.specs.declared.words.Task.TheVariants.{Settle, Once, Create, Serve, Attend, Help, Version};
 ghost use Rattle.ic_words.specs.declared.words.WordsFault.TheVariants.{Words, Memory};
 ghost use Rattle.ic_words.specs.Words.{AnswersWords, command_line, words_fault_number, IsDecimal, Names};
-ghost use Rattle.ic_words.specs.Help.{help_of, Says, program_help, settle_help, once_help, create_help, serve_help};
-ghost use Rattle.ic_words.specs.Lines.{IsCreateLine, IsServeLine};
+ghost use Rattle.ic_words.specs.Help.{help_of, Says, program_help, settle_help, once_help, create_help, serve_help, attend_help};
+ghost use Rattle.ic_words.specs.Lines.{IsAttendLine, IsCreateLine, IsServeLine};
 
 /// A number's text is the number in decimal digits, before which a plus may stand, and no other
 /// number's; the empty text is none's.
@@ -70,6 +70,8 @@ pub fn help_and_version_are_asked()
         ≡ DisplayHelp ∷ [] }
     ensures short_serve { fault_of command_line (codes "serve" ∷ codes "-h" ∷ [])
         ≡ DisplayHelp ∷ [] }
+    ensures attend { fault_of command_line (codes "attend" ∷ codes "--help" ∷ [])
+        ≡ DisplayHelp ∷ [] }
     ensures version { fault_of command_line (codes "--version" ∷ []) ≡ DisplayVersion ∷ [] }
     ensures short_version { fault_of command_line (codes "-V" ∷ []) ≡ DisplayVersion ∷ [] }
 {}
@@ -82,11 +84,13 @@ pub fn each_command_has_its_help()
     ensures once { (words : List Text) → help_of (codes "once" ∷ words) ≡ once_help }
     ensures create { (words : List Text) → help_of (codes "create" ∷ words) ≡ create_help }
     ensures serve { (words : List Text) → help_of (codes "serve" ∷ words) ≡ serve_help }
+    ensures attend { (words : List Text) → help_of (codes "attend" ∷ words) ≡ attend_help }
     ensures program { (word : Text) (words : List Text) → AllByRecursion (λ name. word ≢ name)
-        (codes "settle" ∷ codes "once" ∷ codes "create" ∷ codes "serve" ∷ [])
+        (codes "settle" ∷ codes "once" ∷ codes "create" ∷ codes "serve" ∷ codes "attend" ∷ [])
         → help_of (word ∷ words) ≡ program_help }
     ensures commands { AllByRecursion (Says program_help) (codes "  settle  " ∷ codes "  once  "
-        ∷ codes "  create  " ∷ codes "  serve  " ∷ codes "-h, --help" ∷ codes "-V, --version" ∷ []) }
+        ∷ codes "  create  " ∷ codes "  serve  " ∷ codes "  attend  "
+        ∷ codes "-h, --help" ∷ codes "-V, --version" ∷ []) }
     ensures streams { Says settle_help (codes "icserve settle")
         × Says once_help (codes "icserve once") }
     ensures disk { AllByRecursion (Says create_help)
@@ -94,6 +98,10 @@ pub fn each_command_has_its_help()
     ensures numbers { AllByRecursion (Says serve_help) (codes "icserve serve" ∷ codes "--disk <F>"
         ∷ codes "--workers <N>" ∷ codes "from 1 to 64 [default: 2]"
         ∷ codes "--every <K>" ∷ codes "from 1 to 1000000 [default: 100]" ∷ []) }
+    ensures scripts { AllByRecursion (Says attend_help) (codes "icserve attend" ∷ codes "--disk <F>"
+        ∷ codes "[SCRIPT]..." ∷ codes "--runners <R>" ∷ codes "from 0 to 64 [default: 2]"
+        ∷ codes "--turns <T>" ∷ codes "from 0 to 1000000 [default: 0]"
+        ∷ codes "--workers <N>" ∷ codes "from 1 to 64 [default: 2]" ∷ []) }
 {}
 
 /// A well-formed line of `create` is taken, and names the file that it is given.
@@ -113,4 +121,18 @@ pub fn serve_lines_are_taken(disk: &String)
         → IsServeLine words path workers every → Names words (Serve disk.now threads rounds)
         → (string_bytes disk.now ≡ path) × IsDecimal workers threads × IsDecimal every rounds
         × (1 ≤ threads) × (threads ≤ 64) × (1 ≤ rounds) × (rounds ≤ 1000000) }
+{}
+
+/// A well-formed line of `attend` is taken, in whatever order its options stand, and names the
+/// file, the numbers and the scripts that it is given, in their order. Where an option isn't given
+/// it names the default: 2 runners, no turns, 2 workers.
+pub fn attend_lines_are_taken(disk: &String, paths: &Vec<String>)
+    ensures taken { (words : List Text) (path r t n : Text) (scripts : List Text)
+        → IsAttendLine words path r t n scripts → fault_of command_line words ≡ [] }
+    ensures named { (words : List Text) (path r t n : Text) (scripts : List Text)
+        (runners turns workers : ℕ) → IsAttendLine words path r t n scripts
+        → Names words (Attend disk.now runners turns workers paths.now)
+        → (string_bytes disk.now ≡ path) × IsDecimal r runners × IsDecimal t turns
+        × IsDecimal n workers × (runners ≤ 64) × (turns ≤ 1000000) × (1 ≤ workers)
+        × (workers ≤ 64) × (map string_bytes paths.now.items ≡ scripts) }
 {}

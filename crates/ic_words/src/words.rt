@@ -4,9 +4,10 @@ ghost use Rattle.std.specs.Prelude.{◌≡◌, ◌≤◌, ℕ, false, map, IfOk,
 ghost use Rattle.clap.specs.Words.{app_of, fault_of, rule_of, subcommand_rows_of};
 ghost use Rattle.clap.specs.declared.builder.command.Command.TheViews.{out-Command};
 ghost use Rattle.ic_words.specs.Words.{AnswersWords, GivesHelp, GivesTask, GivesVersion, Names};
-ghost use Rattle.ic_words.specs.Words.{command_line, create_command, program, serve_command, with_streams};
-ghost use Rattle.ic_words.specs.Words.{disk_option, every_option, workers_option};
-ghost use Rattle.ic_words.specs.Words.{IsDecimal, number_met, value_met};
+ghost use Rattle.ic_words.specs.Words.{attend_command, command_line, create_command, program, serve_command, with_streams};
+ghost use Rattle.ic_words.specs.Words.{disk_option, every_option, runners_option, script_argument, turns_option, workers_option};
+ghost use Rattle.ic_words.specs.Words.{IsDecimal, number_met, value_met, values_met};
+ghost use Rattle.ic_words.specs.inner.Attending.{AsksToAttend};
 
 use crate::help::help_of;
 use clap::error::ErrorKind;
@@ -21,6 +22,12 @@ const MAX_WORKERS: u32 = 64;
 
 /// The most rounds between two keeps.
 const MAX_EVERY: u32 = 1_000_000;
+
+/// The most runners of an attendance.
+const MAX_RUNNERS: u32 = 64;
+
+/// The most turns of a runner.
+const MAX_TURNS: u32 = 1_000_000;
 
 /// What the words after the program's name ask for.
 #[derive(Debug, Drop)]
@@ -42,6 +49,19 @@ pub enum Task {
         workers: u32,
         /// After how many rounds they are kept, from 1 to 1,000,000.
         every: u32,
+    },
+    /// Give the commands of scripts to a disk, each script by a client of its own.
+    Attend {
+        /// The path of the disk's file.
+        disk: String,
+        /// How many runners make rounds, from 0 to 64.
+        runners: u32,
+        /// How many rounds each runner may take once all scripts have ended, from 0 to 1,000,000.
+        turns: u32,
+        /// How many threads make a round, from 1 to 64.
+        workers: u32,
+        /// The paths of the scripts, none or several.
+        scripts: Vec<String>,
     },
     /// Show this help.
     Help(String),
@@ -103,14 +123,15 @@ pub fn read_words(alloc: Global, words: &[String]) -> Result<Task, WordsFault>
             }
             Some("serve") => {
                 let disk = String::from_str(alloc, value_of(&matches, "disk"))?;
-                let workers = number_of(&matches, "workers", MAX_WORKERS);
-                let every = number_of(&matches, "every", MAX_EVERY);
+                let workers = number_of(&matches, "workers", 1, MAX_WORKERS);
+                let every = number_of(&matches, "every", 1, MAX_EVERY);
                 Ok(Task::Serve {
                     disk,
                     workers,
                     every,
                 })
             }
+            Some("attend") => Ok(attend_task(alloc, &matches)?),
             _ => unreachable!(),
         },
         Err(error) => match error.kind() {
@@ -121,6 +142,50 @@ pub fn read_words(alloc: Global, words: &[String]) -> Result<Task, WordsFault>
             )?)),
             _ => Err(WordsFault::Words(error.to_string(alloc)?)),
         },
+    }
+}
+
+/// The task of the command `attend`, which was met.
+fn attend_task(alloc: Global, matches: &ArgMatches) -> Result<Task, AllocError>
+    ensures { IfOk result (AsksToAttend (subcommand_rows_of matches.now)) }
+{
+    let disk = String::from_str(alloc, value_of(matches, "disk"))?;
+    let runners = number_of(matches, "runners", 0, MAX_RUNNERS);
+    let turns = number_of(matches, "turns", 0, MAX_TURNS);
+    let workers = number_of(matches, "workers", 1, MAX_WORKERS);
+    let scripts = values_of(alloc, matches, "script")?;
+    Ok(Task::Attend {
+        disk,
+        runners,
+        turns,
+        workers,
+        scripts,
+    })
+}
+
+/// Texts that own their bytes.
+fn texts(alloc: Global, borrowed: &[&str]) -> Result<Vec<String>, AllocError>
+    ensures { IfOk result (λ owned. map string_bytes owned.items
+        ≡ map (λ text. text.now) borrowed.now) }
+{
+    let mut owned = Vec::new(alloc);
+    for text in borrowed {
+        owned.push(String::from_str(alloc, text)?)?;
+    }
+    Ok(owned)
+}
+
+/// The values of an argument of the command that was met, none where it has none.
+fn values_of(alloc: Global, matches: &ArgMatches, argument: &str) -> Result<Vec<String>, AllocError>
+    ensures { IfOk result (λ values. map string_bytes values.items
+        ≡ values_met argument.now (subcommand_rows_of matches.now)) }
+{
+    let Some((_, met)) = matches.subcommand() else {
+        return Ok(Vec::new(alloc));
+    };
+    match met.get_raw(argument) {
+        Some(values) => texts(alloc, values),
+        None => Ok(Vec::new(alloc)),
     }
 }
 
@@ -136,16 +201,20 @@ fn value_of<'a>(matches: &ArgMatches<'a>, option: &str) -> &'a str
 
 /// The number that is the value of an option of the command that was met, in its range. The parser has refused any other
 /// value, so the bounds here change nothing.
-fn number_of(matches: &ArgMatches, option: &str, most: u32) -> u32
-    requires { 1 ≤ most }
-    ensures least { 1 ≤ result }
+fn number_of(matches: &ArgMatches, option: &str, least: u32, most: u32) -> u32
+    requires { least ≤ most }
+    ensures least { least ≤ result }
     ensures most { result ≤ most }
     ensures value { (number : ℕ) → IsDecimal (number_met option.now (subcommand_rows_of matches.now)) number
-        → 1 ≤ number → number ≤ most → result ≡ number }
+        → least ≤ number → number ≤ most → result ≡ number }
 {
     match matches.subcommand() {
-        Some((_, met)) => met.get_one::<u32>(option).unwrap_or(1).max(1).min(most),
-        None => 1,
+        Some((_, met)) => met
+            .get_one::<u32>(option)
+            .unwrap_or(least)
+            .max(least)
+            .min(most),
+        None => least,
     }
 }
 
@@ -184,6 +253,38 @@ fn every_option<'a>(alloc: Global) -> Arg<'a>
         .value_parser(value_parser!(u32).range(1..1_000_001))
 }
 
+/// The option that says how many runners there are.
+fn runners_option<'a>(alloc: Global) -> Arg<'a>
+    ensures rule { rule_of result ≡ runners_option }
+    ensures local { result.global ≡ false }
+{
+    Arg::new(alloc, "runners")
+        .long("runners")
+        .value_name("R")
+        .default_value("2")
+        .value_parser(value_parser!(u64).range(0..65))
+}
+
+/// The option that says how many rounds each runner may take once all scripts have ended.
+fn turns_option<'a>(alloc: Global) -> Arg<'a>
+    ensures rule { rule_of result ≡ turns_option }
+    ensures local { result.global ≡ false }
+{
+    Arg::new(alloc, "turns")
+        .long("turns")
+        .value_name("T")
+        .default_value("0")
+        .value_parser(value_parser!(u64).range(0..1_000_001))
+}
+
+/// The argument that names scripts.
+fn script_argument<'a>(alloc: Global) -> Arg<'a>
+    ensures rule { rule_of result ≡ script_argument }
+    ensures local { result.global ≡ false }
+{
+    Arg::new(alloc, "script").value_name("SCRIPT").num_args(0..)
+}
+
 /// The command that makes a file an empty disk.
 fn create_command<'a>(alloc: Global) -> Result<Command<'a>, AllocError>
     ensures shape { IfOk result (λ command. app_of command ≡ create_command) }
@@ -205,6 +306,24 @@ fn serve_command<'a>(alloc: Global) -> Result<Command<'a>, AllocError>
         .arg(disk)?
         .arg(workers)?
         .arg(every)
+}
+
+/// The command that gives the commands of scripts.
+fn attend_command<'a>(alloc: Global) -> Result<Command<'a>, AllocError>
+    ensures shape { IfOk result (λ command. app_of command ≡ attend_command) }
+    ensures local { IfOk result (λ command. (out-Command command).has_globals ≡ false) }
+{
+    let disk = disk_option(alloc);
+    let runners = runners_option(alloc);
+    let turns = turns_option(alloc);
+    let workers = workers_option(alloc);
+    let script = script_argument(alloc);
+    Command::new(alloc, "attend")
+        .arg(disk)?
+        .arg(runners)?
+        .arg(turns)?
+        .arg(workers)?
+        .arg(script)
 }
 
 /// The program without its commands.
@@ -239,5 +358,7 @@ fn command<'a>(alloc: Global) -> Result<Command<'a>, AllocError>
     let create = create_command(alloc)?;
     let program = with_streams(alloc)?.subcommand(create)?;
     let serve = serve_command(alloc)?;
-    program.subcommand(serve)
+    let program = program.subcommand(serve)?;
+    let attend = attend_command(alloc)?;
+    program.subcommand(attend)
 }

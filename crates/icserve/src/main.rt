@@ -4,11 +4,13 @@
 use ic_desk::Book;
 use ic_disk::{DiskFault, FileDisk};
 use ic_endings::Failure;
+use ic_jobs::Command;
+use ic_scripts::{ScriptsFault, add_script, attend_scripts};
 use ic_serving::{ServeFault, serve_lines};
 use ic_streams::{StreamFault, once_stream, settle_stream};
 use ic_words::{Task, WordsFault, read_words};
 use std::env;
-use std::fs::File;
+use std::fs::{self, File};
 use std::io::{self, BufWriter, ErrorKind, Write};
 use std::process::ExitCode;
 use std::sync::Wait;
@@ -25,8 +27,8 @@ fn main(rt: HostRuntime) -> ExitCode {
 }
 
 /// Does what the words after the program's name ask for, on standard input and output but for
-/// `create`.
-fn run<T: Threads + Wait>(rt: &HostRuntime, threads: &T) -> Result<(), Failure> {
+/// `create`, and but for the input of `attend`.
+fn run<T: Threads + Wait + Sync>(rt: &HostRuntime, threads: &T) -> Result<(), Failure> {
     let mut input = rt.reader();
     let mut output = io::writer(rt);
     match task(rt).map_err(Failure::Words)? {
@@ -42,6 +44,18 @@ fn run<T: Threads + Wait>(rt: &HostRuntime, threads: &T) -> Result<(), Failure> 
         } => {
             let book = open(rt, disk.as_str())?;
             serve(rt, threads, book, workers, every).map_err(Failure::Serve)
+        }
+        Task::Attend {
+            disk,
+            runners,
+            turns,
+            workers,
+            scripts,
+        } => {
+            let scripts = read_scripts(rt, &scripts).map_err(Failure::Attend)?;
+            let disk = open_disk(rt, disk.as_str(), false)?;
+            let numbers = [runners, turns, workers];
+            give(rt, threads, disk, scripts, numbers).map_err(Failure::Attend)
         }
         Task::Help(text) | Task::Version(text) => {
             show(&mut output, text.as_str()).map_err(Failure::Stream)
@@ -123,6 +137,52 @@ fn serve<T: Threads + Wait>(
     let flushed = output.flush().map_err(|_| ServeFault::Write);
     book.close();
     served.and(flushed)
+}
+
+/// Reads the scripts in the files of these paths, in their order.
+fn read_scripts(rt: &HostRuntime, paths: &[String]) -> Result<Vec<Vec<Command>>, ScriptsFault> {
+    let mut scripts = Vec::new(rt.alloc());
+    for path in paths {
+        let text = read_file(rt, path.as_str())?;
+        add_script(rt.alloc(), &text, &mut scripts)?;
+    }
+    Ok(scripts)
+}
+
+/// The bytes of the file of this path.
+fn read_file(rt: &HostRuntime, path: &str) -> Result<Vec<u8>, ScriptsFault> {
+    match fs::read(rt, path) {
+        Ok(text) => Ok(text),
+        Err(error) if error.kind() == ErrorKind::OutOfMemory => Err(ScriptsFault::Memory),
+        Err(_) => Err(ScriptsFault::Read),
+    }
+}
+
+/// Gives the scripts to the disk, with so many runners, turns and workers, and writes what their
+/// clients were answered.
+fn give<T: Threads + Wait + Sync>(
+    rt: &HostRuntime,
+    threads: &T,
+    disk: FileDisk,
+    scripts: Vec<Vec<Command>>,
+    numbers: [u32; 3],
+) -> Result<(), ScriptsFault> {
+    let [runners, turns, workers] = numbers;
+    let Ok(mut output) = BufWriter::with_capacity(rt.alloc(), ANSWERS, io::writer(rt)) else {
+        return Err(ScriptsFault::Memory);
+    };
+    let given = attend_scripts(
+        threads,
+        rt.alloc(),
+        disk,
+        scripts,
+        runners as usize,
+        turns as usize,
+        workers as usize,
+        &mut output,
+    );
+    let flushed = output.flush().map_err(|_| ScriptsFault::Write);
+    given.and(flushed)
 }
 
 /// Writes a text.

@@ -1,4 +1,4 @@
-use Rattle.std.proofs.Common.{◌≡◌, ⊎_elim}
+use Rattle.std.proofs.Common.{⊎_elim}
 use Rattle.ic_words.proofs.laws.answers_go_by_mistakes.Goals as goal
 
 pub returns-clause-taken : goal.returns-clause-taken

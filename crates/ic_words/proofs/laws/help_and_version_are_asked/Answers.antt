@@ -30,6 +30,10 @@ pub returns-clause-short_serve : goal.returns-clause-short_serve
 unfolding clap_on_literals
 returns-clause-short_serve c = refl
 
+pub returns-clause-attend : goal.returns-clause-attend
+unfolding clap_on_literals
+returns-clause-attend c = refl
+
 pub returns-clause-version : goal.returns-clause-version
 unfolding clap_on_literals
 returns-clause-version c = refl

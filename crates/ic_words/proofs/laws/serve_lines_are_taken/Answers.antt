@@ -1,4 +1,4 @@
-use Rattle.std.proofs.Common.{◌≡◌, ◌∙◌, ℕ, List, subst}
+use Rattle.std.proofs.Common.{◌∙◌, ℕ, List, subst}
 use Rattle.ic_words.specs.Words.{IsDecimal}
 use Rattle.ic_words.proofs.TakenLines.{serve_taken}
 use Rattle.ic_words.proofs.laws.serve_lines_are_taken.Goals as goal

@@ -1,9 +1,13 @@
 use Rattle.std.proofs.Common.{◌≡◌, ◌∙◌, sym, ap, codes, map, Some, rules}
 use Rattle.std.specs.Prelude.{string_bytes}
+use Rattle.clap.specs.Words.{subcommand_rows_of}
 use Rattle.ic_words.specs.Words.{value_met}
-use Rattle.ic_words.proofs.WordsLaws.{create_named, serve_named, rows_met, settle_or_create, once_or_create, settle_or_serve, once_or_serve, begins_otherwise, mistake_made, none_made, taken_alone, settle_taken, once_taken, help_asked, version_asked, asked_alone, asked_not_taken, command_met, settle_named, once_named, none_other, no_other_alone}
+use Rattle.ic_words.proofs.WordsLaws.{attend_named, create_named, serve_named, rows_met, settle_or_attend, once_or_attend, settle_or_create, once_or_create, settle_or_serve, once_or_serve, begins_otherwise, mistake_made, none_made, taken_alone, settle_taken, once_taken, help_asked, version_asked, asked_alone, asked_not_taken, command_met, settle_named, once_named, none_other, no_other_alone}
 use Rattle.ic_words.proofs.words.read_words.Goals.{in_default-via-in-Some+in_default, in_default-via-in_default}
-use Rattle.ic_words.proofs.ServeNumbers.{number_named, serve_numbers}
+use Rattle.ic_words.proofs.AttendNumbers.{attend_numbers}
+use Rattle.ic_words.proofs.AttendTask.{attends, asks_apart}
+use Rattle.ic_words.proofs.ServeNumbers.{serve_numbers}
+use Rattle.ic_words.proofs.Spelt.{number_named}
 use Rattle.ic_words.proofs.words.read_words.Goals as goal
 
 pub returns-in-Some-settle-clause-answers : goal.returns-in-Some-settle-clause-answers
@@ -72,11 +76,29 @@ returns-in-Some-serve c =
       named = (
         begins,
         text ∙ c.value_of-in-Some-serve.ensures ∙ ap (value_met (codes "disk")) rows,
-        number_named _ _ _ words _ spelt.0 rows c.number_of-workers.ensures.value,
-        number_named _ _ _ words _ spelt.1 rows c.number_of-every.ensures.value,
+        number_named _ _ _ _ words _ spelt.0 rows c.number_of-workers.ensures.value,
+        number_named _ _ _ _ words _ spelt.1 rows c.number_of-every.ensures.value,
       );
       settle = λ is. absurd (settle_or_serve (ap Some (sym (begins_otherwise _ _ _ begins is))));
       once = λ is. absurd (once_or_serve (ap Some (sym (begins_otherwise _ _ _ begins is))));
+      help = λ is. absurd (asked_not_taken _ _ _ help_asked is none);
+      version = λ is. absurd (asked_not_taken _ _ _ version_asked is none);
+    }
+
+pub returns-in-Some-attend : goal.returns-in-Some-attend
+returns-in-Some-attend c =
+    let none = none_made _ _ c.in_ok-command.ensures c.in-Ok.ensures.kinds in
+    let met = command_met _ _ c.in-Ok.matches c.in_ok-command.ensures c.in-Ok.ensures.kinds c.in-Ok.ensures.matches in
+    let begins = attend_named _ _ _ c.in-Some-attend.field-0 met c.subcommand_name.ensures c.in-Some-attend.is c.in-Some-attend.is-attend in
+    let rows = rows_met _ _ c.in-Ok.matches c.in_ok-command.ensures c.in-Ok.ensures.matches in
+    let words = map string_bytes c.args.words.now in
+    let task = c.in_ok-attend_task-in-Some-attend.field-0 in
+    let asks = c.in_ok-attend_task-in-Some-attend.ensures in
+    record {
+      answers = asks_apart (subcommand_rows_of c.in-Ok.matches) task _ asks none;
+      named = attends words _ task begins (attend_numbers words none begins) rows asks;
+      settle = λ is. absurd (settle_or_attend (ap Some (sym (begins_otherwise _ _ _ begins is))));
+      once = λ is. absurd (once_or_attend (ap Some (sym (begins_otherwise _ _ _ begins is))));
       help = λ is. absurd (asked_not_taken _ _ _ help_asked is none);
       version = λ is. absurd (asked_not_taken _ _ _ version_asked is none);
     }
@@ -87,7 +109,7 @@ unreachable-requires c =
     let name = c.subcommand_name.result in
     elim c.in_default.branch [
       | in_default-via-in-Some+in_default w ↦ none_other _ _ name met c.subcommand_name.ensures
-          (λ x is. (λ e. w.in_default.not-settle cc, λ e. w.in_default.not-once cc, λ e. w.in_default.not-create cc, λ e. w.in_default.not-serve cc))
+          (λ x is. (λ e. w.in_default.not-settle cc, λ e. w.in_default.not-once cc, λ e. w.in_default.not-create cc, λ e. w.in_default.not-serve cc, λ e. w.in_default.not-attend cc))
       | in_default-via-in_default w ↦ none_other _ _ name met c.subcommand_name.ensures (λ x is. cc)
     ]
 
