@@ -26,6 +26,7 @@
 #include <string.h>
 #include <sys/file.h>
 #include <sys/stat.h>
+#include <sys/uio.h>
 #include <unistd.h>
 
 extern void *__libc_malloc(size_t), *__libc_calloc(size_t, size_t), *__libc_realloc(void *, size_t);
@@ -51,10 +52,8 @@ __attribute__((constructor)) static void begin(void) {
 static void note(char kind, long at, long length, const void *bytes) {
     char line[64];
     int saved = errno, size = snprintf(line, sizeof line, "%c %ld %ld\n", kind, at, length);
-    if (log_fd >= 0) {
-        (void)!NEXT(write)(log_fd, line, size);
-        if (bytes && length > 0) (void)!NEXT(write)(log_fd, bytes, length);
-    }
+    struct iovec parts[2] = {{line, size}, {(void *)bytes, bytes ? length : 0}};
+    if (log_fd >= 0) (void)!writev(log_fd, parts, 2);
     errno = saved;
 }
 
