@@ -166,7 +166,7 @@ class DrawnServing(ModelTrial):
 
     def test_a_million_lines(self):
         lines = b"list\n" + b"\n" * 499_998 + b"x\n" * 3 + b"\t\n" * 499_997 + b"list\n"
-        for more in (b"", b"list\n", b"list", b"\n"):
+        for more in (b"", b"list\n", b"list", b"\n", b" " * (model.MAX_TEXT + 1)):
             self.serve(self.new_disk(), lines + more)
 
     def test_many_answers_at_once(self):

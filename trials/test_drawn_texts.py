@@ -143,7 +143,8 @@ class DrawnTexts(ModelTrial):
         drawn = self.draws()
         for length in (262_143, 262_144, 262_145, 262_146):
             line = draws.padded(drawn, "submit a {A(x)><B(x)}<z|A(x)=B(y),x=y>", length)
-            for lines in (f"list\n{line}\nlist\n", f"list\n{line}", f"{line[:length - 1]}\r\nfetch a"):
+            blank = " " * length
+            for lines in (f"list\n{line}\nlist\n", f"list\n{line}", f"{line[:length - 1]}\r\nfetch a", f"{blank}\nlist"):
                 self.serve(self.new_disk(), lines.encode())
             self.streamed("settle", draws.padded(drawn, "<r|r=S(s),s=Z>", length).encode())
             self.streamed("once", draws.padded(drawn, "{A(x)><B(x)}<z|A(x)=B(y),x=y>", length).encode())
