@@ -147,7 +147,7 @@ class DrawnDisks(ModelTrial):
         self.lay(disk)
         return self.serve(disk, lines, *words, every=every)
 
-    def changed(self, content, places, drawn, count):
+    def changed(self, content, places, drawn, count, lines=QUESTIONS):
         """The disk with one byte changed, at each of these places to so many others, near ones among them."""
         for at in places:
             now = content[at]
@@ -157,7 +157,7 @@ class DrawnDisks(ModelTrial):
                 disk = Disk(content)
                 disk.content[at] = value
                 self.lay(disk)
-                self.serve(disk, QUESTIONS)
+                self.serve(disk, lines)
 
     def test_what_create_leaves(self):
         drawn = self.draws()
@@ -187,6 +187,14 @@ class DrawnDisks(ModelTrial):
         disk = self.kept(TWO)
         self.changed(bytes(disk.content), range(SECOND_SLOT, len(disk.content)), self.draws(), 4)
 
+    def test_one_byte_of_a_disk_of_one_slot_changed(self):
+        drawn = self.draws()
+        for lines in ([TWO], [TWO, "run 10"]):
+            table = self.kept(*lines).open()
+            whole = Disk()
+            whole.put_slot(0, 1, model_disk.encode(table))
+            self.changed(bytes(whole.content), range(len(whole.content)), drawn, 9, ["list", "fetch two"])
+
     def test_one_byte_of_a_done_table_changed(self):
         disk = self.kept(TWO, "run 10")
         self.changed(bytes(disk.content), range(119), self.draws(), 3)
@@ -194,16 +202,16 @@ class DrawnDisks(ModelTrial):
     def test_each_value_of_some_bytes(self):
         drawn = self.draws()
         disk = self.kept(TWO)
-        self.changed(bytes(disk.content), [0, 8, SECOND_SLOT, SECOND_SLOT + 8], drawn, 60)
+        self.changed(bytes(disk.content), [0, 8, SECOND_SLOT, SECOND_SLOT + 8], drawn, 25)
         body = range(SECOND_SLOT + HEAD, len(disk.content))
-        self.changed(bytes(disk.content), [SECOND_SLOT + 12, drawn.choice(body)], drawn, 255)
+        self.changed(bytes(disk.content), [SECOND_SLOT + 12, drawn.choice(body)], drawn, 100)
 
     def test_each_front_of_a_table(self):
         for lines in ([TWO], [TWO, "run 10"], [TWO, "pause two", f"submit loop {LOOP}<|A(x)=B(x)>"]):
             disk = self.kept(*lines)
             form = model_disk.encode(disk.open())
             for length in range(len(form) + 1):
-                disk = Disk(bytes(SECOND_SLOT + HEAD))
+                disk = Disk()
                 disk.put_slot(0, 1, form[:length])
                 self.opened(disk.content)
 
@@ -280,7 +288,7 @@ class DrawnDisks(ModelTrial):
 
     def test_spoilt_tables(self):
         drawn = self.draws()
-        for _ in range(700):
+        for _ in range(1_000):
             form = bytearray(model_disk.encode(table(drawn, drawn.choice([1, 1, 2, 4]))))
             how, at = drawn.randrange(6), drawn.randrange(len(form))
             if how < 3:
@@ -292,17 +300,17 @@ class DrawnDisks(ModelTrial):
             else:
                 other = drawn.randrange(len(form))
                 form[at], form[other] = form[other], form[at]
-            disk = Disk(bytes(SECOND_SLOT + HEAD))
+            disk = Disk(drawn.choice([b"", b"", b"", bytes(SECOND_SLOT + HEAD)]))
             disk.put_slot(0, 1, bytes(form))
             self.opened(disk.content, ["list", "run 1", "list"])
 
     def test_values_that_are_no_table(self):
         drawn = self.draws()
-        for _ in range(600):
+        for _ in range(1_000):
             jobs = table(drawn, drawn.choice([1, 2, 4]), least=1, sizes=(1, 2, 3))
             for _ in range(drawn.choice([1, 1, 2])):
                 unsound(drawn, jobs)
-            disk = Disk(bytes(SECOND_SLOT + HEAD))
+            disk = Disk(drawn.choice([b"", b"", b"", bytes(SECOND_SLOT + HEAD)]))
             disk.put_slot(0, 1, model_disk.encode(jobs))
             self.opened(disk.content, ["list", "run 1", "list"])
 
