@@ -5,3 +5,4 @@ pub mod Answered
 pub mod Counting
 pub mod Interactions
 pub mod Greatest
+pub mod OneAnswer

@@ -1,6 +1,6 @@
 //! Laws of the definitions that the contracts of this crate cite.
 
-ghost use Rattle.std.specs.Prelude.{◌≡◌, ◌↔◌, ◌⊎◌, ℕ, ◌+◌, ◌≤◌, ◌==◌, ◌∷◌, IsTrue, List, None, Some, false, length, sum_by};
+ghost use Rattle.std.specs.Prelude.{◌≡◌, ◌↔◌, ◌⊎◌, ℕ, ◌+◌, ◌≤◌, ◌==◌, ◌∷◌, IsTrue, List, None, Some, Ok, Err, false, length, sum_by};
 ghost use Rattle.std.specs.List.{AllByRecursion, find, list_any};
 ghost use Rattle.ic_term.specs.Tree.{Pair};
 ghost use Rattle.ic_term.specs.Configuration.{Configuration};
@@ -12,10 +12,16 @@ ghost use Rattle.ic_round.specs.Steps.{Steps};
 ghost use Rattle.ic_round.specs.declared.round_fault.RoundFault.{RoundFault};
 ghost use Rattle.ic_looks.specs.Interacting.{interactions_of};
 ghost use Rattle.ic_looks.specs.Pictures.{greatest};
+ghost use Rattle.ic_looks.specs.Reductions.{Reduces};
 ghost use Rattle.ic_looks.specs.Reducing.{IsReducedBy, IsRefusedAfter};
 ghost use Rattle.ic_looks.specs.Stuck.{is_of_agents, stuck_text};
+ghost use Rattle.ic_looks.specs.Traces.{Traces};
 ghost use Rattle.ic_looks.specs.Tracing.{active_count, rows_of};
 ghost use Rattle.ic_looks.specs.declared.row.Row.{Row};
+ghost use Rattle.ic_looks.specs.declared.sums.Format.{Format};
+ghost use Rattle.ic_streams.specs.declared.fault.StreamFault.{StreamFault};
+
+use ic_text::laws::one_system_reading;
 
 /// Where no step is possible, rounds change nothing. So what is reached by reducing is what all the
 /// rounds that may be made would reach.
@@ -93,3 +99,17 @@ pub fn the_greatest_is_of_a_row()
     ensures reached { (number : Row → ℕ) (row : Row) (rows : List Row)
         → IsTrue (list_any (λ it. number it == greatest number (row ∷ rows)) (row ∷ rows)) }
 {}
+
+/// Each text has one answer at most: one line, or one refusal and no line; and one table and one picture.
+pub fn each_text_has_one_answer()
+    ensures reduced { (most : ℕ) (text a b : List ℕ)
+        → Reduces most text (Ok a) → Reduces most text (Ok b) → a ≡ b }
+    ensures refused { (most : ℕ) (text : List ℕ) (e f : StreamFault)
+        → Reduces most text (Err e) → Reduces most text (Err f) → e ≡ f }
+    ensures not_both { (most : ℕ) (text line : List ℕ) (fault : StreamFault)
+        → Reduces most text (Ok line) → ¬ Reduces most text (Err fault) }
+    ensures traced { (most : ℕ) (format : Format) (text a b : List ℕ)
+        → Traces most format text (Ok a) → Traces most format text (Ok b) → a ≡ b }
+{
+    one_system_reading();
+}
