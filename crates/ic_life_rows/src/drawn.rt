@@ -67,17 +67,20 @@ fn drawn_call(draws: &mut Draws) -> Move {
 /// The next move: an opening, a call, a closing, or a stop, which comes between two moves, or in the midst of the one that
 /// has failed. A server whose disk has failed mostly ends.
 fn drawn_move(draws: &mut Draws, server: &Server<'_>) -> Move {
+    if server.is_down() {
+        return match draws.below(5) {
+            0 => drawn_crash(draws),
+            _ => drawn_opening(draws),
+        };
+    }
     let turns = if server.is_broken() { 2 } else { 12 };
-    if server.is_down() && draws.below(5) > 0 {
-        return drawn_opening(draws);
+    if draws.below(turns) > 0 {
+        return drawn_call(draws);
     }
-    if server.is_down() || draws.below(turns) == 0 {
-        return drawn_crash(draws);
+    match draws.below(3) {
+        0 => Move::Close,
+        _ => drawn_crash(draws),
     }
-    if draws.below(24) == 0 {
-        return Move::Close;
-    }
-    drawn_call(draws)
 }
 
 /// One run from a disk on which `create` has answered.

@@ -14,14 +14,14 @@ pub struct Known {
     state: State,
 }
 
-/// All that has come but for what openings didn't find: the jobs after each number of entries, and how many entries were
-/// kept when a command or a keep was last answered.
+/// All that has come but for what openings didn't find: the jobs after each number of entries, and how many entries last,
+/// which are those up to the last answered command, keep or opening.
 #[derive(Drop)]
 pub struct Past<'a> {
     alloc: Global,
     origins: &'a [Origin],
     tables: Vec<Vec<Known>>,
-    kept: usize,
+    lasting: usize,
 }
 
 impl<'a> Past<'a> {
@@ -33,7 +33,7 @@ impl<'a> Past<'a> {
             alloc,
             origins,
             tables,
-            kept: 0,
+            lasting: 0,
         })
     }
 
@@ -42,9 +42,9 @@ impl<'a> Past<'a> {
         self.tables.len().saturating_sub(1)
     }
 
-    /// How many of them have to be found.
-    pub fn count_kept(&self) -> usize {
-        self.kept
+    /// How many of them last.
+    pub fn lasting(&self) -> usize {
+        self.lasting
     }
 
     /// The jobs after all that has come.
@@ -201,9 +201,9 @@ impl<'a> Past<'a> {
         Ok(self.tables.push(jobs)?)
     }
 
-    /// All that has come is kept.
+    /// All that has come lasts.
     pub fn keep(&mut self) {
-        self.kept = self.entries();
+        self.lasting = self.entries();
     }
 
     /// Whether a table has these jobs and no other.
@@ -224,23 +224,24 @@ impl<'a> Past<'a> {
         self.is_table(self.jobs(), table)
     }
 
-    /// The shortest prefix of which this is the table, of those that have all that was kept.
+    /// The shortest prefix of which this is the table, of those that have all that lasts.
     fn prefix_of(&self, found: &Table) -> Result<usize, Trouble> {
-        for count in self.kept..self.tables.len() {
+        for count in self.lasting..self.tables.len() {
             if let Some(jobs) = self.tables.get(count)
                 && self.is_table(jobs, found)?
             {
                 return Ok(count);
             }
         }
-        Err(Trouble("the table of no prefix that has all that was kept"))
+        Err(Trouble("the table of no prefix that has all that lasts"))
     }
 
-    /// An opening has found this table: what has come is the prefix of which it is the table. Answers how many entries that
-    /// has.
+    /// An opening has found this table: what has come is the prefix of which it is the table, and lasts. Answers how many
+    /// entries that has.
     pub fn cut(&mut self, found: &Table) -> Result<usize, Trouble> {
         let count = self.prefix_of(found)?;
         self.tables.truncate(count.saturating_add(1));
+        self.lasting = count;
         Ok(count)
     }
 }

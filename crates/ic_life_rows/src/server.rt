@@ -21,7 +21,7 @@ pub struct Seen {
     pub openings: u32,
     /// Openings that didn't find all that had come.
     pub cuts: u32,
-    /// Openings that found more than was answered for.
+    /// Openings that found more than what lasted before.
     pub more: u32,
     /// Openings that were refused, since a call failed.
     pub refused: u32,
@@ -176,14 +176,14 @@ impl<'a> Server<'a> {
     /// Compares what an opening has found: so many entries of so many.
     fn find(&mut self, book: Book<FuseDisk>) -> Result<Vec<u8>, Trouble> {
         let all = self.past.entries();
-        let kept = self.past.count_kept();
+        let lasting = self.past.lasting();
         let count = self.past.cut(book.table())?;
         self.book = Some(book);
         self.seen.openings = self.seen.openings.saturating_add(1);
         if count < all {
             self.seen.cuts = self.seen.cuts.saturating_add(1);
         }
-        if count > kept {
+        if count > lasting {
             self.seen.more = self.seen.more.saturating_add(1);
         }
         Ok(format!(in self.alloc; "found {count} of {all}")?.into_bytes())
