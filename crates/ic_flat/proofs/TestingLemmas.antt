@@ -8,9 +8,8 @@ use Rattle.ic_term.specs.declared.limits.TheConstants.{MAX_NODES, MAX_INTERFACE,
 use Rattle.ic_term.specs.Configuration.{Configuration, configuration_nodes, configuration_names, is_within, unless_third, third_occurrence, restored, one_above, names_in, configured}
 use Rattle.ic_term.specs.Tree.{Tree, Pair}
 use Rattle.ic_flat.specs.declared.word.Word.{Word}
-use Rattle.ic_flat.specs.Words.{forest}
+use Rattle.ic_flat.specs.Words.{forest, word_names}
 use Rattle.ic_flat.specs.Flat.{configuration_of}
-use Rattle.ic_flat.specs.lemmas.WordTests.{word_names}
 use Rattle.ic_flat.specs.lemmas.FlatLaws.{nodes-configuration_of, length-interface, names-configuration_of}
 
 record Within (c : Configuration) : Type 0 where

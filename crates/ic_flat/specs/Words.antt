@@ -1,5 +1,6 @@
-use Rattle.std.specs.Prelude.{ℕ, ◌≤◌, ◌==◌, List, [], ◌∷◌, ◌++◌, Bool, false, ◌&&◌, length, take, drop}
+use Rattle.std.specs.Prelude.{ℕ, ◌≤◌, ◌==◌, List, [], ◌∷◌, ◌++◌, Bool, true, false, ◌&&◌, length, take, drop, slice_get}
 use Rattle.ic_term.specs.Tree.{Tree, name, agent, Trees, no_trees, more_trees, list_of, trees_of}
+use Rattle.ic_term.specs.Symbol.{Symbol, has_arity}
 use Rattle.ic_flat.specs.declared.word.Word.{Word}
 use Rattle.ic_flat.specs.declared.word.Word.TheVariants.{Name, Agent}
 
@@ -33,6 +34,16 @@ abbrev mutual
   pub trees_words : Trees → List Word
   trees_words no_trees = []
   trees_words (more_trees t ts) = tree_words t ++ trees_words ts
+
+-- the name that a word is, if it is one
+abbrev pub word_names : Word → List ℕ
+word_names (Name n) = n ∷ []
+word_names (Agent s arity) = []
+
+-- whether the symbol of an agent is known, with as many arguments as its arity
+abbrev pub is_word_over : List Symbol → Word → Bool
+is_word_over ss (Name n) = true
+is_word_over ss (Agent s arity) = has_arity arity (slice_get ss s)
 
 -- whether two words are the same
 abbrev pub word_eq : Word → Word → Bool

@@ -3,7 +3,7 @@
 ghost use Rattle.std.specs.Prelude.{◌≡◌};
 ghost use Rattle.std.specs.List.{list_all};
 ghost use Rattle.ic_term.specs.Symbol.{is_over};
-ghost use Rattle.ic_flat.specs.lemmas.WordTests.{is_word_over};
+ghost use Rattle.ic_flat.specs.Words.{is_word_over};
 
 use crate::flat::Flat;
 use crate::word::Word;

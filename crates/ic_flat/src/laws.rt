@@ -1,11 +1,12 @@
 //! Laws of the definitions that the contracts of this crate cite.
 
 ghost use Rattle.std.specs.Prelude.{◌≡◌, ℕ, ◌+◌, ◌*◌, List, ◌∷◌, ◌++◌, length, drop, sum_by};
-ghost use Rattle.std.specs.List.{flat_map};
+ghost use Rattle.std.specs.List.{flat_map, list_all};
 ghost use Rattle.ic_term.specs.Tree.{Tree, nodes};
-ghost use Rattle.ic_term.specs.Configuration.{Configuration};
+ghost use Rattle.ic_term.specs.Configuration.{Configuration, configuration_names, configuration_nodes};
+ghost use Rattle.ic_term.specs.Symbol.{Symbol, is_over};
 ghost use Rattle.ic_flat.specs.declared.word.Word.{Word};
-ghost use Rattle.ic_flat.specs.Words.{forest, IsWhole, tree_words};
+ghost use Rattle.ic_flat.specs.Words.{forest, IsWhole, tree_words, word_names, is_word_over};
 ghost use Rattle.ic_flat.specs.Flat.{configuration_of, configuration_words};
 
 /// The words of terms write exactly these terms, and whole words are those of the terms that they write. So whole words
@@ -34,4 +35,15 @@ pub fn each_configuration_has_its_words()
     ensures only { (c : Configuration) (ws : List Word) → IsWhole ws
         → length (forest ws) ≡ length c.interface + 2 * length c.equations
         → configuration_of ws (length c.interface) c.next ≡ c → ws ≡ configuration_words c }
+{}
+
+/// The words of a configuration have its names, in the order of the text, and are as many as its nodes. The configuration
+/// is over symbols where each of its words is.
+pub fn words_say_what_their_configuration_says()
+    ensures names { (c : Configuration)
+        → flat_map word_names (configuration_words c) ≡ configuration_names c }
+    ensures nodes { (c : Configuration)
+        → length (configuration_words c) ≡ configuration_nodes c }
+    ensures over { (ss : List Symbol) (c : Configuration)
+        → list_all (is_word_over ss) (configuration_words c) ≡ is_over ss c }
 {}

@@ -3,9 +3,8 @@
 ghost use Rattle.std.specs.Prelude.{◌≡◌, ◌+◌, ◌*◌, length, min, nat_lt, IfOk};
 ghost use Rattle.std.specs.List.{flat_map, list_all};
 ghost use Rattle.ic_term.specs.Configuration.{one_above};
-ghost use Rattle.ic_flat.specs.Words.{forest};
+ghost use Rattle.ic_flat.specs.Words.{forest, word_names};
 ghost use Rattle.ic_flat.specs.Flat.{configuration_of};
-ghost use Rattle.ic_flat.specs.lemmas.WordTests.{word_names};
 ghost use Rattle.ic_flat.specs.inner.Testing.{Tests};
 
 use crate::word::Word;

@@ -15,10 +15,10 @@ use Rattle.ic_term.specs.Symbol.{Symbol, is_tree_over, is_pair_over, is_over}
 use Rattle.ic_term.specs.Configuration.{Configuration, IsConfiguration, configuration_nodes, configuration_names, configuration_eq}
 use Rattle.ic_term.specs.lemmas.ConfigurationEq.{configuration_eq-Decides}
 use Rattle.ic_flat.specs.declared.word.Word.{Word}
-use Rattle.ic_flat.specs.Words.{forest, IsWhole, tree_words, word_eq}
+use Rattle.ic_flat.specs.Words.{forest, IsWhole, tree_words, word_eq, word_names, is_word_over}
 use Rattle.ic_flat.specs.Flat.{pairs_of, sides, configuration_of, configuration_words, IsFlat}
 use Rattle.ic_flat.specs.lemmas.WordLaws.{forest-words, whole-words, words-forest, nodes-forest}
-use Rattle.ic_flat.specs.lemmas.WordTests.{word_names, names-forest, is_word_over, over-forest, word_eq-Decides}
+use Rattle.ic_flat.specs.lemmas.WordTests.{names-forest, over-forest, word_eq-Decides}
 
 -- ---- sides and equations
 
@@ -125,6 +125,14 @@ IsFlat-configuration_words c sound = record {
   counted = counted-configuration_words c;
   sound = rw (configuration_of-words c) sound;
 }
+
+-- the names of a configuration are those among its words, in the order of the text
+pub names-words : (c : Configuration) → flat_map word_names (configuration_words c) ≡ configuration_names c
+names-words c = sym (names-forest (configuration_words c)) ∙ ap (flat_map names) (forest-configuration_words c) ∙ names-all_terms c
+
+-- each word is a node
+pub nodes-words : (c : Configuration) → length (configuration_words c) ≡ configuration_nodes c
+nodes-words c = sym (nodes-forest (configuration_words c)) ∙ ap (sum_by nodes) (forest-configuration_words c) ∙ nodes-all_terms c
 
 -- a configuration is over symbols where its words are
 pub over-words : (ss : List Symbol) (c : Configuration) → list_all (is_word_over ss) (configuration_words c) ≡ is_over ss c

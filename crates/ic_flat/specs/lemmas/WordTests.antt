@@ -13,14 +13,9 @@ use Rattle.ic_term.specs.Symbol.{Symbol, has_arity, is_tree_over, are_trees_over
 use Rattle.ic_term.specs.lemmas.TreeLaws.{list_of-trees_of}
 use Rattle.ic_flat.specs.declared.word.Word.{Word}
 use Rattle.ic_flat.specs.declared.word.Word.TheVariants.{Name, Agent}
-use Rattle.ic_flat.specs.Words.{forest, IsWhole, word_eq}
+use Rattle.ic_flat.specs.Words.{forest, IsWhole, word_eq, word_names, is_word_over}
 
 -- ---- names
-
--- the name that a word is, if it is one
-abbrev pub word_names : Word → List ℕ
-word_names (Name n) = n ∷ []
-word_names (Agent s arity) = []
 
 names_of-trees_of : (ts : List Tree) → names_of (trees_of ts) ≡ flat_map names ts
 names_of-trees_of [] = refl
@@ -39,11 +34,6 @@ names-forest (Agent s arity ∷ ws) =
     ∙ names-forest ws
 
 -- ---- symbols
-
--- whether the symbol of an agent is known, with as many arguments as its arity
-abbrev pub is_word_over : List Symbol → Word → Bool
-is_word_over ss (Name n) = true
-is_word_over ss (Agent s arity) = has_arity arity (slice_get ss s)
 
 are_trees_over-trees_of : (ss : List Symbol) (ts : List Tree) → are_trees_over ss (trees_of ts) ≡ list_all (is_tree_over ss) ts
 are_trees_over-trees_of ss [] = refl

@@ -1,6 +1,6 @@
 use Rattle.std.proofs.Common.{ap, ◌∙◌}
 use Rattle.std.specs.List.{list_all}
-use Rattle.ic_flat.specs.lemmas.WordTests.{is_word_over}
+use Rattle.ic_flat.specs.Words.{is_word_over}
 use Rattle.ic_flat.specs.lemmas.FlatLaws.{over-words}
 use Rattle.ic_flat.proofs.arities.over.Goals as goal
 

@@ -1,6 +1,6 @@
 use Rattle.std.proofs.Common.{◌≡◌, drop}
 use Rattle.std.specs.List.{list_all}
-use Rattle.ic_flat.specs.lemmas.WordTests.{is_word_over}
+use Rattle.ic_flat.specs.Words.{is_word_over}
 use Rattle.ic_flat.proofs.arities.words_over.Given as goal
 
 -- the answer is that of those left

@@ -1,6 +1,6 @@
 use Rattle.std.proofs.Common.{◌≡◌, ◌++◌, drop}
 use Rattle.std.specs.List.{flat_map}
-use Rattle.ic_flat.specs.lemmas.WordTests.{word_names}
+use Rattle.ic_flat.specs.Words.{word_names}
 use Rattle.ic_flat.proofs.testing.names_of.Given as goal
 
 -- the names so far and those of what is left are those of all

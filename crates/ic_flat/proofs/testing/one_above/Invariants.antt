@@ -1,7 +1,7 @@
 use Rattle.std.proofs.Common.{◌≡◌, ◌-◌, ◌^◌, ◌<◌, min, max, drop}
 use Rattle.std.specs.List.{flat_map}
 use Rattle.ic_term.specs.Configuration.{one_above}
-use Rattle.ic_flat.specs.lemmas.WordTests.{word_names}
+use Rattle.ic_flat.specs.Words.{word_names}
 use Rattle.ic_flat.proofs.testing.one_above.Given as goal
 
 -- one above the greatest so far, and one above the greatest of what is left
