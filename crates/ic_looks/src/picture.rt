@@ -36,7 +36,10 @@ fn put_title(alloc: Global, sums: &Sums, picture: &mut Vec<u8>) -> Result<(), Al
         ..
     } = *sums;
     let text = format!(in alloc;
-        "<svg xmlns='http://www.w3.org/2000/svg' viewBox='0 0 800 450' font-family='sans-serif'>\n<rect width='800' height='450' fill='white'/>\n<text x='400' y='24' text-anchor='middle'>{rounds} rounds, {interactions} interactions, at most {greatest} and on average {whole}.{tenth} in a round</text>\n"
+        "<svg xmlns='http://www.w3.org/2000/svg' viewBox='0 0 800 450' font-family='sans-serif'>\n\
+         <rect width='800' height='450' fill='white'/>\n\
+         <text x='400' y='24' text-anchor='middle'>{rounds} rounds, {interactions} \
+         interactions, at most {greatest} and on average {whole}.{tenth} in a round</text>\n"
     )?;
     picture.extend_from_slice(text.as_bytes())?;
     Ok(())
@@ -48,7 +51,9 @@ fn put_top(alloc: Global, sums: &Sums, picture: &mut Vec<u8>) -> Result<(), Allo
 {
     let Sums { width, bars, .. } = *sums;
     let text = format!(in alloc;
-        "<svg x='80' y='50' width='640' height='350' preserveAspectRatio='none' viewBox='0.95 0 {width} {bars}'>\n<g fill='#aaa' transform='matrix(1 0 0 -1 0 {bars})'>\n"
+        "<svg x='80' y='50' width='640' height='350' preserveAspectRatio='none' \
+         viewBox='0.95 0 {width} {bars}'>\n\
+         <g fill='#aaa' transform='matrix(1 0 0 -1 0 {bars})'>\n"
     )?;
     picture.extend_from_slice(text.as_bytes())?;
     Ok(())
@@ -81,7 +86,12 @@ fn put_middle(alloc: Global, sums: &Sums, picture: &mut Vec<u8>) -> Result<(), A
 {
     let Sums { width, line, .. } = *sums;
     let text = format!(in alloc;
-        "</g></svg>\n<svg x='80' y='50' width='640' height='350' preserveAspectRatio='none' viewBox='0.5 0 {width} {line}'>\n<g transform='matrix(1 0 0 -1 0 {line})'>\n<polyline fill='none' stroke='black' stroke-width='2' vector-effect='non-scaling-stroke' points='\n"
+        "</g></svg>\n\
+         <svg x='80' y='50' width='640' height='350' preserveAspectRatio='none' \
+         viewBox='0.5 0 {width} {line}'>\n\
+         <g transform='matrix(1 0 0 -1 0 {line})'>\n\
+         <polyline fill='none' stroke='black' stroke-width='2' \
+         vector-effect='non-scaling-stroke' points='\n"
     )?;
     picture.extend_from_slice(text.as_bytes())?;
     Ok(())
@@ -119,7 +129,18 @@ fn put_bottom(alloc: Global, sums: &Sums, picture: &mut Vec<u8>) -> Result<(), A
         ..
     } = *sums;
     let text = format!(in alloc;
-        "'/></g></svg>\n<path d='M80 50V400H720V50' fill='none' stroke='black'/>\n<text x='80' y='42'>pairs fired (bars)</text>\n<text x='720' y='42' text-anchor='end'>nodes (line)</text>\n<text x='74' y='56' text-anchor='end'>{greatest}</text>\n<text x='74' y='404' text-anchor='end'>0</text>\n<text x='726' y='56'>{nodes}</text>\n<text x='726' y='404'>0</text>\n<text x='80' y='420'>1</text>\n<text x='400' y='440' text-anchor='middle'>round</text>\n<text x='720' y='420' text-anchor='end'>{rounds}</text>\n</svg>\n"
+        "'/></g></svg>\n\
+         <path d='M80 50V400H720V50' fill='none' stroke='black'/>\n\
+         <text x='80' y='42'>pairs fired (bars)</text>\n\
+         <text x='720' y='42' text-anchor='end'>nodes (line)</text>\n\
+         <text x='74' y='56' text-anchor='end'>{greatest}</text>\n\
+         <text x='74' y='404' text-anchor='end'>0</text>\n\
+         <text x='726' y='56'>{nodes}</text>\n\
+         <text x='726' y='404'>0</text>\n\
+         <text x='80' y='420'>1</text>\n\
+         <text x='400' y='440' text-anchor='middle'>round</text>\n\
+         <text x='720' y='420' text-anchor='end'>{rounds}</text>\n\
+         </svg>\n"
     )?;
     picture.extend_from_slice(text.as_bytes())?;
     Ok(())
