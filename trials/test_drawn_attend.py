@@ -127,9 +127,9 @@ class DrawnAttend(ModelTrial):
 
     def test_many_clients_with_runners(self):
         drawn = self.draws()
-        for _ in range(60):
-            count = drawn.choice([1, 2, 3, 8])
-            runners, turns = drawn.choice([0, 1, 2, 4, 8]), drawn.choice([0, 1, 5, 40])
+        for _ in range(120):
+            count = drawn.choice([0, 1, 2, 3, 8, 10])
+            runners, turns = drawn.choice([0, 1, 2, 4, 8, 64]), drawn.choice([0, 1, 5, 40])
             texts = self.scripts(drawn, count, drawn.choice([5, 30, 100]))
             self.new_disk()
             ran = self.attend(texts, "--runners", runners, "--turns", turns, "--workers", drawn.randint(1, 8))
