@@ -84,8 +84,9 @@ pub fn a_stopped_serving_opens_again<D: Disk>(
 
 /// The same in the words of the lines. Where all are answered, the table is both the one that they
 /// lead to and the one after a past of all moves. Whatever file a stop at any moment leaves holds a
-/// table that a front of them reaches, and it is the one after a legal history of the moves that
-/// were cut short, which has every answered command.
+/// table that a front of them reaches, or the one that was kept last where not all was kept before.
+/// It is the one after a legal history of the moves that were cut short, which has every answered
+/// command.
 pub fn lines_are_moves<D: Disk>(old: &Book<D>, new: &Book<D>)
     ensures answered { (moves : List Move) (result : Result (Unit {0}) ServeFault)
         (ls : List (List ℕ)) (before behind : Option (List ℕ))
