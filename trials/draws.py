@@ -43,11 +43,12 @@ class Terms:
         draws = self.draws
         while wanted:
             room = size - len(nodes) - wanted
-            if room <= 0 and draws.random() < 0.7 or draws.random() < self.holes:
+            fitting = self.fitting[max(0, min(room, 15))]
+            if not fitting or room <= 0 and draws.random() < 0.7 or draws.random() < self.holes:
                 nodes.append(HOLE)
                 wanted -= 1
             else:
-                nodes.append(draws.choice(self.fitting[max(0, min(room, 15))]))
+                nodes.append(draws.choice(fitting))
                 wanted += self.arities[~nodes[-1]] - 1
         return nodes
 

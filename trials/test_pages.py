@@ -81,14 +81,22 @@ class Pages(Trial):
                     self.serves(disk, session.read_bytes(), answers, "--workers", workers, "--every", every)
 
     def test_each_text_in_examples_has_the_answer_of_its_row(self):
-        """The answers stand in the file of rows that the gate runs, in rows of the files' names."""
+        """The answers stand in the files of rows that the gate runs, in rows of the files' names: those of `settle` and
+        `once` in ic_rows, those of systems that are reduced in ic_look_rows."""
         rows = (TOP / "crates/ic_rows/stdin").read_text().splitlines()
+        reduced = (TOP / "crates/ic_look_rows/stdin").read_text().splitlines()
         texts = sorted(TOP.glob("examples/*.ic"))
-        self.assertEqual(len(texts), 8)
+        self.assertGreaterEqual(len(texts), 13)
+        tried = 0
         for text in texts:
             word = "once" if text.read_text().startswith("{") else "settle"
             asked = f"{text.name}: {word} {text.read_text()}".replace("\n", "~n")
+            told = f"{text.name}: reduce 1000000 {text.read_text()} => ".replace("\n", "~n")
             with self.subTest(text=text.name):
                 answers = [it[len(asked) + 4 :] for it in rows if it.startswith(f"{asked} => ")]
-                self.assertEqual(len(answers), 1, f"crates/ic_rows/stdin has no row {asked}")
-                self.runs(word, given=text.read_bytes(), out=answers)
+                is_reduced = any(it.startswith(told) for it in reduced)
+                self.assertTrue(answers or is_reduced, f"no file of rows has a row {asked} or {told}")
+                for answer in answers:
+                    self.runs(word, given=text.read_bytes(), out=[answer])
+                    tried += 1
+        self.assertGreaterEqual(tried, 8)
