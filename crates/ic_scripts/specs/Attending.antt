@@ -1,10 +1,10 @@
 -- To be believed: what scripts that are given to a disk come to (this project's choice).
-use Rattle.std.specs.Prelude.{◌≡◌, ◌⊎◌, ℕ, List, [], Option, Result, Ok, Err, IsErrAnd, IsTrue}
+use Rattle.std.specs.Prelude.{◌≡◌, ◌⊎◌, ℕ, List, [], Option, Result, Ok, Err, IfOk, IsErrAnd, IsTrue}
 use Rattle.std.specs.Io.KnownBytes.{Appends, Keeps}
 use Rattle.ic_disk.specs.declared.disk.Disk.{Ghosts}
 use Rattle.ic_jobs.specs.declared.command.Command.{Command}
 use Rattle.ic_slots.specs.Held.{IsHeld, the_table}
-use Rattle.ic_desk.specs.Book.{start_of}
+use Rattle.ic_desk.specs.Book.{start_of, table_of}
 use Rattle.ic_desk.specs.declared.fault.BookFault.{BookFault}
 use Rattle.ic_attend.specs.declared.attended.Attended.{Attended}
 use Rattle.ic_attend.specs.declared.attended.ClientRun.{ClientRun}
@@ -52,18 +52,25 @@ pub record HasHistory {D : Type 0} {ghosts : Ghosts D} (disk : D) (scripts : Lis
       → IsHeld (the_table (start_of a.book)) (ghosts.content disk)
   pub history : IsOneHistory scripts runners turns a
 
+-- at Ok the disk is handed out, and holds the table that the history leaves
+abbrev pub HoldsAll : {D : Type 0} (ghosts : Ghosts D) → Attended D ghosts
+    → Result D ScriptsFault → Type 0
+HoldsAll ghosts a result = IfOk result (λ disk. IsTrue (ghosts.keeps disk)
+    → IsHeld (the_table (table_of a.book)) (ghosts.content disk))
+
 -- there is such a history, and its clients are told so
-pub record IsToldHistory {T D : Type 0} (ghosts : Ghosts D) (disk : D)
-    (scripts : List (List Command)) (runners turns : ℕ) (result : Result T ScriptsFault)
+pub record IsToldHistory {D : Type 0} (ghosts : Ghosts D) (disk : D)
+    (scripts : List (List Command)) (runners turns : ℕ) (result : Result D ScriptsFault)
     (old new : Option (List ℕ)) : Type 0 where
   pub attended : Attended D ghosts
   pub has : HasHistory disk scripts runners turns attended
   pub told : IsTold attended.answers.items attended.ends.items result old new
+  pub held : HoldsAll ghosts attended result
 
 -- what scripts that are given to a disk come to: a history that is told, or none, and then nothing
 -- is written
-abbrev pub IsAttended : {T D : Type 0} (ghosts : Ghosts D) (disk : D)
-    (scripts : List (List Command)) (runners turns : ℕ) → Result T ScriptsFault
+abbrev pub IsAttended : {D : Type 0} (ghosts : Ghosts D) (disk : D)
+    (scripts : List (List Command)) (runners turns : ℕ) → Result D ScriptsFault
     → (old new : Option (List ℕ)) → Type 0
 IsAttended ghosts disk scripts runners turns result old new =
     IsToldHistory ghosts disk scripts runners turns result old new

@@ -1,7 +1,7 @@
 //! Scripts that are given to a disk.
 
 ghost use Rattle.std.specs.Prelude.{◌≡◌, map, vec_items};
-ghost use Rattle.ic_scripts.specs.Attending.{IsAttended, IsTold};
+ghost use Rattle.ic_scripts.specs.Attending.{HoldsAll, IsAttended, IsTold};
 
 use crate::ends::outcome;
 use crate::fault::{ScriptsFault, fault_of_attendance};
@@ -15,8 +15,8 @@ use std::io::Write;
 use std::sync::Wait;
 use std::thread::Threads;
 
-/// Gives the scripts to a disk, as `attend` does, keeps what isn't kept, lets the disk go, and
-/// writes what each client was answered.
+/// Gives the scripts to a disk, as `attend` does, keeps what isn't kept, closes the book, and writes
+/// what each client was answered.
 pub fn attend_scripts<R: Threads + Wait + Sync, D: Disk + Send + Drop, W: Write>(
     rt: &R,
     alloc: Global,
@@ -26,9 +26,9 @@ pub fn attend_scripts<R: Threads + Wait + Sync, D: Disk + Send + Drop, W: Write>
     turns: usize,
     workers: usize,
     writer: &mut W,
-) -> Result<(), ScriptsFault>
+) -> Result<D, ScriptsFault>
     // What is written are the answers of one legal history of these scripts' clients, which goes on
-    // from the table that the disk held.
+    // from the table that the disk held. At Ok the disk holds the table that this history leaves.
     ensures { IsAttended D.Disk disk (map vec_items scripts.items) runners turns
         result (W.contents writer.old) (W.contents writer.new) }
 {
@@ -38,14 +38,15 @@ pub fn attend_scripts<R: Threads + Wait + Sync, D: Disk + Send + Drop, W: Write>
     }
 }
 
-/// Keeps what isn't kept, lets the disk go, and writes what each client was answered.
+/// Keeps what isn't kept, closes the book, and writes what each client was answered.
 fn finish<D: Disk + Drop, W: Write>(
     alloc: Global,
     attended: Attended<D>,
     writer: &mut W,
-) -> Result<(), ScriptsFault>
-    ensures { IsTold attended.answers.items attended.ends.items
+) -> Result<D, ScriptsFault>
+    ensures told { IsTold attended.answers.items attended.ends.items
         result (W.contents writer.old) (W.contents writer.new) }
+    ensures held { HoldsAll D.Disk attended result }
 {
     let Attended {
         mut book,
@@ -53,10 +54,13 @@ fn finish<D: Disk + Drop, W: Write>(
         ends,
     } = attended;
     let kept = book.keep();
-    book.close();
+    let disk = book.close();
     let told = tell(alloc, &answers, writer);
-    match outcome(&answers, &ends, kept) {
-        Ok(()) => told,
+    if let Err(fault) = outcome(&answers, &ends, kept) {
+        return Err(fault);
+    }
+    match told {
+        Ok(()) => Ok(disk),
         Err(fault) => Err(fault),
     }
 }

@@ -182,7 +182,10 @@ fn give<T: Threads + Wait + Sync>(
         &mut output,
     );
     let flushed = output.flush().map_err(|_| ScriptsFault::Write);
-    given.and(flushed)
+    match given {
+        Ok(_disk) => flushed,
+        Err(fault) => Err(fault),
+    }
 }
 
 /// Writes a text.

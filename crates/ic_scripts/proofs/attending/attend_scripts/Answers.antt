@@ -5,5 +5,6 @@ pub returns-in-Ok : goal.returns-in-Ok
 returns-in-Ok g c = inl (record {
   attended = c.in-Ok.attended;
   has = record { start = c.in-Ok.ensures.start; history = c.in-Ok.ensures.history };
-  told = c.finish.ensures;
+  told = c.finish.ensures.told;
+  held = c.finish.ensures.held;
 })
