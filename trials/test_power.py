@@ -40,19 +40,28 @@ class Content(NamedTuple):
 
 
 class Moment(NamedTuple):
-    """A moment of a life: what is on the disk for good, the ranges written since the last sync, how many lines were answered
-    and how many keeps were over."""
+    """A moment of a life: what is on the disk for good, and the ranges written since the last sync. Then how many lines were
+    answered and how many keeps were over, whether a slot is being opened, and whether a sync has come in this life."""
 
     synced: Content
     pending: list
     lines: int = 0
     keeps: int = 0
+    is_opening: bool = False
+    has_synced: bool = False
+
+    def content(self):
+        """What reads give: all that was written."""
+        content = self.synced
+        for at, data in self.pending:
+            content = content.laid(at, data)
+        return content
 
 
 def moments_of(begun, calls):
-    """The moments of a life, from the content that it began with: after each write and after each sync."""
-    synced, pending, answers, keeps, is_opening = begun, [], 0, 0, False
-    yield Moment(synced, pending)
+    """The moments of a life, from the one that it began with: after each write and after each sync."""
+    synced, pending, answers, keeps, is_opening, has_synced = begun.synced, begun.pending, 0, 0, False, False
+    yield begun
     for call in calls:
         if call.kind == "O":
             answers += call.data.count(b"\n")
@@ -63,10 +72,9 @@ def moments_of(begun, calls):
             pending = [*pending, (call.at, call.data)]
             is_opening = call.data == b"\1" and call.at in (0, SECOND)
         elif call.kind == "S":
-            for at, data in pending:
-                synced = synced.laid(at, data)
-            keeps, is_opening, pending = keeps + is_opening, False, []
-        yield Moment(synced, pending, answers, keeps)
+            synced = Moment(synced, pending).content()
+            keeps, is_opening, has_synced, pending = keeps + is_opening, False, True, []
+        yield Moment(synced, pending, answers, keeps, is_opening, has_synced)
 
 
 def torn(draw, old, new):
@@ -99,10 +107,11 @@ class Power(Stops):
         self.file = self.room / "image.disk"
 
     def life(self, draw, begun, table):
-        """A life over a disk: the run, and its moments with the tables that may be found at each."""
+        """A life over a disk that holds a table: the run, the tables that it keeps in turn, how many of them are kept behind
+        each answer, and the moments."""
         every, disk, log = draw.choice((1, 2, 100)), self.room / "life.disk", self.room / "log"
         lines = [drawn_line(draw, 6, (0, 1, 2, 7)) for _ in range(LINES)]
-        begun.write(disk)
+        begun.content().write(disk)
         with Server(disk, "--every", every, **recording(log)) as server:
             for line in lines:
                 server.send(line)
@@ -119,25 +128,39 @@ class Power(Stops):
         self.ended(ran, out=answers)
         return ran, kept, behind, list(moments_of(begun, noted(log)))
 
+    def found_in(self, ran, content, tables):
+        content.write(self.file)
+        return self.found(ran, self.file, tables)
+
+    def may_be_found(self, ran, moment, before, kept, behind):
+        """The tables that a loss of power at this moment may leave: the one that is kept, and the next while its slot is being
+        opened. Until a life has made its first sync, those that were left to it."""
+        if not moment.has_synced and moment.lines:
+            self.told(ran.command, "a line was answered over what isn't there for good", "a sync first", moment.lines)
+        if moment.has_synced and moment.keeps + 1 < behind[moment.lines]:
+            wanted = f"{behind[moment.lines] - 1} keeps at {moment.lines} answers"
+            self.told(ran.command, "a line was answered before what it left was kept for good", wanted, moment.keeps)
+        return kept[moment.keeps :][: 1 + moment.is_opening] if moment.has_synced else before
+
     def test_every_image_that_a_loss_of_power_may_leave_holds_what_was_answered(self):
-        draw = self.draws()
-        begun, table, opened = Content(slot(1, EMPTY), bytes(13), SECOND + 13), (), 0
+        """Life after life: each begins with what a loss of power has left, or a kill, behind which writes aren't there for
+        good yet."""
+        draw, opened = self.draws(), 0
+        begun, before, table = Moment(Content(slot(1, EMPTY), bytes(13), SECOND + 13), []), [()], ()
         for _ in range(LIVES):
             ran, kept, behind, moments = self.life(draw, begun, table)
             self.assertEqual(moments[-1].keeps + 1, len(kept), "as many keeps as the model has")
             following = []
             for moment in moments:
-                tables = kept[moment.keeps : moment.keeps + 1 + bool(moment.pending)]
-                # What was answered is among what is kept for good.
-                if moment.keeps + 1 < behind[moment.lines]:
-                    self.told(ran.command, "a line was answered before what it left was kept for good",
-                              f"{behind[moment.lines] - 1} keeps at {moment.lines} answers", moment.keeps)
+                tables = self.may_be_found(ran, moment, before, kept, behind)
                 for _ in range(IMAGES if moment.pending else 1):
                     image = image_of(draw, moment)
-                    image.write(self.file)
-                    following.append((image, self.found(ran, self.file, tables)))
-                    opened += 1
-            begun, table = draw.choice(following)
+                    found = self.found_in(ran, image, tables)
+                    following.append((Moment(image, []), [found], found))
+                killed = Moment(moment.synced, moment.pending)
+                following.append((killed, tables, self.found_in(ran, killed.content(), tables)))
+            opened += len(following)
+            begun, before, table = draw.choice(following)
         self.assertGreater(opened, 200)
 
     def test_a_create_that_was_cut_short_is_done_again(self):
@@ -146,7 +169,7 @@ class Power(Stops):
         for before in (Content(b"", b"", 0), Content(slot(5, EMPTY), slot(6, b"torn"), SECOND + 17)):
             before.write(disk)
             self.runs("create", "--disk", disk, **recording(log))
-            for moment in moments_of(before, noted(log)):
+            for moment in moments_of(Moment(before, []), noted(log)):
                 for _ in range(4):
                     image_of(draw, moment).write(self.file)
                     self.runs("create", "--disk", self.file)
