@@ -10,7 +10,7 @@ from program import run
 from test_drawn_serving import job_names, small_systems
 
 WORDS = ["submit"] * 4 + ["fetch"] * 5 + ["pause", "resume"] * 2 + ["cancel"]
-LONGEST = 20_000
+LONGEST = 100_000
 
 
 class Course:
@@ -93,9 +93,9 @@ class DrawnAttend(ModelTrial):
             paths[-1].write_bytes(text if isinstance(text, bytes) else text.encode())
         return run("attend", "--disk", self.path, *words, *paths)
 
-    def scripts(self, drawn, count, length):
+    def scripts(self, drawn, count, length, names=None):
         """Scripts with names of their own."""
-        names = job_names(drawn, min(32, 3 * count))
+        names = names or job_names(drawn, min(32, 3 * count))
         texts = []
         for place in range(count):
             systems, lines = [it for it in small_systems(drawn, 3) if "A(x,r)" not in it], []
@@ -127,24 +127,33 @@ class DrawnAttend(ModelTrial):
 
     def test_many_clients_with_runners(self):
         drawn = self.draws()
-        for _ in range(120):
+        for _ in range(20):
             count = drawn.choice([0, 1, 2, 3, 8, 10])
-            runners, turns = drawn.choice([0, 1, 2, 4, 8, 64]), drawn.choice([0, 1, 5, 40])
-            texts = self.scripts(drawn, count, drawn.choice([5, 30, 100]))
+            names, clients = job_names(drawn, 3 * count), [Client() for _ in range(count)]
             self.new_disk()
-            ran = self.attend(texts, "--runners", runners, "--turns", turns, "--workers", drawn.randint(1, 8))
-            self.ended(ran, ran.out)
-            clients = [Client() for _ in texts]
-            for client, text, answers in zip(clients, texts, self.told_to(ran, count)):
-                commands = model_disk.read_script(text.encode())
-                self.assertEqual(len(commands), len(answers), ran.command)
-                for asked, answer in zip(commands, answers):
-                    if not client.fits(asked, answer):
-                        self.told(ran.command, f"what is told to {asked[0]} {asked[1]}", "some rounds' answer", answer)
-            self.looks(ran, clients, runners)
+            # The same clients come several times, so that they find jobs that runners have moved.
+            for _ in range(drawn.choice([1, 3, 6])):
+                texts = self.scripts(drawn, count, drawn.choice([5, 30, 200]), names)
+                words = "--turns", drawn.choice([0, 1, 5, 40, 100]), "--workers", drawn.randint(1, 8)
+                ran = self.attend(texts, "--runners", drawn.choice([0, 1, 2, 4, 8, 64]), *words)
+                if ran.err == b"icserve: log full\n":
+                    # The history has room for 65,536 entries, and rounds may fill it where clients are slow.
+                    break
+                self.ended(ran, ran.out)
+                self.fit(ran, clients, texts)
+                self.looks(ran, clients)
 
-    def looks(self, ran, clients, runners):
-        """Each job that should be there is, as some number of rounds leaves it; without runners none was made."""
+    def fit(self, ran, clients, texts):
+        """Each client has an answer to each of its commands, and one that may be."""
+        for client, text, answers in zip(clients, texts, self.told_to(ran, len(texts))):
+            commands = model_disk.read_script(text.encode())
+            self.assertEqual(len(commands), len(answers), ran.command)
+            for asked, answer in zip(commands, answers):
+                if not client.fits(asked, answer):
+                    self.told(ran.command, f"what is told to {asked[0]} {asked[1]}", "some rounds' answer", answer)
+
+    def looks(self, ran, clients):
+        """Each job that should be there is, as some number of rounds leaves it."""
         jobs = {name: (client, course) for client in clients for name, course in client.jobs.items()}
         listed = self.asks(self.path, ["list"])[0].split(" ")[1:]
         self.assertEqual(sorted(it.split(":")[0] for it in listed), sorted(jobs), ran.command)
@@ -152,8 +161,6 @@ class DrawnAttend(ModelTrial):
             client, course = jobs[name]
             if not client.shows(course, answer):
                 self.told(ran.command, f"the job {name} on the disk", "some rounds' configuration", answer)
-            if not runners:
-                self.assertEqual(answer.split(" ")[2], "0", ran.command)
 
     def test_runners_go_on_until_nothing_runs(self):
         drawn = self.draws()
