@@ -6,7 +6,7 @@ use crate::scripts::scripts_of;
 use ic_attend::{AttendFault, Attended, ClientRun, RunnerEnd, attend};
 use ic_commands::print_reply;
 use ic_desk::BookFault;
-use ic_disk::Disk;
+use ic_disk::MemDisk;
 use ic_jobs::{Command, Job, State, Table};
 use ic_notation::{Trouble, decimal, printed};
 use ic_pool::{Gate, OpenGate};
@@ -23,14 +23,14 @@ pub struct Wanted {
 }
 
 /// Scripts attended on a disk.
-pub fn attended_on<R: Threads + Wait + Sync, D: Disk + Send + Drop, G: Gate>(
+pub fn attended_on<R: Threads + Wait + Sync, G: Gate>(
     rt: &R,
     alloc: Global,
-    disk: D,
+    disk: MemDisk,
     wanted: Wanted,
     scripts: Vec<Vec<Command>>,
     gate: &G,
-) -> Result<Attended<D>, Trouble> {
+) -> Result<Attended<MemDisk>, Trouble> {
     let Wanted {
         runners,
         turns,
@@ -38,29 +38,35 @@ pub fn attended_on<R: Threads + Wait + Sync, D: Disk + Send + Drop, G: Gate>(
     } = wanted;
     match attend(rt, alloc, disk, scripts, runners, turns, workers, gate) {
         Ok(done) => Ok(done),
-        Err(AttendFault::Open(_)) => Err(Trouble("not opened")),
-        Err(AttendFault::NoThread(_)) => Err(Trouble("no thread")),
-        Err(AttendFault::Memory(_)) => Err(Trouble("no memory")),
-        Err(AttendFault::Torn(_)) => Err(Trouble("torn")),
+        Err(fault) => Err(trouble_of(&fault)),
+    }
+}
+
+fn trouble_of(fault: &AttendFault<MemDisk>) -> Trouble {
+    match fault {
+        AttendFault::Open(_) => Trouble("not opened"),
+        AttendFault::NoThread(_) => Trouble("no thread"),
+        AttendFault::Memory(_) => Trouble("no memory"),
+        AttendFault::Torn(_) => Trouble("torn"),
     }
 }
 
 /// Scripts attended on a disk that holds the empty table, and the history looked over.
-pub fn looked_over<R: Threads + Wait + Sync, D: Disk + Send + Drop, G: Gate>(
+pub fn looked_over<R: Threads + Wait + Sync, G: Gate>(
     rt: &R,
     alloc: Global,
-    disk: D,
+    disk: MemDisk,
     wanted: Wanted,
     scripts: &str,
     gate: &G,
-) -> Result<Attended<D>, Trouble> {
-    let done = attended_on(rt, alloc, disk, wanted, scripts_of(alloc, scripts)?, gate)?;
+) -> Result<Attended<MemDisk>, Trouble> {
     let past = Past {
         opening: Table::new(alloc),
         scripts: scripts_of(alloc, scripts)?,
         wanted,
     };
-    check(alloc, past, &done)?;
+    let done = attended_on(rt, alloc, disk, wanted, scripts_of(alloc, scripts)?, gate)?;
+    check(alloc, &past, &done)?;
     Ok(done)
 }
 
@@ -74,6 +80,10 @@ pub fn attended<R: Threads + Wait + Sync, G: Gate>(
     gate: &G,
 ) -> Result<Vec<u8>, Trouble> {
     let done = looked_over(rt, alloc, new_disk(alloc)?, wanted, scripts, gate)?;
+    told(alloc, &done)
+}
+
+fn told(alloc: Global, done: &Attended<MemDisk>) -> Result<Vec<u8>, Trouble> {
     let mut line = Vec::new(alloc);
     for run in &done.answers {
         tell_run(alloc, &mut line, run)?;
@@ -86,7 +96,7 @@ pub fn attended<R: Threads + Wait + Sync, G: Gate>(
         }
     }
     tell_jobs(alloc, &mut line, done.book.table().jobs())?;
-    if wanted.runners == 0 {
+    if done.ends.is_empty() {
         decimal(&mut line, done.book.log().len() as u64)?;
         line.extend_from_slice(b" entries")?;
     }
@@ -97,20 +107,24 @@ pub fn attended<R: Threads + Wait + Sync, G: Gate>(
 }
 
 /// How many answers each client has, and why it ended.
-pub fn counted<R: Threads + Wait + Sync, D: Disk + Send + Drop>(
+pub fn counted<R: Threads + Wait + Sync>(
     rt: &R,
     alloc: Global,
-    disk: D,
+    disk: MemDisk,
     wanted: Wanted,
     scripts: &str,
 ) -> Result<Vec<u8>, Trouble> {
     let done = looked_over(rt, alloc, disk, wanted, scripts, &OpenGate)?;
+    tell_counts(alloc, &done.answers)
+}
+
+fn tell_counts(alloc: Global, runs: &[ClientRun]) -> Result<Vec<u8>, Trouble> {
     let mut line = Vec::new(alloc);
-    for run in &done.answers {
+    for run in runs {
         decimal(&mut line, run.answers.len() as u64)?;
         line.extend_from_slice(end_words(run.end))?;
     }
-    decimal(&mut line, done.answers.len() as u64)?;
+    decimal(&mut line, runs.len() as u64)?;
     line.extend_from_slice(b" clients")?;
     Ok(line)
 }

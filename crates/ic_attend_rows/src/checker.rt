@@ -21,14 +21,14 @@ pub struct Past {
 }
 
 /// Makes sure that what was attended is one history of these scripts.
-pub fn check<D: Disk>(alloc: Global, past: Past, done: &Attended<D>) -> Result<(), Trouble> {
+pub fn check<D: Disk>(alloc: Global, past: &Past, done: &Attended<D>) -> Result<(), Trouble> {
     if *done.book.start() != past.opening {
         return Err(Trouble("another opening table"));
     }
     if done.answers.len() != past.scripts.len() || done.ends.len() != past.wanted.runners {
         return Err(Trouble("a thread has no end"));
     }
-    let mut table = past.opening;
+    let mut table = past.opening.copy(alloc)?;
     let mut given = Vec::new(alloc);
     for _ in &past.scripts {
         given.push(0usize)?;

@@ -1,12 +1,9 @@
-//! Disks in memory: new, changed so that they can't be opened, and failing while two clients speak.
+//! Disks in memory: new ones, and ones changed so that they can't be opened or are worn.
 
-use crate::attending::{Wanted, counted};
-use crate::checker::{Past, check, make_round};
 use crate::scripts::scripts_of;
 use ic_attend::{AttendFault, attend};
-use ic_desk::{Book, BookFault, OpenCause};
-use ic_disk::{Blow, Choice, FuseDisk, MemDisk, Then};
-use ic_jobs::{Event, Table};
+use ic_desk::{OpenCause, OpenFault};
+use ic_disk::MemDisk;
 use ic_notation::Trouble;
 use ic_pool::OpenGate;
 use ic_slots::create;
@@ -48,6 +45,19 @@ pub fn changed(alloc: Global, change: &str) -> Result<MemDisk, Trouble> {
     Ok(MemDisk::from_bytes(bytes))
 }
 
+/// The refusal of a disk, which is handed back.
+fn refusal<R: Threads + Wait + Sync>(
+    rt: &R,
+    alloc: Global,
+    disk: MemDisk,
+) -> Result<OpenFault<MemDisk>, Trouble> {
+    let scripts = scripts_of(alloc, "list | list")?;
+    match attend(rt, alloc, disk, scripts, 1, 1, 1, &OpenGate) {
+        Err(AttendFault::Open(fault)) => Ok(fault),
+        _ => Err(Trouble("opened")),
+    }
+}
+
 /// Why a changed disk isn't attended. It is handed back with its bytes.
 pub fn unopened<R: Threads + Wait + Sync>(
     rt: &R,
@@ -56,10 +66,7 @@ pub fn unopened<R: Threads + Wait + Sync>(
 ) -> Result<Vec<u8>, Trouble> {
     let disk = changed(alloc, change)?;
     let bytes = disk.bytes().to_vec(alloc)?;
-    let scripts = scripts_of(alloc, "list | list")?;
-    let Err(AttendFault::Open(fault)) = attend(rt, alloc, disk, scripts, 1, 1, 1, &OpenGate) else {
-        return Err(Trouble("opened"));
-    };
+    let fault = refusal(rt, alloc, disk)?;
     if fault.disk.bytes() != bytes.as_slice() {
         return Err(Trouble("another disk is handed back"));
     }

@@ -69,14 +69,14 @@ pub fn drawn<R: Threads + Wait + Sync>(
             turns: draws.below(6),
             workers: draws.below(3).saturating_add(1),
         };
-        let scripts = drawn_scripts(alloc, seed)?;
-        let done = attended_on(rt, alloc, new_disk(alloc)?, wanted, scripts, &OpenGate)?;
         let past = Past {
             opening: Table::new(alloc),
             scripts: drawn_scripts(alloc, seed)?,
             wanted,
         };
-        check(alloc, past, &done)?;
+        let scripts = drawn_scripts(alloc, seed)?;
+        let done = attended_on(rt, alloc, new_disk(alloc)?, wanted, scripts, &OpenGate)?;
+        check(alloc, &past, &done)?;
     }
     let mut line = Vec::new(alloc);
     decimal(&mut line, count as u64)?;

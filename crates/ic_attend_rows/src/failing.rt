@@ -4,10 +4,10 @@ use crate::attending::Wanted;
 use crate::checker::{Past, check, make_round};
 use crate::disks::new_disk;
 use crate::scripts::scripts_of;
-use ic_attend::{AttendFault, attend};
+use ic_attend::{AttendFault, Attended, attend};
 use ic_desk::{Book, BookFault};
-use ic_disk::{Blow, Choice, FuseDisk, Then};
-use ic_jobs::{Event, Table};
+use ic_disk::{Blow, Choice, FuseDisk, MemDisk, Then};
+use ic_jobs::{Entry, Event, Table};
 use ic_notation::Trouble;
 use ic_pool::OpenGate;
 use std::alloc::Global;
@@ -17,41 +17,64 @@ use std::thread::Threads;
 const TWO: &str =
     "submit loop {A(B(x))><B(A(x))} <|A(x)=B(x)> ; pause loop ; list | submit two {} <|x=x> ; fetch two ; cancel two";
 
-/// Attends two clients on a disk of which this call fails, from 1, and looks the history over. Answers whether the book was
-/// broken; nothing where the disk wasn't opened. What was answered is there when the disk is opened again.
+const WANTED: Wanted = Wanted {
+    runners: 1,
+    turns: 1,
+    workers: 1,
+};
+
+/// Attends two clients on a disk of which this call fails, from 1. Nothing where the disk wasn't opened.
+fn attended_fused<R: Threads + Wait + Sync>(
+    rt: &R,
+    alloc: Global,
+    call: u64,
+    blow: Blow,
+) -> Result<Option<Attended<FuseDisk>>, Trouble> {
+    let scripts = scripts_of(alloc, TWO)?;
+    let disk = FuseDisk::new(new_disk(alloc)?, call, blow, Then::GoOn);
+    let Wanted {
+        runners,
+        turns,
+        workers,
+    } = WANTED;
+    match attend(rt, alloc, disk, scripts, runners, turns, workers, &OpenGate) {
+        Ok(done) => Ok(Some(done)),
+        Err(AttendFault::Open(_)) => Ok(None),
+        Err(_) => Err(Trouble("no history")),
+    }
+}
+
+/// Looks the history over. Answers whether the book is broken, which a client is told.
+fn look_over(alloc: Global, done: &Attended<FuseDisk>) -> Result<bool, Trouble> {
+    let past = Past {
+        opening: Table::new(alloc),
+        scripts: scripts_of(alloc, TWO)?,
+        wanted: WANTED,
+    };
+    check(alloc, &past, done)?;
+    let broken = done.book.broken();
+    let told = done
+        .answers
+        .iter()
+        .any(|run| run.end == Some(BookFault::Device));
+    if broken != told {
+        return Err(Trouble("the failure isn't told"));
+    }
+    Ok(broken)
+}
+
+/// Whether a call failed while two clients spoke; nothing where the disk wasn't opened. What was answered is there when the
+/// disk is opened again.
 fn fused<R: Threads + Wait + Sync>(
     rt: &R,
     alloc: Global,
     call: u64,
     blow: Blow,
 ) -> Result<Option<bool>, Trouble> {
-    let wanted = Wanted {
-        runners: 1,
-        turns: 1,
-        workers: 1,
+    let Some(done) = attended_fused(rt, alloc, call, blow)? else {
+        return Ok(None);
     };
-    let disk = FuseDisk::new(new_disk(alloc)?, call, blow, Then::GoOn);
-    let scripts = scripts_of(alloc, TWO)?;
-    let done = match attend(rt, alloc, disk, scripts, 1, 1, 1, &OpenGate) {
-        Ok(done) => done,
-        Err(AttendFault::Open(_)) => return Ok(None),
-        Err(_) => return Err(Trouble("no history")),
-    };
-    let past = Past {
-        opening: Table::new(alloc),
-        scripts: scripts_of(alloc, TWO)?,
-        wanted,
-    };
-    check(alloc, past, &done)?;
-    let broken = done.book.broken();
-    if broken
-        != done
-            .answers
-            .iter()
-            .any(|run| run.end == Some(BookFault::Device))
-    {
-        return Err(Trouble("the failure isn't told"));
-    }
+    let broken = look_over(alloc, &done)?;
     let choice = match blow {
         Blow::Before => Choice::Synced,
         Blow::After | Blow::Torn(_) => Choice::Written,
@@ -66,24 +89,40 @@ fn holds_what_was_answered(
     book: Book<FuseDisk>,
     choice: Choice,
 ) -> Result<(), Trouble> {
-    let mut kept = Table::new(alloc);
-    for entry in book.log().get(..book.kept()).unwrap_or(&[]) {
-        match &entry.event {
-            Event::Command(command) => {
-                kept.apply(command.copy(alloc)?)?;
-            }
-            Event::Round(name) => make_round(alloc, &mut kept, *name, &entry.reply)?,
-        }
-    }
-    let after = book.table().copy(alloc)?;
-    let left = book.close().into_inner().crash(choice)?;
-    let Ok(again) = Book::open(alloc, left) else {
-        return Err(Trouble("not opened again"));
-    };
-    if *again.table() != kept && *again.table() != after {
+    let (kept, after) = tables_of(alloc, &book)?;
+    let again = opened_again(alloc, book.close().into_inner(), choice)?;
+    if again != kept && again != after {
         return Err(Trouble("another table is left"));
     }
     Ok(())
+}
+
+/// The table after what was kept, and after all.
+fn tables_of(alloc: Global, book: &Book<FuseDisk>) -> Result<(Table, Table), Trouble> {
+    let kept = replayed(alloc, book.log().get(..book.kept()).unwrap_or(&[]))?;
+    Ok((kept, book.table().copy(alloc)?))
+}
+
+/// The table that is found behind a crash.
+fn opened_again(alloc: Global, disk: MemDisk, choice: Choice) -> Result<Table, Trouble> {
+    match Book::open(alloc, disk.crash(choice)?) {
+        Ok(book) => Ok(book.table().copy(alloc)?),
+        Err(_fault) => Err(Trouble("not opened again")),
+    }
+}
+
+/// The table that entries leave.
+fn replayed(alloc: Global, entries: &[Entry]) -> Result<Table, Trouble> {
+    let mut table = Table::new(alloc);
+    for entry in entries {
+        match &entry.event {
+            Event::Command(command) => {
+                table.apply(command.copy(alloc)?)?;
+            }
+            Event::Round(name) => make_round(alloc, &mut table, *name, &entry.reply)?,
+        }
+    }
+    Ok(table)
 }
 
 /// Each call up to this one fails once: first the disk isn't opened, then clients are told, and at last nothing fails.

@@ -5,6 +5,8 @@ use crate::checker::{Past, check};
 use crate::disks::new_disk;
 use crate::scripts::{command_of, scripts_of};
 use ic_desk::Book;
+use ic_disk::MemDisk;
+use ic_jobs::Table;
 use ic_notation::Trouble;
 use ic_pool::Gate;
 use std::alloc::Global;
@@ -83,47 +85,49 @@ impl<'a, R: Clock + Sync> Gate for During<'a, R> {
     }
 }
 
+/// A disk with a job that runs, and its table.
+fn running(alloc: Global, job: &str) -> Result<(MemDisk, Table), Trouble> {
+    let command = command_of(alloc, job)?;
+    let Ok(mut book) = Book::open(alloc, new_disk(alloc)?) else {
+        return Err(Trouble("not opened"));
+    };
+    if book.command(alloc, 0, command).is_err() {
+        return Err(Trouble("not submitted"));
+    }
+    let table = book.table().copy(alloc)?;
+    Ok((book.close(), table))
+}
+
 /// One client gives two commands on a disk with a job that runs, and is answered the second while a round is made.
 pub fn answered_during_round<R: Threads + Wait + Clock + Sync>(
     rt: &R,
     alloc: Global,
     text: &str,
 ) -> Result<Vec<u8>, Trouble> {
-    let (job, script) = text.split_once(" | ").unwrap_or((text, ""));
-    let Ok(mut book) = Book::open(alloc, new_disk(alloc)?) else {
-        return Err(Trouble("not opened"));
+    let wanted = Wanted {
+        runners: 1,
+        turns: 0,
+        workers: 1,
     };
-    if book.command(alloc, 0, command_of(alloc, job)?).is_err() {
-        return Err(Trouble("not submitted"));
-    }
-    let opening = book.table().copy(alloc)?;
+    let (job, script) = text.split_once(" | ").unwrap_or((text, ""));
+    let given = scripts_of(alloc, script)?;
+    let scripts = scripts_of(alloc, script)?;
+    let (disk, opening) = running(alloc, job)?;
+    let past = Past {
+        opening,
+        scripts: given,
+        wanted,
+    };
     let during = During {
         rt,
         begun: AtomicU64::new(0),
         answers: AtomicU64::new(0),
         missed: AtomicBool::new(false),
     };
-    let wanted = Wanted {
-        runners: 1,
-        turns: 0,
-        workers: 1,
-    };
-    let done = attended_on(
-        rt,
-        alloc,
-        book.close(),
-        wanted,
-        scripts_of(alloc, script)?,
-        &during,
-    )?;
+    let done = attended_on(rt, alloc, disk, wanted, scripts, &during)?;
     if during.missed.load(Ordering::SeqCst) {
         return Err(Trouble("a wait ran out"));
     }
-    let past = Past {
-        opening,
-        scripts: scripts_of(alloc, script)?,
-        wanted,
-    };
-    check(alloc, past, &done)?;
+    check(alloc, &past, &done)?;
     Ok(Vec::from_slice(alloc, b"answered")?)
 }

@@ -5,6 +5,7 @@ use crate::disks::new_disk;
 use crate::scripts::script_of;
 use ic_desk::Book;
 use ic_disk::MemDisk;
+use ic_jobs::Table;
 use ic_notation::Trouble;
 use ic_pool::{OpenGate, play_alone};
 use std::alloc::Global;
@@ -26,20 +27,27 @@ pub fn served<R: Threads + Wait + Sync>(
         turns: ROUNDS,
         workers: 2,
     };
+    let table = left_by_a_book(alloc, script)?;
     let done = looked_over(rt, alloc, new_disk(alloc)?, wanted, script, &OpenGate)?;
+    if *done.book.table() != table {
+        return Err(Trouble("another table"));
+    }
+    Ok(Vec::from_slice(alloc, b"one table")?)
+}
+
+/// The table that a script leaves on a book, with all rounds behind it.
+fn left_by_a_book(alloc: Global, script: &str) -> Result<Table, Trouble> {
+    let commands = script_of(alloc, script)?;
     let Ok(mut book) = Book::open(alloc, new_disk(alloc)?) else {
         return Err(Trouble("not opened"));
     };
-    for command in script_of(alloc, script)? {
+    for command in commands {
         if book.command(alloc, 0, command).is_err() {
             return Err(Trouble("a command is refused"));
         }
     }
     make_rounds(alloc, &mut book)?;
-    if *book.table() != *done.book.table() {
-        return Err(Trouble("another table"));
-    }
-    Ok(Vec::from_slice(alloc, b"one table")?)
+    Ok(book.table().copy(alloc)?)
 }
 
 /// Makes the rounds that are due, until none is.
