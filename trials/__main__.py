@@ -1,8 +1,10 @@
 """Runs the trials of the built program, as many side by side as there are processors: python3 trials [WORD..], where only
 those are run in whose name each word stands. The last line is `N passed, M failed`."""
 
+import multiprocessing
 import os
 import sys
+import threading
 import time
 import unittest
 from concurrent.futures import ProcessPoolExecutor, as_completed
@@ -43,6 +45,25 @@ def tried(name):
     return name, time.monotonic() - began, how, text
 
 
+# How long all trials may take at most, in seconds: then the runner says so, and fails.
+AT_MOST = 1800
+
+
+def at_once():
+    """How many processors may be used: no more than the quota of a container, and no more than 4."""
+    seen = min(4, len(os.sched_getaffinity(0)))
+    try:
+        quota, period = Path("/sys/fs/cgroup/cpu.max").read_text().split()
+        return max(1, min(seen, int(quota) // int(period)))
+    except (OSError, ValueError):
+        return seen
+
+
+def give_up(counts):
+    print(f"trials: stopped after {AT_MOST} seconds\n{counts['ok']} passed, {counts['FAILED'] + 1} failed", flush=True)
+    os._exit(1)
+
+
 def main(words):
     print(f"trials: {PROGRAM}, SEED={SEED} (set it to draw the same again)", flush=True)
     if not os.access(PROGRAM, os.X_OK):
@@ -50,7 +71,11 @@ def main(words):
         return 1
     prepare()
     counts = {"ok": 0, "FAILED": 0, "skipped": 0}
-    with ProcessPoolExecutor(len(os.sched_getaffinity(0))) as pool:
+    watch = threading.Timer(AT_MOST, give_up, [counts])
+    watch.daemon = True
+    watch.start()
+    # Processes are forked: one that is started anew doesn't find `tried` in a folder that is run.
+    with ProcessPoolExecutor(at_once(), mp_context=multiprocessing.get_context("fork")) as pool:
         for done in as_completed([pool.submit(tried, name) for name in found(words)]):
             name, seconds, how, text = done.result()
             counts[how] += 1

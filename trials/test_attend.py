@@ -1,12 +1,13 @@
 """The word `attend`: scripts of several clients over one disk, with runners beside them."""
 
+import shlex
 import signal
 import subprocess
 import time
 
 from disks import EMPTY, put, slot
 from known import LOOP, TWO, fetched, submitted
-from program import IN_MEMORY, PROGRAM, Ran, Server, Trial, run, said_of
+from program import IN_MEMORY, PATIENCE, PROGRAM, Ran, Server, Trial, heeds_signals, run, said_of
 from shim import shimmed, was_refused
 
 SCRIPTS = [[f"submit two {TWO.text}", "pause no"], [f"submit loop {LOOP.text}", f"submit loop {LOOP.text}"]]
@@ -23,8 +24,6 @@ class Attend(Trial):
 
     def setUp(self):
         super().setUp()
-        if b"attend" not in run("--help").out:
-            self.skipTest("the program has no word `attend` yet")
         self.jobs = self.disk()
         self.paths = [self.script(f"client {i}", lines) for i, lines in enumerate(SCRIPTS)]
 
@@ -62,6 +61,47 @@ class Attend(Trial):
         self.runs(*self.attends(*self.paths, runners=0), out=TOLD)
         self.assertEqual(self.rounds(), {"two": 0, "loop": 0})
 
+    def test_a_full_history_ends_both_clients(self):
+        paths = [self.script(f"long {i}", ["list"] * 40_000) for i in range(2)]
+        ran = run(*self.attends(*paths, runners=0))
+        self.assertEqual((ran.status, ran.err), (4, b"icserve: log full\n"), ran.command)
+        lines = ran.out.decode().splitlines()
+        self.assertEqual((lines.count("stopped log full"), lines.count("jobs")), (2, 65_536), ran.command)
+        self.assertEqual([it for it in lines if it != "jobs"], ["client 0", "stopped log full", "client 1", "stopped log full"])
+        self.serves(self.jobs, "list", ["jobs"])
+
+    def test_64_scripts_and_scripts_of_no_command_and_of_the_most_are_answered(self):
+        paths = [self.script(f"list {i}", ["list"]) for i in range(64)]
+        told = [it for i in range(64) for it in (f"client {i}", "jobs")]
+        self.runs(*self.attends(*paths, runners=0), out=told)
+        self.runs(*self.attends(self.script("empty", []), self.script("blank", ["", " "])), out=["client 0", "client 1"])
+        longest = self.script("longest", ["list"] * 65_536)
+        self.runs(*self.attends(longest, runners=0), out=["client 0", *["jobs"] * 65_536])
+
+    def test_a_signal_to_end_leaves_the_disk_as_some_moment_did(self):
+        lines = [f"submit loop {LOOP.text}", *["pause loop", "resume loop"] * 20_000]
+        for sign in (signal.SIGTERM, signal.SIGINT, signal.SIGHUP):
+            words = [str(it) for it in self.attends(self.script("long", lines), turns=60_000)]
+            pipes = {"stdin": subprocess.DEVNULL, "stdout": subprocess.PIPE, "stderr": subprocess.PIPE}
+            with subprocess.Popen([PROGRAM, *words], preexec_fn=heeds_signals, **pipes) as started:
+                time.sleep(0.1)
+                started.send_signal(sign)
+                out, err = started.communicate(timeout=PATIENCE)
+            self.assertEqual((started.returncode, out, err), (-sign, b"", b""), words)
+            self.rounds_of_any_state()
+
+    def rounds_of_any_state(self):
+        self.asks(self.jobs, ["resume loop"])
+        self.rounds()
+
+    def test_the_disk_is_never_opened_in_the_place_of_a_closed_stream(self):
+        for closed in ("<&-", ">&-", "2>&-"):
+            with self.subTest(closed=closed):
+                self.runs("create", "--disk", self.jobs)
+                words = " ".join(shlex.quote(str(it)) for it in [PROGRAM, *self.attends(*self.paths)])
+                subprocess.run(["sh", "-c", f"exec {words} {closed}"], capture_output=True, timeout=PATIENCE)
+                self.assertEqual(self.rounds()["two"], 2)
+
     def test_a_script_with_a_fault_is_told_with_its_number_and_line_before_the_disk_is_opened(self):
         bad = [(["list", "", "lists"], 3, "bad syntax"), (["run 1"], 1, "bad syntax")]
         bad += [([f"submit {'a' * 17} {{}} <|>"], 1, "bad limit"), (["submit n {} <x|x=A(x)>"], 1, "bad name x")]
@@ -87,7 +127,7 @@ class Attend(Trial):
             self.refuses(*self.attends(*self.paths), line="device", status=3)
 
     def test_write_where_standard_output_cant_be_written(self):
-        with open("/dev/full", "wb") as full:
+        with open("/dev/full", "r+b", buffering=0) as full:
             self.refuses(*self.attends(*self.paths), line="write", status=4, stdout=full)
         self.assertEqual(self.rounds()["two"], 2)
 

@@ -81,11 +81,6 @@ class Client:
 class DrawnAttend(ModelTrial):
     seconds = 10
 
-    def setUp(self):
-        super().setUp()
-        if b"attend" not in run("--help").out:
-            self.skipTest("the program has no word `attend` yet")
-
     def attend(self, texts, *words):
         paths = []
         for place, text in enumerate(texts):

@@ -4,8 +4,12 @@ import signal
 import time
 
 from known import LOOP, drawn_line
-from program import Server, heeds_signals
+from program import PATIENCE, Server, heeds_signals
 from stops import Stops
+
+
+# Within how many seconds a server that is told to end has ended: at once, but on a machine that may be busy.
+PROMPT = PATIENCE / 6
 
 
 class Kills(Stops):
@@ -53,7 +57,7 @@ class Kills(Stops):
             began = time.monotonic()
             ran = server.stop(sign)
             took = time.monotonic() - began
-            if ran.status != -sign or ran.err or took > 2:
+            if ran.status != -sign or ran.err or took > PROMPT:
                 came = f"status {ran.status}, {ran.err}, after {took:.1f} s"
                 self.told(ran.command, f"the end by {sign!r}", "by the signal, at once and silent", came)
             return ran
@@ -62,19 +66,22 @@ class Kills(Stops):
 
     def test_a_signal_to_end_in_the_midst_of_a_long_run_is_obeyed_at_once(self):
         for sign in (signal.SIGTERM, signal.SIGINT, signal.SIGHUP, signal.SIGKILL):
-            disk = self.disk(f"{sign}.disk")
-            lines = [f"submit loop {LOOP.text}", "run 1000", "list"] + ["run 1000"] * 5
-            with Server(disk, "--every", "1", preexec_fn=heeds_signals) as server:
-                server.send(lines[:2])
-                self.assertEqual([server.answer(), server.answer()], ["accepted", "ran 1000"])
-                server.send(lines[2:])
-                time.sleep(0.1)
-                began = time.monotonic()
-                ran = server.stop(sign)
-            self.assertLess(time.monotonic() - began, 2, ran.command)
-            self.assertEqual((ran.status, ran.err), (-sign, b""), ran.command)
-            table = self.found(ran, disk, self.may_be_left(ran, lines, (), 1))
-            self.assertGreater(table[0].rounds, 1000, "the run hadn't begun")
+            for wait in (0.1, 1, 5, 20):
+                disk = self.disk(f"{sign}.{wait}.disk")
+                lines = [f"submit loop {LOOP.text}", "run 10", "list"] + ["run 1000"] * 6
+                with Server(disk, "--every", "1", preexec_fn=heeds_signals) as server:
+                    server.send(lines[:2])
+                    self.assertEqual([server.answer(PATIENCE), server.answer(PATIENCE)], ["accepted", "ran 10"])
+                    server.send(lines[2:])
+                    time.sleep(wait)
+                    began = time.monotonic()
+                    ran = server.stop(sign)
+                self.assertLess(time.monotonic() - began, PROMPT, ran.command)
+                self.assertEqual((ran.status, ran.err), (-sign, b""), ran.command)
+                table = self.found(ran, disk, self.may_be_left(ran, lines, (), 1))
+                if table[0].rounds > 10:
+                    break
+            self.assertGreater(table[0].rounds, 10, "the run hadn't begun")
 
     def test_sigpipe_is_no_reason_to_end(self):
         with Server(self.disk()) as server:

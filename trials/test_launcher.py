@@ -7,7 +7,7 @@ import signal
 import subprocess
 import time
 
-from program import PROGRAM, TOP, Trial, heeds_signals
+from program import PATIENCE, PROGRAM, TOP, Trial, heeds_signals
 
 # What the launcher and the build call, but for make and rt.
 TOOLS = "sh env cat cp dirname find flock grep mkdir mv nice readlink rm sed setsid sha256sum sleep sort xargs".split()
@@ -16,6 +16,7 @@ TOOLS = "sh env cat cp dirname find flock grep mkdir mv nice readlink rm sed set
 RT = f"""#!/bin/sh
 echo called >> "$CALLS"
 [ -z "$SLOW" ] || sleep "$SLOW"
+[ -z "$UNTIL" ] || while [ ! -e "$UNTIL" ]; do sleep 0.05; done
 [ -z "$FAILS" ] || exit 1
 cp "{PROGRAM}" out/icserve
 """
@@ -43,7 +44,7 @@ class Launcher(Trial):
     def launch(self, *words, given=b"<r|r=Z>", path=None, **variables):
         env = {"PATH": str(self.tools), "CALLS": str(self.calls), **variables}
         how = {"env": env, "cwd": "/", "stdout": subprocess.PIPE, "stderr": subprocess.PIPE}
-        return subprocess.run([path or self.room / "icserve", *words], input=given, **how)
+        return subprocess.run([path or self.room / "icserve", *words], input=given, timeout=PATIENCE, **how)
 
     def built(self):
         return len(self.calls.read_text().splitlines())
@@ -84,13 +85,20 @@ class Launcher(Trial):
         self.assertEqual(self.built(), 0)
 
     def test_two_launches_build_once(self):
-        env = {"PATH": str(self.tools), "CALLS": str(self.calls), "SLOW": "0.5"}
-        pipes = {"stdin": subprocess.DEVNULL, "stdout": subprocess.PIPE, "stderr": subprocess.PIPE}
-        started = [subprocess.Popen([self.room / "icserve", "--version"], env=env, **pipes) for _ in range(3)]
-        ended = [it.communicate(timeout=60) for it in started]
-        self.assertEqual([it.returncode for it in started], [0, 0, 0], ended)
+        """The build goes on until two launches have said that they wait for it."""
+        env = {"PATH": str(self.tools), "CALLS": str(self.calls), "UNTIL": str(self.room / "all wait")}
+        errors = [open(self.room / f"errors {i}", "w+b") for i in range(3)]
+        self.addCleanup(lambda: [it.close() for it in errors])
+        pipes = {"stdin": subprocess.DEVNULL, "stdout": subprocess.DEVNULL}
+        started = [subprocess.Popen([self.room / "icserve", "--version"], env=env, stderr=it, **pipes) for it in errors]
+        told = lambda: [(self.room / f"errors {i}").read_bytes() for i in range(3)]
+        end = time.monotonic() + PATIENCE
+        while sum(b"waiting for another launch" in it for it in told()) < 2 and time.monotonic() < end:
+            time.sleep(0.05)
+        (self.room / "all wait").write_text("")
+        self.assertEqual([it.wait(PATIENCE) for it in started], [0, 0, 0], told())
         self.assertEqual(self.built(), 1)
-        self.assertEqual(sum(b"waiting for another launch" in err for _, err in ended), 2, ended)
+        self.assertEqual(sum(b"waiting for another launch" in it for it in told()), 2, told())
 
     def test_a_build_that_is_interrupted_ends_with_its_launch_and_is_begun_anew(self):
         env = {"PATH": str(self.tools), "CALLS": str(self.calls), "SLOW": "30"}
@@ -99,8 +107,10 @@ class Launcher(Trial):
             pipes = {"stdin": subprocess.DEVNULL, "stdout": subprocess.DEVNULL, "stderr": subprocess.DEVNULL}
             started = subprocess.Popen([self.room / "icserve", "settle"], env=env, preexec_fn=heeds_signals, **pipes)
             self.addCleanup(started.kill)
-            while self.built() == begun:
+            end = time.monotonic() + PATIENCE
+            while self.built() == begun and started.poll() is None and time.monotonic() < end:
                 time.sleep(0.02)
+            self.assertGreater(self.built(), begun, "the build wasn't begun")
             started.send_signal(sign)
             self.assertEqual(started.wait(20), 4)
             self.assertFalse((self.room / "crates/icserve/out/rooms").exists())

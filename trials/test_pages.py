@@ -3,7 +3,7 @@
 import re
 import subprocess
 
-from program import PROGRAM, TOP, Trial
+from program import IN_MEMORY, PATIENCE, PROGRAM, TOP, Trial
 
 
 def blocks_of(page):
@@ -30,6 +30,8 @@ def typed_in(block):
 
 
 class Pages(Trial):
+    rooms = IN_MEMORY
+
     def setUp(self):
         super().setUp()
         (self.room / "icserve").symlink_to(PROGRAM)
@@ -39,6 +41,7 @@ class Pages(Trial):
         """Runs the commands of a page by a shell in the trial's folder: they print just these lines."""
         text = "\n".join(commands).replace("/tmp/", f"{self.room}/")
         how = {"cwd": self.room, "stdin": subprocess.DEVNULL, "stdout": subprocess.PIPE, "stderr": streams}
+        how["timeout"] = PATIENCE
         ran = subprocess.run(["sh", "-c", text], **how)
         self.agrees(f"{page}: {text}", "what it prints", "".join(f"{it}\n" for it in wanted), ran.stdout)
 
@@ -50,6 +53,13 @@ class Pages(Trial):
         self.typed("README.md", served, prints)
         self.typed("README.md", killed, prints_then, subprocess.DEVNULL)
         self.assertEqual(len(typed_in(console)), 3)
+
+    def test_the_session_of_the_page_on_clients_prints_what_the_page_says(self):
+        section = (TOP / "docs/clients.md").read_text().split("## A session")[1].split("\n## ")[0]
+        (self.room / "session.md").write_text(section)
+        attended, prints, asked = blocks_of(self.room / "session.md")
+        self.typed("docs/clients.md", attended, prints)
+        self.typed("docs/clients.md", asked, [re.search(r"prints `(two [^`]*)`", section)[1]])
 
     def test_what_is_typed_on_a_page_prints_what_the_page_says(self):
         consoles = []

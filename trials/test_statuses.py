@@ -1,5 +1,5 @@
 """Each exit status and each line of standard error that README.md and docs/serving.md name, and what a refusal leaves.
-Want of memory and of threads is tried in test_growths.py."""
+Want of memory and of threads is tried in test_faults.py."""
 
 import os
 import resource
@@ -117,7 +117,7 @@ class Words(Trial):
                 self.assertEqual(os.listdir(self.room), [])
 
     def test_help_and_version_go_to_standard_output(self):
-        helps = [["--help"], ["-h"], *([word, "--help"] for word in ("settle", "once", "create", "serve"))]
+        helps = [["--help"], ["-h"], *([word, "--help"] for word in ("settle", "once", "create", "serve", "attend"))]
         for words in (*helps, ["--version"], ["-V"]):
             with self.subTest(words=words):
                 ran = run(*words)
@@ -194,6 +194,10 @@ class Disks(Trial):
             os.chmod(self.room, 0o711)
             os.chmod(program, 0o755)
             how = {"preexec_fn": lambda: os.setuid(65534)}
+            try:
+                run("--version", program=program, **how)
+            except (OSError, subprocess.SubprocessError) as fault:
+                self.skipTest(f"root may do all, and nobody can't start the program here: {fault}")
         for mode in (0o444, 0o222, 0o000):
             with self.subTest(mode=oct(mode)):
                 path = self.disk()
