@@ -88,4 +88,7 @@ class Kills(Stops):
             self.assertEqual(server.ask(f"submit loop {LOOP.text}"), "accepted")
             server.process.send_signal(signal.SIGPIPE)
             self.assertEqual(server.ask("run 3"), "ran 3")
-            self.ended(server.end(), out=["accepted", "ran 3"])
+            server.send("run 1000")
+            server.process.send_signal(signal.SIGPIPE)
+            self.assertEqual(server.answer(PATIENCE), "ran 1000")
+            self.ended(server.end(), out=["accepted", "ran 3", "ran 1000"])
