@@ -161,6 +161,23 @@ class Attend(Trial):
                 self.holds_what_was_answered(ran)
             self.assertGreater(number, 6)
 
+    def test_each_call_on_the_disk_goes_wrong_in_turn(self):
+        """A script that can't be read, a disk that can't be opened, or clients that are stopped; what was answered is there."""
+        ends = [(3, b"icserve: device\n"), *((4, b"icserve: %b\n" % it) for it in (b"read", b"device", b"broken"))]
+        for how in ("once", "on", "done", "half"):
+            number, spared, log = 0, 0, self.room / "log"
+            while spared < 3:
+                number += 1
+                put(self.jobs, slot(1, EMPTY))
+                ran = run(*self.attends(*self.paths, turns=3), env=shimmed(f"disk {number} {how}", log))
+                spared = 0 if was_refused(log) else spared + 1
+                is_well = (ran.status, ran.out.decode().splitlines(), ran.err) == (0, TOLD, b"")
+                if (ran.status, ran.err) not in ends and not is_well:
+                    call = f"the end, where it went wrong: disk {number} {how}"
+                    self.told(ran.command, call, f"one of {ends}, or all as ever", ran[1:])
+                self.holds_what_was_answered(ran)
+            self.assertGreater(number, 6)
+
     def test_kills_at_drawn_moments_leave_jobs_at_some_round(self):
         draw = self.draws()
         for _ in range(60):
