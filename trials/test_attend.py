@@ -61,13 +61,16 @@ class Attend(Trial):
         self.runs(*self.attends(*self.paths, runners=0), out=TOLD)
         self.assertEqual(self.rounds(), {"two": 0, "loop": 0})
 
-    def test_a_full_history_ends_both_clients(self):
+    def test_a_full_history_ends_each_client_that_has_not_ended(self):
         paths = [self.script(f"long {i}", ["list"] * 40_000) for i in range(2)]
         ran = run(*self.attends(*paths, runners=0))
         self.assertEqual((ran.status, ran.err), (4, b"icserve: log full\n"), ran.command)
-        lines = ran.out.decode().splitlines()
-        self.assertEqual((lines.count("stopped log full"), lines.count("jobs")), (2, 65_536), ran.command)
-        self.assertEqual([it for it in lines if it != "jobs"], ["client 0", "stopped log full", "client 1", "stopped log full"])
+        first, second = ran.out.decode()[len("client 0\n") :].split("client 1\n")
+        self.assertEqual(first.count("jobs\n") + second.count("jobs\n"), 65_536, ran.command)
+        for told in (first, second):
+            answers = told.count("jobs\n")
+            end = "" if answers == 40_000 else "stopped log full\n"
+            self.agrees(ran.command, "what a client is told", "jobs\n" * answers + end, told)
         self.serves(self.jobs, "list", ["jobs"])
 
     def test_64_scripts_and_scripts_of_no_command_and_of_the_most_are_answered(self):
