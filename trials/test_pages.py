@@ -48,8 +48,10 @@ class Pages(Trial):
     def test_the_session_of_the_readme_prints_what_the_readme_says(self):
         section = (TOP / "README.md").read_text().split("## A session")[1].split("\n## ")[0]
         (self.room / "session.md").write_text(section)
-        served, prints, killed, prints_then, console = blocks_of(self.room / "session.md")
+        served, lines, prints, killed, prints_then, console = blocks_of(self.room / "session.md")
         self.assertIn("KILL", killed[0])
+        file = (TOP / "examples/addition.session").read_text().split("\n")
+        self.assertEqual(lines, [it for it in file if it], "README.md shows other lines than the file has")
         self.typed("README.md", served, prints)
         self.typed("README.md", killed, prints_then, subprocess.DEVNULL)
         self.assertEqual(len(typed_in(console)), 3)
