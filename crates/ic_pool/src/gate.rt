@@ -14,6 +14,10 @@ pub trait Gate: Sync {
 
     /// Called for this client after each of its answers.
     fn answered(&self, who: u64);
+
+    /// Called behind each round that moved its job, and each halt, with how many jobs are running as
+    /// the caller last saw it.
+    fn landed(&self, _running: usize) {}
 }
 
 /// The gate that holds nothing up.

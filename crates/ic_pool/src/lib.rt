@@ -2,7 +2,8 @@
 //!
 //! A `Flight` is a job that is due, as it is then. `play_alone` makes its round in the calling thread
 //! and answers a `Played`, whose type says that `after` is the round of `before`. Neither holds its
-//! job's table, so other events may come between.
+//! job's table, so other events may come between. `play` makes it by threads of its own, and
+//! `round_by_workers` that of a configuration which is no job's.
 #![tactic(auto)]
 
 mod alone;
@@ -26,4 +27,4 @@ pub use limits::{MAX_ROUNDS, MAX_THREADS};
 pub use made::made_for;
 pub use passed::fire_passed;
 pub use played::Played;
-pub use playing::play;
+pub use playing::{play, round_by_workers};

@@ -52,8 +52,12 @@ pub fn play<R: Threads + Wait, G: Gate>(
     Ok(Played::new(alloc, flight.name(), rules, before, after, rounds)?)
 }
 
-/// The configuration after one round, made by threads of its own.
-fn round_by_workers<R: Threads + Wait, G: Gate>(
+/// The configuration after one round under these rules, made by threads of its own, as many as for
+/// `play`. It is the same for every number of workers.
+///
+/// Its faults come in the order of `play`'s, without `NoWorkers` and `RoundsOut`. Whatever is
+/// answered, all threads have ended.
+pub fn round_by_workers<R: Threads + Wait, G: Gate>(
     rt: &R,
     alloc: Global,
     rules: &RuleSet,
