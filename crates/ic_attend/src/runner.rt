@@ -4,6 +4,7 @@ use crate::attended::RunnerEnd;
 use crate::desk::Desk;
 use crate::signs::Signs;
 use ic_disk::Disk;
+use ic_jobs::Landed;
 use ic_pool::{Flight, Gate, play};
 use std::alloc::Global;
 use std::sync::Wait;
@@ -18,8 +19,43 @@ pub(crate) struct Duty {
     pub workers: usize,
 }
 
+/// A runner's way round the table, lap after lap: where it looks next, how many running jobs it has
+/// met on this lap, and how many on the one before.
+#[derive(Clone, Copy, Debug)]
+struct Laps {
+    next: usize,
+    met: usize,
+    met_before: usize,
+}
+
+impl Laps {
+    fn new() -> Laps {
+        Laps {
+            next: 0,
+            met: 0,
+            met_before: 0,
+        }
+    }
+
+    /// Meets the running job at a place. One that stands before the next place begins a lap.
+    fn meet(&mut self, place: usize) {
+        if place < self.next {
+            self.met_before = self.met;
+            self.met = 0;
+        }
+        self.met = self.met.saturating_add(1);
+        self.next = place.saturating_add(1);
+    }
+
+    /// How many jobs are running, as far as the runner has seen.
+    fn running(&self) -> usize {
+        self.met.max(self.met_before)
+    }
+}
+
 /// Takes the rounds that are due, job after job, and lands them. While scripts go on it looks again
-/// where nothing is due. Once all have ended each round that it takes is a turn.
+/// where nothing is due. Once all have ended each round that it takes is a turn. The gate is told of
+/// each round that moved its job, and each halt.
 pub(crate) fn make_rounds<R: Threads + Wait, D: Disk, G: Gate>(
     rt: &R,
     alloc: Global,
@@ -28,7 +64,7 @@ pub(crate) fn make_rounds<R: Threads + Wait, D: Disk, G: Gate>(
     gate: &G,
     duty: Duty,
 ) -> RunnerEnd {
-    let mut after = 0;
+    let mut laps = Laps::new();
     let mut turns_left = duty.turns;
     for _ in rt.forever() {
         if signs.are_told_to_stop() {
@@ -38,11 +74,13 @@ pub(crate) fn make_rounds<R: Threads + Wait, D: Disk, G: Gate>(
         if is_turn && turns_left == 0 {
             return RunnerEnd::Turns;
         }
-        match desk.take(rt, after) {
+        match desk.take(rt, laps.next) {
             Ok(Some(flight)) => {
-                after = flight.place().saturating_add(1);
-                if let Err(end) = make_round(rt, alloc, desk, gate, &flight, duty.workers) {
-                    return end;
+                laps.meet(flight.place());
+                match make_round(rt, alloc, desk, gate, &flight, duty.workers) {
+                    Ok(Landed::Moved) => gate.landed(laps.running()),
+                    Ok(Landed::Stale) => {}
+                    Err(end) => return end,
                 }
             }
             Ok(None) if is_turn => return RunnerEnd::Idle,
@@ -63,7 +101,7 @@ fn make_round<R: Threads + Wait, D: Disk, G: Gate>(
     gate: &G,
     flight: &Flight,
     workers: usize,
-) -> Result<(), RunnerEnd> {
+) -> Result<Landed, RunnerEnd> {
     let landed = if flight.blocked() {
         desk.halt(rt, flight)
     } else {
@@ -72,8 +110,5 @@ fn make_round<R: Threads + Wait, D: Disk, G: Gate>(
             Err(fault) => return Err(RunnerEnd::Pool(fault)),
         }
     };
-    match landed {
-        Ok(_) => Ok(()),
-        Err(fault) => Err(RunnerEnd::Book(fault)),
-    }
+    landed.map_err(RunnerEnd::Book)
 }
