@@ -3,7 +3,8 @@
 ghost use Rattle.std.specs.Prelude.{◌≡◌, ◌+◌, ◌≤◌, [], None, MatchOption, IfOk, OnOk, map};
 ghost use Rattle.ic_term.specs.Tree.{nodes};
 ghost use Rattle.ic_term.specs.Term.{tree, cell_tree, pair};
-ghost use Rattle.ic_settle.specs.inner.Waiting.{look, nodes_kept, IsTaken, IsAdded, Resolves, Rebuilds, RebuildsArguments, RebuildsTerms, RebuildsPairs};
+ghost use Rattle.ic_settle.specs.inner.WaitingTerms.{waiting};
+ghost use Rattle.ic_settle.specs.lemmas.Waiting.{look, nodes_kept, IsTaken, IsAdded, Resolves, Rebuilds, RebuildsArguments, RebuildsTerms, RebuildsPairs};
 
 use ic_term::{Cell, Equation, Term};
 use indexmap::IndexMap;
@@ -20,7 +21,7 @@ pub(crate) struct Bindings {
 impl Bindings {
     /// None, with room for so many.
     pub fn with_capacity(alloc: Global, count: usize) -> Result<Bindings, AllocError>
-        ensures { IfOk result (λ bindings. bindings.terms.entries ≡ []) }
+        ensures { IfOk result (λ bindings. waiting bindings ≡ []) }
     {
         Ok(Bindings {
             terms: IndexMap::with_capacity(alloc, count)?,
@@ -28,9 +29,9 @@ impl Bindings {
     }
 
     pub fn insert(&mut self, name: u64, term: Term) -> Result<(), AllocError>
-        requires { look self.old.terms.entries name ≡ None }
+        requires { look (waiting self.old) name ≡ None }
         ensures { OnOk result
-            (IsAdded self.old.terms.entries self.new.terms.entries name (tree term)) }
+            (IsAdded (waiting self.old) (waiting self.new) name (tree term)) }
     {
         self.terms.insert(name, term)?;
         Ok(())
@@ -38,9 +39,9 @@ impl Bindings {
 
     fn take(&mut self, name: u64) -> Option<Term>
         ensures { MatchOption result
-            ((look self.old.terms.entries name ≡ None)
-            × (self.new.terms.entries ≡ self.old.terms.entries))
-            (λ term. IsTaken self.old.terms.entries self.new.terms.entries name (tree term)) }
+            ((look (waiting self.old) name ≡ None)
+            × (waiting self.new ≡ waiting self.old))
+            (λ term. IsTaken (waiting self.old) (waiting self.new) name (tree term)) }
     {
         self.terms.swap_remove(&name)
     }
@@ -48,11 +49,11 @@ impl Bindings {
     /// What stands for a term at its top: the term itself, or where it is a bound name, what stands
     /// for its term.
     pub fn resolved(&mut self, term: Term) -> Term
-        ensures resolves { Resolves self.old.terms.entries self.new.terms.entries
+        ensures resolves { Resolves (waiting self.old) (waiting self.new)
             (tree term) (tree result) }
-        ensures nodes { nodes (tree result) + nodes_kept self.new.terms.entries
-            ≤ nodes (tree term) + nodes_kept self.old.terms.entries }
-        ensures fewer { nodes_kept self.new.terms.entries ≤ nodes_kept self.old.terms.entries }
+        ensures nodes { nodes (tree result) + nodes_kept (waiting self.new)
+            ≤ nodes (tree term) + nodes_kept (waiting self.old) }
+        ensures fewer { nodes_kept (waiting self.new) ≤ nodes_kept (waiting self.old) }
     {
         let mut term = term;
         loop {
@@ -69,9 +70,9 @@ impl Bindings {
     /// Puts what stands for the bound names of a term in their places.
     #[cycle(rebuild)]
     fn rebuild(&mut self, term: &mut Term)
-        ensures rebuilds { Rebuilds self.old.terms.entries self.new.terms.entries
+        ensures rebuilds { Rebuilds (waiting self.old) (waiting self.new)
             (tree term.old) (tree term.new) }
-        ensures nodes { nodes_kept self.new.terms.entries ≤ nodes_kept self.old.terms.entries }
+        ensures nodes { nodes_kept (waiting self.new) ≤ nodes_kept (waiting self.old) }
     {
         let given = mem::replace(term, Term::Name(0));
         match self.resolved(given) {
@@ -85,9 +86,9 @@ impl Bindings {
 
     #[cycle(rebuild)]
     fn rebuild_arguments(&mut self, cell: &mut Cell)
-        ensures rebuilds { RebuildsArguments self.old.terms.entries self.new.terms.entries
+        ensures rebuilds { RebuildsArguments (waiting self.old) (waiting self.new)
             (cell_tree cell.old) (cell_tree cell.new) }
-        ensures nodes { nodes_kept self.new.terms.entries ≤ nodes_kept self.old.terms.entries }
+        ensures nodes { nodes_kept (waiting self.new) ≤ nodes_kept (waiting self.old) }
     {
         for term in cell.args.iter_mut() {
             self.rebuild(term);
@@ -95,7 +96,7 @@ impl Bindings {
     }
 
     pub fn rebuild_terms(&mut self, terms: &mut [Term])
-        ensures { RebuildsTerms self.old.terms.entries self.new.terms.entries
+        ensures { RebuildsTerms (waiting self.old) (waiting self.new)
             (map tree terms.old) (map tree terms.new) }
     {
         for term in terms {
@@ -104,7 +105,7 @@ impl Bindings {
     }
 
     pub fn rebuild_equations(&mut self, equations: &mut [Equation])
-        ensures { RebuildsPairs self.old.terms.entries self.new.terms.entries
+        ensures { RebuildsPairs (waiting self.old) (waiting self.new)
             (map pair equations.old) (map pair equations.new) }
     {
         for equation in equations {

@@ -5,7 +5,7 @@ ghost use Rattle.std.specs.List.{flat_map};
 ghost use Rattle.indexmap.specs.IndexMap.{get};
 ghost use Rattle.ic_term.specs.Tree.{names};
 ghost use Rattle.ic_term.specs.Term.{tree, cell_tree, pair};
-ghost use Rattle.ic_settle.specs.inner.Containers.{IsLinked, IsRoot, AreUnlinkedFrom, AreKnown, IsOutlet, IsChosen, noted, noted_in, noted_equations, noted_from, elsewhere, outlet_at, outlet};
+ghost use Rattle.ic_settle.specs.lemmas.Containers.{IsLinked, IsRoot, AreUnlinkedFrom, AreKnown, IsOutlet, IsChosen, noted, noted_in, noted_equations, noted_from, elsewhere, outlet_at, outlet};
 
 use crate::applicability::{Applicable, Side};
 use ic_term::{Cell, Equation, Term};

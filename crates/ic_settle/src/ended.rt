@@ -7,7 +7,7 @@ ghost use Rattle.ic_term.specs.Tree.{names, pair_names};
 ghost use Rattle.ic_term.specs.Term.{tree, cell_tree, pair};
 ghost use Rattle.ic_term.specs.Configuration.{occurrences, configuration_names};
 ghost use Rattle.ic_settle.specs.Settling.{settling_step};
-ghost use Rattle.ic_settle.specs.inner.Ended.{is_applicable, has_applicable};
+ghost use Rattle.ic_settle.specs.lemmas.Ended.{is_applicable, has_applicable};
 
 use crate::applicability::occurs;
 use arrayvec::ArrayVec;

@@ -3,7 +3,8 @@
 ghost use Rattle.std.specs.Prelude.{◌≡◌, IfOk, length, map};
 ghost use Rattle.ic_term.specs.Term.{tree, pair};
 ghost use Rattle.ic_settle.specs.Bindings.{replaced};
-ghost use Rattle.ic_settle.specs.inner.Passing.{IsPassed, bound_sides};
+ghost use Rattle.ic_settle.specs.inner.WaitingTerms.{waiting};
+ghost use Rattle.ic_settle.specs.lemmas.Passed.{IsPassed, bound_sides};
 
 use crate::applicability::{Applicable, other_side};
 use crate::bindings::Bindings;
@@ -30,7 +31,7 @@ pub(crate) fn pass(alloc: Global, config: Config) -> Result<Passed, AllocError>
     ensures interface { IfOk result (λ p. map tree p.interface.items ≡ config.interface) }
     ensures next { IfOk result (λ p. p.next ≡ config.next) }
     ensures passed { IfOk result
-        (λ p. IsPassed config (map pair p.kept.items) p.bindings.terms.entries) }
+        (λ p. IsPassed config (map pair p.kept.items) (waiting p.bindings)) }
     ensures length { IfOk result (λ p. length p.chosen.items ≡ length config.equations) }
     ensures chosen { IfOk result
         (λ p. bound_sides config.equations p.chosen.items ≡ replaced config) }

@@ -8,7 +8,7 @@ ghost use Rattle.ic_settle.specs.Settling.{settled};
 ghost use Rattle.ic_settle.specs.NameSteps.{NameStep, NameSteps};
 ghost use Rattle.ic_settle.specs.Sides.{other_side};
 ghost use Rattle.ic_settle.specs.Bindings.{replaced, binding_of};
-ghost use Rattle.ic_settle.specs.inner.Passing.{bound_sides};
+ghost use Rattle.ic_settle.specs.lemmas.Passed.{bound_sides};
 
 use crate::applicability::{Applicable, Side};
 use crate::pass::{Passed, pass};

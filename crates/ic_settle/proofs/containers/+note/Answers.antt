@@ -4,9 +4,9 @@ use Rattle.indexmap.specs.IndexMap.{get}
 use Rattle.ic_term.specs.declared.term.Term.{Term}
 use Rattle.ic_term.specs.Tree.{names, names_of, trees_of}
 use Rattle.ic_term.specs.Term.{tree}
-use Rattle.ic_settle.specs.inner.Containers.{noted_in}
+use Rattle.ic_settle.specs.lemmas.Containers.{noted_in}
 use Rattle.ic_settle.proofs.ListLemmas.{drop_at}
-use Rattle.ic_settle.proofs.Spots.{noted_in_append}
+use Rattle.ic_settle.specs.lemmas.Spots.{noted_in_append}
 use Rattle.ic_settle.proofs.containers.+note.Goals as goal
 
 pub note_names_of-loop-term-preserved : goal.note_names_of-loop-term-preserved

@@ -3,7 +3,7 @@ use Rattle.std.specs.Prelude.{nat_eq}
 use Rattle.indexmap.specs.IndexMap.{get}
 use Rattle.ic_term.specs.Tree.{names, names_of, trees_of}
 use Rattle.ic_term.specs.Term.{tree, cell_tree}
-use Rattle.ic_settle.specs.inner.Containers.{noted_in}
+use Rattle.ic_settle.specs.lemmas.Containers.{noted_in}
 use Rattle.ic_settle.proofs.containers.+note.Given as goal
 
 -- what is noted so far, with what is left, is what the whole gives

@@ -3,7 +3,7 @@ use Rattle.std.specs.Prelude.{nat_eq}
 use Rattle.indexmap.specs.IndexMap.{get}
 use Rattle.ic_term.specs.Term.{tree}
 use Rattle.ic_term.specs.lemmas.TermLaws.{tree-Name}
-use Rattle.ic_settle.proofs.Deciding.{outlet_second}
+use Rattle.ic_settle.specs.lemmas.Deciding.{outlet_second}
 use Rattle.ic_settle.proofs.containers.find_outlet.Goals as goal
 
 pub returns-then-target-place-2-clause-root : goal.returns-then-target-place-2-clause-root

@@ -4,9 +4,9 @@ use Rattle.indexmap.specs.IndexMap.{get}
 use Rattle.ic_term.specs.declared.term.Equation.{Equation}
 use Rattle.ic_term.specs.Tree.{names}
 use Rattle.ic_term.specs.Term.{tree, pair}
-use Rattle.ic_settle.specs.inner.Containers.{noted_in, noted_equations}
+use Rattle.ic_settle.specs.lemmas.Containers.{noted_in, noted_equations}
 use Rattle.ic_settle.proofs.ListLemmas.{drop_at}
-use Rattle.ic_settle.proofs.Spots.{noted_in_append}
+use Rattle.ic_settle.specs.lemmas.Spots.{noted_in_append}
 use Rattle.ic_settle.proofs.containers.note_equations.Goals as goal
 
 pub loop-place-preserved : goal.loop-place-preserved

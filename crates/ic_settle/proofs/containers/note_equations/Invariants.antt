@@ -2,7 +2,7 @@ use Rattle.std.proofs.Common.{◌≡◌, ℕ, drop, map}
 use Rattle.std.specs.Prelude.{nat_eq}
 use Rattle.indexmap.specs.IndexMap.{get}
 use Rattle.ic_term.specs.Term.{pair}
-use Rattle.ic_settle.specs.inner.Containers.{noted_equations}
+use Rattle.ic_settle.specs.lemmas.Containers.{noted_equations}
 use Rattle.ic_settle.proofs.containers.note_equations.Given as goal
 
 -- what is noted so far, with what is left, is what the whole gives

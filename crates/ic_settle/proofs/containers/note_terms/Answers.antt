@@ -5,9 +5,9 @@ use Rattle.indexmap.specs.IndexMap.{get}
 use Rattle.ic_term.specs.declared.term.Term.{Term}
 use Rattle.ic_term.specs.Tree.{names}
 use Rattle.ic_term.specs.Term.{tree}
-use Rattle.ic_settle.specs.inner.Containers.{noted_in}
+use Rattle.ic_settle.specs.lemmas.Containers.{noted_in}
 use Rattle.ic_settle.proofs.ListLemmas.{drop_at}
-use Rattle.ic_settle.proofs.Spots.{noted_in_append}
+use Rattle.ic_settle.specs.lemmas.Spots.{noted_in_append}
 use Rattle.ic_settle.proofs.containers.note_terms.Goals as goal
 
 pub loop-term-preserved : goal.loop-term-preserved

@@ -4,7 +4,7 @@ use Rattle.std.specs.List.{flat_map}
 use Rattle.indexmap.specs.IndexMap.{get}
 use Rattle.ic_term.specs.Tree.{names}
 use Rattle.ic_term.specs.Term.{tree}
-use Rattle.ic_settle.specs.inner.Containers.{noted_in}
+use Rattle.ic_settle.specs.lemmas.Containers.{noted_in}
 use Rattle.ic_settle.proofs.containers.note_terms.Given as goal
 
 -- what is noted so far, with what is left, is what the whole gives

@@ -1,6 +1,6 @@
 use Rattle.std.proofs.Common.{◌≡◌, ◌∙◌, get_or, arith}
 use Rattle.std.proofs.lemmas.List.{length-set}
-use Rattle.ic_settle.proofs.Links.{two_along, two_within, halved-linked, halved-unlinked, halved-along, halved-root}
+use Rattle.ic_settle.specs.lemmas.Links.{two_along, two_within, halved-linked, halved-unlinked, halved-along, halved-root}
 use Rattle.ic_settle.proofs.containers.root.Goals as goal
 
 pub loop-links-preserved : goal.loop-links-preserved

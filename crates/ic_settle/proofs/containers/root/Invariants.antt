@@ -1,5 +1,5 @@
 use Rattle.std.proofs.Common.{◌≡◌, ℕ, ◌-◌, ◌<◌, ◌==◌, cond, get_or, length}
-use Rattle.ic_settle.specs.inner.Containers.{IsLinked, IsRoot}
+use Rattle.ic_settle.specs.lemmas.Containers.{IsLinked, IsRoot}
 use Rattle.ic_settle.proofs.containers.root.Given as goal
 
 -- the links end where they ended, from this place as from the first

@@ -6,7 +6,7 @@ use Rattle.ic_term.specs.Tree.{nodes, names, names_of, trees_of}
 use Rattle.ic_term.specs.Term.{tree, cell_tree}
 use Rattle.ic_settle.proofs.ListLemmas.{drop_at}
 use Rattle.ic_settle.proofs.NameCounts.{next_fits}
-use Rattle.ic_settle.proofs.PutEach.{cell-nodes}
+use Rattle.ic_settle.proofs.CellNodes.{cell-nodes}
 use Rattle.ic_settle.proofs.ended.+push.Goals as goal
 
 pub push_names_of-push_names-requires : goal.push_names_of-push_names-requires

@@ -1,7 +1,7 @@
 use Rattle.std.proofs.Common.{◌≡◌, map, drop}
 use Rattle.std.specs.List.{list_any}
 use Rattle.ic_term.specs.Term.{pair}
-use Rattle.ic_settle.specs.inner.Ended.{has_applicable}
+use Rattle.ic_settle.specs.lemmas.Ended.{has_applicable}
 use Rattle.ic_settle.proofs.ended.any_applicable.Given as goal
 
 -- the answer is that of those left

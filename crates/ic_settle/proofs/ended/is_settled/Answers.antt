@@ -1,8 +1,8 @@
 use Rattle.std.proofs.Common.{ap, map, not, ◌∙◌}
 use Rattle.std.specs.List.{list_any}
 use Rattle.ic_term.specs.Term.{pair}
-use Rattle.ic_settle.specs.inner.Ended.{has_applicable}
-use Rattle.ic_settle.proofs.Twice.{settled_where}
+use Rattle.ic_settle.specs.lemmas.Ended.{has_applicable}
+use Rattle.ic_settle.specs.lemmas.Twice.{settled_where}
 use Rattle.ic_settle.proofs.ended.is_settled.Goals as goal
 
 pub returns : goal.returns

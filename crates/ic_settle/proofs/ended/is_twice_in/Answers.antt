@@ -1,6 +1,6 @@
 use Rattle.std.proofs.Common.{ℕ, arith, ltb, ltb-true, ltb-false, rules}
 use Rattle.std.proofs.lemmas.List.Sorted.{IsPartitionPoint-from_clause, IsPartitionedBy-ltb}
-use Rattle.ic_settle.proofs.Twice.{twice_at, found_twice, found_none}
+use Rattle.ic_settle.specs.lemmas.Twice.{twice_at, found_twice, found_none}
 use Rattle.ic_settle.proofs.ended.is_twice_in.Goals as goal
 
 pub returns-then-first-names : goal.returns-then-first-names

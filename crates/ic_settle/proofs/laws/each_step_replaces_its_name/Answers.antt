@@ -1,4 +1,4 @@
-use Rattle.ic_settle.proofs.Replaced.{none_replaced, replaced_names, replaces_first, replaced_sides, replaced_count}
+use Rattle.ic_settle.specs.lemmas.Replaced.{none_replaced, replaced_names, replaces_first, replaced_sides, replaced_count}
 use Rattle.ic_settle.proofs.laws.each_step_replaces_its_name.Goals as goal
 
 pub returns-clause-none : goal.returns-clause-none

@@ -3,7 +3,8 @@ use Rattle.std.proofs.lemmas.List.{drop_all, with_items_is}
 use Rattle.ic_term.specs.Configuration.{Configuration}
 use Rattle.ic_settle.specs.Settling.{settled}
 use Rattle.ic_settle.specs.NameSteps.{NameStep}
-use Rattle.ic_settle.proofs.Settles.{Found, settles-parts, settles-end, found-once, found-step, found-none, take_rest}
+use Rattle.ic_settle.specs.lemmas.Settles.{settles-parts, settles-end}
+use Rattle.ic_settle.proofs.Found.{Found, found-once, found-step, found-none, take_rest}
 use Rattle.ic_settle.proofs.laws.settle_slowly.Goals as goal
 use Rattle.ic_settle.proofs.laws.settle_slowly.Goals.{After-from_parts}
 

@@ -1,6 +1,6 @@
 use Rattle.std.proofs.Common.{◌-◌, map, take, drop, length}
 use Rattle.ic_term.specs.Term.{tree, pair}
-use Rattle.ic_settle.proofs.Settles.{Settles}
+use Rattle.ic_settle.specs.lemmas.Settles.{Settles}
 use Rattle.ic_settle.proofs.laws.settle_slowly.Given as goal
 
 -- the parts are a configuration on its way, and the equations before the place have no applicable side

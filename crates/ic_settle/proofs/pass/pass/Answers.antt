@@ -3,16 +3,16 @@ use Rattle.std.proofs.lemmas.List.{length-map}
 use Rattle.std.specs.Prelude.{nat_eq}
 use Rattle.std.specs.Vec.Iter.{into_iter_items}
 use Rattle.indexmap.specs.IndexMap.{get}
-use Rattle.ic_term.specs.declared.term.Term.{Term}
 use Rattle.ic_term.specs.declared.term.Equation.{Equation}
-use Rattle.ic_term.specs.Tree.{Pair}
+use Rattle.ic_term.specs.Tree.{Tree, Pair}
 use Rattle.ic_term.specs.Term.{tree, pair}
+use Rattle.ic_settle.specs.inner.WaitingTerms.{waiting}
 use Rattle.ic_settle.specs.declared.applicability.Applicable.{Applicable}
-use Rattle.ic_settle.specs.inner.Containers.{noted_from}
-use Rattle.ic_settle.proofs.Links.{own-linked}
-use Rattle.ic_settle.proofs.Spots.{placed-within}
-use Rattle.ic_settle.proofs.Passing.{IsPassing, passing-start, passing-end}
-use Rattle.ic_settle.proofs.PassTurns.{list-none, list-new, list-some}
+use Rattle.ic_settle.specs.lemmas.Containers.{noted_from}
+use Rattle.ic_settle.specs.lemmas.Links.{own-linked}
+use Rattle.ic_settle.specs.lemmas.Spots.{placed-within}
+use Rattle.ic_settle.specs.lemmas.Passing.{IsPassing, passing-start, passing-end}
+use Rattle.ic_settle.proofs.PassLists.{list-none, list-new, list-some}
 use Rattle.ic_settle.proofs.pass.pass.Goals as goal
 
 pub loop-equation-init : goal.loop-equation-init
@@ -33,9 +33,9 @@ loop-equation-init c =
     let R : List Pair → Type 0 = λ rest. IsPassing config [] [] links (get nat_eq c.in_ok-containers.containers.places) [] rest in
     let C : List (Option Applicable) → Type 0 = λ chosen. IsPassing config [] [] links (get nat_eq c.in_ok-containers.containers.places) chosen
     (map pair (into_iter_items c.into_iter-equation-iterator.result)) in
-    let E : List (ℕ × Term) → Type 0 = λ es. IsPassing config [] es links (get nat_eq c.in_ok-containers.containers.places) c.in_ok-chosen.chosen.items
+    let E : List (ℕ × Tree) → Type 0 = λ es. IsPassing config [] es links (get nat_eq c.in_ok-containers.containers.places) c.in_ok-chosen.chosen.items
     (map pair (into_iter_items c.into_iter-equation-iterator.result)) in
-    let K : List Equation → Type 0 = λ kept. IsPassing config (map pair kept) c.in_ok-bindings.bindings.terms.entries links (get nat_eq c.in_ok-containers.containers.places) c.in_ok-chosen.chosen.items
+    let K : List Equation → Type 0 = λ kept. IsPassing config (map pair kept) (waiting c.in_ok-bindings.bindings) links (get nat_eq c.in_ok-containers.containers.places) c.in_ok-chosen.chosen.items
     (map pair (into_iter_items c.into_iter-equation-iterator.result)) in
     record {
       counted = gives.1 ∙ c.into_parts-interface.result.1.ok.0 ∙ sym (ap length gives.0);
@@ -52,7 +52,7 @@ pub insert-requires : goal.insert-requires
 insert-requires c =
     let i = c.loop-equation.invariant in
     let q : Equation = record { left = c.resolved-left.result; right = c.resolved-right.result } in
-    list-new c.args.config c.loop-equation.kept.items c.loop-equation.bindings.terms.entries c.resolved-left.new.self.terms.entries c.resolved-right.new.self.terms.entries
+    list-new c.args.config c.loop-equation.kept.items (waiting c.loop-equation.bindings) (waiting c.resolved-left.new.self) (waiting c.resolved-right.new.self)
     c.loop-equation.containers.links.items c.applicable-applicable.new.self.links.items (get nat_eq c.loop-equation.containers.places) c.loop-equation.chosen.items
     (into_iter_items c.loop-equation.equation-iterator) (into_iter_items c.next.new.self) c.in-Some.equation q c.len-in-loop-equation.result (Some c.in-Some-applicable.field-0)
     i.passing c.in-Some.ensures.steps.0 c.resolved-left.ensures.resolves c.resolved-right.ensures.resolves (c.len-in-loop-equation.ensures ∙ c.loop-equation.chosen.ok.0)
@@ -66,10 +66,10 @@ loop-equation-preserved-in-Continue-branch-6 c =
     let a = c.in-Some-applicable.field-0 in
     let applied = c.in-Some-applicable.ensures in
     let links = c.applicable-applicable.new.self.links.items in
-    let after = c.insert.new.self.terms.entries in
+    let after = (waiting c.insert.new.self) in
     let first = c.in-Some.ensures.steps.0 in
     let pushed : c.push.new.self.items ≡ c.loop-equation.chosen.items ++ Some a ∷ [] = c.in_ok-push.ensures.items ∙ ap (λ o. c.loop-equation.chosen.items ++ o ∷ []) c.in-Some-applicable.is in
-    let next = list-some c.args.config c.loop-equation.kept.items c.loop-equation.bindings.terms.entries c.resolved-left.new.self.terms.entries c.resolved-right.new.self.terms.entries
+    let next = list-some c.args.config c.loop-equation.kept.items (waiting c.loop-equation.bindings) (waiting c.resolved-left.new.self) (waiting c.resolved-right.new.self)
     c.loop-equation.containers.links.items links (get nat_eq c.loop-equation.containers.places) c.loop-equation.chosen.items
     (into_iter_items c.loop-equation.equation-iterator) (into_iter_items c.next.new.self) c.in-Some.equation q c.len-in-loop-equation.result (Some a)
     i.passing first c.resolved-left.ensures.resolves c.resolved-right.ensures.resolves place applied.chosen a refl after (tree c.other_side.result) c.other_side.ensures
@@ -95,11 +95,11 @@ loop-equation-preserved c =
     let place = c.len-in-loop-equation.ensures ∙ c.loop-equation.chosen.ok.0 in
     let applied = c.in-None-applicable.ensures in
     let links = c.applicable-applicable.new.self.links.items in
-    let after = c.resolved-right.new.self.terms.entries in
+    let after = (waiting c.resolved-right.new.self) in
     let first = c.in-Some.ensures.steps.0 in
     let nothing : Option Applicable = None in
     let pushed : c.push.new.self.items ≡ c.loop-equation.chosen.items ++ None ∷ [] = c.in_ok-push.ensures.items ∙ ap (λ o. c.loop-equation.chosen.items ++ o ∷ []) c.in-None-applicable.is in
-    let next = list-none c.args.config c.loop-equation.kept.items c.loop-equation.bindings.terms.entries c.resolved-left.new.self.terms.entries after
+    let next = list-none c.args.config c.loop-equation.kept.items (waiting c.loop-equation.bindings) (waiting c.resolved-left.new.self) after
     c.loop-equation.containers.links.items links (get nat_eq c.loop-equation.containers.places) c.loop-equation.chosen.items
     (into_iter_items c.loop-equation.equation-iterator) (into_iter_items c.next.new.self) c.in-Some.equation q c.len-in-loop-equation.result nothing
     i.passing first c.resolved-left.ensures.resolves c.resolved-right.ensures.resolves place applied.chosen refl in
@@ -127,7 +127,7 @@ pub returns-clause-passed : goal.returns-clause-passed
 returns-clause-passed c =
     let i = c.loop-equation.invariant in
     let empty : length (into_iter_items c.loop-equation.equation-iterator) ≡ 0 = sym i.counted ∙ c.in-None.ensures.steps.0 in
-    let R : List Pair → Type 0 = λ rest. IsPassing c.args.config (map pair c.loop-equation.kept.items) c.loop-equation.bindings.terms.entries c.loop-equation.containers.links.items
+    let R : List Pair → Type 0 = λ rest. IsPassing c.args.config (map pair c.loop-equation.kept.items) (waiting c.loop-equation.bindings) c.loop-equation.containers.links.items
     (get nat_eq c.loop-equation.containers.places) c.loop-equation.chosen.items rest in
     (passing-end c.args.config _ _ _ _ _ (transport R (no_pairs (into_iter_items c.loop-equation.equation-iterator) empty) i.passing)).0
 
@@ -135,6 +135,6 @@ pub returns-clause-chosen : goal.returns-clause-chosen
 returns-clause-chosen c =
     let i = c.loop-equation.invariant in
     let empty : length (into_iter_items c.loop-equation.equation-iterator) ≡ 0 = sym i.counted ∙ c.in-None.ensures.steps.0 in
-    let R : List Pair → Type 0 = λ rest. IsPassing c.args.config (map pair c.loop-equation.kept.items) c.loop-equation.bindings.terms.entries c.loop-equation.containers.links.items
+    let R : List Pair → Type 0 = λ rest. IsPassing c.args.config (map pair c.loop-equation.kept.items) (waiting c.loop-equation.bindings) c.loop-equation.containers.links.items
     (get nat_eq c.loop-equation.containers.places) c.loop-equation.chosen.items rest in
     (passing-end c.args.config _ _ _ _ _ (transport R (no_pairs (into_iter_items c.loop-equation.equation-iterator) empty) i.passing)).1.1

@@ -3,8 +3,9 @@ use Rattle.std.specs.Prelude.{nat_eq}
 use Rattle.std.specs.Vec.Iter.{into_iter_items, into_iter_len}
 use Rattle.indexmap.specs.IndexMap.{get}
 use Rattle.ic_term.specs.Term.{pair}
-use Rattle.ic_settle.specs.inner.Containers.{IsLinked, AreUnlinkedFrom, AreKnown}
-use Rattle.ic_settle.proofs.Passing.{IsPassing}
+use Rattle.ic_settle.specs.inner.WaitingTerms.{waiting}
+use Rattle.ic_settle.specs.lemmas.Containers.{IsLinked, AreUnlinkedFrom, AreKnown}
+use Rattle.ic_settle.specs.lemmas.Passing.{IsPassing}
 use Rattle.ic_settle.proofs.pass.pass.Given as goal
 
 -- the slow settling is on its way, and the containers are sound
@@ -15,6 +16,6 @@ invariant-loop-equation l = record {
   size : length l.containers.links.items ≡ length l.fn.config.equations + 1;
   free : AreUnlinkedFrom (length l.chosen.items) l.containers.links.items;
   known : AreKnown l.containers.links.items (get nat_eq l.containers.places);
-  passing : IsPassing l.fn.config (map pair l.kept.items) l.bindings.terms.entries l.containers.links.items (get nat_eq l.containers.places)
+  passing : IsPassing l.fn.config (map pair l.kept.items) (waiting l.bindings) l.containers.links.items (get nat_eq l.containers.places)
       l.chosen.items (map pair (into_iter_items l.equation-iterator));
 }

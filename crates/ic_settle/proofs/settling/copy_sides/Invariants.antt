@@ -1,7 +1,7 @@
 use Rattle.std.proofs.Common.{◌≡◌, ◌++◌, drop, map}
 use Rattle.ic_term.specs.Term.{pair}
 use Rattle.ic_settle.specs.Bindings.{binding_of}
-use Rattle.ic_settle.specs.inner.Passing.{bound_sides}
+use Rattle.ic_settle.specs.lemmas.Passed.{bound_sides}
 use Rattle.ic_settle.proofs.settling.copy_sides.Given as goal
 
 -- what is copied so far, and what is left, are the whole

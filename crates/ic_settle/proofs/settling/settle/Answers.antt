@@ -4,10 +4,11 @@ use Rattle.ic_term.specs.declared.term.Equation.{Equation}
 use Rattle.ic_term.specs.Symbol.{Symbol, is_over}
 use Rattle.ic_term.specs.Configuration.{Configuration, IsConfiguration}
 use Rattle.ic_term.specs.Term.{tree, pair}
+use Rattle.ic_settle.specs.inner.WaitingTerms.{waiting}
 use Rattle.ic_settle.specs.NameSteps.{NameStep, NameSteps}
-use Rattle.ic_settle.specs.inner.Passing.{put_in}
-use Rattle.ic_settle.specs.inner.Waiting.{RebuildsPairs}
-use Rattle.ic_settle.proofs.Rebuilt.{rebuilt}
+use Rattle.ic_settle.specs.lemmas.Passed.{put_in}
+use Rattle.ic_settle.specs.lemmas.Waiting.{RebuildsPairs}
+use Rattle.ic_settle.specs.lemmas.Rebuilt.{rebuilt}
 use Rattle.ic_settle.proofs.settling.settle.Goals as goal
 use Rattle.ic_settle.proofs.settling.settle.Goals.{After-rebuild_equations}
 
@@ -23,9 +24,9 @@ made c =
     let f = c.in_ok-interface.field-0 in
     let ts = c.rebuild_terms.new.terms in
     let ps = c.rebuild_equations.new.equations in
-    let E : List Equation → Type 0 = λ l. RebuildsPairs c.rebuild_terms.new.self.terms.entries c.rebuild_equations.new.self.terms.entries (map pair l) (map pair ps) in
+    let E : List Equation → Type 0 = λ l. RebuildsPairs (waiting c.rebuild_terms.new.self) (waiting c.rebuild_equations.new.self) (map pair l) (map pair ps) in
     let given : map tree c.deref_mut.result.now ≡ c.args.config.interface = ap (map tree) c.deref_mut.ensures.value ∙ parts.interface in
-    rebuilt c.args.config (map pair f.kept.items) f.bindings.terms.entries c.rebuild_terms.new.self.terms.entries c.rebuild_equations.new.self.terms.entries
+    rebuilt c.args.config (map pair f.kept.items) (waiting f.bindings) (waiting c.rebuild_terms.new.self) (waiting c.rebuild_equations.new.self)
     (map tree c.deref_mut.result.now) (map tree ts) (map pair ps) f.next parts.passed given parts.next c.rebuild_terms.ensures
     (transport E c.deref_mut-2.ensures.value c.rebuild_equations.ensures)
 

@@ -8,15 +8,16 @@ use Rattle.ic_term.specs.declared.term.Term.TheVariants.{Name, Agent}
 use Rattle.ic_term.specs.Tree.{Tree, agent, trees_of, nodes}
 use Rattle.ic_term.specs.Term.{tree, cell_tree}
 use Rattle.ic_term.specs.lemmas.TermLaws.{tree-Name, tree-Agent, cell_tree-out, cell_tree-roll}
-use Rattle.ic_settle.specs.inner.Waiting.{Resolves, Rebuilds}
-use Rattle.ic_settle.proofs.Delays.{RebuildsSoFar, rebuilds-name, rebuilds-agent, rebuilds-end}
-use Rattle.ic_settle.proofs.PutEach.{cell-nodes}
+use Rattle.ic_settle.specs.inner.WaitingTerms.{waiting}
+use Rattle.ic_settle.specs.lemmas.Waiting.{Resolves, Rebuilds}
+use Rattle.ic_settle.specs.lemmas.Delays.{RebuildsSoFar, rebuilds-name, rebuilds-agent, rebuilds-end}
+use Rattle.ic_settle.proofs.CellNodes.{cell-nodes}
 use Rattle.ic_settle.proofs.bindings.Bindings.+rebuild.Goals as goal
 
 pub rebuild-returns-in-Name-clause-rebuilds : goal.rebuild-returns-in-Name-clause-rebuilds
 rebuild-returns-in-Name-clause-rebuilds t c =
-    let es = c.args.self.now.terms.entries in
-    let es' = c.resolved.new.self.terms.entries in
+    let es = (waiting c.args.self.now) in
+    let es' = (waiting c.resolved.new.self) in
     let P : Term → Type 0 = λ w. Resolves es es' (tree w) (tree (Name c.in-Name.name)) in
     let Q : Tree → Type 0 = λ u. Resolves es es' (tree c.args.term.now) u in
     let R : Tree → Type 0 = λ u. Rebuilds es es' (tree c.args.term.now) u in
@@ -25,9 +26,9 @@ rebuild-returns-in-Name-clause-rebuilds t c =
 
 pub rebuild-returns-in-Agent-clause-rebuilds : goal.rebuild-returns-in-Agent-clause-rebuilds
 rebuild-returns-in-Agent-clause-rebuilds t c =
-    let es = c.args.self.now.terms.entries in
-    let es' = c.resolved.new.self.terms.entries in
-    let es'' = c.rebuild_arguments.new.self.terms.entries in
+    let es = (waiting c.args.self.now) in
+    let es' = (waiting c.resolved.new.self) in
+    let es'' = (waiting c.rebuild_arguments.new.self) in
     let a = c.rebuild_arguments.ensures.rebuilds in
     let made_cell = with_value c.in-Agent.cell c.rebuild_arguments.new.cell in
     let shape : tree (Agent c.in-Agent.cell) ≡ agent a.sym (trees_of a.given) = tree-Agent c.in-Agent.cell ∙ ap cell_tree (sym c.deref_mut.ensures.value) ∙ a.given_is in
@@ -42,8 +43,8 @@ pub rebuild_arguments-returns-clause-rebuilds : goal.rebuild_arguments-returns-c
 rebuild_arguments-returns-clause-rebuilds t c =
     let items = c.loop-term.term-items in
     let i = c.loop-term.term-index in
-    let es = c.args.self.now.terms.entries in
-    let es' = c.loop-term.self.terms.entries in
+    let es = (waiting c.args.self.now) in
+    let es' = (waiting c.loop-term.self) in
     let given : List Tree = map tree c.args.cell.now.args.items in
     let at_end : length items ≤ i = omega arith in
     let P : List Term → Type 0 = λ done. RebuildsSoFar es given es' (map tree done) (map tree (drop i items)) in

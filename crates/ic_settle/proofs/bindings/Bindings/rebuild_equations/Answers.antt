@@ -4,8 +4,9 @@ use Rattle.std.proofs.lemmas.List.{map-append, take_more_set, drop-set-lt}
 use Rattle.ic_term.specs.declared.term.Equation.{Equation}
 use Rattle.ic_term.specs.Tree.{Pair}
 use Rattle.ic_term.specs.Term.{tree, pair}
-use Rattle.ic_settle.specs.inner.Waiting.{Rebuilds}
-use Rattle.ic_settle.proofs.Delays.{RebuildsPairsSoFar, pairs-more}
+use Rattle.ic_settle.specs.inner.WaitingTerms.{waiting}
+use Rattle.ic_settle.specs.lemmas.Waiting.{Rebuilds}
+use Rattle.ic_settle.specs.lemmas.Delays.{RebuildsPairsSoFar, pairs-more}
 use Rattle.ic_settle.proofs.ListLemmas.{drop_at}
 use Rattle.ic_settle.proofs.bindings.Bindings.rebuild_equations.Goals as goal
 
@@ -15,10 +16,10 @@ loop-equation-preserved c =
     let i = c.loop-equation.equation-index in
     let e = c.equation-item.result in
     let q : Equation = record { left = c.rebuild.new.term; right = c.rebuild-in-loop-equation.new.term } in
-    let es = c.args.self.now.terms.entries in
-    let es' = c.loop-equation.self.terms.entries in
-    let es'' = c.rebuild.new.self.terms.entries in
-    let es''' = c.rebuild-in-loop-equation.new.self.terms.entries in
+    let es = (waiting c.args.self.now) in
+    let es' = (waiting c.loop-equation.self) in
+    let es'' = (waiting c.rebuild.new.self) in
+    let es''' = (waiting c.rebuild-in-loop-equation.new.self) in
     let given : List Pair = map pair c.args.equations.now in
     let within : i < length items = omega arith in
     let here : drop i items ≡ e ∷ drop (i + 1) items = drop_at items i e within c.equation-item.is in

@@ -3,8 +3,8 @@ use Rattle.std.proofs.Math.ListN.{set}
 use Rattle.std.proofs.lemmas.List.{with_items_is}
 use Rattle.ic_settle.specs.declared.applicability.Applicable.{Applicable}
 use Rattle.ic_settle.specs.declared.containers.Outlet.{Outlet}
-use Rattle.ic_settle.specs.inner.Containers.{IsRoot, redirected, applicable_of}
-use Rattle.ic_settle.proofs.Links.{still-free, set-linked, set-unlinked, set-root}
+use Rattle.ic_settle.specs.lemmas.Containers.{IsRoot, redirected, applicable_of}
+use Rattle.ic_settle.specs.lemmas.Links.{still-free, set-linked, set-unlinked, set-root}
 use Rattle.ic_settle.proofs.containers.Containers.applicable.Goals as goal
 
 pub first_outlet-requires-clause-known : goal.first_outlet-requires-clause-known

@@ -5,8 +5,8 @@ use Rattle.std.specs.List.{flat_map}
 use Rattle.std.specs.Map.{lookup}
 use Rattle.ic_term.specs.Tree.{names}
 use Rattle.ic_term.specs.Term.{tree, pair}
-use Rattle.ic_settle.specs.inner.Containers.{noted_in, noted_equations}
-use Rattle.ic_settle.proofs.Spots.{noted_behind}
+use Rattle.ic_settle.specs.lemmas.Containers.{noted_in, noted_equations}
+use Rattle.ic_settle.specs.lemmas.Spots.{noted_behind}
 use Rattle.ic_settle.proofs.containers.Containers.of.Goals as goal
 
 pub returns-clause-places : goal.returns-clause-places

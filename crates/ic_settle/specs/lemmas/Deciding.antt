@@ -8,12 +8,12 @@ use Rattle.ic_settle.specs.declared.applicability.Side.TheVariants.{Left, Right}
 use Rattle.ic_settle.specs.declared.containers.Outlet.{Outlet}
 use Rattle.ic_settle.specs.Settling.{Binding, occurs, side_binding, binding, first_of_two}
 use Rattle.ic_settle.specs.Sides.{other_side, bound_by}
-use Rattle.ic_settle.specs.inner.Waiting.{put_each, put_each_pair, bound, IsTop}
-use Rattle.ic_settle.specs.inner.Containers.{elsewhere, outlet_at, first_outlet, outlet, applicable_of, redirected}
+use Rattle.ic_settle.specs.lemmas.Waiting.{put_each, put_each_pair, bound, IsTop}
+use Rattle.ic_settle.specs.lemmas.Containers.{elsewhere, outlet_at, first_outlet, outlet, applicable_of, redirected}
 use Rattle.ic_settle.specs.lemmas.SubstitutionLaws.{occurrences-cons, occurrences_none, occurs_none}
 use Rattle.ic_settle.specs.lemmas.MiddleLaws.{occurrences-middle}
-use Rattle.ic_settle.proofs.PutEach.{put_each-unbound, put_each-stays_agent}
-use Rattle.ic_settle.proofs.Spots.{IsPlaced, some_same}
+use Rattle.ic_settle.specs.lemmas.PutEach.{put_each-unbound, put_each-stays_agent}
+use Rattle.ic_settle.specs.lemmas.Spots.{IsPlaced, some_same}
 
 -- ---- one or two spots
 

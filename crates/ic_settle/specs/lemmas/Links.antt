@@ -3,7 +3,7 @@ use Rattle.std.proofs.Common.{◌≡◌, ℕ, ◌+◌, ◌-◌, ◌<◌, ◌≤�
 use Rattle.std.proofs.Math.ListN.{set}
 use Rattle.std.proofs.lemmas.Bool.{cases_eq, cases_lt, cases_Bool, cond-true, cond-false, ne_eqb}
 use Rattle.std.proofs.lemmas.List.{get_or-set_same, get_or-set_other, length-set}
-use Rattle.ic_settle.specs.inner.Containers.{IsLinked, IsRoot, AreUnlinkedFrom, redirected}
+use Rattle.ic_settle.specs.lemmas.Containers.{IsLinked, IsRoot, AreUnlinkedFrom, redirected}
 
 -- ---- a step along the links
 

@@ -1,15 +1,14 @@
 -- What the pass over the equations leaves. What settling is doesn't rest on this.
 use Rattle.std.specs.Prelude.{◌≡◌, ℕ, List, [], ◌∷◌, ◌++◌, Option, map, IsTrue}
 use Rattle.std.specs.Option.{option_map, option_to_list}
-use Rattle.ic_term.specs.declared.term.Term.{Term}
-use Rattle.ic_term.specs.Tree.{Pair}
+use Rattle.ic_term.specs.Tree.{Tree, Pair}
 use Rattle.ic_term.specs.Symbol.{Symbol, is_over}
 use Rattle.ic_term.specs.Configuration.{Configuration, IsConfiguration, names_in}
 use Rattle.ic_settle.specs.Settling.{Binding, settled}
 use Rattle.ic_settle.specs.Sides.{bound_by}
 use Rattle.ic_settle.specs.declared.applicability.Applicable.{Applicable}
 use Rattle.ic_settle.specs.NameSteps.{NameStep, NameSteps}
-use Rattle.ic_settle.specs.inner.Waiting.{put_each, put_each_pair, IsDelayed}
+use Rattle.ic_settle.specs.lemmas.Waiting.{put_each, put_each_pair, IsDelayed}
 
 -- a configuration with bindings put in, and these equations kept
 abbrev pub put_in : List Binding → Configuration → List Pair → Configuration
@@ -19,7 +18,7 @@ put_in bs c kept = record c {
 }
 
 -- With all bindings put in, the kept equations and the interface are the settled configuration.
-pub record IsPassed (c : Configuration) (kept : List Pair) (es : List (ℕ × Term)) : Type 0 where
+pub record IsPassed (c : Configuration) (kept : List Pair) (es : List (ℕ × Tree)) : Type 0 where
   pub bs : List Binding
   pub delayed : IsDelayed bs es (names_in c.interface kept)
   pub valid : IsConfiguration (put_in bs c kept)

@@ -4,14 +4,10 @@ use Rattle.std.proofs.lemmas.Bool.{eqb-true, eqb-false, ne_eqb}
 use Rattle.std.specs.List.{flat_map}
 use Rattle.std.specs.Prelude.{sum_by}
 use Rattle.std.proofs.lemmas.List.Sums.{sum_by-cons}
-use Rattle.ic_term.specs.declared.term.Term.{Term}
-use Rattle.ic_term.specs.declared.term.Cell.{Cell, out-Cell}
-use Rattle.ic_term.specs.Term.{tree, cell_tree}
-use Rattle.ic_term.specs.lemmas.TermLaws.{cell_tree-out}
 use Rattle.ic_term.specs.Tree.{Tree, name, agent, Trees, no_trees, more_trees, trees_of, Pair, names, names_of, nodes, nodes_of, pair_names}
 use Rattle.ic_term.specs.Configuration.{names_in, occurrences}
 use Rattle.ic_settle.specs.Settling.{Binding, subst, subst_all, subst_pair}
-use Rattle.ic_settle.specs.inner.Waiting.{put_each, put_each_pair, bound}
+use Rattle.ic_settle.specs.lemmas.Waiting.{put_each, put_each_pair, bound}
 use Rattle.ic_settle.specs.lemmas.SubstitutionLaws.{occurrences-append, occurrences-cons}
 use Rattle.ic_settle.specs.lemmas.WholeLaws.{whole, names_of-whole, subst_all-whole}
 
@@ -134,11 +130,3 @@ occurrences-exact_in n x u ts es ne =
     let renamed : names_of (subst_all x u (whole ts es)) ≡ names_in (map (subst x u) ts) (map (subst_pair x u) es) =
     ap names_of (subst_all-whole x u ts es) ∙ names_of-whole (map (subst x u) ts) (map (subst_pair x u) es) in
     rw (← renamed, ← names_of-whole ts es) exact
-
--- the nodes of an agent, by the program's list of arguments
-arguments-nodes : (ts : List Term) → nodes_of (trees_of (map tree ts)) ≡ sum_by (λ t. nodes (tree t)) ts
-arguments-nodes [] = refl
-arguments-nodes (t ∷ ts) = ap (λ n. nodes (tree t) + n) (arguments-nodes ts) ∙ sym (sum_by-cons (λ u. nodes (tree u)) t ts)
-
-pub cell-nodes : (c : Cell) → nodes (cell_tree c) ≡ 1 + sum_by (λ t. nodes (tree t)) (out-Cell c).args.items
-cell-nodes c = ap nodes (cell_tree-out c) ∙ ap (λ n. 1 + n) (arguments-nodes (out-Cell c).args.items)

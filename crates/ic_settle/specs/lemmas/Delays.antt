@@ -2,13 +2,12 @@
 use Rattle.std.proofs.Common.{◌≡◌, ℕ, ◌+◌, ◌*◌, ◌≤◌, ◌==◌, List, [], ◌∷◌, ◌++◌, Bool, true, false, cond, Option, None, Some, map, refl, sym, ap, ◌∙◌, append_assoc, append-nil, eq-eqb, inl, inr, arith, subst as transport}
 use Rattle.std.proofs.lemmas.Bool.{eqb-true, cases_Bool}
 use Rattle.std.specs.List.{flat_map}
-use Rattle.ic_term.specs.declared.term.Term.{Term}
 use Rattle.ic_term.specs.Tree.{Tree, name, agent, Trees, trees_of, Pair, names, pair_names}
 use Rattle.ic_term.specs.Configuration.{occurrences}
 use Rattle.ic_settle.specs.Settling.{Binding, subst}
-use Rattle.ic_settle.specs.inner.Waiting.{look, IsTaken, IsAdded, put_each, put_each_pair, bound, here, IsDelayed, Resolves, Rebuilds, RebuildsTerms, RebuildsPairs}
+use Rattle.ic_settle.specs.lemmas.Waiting.{look, IsTaken, IsAdded, put_each, put_each_pair, bound, here, IsDelayed, Resolves, Rebuilds, RebuildsTerms, RebuildsPairs}
 use Rattle.ic_settle.specs.lemmas.SubstitutionLaws.{occurrences-append, occurrences-cons, subst-absent}
-use Rattle.ic_settle.proofs.PutEach.{names_of-trees_of, put_each-agent, put_each-unbound, bound-cons}
+use Rattle.ic_settle.specs.lemmas.PutEach.{names_of-trees_of, put_each-agent, put_each-unbound, bound-cons}
 
 one_if : (b : Bool) (m : ℕ) → (b ≡ true → m ≡ 1) → (b ≡ false → m ≡ 0) → m ≡ cond b 1 0
 one_if true m f g = f refl
@@ -16,19 +15,19 @@ one_if false m f g = g refl
 
 -- ---- what is pending, told by its counts
 
-pub delays-fewer : (bs : List Binding) (es : List (ℕ × Term)) (ns ms : List ℕ) → ((y : ℕ) → occurrences y ms ≤ occurrences y ns)
+pub delays-fewer : (bs : List Binding) (es : List (ℕ × Tree)) (ns ms : List ℕ) → ((y : ℕ) → occurrences y ms ≤ occurrences y ns)
     → IsDelayed bs es ns → IsDelayed bs es ms
 delays-fewer bs es ns ms fewer d = record { same = d.same; once = λ y. less _ _ _ _ _ (fewer y) (d.once y); keys = d.keys }
   where
     less : (m n w b e : ℕ) → m ≤ n → n + w + 2 * b ≤ 2 + e → m + w + 2 * b ≤ 2 + e
     less m n w b e f g = omega arith
 
-pub delays-rest : (bs : List Binding) (es : List (ℕ × Term)) (ns rest : List ℕ) → IsDelayed bs es (ns ++ rest) → IsDelayed bs es rest
+pub delays-rest : (bs : List Binding) (es : List (ℕ × Tree)) (ns rest : List ℕ) → IsDelayed bs es (ns ++ rest) → IsDelayed bs es rest
 delays-rest bs es ns rest d = delays-fewer bs es (ns ++ rest) rest (λ y. omega (arith, occurrences-append y ns rest)) d
 
 -- ---- a name that has an entry
 
-module _ (es es' : List (ℕ × Term)) (x : ℕ) (u : Tree) (taken : IsTaken es es' x u) where
+module _ (es es' : List (ℕ × Tree)) (x : ℕ) (u : Tree) (taken : IsTaken es es' x u) where
   left_there : (y : ℕ) (v : Tree) → look es' y ≡ Some v → look es y ≡ Some v
   left_there y v found = elim (cases_Bool (x == y)) [
     | inl e ↦ let gone : look es' y ≡ None = taken.gone y ∙ ap (λ b. cond b None (look es y)) e in
@@ -65,7 +64,7 @@ module _ (es es' : List (ℕ × Term)) (x : ℕ) (u : Tree) (taken : IsTaken es 
 
 -- ---- a name that has none
 
-pub delays-absent : (bs : List Binding) (es : List (ℕ × Term)) (x : ℕ) (rest : List ℕ) → look es x ≡ None → IsDelayed bs es (x ∷ rest) → bound x bs ≡ 0
+pub delays-absent : (bs : List Binding) (es : List (ℕ × Tree)) (x : ℕ) (rest : List ℕ) → look es x ≡ None → IsDelayed bs es (x ∷ rest) → bound x bs ≡ 0
 delays-absent bs es x rest none d =
     let once : occurrences x (x ∷ rest) ≡ 1 + occurrences x rest = occurrences-cons x x rest ∙ ap (λ b. cond b 1 0 + occurrences x rest) (eq-eqb x x refl) in
     step _ _ _ _ _ once (ap here none) (d.once x)
@@ -75,7 +74,7 @@ delays-absent bs es x rest none d =
 
 -- ---- one binding more
 
-module _ (bs : List Binding) (es es' : List (ℕ × Term)) (x : ℕ) (v : Tree) (added : IsAdded es es' x v)
+module _ (bs : List Binding) (es es' : List (ℕ × Tree)) (x : ℕ) (v : Tree) (added : IsAdded es es' x v)
     (free : bound x bs ≡ 0) (absent : occurrences x (names (put_each bs v)) ≡ 0) where
   abbrev binding_of_it : Binding
   binding_of_it = record { name = x; term = put_each bs v }
@@ -121,34 +120,34 @@ module _ (bs : List Binding) (es es' : List (ℕ × Term)) (x : ℕ) (v : Tree) 
 -- ---- a term resolved at its top
 
 -- on the way: the term so far stands for the given one
-abbrev pub ResolvesSoFar : List (ℕ × Term) → List (ℕ × Term) → Tree → Tree → Type 0
+abbrev pub ResolvesSoFar : List (ℕ × Tree) → List (ℕ × Tree) → Tree → Tree → Type 0
 ResolvesSoFar es es' t u = (bs : List Binding) (rest : List ℕ) → IsDelayed bs es (names t ++ rest)
     → (put_each bs u ≡ put_each bs t) × IsDelayed bs es' (names u ++ rest)
 
-pub resolves-start : (es : List (ℕ × Term)) (t : Tree) → ResolvesSoFar es es t t
+pub resolves-start : (es : List (ℕ × Tree)) (t : Tree) → ResolvesSoFar es es t t
 resolves-start es t bs rest d = (refl, d)
 
-pub resolves-more : (es es' es'' : List (ℕ × Term)) (t u : Tree) (x : ℕ) → ResolvesSoFar es es' t (name x) → IsTaken es' es'' x u → ResolvesSoFar es es'' t u
+pub resolves-more : (es es' es'' : List (ℕ × Tree)) (t u : Tree) (x : ℕ) → ResolvesSoFar es es' t (name x) → IsTaken es' es'' x u → ResolvesSoFar es es'' t u
 resolves-more es es' es'' t u x so_far taken bs rest d =
     let before = so_far bs rest d in
     (sym (before.1.same x u taken.there) ∙ before.0, delays-take es' es'' x u taken bs rest before.1)
 
-pub resolves-name : (es es' : List (ℕ × Term)) (t : Tree) (x : ℕ) → ResolvesSoFar es es' t (name x) → look es' x ≡ None → Resolves es es' t (name x)
+pub resolves-name : (es es' : List (ℕ × Tree)) (t : Tree) (x : ℕ) → ResolvesSoFar es es' t (name x) → look es' x ≡ None → Resolves es es' t (name x)
 resolves-name es es' t x so_far none bs rest d =
     let before = so_far bs rest d in
     (before.0, (delays-absent bs es' x rest none before.1, before.1))
 
-pub resolves-agent : (es es' : List (ℕ × Term)) (t : Tree) (s : ℕ) (ts : Trees) → ResolvesSoFar es es' t (agent s ts) → Resolves es es' t (agent s ts)
+pub resolves-agent : (es es' : List (ℕ × Tree)) (t : Tree) (s : ℕ) (ts : Trees) → ResolvesSoFar es es' t (agent s ts) → Resolves es es' t (agent s ts)
 resolves-agent es es' t s ts so_far bs rest d = let before = so_far bs rest d in (before.0, (tt, before.1))
 
 -- ---- a term rebuilt
 
-pub rebuilds-name : (es es' : List (ℕ × Term)) (t : Tree) (x : ℕ) → Resolves es es' t (name x) → Rebuilds es es' t (name x)
+pub rebuilds-name : (es es' : List (ℕ × Tree)) (t : Tree) (x : ℕ) → Resolves es es' t (name x) → Rebuilds es es' t (name x)
 rebuilds-name es es' t x resolves bs rest d =
     let top = resolves bs rest d in
     (sym (put_each-unbound bs x top.1.0) ∙ top.0, delays-rest bs es' (x ∷ []) rest top.1.1)
 
-pub rebuilds-agent : (es es' es'' : List (ℕ × Term)) (t : Tree) (s : ℕ) (ts us : List Tree) → Resolves es es' t (agent s (trees_of ts)) → RebuildsTerms es' es'' ts us
+pub rebuilds-agent : (es es' es'' : List (ℕ × Tree)) (t : Tree) (s : ℕ) (ts us : List Tree) → Resolves es es' t (agent s (trees_of ts)) → RebuildsTerms es' es'' ts us
     → Rebuilds es es'' t (agent s (trees_of us))
 rebuilds-agent es es' es'' t s ts us resolves arguments bs rest d =
     let top = resolves bs rest d in
@@ -158,14 +157,14 @@ rebuilds-agent es es' es'' t s ts us resolves arguments bs rest d =
 
 -- ---- lists on the way: what is done, and what is left
 
-abbrev pub RebuildsSoFar : List (ℕ × Term) → List Tree → List (ℕ × Term) → List Tree → List Tree → Type 0
+abbrev pub RebuildsSoFar : List (ℕ × Tree) → List Tree → List (ℕ × Tree) → List Tree → List Tree → Type 0
 RebuildsSoFar es ts es' done left = (bs : List Binding) (rest : List ℕ) → IsDelayed bs es (flat_map names ts ++ rest)
     → (done ++ map (put_each bs) left ≡ map (put_each bs) ts) × IsDelayed bs es' (flat_map names left ++ rest)
 
-pub rebuilds-start : (es : List (ℕ × Term)) (ts : List Tree) → RebuildsSoFar es ts es [] ts
+pub rebuilds-start : (es : List (ℕ × Tree)) (ts : List Tree) → RebuildsSoFar es ts es [] ts
 rebuilds-start es ts bs rest d = (refl, d)
 
-pub rebuilds-more : (es : List (ℕ × Term)) (ts : List Tree) (es' es'' : List (ℕ × Term)) (done : List Tree) (t u : Tree) (left : List Tree)
+pub rebuilds-more : (es : List (ℕ × Tree)) (ts : List Tree) (es' es'' : List (ℕ × Tree)) (done : List Tree) (t u : Tree) (left : List Tree)
     → RebuildsSoFar es ts es' done (t ∷ left) → Rebuilds es' es'' t u → RebuildsSoFar es ts es'' (done ++ u ∷ []) left
 rebuilds-more es ts es' es'' done t u left so_far rebuilds bs rest d =
     let before = so_far bs rest d in
@@ -173,17 +172,17 @@ rebuilds-more es ts es' es'' done t u left so_far rebuilds bs rest d =
     let one = rebuilds bs (flat_map names left ++ rest) (transport P (append_assoc (names t) (flat_map names left) rest) before.1) in
     (append_assoc done (u ∷ []) (map (put_each bs) left) ∙ ap (λ v. done ++ v ∷ map (put_each bs) left) one.0 ∙ before.0, one.1)
 
-pub rebuilds-end : (es : List (ℕ × Term)) (ts : List Tree) (es' : List (ℕ × Term)) (us : List Tree) → RebuildsSoFar es ts es' us [] → RebuildsTerms es es' ts us
+pub rebuilds-end : (es : List (ℕ × Tree)) (ts : List Tree) (es' : List (ℕ × Tree)) (us : List Tree) → RebuildsSoFar es ts es' us [] → RebuildsTerms es es' ts us
 rebuilds-end es ts es' us so_far bs rest d = let all = so_far bs rest d in (sym (append-nil us) ∙ all.0, all.1)
 
-abbrev pub RebuildsPairsSoFar : List (ℕ × Term) → List Pair → List (ℕ × Term) → List Pair → List Pair → Type 0
+abbrev pub RebuildsPairsSoFar : List (ℕ × Tree) → List Pair → List (ℕ × Tree) → List Pair → List Pair → Type 0
 RebuildsPairsSoFar es ps es' done left = (bs : List Binding) (rest : List ℕ) → IsDelayed bs es (flat_map pair_names ps ++ rest)
     → (done ++ map (put_each_pair bs) left ≡ map (put_each_pair bs) ps) × IsDelayed bs es' (flat_map pair_names left ++ rest)
 
-pub pairs-start : (es : List (ℕ × Term)) (ps : List Pair) → RebuildsPairsSoFar es ps es [] ps
+pub pairs-start : (es : List (ℕ × Tree)) (ps : List Pair) → RebuildsPairsSoFar es ps es [] ps
 pairs-start es ps bs rest d = (refl, d)
 
-pub pairs-more : (es : List (ℕ × Term)) (ps : List Pair) (es' es'' es''' : List (ℕ × Term)) (done : List Pair) (p q : Pair) (left : List Pair)
+pub pairs-more : (es : List (ℕ × Tree)) (ps : List Pair) (es' es'' es''' : List (ℕ × Tree)) (done : List Pair) (p q : Pair) (left : List Pair)
     → RebuildsPairsSoFar es ps es' done (p ∷ left) → Rebuilds es' es'' p.left q.left → Rebuilds es'' es''' p.right q.right
     → RebuildsPairsSoFar es ps es''' (done ++ q ∷ []) left
 pairs-more es ps es' es'' es''' done p q left so_far first second bs rest d =
@@ -196,5 +195,5 @@ pairs-more es ps es' es'' es''' done p q left so_far first second bs rest d =
     let pair_is : q ≡ put_each_pair bs p = λ i. record { left = one.0 i; right = two.0 i } in
     (append_assoc done (q ∷ []) (map (put_each_pair bs) left) ∙ ap (λ v. done ++ v ∷ map (put_each_pair bs) left) pair_is ∙ before.0, two.1)
 
-pub pairs-end : (es : List (ℕ × Term)) (ps : List Pair) (es' : List (ℕ × Term)) (qs : List Pair) → RebuildsPairsSoFar es ps es' qs [] → RebuildsPairs es es' ps qs
+pub pairs-end : (es : List (ℕ × Tree)) (ps : List Pair) (es' : List (ℕ × Tree)) (qs : List Pair) → RebuildsPairsSoFar es ps es' qs [] → RebuildsPairs es es' ps qs
 pairs-end es ps es' qs so_far bs rest d = let all = so_far bs rest d in (sym (append-nil qs) ∙ all.0, all.1)

@@ -4,7 +4,6 @@ use Rattle.std.proofs.lemmas.Bool.{ne_eqb, false_from_ne_true}
 use Rattle.std.proofs.lemmas.List.{map-append, length-map}
 use Rattle.std.specs.List.{remove}
 use Rattle.std.specs.Option.{option_map_or, option_to_list}
-use Rattle.ic_term.specs.declared.term.Term.{Term}
 use Rattle.ic_term.specs.Tree.{Tree, name, agent, Pair, names, pair_names}
 use Rattle.ic_term.specs.Configuration.{Configuration, IsConfiguration, configuration_names, names_in, occurrences}
 use Rattle.ic_settle.specs.declared.applicability.Side.{Side}
@@ -15,19 +14,19 @@ use Rattle.ic_settle.specs.Settling.{Binding, Choice, occurs, subst_pair, subst_
 use Rattle.ic_settle.specs.NameSteps.{Binds}
 use Rattle.ic_settle.specs.Sides.{other_side, bound_by}
 use Rattle.ic_settle.specs.Bindings.{is_name, replacement, replaced_by, replaced_in, replaced}
-use Rattle.ic_settle.specs.inner.Waiting.{look, put_each, put_each_pair, bound, here, IsDelayed, IsTop, IsAdded, Resolves}
-use Rattle.ic_settle.specs.inner.Containers.{IsRoot, noted_from, elsewhere, outlet, applicable_of, redirected}
-use Rattle.ic_settle.specs.inner.Passing.{put_in, IsPassed, bound_sides}
+use Rattle.ic_settle.specs.lemmas.Waiting.{look, put_each, put_each_pair, bound, here, IsDelayed, IsTop, IsAdded, Resolves}
+use Rattle.ic_settle.specs.lemmas.Containers.{IsRoot, noted_from, elsewhere, outlet, applicable_of, redirected}
+use Rattle.ic_settle.specs.lemmas.Passed.{put_in, IsPassed, bound_sides}
 use Rattle.ic_settle.specs.lemmas.SubstitutionLaws.{occurrences-append}
 use Rattle.ic_settle.specs.lemmas.MiddleLaws.{occurrences-middle}
 use Rattle.ic_settle.specs.lemmas.StepLaws.{occurrences-binds, once_outside, itself_once}
 use Rattle.ic_settle.specs.lemmas.ChoiceLaws.{binding_binds, first_choice-passed}
-use Rattle.ic_settle.proofs.Settles.{Settles, choice_here, settles-start, settles-skip, settles-step, settles-end}
-use Rattle.ic_settle.proofs.Replaced.{zip_middle, remove_middle, stopped}
-use Rattle.ic_settle.proofs.PutEach.{put_each-unbound, map_put, map_put_pair, map_put_none, map_put_pair_none, bound-cons, counted_no, occurrences-exact_pair, occurrences-exact_in}
-use Rattle.ic_settle.proofs.Delays.{delays-fewer, delays-bind}
-use Rattle.ic_settle.proofs.Spots.{spots_from, IsPlaced, placed_all, length-spots, AreInside, inside_all}
-use Rattle.ic_settle.proofs.Deciding.{elsewhere_other, count-redirected, outside_is, side_of, binding_is, outlet_is}
+use Rattle.ic_settle.specs.lemmas.Settles.{Settles, choice_here, settles-start, settles-skip, settles-step, settles-end}
+use Rattle.ic_settle.specs.lemmas.Replaced.{zip_middle, remove_middle, stopped}
+use Rattle.ic_settle.specs.lemmas.PutEach.{put_each-unbound, map_put, map_put_pair, map_put_none, map_put_pair_none, bound-cons, counted_no, occurrences-exact_pair, occurrences-exact_in}
+use Rattle.ic_settle.specs.lemmas.Delays.{delays-fewer, delays-bind}
+use Rattle.ic_settle.specs.lemmas.Spots.{spots_from, IsPlaced, placed_all, length-spots, AreInside, inside_all}
+use Rattle.ic_settle.specs.lemmas.Deciding.{elsewhere_other, count-redirected, outside_is, side_of, binding_is, outlet_is}
 
 -- the configuration on its way: bindings put in, equations that are kept, and those to be looked at
 abbrev pub current : Configuration → List Binding → List Pair → List Pair → Configuration
@@ -38,7 +37,7 @@ abbrev pub spots : Configuration → ℕ → List ℕ
 spots c y = spots_from y 0 c.equations c.interface
 
 -- Bindings, and where the links end, such that the slow settling is on its way with the kept equations behind it.
-pub record IsPassing (c : Configuration) (kept : List Pair) (es : List (ℕ × Term)) (links : List ℕ) (look_up : ℕ → Option (ℕ × ℕ))
+pub record IsPassing (c : Configuration) (kept : List Pair) (es : List (ℕ × Tree)) (links : List ℕ) (look_up : ℕ → Option (ℕ × ℕ))
     (chosen : List (Option Applicable)) (rest : List Pair) : Type 0 where
   pub bs : List Binding
   pub root : ℕ → ℕ
@@ -99,13 +98,13 @@ passing-start c links look_up valid own noted = record {
 
 -- ---- the sides of an equation resolved
 
-pub record IsResolved (bs : List Binding) (p q : Pair) (es : List (ℕ × Term)) (others : List ℕ) : Type 0 where
+pub record IsResolved (bs : List Binding) (p q : Pair) (es : List (ℕ × Tree)) (others : List ℕ) : Type 0 where
   pub same : put_each_pair bs q ≡ put_each_pair bs p
   pub left : IsTop bs q.left
   pub right : IsTop bs q.right
   pub delayed : IsDelayed bs es (pair_names q ++ others)
 
-resolved_pair : (bs : List Binding) (es es' es'' : List (ℕ × Term)) (ts : List Tree) (kept : List Pair) (p : Pair) (rest : List Pair) (l r : Tree)
+resolved_pair : (bs : List Binding) (es es' es'' : List (ℕ × Tree)) (ts : List Tree) (kept : List Pair) (p : Pair) (rest : List Pair) (l r : Tree)
     → IsDelayed bs es (names_in ts (kept ++ p ∷ rest)) → Resolves es es' p.left l → Resolves es' es'' p.right r
     → IsResolved bs p (record { left = l; right = r }) es'' (names_in ts (kept ++ rest))
 resolved_pair bs es es' es'' ts kept p rest l r d first second =
@@ -139,7 +138,7 @@ resolved_pair bs es es' es'' ts kept p rest l r d first second =
       )) two.1.1;
     }
 
-pub resolved-next : (c : Configuration) (kept : List Pair) (es es' es'' : List (ℕ × Term)) (links : List ℕ) (look_up : ℕ → Option (ℕ × ℕ)) (chosen : List (Option Applicable))
+pub resolved-next : (c : Configuration) (kept : List Pair) (es es' es'' : List (ℕ × Tree)) (links : List ℕ) (look_up : ℕ → Option (ℕ × ℕ)) (chosen : List (Option Applicable))
     (p : Pair) (rest : List Pair) (l r : Tree) (s : IsPassing c kept es links look_up chosen (p ∷ rest)) → Resolves es es' p.left l → Resolves es' es'' p.right r
     → IsResolved s.bs p (record { left = l; right = r }) es'' (names_in c.interface (kept ++ rest))
 resolved-next c kept es es' es'' links look_up chosen p rest l r s first second = resolved_pair s.bs es es' es'' c.interface kept p rest l r s.delayed first second
@@ -184,7 +183,7 @@ given_side : (x : ℕ) (p given : Pair) (side : Side) → side_of p side ≡ nam
 given_side x p given Left is none = ap (λ b. record { name = x; term = cond b given.right given.left }) (itself_name x p.left is)
 given_side x p given Right is none = ap (λ b. record { name = x; term = cond b given.right given.left }) (absent_name x p.left none)
 
-module _ (c : Configuration) (kept : List Pair) (es es' : List (ℕ × Term)) (links links' : List ℕ) (look_up : ℕ → Option (ℕ × ℕ)) (chosen : List (Option Applicable))
+module _ (c : Configuration) (kept : List Pair) (es es' : List (ℕ × Tree)) (links links' : List ℕ) (look_up : ℕ → Option (ℕ × ℕ)) (chosen : List (Option Applicable))
     (p : Pair) (rest : List Pair) (q : Pair) (s : IsPassing c kept es links look_up chosen (p ∷ rest))
     (resolved : IsResolved s.bs p q es' (names_in c.interface (kept ++ rest))) where
   abbrev before : List Pair
@@ -326,7 +325,7 @@ module _ (c : Configuration) (kept : List Pair) (es es' : List (ℕ × Term)) (l
         let R : List Pair → Type 0 = λ r. Settles c (current c (put_binding ∷ s.bs) kept rest) (map (put_each_pair (put_binding ∷ s.bs)) kept) r in
         transport R (map_put_pair put_binding s.bs rest) (transport Q (map_put_pair put_binding s.bs kept) (transport P applied_is stepped))
 
-    delayed_on : (es'' : List (ℕ × Term)) → IsAdded es' es'' o.name waiting_term → IsDelayed (put_binding ∷ s.bs) es'' (names_in c.interface (kept ++ rest))
+    delayed_on : (es'' : List (ℕ × Tree)) → IsAdded es' es'' o.name waiting_term → IsDelayed (put_binding ∷ s.bs) es'' (names_in c.interface (kept ++ rest))
     delayed_on es'' added =
         let others = names_in c.interface (kept ++ rest) in
         delays-bind s.bs es' es'' o.name waiting_term added bound_free bound_absent others
@@ -420,7 +419,7 @@ module _ (c : Configuration) (kept : List Pair) (es es' : List (ℕ × Term)) (l
         ∙ ap (λ n. done ++ replaced_in n d (s.given ++ p ∷ rest)) (sym fuel)
         ∙ s.told
 
-    pub passing-bind : (es'' : List (ℕ × Term)) → IsAdded es' es'' o.name waiting_term → IsRoot links' (redirected (length chosen) o.target s.root)
+    pub passing-bind : (es'' : List (ℕ × Tree)) → IsAdded es' es'' o.name waiting_term → IsRoot links' (redirected (length chosen) o.target s.root)
         → IsPassing c kept es'' links' look_up (chosen ++ Some (applicable_of o) ∷ []) rest
     passing-bind es'' added rooted = record {
       bs = put_binding ∷ s.bs;
@@ -453,7 +452,7 @@ module _ (c : Configuration) (kept : List Pair) (es es' : List (ℕ × Term)) (l
 
 -- ---- the end
 
-pub passing-end : (c : Configuration) (kept : List Pair) (es : List (ℕ × Term)) (links : List ℕ) (look_up : ℕ → Option (ℕ × ℕ)) (chosen : List (Option Applicable))
+pub passing-end : (c : Configuration) (kept : List Pair) (es : List (ℕ × Tree)) (links : List ℕ) (look_up : ℕ → Option (ℕ × ℕ)) (chosen : List (Option Applicable))
     → IsPassing c kept es links look_up chosen [] → IsPassed c kept es × ((length chosen ≡ length c.equations) × (bound_sides c.equations chosen ≡ replaced c))
 passing-end c kept es links look_up chosen s =
     let last = map (put_each_pair s.bs) kept in

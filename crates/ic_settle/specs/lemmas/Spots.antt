@@ -4,7 +4,7 @@ use Rattle.std.proofs.lemmas.Bool.{cases_Bool, cases_lt, ne_eqb}
 use Rattle.std.specs.List.{flat_map}
 use Rattle.ic_term.specs.Tree.{Tree, Pair, names, pair_names}
 use Rattle.ic_term.specs.Configuration.{names_in, occurrences}
-use Rattle.ic_settle.specs.inner.Containers.{noted, noted_in, noted_equations, noted_from}
+use Rattle.ic_settle.specs.lemmas.Containers.{noted, noted_in, noted_equations, noted_from}
 use Rattle.ic_settle.specs.lemmas.SubstitutionLaws.{occurrences-append, occurrences-cons}
 
 pub some_same : {X : Type 0} (x y : X) → Some x ≡ Some y → x ≡ y

@@ -7,7 +7,7 @@ use Rattle.std.proofs.lemmas.Bool.{cases_Bool, eqb-true, eqb-false, eq-eqb, fals
 use Rattle.ic_term.specs.Tree.{Tree, name, agent, Pair, names, pair_names}
 use Rattle.ic_term.specs.Configuration.{Configuration, names_in, configuration_names, occurrences}
 use Rattle.ic_settle.specs.Settling.{Binding, Choice, occurs, side_binding, first_of_two, binding, choice_or, first_choice, applied, settling_step}
-use Rattle.ic_settle.specs.inner.Ended.{is_applicable, has_applicable}
+use Rattle.ic_settle.specs.lemmas.Ended.{is_applicable, has_applicable}
 use Rattle.ic_settle.specs.lemmas.SubstitutionLaws.{occurrences-append, occurrences-cons, occurrences_none, occurrences_some}
 use Rattle.ic_settle.specs.lemmas.MiddleLaws.{occurrences-middle}
 use Rattle.ic_settle.specs.lemmas.StepLaws.{itself_once}
