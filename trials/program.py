@@ -132,6 +132,10 @@ class Server:
         self.send(line)
         return self.answer()
 
+    def said(self):
+        """The command as a failed trial prints it, with what was given so far."""
+        return said_of(self.command, self.given)
+
     def end(self, seconds=PATIENCE):
         """Closes the program's standard input, and waits until it has ended: the whole of what it wrote."""
         if not self.process.stdin.closed:
@@ -178,6 +182,11 @@ class Trial(unittest.TestCase):
         drawn = f"\n  {self.drawn}" if hasattr(self, "drawn") else ""
         self.fail(f"\n  tried  {command}\n  {what}\n  wanted {wanted}\n  came   {came}{drawn}")
 
+    def equals(self, command, what, wanted, came):
+        """Fails where something else came than was wanted."""
+        if wanted != came:
+            self.told(command, what, *(it if len(it) < 1500 else f"{it[:1500]} .." for it in (repr(wanted), repr(came))))
+
     def agrees(self, command, what, wanted, came):
         """Fails where other bytes came than were wanted."""
         wanted, came = as_bytes(wanted), as_bytes(came)
@@ -218,6 +227,17 @@ class Trial(unittest.TestCase):
     def serves(self, disk, lines, answers, *words, **how):
         """Fails unless the lines are served over the disk with these answers and no fault."""
         return self.runs("serve", "--disk", disk, *words, given=lines, out=answers, **how)
+
+    def answers(self, server, line, answer):
+        """Fails unless a server that runs answers the line so."""
+        came = server.ask(line)
+        self.equals(server.said(), f"the answer to {line}", answer, came)
+
+    def ends(self, server):
+        """Ends the input of a server that runs, and fails unless it ends well."""
+        ran = server.end()
+        self.equals(ran.command, "status and standard error", (0, b""), (ran.status, ran.err))
+        return ran
 
     def asks(self, disk, lines):
         """The answers of a new server on the disk, which must end well."""

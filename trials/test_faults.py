@@ -40,6 +40,14 @@ class Faults(Stops):
             self.told(ran.command, f"the end, where it went wrong: {call}", f"one of {faults}", ran[1:])
         self.came.add((ran.status, ran.err.decode()[9:-1]))
 
+    def are(self, least, calls):
+        """Fails where fewer calls were tried than there should be."""
+        self.equals(self.id(), f"at least {least} calls, came {calls}", True, calls >= least)
+
+    def have_come(self, *faults):
+        """Fails unless each of these (status, word) has come."""
+        self.equals(self.id(), f"faults that never came, of {sorted(self.came)}", set(), {*faults} - self.came)
+
     def stream_by(self, word, text, answer, status=0, line=b""):
         """Each growth of a run over streams is refused: want of memory, or all goes as if it weren't."""
 
@@ -53,11 +61,11 @@ class Faults(Stops):
         return self.in_turn("growth", ("once", "on"), attempt)
 
     def test_each_growth_of_settle_is_refused_in_turn(self):
-        self.assertGreater(self.stream_by("settle", "<r|r=S(s),s=Z>", b"<S(Z)|>\n"), 20)
+        self.are(20, self.stream_by("settle", "<r|r=S(s),s=Z>", b"<S(Z)|>\n"))
         self.stream_by("settle", "<x|x=A(x)>", b"", 1, b"icserve: bad name x\n")
 
     def test_each_growth_of_once_is_refused_in_turn(self):
-        self.assertGreater(self.stream_by("once", f"{ADD} <r|Add(r,S(Z))=S(Z)>", b"<S(s)|Z=Add(s,S(Z))>\n"), 40)
+        self.are(40, self.stream_by("once", f"{ADD} <r|Add(r,S(Z))=S(Z)>", b"<S(s)|Z=Add(s,S(Z))>\n"))
         self.stream_by("once", "{A(B,x)><A(x,C)} <|>", b"", 1, b"icserve: bad lopsided 1\n")
 
     def test_each_growth_over_words_is_refused_in_turn(self):
@@ -81,17 +89,16 @@ class Faults(Stops):
         elif ran.out or ran.err:
             self.told(ran.command, f"what it wrote, where it went wrong: {call}", "nothing", (ran.out, ran.err))
         else:
-            self.assertEqual(self.asks(disk, ["list"]), ["jobs"])
+            self.serves(disk, "list", ["jobs"])
         self.runs("create", "--disk", disk)
-        self.assertEqual(self.asks(disk, ["list"]), ["jobs"])
+        self.serves(disk, "list", ["jobs"])
         disk.unlink()
         return ran
 
     def test_each_growth_of_create_is_refused_in_turn(self):
         faults = [(4, "memory"), (3, "memory"), (3, "device")]
-        calls = self.in_turn("growth", ("once", "on"), lambda *it: self.created(*it, *faults))
-        self.assertGreater(calls, 5)
-        self.assertLessEqual({(3, "memory"), (4, "memory")}, self.came)
+        self.are(5, self.in_turn("growth", ("once", "on"), lambda *it: self.created(*it, *faults)))
+        self.have_come((3, "memory"), (4, "memory"))
 
     def test_each_call_of_create_on_the_disk_fails_in_turn(self):
         def attempt(env, call):
@@ -99,7 +106,7 @@ class Faults(Stops):
             if not ran.status and was_refused(self.log):
                 self.told(ran.command, f"the end, where it went wrong: {call}", "status 3", ran.status)
 
-        self.assertGreater(self.in_turn("disk", ("once", "on", "done", "half"), attempt), 10)
+        self.are(10, self.in_turn("disk", ("once", "on", "done", "half"), attempt))
 
     def served(self, lines, ways, what, *faults, words=(), may_go_well=False):
         """Serves lines, one at a time, over a new disk each time, while each call of a kind goes wrong in turn. What was
@@ -135,8 +142,8 @@ class Faults(Stops):
     def test_each_growth_of_a_serving_is_refused_in_turn(self):
         faults = [(4, "memory"), (4, "pool"), (3, "memory"), (3, "device")]
         for lines, ways in ((LOOPING, ("once", "on")), (SUMS, ("once",))):
-            self.assertGreater(self.served(lines, ways, "growth", *faults, may_go_well=True), 200)
-        self.assertLessEqual({(3, "memory"), (4, "memory"), (4, "pool")}, self.came)
+            self.are(200, self.served(lines, ways, "growth", *faults, may_go_well=True))
+        self.have_come((3, "memory"), (4, "memory"), (4, "pool"))
 
     def test_each_growth_of_an_opening_is_refused_in_turn(self):
         """Over a disk that holds jobs, which stay."""
@@ -151,8 +158,8 @@ class Faults(Stops):
             self.agrees(ran.command, f"standard output, where it went wrong: {call}", b"", ran.out)
             self.holds(disk, before)
 
-        self.assertGreater(self.in_turn("growth", ("once", "on"), attempt), 50)
-        self.assertLessEqual({(3, "memory"), (4, "memory")}, self.came)
+        self.are(50, self.in_turn("growth", ("once", "on"), attempt))
+        self.have_come((3, "memory"), (4, "memory"))
 
     def test_drawn_growths_of_an_opening_of_many_jobs_are_refused(self):
         """Over a disk with the jobs of all sessions in examples/."""
@@ -170,24 +177,24 @@ class Faults(Stops):
 
         attempt(f"growth {10**9} once")
         growths = next(it.at for it in noted(self.log) if it.kind == "C")
-        self.assertGreater(growths, 500)
+        self.are(500, growths)
         for number in sorted(draw.sample(range(1, growths + 1), 300)):
             attempt(f"growth {number} once")
-        self.assertLessEqual({(3, "memory"), (4, "memory")}, self.came)
+        self.have_come((3, "memory"), (4, "memory"))
         self.holds(disk, before)
 
     def test_each_call_of_a_serving_on_the_disk_fails_in_turn(self):
         for lines in (LOOPING, SUMS):
-            calls = self.served(lines, ("once", "on", "done", "half"), "disk", (4, "device"), (3, "device"))
-            self.assertGreater(calls, 50)
-        self.assertEqual(self.came, {(4, "device"), (3, "device")})
+            self.are(50, self.served(lines, ("once", "on", "done", "half"), "disk", (4, "device"), (3, "device")))
+        self.have_come((4, "device"), (3, "device"))
 
     def test_each_read_of_a_serving_fails_in_turn(self):
-        self.assertGreater(self.served(LOOPING, ("once", "on"), "read", (4, "read")), len(LOOPING))
+        self.are(len(LOOPING) + 1, self.served(LOOPING, ("once", "on"), "read", (4, "read")))
         self.served(LOOPING, ("interrupt", "short"), "read", may_go_well=True)
 
     def test_each_write_of_a_serving_fails_in_turn(self):
-        self.assertEqual(self.served(LOOPING, ("once", "on", "nothing", "half"), "write", (4, "write")), len(LOOPING))
+        calls = self.served(LOOPING, ("once", "on", "nothing", "half"), "write", (4, "write"))
+        self.equals("row looping", "writes, one an answer", len(LOOPING), calls)
         self.served(LOOPING, ("interrupt", "short"), "write", may_go_well=True)
 
     def test_each_read_and_write_of_a_stream_fails_in_turn(self):
@@ -201,12 +208,13 @@ class Faults(Stops):
                     else:
                         self.is_fault(ran, call, (4, line))
 
-                self.assertGreater(self.in_turn(what, [how], attempt), 0)
+                self.are(1, self.in_turn(what, [how], attempt))
 
     def test_each_start_of_a_thread_is_refused_in_turn(self):
         """Rounds of 1,000 equations are made by threads: a thread that can't be started is `pool`, and nothing is lost."""
         calls = self.served(ROUND, ("once", "on"), "thread", (4, "pool"), words=("--workers", "4"))
-        self.assertEqual((calls, self.came), (4, {(4, "pool")}))
+        self.equals("a round of 1,000 equations by 4 workers", "threads", 4, calls)
+        self.have_come((4, "pool"))
 
     def test_rounds_of_1000_equations_and_more_are_made_by_as_many_threads_as_said(self):
         """Smaller ones are made by the thread that serves. The shim counts the threads that are started."""
@@ -216,9 +224,9 @@ class Faults(Stops):
                 put(disk, slot(1, EMPTY))
                 lines = ["submit a {A(x)><B(x)} <|" + ",".join(["A(P)=B(P)"] * count) + ">", "run 1"]
                 counts = shimmed(f"thread {10**9} once", self.log)
-                self.serves(disk, lines, ["accepted", "ran 1"], "--workers", workers, env=counts)
+                ran = self.serves(disk, lines, ["accepted", "ran 1"], "--workers", workers, env=counts)
                 threads = next(it.at for it in noted(self.log) if it.kind == "C")
-                self.assertEqual(threads, workers if count >= 1000 else 0, f"{count} equations, {workers} workers")
+                self.equals(ran.command, f"threads for {count} equations", workers if count >= 1000 else 0, threads)
 
     def test_drawn_growths_of_a_round_by_threads_are_refused(self):
         draw, disk = self.draws(), self.room / "jobs.disk"
@@ -232,7 +240,7 @@ class Faults(Stops):
 
         attempt(f"growth {10**9} once")
         growths = next(it.at for it in noted(self.log) if it.kind == "C")
-        self.assertGreater(growths, 3000)
+        self.are(3000, growths)
         for number in sorted(draw.sample(range(1, growths + 1), 150)):
             attempt(f"growth {number} {draw.choice(('once', 'on'))}")
-        self.assertLessEqual({(4, "memory"), (4, "pool")}, self.came)
+        self.have_come((4, "memory"), (4, "pool"))

@@ -44,12 +44,12 @@ class Kills(Stops):
     def test_200_kills_at_drawn_moments_lose_nothing_that_was_answered(self):
         def kill(server, _):
             ran = server.stop(signal.SIGKILL)
-            self.assertEqual(ran.status, -signal.SIGKILL, ran.command)
+            self.equals(ran.command, "status", -signal.SIGKILL, ran.status)
             return ran
 
         counts = self.lives(200, kill)
-        self.assertGreater(counts["answers"], 1000, counts)
-        self.assertGreater(counts["unanswered, but kept"], 0, counts)
+        is_enough = counts["answers"] > 1000 and counts["unanswered, but kept"] > 0
+        self.equals("200 kills", f"more than 1,000 answers, and lines that were kept unanswered: {counts}", True, is_enough)
 
     def test_a_signal_to_end_is_obeyed_at_once_and_loses_nothing_that_was_answered(self):
         def end(server, draw):
@@ -70,25 +70,25 @@ class Kills(Stops):
                 disk = self.disk(f"{sign}.{wait}.disk")
                 lines = [f"submit loop {LOOP.text}", "run 10", "list"] + ["run 1000"] * 6
                 with Server(disk, "--every", "1", preexec_fn=heeds_signals) as server:
-                    server.send(lines[:2])
-                    self.assertEqual([server.answer(PATIENCE), server.answer(PATIENCE)], ["accepted", "ran 10"])
+                    self.answers(server, lines[0], "accepted")
+                    self.answers(server, lines[1], "ran 10")
                     server.send(lines[2:])
                     time.sleep(wait)
                     began = time.monotonic()
                     ran = server.stop(sign)
-                self.assertLess(time.monotonic() - began, PROMPT, ran.command)
-                self.assertEqual((ran.status, ran.err), (-sign, b""), ran.command)
+                self.equals(ran.command, f"within {PROMPT} seconds", True, time.monotonic() - began < PROMPT)
+                self.equals(ran.command, "status and standard error", (-sign, b""), (ran.status, ran.err))
                 table = self.found(ran, disk, self.may_be_left(ran, lines, (), 1))
                 if table[0].rounds > 10:
                     break
-            self.assertGreater(table[0].rounds, 10, "the run hadn't begun")
+            self.equals(ran.command, "whether rounds of the run were kept before the signal", True, table[0].rounds > 10)
 
     def test_sigpipe_is_no_reason_to_end(self):
         with Server(self.disk()) as server:
-            self.assertEqual(server.ask(f"submit loop {LOOP.text}"), "accepted")
+            self.answers(server, f"submit loop {LOOP.text}", "accepted")
             server.process.send_signal(signal.SIGPIPE)
-            self.assertEqual(server.ask("run 3"), "ran 3")
+            self.answers(server, "run 3", "ran 3")
             server.send("run 1000")
             server.process.send_signal(signal.SIGPIPE)
-            self.assertEqual(server.answer(PATIENCE), "ran 1000")
+            self.equals(server.said(), "the answer to run 1000", "ran 1000", server.answer(PATIENCE))
             self.ended(server.end(), out=["accepted", "ran 3", "ran 1000"])

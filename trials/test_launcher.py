@@ -7,7 +7,7 @@ import signal
 import subprocess
 import time
 
-from program import PATIENCE, PROGRAM, TOP, Trial, heeds_signals
+from program import PATIENCE, PROGRAM, TOP, Trial, heeds_signals, run
 
 # What the launcher and the build call, but for make and rt.
 TOOLS = "sh env cat cp dirname find flock grep mkdir mv nice readlink rm sed setsid sha256sum sleep sort xargs".split()
@@ -43,46 +43,51 @@ class Launcher(Trial):
 
     def launch(self, *words, given=b"<r|r=Z>", path=None, **variables):
         env = {"PATH": str(self.tools), "CALLS": str(self.calls), **variables}
-        how = {"env": env, "cwd": "/", "stdout": subprocess.PIPE, "stderr": subprocess.PIPE}
-        return subprocess.run([path or self.room / "icserve", *words], input=given, timeout=PATIENCE, **how)
+        return run(*words, given=given, program=path or self.room / "icserve", env=env, cwd="/")
 
     def built(self):
         return len(self.calls.read_text().splitlines())
 
+    def is_built(self, times):
+        """Fails unless the program has been built so often."""
+        self.equals("./icserve", "how often it was built", times, self.built())
+
+    def settles(self, **variables):
+        """Fails unless a launch settles a configuration, whatever is told of a build."""
+        ran = self.launch("settle", **variables)
+        self.ended(ran._replace(err=b""), out=["<Z|>"])
+        return ran.err
+
     def test_it_builds_once_and_again_where_a_source_has_changed(self):
-        first = self.launch("settle")
-        self.assertEqual((first.returncode, first.stdout), (0, b"<Z|>\n"), first.stderr)
-        self.assertTrue(first.stderr.startswith(b"icserve: proving and building what has changed"), first.stderr)
+        told = b"icserve: proving and building what has changed"
+        self.agrees("./icserve settle", "what is told of a build", told, self.settles()[: len(told)])
         for _ in range(3):
-            again = self.launch("settle")
-            self.assertEqual((again.returncode, again.stdout, again.stderr), (0, b"<Z|>\n", b""))
-        self.assertEqual(self.built(), 1)
+            self.agrees("./icserve settle, once more", "standard error", b"", self.settles())
+        self.is_built(1)
         (self.room / "crates/icserve/src/main.rt").write_text("second\n")
-        self.assertEqual(self.launch("settle").stdout, b"<Z|>\n")
-        self.assertEqual(self.built(), 2)
+        self.settles()
+        self.is_built(2)
 
     def test_it_hands_on_words_input_and_status_through_links_too(self):
         (self.room / "folder").mkdir()
         (self.room / "folder/link").symlink_to("../icserve")
         self.launch("--version")
         for path in (self.room / "icserve", self.room / "folder/link"):
-            ran = self.launch("settle", given=b"<|", path=path)
-            self.assertEqual((ran.returncode, ran.stdout, ran.stderr), (1, b"", b"icserve: bad syntax\n"))
-            ran = self.launch("serve", "--disk", "no file", path=path)
-            self.assertEqual((ran.returncode, ran.stdout, ran.stderr), (3, b"", b"icserve: device\n"))
+            self.ended(self.launch("settle", given=b"<|", path=path), err=["icserve: bad syntax"], status=1)
+            self.ended(self.launch("serve", "--disk", "no file", path=path), err=["icserve: device"], status=3)
 
     def test_status_4_where_what_it_is_made_from_isnt_proved(self):
         ran = self.launch("settle", FAILS="yes")
-        self.assertEqual((ran.returncode, ran.stdout), (4, b""))
-        self.assertIn(b"icserve could not be proved and built; see ", ran.stderr)
-        self.assertEqual(self.launch("settle").stdout, b"<Z|>\n")
+        self.ended(ran._replace(err=b""), status=4)
+        told = b"icserve could not be proved and built; see "
+        self.equals(ran.command, f"whether it told {told}; it told {ran.err}", True, told in ran.err)
+        self.settles()
 
     def test_status_4_where_make_is_wanting(self):
         (self.tools / "make").unlink()
         ran = self.launch("settle")
-        self.assertEqual((ran.returncode, ran.stdout), (4, b""))
-        self.assertTrue(ran.stderr.endswith(b"icserve: GNU make is wanting\n"), ran.stderr)
-        self.assertEqual(self.built(), 0)
+        self.ended(ran._replace(err=ran.err.splitlines()[-1]), err="icserve: GNU make is wanting", status=4)
+        self.is_built(0)
 
     def test_two_launches_build_once(self):
         """The build goes on until two launches have said that they wait for it."""
@@ -96,9 +101,10 @@ class Launcher(Trial):
         while sum(b"waiting for another launch" in it for it in told()) < 2 and time.monotonic() < end:
             time.sleep(0.05)
         (self.room / "all wait").write_text("")
-        self.assertEqual([it.wait(PATIENCE) for it in started], [0, 0, 0], told())
-        self.assertEqual(self.built(), 1)
-        self.assertEqual(sum(b"waiting for another launch" in it for it in told()), 2, told())
+        ends = [it.wait(PATIENCE) for it in started]
+        waiting = sum(b"waiting for another launch" in it for it in told())
+        self.equals("three launches", f"ends, and how many waited; told {told()}", ([0, 0, 0], 2), (ends, waiting))
+        self.is_built(1)
 
     def test_a_build_that_is_interrupted_ends_with_its_launch_and_is_begun_anew(self):
         env = {"PATH": str(self.tools), "CALLS": str(self.calls), "SLOW": "30"}
@@ -110,8 +116,9 @@ class Launcher(Trial):
             end = time.monotonic() + PATIENCE
             while self.built() == begun and started.poll() is None and time.monotonic() < end:
                 time.sleep(0.02)
-            self.assertGreater(self.built(), begun, "the build wasn't begun")
+            self.is_built(begun + 1)
             started.send_signal(sign)
-            self.assertEqual(started.wait(20), 4)
-            self.assertFalse((self.room / "crates/icserve/out/rooms").exists())
-        self.assertEqual(self.launch("settle").stdout, b"<Z|>\n")
+            self.equals(f"./icserve settle, {sign!r} while it builds", "status", 4, started.wait(PATIENCE))
+            is_left = (self.room / "crates/icserve/out/rooms").exists()
+            self.equals(f"./icserve settle, {sign!r} while it builds", "whether out/rooms is left", False, is_left)
+        self.settles()

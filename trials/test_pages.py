@@ -1,6 +1,7 @@
 """What the pages show is what the program does: their sessions are read from the pages themselves, and run word for word."""
 
 import re
+import shlex
 import subprocess
 
 from program import IN_MEMORY, PATIENCE, PROGRAM, TOP, Trial
@@ -39,7 +40,7 @@ class Pages(Trial):
 
     def typed(self, page, commands, wanted, streams=subprocess.STDOUT):
         """Runs the commands of a page by a shell in the trial's folder: they print just these lines."""
-        text = "\n".join(commands).replace("/tmp/", f"{self.room}/")
+        text = "\n".join(commands).replace("/tmp/", shlex.quote(f"{self.room}/"))
         how = {"cwd": self.room, "stdin": subprocess.DEVNULL, "stdout": subprocess.PIPE, "stderr": streams}
         how["timeout"] = PATIENCE
         ran = subprocess.run(["sh", "-c", text], **how)

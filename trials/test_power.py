@@ -149,7 +149,7 @@ class Power(Stops):
         begun, before, table = Moment(Content(slot(1, EMPTY), bytes(13), SECOND + 13), []), [()], ()
         for _ in range(LIVES):
             ran, kept, behind, moments = self.life(draw, begun, table)
-            self.assertEqual(moments[-1].keeps + 1, len(kept), "as many keeps as the model has")
+            self.equals(ran.command, "how often it kept", len(kept) - 1, moments[-1].keeps)
             following = []
             for moment in moments:
                 tables = self.may_be_found(ran, moment, before, kept, behind)
@@ -161,7 +161,7 @@ class Power(Stops):
                 following.append((killed, tables, self.found_in(ran, killed.content(), tables)))
             opened += len(following)
             begun, before, table = draw.choice(following)
-        self.assertGreater(opened, 200)
+        self.equals(f"{LIVES} lives", f"more than 200 images opened, came {opened}", True, opened > 200)
 
     def test_a_create_that_was_cut_short_is_done_again(self):
         """Nothing is promised of what it leaves, but that the next one makes an empty disk of it."""
@@ -173,6 +173,6 @@ class Power(Stops):
                 for _ in range(4):
                     image_of(draw, moment).write(self.file)
                     self.runs("create", "--disk", self.file)
-                    self.assertEqual(self.asks(self.file, ["list"]), ["jobs"])
+                    self.serves(self.file, "list", ["jobs"])
             moment.synced.write(self.file)
-            self.assertEqual(self.asks(self.file, ["list"]), ["jobs"])
+            self.serves(self.file, "list", ["jobs"])

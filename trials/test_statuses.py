@@ -1,5 +1,5 @@
 """Each exit status and each line of standard error that README.md and docs/serving.md name, and what a refusal leaves.
-Want of memory and of threads is tried in test_faults.py."""
+Want of memory and of threads is tried in test_faults.py; the lines of docs/clients.md in test_attend.py."""
 
 import os
 import resource
@@ -106,6 +106,18 @@ class Words(Trial):
         ("serve", "--disk", "F", "--every", ""),
         ("serve", "--disk", "F", "--sometimes", "1"),
         ("create", "--disk", "F", "--workers", "2"),
+        ("attend",),
+        ("attend", "F"),
+        ("attend", "--disk"),
+        ("attend", "--disk", "F", "--every", "2"),
+        ("attend", "--disk", "F", "--runners", "65"),
+        ("attend", "--disk", "F", "--runners", "-1"),
+        ("attend", "--disk", "F", "--runners", ""),
+        ("attend", "--disk", "F", "--turns", "1000001"),
+        ("attend", "--disk", "F", "--turns", "no", "script"),
+        ("attend", "--disk", "F", "--workers", "0", "script"),
+        ("attend", "--disk", "F", "--workers", "65"),
+        ("attend", "--disk", "F", "--workers", "2", "--workers", "2"),
     ]
 
     def test_refused_words_end_with_status_2_and_touch_no_file(self):
@@ -114,7 +126,7 @@ class Words(Trial):
                 ran = run(*words, cwd=self.room)
                 if ran.status != 2 or ran.out or not ran.err.startswith(b"error: ") or not ran.err.endswith(b"\n"):
                     self.told(ran.command, "the end", "status 2, nothing on standard output, `error: ..`", ran[1:])
-                self.assertEqual(os.listdir(self.room), [])
+                self.equals(ran.command, "the files that it made", [], os.listdir(self.room))
 
     def test_help_and_version_go_to_standard_output(self):
         helps = [["--help"], ["-h"], *([word, "--help"] for word in ("settle", "once", "create", "serve", "attend"))]
@@ -130,6 +142,11 @@ class Words(Trial):
         self.runs("create", f"--disk={disk}")
         self.runs("serve", "--every=1000000", "--workers", "64", f"--disk={disk}", given="list", out=["jobs"])
         self.runs("serve", "--workers=1", "--disk", disk, "--every", "1", given="list\nlist", out=["jobs", "jobs"])
+        script = self.room / "script"
+        script.write_text("list")
+        for numbers in (["--runners=0", "--turns=0", "--workers=64"], ["--turns", "1000000", "--runners", "64", "--workers", "1"]):
+            self.runs("attend", *numbers, f"--disk={disk}", script, script, out=["client 0", "jobs", "client 1", "jobs"])
+            self.runs("attend", script, "--disk", disk, *numbers, out=["client 0", "jobs"])
 
 
 class Disks(Trial):
@@ -147,7 +164,7 @@ class Disks(Trial):
 
     def test_create_makes_the_empty_disk_of_the_pages_whatever_the_file_held(self):
         empty = disk_of(slot(1, EMPTY))
-        self.assertEqual(len(empty), 4_194_317)
+        self.equals("docs/slots.md", "bytes of a new disk", 4_194_317, len(empty))
         for name, before in [("missing", None), ("short", b"x" * 100), ("zeros", bytes(5_000_000))]:
             with self.subTest(before=name):
                 path = self.room / name
@@ -166,7 +183,7 @@ class Disks(Trial):
 
     def test_what_is_kept_is_the_table_that_the_page_writes_by_hand(self):
         table = table_by_hand()
-        self.assertEqual(len(table), 126)
+        self.equals("docs/byte-form.md", "bytes of the table by hand", 126, len(table))
         disk = self.disk()
         self.serves(disk, [TWO], ["accepted"])
         self.holds(disk, disk_of(slot(1, EMPTY), slot(2, table)))
@@ -176,7 +193,7 @@ class Disks(Trial):
     def test_device_where_the_file_is_missing_and_then_it_isnt_made(self):
         missing = self.room / "missing"
         self.leaves(missing, "device")
-        self.assertFalse(missing.exists())
+        self.equals("serve --disk missing", "whether it made the file", False, missing.exists())
         self.refuses("create", "--disk", self.room / "no/folder", line="device", status=3)
         self.refuses("serve", "--disk", "", line="device", status=3)
 
@@ -297,7 +314,7 @@ class Servings(Trial):
         disk.write_bytes(disk_of(slot(2**64 - 2, table_by_hand())))
         given, out = ["list", "pause two", "list"], ["jobs two:running:0", "ok"]
         self.refuses("serve", "--disk", disk, given=given, out=out, line="worn", status=4)
-        self.assertEqual(disk.read_bytes()[SECOND : SECOND + 9], b"\1" + b"\xff" * 8)
+        self.equals("serve --disk worn", "the head of the newest slot", b"\1" + b"\xff" * 8, disk.read_bytes()[SECOND : SECOND + 9])
 
     def test_device_where_a_file_may_grow_no_further(self):
         """The limit on a file's size stands for a full device: the table of 126 bytes ends at 4,194,443."""
