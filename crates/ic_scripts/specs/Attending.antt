@@ -2,76 +2,92 @@
 use Rattle.std.specs.Prelude.{◌≡◌, ◌⊎◌, ℕ, List, [], Option, Result, Ok, Err, IfOk, IsErrAnd, IsTrue}
 use Rattle.std.specs.Io.KnownBytes.{Appends, Keeps}
 use Rattle.ic_disk.specs.declared.disk.Disk.{Ghosts}
+use Rattle.ic_disk.specs.Images.{Within}
 use Rattle.ic_jobs.specs.declared.command.Command.{Command}
+use Rattle.ic_jobs.specs.Job.{JobParts}
 use Rattle.ic_slots.specs.Held.{IsHeld, the_table}
 use Rattle.ic_desk.specs.Book.{start_of, table_of}
 use Rattle.ic_desk.specs.declared.fault.BookFault.{BookFault}
 use Rattle.ic_attend.specs.declared.attended.Attended.{Attended}
 use Rattle.ic_attend.specs.declared.attended.ClientRun.{ClientRun}
-use Rattle.ic_attend.specs.declared.attended.RunnerEnd.{RunnerEnd}
+use Rattle.ic_attend.specs.Ends.{EndsTell}
 use Rattle.ic_attend.specs.OneHistory.{IsOneHistory}
-use Rattle.ic_scripts.specs.Outcome.{IsFirstOf, IsWithoutHistory, faults_of}
+use Rattle.ic_scripts.specs.Outcome.{IsFirstOf, faults_of}
+use Rattle.ic_scripts.specs.Reasons.{KeepTells, SaysWhy}
 use Rattle.ic_scripts.specs.Telling.{WritesFront, told}
 use Rattle.ic_scripts.specs.declared.fault.ScriptsFault.{ScriptsFault}
 use Rattle.ic_scripts.specs.declared.fault.ScriptsFault.TheVariants.{Memory, Write}
 
 -- All ended well, and each client is told all its answers.
-pub record IsToldAll (runs : List ClientRun) (ends : List RunnerEnd)
+pub record IsToldAll (runs : List ClientRun) (faults : List ScriptsFault)
     (old new : Option (List ℕ)) : Type 0 where
-  pub kept : Result (Unit {0}) BookFault
-  pub well : faults_of runs ends kept ≡ []
+  pub well : faults ≡ []
   pub written : Appends old new (told runs)
 
 -- Not all ended well, and this is the first fault. The clients are told their answers, or a front.
-pub record IsToldFault (runs : List ClientRun) (ends : List RunnerEnd) (fault : ScriptsFault)
+pub record IsToldFault (runs : List ClientRun) (faults : List ScriptsFault) (fault : ScriptsFault)
     (old new : Option (List ℕ)) : Type 0 where
-  pub kept : Result (Unit {0}) BookFault
-  pub first : IsFirstOf {T = Unit {0}} (faults_of runs ends kept) (Err fault)
+  pub first : IsFirstOf {T = Unit {0}} faults (Err fault)
   pub written : WritesFront (told runs) old new
 
 -- All ended well, but not all answers could be written, or a line of them not be made.
-pub record IsToldPart (runs : List ClientRun) (ends : List RunnerEnd) (fault : ScriptsFault)
+pub record IsToldPart (runs : List ClientRun) (faults : List ScriptsFault) (fault : ScriptsFault)
     (old new : Option (List ℕ)) : Type 0 where
-  pub kept : Result (Unit {0}) BookFault
-  pub well : faults_of runs ends kept ≡ []
+  pub well : faults ≡ []
   pub cause : (fault ≡ Write) ⊎ (fault ≡ Memory)
   pub written : WritesFront (told runs) old new
 
--- what clients are told, and which fault is told behind
-abbrev pub IsTold : {T : Type 0} → List ClientRun → List RunnerEnd → Result T ScriptsFault
+-- what clients are told where there are these faults, and which of them is told behind
+abbrev pub IsToldOf : {T : Type 0} → List ClientRun → List ScriptsFault → Result T ScriptsFault
     → (old new : Option (List ℕ)) → Type 0
-IsTold runs ends (Ok done) old new = IsToldAll runs ends old new
-IsTold runs ends (Err fault) old new =
-    IsToldFault runs ends fault old new ⊎ IsToldPart runs ends fault old new
+IsToldOf runs faults (Ok done) old new = IsToldAll runs faults old new
+IsToldOf runs faults (Err fault) old new =
+    IsToldFault runs faults fault old new ⊎ IsToldPart runs faults fault old new
+
+-- The faults are those of the clients, of the runners and of the keep behind them. The keep ended
+-- as the book that they left has it.
+pub record IsTold {T D : Type 0} {ghosts : Ghosts D} (a : Attended D ghosts)
+    (result : Result T ScriptsFault) (old new : Option (List ℕ)) : Type 0 where
+  pub kept : Result (Unit {0}) BookFault
+  pub bears : KeepTells a.book kept
+  pub told : IsToldOf a.answers.items (faults_of a.answers.items a.ends.items kept) result old new
 
 -- One legal history of these scripts' clients and of so many runners, which goes on from the table
--- that the disk held. The answers of each client are its part of what is kept.
+-- that the disk held. The answers of each client are its part of what is kept, and each refusal is
+-- borne out by the book that is left.
 pub record HasHistory {D : Type 0} {ghosts : Ghosts D} (disk : D) (scripts : List (List Command))
-    (runners turns : ℕ) (a : Attended D ghosts) : Type 0 where
+    (runners turns workers : ℕ) (a : Attended D ghosts) : Type 0 where
   pub start : IsTrue (ghosts.keeps disk)
       → IsHeld (the_table (start_of a.book)) (ghosts.content disk)
   pub history : IsOneHistory scripts runners turns a
+  pub tells : EndsTell workers a
+
+-- reads of the disk give this table, and so do they after a crash
+pub record HasTable {D : Type 0} (ghosts : Ghosts D) (table : List JobParts) (disk : D)
+    : Type 0 where
+  pub held : IsHeld (the_table table) (ghosts.content disk)
+  pub images : Within (ghosts.image disk) (IsHeld (the_table table))
 
 -- at Ok the disk is handed out, and holds the table that the history leaves
 abbrev pub HoldsAll : {D : Type 0} (ghosts : Ghosts D) → Attended D ghosts
     → Result D ScriptsFault → Type 0
 HoldsAll ghosts a result = IfOk result (λ disk. IsTrue (ghosts.keeps disk)
-    → IsHeld (the_table (table_of a.book)) (ghosts.content disk))
+    → HasTable ghosts (table_of a.book) disk)
 
 -- there is such a history, and its clients are told so
 pub record IsToldHistory {D : Type 0} (ghosts : Ghosts D) (disk : D)
-    (scripts : List (List Command)) (runners turns : ℕ) (result : Result D ScriptsFault)
+    (scripts : List (List Command)) (runners turns workers : ℕ) (result : Result D ScriptsFault)
     (old new : Option (List ℕ)) : Type 0 where
   pub attended : Attended D ghosts
-  pub has : HasHistory disk scripts runners turns attended
-  pub told : IsTold attended.answers.items attended.ends.items result old new
+  pub has : HasHistory disk scripts runners turns workers attended
+  pub told : IsTold attended result old new
   pub held : HoldsAll ghosts attended result
 
--- what scripts that are given to a disk come to: a history that is told, or none, and then nothing
--- is written
+-- what scripts that are given to a disk come to: a history that is told, or none, and then the fault
+-- says why, and nothing is written
 abbrev pub IsAttended : {D : Type 0} (ghosts : Ghosts D) (disk : D)
-    (scripts : List (List Command)) (runners turns : ℕ) → Result D ScriptsFault
+    (scripts : List (List Command)) (runners turns workers : ℕ) → Result D ScriptsFault
     → (old new : Option (List ℕ)) → Type 0
-IsAttended ghosts disk scripts runners turns result old new =
-    IsToldHistory ghosts disk scripts runners turns result old new
-    ⊎ (IsErrAnd result IsWithoutHistory × Keeps old new)
+IsAttended ghosts disk scripts runners turns workers result old new =
+    IsToldHistory ghosts disk scripts runners turns workers result old new
+    ⊎ (IsErrAnd result (SaysWhy ghosts disk scripts runners turns workers) × Keeps old new)

@@ -9,7 +9,7 @@ use Rattle.ic_attend.specs.declared.attended.RunnerEnd.TheVariants as runner
 use Rattle.ic_attend.specs.declared.fault.AttendFault.{AttendFault}
 use Rattle.ic_attend.specs.declared.fault.AttendFault.TheVariants as attending
 use Rattle.ic_scripts.specs.declared.fault.ScriptsFault.{ScriptsFault}
-use Rattle.ic_scripts.specs.declared.fault.ScriptsFault.TheVariants.{Read, Script, Open, NoThread, Torn, Book, Pool, Memory, Write}
+use Rattle.ic_scripts.specs.declared.fault.ScriptsFault.TheVariants.{Open, NoThread, Torn, Book, Pool, Memory}
 
 -- why a client stopped, if it did
 abbrev pub client_fault : ClientRun → Option ScriptsFault
@@ -45,15 +45,3 @@ fault_of_attendance (attending.Open fault) = Open fault.cause
 fault_of_attendance (attending.NoThread attended) = NoThread
 fault_of_attendance (attending.Memory book) = Memory
 fault_of_attendance (attending.Torn attended) = Torn
-
--- the faults of an attendance that gives no history
-abbrev pub IsWithoutHistory : ScriptsFault → Type 0
-IsWithoutHistory (Open cause) = Unit {0}
-IsWithoutHistory NoThread = Unit {0}
-IsWithoutHistory Torn = Unit {0}
-IsWithoutHistory Memory = Unit {0}
-IsWithoutHistory Read = ⊥
-IsWithoutHistory (Script place refusal) = ⊥
-IsWithoutHistory (Book fault) = ⊥
-IsWithoutHistory (Pool fault) = ⊥
-IsWithoutHistory Write = ⊥

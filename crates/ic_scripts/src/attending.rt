@@ -1,23 +1,26 @@
 //! Scripts that are given to a disk.
 
-ghost use Rattle.std.specs.Prelude.{◌≡◌, map, vec_items};
-ghost use Rattle.ic_scripts.specs.Attending.{HoldsAll, IsAttended, IsTold};
+ghost use Rattle.std.specs.Prelude.{◌≡◌, map, vec_items, OnOk, IsTrue};
+ghost use Rattle.ic_desk.specs.Book.{table_of};
+ghost use Rattle.ic_scripts.specs.Attending.{HasTable, HoldsAll, IsAttended, IsTold};
+ghost use Rattle.ic_scripts.specs.Reasons.{KeepTells};
 
 use crate::ends::outcome;
 use crate::fault::{ScriptsFault, fault_of_attendance};
 use crate::telling::tell;
 use ic_attend::{Attended, attend};
+use ic_desk::{Book, BookFault};
 use ic_disk::Disk;
 use ic_jobs::Command;
-use ic_pool::OpenGate;
+use ic_pool::Gate;
 use std::alloc::Global;
 use std::io::Write;
 use std::sync::Wait;
 use std::thread::Threads;
 
 /// Gives the scripts to a disk, as `attend` does, keeps what isn't kept, closes the book, and writes
-/// what each client was answered.
-pub fn attend_scripts<R: Threads + Wait + Sync, D: Disk + Send + Drop, W: Write>(
+/// what each client was answered. The gate is `attend`'s.
+pub fn attend_scripts<R: Threads + Wait + Sync, D: Disk + Send + Drop, G: Gate, W: Write>(
     rt: &R,
     alloc: Global,
     disk: D,
@@ -25,14 +28,16 @@ pub fn attend_scripts<R: Threads + Wait + Sync, D: Disk + Send + Drop, W: Write>
     runners: usize,
     turns: usize,
     workers: usize,
+    gate: &G,
     writer: &mut W,
 ) -> Result<D, ScriptsFault>
     // What is written are the answers of one legal history of these scripts' clients, which goes on
     // from the table that the disk held. At Ok the disk holds the table that this history leaves.
-    ensures { IsAttended D.Disk disk (map vec_items scripts.items) runners turns
+    // A fault is one that the history or the keep behind it has, or says why there is none.
+    ensures { IsAttended D.Disk disk (map vec_items scripts.items) runners turns workers
         result (W.contents writer.old) (W.contents writer.new) }
 {
-    match attend(rt, alloc, disk, scripts, runners, turns, workers, &OpenGate) {
+    match attend(rt, alloc, disk, scripts, runners, turns, workers, gate) {
         Ok(attended) => finish(alloc, attended, writer),
         Err(fault) => Err(fault_of_attendance(fault)),
     }
@@ -44,17 +49,15 @@ fn finish<D: Disk + Drop, W: Write>(
     attended: Attended<D>,
     writer: &mut W,
 ) -> Result<D, ScriptsFault>
-    ensures told { IsTold attended.answers.items attended.ends.items
-        result (W.contents writer.old) (W.contents writer.new) }
+    ensures told { IsTold attended result (W.contents writer.old) (W.contents writer.new) }
     ensures held { HoldsAll D.Disk attended result }
 {
     let Attended {
-        mut book,
+        book,
         answers,
         ends,
     } = attended;
-    let kept = book.keep();
-    let disk = book.close();
+    let (kept, disk) = keep_and_close(book);
     let told = tell(alloc, &answers, writer);
     if let Err(fault) = outcome(&answers, &ends, kept) {
         return Err(fault);
@@ -63,4 +66,16 @@ fn finish<D: Disk + Drop, W: Write>(
         Ok(()) => Ok(disk),
         Err(fault) => Err(fault),
     }
+}
+
+/// Keeps what isn't kept, and closes the book.
+fn keep_and_close<D: Disk>(mut book: Book<D>) -> (Result<(), BookFault>, D)
+    ensures tells { KeepTells book result.0 }
+    ensures held { OnOk result.0 (IsTrue (D.keeps result.1)
+        → HasTable D.Disk (table_of book) result.1) }
+{
+    book.facts();
+    let kept = book.keep();
+    book.facts();
+    (kept, book.close())
 }

@@ -5,6 +5,7 @@ use ic_desk::Book;
 use ic_disk::{DiskFault, FileDisk};
 use ic_endings::Failure;
 use ic_jobs::Command;
+use ic_pool::OpenGate;
 use ic_scripts::{ScriptsFault, add_script, attend_scripts};
 use ic_serving::{ServeFault, serve_lines};
 use ic_streams::{StreamFault, once_stream, settle_stream};
@@ -179,6 +180,7 @@ fn give<T: Threads + Wait + Sync>(
         runners as usize,
         turns as usize,
         workers as usize,
+        &OpenGate,
         &mut output,
     );
     let flushed = output.flush().map_err(|_| ScriptsFault::Write);

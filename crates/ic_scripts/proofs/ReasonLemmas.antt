@@ -1,0 +1,55 @@
+-- Why scripts have no history, and what a keep says of a book.
+use Rattle.std.proofs.Common.{◌≡◌, ◌≢◌, ◌∙◌, ℕ, ◌<◌, ◌≤◌, List, Option, None, Some, true, false, Bool, length, refl, sym, ap, arith}
+use Rattle.std.specs.Prelude.{Result, Ok, Err, IsErrOf, IfErr}
+use Rattle.std.specs.Io.KnownBytes.{Keeps}
+use Rattle.ic_disk.specs.declared.disk.Disk.{Ghosts}
+use Rattle.ic_jobs.specs.declared.command.Command.{Command}
+use Rattle.ic_slots.specs.Keeper as keeper
+use Rattle.ic_desk.specs.declared.book.Book.{Book}
+use Rattle.ic_desk.specs.declared.fault.BookFault.{BookFault}
+use Rattle.ic_desk.specs.declared.fault.BookFault.TheVariants.{Broken, LogFull, Worn, Memory, Device}
+use Rattle.ic_desk.specs.Book.{log_of, kept_of, is_broken}
+use Rattle.ic_desk.specs.Calls.{BreaksOrStays, KeepsAll, TellsWorn}
+use Rattle.ic_attend.specs.declared.fault.AttendFault.{AttendFault}
+use Rattle.ic_attend.specs.declared.fault.AttendFault.TheVariants as attending
+use Rattle.ic_attend.specs.Faults.{IfUnopened, IfUnbegun, IfStopped, IfTorn, IsUnopened, IsAsOpened, IsStopped, IsTorn}
+use Rattle.ic_scripts.specs.Outcome.{fault_of_attendance}
+use Rattle.ic_scripts.specs.Reasons.{KeepTells, SaysWhy}
+
+pub keeps_same : (c : Option (List ℕ)) → Keeps c c
+keeps_same None = tt
+keeps_same (Some xs) = refl
+
+-- a fault without its history says what `attend` said of it
+pub says_why : {D : Type 0} {ghosts : Ghosts D} (disk : D) (scripts : List (List Command)) (runners turns workers : ℕ) (fault : AttendFault D ghosts)
+    → IfUnopened (Err fault) (IsUnopened ghosts disk) → IfUnbegun (Err fault) (IsAsOpened disk)
+    → IfStopped (Err fault) (IsStopped scripts runners) → IfTorn (Err fault) (IsTorn ghosts disk scripts runners turns workers)
+    → SaysWhy ghosts disk scripts runners turns workers (fault_of_attendance fault)
+says_why disk scripts runners turns workers (attending.Open fault) unopened unbegun stopped torn = (fault, refl, unopened)
+says_why disk scripts runners turns workers (attending.NoThread a) unopened unbegun stopped torn = (a, stopped)
+says_why disk scripts runners turns workers (attending.Memory book) unopened unbegun stopped torn = (book, unbegun)
+says_why disk scripts runners turns workers (attending.Torn a) unopened unbegun stopped torn = (a, torn)
+
+not_true : (b : Bool) → (b ≡ true → ⊥) → b ≡ false
+not_true true never = absurd (never refl)
+not_true false never = refl
+
+-- what a keep says of the book before it
+pub keep_tells : {D : Type 0} {ghosts : Ghosts D} (r : Result (Unit {0}) BookFault) (old new : Book D ghosts) → BreaksOrStays r old new → TellsWorn r old
+    → IfErr r (λ fault. fault ≢ Broken → fault ≢ Worn → fault ≡ Device) → KeepsAll r old new → kept_of old ≤ length (log_of old) → KeepTells old r
+keep_tells (Ok done) old new fault worn others all within = not_true (is_broken old) (λ broken. let bad : IsErrOf {T = Unit {0}} (Ok done) Broken = fault.broken.1 broken in cc)
+keep_tells (Err Broken) old new fault worn others all within = fault.broken.0 refl
+keep_tells (Err LogFull) old new fault worn others all within = let bad : LogFull ≡ Device = others (λ e. cc) (λ e. cc) in cc
+keep_tells (Err Worn) old new fault worn others all within =
+    let is = worn.0 refl in (record { unbroken = is.0; unkept = is.1 }, is.2)
+keep_tells (Err Memory) old new fault worn others all within = let bad : Memory ≡ Device = others (λ e. cc) (λ e. cc) in cc
+keep_tells (Err Device) old new fault worn others all within =
+    let unbroken : is_broken old ≡ false = not_true (is_broken old) (λ broken. let bad : IsErrOf {T = Unit {0}} (Err Device) Broken = fault.broken.1 broken in cc) in
+    let apart : kept_of old ≡ length (log_of old) → ⊥ = λ whole.
+    let same : is_broken new ≡ is_broken old = ap keeper.is_broken (all.idle whole) in
+    let bad : true ≡ false = sym (fault.breaks refl) ∙ same ∙ unbroken in cc in
+    let unkept : kept_of old < length (log_of old) = less _ _ within apart in
+    (record { unbroken = unbroken; unkept = unkept }, λ used. let bad : IsErrOf {T = Unit {0}} (Err Device) Worn = worn.1 (unbroken, unkept, used) in cc)
+  where
+    less : (a b : ℕ) → a ≤ b → (a ≡ b → ⊥) → a < b
+    less a b small apart = omega (arith, small, apart)

@@ -1,0 +1,47 @@
+-- To be believed: why scripts have no history, and what a keep behind one says (this project's choice).
+use Rattle.std.specs.Prelude.{◌≡◌, ◌≢◌, ℕ, ◌-◌, ◌^◌, ◌<◌, List, true, false, length, Result, Ok, Err}
+use Rattle.ic_disk.specs.declared.disk.Disk.{Ghosts}
+use Rattle.ic_frames.specs.declared.faults.OpenFault.{OpenFault}
+use Rattle.ic_jobs.specs.declared.command.Command.{Command}
+use Rattle.ic_desk.specs.declared.book.Book.{Book}
+use Rattle.ic_desk.specs.declared.fault.BookFault.{BookFault}
+use Rattle.ic_desk.specs.declared.fault.BookFault.TheVariants as of_book
+use Rattle.ic_desk.specs.Book.{log_of, kept_of, is_broken, number_of}
+use Rattle.ic_attend.specs.declared.attended.Attended.{Attended}
+use Rattle.ic_attend.specs.Faults.{IsAsOpened, IsStopped, IsTorn, IsUnopened}
+use Rattle.ic_scripts.specs.declared.fault.ScriptsFault.{ScriptsFault}
+use Rattle.ic_scripts.specs.declared.fault.ScriptsFault.TheVariants.{Read, Script, Open, NoThread, Torn, Book as by_book, Pool, Memory, Write}
+
+-- Why there is no history, as `attend` says it: the disk wasn't opened, for this cause; a thread was
+-- refused; what was gathered differs; or memory was refused over a book that was just opened.
+abbrev pub SaysWhy : {D : Type 0} (ghosts : Ghosts D) (disk : D) (scripts : List (List Command))
+    (runners turns workers : ℕ) → ScriptsFault → Type 0
+SaysWhy {D = D} ghosts disk scripts runners turns workers (Open cause) =
+    (fault : OpenFault D) × (fault.cause ≡ cause) × IsUnopened ghosts disk fault
+SaysWhy {D = D} ghosts disk scripts runners turns workers NoThread =
+    (a : Attended D ghosts) × IsStopped scripts runners a
+SaysWhy {D = D} ghosts disk scripts runners turns workers Torn =
+    (a : Attended D ghosts) × IsTorn ghosts disk scripts runners turns workers a
+SaysWhy {D = D} ghosts disk scripts runners turns workers Memory =
+    (book : Book D ghosts) × IsAsOpened disk book
+SaysWhy ghosts disk scripts runners turns workers Read = ⊥
+SaysWhy ghosts disk scripts runners turns workers (Script place refusal) = ⊥
+SaysWhy ghosts disk scripts runners turns workers (by_book fault) = ⊥
+SaysWhy ghosts disk scripts runners turns workers (Pool fault) = ⊥
+SaysWhy ghosts disk scripts runners turns workers Write = ⊥
+
+-- the book may keep, and has what isn't kept yet
+pub record WantsKeep {D : Type 0} {ghosts : Ghosts D} (book : Book D ghosts) : Type 0 where
+  pub unbroken : is_broken book ≡ false
+  pub unkept : kept_of book < length (log_of book)
+
+-- What a keep says of the book before it. It is refused, in this order: the book is broken,
+-- something is to be kept and the numbers of the slots are used up, the disk fails at it.
+abbrev pub KeepTells : {T D : Type 0} {ghosts : Ghosts D} → Book D ghosts → Result T BookFault
+    → Type 0
+KeepTells book (Ok done) = is_broken book ≡ false
+KeepTells book (Err of_book.Broken) = is_broken book ≡ true
+KeepTells book (Err of_book.LogFull) = ⊥
+KeepTells book (Err of_book.Worn) = WantsKeep book × (number_of book ≡ 2 ^ 64 - 1)
+KeepTells book (Err of_book.Memory) = ⊥
+KeepTells book (Err of_book.Device) = WantsKeep book × (number_of book ≢ 2 ^ 64 - 1)
