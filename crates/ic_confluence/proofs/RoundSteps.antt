@@ -1,6 +1,6 @@
 -- Lemmas: a round of a configuration that isn't quiet makes a step, so where a chain ends, some number of rounds does.
 use Rattle.std.proofs.Common.{◌≡◌, ◌⊎◌, ◌↔◌, ℕ, zero, suc, ◌+◌, ◌≤◌, ◌<◌, List, [], ◌∷◌, ◌++◌, Bool, true, false, ◌&&◌, Option, None, Some, is_none, length, length-append, refl, sym, ap, ◌∙◌, append_assoc, append-nil, arith, inl, inr, subst as transport}
-use Rattle.std.proofs.lemmas.Bool.{cases_Bool, and_parts, and_from, true≢false}
+use Rattle.std.proofs.lemmas.Bool.{cases_Bool, and_from, true≢false}
 use Rattle.std.proofs.lemmas.List.Sorted.{length_permutation}
 use Rattle.std.specs.List.{list_all}
 use Rattle.std.specs.Option.{option_map, option_map_or}
@@ -17,6 +17,7 @@ use Rattle.ic_round.specs.Quiet.{is_inert, is_settled, is_quiet}
 use Rattle.ic_round.specs.Rounds.{IsQuiet, round, iterate}
 use Rattle.ic_round.specs.Steps.{Step, interaction, Steps, no_steps, then_step}
 use Rattle.ic_round.specs.lemmas.ChainLemmas.{steps-over, steps-names}
+use Rattle.ic_round.specs.lemmas.IdleLemmas.{idle}
 use Rattle.ic_round.specs.lemmas.NameStepLemmas.{name_step}
 use Rattle.ic_round.specs.lemmas.QuietLemmas.{no_step as no_step_when_quiet}
 use Rattle.ic_round.specs.lemmas.SettledLemmas.{choice_step}
@@ -87,35 +88,6 @@ fired_moves : (rs : List Rule) (c : Configuration) → Moves rs c (fired rs c) (
 fired_moves rs c =
     let P : List Pair → Type 0 = λ es. Moves rs c (record { interface = c.interface; equations = es; next = (fired rs c).next }) (is_inert rs c) in
     transport P (append-nil (fired_from rs c.next c.equations)) (all_fired rs c.interface [] c.equations c.next)
-
--- ---- no active equation
-
-none_of : {X : Type 0} (o : Option X) → is_none o ≡ true → o ≡ None
-none_of None e = refl
-none_of (Some x) e = cc
-
-idle_equations : (rs : List Rule) (base : ℕ) (ps : List Pair) → list_all (λ p. is_none (active_pair rs p)) ps ≡ true → fired_from rs base ps ≡ ps
-idle_equations rs base [] e = refl
-idle_equations rs base (p ∷ ps) e =
-    let both = and_parts (is_none (active_pair rs p)) (list_all (λ q. is_none (active_pair rs q)) ps) e in
-    let none = none_of (active_pair rs p) both.0 in
-    let here : fired_pair rs base p ≡ p ∷ [] = ap (λ o. option_map_or (products_by rs base) o (p ∷ [])) none in
-    let rest = idle_equations rs (base + names_taken rs p) ps both.1 in
-    λ i. here i ++ rest i
-
-idle_next : (rs : List Rule) (base : ℕ) (ps : List Pair) → list_all (λ p. is_none (active_pair rs p)) ps ≡ true → next_behind rs base ps ≡ base
-idle_next rs base [] e = refl
-idle_next rs base (p ∷ ps) e =
-    let both = and_parts (is_none (active_pair rs p)) (list_all (λ q. is_none (active_pair rs q)) ps) e in
-    let taken : names_taken rs p ≡ 0 = ap (λ o. option_map_or (λ a. count_of rs a.rule) o 0) (none_of (active_pair rs p) both.0) in
-    let rest = idle_next rs (base + names_taken rs p) ps both.1 in
-    omega (arith, taken, rest)
-
-idle : (rs : List Rule) (c : Configuration) → is_inert rs c ≡ true → fired rs c ≡ c
-idle rs c inert =
-    let equations = idle_equations rs c.next c.equations inert in
-    let next = idle_next rs c.next c.equations inert in
-    λ i. record { interface = c.interface; equations = equations i; next = next i }
 
 -- ---- settling
 

@@ -12,7 +12,7 @@ use Rattle.ic_term.specs.declared.limits.TheConstants.{MAX_NODES, MAX_NEXT}
 use Rattle.ic_rules.specs.Rule.{Rule}
 use Rattle.ic_rules.specs.RuleSet.{Rules, IsRuleSet}
 use Rattle.ic_round.specs.Firing.{Active, rule_of_sides, active_pair, products_by, count_of, names_taken, fired_pair}
-use Rattle.ic_round.specs.inner.Sizes.{fired_nodes}
+use Rattle.ic_round.specs.lemmas.Sizes.{fired_nodes}
 use Rattle.ic_round.specs.Steps.{Interaction}
 use Rattle.ic_round.specs.Works.{suits, work_at}
 use Rattle.ic_round.specs.SingleSteps.{interacted_by, interacted, is_within}
@@ -26,7 +26,7 @@ use Rattle.ic_round.specs.lemmas.ActiveRules.{active_by, nodes-any_base}
 use Rattle.ic_round.specs.lemmas.SoundRules.{sound_rule}
 use Rattle.ic_round.specs.lemmas.NamesLemmas.{replaced_names}
 use Rattle.ic_round.specs.lemmas.OverSymbols.{over_pair, over_replaced}
-use Rattle.ic_round.proofs.Planned.{one_suits}
+use Rattle.ic_round.specs.lemmas.Planned.{one_suits}
 use Rattle.ic_round.proofs.FiringAt.{fired_pair-active}
 use Rattle.ic_round.proofs.StandsAt.{stands}
 use Rattle.ic_round.proofs.StepLemmas.{interacted-at}

@@ -1,14 +1,11 @@
-pub mod Words
 pub mod WorkLemmas
-pub mod SizeSoFar
 pub mod ListLemmas
-pub mod Separating
-pub mod Planned
 pub mod Gathers
-pub mod NoSteps
 pub mod StandsAt
 pub mod StepLemmas
 pub mod Applying
 pub mod Interacting
 pub mod FiringAt
 pub mod Putting
+pub mod SizeLists
+pub mod WorkLists

@@ -14,3 +14,11 @@ pub mod StepsLemmas
 pub mod ChainLemmas
 pub mod ActivityLemmas
 pub mod NamesLemmas
+pub mod Words
+pub mod Sizes
+pub mod SizeSoFar
+pub mod Separating
+pub mod Planned
+pub mod Products
+pub mod NoSteps
+pub mod IdleLemmas

@@ -8,7 +8,7 @@ ghost use Rattle.ic_term.specs.Symbol.{is_over, is_pair_over};
 ghost use Rattle.ic_term.specs.Configuration.{configuration_nodes};
 ghost use Rattle.ic_rules.specs.RuleSet.{IsRuleSet};
 ghost use Rattle.ic_round.specs.Firing.{rule_of_sides, names_taken, fired};
-ghost use Rattle.ic_round.specs.inner.Sizes.{fired_nodes};
+ghost use Rattle.ic_round.specs.lemmas.Sizes.{fired_nodes};
 
 use ic_rules::RuleSet;
 use ic_term::{Config, Equation, Term, nodes_of_terms};

@@ -106,7 +106,7 @@ fn is_applicable(names: &[u64], side: &Term, other: &Term) -> bool
 }
 
 /// Whether a name stands at least twice in a list that rises.
-fn is_twice_in(names: &[u64], name: u64) -> bool
+pub fn is_twice_in(names: &[u64], name: u64) -> bool
     requires { IsNonDecreasing names.now }
     ensures { result ≡ nat_le 2 (occurrences name names.now) }
 {

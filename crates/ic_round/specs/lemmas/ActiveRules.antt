@@ -15,7 +15,7 @@ use Rattle.ic_rules.specs.lemmas.FindLaws.{rule_for-found}
 use Rattle.ic_round.specs.Instance.{inst}
 use Rattle.ic_round.specs.Firing.{Active, oriented, rule_of_sides, active_pair, arguments, against, products, products_by, count_of, names_taken, fired_pair, fired_from, next_behind}
 use Rattle.ic_round.specs.Works.{is_agent_of}
-use Rattle.ic_round.specs.inner.Sizes.{fired_nodes}
+use Rattle.ic_round.specs.lemmas.Sizes.{fired_nodes}
 use Rattle.std.proofs.lemmas.Bool.{and_parts}
 use Rattle.ic_settle.specs.lemmas.SubstitutionLaws.{and_both}
 

@@ -19,7 +19,7 @@ use Rattle.ic_round.specs.lemmas.SettledLemmas.{choice_step}
 
 -- ---- from the test to the steps
 
-none_of : {X : Type 0} (o : Option X) → is_none o ≡ true → o ≡ None
+pub none_of : {X : Type 0} (o : Option X) → is_none o ≡ true → o ≡ None
 none_of None e = refl
 none_of (Some x) e = cc
 

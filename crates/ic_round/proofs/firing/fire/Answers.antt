@@ -7,8 +7,9 @@ use Rattle.ic_rules.specs.Renaming.{renamed}
 use Rattle.ic_round.specs.Firing.{against}
 use Rattle.ic_round.specs.Works.{PlainFired}
 use Rattle.ic_round.specs.WorkViews.{work_of}
-use Rattle.ic_round.proofs.Words.{u64_MAX}
-use Rattle.ic_round.proofs.WorkLemmas.{products_of_work, suits_within}
+use Rattle.ic_round.specs.lemmas.Words.{u64_MAX}
+use Rattle.ic_round.proofs.WorkLemmas.{products_of_work}
+use Rattle.ic_round.specs.lemmas.Products.{suits_within}
 use Rattle.ic_round.proofs.firing.fire.Goals as goal
 
 pub returns : goal.returns

@@ -1,6 +1,7 @@
 use Rattle.std.proofs.Common.{[], map, arith}
 use Rattle.ic_term.specs.Term.{tree}
-use Rattle.ic_round.proofs.SizeSoFar.{SizeSoFar, size-start, size-next, size-here, size-at, size-end}
+use Rattle.ic_round.specs.lemmas.SizeSoFar.{SizeSoFar, size-start, size-next, size-here}
+use Rattle.ic_round.proofs.SizeLists.{size-at, size-end}
 use Rattle.ic_round.proofs.growth.fired_size.Goals as goal
 use Rattle.ic_round.proofs.growth.fired_size.Goals.{After-loop-equation}
 

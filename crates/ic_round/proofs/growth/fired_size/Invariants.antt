@@ -1,6 +1,6 @@
 use Rattle.std.proofs.Common.{map, drop}
 use Rattle.ic_term.specs.Term.{pair}
-use Rattle.ic_round.proofs.SizeSoFar.{SizeSoFar}
+use Rattle.ic_round.specs.lemmas.SizeSoFar.{SizeSoFar}
 use Rattle.ic_round.proofs.growth.fired_size.Given as goal
 
 -- the sizes so far, and those of the equations left

@@ -2,7 +2,7 @@ use Rattle.std.proofs.Common.{◌<◌, min, sum_by, length, get_or, refl, ap, sy
 use Rattle.std.proofs.lemmas.Option.{slice_get_read}
 use Rattle.ic_term.specs.Tree.{nodes}
 use Rattle.ic_term.specs.Term.{tree, pair}
-use Rattle.ic_round.proofs.Words.{u64_MAX}
+use Rattle.ic_round.specs.lemmas.Words.{u64_MAX}
 use Rattle.ic_round.specs.lemmas.ActiveRules.{ActiveBy, active_with, rule_within}
 use Rattle.ic_round.proofs.growth.fired_size_of.Goals as goal
 use Rattle.ic_round.proofs.growth.fired_size_of.Goals.{After-rules, After-names}

@@ -12,7 +12,8 @@ use Rattle.std.proofs.lemmas.Bool.{and_parts}
 use Rattle.ic_round.specs.lemmas.SoundRules.{HasSoundRule, sound_rules}
 use Rattle.ic_round.specs.lemmas.OverSymbols.{fired_over}
 use Rattle.ic_round.specs.lemmas.AnyOrder.{any_order, any_results}
-use Rattle.ic_round.proofs.Planned.{works-places, works-bases, works_suit, places_of_works, bases_of_works}
+use Rattle.ic_round.specs.lemmas.Planned.{works-places, works-bases, works_suit}
+use Rattle.ic_round.proofs.WorkLists.{places_of_works, bases_of_works}
 use Rattle.ic_round.specs.lemmas.RoundLemmas.{fired_is}
 use Rattle.ic_round.proofs.planning.plan.Goals as goal
 use Rattle.ic_round.proofs.planning.plan.Goals.{After-new}

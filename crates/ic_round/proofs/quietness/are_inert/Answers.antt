@@ -4,7 +4,7 @@ use Rattle.ic_term.specs.declared.term.Equation.{Equation}
 use Rattle.ic_term.specs.Term.{pair}
 use Rattle.ic_round.specs.Firing.{active_pair}
 use Rattle.ic_round.proofs.ListLemmas.{drop_at}
-use Rattle.ic_round.proofs.NoSteps.{inert_where}
+use Rattle.ic_round.specs.lemmas.NoSteps.{inert_where}
 use Rattle.ic_round.proofs.quietness.are_inert.Goals as goal
 
 pub returns-then-is_some : goal.returns-then-is_some

@@ -2,7 +2,7 @@ use Rattle.std.proofs.Common.{◌≡◌, ◌&&◌, is_none, true, false, ap, sym
 use Rattle.std.specs.List.{list_all}
 use Rattle.ic_round.specs.Firing.{active_pair}
 use Rattle.ic_round.specs.Quiet.{is_inert, is_settled}
-use Rattle.ic_round.proofs.NoSteps.{told_by_test}
+use Rattle.ic_round.specs.lemmas.NoSteps.{told_by_test}
 use Rattle.ic_round.proofs.quietness.quiet.Goals as goal
 
 pub returns-then-are_inert-clause-no_step : goal.returns-then-are_inert-clause-no_step

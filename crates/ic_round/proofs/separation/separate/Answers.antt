@@ -8,7 +8,7 @@ use Rattle.ic_term.specs.Term.{pair, cell_tree}
 use Rattle.ic_round.specs.Firing.{Active, count_of}
 use Rattle.ic_round.specs.Works.{work_at}
 use Rattle.ic_round.specs.WorkViews.{work_of}
-use Rattle.ic_round.proofs.Separating.{Separates, active_within, separates-active, separates-room}
+use Rattle.ic_round.specs.lemmas.Separating.{Separates, active_within, separates-active, separates-room}
 use Rattle.ic_round.proofs.separation.separate.Goals as goal
 use Rattle.ic_round.proofs.separation.separate.Goals.{After-names}
 

@@ -2,7 +2,7 @@ use Rattle.std.proofs.Common.{◌≡◌, map, option_map, length}
 use Rattle.std.specs.Vec.Iter.{into_iter_items, into_iter_len}
 use Rattle.ic_term.specs.Term.{pair}
 use Rattle.ic_round.specs.WorkViews.{work_of}
-use Rattle.ic_round.proofs.Separating.{Separates}
+use Rattle.ic_round.specs.lemmas.Separating.{Separates}
 use Rattle.ic_round.proofs.separation.separate.Given as goal
 
 -- what is taken out so far, and what the equations left give

@@ -16,7 +16,7 @@ use Rattle.ic_round.specs.SingleSteps.{interacted_by, is_within}
 use Rattle.ic_round.specs.inner.Replacing.{IsReady}
 use Rattle.ic_round.proofs.Applying.{pair_at}
 use Rattle.ic_round.proofs.StepLemmas.{interacted-inert, no_interaction}
-use Rattle.ic_round.proofs.Words.{u64_MAX}
+use Rattle.ic_round.specs.lemmas.Words.{u64_MAX}
 use Rattle.ic_round.proofs.Interacting.{CanInteract, small_there, over_there, too_large, too_high, interacts, interacted-made, answer-within, answer-limit, none_found}
 use Rattle.ic_round.proofs.steps.interact_at.Goals as goal
 use Rattle.ic_round.proofs.steps.interact_at.Goals.{In-Some, After-saturating_add-next, After-from_parts, Joined-then-nodes-gt-MAX_NODES, then-nodes-gt-MAX_NODES-via-then-nodes-gt-MAX_NODES, then-nodes-gt-MAX_NODES-via-else-nodes-gt-MAX_NODES+then-next-gt-MAX_NEXT}

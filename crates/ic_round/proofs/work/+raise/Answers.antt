@@ -5,7 +5,7 @@ use Rattle.ic_term.specs.Tree.{agent, trees_of}
 use Rattle.ic_term.specs.Term.{tree}
 use Rattle.ic_rules.specs.Renaming.{renamed}
 use Rattle.ic_rules.specs.lemmas.RenamingLaws.{renamed_trees-trees_of}
-use Rattle.ic_round.proofs.Words.{u64_MAX}
+use Rattle.ic_round.specs.lemmas.Words.{u64_MAX}
 use Rattle.ic_round.proofs.work.+raise.Goals as goal
 
 pub raised_cell-returns : goal.raised_cell-returns

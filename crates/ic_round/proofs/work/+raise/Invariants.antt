@@ -1,7 +1,7 @@
 use Rattle.std.proofs.Common.{◌≡◌, ◌+◌, map, min, take}
 use Rattle.ic_term.specs.Term.{tree}
 use Rattle.ic_rules.specs.Renaming.{renamed}
-use Rattle.ic_round.proofs.Words.{u64_MAX}
+use Rattle.ic_round.specs.lemmas.Words.{u64_MAX}
 use Rattle.ic_round.proofs.work.+raise.Given as goal
 
 -- the arguments so far are raised

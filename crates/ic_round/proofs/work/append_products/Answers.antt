@@ -6,8 +6,9 @@ use Rattle.ic_term.specs.declared.term.Equation.{Equation}
 use Rattle.ic_term.specs.Term.{tree, pair}
 use Rattle.ic_rules.specs.Renaming.{renamed}
 use Rattle.ic_round.specs.Firing.{against}
-use Rattle.ic_round.proofs.Words.{u64_MAX}
-use Rattle.ic_round.proofs.WorkLemmas.{against-none, against-next}
+use Rattle.ic_round.specs.lemmas.Words.{u64_MAX}
+use Rattle.ic_round.proofs.WorkLemmas.{against-next}
+use Rattle.ic_round.specs.lemmas.Products.{against-none}
 use Rattle.ic_round.proofs.work.append_products.Goals as goal
 use Rattle.ic_round.proofs.work.append_products.Goals.{else-loop-term-test, then-loop-term-test+in_default}
 

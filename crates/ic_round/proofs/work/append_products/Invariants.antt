@@ -3,7 +3,7 @@ use Rattle.std.specs.Vec.Iter.{into_iter_items, into_iter_len}
 use Rattle.ic_term.specs.Term.{tree, pair}
 use Rattle.ic_rules.specs.Renaming.{renamed}
 use Rattle.ic_round.specs.Firing.{against}
-use Rattle.ic_round.proofs.Words.{u64_MAX}
+use Rattle.ic_round.specs.lemmas.Words.{u64_MAX}
 use Rattle.ic_round.proofs.work.append_products.Given as goal
 
 -- the products so far, and those of the arguments and terms left, are all of them

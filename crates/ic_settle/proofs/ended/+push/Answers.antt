@@ -5,7 +5,7 @@ use Rattle.ic_term.specs.declared.term.Term.{Term}
 use Rattle.ic_term.specs.Tree.{nodes, names, names_of, trees_of}
 use Rattle.ic_term.specs.Term.{tree, cell_tree}
 use Rattle.ic_settle.proofs.ListLemmas.{drop_at}
-use Rattle.ic_settle.proofs.NameCounts.{next_fits}
+use Rattle.ic_settle.specs.lemmas.NameCounts.{next_fits}
 use Rattle.ic_settle.proofs.CellNodes.{cell-nodes}
 use Rattle.ic_settle.proofs.ended.+push.Goals as goal
 

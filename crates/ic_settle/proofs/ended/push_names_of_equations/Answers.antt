@@ -4,7 +4,7 @@ use Rattle.ic_term.specs.declared.term.Equation.{Equation}
 use Rattle.ic_term.specs.Tree.{names, pair_names}
 use Rattle.ic_term.specs.Term.{tree, pair}
 use Rattle.ic_settle.proofs.ListLemmas.{drop_at}
-use Rattle.ic_settle.proofs.NameCounts.{next_fits}
+use Rattle.ic_settle.specs.lemmas.NameCounts.{next_fits}
 use Rattle.ic_settle.proofs.ended.push_names_of_equations.Goals as goal
 
 pub push_names-requires : goal.push_names-requires

@@ -5,7 +5,7 @@ use Rattle.std.proofs.lemmas.List.Sorted.{sum_by-IsPermutation, IsNonDecreasingB
 use Rattle.ic_term.specs.Tree.{names, pair_names}
 use Rattle.ic_term.specs.Term.{tree, pair}
 use Rattle.ic_term.specs.Configuration.{occurrences, configuration_names}
-use Rattle.ic_settle.proofs.NameCounts.{names_fit, refilled}
+use Rattle.ic_settle.specs.lemmas.NameCounts.{names_fit, refilled}
 use Rattle.ic_settle.proofs.ended.sorted_names.Goals as goal
 
 pub push_names_of_terms-requires : goal.push_names_of_terms-requires

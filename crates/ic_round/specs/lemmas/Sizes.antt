@@ -1,4 +1,4 @@
--- For private functions. How large a configuration is once its active equations have fired.
+-- How large a configuration is once its active equations have fired.
 use Rattle.std.specs.Prelude.{ℕ, List, sum_by}
 use Rattle.ic_term.specs.Tree.{Pair, pair_nodes}
 use Rattle.ic_rules.specs.Rule.{Rule}

@@ -10,10 +10,8 @@ use Rattle.ic_rules.specs.Rule.{Rule}
 use Rattle.ic_round.specs.Firing.{Active, active_pair, count_of, names_taken, next_behind, active_from, bases_from}
 use Rattle.ic_round.specs.Works.{PlainWork, work_at, works_from, suits, suits_rule, is_agent_of}
 use Rattle.ic_round.specs.lemmas.SoundRules.{HasSoundRule}
-use Rattle.ic_round.specs.declared.work.Work.{Work}
-use Rattle.ic_round.specs.WorkViews.{work_of}
 use Rattle.ic_settle.specs.lemmas.SubstitutionLaws.{and_both}
-use Rattle.ic_round.proofs.Separating.{active_within}
+use Rattle.ic_round.specs.lemmas.Separating.{active_within}
 use Rattle.ic_round.specs.lemmas.FiredNames.{next_grows}
 
 -- the places of the works are those of the active equations
@@ -80,13 +78,3 @@ works_suit rs i base (p ∷ ps) sound small =
     at (Some a) e grows rest =
         let taken : names_taken rs p ≡ count_of rs a.rule = ap (λ o. option_map_or (λ b. count_of rs b.rule) o 0) e in
         (one_suits rs i base p a sound.0 e (omega arith), rest)
-
--- ---- over the program's works
-
-pub places_of_works : (ws : List Work) → map (λ (w : Work). w.place) ws ≡ map (λ (w : PlainWork). w.place) (map work_of ws)
-places_of_works [] = refl
-places_of_works (w ∷ ws) = ap (λ l. w.place ∷ l) (places_of_works ws)
-
-pub bases_of_works : (ws : List Work) → map (λ (w : Work). w.base) ws ≡ map (λ (w : PlainWork). w.base) (map work_of ws)
-bases_of_works [] = refl
-bases_of_works (w ∷ ws) = ap (λ l. w.base ∷ l) (bases_of_works ws)

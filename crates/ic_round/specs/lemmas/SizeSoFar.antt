@@ -1,19 +1,15 @@
 -- The size of a fired configuration, added up equation by equation.
-use Rattle.std.proofs.Common.{◌≡◌, ℕ, ◌+◌, ◌≤◌, List, [], ◌∷◌, true, min, map, sum_by, length, drop, get_or, ◌<◌, subst, ap, arith}
-use Rattle.std.proofs.lemmas.List.{drop_all}
+use Rattle.std.proofs.Common.{◌≡◌, ℕ, ◌+◌, ◌≤◌, List, ◌∷◌, true, min, sum_by, ap, arith}
 use Rattle.std.proofs.lemmas.List.Sums.{sum_by-cons}
 use Rattle.std.specs.List.{list_all}
 use Rattle.ic_term.specs.Tree.{Tree, nodes, Pair, pair_nodes}
-use Rattle.ic_term.specs.declared.term.Equation.{Equation}
-use Rattle.ic_term.specs.Term.{pair}
 use Rattle.ic_term.specs.Symbol.{is_over, is_pair_over, is_tree_over}
 use Rattle.ic_term.specs.Configuration.{Configuration, IsConfiguration, configuration_nodes}
 use Rattle.ic_term.specs.declared.limits.TheConstants.{MAX_NODES}
 use Rattle.ic_rules.specs.RuleSet.{Rules}
 use Rattle.ic_round.specs.Firing.{names_taken, fired}
-use Rattle.ic_round.specs.inner.Sizes.{fired_nodes}
-use Rattle.ic_round.proofs.Words.{u64_MAX}
-use Rattle.ic_round.proofs.ListLemmas.{drop_at}
+use Rattle.ic_round.specs.lemmas.Sizes.{fired_nodes}
+use Rattle.ic_round.specs.lemmas.Words.{u64_MAX}
 use Rattle.std.proofs.lemmas.Bool.{and_parts}
 use Rattle.ic_round.specs.lemmas.ActiveRules.{nodes-fired_from, next-sum}
 
@@ -71,16 +67,3 @@ size-here rs c count names p left s =
     let few = s.small in
     let d = sum_by-cons pair_nodes p left in
     ((and_parts (is_pair_over rs.symbols p) (list_all (is_pair_over rs.symbols) left) s.over).0, omega arith)
-
--- the same at a place of the program's list
-pub size-at : (rs : Rules) (c : Configuration) (count names : ℕ) (es : List Equation) (i : ℕ) (e : Equation) → i < length es → e ≡ get_or es i e
-    → SizeSoFar rs c count names (map pair (drop i es)) → SizeSoFar rs c count names (pair e ∷ map pair (drop (i + 1) es))
-size-at rs c count names es i e within here s =
-    let P : List Pair → Type 0 = λ left. SizeSoFar rs c count names left in
-    subst P (ap (map pair) (drop_at es i e within here)) s
-
-pub size-end : (rs : Rules) (c : Configuration) (count names : ℕ) (es : List Equation) (i : ℕ) → length es ≤ i → SizeSoFar rs c count names (map pair (drop i es))
-    → SizeSoFar rs c count names []
-size-end rs c count names es i at_end s =
-    let P : List Pair → Type 0 = λ left. SizeSoFar rs c count names left in
-    subst P (ap (map pair) (drop_all i es at_end)) s
