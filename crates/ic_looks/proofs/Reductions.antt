@@ -1,65 +1,25 @@
 -- Lemmas for the laws of reducing.
-use Rattle.std.proofs.Common.{◌≡◌, ◌⊎◌, inl, inr, ℕ, zero, suc, ◌+◌, ◌-◌, ◌&&◌, ◌<◌, ◌≤◌, List, [], ◌∷◌, ◌++◌, Bool, true, false, Option, None, Some, is_none, Ok, Err, cond, refl, sym, ap, ◌∙◌, arith, add-one, add-suc, add-zero, subst}
+use Rattle.std.proofs.Common.{◌≡◌, ◌⊎◌, inl, inr, ℕ, zero, suc, ◌+◌, ◌-◌, ◌&&◌, ◌<◌, ◌≤◌, List, [], ◌∷◌, Bool, true, false, Option, None, Some, is_none, Ok, Err, cond, refl, sym, ap, ◌∙◌, arith, add-one, add-suc, add-zero, subst}
 use Rattle.std.proofs.lemmas.Bool.{and_parts, cases_Bool, cases_lt, true≢false}
 use Rattle.std.specs.Prelude.{◌↔◌}
 use Rattle.std.specs.List.{AllByRecursion, find, list_all}
-use Rattle.std.specs.Option.{option_map, option_map_or}
+use Rattle.std.specs.Option.{option_map}
 use Rattle.ic_term.specs.Tree.{Pair}
 use Rattle.ic_term.specs.Symbol.{Symbol}
 use Rattle.ic_term.specs.Configuration.{Configuration}
 use Rattle.ic_rules.specs.Rule.{Rule}
-use Rattle.ic_settle.specs.Settling.{Choice, applied, first_choice, settled}
-use Rattle.ic_settle.specs.lemmas.ChoiceLaws.{settled-stop}
-use Rattle.ic_round.specs.Firing.{active_pair, count_of, fired, fired_from, fired_pair, names_taken, next_behind, oriented, products_by, rule_of_sides}
+use Rattle.ic_round.specs.Firing.{active_pair, oriented, rule_of_sides}
 use Rattle.ic_round.specs.Quiet.{is_inert, is_quiet, is_settled}
 use Rattle.ic_round.specs.Rounds.{IsQuiet, fits, is_small, has_names, iterate, round, unless_unfit}
-use Rattle.ic_round.specs.lemmas.QuietLemmas.{no_step, is_quiet_where}
+use Rattle.ic_round.specs.lemmas.IdleLemmas.{quiet_stays}
+use Rattle.ic_round.specs.lemmas.QuietLemmas.{no_step, is_quiet_where, none_of}
 use Rattle.ic_round.specs.declared.round_fault.RoundFault.{RoundFault}
 use Rattle.ic_round.specs.declared.round_fault.RoundFault.TheVariants.{Overgrown, NamesOut}
 use Rattle.ic_looks.specs.Reducing.{AreMade, IsReducedBy, IsRefusedAfter}
 use Rattle.ic_looks.specs.Stuck.{is_of_agents, pair_text, stuck_text}
 use Rattle.ic_looks.proofs.Rounds.{none_made, one_more_made}
 
--- ---- a round of a quiet configuration
-
-none_of : {X : Type 0} (o : Option X) → is_none o ≡ true → o ≡ None
-none_of None e = refl
-none_of (Some x) e = cc
-
-idle_equations : (rs : List Rule) (base : ℕ) (ps : List Pair) → list_all (λ p. is_none (active_pair rs p)) ps ≡ true → fired_from rs base ps ≡ ps
-idle_equations rs base [] e = refl
-idle_equations rs base (p ∷ ps) e =
-    let both = and_parts (is_none (active_pair rs p)) (list_all (λ q. is_none (active_pair rs q)) ps) e in
-    let none = none_of (active_pair rs p) both.0 in
-    let here : fired_pair rs base p ≡ p ∷ [] = ap (λ o. option_map_or (products_by rs base) o (p ∷ [])) none in
-    let rest = idle_equations rs (base + names_taken rs p) ps both.1 in
-    λ i. here i ++ rest i
-
-idle_next : (rs : List Rule) (base : ℕ) (ps : List Pair) → list_all (λ p. is_none (active_pair rs p)) ps ≡ true → next_behind rs base ps ≡ base
-idle_next rs base [] e = refl
-idle_next rs base (p ∷ ps) e =
-    let both = and_parts (is_none (active_pair rs p)) (list_all (λ q. is_none (active_pair rs q)) ps) e in
-    let taken : names_taken rs p ≡ 0 = ap (λ o. option_map_or (λ a. count_of rs a.rule) o 0) (none_of (active_pair rs p) both.0) in
-    let rest = idle_next rs (base + names_taken rs p) ps both.1 in
-    omega (arith, taken, rest)
-
-idle : (rs : List Rule) (c : Configuration) → is_inert rs c ≡ true → fired rs c ≡ c
-idle rs c inert =
-    let equations = idle_equations rs c.next c.equations inert in
-    let next = idle_next rs c.next c.equations inert in
-    λ i. record { interface = c.interface; equations = equations i; next = next i }
-
-still : (c : Configuration) → is_settled c ≡ true → settled c ≡ c
-still c e = at (first_choice c.interface [] c.equations) refl
-  where
-    at : (found : Option Choice) → first_choice c.interface [] c.equations ≡ found → settled c ≡ c
-    at None none = settled-stop c none
-    at (Some choice) some = absurd (true≢false (sym e ∙ ap (λ o. is_none (option_map (applied c) o)) some))
-
-pub quiet_stays : (rs : List Rule) (c : Configuration) → IsQuiet rs c → round rs c ≡ c
-quiet_stays rs c quiet =
-    let both = and_parts (is_inert rs c) (is_settled c) (is_quiet_where rs c quiet) in
-    ap settled (idle rs c both.0) ∙ still c both.1
+-- ---- rounds of a quiet configuration
 
 pub quiet_stays_on : (rs : List Rule) (c : Configuration) (n : ℕ) → IsQuiet rs c → iterate rs n c ≡ c
 quiet_stays_on rs c zero quiet = refl
