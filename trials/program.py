@@ -3,6 +3,7 @@ what was wanted and what came."""
 
 import os
 import random
+import resource
 import select
 import shlex
 import shutil
@@ -67,6 +68,16 @@ def heeds_signals():
     """Has a program that is started heed the signals to end, which a shell in the background has it ignore."""
     for sign in (signal.SIGINT, signal.SIGTERM, signal.SIGHUP):
         signal.signal(sign, signal.SIG_DFL)
+
+
+def grows_to(most):
+    """How the program is started so that its files may have at most so many bytes, which stands for a full device."""
+
+    def limited():
+        signal.signal(signal.SIGXFSZ, signal.SIG_IGN)
+        resource.setrlimit(resource.RLIMIT_FSIZE, (most, most))
+
+    return {"preexec_fn": limited}
 
 
 def run(*words, given=b"", program=None, before=(), seconds=PATIENCE, **how):
@@ -238,6 +249,20 @@ class Trial(unittest.TestCase):
         ran = server.end()
         self.equals(ran.command, "status and standard error", (0, b""), (ran.status, ran.err))
         return ran
+
+    def without_rights(self):
+        """How the program is started so that it may not read and write all files: root may, so as root it runs as nobody."""
+        if os.geteuid():
+            return {}
+        program = shutil.copy(PROGRAM, self.room / "icserve")
+        os.chmod(self.room, 0o711)
+        os.chmod(program, 0o755)
+        how = {"program": program, "preexec_fn": lambda: os.setuid(65534)}
+        try:
+            run("--version", **how)
+        except (OSError, subprocess.SubprocessError) as fault:
+            self.skipTest(f"root may do all, and nobody can't start the program here: {fault}")
+        return how
 
     def asks(self, disk, lines):
         """The answers of a new server on the disk, which must end well."""

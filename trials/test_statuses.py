@@ -2,13 +2,10 @@
 Want of memory and of threads is tried in test_faults.py; the lines of docs/clients.md in test_attend.py."""
 
 import os
-import resource
-import shutil
-import signal
 import subprocess
 
 from disks import EMPTY, HEAD, SECOND, disk_of, slot, table_by_hand
-from program import PROGRAM, Server, Trial, run
+from program import PROGRAM, Server, Trial, grows_to, run
 
 ADD = "{Add(x,x)><Z;Add(S(x),y)><S(Add(x,y))}"
 TWO = f"submit two {ADD} <r|Add(r,S(Z))=S(Z)>"
@@ -144,16 +141,17 @@ class Words(Trial):
         self.runs("serve", "--workers=1", "--disk", disk, "--every", "1", given="list\nlist", out=["jobs", "jobs"])
         script = self.room / "script"
         script.write_text("list")
-        for numbers in (["--runners=0", "--turns=0", "--workers=64"], ["--turns", "1000000", "--runners", "64", "--workers", "1"]):
+        longest = ["--turns", "1000000", "--runners", "64", "--workers", "1"]
+        for numbers in (["--runners=0", "--turns=0", "--workers=64"], longest):
             self.runs("attend", *numbers, f"--disk={disk}", script, script, out=["client 0", "jobs", "client 1", "jobs"])
             self.runs("attend", script, "--disk", disk, *numbers, out=["client 0", "jobs"])
 
 
 class Disks(Trial):
-    def leaves(self, path, line, program=PROGRAM, **how):
+    def leaves(self, path, line):
         """Serving is refused with status 3 and this line, and the file is left as it is."""
         before = path.read_bytes() if path.is_file() else None
-        self.refuses("serve", "--disk", path, line=line, status=3, given="list", program=program, **how)
+        self.refuses("serve", "--disk", path, line=line, status=3, given="list")
         if before is not None:
             self.holds(path, before)
 
@@ -204,24 +202,13 @@ class Disks(Trial):
             self.refuses("create", "--disk", path, line="device", status=3)
 
     def test_device_where_the_file_may_not_be_read_and_written(self):
-        """Root may do all, so as root the program runs as nobody."""
-        program, how = PROGRAM, {}
-        if os.geteuid() == 0:
-            program = shutil.copy(PROGRAM, self.room / "icserve")
-            os.chmod(self.room, 0o711)
-            os.chmod(program, 0o755)
-            how = {"preexec_fn": lambda: os.setuid(65534)}
-            try:
-                run("--version", program=program, **how)
-            except (OSError, subprocess.SubprocessError) as fault:
-                self.skipTest(f"root may do all, and nobody can't start the program here: {fault}")
+        how = self.without_rights()
         for mode in (0o444, 0o222, 0o000):
             with self.subTest(mode=oct(mode)):
                 path = self.disk()
                 os.chmod(path, mode)
-                ran = run("serve", "--disk", path, given="list", program=program, **how)
-                self.ended(ran, err=["icserve: device"], status=3)
-                self.ended(run("create", "--disk", path, program=program, **how), err=["icserve: device"], status=3)
+                self.refuses("serve", "--disk", path, given="list", line="device", status=3, **how)
+                self.refuses("create", "--disk", path, line="device", status=3, **how)
                 os.chmod(path, 0o644)
                 self.serves(path, "list", ["jobs"])
                 path.unlink()
@@ -314,23 +301,17 @@ class Servings(Trial):
         disk.write_bytes(disk_of(slot(2**64 - 2, table_by_hand())))
         given, out = ["list", "pause two", "list"], ["jobs two:running:0", "ok"]
         self.refuses("serve", "--disk", disk, given=given, out=out, line="worn", status=4)
-        self.equals("serve --disk worn", "the head of the newest slot", b"\1" + b"\xff" * 8, disk.read_bytes()[SECOND : SECOND + 9])
+        self.agrees(disk, "the head of the second slot", b"\1" + b"\xff" * 8, disk.read_bytes()[SECOND : SECOND + 9])
 
     def test_device_where_a_file_may_grow_no_further(self):
-        """The limit on a file's size stands for a full device: the table of 126 bytes ends at 4,194,443."""
-
-        def limited(most):
-            limit = resource.RLIMIT_FSIZE
-            return {"preexec_fn": lambda: resource.setrlimit(limit, (most, most)), "restore_signals": False}
-
-        signal.signal(signal.SIGXFSZ, signal.SIG_IGN)
+        """The table of 126 bytes ends at 4,194,443."""
         for most in (0, 1, 18, SECOND, SECOND + 1, SECOND + 12):
-            self.refuses("create", "--disk", self.room / "new", line="device", status=3, **limited(most))
-        self.runs("create", "--disk", self.room / "new", **limited(SECOND + 13))
+            self.refuses("create", "--disk", self.room / "new", line="device", status=3, **grows_to(most))
+        self.runs("create", "--disk", self.room / "new", **grows_to(SECOND + 13))
         for most in (0, SECOND, SECOND + 1, SECOND + 13, SECOND + 138):
             disk = self.disk()
-            how = limited(most)
+            how = grows_to(most)
             self.refuses("serve", "--disk", disk, given=["list", TWO, "list"], out=["jobs"], line="device", status=4, **how)
             self.serves(disk, "list", ["jobs"])
-        self.serves(disk, [TWO], ["accepted"], **limited(SECOND + 139))
+        self.serves(disk, [TWO], ["accepted"], **grows_to(SECOND + 139))
         self.serves(disk, "list", ["jobs two:running:0"])
