@@ -71,19 +71,22 @@ def recording(log):
     """How the program is started so that what it does with files is recorded: by the shim, or else by strace. A trial that
     asks for it is skipped where neither is there."""
     prepare()
-    if "SHIM_AT" in os.environ:
-        return {"env": shimmed(log=log)}
+    return {"env": shimmed(log=log)} if "SHIM_AT" in os.environ else recording_by_strace(log)
+
+
+def recording_by_strace(log):
     calls = "trace=openat,open,lseek,read,write,fsync,fdatasync,ftruncate"
     tracing = ["strace", "-f", "-xx", "-s", "100000000", "-e", calls, "-e", "signal=none", "-o", str(log)]
     if not shutil.which("strace") or subprocess.run([*tracing, "true"], stderr=subprocess.DEVNULL).returncode:
-        raise unittest.SkipTest(f"{os.environ['SHIM_MISSING']}, and there is no strace that may trace")
+        why = os.environ.get("SHIM_MISSING", "nothing is recorded")
+        raise unittest.SkipTest(f"{why}, and there is no strace that may trace")
     return {"before": tracing}
 
 
 def noted(log):
     """What the shim, or strace, has recorded, in order."""
     data = Path(log).read_bytes()
-    return list(noted_by_strace(data.decode()) if re.match(rb"\d+ +\w+\(", data) else noted_by_shim(data))
+    return list(noted_by_strace(whole_calls(data.decode())) if re.match(rb"\d+ +\w+\(", data) else noted_by_shim(data))
 
 
 def noted_by_shim(data):
@@ -97,10 +100,27 @@ def noted_by_shim(data):
         at += size
 
 
-def noted_by_strace(text):
+def whole_calls(text):
+    """The calls that strace tells, thread by thread: one that was interrupted by another thread's stands in two lines."""
+    begun = {}
+    for line in text.splitlines():
+        thread, _, call = line.partition(" ")
+        call = call.strip()
+        if call.endswith("<unfinished ...>"):
+            begun[thread] = call[: -len("<unfinished ...>")]
+        elif call.startswith("<... "):
+            yield begun.pop(thread, "") + call.partition(" resumed>")[2]
+        else:
+            yield call
+
+
+def noted_by_strace(calls):
     """Where a write goes is told by the calls before it on its file."""
     places = {}
-    for name, words, answer in re.findall(r"(?m)^\d+ +(\w+)\((.*)\) += (-?\d+)", text):
+    for told in (re.match(r"(\w+)\((.*)\) += (-?\d+)", call) for call in calls):
+        if not told:
+            continue
+        name, words, answer = told.groups()
         first, count = words.split(",")[0], int(answer)
         if count < 0:
             continue
@@ -115,7 +135,7 @@ def noted_by_strace(text):
         elif name in ("read", "write"):
             if name == "write" and first != "2":
                 data = bytes.fromhex(words.split('"')[1].replace("\\x", ""))[:count]
-                yield Noted("O" if first == "1" else "W", places.get(first, 0), count, data)
+                yield Noted("O", 0, count, data) if first == "1" else Noted("W", places.get(first, 0), count, data)
             places[first] = places.get(first, 0) + count
 
 

@@ -10,7 +10,12 @@ from program import run
 from test_drawn_serving import job_names, small_systems
 
 WORDS = ["submit"] * 4 + ["fetch"] * 5 + ["pause", "resume"] * 2 + ["cancel"]
-LONGEST = 100_000
+
+# No job makes more rounds: a disk is attended six times at most, and each history holds 65,536 entries.
+LONGEST = 400_000
+
+# A job that hasn't ended after so many rounds is taken for one that never does.
+ENDLESS = 10_000
 
 
 class Course:
@@ -30,7 +35,7 @@ class Course:
 
     def ends_after(self, rounds):
         """Whether it is done or halted at some number of rounds from this one on."""
-        self.at(LONGEST)
+        self.at(rounds + ENDLESS)
         return self.job.state != "running" and rounds < len(self.shown)
 
 

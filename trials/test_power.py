@@ -4,12 +4,12 @@ docs/disk.md allows at each moment: what was synced stands, and the ranges writt
 from typing import NamedTuple
 
 from disks import EMPTY, SECOND, put, slot
-from known import answered, drawn_line
-from program import Server
-from shim import noted, recording
+from histories import answers_but_rounds, drawn_scripts, kept_next, next_change, table_of
+from known import LOOP, TWO, answered, drawn_line, listed
+from program import Server, run
+from shim import noted, recording, recording_by_strace, shimmed
 from stops import Stops
 
-LIVES = 25
 LINES = 10
 IMAGES = 5
 
@@ -128,6 +128,49 @@ class Power(Stops):
         self.ended(ran, out=answers)
         return ran, kept, behind, list(moments_of(begun, noted(log)))
 
+    def attended_life(self, draw, begun, table):
+        """A life in which scripts are attended, with runners beside them. The tables that it keeps are those that the program
+        finds in what stands at each sync; each has to follow from the one before."""
+        disk, log = self.room / "life.disk", self.room / "log"
+        scripts = drawn_scripts(draw, draw.randrange(1, 5), 12)
+        paths = [self.room / f"script {place}" for place in range(len(scripts))]
+        for path, lines in zip(paths, scripts):
+            path.write_text("".join(f"{it}\n" for it in lines))
+        begun.content().write(disk)
+        words = ["--runners", draw.randrange(4), "--turns", draw.choice((0, 1, 5)), "--workers", draw.choice((1, 2))]
+        ran = run("attend", "--disk", disk, *words, *paths, **recording(log))
+        self.equals(ran.command, "status and standard error", (0, b""), (ran.status, ran.err))
+        self.are_told(ran, table, scripts)
+        moments = list(moments_of(begun, noted(log)))
+        kept, rests = [table], scripts
+        for before, moment in zip(moments, moments[1:]):
+            if moment.keeps > before.keeps:
+                kept.append(self.table_in(moment.content()))
+                rests = kept_next(kept[-2], rests, kept[-1])
+                if rests is None:
+                    self.told(ran.command, f"what is kept of {scripts} behind", listed(kept[-2]), listed(kept[-1]))
+        changes = [it for it in rests if next_change(kept[-1], it)]
+        self.equals(ran.command, "lines that were told and aren't kept", [], changes)
+        return ran, kept, [1] + [len(kept)] * ran.out.count(b"\n"), moments
+
+    def are_told(self, ran, table, scripts):
+        """Each client is told what its lines are answered, whatever the rounds are."""
+        parts = ("\n" + ran.out.decode()).split("\nclient ")[1:]
+        for place, (part, lines) in enumerate(zip(parts, scripts)):
+            came = [it.split(" ")[0] if it[0] == "j" else it for it in part.splitlines()]
+            self.equals(ran.command, f"what is told of {lines}", [str(place), *answers_but_rounds(table, lines)], came)
+        self.equals(ran.command, "clients that are told", len(scripts), len(parts))
+
+    def table_in(self, content):
+        """The table that the program finds in a file with this content."""
+        content.write(self.file)
+        names = [it.split(":")[0] for it in self.asks(self.file, ["list"])[0].split(" ")[1:]]
+        answers = self.asks(self.file, [f"fetch {it}" for it in names])
+        table = table_of(answers)
+        if table is None:
+            self.told(self.file, "jobs on the disk", "each at one of its rounds", answers)
+        return table
+
     def found_in(self, ran, content, tables):
         content.write(self.file)
         return self.found(ran, self.file, tables)
@@ -142,13 +185,13 @@ class Power(Stops):
             self.told(ran.command, "a line was answered before what it left was kept for good", wanted, moment.keeps)
         return kept[moment.keeps :][: 1 + moment.is_opening] if moment.has_synced else before
 
-    def test_every_image_that_a_loss_of_power_may_leave_holds_what_was_answered(self):
+    def lives(self, count, a_life):
         """Life after life: each begins with what a loss of power has left, or a kill, behind which writes aren't there for
-        good yet."""
+        good yet. Every image that a loss of power may leave holds what was answered."""
         draw, opened = self.draws(), 0
         begun, before, table = Moment(Content(slot(1, EMPTY), bytes(13), SECOND + 13), []), [()], ()
-        for _ in range(LIVES):
-            ran, kept, behind, moments = self.life(draw, begun, table)
+        for _ in range(count):
+            ran, kept, behind, moments = a_life(draw, begun, table)
             self.equals(ran.command, "how often it kept", len(kept) - 1, moments[-1].keeps)
             following = []
             for moment in moments:
@@ -161,7 +204,31 @@ class Power(Stops):
                 following.append((killed, tables, self.found_in(ran, killed.content(), tables)))
             opened += len(following)
             begun, before, table = draw.choice(following)
-        self.equals(f"{LIVES} lives", f"more than 200 images opened, came {opened}", True, opened > 200)
+        self.equals(f"{count} lives", f"more than 200 images opened, came {opened}", True, opened > 200)
+
+    def test_a_serving_whose_power_goes_at_any_moment_has_lost_nothing_that_was_answered(self):
+        self.lives(25, self.life)
+
+    def test_an_attendance_whose_power_goes_at_any_moment_leaves_a_front_of_its_history(self):
+        self.lives(25, self.attended_life)
+
+    def test_strace_and_the_shim_record_the_same(self):
+        """What is recorded where there is no C compiler."""
+        script = self.room / "script"
+        script.write_text(f"submit loop {LOOP.text}\npause loop\nlist\n")
+        lines = [f"submit two {TWO.text}", "run 10", "list", "cancel two"]
+        disk, log = self.room / "life.disk", self.room / "log"
+        ways = {"env": shimmed(log=log)}, recording_by_strace(log)
+        for words, given in ((["serve"], lines), (["attend", "--runners", "0", script], b""), (["create"], b"")):
+            records = []
+            for how in ways:
+                put(disk, slot(1, EMPTY))
+                log.unlink(missing_ok=True)
+                ran = run(*words, "--disk", disk, given=given, **how)
+                records.append([it for it in noted(log) if it.kind in "WSTO"])
+            self.equals(ran.command, "what the shim and strace have recorded", *records)
+            kinds = {it.kind for it in records[0]}
+            self.equals(ran.command, f"whether writes and syncs are among {kinds}", True, {"W", "S"} <= kinds)
 
     def test_a_create_that_was_cut_short_is_done_again(self):
         """Nothing is promised of what it leaves, but that the next one makes an empty disk of it."""
