@@ -3,7 +3,7 @@ use Rattle.std.proofs.Common.{◌≡◌, ◌∙◌, true, false, ℕ, ◌+◌, �
 use Rattle.std.specs.Prelude.{IsTrue}
 use Rattle.ic_disk.specs.declared.disk.Disk.{Ghosts}
 use Rattle.ic_disk.specs.Images.{Within}
-use Rattle.ic_disk.specs.Time.{LeavesOnly}
+use Rattle.ic_disk.specs.Time.{LeavesOnly, LeftSince}
 use Rattle.ic_jobs.specs.declared.command.Command.{Command}
 use Rattle.ic_jobs.specs.declared.event.Entry.{Entry}
 use Rattle.ic_jobs.specs.declared.landed.Landed.{Landed}
@@ -40,7 +40,7 @@ module _ {D : Type 0} {ghosts : Ghosts D} where
 
   -- ---- no call to the disk
 
-  pub still : ((disk : D) (file : List ℕ) → ghosts.left disk (ghosts.clock disk) file → ghosts.image disk file) → (log : List Entry) (old new : Book D ghosts) → keeper_of new ≡ keeper_of old
+  pub still : ((disk : D) (file : List ℕ) → LeftSince (ghosts.left disk) (ghosts.clock disk) file → ghosts.image disk file) → (log : List Entry) (old new : Book D ghosts) → keeper_of new ≡ keeper_of old
       → EachOnMade old (HoldsKeptOrAll (start_of old) log (kept_of old)) → LeavesKeptOrAll log old new
   still law log old new same here =
       let disk : disk_of new ≡ disk_of old = ap (λ (k : Keeper D ghosts). keeper_parts.disk_of k) same in
@@ -52,7 +52,7 @@ module _ {D : Type 0} {ghosts : Ghosts D} where
       }
 
   -- nothing has changed
-  pub unchanged : ((disk : D) (file : List ℕ) → ghosts.left disk (ghosts.clock disk) file → ghosts.image disk file) → (book : Book D ghosts) → LeavesKeptOrAll (log_of book) book book
+  pub unchanged : ((disk : D) (file : List ℕ) → LeftSince (ghosts.left disk) (ghosts.clock disk) file → ghosts.image disk file) → (book : Book D ghosts) → LeavesKeptOrAll (log_of book) book book
   unchanged law book = still law (log_of book) book book refl (either_of book)
 
   -- the table that is kept stays the same
@@ -158,7 +158,7 @@ module _ {D : Type 0} {ghosts : Ghosts D} where
 
   -- what a crash leaves of it
   pub written : (log : List Entry) (old new : Book D ghosts) (table : List JobParts) → Stands old log table → is_broken old ≡ false
-      → ((disk : D) (t : ℕ) (file : List ℕ) → t ≤ ghosts.clock disk → ghosts.image disk file → ghosts.left disk t file)
+      → ((disk : D) (t : ℕ) (file : List ℕ) → t ≤ ghosts.clock disk → ghosts.image disk file → LeftSince (ghosts.left disk) t file)
       → ghosts.keeps (disk_of new) ≡ ghosts.keeps (disk_of old)
       → ((t : List JobParts) → IsTrue (ghosts.keeps (disk_of old)) → Within (ghosts.image (disk_of old)) (HoldsTable t)
       → LeavesOnly ghosts.clock ghosts.left (disk_of old) (disk_of new) (HoldsEitherTable t table))

@@ -5,7 +5,7 @@ use Rattle.std.specs.Str.{bytes_eq}
 use Rattle.std.specs.Cmp.Lexicographic.{bytes_decides}
 use mathlib.Core.Logic.{∥∥₁_elim}
 use Rattle.ic_disk.specs.Images.{Within}
-use Rattle.ic_disk.specs.Time.{LeavesOnly}
+use Rattle.ic_disk.specs.Time.{LeavesOnly, LeftSince}
 use Rattle.ic_disk.specs.lemmas.Moments.{started}
 use Rattle.ic_jobs.specs.declared.event.Entry.{Entry}
 use Rattle.ic_jobs.specs.Job.{JobParts}
@@ -99,11 +99,11 @@ keep_holds images new_images start log new_log kept table same all holds run =
 
 module _ {D : Type 0} (clock : D → ℕ) (left : D → ℕ → List ℕ → Type 0) (image : D → List ℕ → Type 0) where
   -- where no call was made
-  pub no_call : (disk : D) (P : List ℕ → Type 0) → ((file : List ℕ) → left disk (clock disk) file → image disk file) → Within (image disk) P → LeavesOnly clock left disk disk P
+  pub no_call : (disk : D) (P : List ℕ → Type 0) → ((file : List ℕ) → LeftSince (left disk) (clock disk) file → image disk file) → Within (image disk) P → LeavesOnly clock left disk disk P
   no_call disk P law here = started clock left disk P (λ file is. here file (law file is))
 
   -- at the end of a run that leaves tables each image is made
-  pub made_after : (old new : D) (start : List JobParts) (log : List Entry) (kept : ℕ) → ((file : List ℕ) → clock old ≤ clock new → image new file → left new (clock old) file)
+  pub made_after : (old new : D) (start : List JobParts) (log : List Entry) (kept : ℕ) → ((file : List ℕ) → clock old ≤ clock new → image new file → LeftSince (left new) (clock old) file)
       → LeavesOnly clock left old new (HoldsKeptOrAll start log kept) → Within (image new) IsMade
   made_after old new start log kept law run file there = ⊎_elim
       (λ (h : HoldsTable (table_kept start log kept) file). h.made) (λ (h : HoldsTable (replay start log) file). h.made)

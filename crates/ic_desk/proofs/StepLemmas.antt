@@ -2,6 +2,7 @@
 use Rattle.std.proofs.Common.{◌≡◌, ◌≢◌, inl, inr, true, false, IsErr, IsErrOf, ℕ, ◌≤◌, List, [], ◌∷◌, ◌++◌, Result, Ok, Err, length, refl, sym, ap, subst, arith}
 use Rattle.std.proofs.lemmas.List.{append-nil}
 use Rattle.ic_disk.specs.declared.disk.Disk.{Ghosts}
+use Rattle.ic_disk.specs.Time.{LeftSince}
 use Rattle.ic_jobs.specs.declared.command.Command.{Command}
 use Rattle.ic_jobs.specs.declared.event.Entry.{Entry}
 use Rattle.ic_jobs.specs.declared.landed.Landed.{Landed}
@@ -50,7 +51,7 @@ module _ {D : Type 0} {ghosts : Ghosts D} where
   keep_refused {T} {E} result fault old new is done = subst (λ (r : Result T E). Step (keep_move r) (up old) (up new)) (sym is) done
 
   -- nothing is done at all
-  pub idles : ((disk : D) (file : List ℕ) → ghosts.left disk (ghosts.clock disk) file → ghosts.image disk file) → (book : Book D ghosts) → Does stays book book
+  pub idles : ((disk : D) (file : List ℕ) → LeftSince (ghosts.left disk) (ghosts.clock disk) file → ghosts.image disk file) → (book : Book D ghosts) → Does stays book book
   idles law book = stays_on book book refl refl refl (omega arith) (unchanged law book)
 
   -- ---- a round

@@ -7,5 +7,6 @@ pub mod Opened
 pub mod Calls
 pub mod Moves
 pub mod Server
+pub mod ByCalls
 pub mod lemmas
 pub mod inner

@@ -101,13 +101,14 @@ pub record Closes {D : Type 0} {ghosts : Ghosts D} (book : Book D ghosts) (disk 
 
 -- ---- steps
 
--- This disk is found after a stop in the midst of what led from one disk to another: each of its
--- images is one that a crash since the first may have left. It has one image where power was lost,
--- and maybe more where the process was killed.
+-- This disk is found after a stop in the midst of what led from one disk to another: there is one
+-- moment since the first at which a crash may have left each of its images. It has one image where
+-- power was lost, and maybe more where the process was killed.
 pub record IsFound {D : Type 0} (ghosts : Ghosts D) (before after found : D) : Type 0 where
   pub keeps : IsTrue (ghosts.keeps found)
-  pub left : (file : List ℕ) → ghosts.image found file
-      → ghosts.left after (ghosts.clock before) file
+  pub moment : ℕ
+  pub since : ghosts.clock before ≤ moment
+  pub left : Within (ghosts.image found) (ghosts.left after moment)
 
 -- One move leads from one server to another. Where it is stopped, it would have led somewhere, and
 -- a disk is found.

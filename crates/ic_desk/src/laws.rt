@@ -3,6 +3,7 @@
 ghost use Rattle.std.specs.Prelude.{◌≡◌, ◌⊎◌, ◌↔◌, ◌+◌, ◌-◌, ◌^◌, ◌≤◌, ℕ, List, [], ◌∷◌, ◌++◌, Bool, true, false, Some, IsSome, IsTrue, Result, Err, IsErrOf, Contains, length, map, take, drop};
 ghost use Rattle.std.specs.List.{sum_by};
 ghost use Rattle.ic_disk.specs.Images.{Within};
+ghost use Rattle.ic_disk.specs.Time.{LeftSince};
 ghost use Rattle.ic_round.specs.Rounds.{iterate};
 ghost use Rattle.ic_jobs.specs.declared.command.Command.{Command};
 ghost use Rattle.ic_jobs.specs.declared.event.Entry.{Entry};
@@ -125,7 +126,7 @@ pub fn a_stop_leaves_a_page()
 pub fn a_crash_in_a_call_leaves_a_front<D: Disk>(old: &Book<D>, new: &Book<D>)
     ensures front { (log : List Entry) (file : List ℕ) → LeavesKeptOrAll log old.now new.now
         → IsTrue (D.keeps (disk_of old.now)) → Within (D.image (disk_of old.now)) IsMade
-        → D.left (disk_of new.now) (D.clock (disk_of old.now)) file
+        → LeftSince (D.left (disk_of new.now)) (D.clock (disk_of old.now)) file
         → kept_of old.now ≤ length log
         → (k : ℕ) × (kept_of old.now ≤ k) × (k ≤ length log)
         × HoldsTable (replay (start_of old.now) (take k log)) file }

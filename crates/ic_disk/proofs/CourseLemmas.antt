@@ -2,7 +2,7 @@
 use Rattle.std.proofs.Common.{◌≡◌, ◌⊎◌, inl, inr, ⊎_elim, ℕ, ◌+◌, ◌-◌, ◌^◌, ◌<◌, ◌≤◌, List, [], ◌∷◌, length, refl, sym, ap, subst, arith, min, Result, Ok, Err}
 use Rattle.std.proofs.Math.Nat.{eq-or-lt_of_le}
 use Rattle.ic_disk.specs.Images.{Only, Torn, TornFrom, Within}
-use Rattle.ic_disk.specs.Time.{CountsFailure, Elapses, OneMore}
+use Rattle.ic_disk.specs.Time.{CountsFailure, Elapses, LeftSince, OneMore}
 use Rattle.ic_disk.specs.DiskCalls.{ChangesNothing, IsDiskSync, IsDiskWrite, ReadsBytes, TellsLength}
 use Rattle.ic_disk.specs.Model.{Write, write, sync, State, begun, after, after_failed, IsImageIn}
 use Rattle.ic_disk.specs.Course.{AreBefore, Course, IsCourse, IsLeftAtOne, MayRead, MaySync, MayTell, MayWrite, Moment, after_call, calls_in, content_in, failures_after, first_course, image_in, left_in}
@@ -16,11 +16,11 @@ elapses_in : {T E : Type 0} (result : Result T E) (c : Course) (midst now : Stat
 elapses_in result c midst now P of_midst of_now = record {
   later = omega arith;
   one_call = omega arith;
-  nothing_else = λ t file come left. ⊎_elim
-      (λ present. inr (of_now file present.1))
-      (λ past. ⊎_elim (λ before. inl (inl before)) (λ rest. ⊎_elim (λ during. inr (of_midst file during.1)) (λ long_ago. inl (inr long_ago)) rest) past)
+  nothing_else = λ t file left. ⊎_elim
+      (λ present. inr (omega (arith, present.0), of_now file present.1))
+      (λ past. ⊎_elim (λ before. inl (inl before)) (λ rest. ⊎_elim (λ during. inr (omega (arith, during.0), of_midst file during.1)) (λ long_ago. inl (inr long_ago)) rest) past)
       left;
-  keeps = λ t file come left. inr (⊎_elim (λ present. inl present) (λ past. inr (inr past)) left);
+  keeps = λ t file left. inr (⊎_elim (λ present. inl present) (λ past. inr (inr past)) left);
 }
 
 module _ (w : Write) (c : Course) where
@@ -148,9 +148,9 @@ later n [] past = tt
 later n (m ∷ ms) past = (omega (arith, past.0), later n ms past.1)
 
 -- a moment at which fewer calls had ended isn't one since then
-none_since : (n : ℕ) (ms : List Moment) (file : List ℕ) → AreBefore n ms → IsLeftAtOne ms n file → ⊥
-none_since n [] file past left = left
-none_since n (m ∷ ms) file past left = ⊎_elim (λ here. absurd (omega (arith, past.0, here.0))) (λ rest. none_since n ms file past.1 rest) left
+none_since : (n k : ℕ) (ms : List Moment) (file : List ℕ) → n ≤ k → AreBefore n ms → IsLeftAtOne ms k file → ⊥
+none_since n k [] file since past left = left
+none_since n k (m ∷ ms) file since past left = ⊎_elim (λ here. absurd (omega (arith, since, past.0, here.0))) (λ rest. none_since n k ms file since past.1 rest) left
 
 pub begins : (file : List ℕ) → IsCourse (first_course file)
 begins file = record { content_is_image = settled_image file; failures_end = omega arith; past_is_before = tt }
@@ -181,5 +181,5 @@ goes_on_syncing result c now is may = goes_on result c.state now c is (synced_im
 pub goes_on_reading : {T E : Type 0} (result : Result T E) (c : Course) → IsCourse c → IsCourse (after_call result c.state c.state c)
 goes_on_reading result c is = goes_on result c.state c.state c is is.content_is_image
 
-pub left_is_image_in : (c : Course) (file : List ℕ) → IsCourse c → left_in c c.calls file → image_in c file
-left_is_image_in c file is left = ⊎_elim (λ present. present.1) (λ past. absurd (none_since c.calls c.past file is.past_is_before past)) left
+pub left_is_image_in : (c : Course) (file : List ℕ) → IsCourse c → LeftSince (left_in c) c.calls file → image_in c file
+left_is_image_in c file is left = ⊎_elim (λ present. present.1) (λ past. absurd (none_since c.calls left.0 c.past file left.1 is.past_is_before past)) left.2

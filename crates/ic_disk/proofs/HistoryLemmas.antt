@@ -6,7 +6,7 @@ use Rattle.ic_disk.specs.Content.{laid}
 use Rattle.ic_disk.specs.Images.{Range, IsImage, StaysOrTears, Torn, TornFrom, Within, Only}
 use Rattle.ic_disk.specs.Time.{Elapses}
 use Rattle.ic_disk.specs.Model.{Write, Call, write, write_of, sync, State, begun, after, range_of, IsImageIn}
-use Rattle.ic_disk.specs.History.{History, replay, state, state_at, content_of, image_of, clock_of, IsLeftSince, IsSynced, IsWritten, with_call, with_failure}
+use Rattle.ic_disk.specs.History.{History, replay, state, state_at, content_of, image_of, clock_of, IsLeftAt, IsSynced, IsWritten, with_call, with_failure}
 use Rattle.ic_disk.specs.lemmas.HistoryLaws.{state-with_call, state_at_end, write_reached, content_image}
 use Rattle.ic_disk.specs.lemmas.ImageLaws.{image_settled, torn_laid, torn_same, within_torn}
 use Rattle.ic_disk.proofs.ImageLemmas.{image_torn}
@@ -24,20 +24,20 @@ state_at-with_call k call h past = ap (λ (calls : List Call). replay calls (beg
 
 -- One call more, where each image after it is one of its midst.
 pub elapses_call : (call : Call) (h : History) (midst : List ℕ → Type 0) → Within (IsImageIn (after call (state h))) midst
-    → Elapses (length h.calls) (length (with_call call h).calls) (IsLeftSince h) (IsLeftSince (with_call call h)) midst
+    → Elapses (length h.calls) (length (with_call call h).calls) (IsLeftAt h) (IsLeftAt (with_call call h)) midst
 elapses_call call h midst within = record {
   later = omega (arith, length-append h.calls (call ∷ []));
   one_call = omega (arith, length-append h.calls (call ∷ []));
-  nothing_else = λ t file come left. ⊎_elim
-      (λ past. inl (left.0, left.1, omega arith, subst (λ (s : State). IsImageIn s file) (state_at-with_call left.0 call h (omega arith)) left.3))
-      (λ present. inr (within file (subst (λ (s : State). IsImageIn s file) (state_at_end left.0 (with_call call h) (omega (arith, length-append h.calls (call ∷ []))) ∙ state-with_call call h) left.3)))
-      (cases_lt left.0 (length h.calls + 1));
-  keeps = λ t file come left. (left.0, left.1, omega (arith, left.2, length-append h.calls (call ∷ [])), subst (λ (s : State). IsImageIn s file) (sym (state_at-with_call left.0 call h left.2)) left.3);
+  nothing_else = λ t file left. ⊎_elim
+      (λ past. inl (omega arith, subst (λ (s : State). IsImageIn s file) (state_at-with_call t call h (omega arith)) left.1))
+      (λ present. inr (omega (arith, present), within file (subst (λ (s : State). IsImageIn s file) (state_at_end t (with_call call h) (omega (arith, length-append h.calls (call ∷ []))) ∙ state-with_call call h) left.1)))
+      (cases_lt t (length h.calls + 1));
+  keeps = λ t file left. (omega (arith, left.0, length-append h.calls (call ∷ [])), subst (λ (s : State). IsImageIn s file) (sym (state_at-with_call t call h left.0)) left.1);
 }
 
 -- time goes on, with this in the midst
 abbrev Passes : (List ℕ → Type 0) → History → History → Type 0
-Passes midst h new = Elapses (clock_of h) (clock_of new) (IsLeftSince h) (IsLeftSince new) midst
+Passes midst h new = Elapses (clock_of h) (clock_of new) (IsLeftAt h) (IsLeftAt new) midst
 
 -- What a write that failed leaves: nothing has changed, but perhaps the count, or some bytes were
 -- written to its range.
@@ -144,7 +144,7 @@ module _ (w : Write) (h : History) where
   time_written : {T E : Type 0} (result : Result T E) (new : History) → OnOk result (new ≡ with_call (write w) h) → OnErr result (LeftByWrite w h new) → Passes (Torn_images w h) h new
   time_written (Ok x) new is none = subst (Passes (Torn_images w h) h) (sym is) (passes_made w h)
   time_written (Err e) new none left =
-      let none = elapses_none (clock_of h) (IsLeftSince h) (Torn_images w h) in
+      let none = elapses_none (clock_of h) (IsLeftAt h) (Torn_images w h) in
       each h new Made (Passes (Torn_images w h) h) none none
       (to_range new (λ (k : ℕ) (n : History). Passes (TornFrom w.at k (image_of h)) h n)
       (λ bytes. passes_made (record { at = w.at; bytes = bytes }) h))
@@ -178,13 +178,13 @@ module _ (h : History) where
   within_synced file image = subst (λ (f : List ℕ). image_of h f) (sym (only_synced.no_other file image)) (content_image h)
 
   abbrev Passes_synced : History → Type 0
-  Passes_synced new = Elapses (length h.calls) (length new.calls) (IsLeftSince h) (IsLeftSince new) (image_of h)
+  Passes_synced new = Elapses (length h.calls) (length new.calls) (IsLeftAt h) (IsLeftAt new) (image_of h)
 
   synced_passes : Passes_synced (with_call sync h)
   synced_passes = elapses_call sync h (image_of h) (λ file image. within_synced file (subst (λ (s : State). IsImageIn s file) (sym (state-with_call sync h)) image))
 
   none_passes : Passes_synced h
-  none_passes = elapses_none (length h.calls) (IsLeftSince h) (image_of h)
+  none_passes = elapses_none (length h.calls) (IsLeftAt h) (image_of h)
 
   -- the clauses on a sync
   same_synced : {T E : Type 0} (result : Result T E) (new : History) → OnOk result (new ≡ with_call sync h) → OnErr result (LeftBySync h new) → content_of new ≡ content_of h

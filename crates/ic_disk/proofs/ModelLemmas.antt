@@ -3,7 +3,7 @@ use Rattle.std.proofs.Common.{◌≡◌, ◌⊎◌, inl, inr, ⊎_elim, ℕ, ◌
 use Rattle.std.specs.Prelude.{◌↔◌}
 use Rattle.ic_disk.specs.Content.{bytes_at, laid}
 use Rattle.ic_disk.specs.Images.{AgreesOutside, Only, StaysOrTears, Torn, TornFrom, Within, one_range}
-use Rattle.ic_disk.specs.Time.{Elapses}
+use Rattle.ic_disk.specs.Time.{Elapses, LeftSince}
 use Rattle.ic_disk.specs.Course.{MayRead, MaySync, MayTell, MayWrite}
 use Rattle.ic_disk.specs.DiskCalls.{ReadsBytes, TellsLength}
 use Rattle.ic_disk.specs.Model.{Write, write, sync, State, begun, after, after_failed, IsImageIn, IsInState}
@@ -13,11 +13,11 @@ use Rattle.ic_disk.proofs.HistoryLemmas.{write_images}
 
 -- a crash in the midst of a call may leave what it may before and after it
 pub reached_by : {D : Type 0} (image : D → List ℕ → Type 0) (clock : D → ℕ) (left : D → ℕ → List ℕ → Type 0) (old new : D) (midst : List ℕ → Type 0)
-    → ((disk : D) (t : ℕ) (file : List ℕ) → t ≤ clock disk → image disk file → left disk t file)
+    → ((disk : D) (t : ℕ) (file : List ℕ) → t ≤ clock disk → image disk file → LeftSince (left disk) t file)
     → Elapses (clock old) (clock new) (left old) (left new) midst
-    → (file : List ℕ) → image old file ⊎ image new file → left new (clock old) file
+    → (file : List ℕ) → image old file ⊎ image new file → LeftSince (left new) (clock old) file
 reached_by image clock left old new midst image_is_left time file is = ⊎_elim
-    (λ before. time.keeps (clock old) file (omega arith) (image_is_left old (clock old) file (omega arith) before))
+    (λ before. let there = image_is_left old (clock old) file (omega arith) before in (there.0, there.1, time.keeps there.0 file there.2))
     (λ after. image_is_left new (clock old) file time.later after)
     is
 
@@ -27,13 +27,13 @@ module _ {D : Type 0} (content : D → List ℕ) (image : D → List ℕ → Typ
 
   -- and nothing but images from before and those of its midst
   pub midst_by : (clock : D → ℕ) (left : D → ℕ → List ℕ → Type 0) (old new : D) (midst P : List ℕ → Type 0)
-      → ((disk : D) (file : List ℕ) → left disk (clock disk) file → image disk file)
+      → ((disk : D) (file : List ℕ) → LeftSince (left disk) (clock disk) file → image disk file)
       → Elapses (clock old) (clock new) (left old) (left new) midst
-      → Within (image old) P → Within midst P → (file : List ℕ) → left new (clock old) file → P file
+      → Within (image old) P → Within midst P → (file : List ℕ) → LeftSince (left new) (clock old) file → P file
   midst_by clock left old new midst P left_is_image time before during file is = ⊎_elim
-      (λ past. before file (left_is_image old file past))
-      (λ now. during file now)
-      (time.nothing_else (clock old) file (omega arith) is)
+      (λ past. before file (left_is_image old file (is.0, is.1, past)))
+      (λ now. during file now.1)
+      (time.nothing_else is.0 file is.2)
 
   pub begins : (d : D) → image d (content d) → Only (content d) (image d) → Is d (begun (content d))
   begins d now only = record {

@@ -78,14 +78,14 @@ calls_in c = c.calls
 abbrev pub failures_in : Course → ℕ
 failures_in c = c.failures
 
--- a crash at one of these moments, when t calls had ended or more, may have left this file
+-- a crash at one of these moments, when t calls had ended, may have left this file
 abbrev pub IsLeftAtOne : List Moment → ℕ → List ℕ → Type 0
 IsLeftAtOne [] t file = ⊥
-IsLeftAtOne (m ∷ ms) t file = ((t ≤ m.calls) × IsImageIn m.state file) ⊎ IsLeftAtOne ms t file
+IsLeftAtOne (m ∷ ms) t file = ((t ≡ m.calls) × IsImageIn m.state file) ⊎ IsLeftAtOne ms t file
 
--- now or at an earlier moment
+-- at this moment or at an earlier one
 abbrev pub left_in : Course → ℕ → List ℕ → Type 0
-left_in c t file = ((t ≤ c.calls) × IsImageIn c.state file) ⊎ IsLeftAtOne c.past t file
+left_in c t file = ((t ≡ c.calls) × IsImageIn c.state file) ⊎ IsLeftAtOne c.past t file
 
 -- at these moments fewer calls had ended
 abbrev pub AreBefore : ℕ → List Moment → Type 0

@@ -2,6 +2,7 @@
 -- To be read: contracts of public calls cite it. This project's choice.
 use Rattle.std.specs.Prelude.{◌+◌, ◌-◌, ◌^◌, ◌≤◌, ℕ, min, List, [], ◌∷◌, ◌++◌, length, take, Result}
 use Rattle.ic_disk.specs.DiskCalls.{IsDiskSync, IsDiskWrite}
+use Rattle.ic_disk.specs.Time.{LeftSince}
 use Rattle.ic_disk.specs.Model.{Call, State, begun, after, IsImageIn}
 
 -- how a disk began, the calls since that have changed it, and how many failed
@@ -31,10 +32,14 @@ content_of h = (state h).content
 abbrev pub image_of : History → List ℕ → Type 0
 image_of h = IsImageIn (state h)
 
--- What a crash may have left after some number of calls, from t on. In the midst of a write its
--- range is pending, as after it.
+-- What a crash may have left after the first k calls. In the midst of a write its range is pending,
+-- as after it.
+abbrev pub IsLeftAt : History → ℕ → List ℕ → Type 0
+IsLeftAt h k file = (k ≤ length h.calls) × IsImageIn (state_at k h) file
+
+-- and after some number of calls, from t on
 abbrev pub IsLeftSince : History → ℕ → List ℕ → Type 0
-IsLeftSince h t file = (k : ℕ) × (t ≤ k) × (k ≤ length h.calls) × IsImageIn (state_at k h) file
+IsLeftSince h = LeftSince (IsLeftAt h)
 
 -- how many calls have changed it
 abbrev pub clock_of : History → ℕ
@@ -42,10 +47,10 @@ clock_of h = length h.calls
 
 -- a write of these bytes, and a sync, in the words of the trait `Disk`
 abbrev pub IsWritten : {T E : Type 0} → ℕ → List ℕ → Result T E → (old new : History) → Type 0
-IsWritten = IsDiskWrite content_of image_of clock_of IsLeftSince
+IsWritten = IsDiskWrite content_of image_of clock_of IsLeftAt
 
 abbrev pub IsSynced : {T E : Type 0} → Result T E → (old new : History) → Type 0
-IsSynced = IsDiskSync content_of image_of clock_of IsLeftSince
+IsSynced = IsDiskSync content_of image_of clock_of IsLeftAt
 
 -- a disk that has had no calls
 abbrev pub fresh : List ℕ → History

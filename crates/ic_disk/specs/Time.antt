@@ -2,22 +2,27 @@
 -- To be read: contracts of public calls cite it. This project's choice.
 use Rattle.std.specs.Prelude.{◌≡◌, ◌⊎◌, ℕ, ◌+◌, ◌-◌, ◌^◌, ◌<◌, ◌≤◌, min, List, Result, MatchResult}
 
--- Time goes on by one call at most: a crash since t may have left what it might have left before,
--- or what the midst of the call leaves.
+-- What a crash may have left at some moment from t on.
+abbrev pub LeftSince : (left : ℕ → List ℕ → Type 0) → ℕ → List ℕ → Type 0
+LeftSince left t file = (k : ℕ) × (t ≤ k) × left k file
+
+-- Time goes on by one call at most: a crash at some moment may have left what it might have left
+-- before, or from the call on, what its midst leaves.
 pub record Elapses (before now : ℕ) (past since : ℕ → List ℕ → Type 0)
     (midst : List ℕ → Type 0) : Type 0 where
   pub later : before ≤ now
   pub one_call : now ≤ before + 1
-  pub nothing_else : (t : ℕ) (file : List ℕ) → t ≤ before → since t file → past t file ⊎ midst file
-  pub keeps : (t : ℕ) (file : List ℕ) → t ≤ before → past t file → since t file
+  pub nothing_else : (t : ℕ) (file : List ℕ) → since t file
+      → past t file ⊎ ((before ≤ t) × midst file)
+  pub keeps : (t : ℕ) (file : List ℕ) → past t file → since t file
 
--- A crash at any moment from `old` to `new` leaves a file that has P.
+-- A crash at any moment from `old` to `new` leaves a file that has P. Earlier moments leave what
+-- they did.
 pub record LeavesOnly {D : Type 0} (clock : D → ℕ) (left : D → ℕ → List ℕ → Type 0)
     (old new : D) (P : List ℕ → Type 0) : Type 0 where
   pub later : clock old ≤ clock new
-  pub each : (file : List ℕ) → left new (clock old) file → P file
-  -- for a run that began earlier
-  pub before : (t : ℕ) (file : List ℕ) → t ≤ clock old → left new t file → left old t file ⊎ P file
+  pub each : (file : List ℕ) → LeftSince (left new) (clock old) file → P file
+  pub before : (t : ℕ) (file : List ℕ) → t < clock old → left new t file → left old t file
 
 -- the count of failures rises by one, or stands at its end, 2^64 - 1
 abbrev pub OneMore : ℕ → ℕ → Type 0

@@ -2,7 +2,7 @@
 
 ghost use Rattle.std.specs.Prelude.{◌≡◌, ◌+◌, ◌-◌, ◌^◌, ◌≤◌, ℕ, Bool, List, length, min, is_ok, IsTrue, Some, codes, IfOk, OnOk, OnErr};
 ghost use Rattle.ic_disk.specs.DiskCalls.{ChangesNothing, IsDiskSync, IsDiskWrite, ReadsBytes, TellsLength};
-ghost use Rattle.ic_disk.specs.Time.{CountsFailure, OneCallAtMost, one_call_more};
+ghost use Rattle.ic_disk.specs.Time.{CountsFailure, LeftSince, OneCallAtMost, one_call_more};
 
 use std::error::Error;
 use std::fmt;
@@ -37,8 +37,8 @@ pub trait Disk {
     /// that come once the count stands at its end.
     ghost clock: { Self → ℕ };
 
-    /// What a crash at some moment since that time of the clock may have left, in the midst of a
-    /// call or between two.
+    /// What a crash at this time of the clock may have left, between two calls or in the midst of
+    /// one.
     ghost left: { Self → ℕ → List ℕ → Type 0 };
 
     /// How many calls have failed, up to 2^64 - 1.
@@ -91,11 +91,11 @@ pub trait Disk {
 
     /// This moment is one of those since an earlier time.
     ghost image_is_left: { (disk : Self) (t : ℕ) (file : List ℕ)
-        → t ≤ clock disk → image disk file → left disk t file };
+        → t ≤ clock disk → image disk file → LeftSince (left disk) t file };
 
     /// Since this time there is no other moment.
     ghost left_is_image: { (disk : Self) (file : List ℕ)
-        → left disk (clock disk) file → image disk file };
+        → LeftSince (left disk) (clock disk) file → image disk file };
 }
 
 // Counts a call that failed.

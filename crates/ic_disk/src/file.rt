@@ -149,7 +149,7 @@ impl<F: DiskFile> Disk for FileDisk<F> {
 
     ghost content_is_image = { λ _. tt };
 
-    ghost image_is_left = { λ _ _ _ _ _. tt };
+    ghost image_is_left = { λ f _ _ come _. (f.calls, come, tt) };
 
     ghost left_is_image = { λ _ _ _. tt };
 

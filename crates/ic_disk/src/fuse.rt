@@ -4,7 +4,7 @@ ghost use Rattle.std.specs.Prelude.{◌≡◌, ◌⊎◌, ◌+◌, ◌≤◌, tr
 ghost use Rattle.ic_disk.specs.Content.{bytes_at};
 ghost use Rattle.ic_disk.specs.Fuse.{turn_of, torn_bytes, Answers, AnswersRead, IsTorn};
 ghost use Rattle.ic_disk.specs.Model.{write_of, sync};
-ghost use Rattle.ic_disk.specs.History.{content_of, image_of, clock_of, IsLeftSince, IsSynced, IsWritten};
+ghost use Rattle.ic_disk.specs.History.{content_of, image_of, clock_of, IsLeftAt, IsSynced, IsWritten};
 ghost use Rattle.ic_disk.specs.lemmas.HistoryLaws as laws;
 ghost use Rattle.ic_disk.specs.Time.{CountsFailure, one_call_more};
 
@@ -173,7 +173,7 @@ impl Disk for FuseDisk {
 
     ghost clock = { λ f. clock_of (disk_of f) };
 
-    ghost left = { λ f. IsLeftSince (disk_of f) };
+    ghost left = { λ f. IsLeftAt (disk_of f) };
 
     ghost failures = { failures_of };
 

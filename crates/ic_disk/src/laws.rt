@@ -8,7 +8,7 @@ ghost use Rattle.ic_disk.specs.Crash.{Takes};
 ghost use Rattle.ic_disk.specs.DiskCalls.{ChangesNothing, IsDiskSync, IsDiskWrite, ReadsBytes, TellsLength};
 ghost use Rattle.ic_disk.specs.Images.{AgreesOutside, AgreesWithAny, Only, TornFrom, TornInTurn, Within, one_range, two_ranges};
 ghost use Rattle.ic_disk.specs.Model.{IsImageIn, IsInState, State, Write, after, begun, write, write_of};
-ghost use Rattle.ic_disk.specs.Time.{CountsFailure, LeavesOnly, OneCallAtMost};
+ghost use Rattle.ic_disk.specs.Time.{CountsFailure, LeavesOnly, LeftSince, OneCallAtMost};
 ghost use Rattle.ic_disk.specs.declared.disk.DiskFault.{DiskFault};
 ghost use Rattle.ic_disk.specs.declared.mem.Choice.{Choice};
 
@@ -98,9 +98,10 @@ pub fn write_as_modelled<D: Disk>(disk: &mut D, at: u64, bytes: &[u8]) -> Result
     // A crash in the midst of it may leave all that it may leave before and after it, and nothing
     // but what it leaves with the range pending.
     ensures reached { IsTrue (D.keeps disk.old) → (file : List ℕ)
-        → D.image disk.old file ⊎ D.image disk.new file → D.left disk.new (D.clock disk.old) file }
+        → D.image disk.old file ⊎ D.image disk.new file
+        → LeftSince (D.left disk.new) (D.clock disk.old) file }
     ensures midst { (s : State) → IsTrue (D.keeps disk.old) → IsInState D.content D.image disk.old s
-        → (file : List ℕ) → D.left disk.new (D.clock disk.old) file
+        → (file : List ℕ) → LeftSince (D.left disk.new) (D.clock disk.old) file
         → IsImageIn (after (write_of at bytes.now) s) file }
 
     // Where all was synced, an image is whatever agrees with what was there outside the range.
@@ -117,9 +118,10 @@ pub fn sync_as_modelled<D: Disk>(disk: &mut D) -> Result<(), DiskFault>
     ensures may { (s : State) → IsTrue (D.keeps disk.old) → IsInState D.content D.image disk.old s
         → (now : State) × MaySync result s now × IsInState D.content D.image disk.new now }
     ensures reached { IsTrue (D.keeps disk.old) → (file : List ℕ)
-        → D.image disk.old file ⊎ D.image disk.new file → D.left disk.new (D.clock disk.old) file }
+        → D.image disk.old file ⊎ D.image disk.new file
+        → LeftSince (D.left disk.new) (D.clock disk.old) file }
     ensures midst { (s : State) → IsTrue (D.keeps disk.old) → IsInState D.content D.image disk.old s
-        → (file : List ℕ) → D.left disk.new (D.clock disk.old) file → IsImageIn s file }
+        → (file : List ℕ) → LeftSince (D.left disk.new) (D.clock disk.old) file → IsImageIn s file }
 {
     disk.sync()
 }
@@ -132,7 +134,7 @@ pub fn len_as_modelled<D: Disk>(disk: &mut D) -> Result<u64, DiskFault>
     ensures same { (s : State) → IsTrue (D.keeps disk.old) → IsInState D.content D.image disk.old s
         → IsInState D.content D.image disk.new s }
     ensures midst { (s : State) → IsTrue (D.keeps disk.old) → IsInState D.content D.image disk.old s
-        → (file : List ℕ) → D.left disk.new (D.clock disk.old) file → IsImageIn s file }
+        → (file : List ℕ) → LeftSince (D.left disk.new) (D.clock disk.old) file → IsImageIn s file }
 {
     disk.len()
 }
@@ -146,7 +148,7 @@ pub fn read_as_modelled<D: Disk>(disk: &mut D, at: u64, into: &mut [u8]) -> Resu
     ensures same { (s : State) → IsTrue (D.keeps disk.old) → IsInState D.content D.image disk.old s
         → IsInState D.content D.image disk.new s }
     ensures midst { (s : State) → IsTrue (D.keeps disk.old) → IsInState D.content D.image disk.old s
-        → (file : List ℕ) → D.left disk.new (D.clock disk.old) file → IsImageIn s file }
+        → (file : List ℕ) → LeftSince (D.left disk.new) (D.clock disk.old) file → IsImageIn s file }
 {
     disk.read(at, into)
 }
@@ -182,9 +184,9 @@ pub fn the_written_model_is_a_disk<T, E>(answer: &Result<T, E>)
     // The laws of the trait.
     ensures content_is_image { (c : Course) → IsCourse c → image_in c (content_in c) }
     ensures image_is_left { (c : Course) (t : ℕ) (file : List ℕ)
-        → t ≤ calls_in c → image_in c file → left_in c t file }
+        → t ≤ calls_in c → image_in c file → LeftSince (left_in c) t file }
     ensures left_is_image { (c : Course) (file : List ℕ) → IsCourse c
-        → left_in c (calls_in c) file → image_in c file }
+        → LeftSince (left_in c) (calls_in c) file → image_in c file }
 {
     let _ = answer;
 }
@@ -204,7 +206,7 @@ pub fn courses_go_on<T, E>(answer: &Result<T, E>)
     // might have left is never forgotten.
     ensures moments { (c : Course) (midst now : State) (file : List ℕ)
         → image_in c file ⊎ (IsImageIn midst file ⊎ IsImageIn now file)
-        → left_in (after_call answer.now midst now c) (calls_in c) file }
+        → LeftSince (left_in (after_call answer.now midst now c)) (calls_in c) file }
     ensures past { (c : Course) (midst now : State) (t : ℕ) (file : List ℕ)
         → left_in c t file → left_in (after_call answer.now midst now c) t file }
 {

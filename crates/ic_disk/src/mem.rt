@@ -3,7 +3,7 @@
 ghost use Rattle.std.specs.Prelude.{◌≡◌, ◌≤◌, [], List, ℕ, map, ◌+◌, ◌-◌, length, IsOk, OnOk, OnErr, IfOk, true};
 ghost use Rattle.ic_disk.specs.Content.{bytes_at};
 ghost use Rattle.ic_disk.specs.Model.{write_of, sync};
-ghost use Rattle.ic_disk.specs.History.{fresh, content_of, with_call, with_failure, state, image_of, clock_of, IsLeftSince, IsSynced, IsWritten};
+ghost use Rattle.ic_disk.specs.History.{fresh, content_of, with_call, with_failure, state, image_of, clock_of, IsLeftAt, IsSynced, IsWritten};
 ghost use Rattle.ic_disk.specs.Images.{Only};
 ghost use Rattle.ic_disk.specs.Time.{CountsFailure};
 ghost use Rattle.ic_disk.specs.lemmas.HistoryLaws as laws;
@@ -217,7 +217,7 @@ impl Disk for MemDisk {
 
     ghost clock = { clock_of };
 
-    ghost left = { IsLeftSince };
+    ghost left = { IsLeftAt };
 
     ghost failures = { λ h. h.failures };
 

@@ -2,7 +2,7 @@
 use Rattle.std.proofs.Common.{◌≡◌, ◌⊎◌, inl, ⊎_elim, ℕ, ◌+◌, ◌-◌, ◌≤◌, Bool, true, false, List, [], ◌∷◌, length, drop, Result, Ok, Err, OnOk, sym, ◌∙◌, ap, subst, arith}
 use Rattle.ic_disk.specs.Content.{laid}
 use Rattle.ic_disk.specs.Images.{TornFrom, Within, Only}
-use Rattle.ic_disk.specs.Time.{LeavesOnly}
+use Rattle.ic_disk.specs.Time.{LeavesOnly, LeftSince}
 use Rattle.ic_disk.specs.lemmas.Moments.{leaves_weaker, then_runs}
 use Rattle.ic_frames.specs.declared.slot.Slot.{Slot}
 use Rattle.ic_frames.specs.Places.{place, other}
@@ -31,7 +31,7 @@ module _ {D : Type 0} (content : D → List ℕ) (image : D → List ℕ → Typ
 
   -- Closing the gate leaves each image the body that it had.
   pub gate_stays : (closed staged made : Bool) → IsKept (content old) (image old) newest n closed staged made → closed ≡ false → LeavesOnly clock left old new (TornFrom (place slot) 1 (image old))
-      → ((file : List ℕ) → clock old ≤ clock new → image new file → left new (clock old) file) → (kept : List ℕ) → Within (image old) (HasBody kept) → Within (image new) (HasBody kept)
+      → ((file : List ℕ) → clock old ≤ clock new → image new file → LeftSince (left new) (clock old) file) → (kept : List ℕ) → Within (image old) (HasBody kept) → Within (image new) (HasBody kept)
   gate_stays closed staged made is opened run law kept has file there =
       let made_now = is_made (content old) (image old) newest n staged made now (subst (λ (b : Bool). IsKept (content old) (image old) newest n b staged made) opened is) in
       let holds = gate_run closed staged made is opened run kept (λ c here. record { made = is.all_made made_now c here; held = has c here }) in
@@ -62,7 +62,7 @@ module _ {D : Type 0} (content : D → List ℕ) (image : D → List ℕ → Typ
 
   -- Writing the body leaves an image that isn't made, or each image holds the body that it had.
   pub body_if_made : (closed staged made : Bool) (skip : ℕ) (held frame : List ℕ) → IsKept (content old) (image old) newest n closed staged made → closed ≡ true → IsFrame (n + 1) held frame → length held ≤ 3036421 → ((made ≡ true) × (skip ≡ 1)) ⊎ ((made ≡ false) × (skip ≡ 0))
-      → LeavesOnly clock left old new (TornFrom (place slot + skip) (length frame - skip) (image old)) → ((file : List ℕ) → clock old ≤ clock new → image new file → left new (clock old) file)
+      → LeavesOnly clock left old new (TornFrom (place slot + skip) (length frame - skip) (image old)) → ((file : List ℕ) → clock old ≤ clock new → image new file → LeftSince (left new) (clock old) file)
       → Within (image old) (image new) ⊎ Only (laid (place slot + skip) (drop skip frame) (content old)) (image new)
       → (kept : List ℕ) → Within (image old) (HasBody kept) → Within (image new) IsMade → Within (image new) (Holds kept)
   body_if_made closed staged made skip held frame is shut is_frame short which run law ends kept has all file there = ⊎_elim
@@ -144,7 +144,7 @@ module _ {D : Type 0} (content : D → List ℕ) (image : D → List ℕ → Typ
 
 module _ {D : Type 0} (image : D → List ℕ → Type 0) (clock : D → ℕ) (left : D → ℕ → List ℕ → Type 0) where
   -- what a run leaves at any moment is there at its end
-  pub at_end : (old new : D) (P : List ℕ → Type 0) → ((file : List ℕ) → image new file → left new (clock old) file) → LeavesOnly clock left old new P → Within (image new) P
+  pub at_end : (old new : D) (P : List ℕ → Type 0) → ((file : List ℕ) → image new file → LeftSince (left new) (clock old) file) → LeavesOnly clock left old new P → Within (image new) P
   at_end old new P counts run file is = run.each file (counts file is)
 
   -- a keep: two phases that leave what was kept, and one that leaves that or the next

@@ -3,3 +3,4 @@ pub mod RunLemmas
 pub mod JobLemmas
 pub mod ServedLemmas
 pub mod AmongLemmas
+pub mod MemLemmas

@@ -4,6 +4,7 @@ use Rattle.std.specs.Prelude.{◌↔◌, IsTrue}
 use Rattle.std.proofs.lemmas.List.{take-append-drop, take_all, length-take-le, length-append, append-nil}
 use Rattle.ic_disk.specs.declared.disk.Disk.{Ghosts}
 use Rattle.ic_disk.specs.Images.{Within}
+use Rattle.ic_disk.specs.Time.{LeftSince}
 use Rattle.ic_jobs.specs.declared.event.Entry.{Entry}
 use Rattle.ic_jobs.specs.Job.{JobParts}
 use Rattle.ic_jobs.specs.History.{replay, IsLegal}
@@ -98,7 +99,7 @@ pub record IsDown {D : Type 0} (ghosts : Ghosts D) (past : Past) (disk : D) : Ty
 -- what a crash leaves in the midst of a move, from one disk to another
 record IsMid {D : Type 0} (ghosts : Ghosts D) (move : Move) (past : Past) (before after : D) : Type 0 where
   legal : IsLegal [] (past.entries ++ brings move)
-  each : (file : List ℕ) → ghosts.left after (ghosts.clock before) file → HoldsPrefix (past.entries ++ brings move) past.lasting file
+  each : (file : List ℕ) → LeftSince (ghosts.left after) (ghosts.clock before) file → HoldsPrefix (past.entries ++ brings move) past.lasting file
 
 -- a move that may be stopped
 abbrev IsCall : Move → Type 0
@@ -278,8 +279,8 @@ module _ {D : Type 0} {ghosts : Ghosts D} where
   -- ---- openings and closings
 
   module _ (replays : Replays) (joins : Joins) (one : HoldsOne) (content_is_image : (disk : D) → ghosts.image disk (ghosts.content disk))
-      (image_is_left : (disk : D) (t : ℕ) (file : List ℕ) → t ≤ ghosts.clock disk → ghosts.image disk file → ghosts.left disk t file)
-      (left_is_image : (disk : D) (file : List ℕ) → ghosts.left disk (ghosts.clock disk) file → ghosts.image disk file) where
+      (image_is_left : (disk : D) (t : ℕ) (file : List ℕ) → t ≤ ghosts.clock disk → ghosts.image disk file → LeftSince (ghosts.left disk) t file)
+      (left_is_image : (disk : D) (file : List ℕ) → LeftSince (ghosts.left disk) (ghosts.clock disk) file → ghosts.image disk file) where
     -- a book is opened that begins with what this file holds
     pub found_book : (past : Past) (disk : D) (book : Book D ghosts) → IsLegal [] past.entries → IsTrue (ghosts.keeps disk) → HoldsPrefix past.entries past.lasting (ghosts.content disk) → Opens disk book
         → GoesTo opens past (up book)
@@ -368,11 +369,11 @@ module _ {D : Type 0} {ghosts : Ghosts D} where
     mid closes past (up book) (down disk) may is call = record {
       legal = legal_none past.entries (legal_page joins past book is);
       each = λ file there. none_brought past.entries past.lasting file (handed past book disk is call file
-          (left_is_image disk file (subst (λ (t : ℕ). ghosts.left disk t file) (ap ghosts.clock (sym call.same)) there)));
+          (left_is_image disk file (subst (λ (t : ℕ). LeftSince (ghosts.left disk) t file) (ap ghosts.clock (sym call.same)) there)));
     }
     mid stays past (down disk) (down after) may is call = record {
       legal = legal_none past.entries is.legal;
-      each = λ file there. none_brought past.entries past.lasting file (is.each file (left_is_image disk file (subst (λ (d : D). ghosts.left d (ghosts.clock disk) file) call there)));
+      each = λ file there. none_brought past.entries past.lasting file (is.each file (left_is_image disk file (subst (λ (d : D). LeftSince (ghosts.left d) (ghosts.clock disk) file) call there)));
     }
     mid move past (up old) (up new) may is call = mid_call move past old new is call
     mid move past before after may is call = absurd call
@@ -383,7 +384,7 @@ module _ {D : Type 0} {ghosts : Ghosts D} where
         let m = mid move past before after may is call in (
           record { entries = past.entries ++ brings move; lasting = past.lasting },
           (refl, refl),
-          record { legal = m.legal; keeps = here.keeps; each = λ file there. m.each file (here.left file there) },
+          record { legal = m.legal; keeps = here.keeps; each = λ file there. m.each file (here.moment, here.since, here.left file there) },
         )
 
     -- ---- runs

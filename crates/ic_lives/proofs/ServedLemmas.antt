@@ -1,13 +1,16 @@
 -- What a server has after calls over its book, ended or stopped in their midst.
-use Rattle.std.proofs.Common.{◌≡◌, ◌⊎◌, Bool, true, false, Option, Result, ℕ, ◌≤◌, List, [], ◌∷◌, ◌++◌, take, refl, sym, ap, subst}
+use Rattle.std.proofs.Common.{◌≡◌, ◌⊎◌, inl, inr, Bool, true, false, Option, Result, ℕ, ◌≤◌, List, [], ◌∷◌, ◌++◌, refl, sym, ap, subst}
 use Rattle.std.specs.List.{AllByRecursion}
+use Rattle.std.specs.Prelude.{IsTrue}
 use Rattle.ic_disk.specs.declared.disk.Disk.{Ghosts}
+use Rattle.ic_disk.specs.Images.{Within}
+use Rattle.ic_disk.specs.Time.{LeftSince}
 use Rattle.ic_slots.specs.Held.{HoldsTable, the_table}
 use Rattle.ic_jobs.specs.declared.command.Command.{Command}
 use Rattle.ic_jobs.specs.declared.reply.Reply.{Reply}
 use Rattle.ic_jobs.specs.declared.event.Entry.{Entry}
 use Rattle.ic_jobs.specs.Job.{JobParts}
-use Rattle.ic_jobs.specs.History.{replay, IsLegal}
+use Rattle.ic_jobs.specs.History.{replay}
 use Rattle.ic_frames.specs.declared.faults.OpenCause.{OpenCause}
 use Rattle.ic_frames.specs.declared.faults.OpenCause.TheVariants.{Device, Memory}
 use Rattle.ic_desk.specs.declared.book.Book.{Book}
@@ -18,24 +21,14 @@ use Rattle.ic_serving.specs.declared.fault.ServeFault.{ServeFault}
 use Rattle.ic_serving.specs.Booked.{IsAllKept, last_kept}
 use Rattle.ic_serving.specs.Serving.{IsServing}
 use Rattle.ic_serving.specs.Stopped.{MayStand}
-use Rattle.ic_serving.specs.ByCalls.{Calls, IsByCalls, IsLeftWithin, IsNoFailure}
-use Rattle.ic_lives.specs.Past.{Past, nothing, IsPast}
-use Rattle.ic_lives.specs.Headline.{IsTableAfter, HoldsPrefixAfter}
+use Rattle.ic_desk.specs.ByCalls.{Calls, IsByCalls, IsOnMadeDisk, IsNoFailure}
+use Rattle.ic_lives.specs.Headline.{IsTableAfter}
 use Rattle.ic_lives.specs.Histories.{IsHistoryOf}
 use Rattle.ic_lives.specs.Served.{IsCutShort}
+use Rattle.ic_lives.specs.Servings.{Serving, IsStopped, IsClosed, AreServings, AreMovesOf}
 use Rattle.ic_lives.proofs.JobLemmas.{Lives}
 use Rattle.ic_lives.proofs.AmongLemmas.{file_stands}
-use Rattle.ic_lives.proofs.PastLemmas.{joined}
-use Rattle.ic_lives.proofs.RunLemmas.{Replays, Joins, HoldsOne, HoldsPrefix, IsUp, legal_moved, left_within, found_book, goes_on, reached, tells_file, tells_table, refuses_no_table, table_in}
-
--- a past of the moves that were cut short tells of a file
-record StopsAt (all moves : List Move) (file : List ℕ) : Type 0 where
-  cut : List Move
-  short : IsCutShort all cut
-  past : Past
-  comes : IsPast (cut ++ moves) past
-  legal : IsLegal [] past.entries
-  holds : HoldsPrefix past.entries past.lasting file
+use Rattle.ic_lives.proofs.RunLemmas.{Replays, Joins, HoldsOne, IsUp, reached, prefix_after, refused_so, table_after, table_in}
 
 module _ {D : Type 0} {ghosts : Ghosts D} where
   -- ---- calls are moves
@@ -68,77 +61,101 @@ module _ {D : Type 0} {ghosts : Ghosts D} where
     runs = runs_join done.moves moves (down run.disk) (up old) (up new) run.runs (calls_run done.moves old new done.calls);
   }
 
+  -- a stop in the midst of one
+  stop_step : (move : Move) (before after : Book D ghosts) (found : D) → Does move before after → IsFound ghosts (disk_of before) (disk_of after) found
+      → Step (stops move) (up before) (down found)
+  stop_step opens before after found is here = (up after, is, here)
+  stop_step (refuses cause) before after found is here = (up after, is, here)
+  stop_step (answers who command reply) before after found is here = (up after, is, here)
+  stop_step (fails who command reply) before after found is here = (up after, is, here)
+  stop_step (rounds name reply) before after found is here = (up after, is, here)
+  stop_step keeps before after found is here = (up after, is, here)
+  stop_step stays before after found is here = (up after, is, here)
+  stop_step closes before after found is here = (up after, is, here)
+  stop_step (stops move) before after found is here = absurd is.page
+
+  -- one more step
+  pub reaches_step : (move : Move) (moves : List Move) (before after : Server ghosts) → Reaches moves before → Step move before after → Reaches (move ∷ moves) after
+  reaches_step move moves before after run step = record { disk = run.disk; keeps = run.keeps; created = run.created; runs = (before, run.runs, step) }
+
   -- ---- stops in their midst
 
   module _ (replays : Replays) (joins : Joins) (one : HoldsOne) (content_is_image : (disk : D) → ghosts.image disk (ghosts.content disk))
-      (image_is_left : (disk : D) (t : ℕ) (file : List ℕ) → t ≤ ghosts.clock disk → ghosts.image disk file → ghosts.left disk t file)
-      (left_is_image : (disk : D) (file : List ℕ) → ghosts.left disk (ghosts.clock disk) file → ghosts.image disk file) where
-    stops_within : (all moves : List Move) (old : Book D ghosts) (file : List ℕ) (past : Past) → IsPast moves past → IsUp past old → IsLeftWithin all old file → StopsAt all moves file
-    stops_within all moves old file past comes is left =
-        let there = goes_on replays joins one content_is_image image_is_left left_is_image left.earlier past (up old) (up left.before) is (calls_run left.earlier old left.before left.calls) in
-        let here : IsUp there.0 left.before = there.2 in
-        record {
-          cut = stops left.move ∷ left.earlier;
-          short = record { earlier = left.earlier; move = left.move; later = left.later; parted = left.parted; stopped = refl };
-          past = record { entries = there.0.entries ++ brings left.move; lasting = there.0.lasting };
-          comes = (there.0, joined left.earlier moves nothing past there.0 comes there.1, (refl, refl));
-          legal = legal_moved joins left.move there.0 left.before left.after here left.under_way.page;
-          holds = left_within replays joins one content_is_image image_is_left left_is_image left.move there.0 left.before left.after here left.under_way file left.holds;
-        }
-
-    stops_at : (moves : List Move) (old new : Book D ghosts) (done : IsByCalls old new) (file : List ℕ) → Reaches moves (up old) → ghosts.left (disk_of new) (ghosts.clock (disk_of old)) file
-        → StopsAt done.moves moves file
-    stops_at moves old new done file run left =
+      (image_is_left : (disk : D) (t : ℕ) (file : List ℕ) → t ≤ ghosts.clock disk → ghosts.image disk file → LeftSince (ghosts.left disk) t file)
+      (left_is_image : (disk : D) (file : List ℕ) → LeftSince (ghosts.left disk) (ghosts.clock disk) file → ghosts.image disk file) where
+    pub made_by : (moves : List Move) (old : Book D ghosts) → Reaches moves (up old) → IsOnMadeDisk old
+    made_by moves old run =
         let there = reached replays joins one content_is_image image_is_left left_is_image moves (up old) run in
-        let is : IsUp there.0 old = there.2 in
-        stops_within done.moves moves old file there.0 there.1 is ((done.stopped (is.keeps, is.made)).each file left)
+        let is : IsUp there.0 old = there.2 in (is.keeps, is.made)
 
-    pub stopped_so : (moves : List Move) (old new : Book D ghosts) (done : IsByCalls old new) (file : List ℕ) → Reaches moves (up old) → ghosts.left (disk_of new) (ghosts.clock (disk_of old)) file
-        → (cut : List Move) × IsCutShort done.moves cut × HoldsPrefixAfter (cut ++ moves) file
-    stopped_so moves old new done file run left =
-        let at = stops_at moves old new done file run left in (
-          at.cut,
-          at.short,
+    pub stopped_so : (moves : List Move) (old new : Book D ghosts) (done : IsByCalls old new) (found : D) → Reaches moves (up old) → IsFound ghosts (disk_of old) (disk_of new) found
+        → (cut : List Move) × IsCutShort done.moves cut × Reaches {ghosts = ghosts} (cut ++ moves) (down found)
+    stopped_so moves old new done found run here =
+        let at = done.stopped (made_by moves old run) found here in (
+          stops at.move ∷ at.earlier,
+          record { earlier = at.earlier; move = at.move; later = at.later; parted = at.parted; stopped = refl },
           record {
-            past = at.past;
-            comes = at.comes;
-            tells = tells_file at.past file at.legal at.holds;
+            disk = run.disk;
+            keeps = run.keeps;
+            created = run.created;
+            runs = (
+              up at.before,
+              runs_join at.earlier moves (down run.disk) (up old) (up at.before) run.runs (calls_run at.earlier old at.before at.calls),
+              stop_step at.move at.before at.after found at.under_way at.stop,
+            );
           },
         )
 
     pub opened_so : Lives → (moves : List Move) (old new : Book D ghosts) (done : IsByCalls old new) (found : D) (book : Book D ghosts) → Reaches moves (up old)
-        → IsFound ghosts (disk_of old) (disk_of new) found → Opens found book → (cut : List Move) × IsCutShort done.moves cut × IsTableAfter (opens ∷ cut ++ moves) (table_of book)
+        → IsFound ghosts (disk_of old) (disk_of new) found → Opens found book
+        → (cut : List Move) × IsCutShort done.moves cut × Reaches (opens ∷ cut ++ moves) (up book) × IsTableAfter (opens ∷ cut ++ moves) (table_of book)
     opened_so lives moves old new done found book run here call =
-        let at = stops_at moves old new done (ghosts.content found) run (here.left (ghosts.content found) (content_is_image found)) in
-        let there = found_book replays joins one content_is_image image_is_left left_is_image at.past found book at.legal here.keeps at.holds call in (
-          at.cut,
-          at.short,
-          record {
-            past = there.0;
-            comes = (at.past, at.comes, there.1);
-            tells = tells_table replays joins one content_is_image image_is_left left_is_image lives there.0 book there.2;
-          },
-        )
+        let at = stopped_so moves old new done found run here in
+        let next = reaches_step opens (at.0 ++ moves) (down found) (up book) at.2 call in
+        (at.0, at.1, next, table_after replays joins one content_is_image image_is_left left_is_image lives (opens ∷ at.0 ++ moves) book next)
 
     pub refused_then : (moves : List Move) (old new : Book D ghosts) (done : IsByCalls old new) (found after : D) (cause : OpenCause) → Reaches moves (up old)
-        → IsFound ghosts (disk_of old) (disk_of new) found → Refuses ghosts cause found after → (cause ≡ Device) ⊎ (cause ≡ Memory)
+        → IsFound ghosts (disk_of old) (disk_of new) found → Refuses ghosts cause found after
+        → (cut : List Move) × IsCutShort done.moves cut × Reaches {ghosts = ghosts} (refuses cause ∷ cut ++ moves) (down after) × ((cause ≡ Device) ⊎ (cause ≡ Memory))
     refused_then moves old new done found after cause run here call =
-        let at = stops_at moves old new done (ghosts.content found) run (here.left (ghosts.content found) (content_is_image found)) in
-        refuses_no_table one cause (replay [] (take at.holds.prefix at.past.entries)) (ghosts.content found) at.holds.holds.held (call.says here.keeps)
+        let at = stopped_so moves old new done found run here in
+        let next = reaches_step (refuses cause) (at.0 ++ moves) (down found) (down after) at.2 call in
+        (at.0, at.1, next, refused_so replays joins one content_is_image image_is_left left_is_image (at.0 ++ moves) cause after next)
 
     -- in the words of the lines
     pub lines_stopped : {T : Type 0} (result : Result T ServeFault) (moves : List Move) (old new : Book D ghosts) (ls : List (List ℕ)) (before behind : Option (List ℕ))
-        (serving : IsServing result ls old new before behind) (file : List ℕ) → Reaches moves (up old) → ghosts.left (disk_of new) (ghosts.clock (disk_of old)) file
-        → (cut : List Move) × IsCutShort serving.crash.done.moves cut × (t : List JobParts) × HoldsTable t file × MayStand (IsAllKept old) (last_kept old) (table_of old) ls t
-        × (history : List Entry) × IsHistoryOf (cut ++ moves) history × (t ≡ replay [] history)
-    lines_stopped result moves old new ls before behind serving file run left =
-        let there = reached replays joins one content_is_image image_is_left left_is_image moves (up old) run in
-        let is : IsUp there.0 old = there.2 in
-        let held = (serving.crash.any_moment (is.keeps, is.made)).each file left in
-        let so = stopped_so moves old new serving.crash.done file run left in
-        let told = file_stands joins (so.0 ++ moves) file so.2 in
+        (serving : IsServing result ls old new before behind) (found : D) → Reaches moves (up old) → IsFound ghosts (disk_of old) (disk_of new) found
+        → (cut : List Move) × IsCutShort serving.crash.done.moves cut × Reaches {ghosts = ghosts} (cut ++ moves) (down found)
+        × ((file : List ℕ) → ghosts.image found file → (t : List JobParts) × HoldsTable t file × MayStand (IsAllKept old) (last_kept old) (table_of old) ls t
+        × (history : List Entry) × IsHistoryOf (cut ++ moves) history × (t ≡ replay [] history))
+    lines_stopped result moves old new ls before behind serving found run here =
+        let so = stopped_so moves old new serving.crash.done found run here in
+        (so.0, so.1, so.2, λ file image.
+        let held = (serving.crash.any_moment (made_by moves old run)).each file (here.moment, here.since, here.left file image) in
+        let told = file_stands joins (so.0 ++ moves) file (prefix_after replays joins one content_is_image image_is_left left_is_image (so.0 ++ moves) found file so.2 image) in
         let same : held.0 ≡ replay [] told.0 = ap table_in (one file (the_table held.0) (the_table (replay [] told.0)) held.2.held told.2.held) in
-        (so.0, so.1, held.0, held.2, held.1, told.0, told.1, same)
+        (held.0, held.2, held.1, told.0, told.1, same))
+
+    -- ---- one serving after the other
+
+    -- a serving goes on from what was reached
+    served_so : (s : Serving ghosts) (before : D) (moves : List Move) → Reaches {ghosts = ghosts} moves (down before) → Opens before s.opened → IsStopped s ⊎ IsClosed s
+        → (now : List Move) × Reaches {ghosts = ghosts} now (down s.found)
+        × (((cut : List Move) × IsCutShort s.done.moves cut × (now ≡ cut ++ opens ∷ moves)) ⊎ (now ≡ closes ∷ s.done.moves ++ opens ∷ moves))
+    served_so s before moves run call (inl stop) =
+        let at = stopped_so (opens ∷ moves) s.opened s.led_to s.done s.found (reaches_step opens moves (down before) (up s.opened) run call) stop in
+        (at.0 ++ opens ∷ moves, at.2, inl (at.0, at.1, refl))
+    served_so s before moves run call (inr close) =
+        let there = reaches_more (opens ∷ moves) s.opened s.led_to s.done (reaches_step opens moves (down before) (up s.opened) run call) in
+        (closes ∷ s.done.moves ++ opens ∷ moves, reaches_step closes (s.done.moves ++ opens ∷ moves) (up s.led_to) (down s.found) there close, inr refl)
+
+    pub servings_run : (servings : List (Serving ghosts)) (first last : D) → IsTrue (ghosts.keeps first) → Within (ghosts.image first) (HoldsTable []) → AreServings servings first last
+        → (moves : List Move) × AreMovesOf servings moves × Reaches {ghosts = ghosts} moves (down last)
+    servings_run [] first last model created are = ([], refl, record { disk = first; keeps = model; created = created; runs = ap (λ (d : D). down d) are })
+    servings_run (s ∷ servings) first last model created are =
+        let so_far = servings_run servings first are.0 model created are.1 in
+        let now = served_so s are.0 so_far.0 so_far.2 are.2 are.3 in
+        (now.0, (so_far.0, so_far.1, now.2), subst (λ (d : D). Reaches {ghosts = ghosts} now.0 (down d)) (sym are.4) now.1)
 
 -- a failure is among the moves
 failed_among : (later earlier : List Move) (who : ℕ) (command : Command) (reply : Reply) → ¬ AllByRecursion IsNoFailure (later ++ fails who command reply ∷ earlier)

@@ -2,3 +2,4 @@ pub mod Past
 pub mod Headline
 pub mod Served
 pub mod Histories
+pub mod Servings

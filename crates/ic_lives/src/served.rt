@@ -1,6 +1,7 @@
 //! What a server has after lines were served over its book.
 
-ghost use Rattle.std.specs.Prelude.{◌≡◌, ◌⊎◌, [], ◌∷◌, ◌++◌, ℕ, List, Option, Result, true, OnOk};
+ghost use Rattle.std.specs.Prelude.{◌≡◌, ◌⊎◌, [], ◌∷◌, ◌++◌, ℕ, List, Option, Result, true, IsTrue, OnOk};
+ghost use Rattle.ic_disk.specs.Images.{Within};
 ghost use Rattle.ic_jobs.specs.declared.command.Command.{Command};
 ghost use Rattle.ic_jobs.specs.declared.event.Entry.{Entry};
 ghost use Rattle.ic_jobs.specs.declared.reply.Reply.{Reply};
@@ -10,38 +11,40 @@ ghost use Rattle.ic_frames.specs.declared.faults.OpenCause.{OpenCause};
 ghost use Rattle.ic_frames.specs.declared.faults.OpenCause.TheVariants.{Device, Memory};
 ghost use Rattle.ic_slots.specs.Held.{HoldsTable};
 ghost use Rattle.ic_desk.specs.Book.{disk_of, is_broken, table_of};
-ghost use Rattle.ic_desk.specs.Moves.{Move, fails, opens};
-ghost use Rattle.ic_desk.specs.Server.{IsFound, Opens, Reaches, Refuses, up};
+ghost use Rattle.ic_desk.specs.Moves.{Move, fails, opens, refuses};
+ghost use Rattle.ic_desk.specs.Server.{IsFound, Opens, Reaches, Refuses, down, up};
 ghost use Rattle.ic_serving.specs.declared.fault.ServeFault.{ServeFault};
 ghost use Rattle.ic_serving.specs.Booked.{IsAllKept, last_kept};
-ghost use Rattle.ic_serving.specs.ByCalls.{IsByCalls};
+ghost use Rattle.ic_desk.specs.ByCalls.{IsByCalls};
 ghost use Rattle.ic_serving.specs.Served.{AreAnswered};
 ghost use Rattle.ic_serving.specs.Serving.{IsServing};
 ghost use Rattle.ic_serving.specs.Stopped.{MayStand};
-ghost use Rattle.ic_lives.specs.Headline.{HoldsPrefixAfter, IsTableAfter};
+ghost use Rattle.ic_lives.specs.Headline.{IsTableAfter};
 ghost use Rattle.ic_lives.specs.Histories.{IsHistoryOf};
 ghost use Rattle.ic_lives.specs.Served.{IsCutShort};
+ghost use Rattle.ic_lives.specs.Servings.{AreMovesOf, AreServings, Serving};
 
 use ic_desk::Book;
 use ic_disk::Disk;
 
 /// The headline of a server that serves lines. `serve_lines` and `answer_line` are made of calls of
 /// the book alone, as their clauses say (`crash.done`), whatever they answer. So the moves that they
-/// made go on from those before; and where they are stopped at any moment, the moves that they would
-/// have made are cut short in the midst of one.
-pub fn the_served_headline<D: Disk>(old: &Book<D>, new: &Book<D>)
+/// made go on from those before; and where they are stopped at any moment, the stop came in the midst
+/// of one of them.
+pub fn the_served_headline<D: Disk>(old: &Book<D>, new: &Book<D>, found: &D)
     // Behind a serving the open book is reached, and has the table after a past of all moves.
     ensures ended { (moves : List Move) (done : IsByCalls old.now new.now)
         → Reaches moves (up old.now)
         → Reaches (done.moves ++ moves) (up new.now)
         × IsTableAfter (done.moves ++ moves) (table_of new.now) }
 
-    // Whatever file a stop in its midst leaves holds the table after a prefix of a past of the moves
-    // that were cut short.
-    ensures stopped { (moves : List Move) (done : IsByCalls old.now new.now) (file : List ℕ)
+    // A disk that is found after a stop in its midst is reached by the moves that were cut short. So
+    // all that is said of runs is said of it, and of what comes behind it.
+    ensures stopped { (moves : List Move) (done : IsByCalls old.now new.now)
         → Reaches moves (up old.now)
-        → D.left (disk_of new.now) (D.clock (disk_of old.now)) file
-        → (cut : List Move) × IsCutShort done.moves cut × HoldsPrefixAfter (cut ++ moves) file }
+        → IsFound D.Disk (disk_of old.now) (disk_of new.now) found.now
+        → (cut : List Move) × IsCutShort done.moves cut
+        × Reaches {ghosts = D.Disk} (cut ++ moves) (down found.now) }
 
     // A command among the moves at which the disk failed has broken the book.
     ensures broken { (done : IsByCalls old.now new.now) (later earlier : List Move)
@@ -50,13 +53,14 @@ pub fn the_served_headline<D: Disk>(old: &Book<D>, new: &Book<D>)
 {
     let _ = old;
     let _ = new;
+    let _ = found;
     ic_jobs::laws::histories_split_and_join();
     ic_jobs::laws::life_law();
     ic_slots::laws::one_is_held();
 }
 
-/// What a stopped serving has left is opened again: the next book has the table after a past of the
-/// moves that were cut short, and its opening is refused for no other cause than these.
+/// What a stopped serving has left is opened again: the next book is reached by the moves that were
+/// cut short, and its opening is refused for no other cause than these.
 pub fn a_stopped_serving_opens_again<D: Disk>(
     old: &Book<D>,
     new: &Book<D>,
@@ -67,11 +71,15 @@ pub fn a_stopped_serving_opens_again<D: Disk>(
         → Reaches moves (up old.now)
         → IsFound D.Disk (disk_of old.now) (disk_of new.now) found.now → Opens found.now next.now
         → (cut : List Move) × IsCutShort done.moves cut
+        × Reaches (opens ∷ cut ++ moves) (up next.now)
         × IsTableAfter (opens ∷ cut ++ moves) (table_of next.now) }
     ensures refused { (moves : List Move) (done : IsByCalls old.now new.now)
         (after : D) (cause : OpenCause) → Reaches moves (up old.now)
         → IsFound D.Disk (disk_of old.now) (disk_of new.now) found.now
-        → Refuses D.Disk cause found.now after → (cause ≡ Device) ⊎ (cause ≡ Memory) }
+        → Refuses D.Disk cause found.now after
+        → (cut : List Move) × IsCutShort done.moves cut
+        × Reaches {ghosts = D.Disk} (refuses cause ∷ cut ++ moves) (down after)
+        × ((cause ≡ Device) ⊎ (cause ≡ Memory)) }
 {
     let _ = old;
     let _ = new;
@@ -82,12 +90,25 @@ pub fn a_stopped_serving_opens_again<D: Disk>(
     ic_slots::laws::one_is_held();
 }
 
+/// Any number of servings, one after the other, each stopped at any moment or closed and opened
+/// again, are a run of a server: all that is said of runs is said of what they leave.
+pub fn servings_are_a_run<D: Disk>(first: &D, last: &D)
+    ensures { (servings : List (Serving D.Disk)) → IsTrue (D.keeps first.now)
+        → Within (D.image first.now) (HoldsTable []) → AreServings servings first.now last.now
+        → (moves : List Move) × AreMovesOf servings moves
+        × Reaches {ghosts = D.Disk} moves (down last.now) }
+{
+    let _ = first;
+    let _ = last;
+    ic_jobs::laws::histories_split_and_join();
+    ic_slots::laws::one_is_held();
+}
+
 /// The same in the words of the lines. Where all are answered, the table is both the one that they
-/// lead to and the one after a past of all moves. Whatever file a stop at any moment leaves holds a
-/// table that a front of them reaches, or the one that was kept last where not all was kept before.
-/// It is the one after a legal history of the moves that were cut short, which has every answered
-/// command.
-pub fn lines_are_moves<D: Disk>(old: &Book<D>, new: &Book<D>)
+/// lead to and the one after a past of all moves. Whatever file is found after a stop holds a table
+/// that a front of them reaches, or the one that was kept last where not all was kept before. It is
+/// the one after a legal history of the moves that were cut short, which has every answered command.
+pub fn lines_are_moves<D: Disk>(old: &Book<D>, new: &Book<D>, found: &D)
     ensures answered { (moves : List Move) (result : Result (Unit {0}) ServeFault)
         (ls : List (List ℕ)) (before behind : Option (List ℕ))
         (serving : IsServing result ls old.now new.now before behind) → Reaches moves (up old.now)
@@ -95,16 +116,18 @@ pub fn lines_are_moves<D: Disk>(old: &Book<D>, new: &Book<D>)
         × IsTableAfter (serving.crash.done.moves ++ moves) (table_of new.now) }
     ensures stopped { (moves : List Move) (result : Result (Unit {0}) ServeFault)
         (ls : List (List ℕ)) (before behind : Option (List ℕ))
-        (serving : IsServing result ls old.now new.now before behind) (file : List ℕ)
-        → Reaches moves (up old.now)
-        → D.left (disk_of new.now) (D.clock (disk_of old.now)) file
+        (serving : IsServing result ls old.now new.now before behind) → Reaches moves (up old.now)
+        → IsFound D.Disk (disk_of old.now) (disk_of new.now) found.now
         → (cut : List Move) × IsCutShort serving.crash.done.moves cut
-        × (t : List JobParts) × HoldsTable t file
+        × Reaches {ghosts = D.Disk} (cut ++ moves) (down found.now)
+        × ((file : List ℕ) → D.image found.now file
+        → (t : List JobParts) × HoldsTable t file
         × MayStand (IsAllKept old.now) (last_kept old.now) (table_of old.now) ls t
-        × (history : List Entry) × IsHistoryOf (cut ++ moves) history × (t ≡ replay [] history) }
+        × (history : List Entry) × IsHistoryOf (cut ++ moves) history × (t ≡ replay [] history)) }
 {
     let _ = old;
     let _ = new;
+    let _ = found;
     ic_jobs::laws::histories_split_and_join();
     ic_jobs::laws::life_law();
     ic_slots::laws::one_is_held();

@@ -4,5 +4,4 @@ pub mod PageLemmas
 pub mod LineLemmas
 pub mod WriteLemmas
 pub mod ServeLemmas
-pub mod CallLemmas
 pub mod StopLemmas

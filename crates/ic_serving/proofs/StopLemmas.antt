@@ -6,7 +6,7 @@ use Rattle.std.specs.Io.KnownBytes.{Keeps}
 use Rattle.std.proofs.lemmas.Bool.{cases_lt}
 use Rattle.ic_disk.specs.declared.disk.Disk.{Ghosts}
 use Rattle.ic_disk.specs.Images.{Within}
-use Rattle.ic_disk.specs.Time.{LeavesOnly}
+use Rattle.ic_disk.specs.Time.{LeavesOnly, LeftSince}
 use Rattle.ic_disk.specs.lemmas.Moments.{started, then_runs, leaves_weaker}
 use Rattle.ic_jobs.specs.declared.command.Command.{Command}
 use Rattle.ic_jobs.specs.declared.event.Entry.{Entry}
@@ -32,7 +32,7 @@ use Rattle.ic_serving.specs.Booked.{last_kept, IsAllKept, StaysPut}
 use Rattle.ic_serving.specs.Answered.{IsKeptFor}
 use Rattle.ic_serving.specs.Parts.{IsKeptWithin, IsInLine, IsInFirst}
 use Rattle.ic_serving.specs.Stopped.{HoldsOne, IsReached, MayStand}
-use Rattle.ic_serving.specs.ByCalls.{IsByCalls}
+use Rattle.ic_desk.specs.ByCalls.{IsByCalls}
 use Rattle.ic_serving.specs.Moments.{FaultLeaves, Leaves, IsKeptOrNow, IsKeptInLine}
 use Rattle.ic_serving.specs.declared.fault.ServeFault.{ServeFault}
 use Rattle.ic_serving.specs.declared.fault.ServeFault.TheVariants.{Write, Memory}
@@ -41,7 +41,7 @@ use Rattle.ic_serving.specs.Served.{OfLines, MayBeServed, SaysOf, IsEnded, IsCut
 use Rattle.ic_serving.specs.Serving.{IsServing}
 use Rattle.ic_lines.specs.Serving.{IsServed}
 use Rattle.ic_serving.specs.inner.Progress.{AreFirst, AreToCome, IsUnderWay}
-use Rattle.ic_serving.proofs.CallLemmas.{by_calls_then}
+use Rattle.ic_desk.specs.lemmas.Chains.{by_calls_then}
 use Rattle.ic_serving.proofs.LineLemmas.{kept_behind}
 use Rattle.ic_serving.proofs.RunLemmas.{InRun, run_begun}
 use Rattle.ic_serving.proofs.ServeLemmas.{SomeWay, in_line, in_first, served_none, of_lines, none_ahead, over, ended_at, cut_before, left_first, may_come, counts_as}
@@ -134,7 +134,7 @@ module _ {D : Type 0} {ghosts : Ghosts D} where
     any_moment = λ is. then_runs ghosts.clock ghosts.left (disk_of old) (disk_of mid) (disk_of new) (HoldsOne P) (HoldsOne Q)
         (first.any_moment is) (second.any_moment (first.stays is))
         (λ file holds. (holds.0, weaker holds.0 holds.1, holds.2));
-    done = by_calls_then old mid new first.stays first.done second.done;
+    done = by_calls_then old mid new first.done second.done;
   }
 
   -- a call after which the disk is the same
@@ -146,7 +146,7 @@ module _ {D : Type 0} {ghosts : Ghosts D} where
         keeps = ap ghosts.keeps disk ∙ run.keeps;
         stays = λ is. (ap ghosts.keeps disk ∙ (run.stays is).0, subst (λ (d : D). Within (ghosts.image d) IsMade) (sym disk) (run.stays is).1);
         any_moment = λ is. subst (λ (d : D). LeavesOnly ghosts.clock ghosts.left (disk_of old) d (HoldsOne P)) (sym disk) (run.any_moment is);
-        done = by_calls_then old mid new run.stays run.done done;
+        done = by_calls_then old mid new run.done done;
       }
 
   -- a call of the book
@@ -164,7 +164,7 @@ module _ {D : Type 0} {ghosts : Ghosts D} where
 
   -- no call at all
   pub leaves_nothing : (book : Book D ghosts) (P : List JobParts → Type 0)
-      → ((file : List ℕ) → ghosts.left (disk_of book) (ghosts.clock (disk_of book)) file → ghosts.image (disk_of book) file)
+      → ((file : List ℕ) → LeftSince (ghosts.left (disk_of book)) (ghosts.clock (disk_of book)) file → ghosts.image (disk_of book) file)
       → (IsTrue (ghosts.keeps (disk_of book)) → Within (ghosts.image (disk_of book)) IsMade → Within (ghosts.image (disk_of book)) (HoldsKeptOrAll (start_of book) (log_of book) (kept_of book)))
       → replay (start_of book) (log_of book) ≡ table_of book → IsByCalls book book → P (last_kept book) → P (table_of book) → Leaves book book P
   leaves_nothing book P law either replayed done kept now =
@@ -226,7 +226,7 @@ module _ {D : Type 0} {ghosts : Ghosts D} where
     pub moments : LeavesServed first book way.front
 
   pub stops_first : SomeWay → (book : Book D ghosts)
-      → ((file : List ℕ) → ghosts.left (disk_of book) (ghosts.clock (disk_of book)) file → ghosts.image (disk_of book) file)
+      → ((file : List ℕ) → LeftSince (ghosts.left (disk_of book)) (ghosts.clock (disk_of book)) file → ghosts.image (disk_of book) file)
       → (IsTrue (ghosts.keeps (disk_of book)) → Within (ghosts.image (disk_of book)) IsMade → Within (ghosts.image (disk_of book)) (HoldsKeptOrAll (start_of book) (log_of book) (kept_of book)))
       → replay (start_of book) (log_of book) ≡ table_of book → IsByCalls book book → (IsAllKept book → last_kept book ≡ table_of book) → LeavesServed book book []
   stops_first law book images either replayed done whole = leaves_nothing book (MayStand (IsAllKept book) (last_kept book) (table_of book) []) images either replayed done

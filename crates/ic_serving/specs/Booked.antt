@@ -1,8 +1,6 @@
 -- To be believed, but for what private functions say: what a serving speaks of in a book.
-use Rattle.std.specs.Prelude.{◌≡◌, ◌⊎◌, ℕ, ◌<◌, List, [], ◌∷◌, Some, length, IsTrue}
+use Rattle.std.specs.Prelude.{◌≡◌, ◌⊎◌, ℕ, ◌<◌, List, [], ◌∷◌, Some, length}
 use Rattle.ic_disk.specs.declared.disk.Disk.{Ghosts}
-use Rattle.ic_disk.specs.Images.{Within}
-use Rattle.ic_frames.specs.Fields.{IsMade}
 use Rattle.ic_pool.specs.Flight.{FlightParts}
 use Rattle.ic_jobs.specs.Job.{JobParts}
 use Rattle.ic_jobs.specs.declared.event.Event.{Event}
@@ -10,7 +8,7 @@ use Rattle.ic_jobs.specs.declared.event.Event.TheVariants.{Round}
 use Rattle.ic_jobs.specs.History.{table_after}
 use Rattle.ic_jobs.specs.Landing.{due}
 use Rattle.ic_desk.specs.declared.book.Book.{Book}
-use Rattle.ic_desk.specs.Book.{start_of, log_of, table_of, kept_of, disk_of}
+use Rattle.ic_desk.specs.Book.{start_of, log_of, table_of, kept_of}
 use Rattle.ic_desk.specs.Kept.{table_kept}
 use Rattle.ic_desk.specs.declared.limits.TheConstants.{MAX_ENTRIES}
 use Rattle.ic_serving.specs.Parts.{IsPart, IsKeptWithin}
@@ -23,11 +21,6 @@ last_kept book = table_kept (start_of book) (log_of book) (kept_of book)
 -- everything in its history is kept
 abbrev pub IsAllKept : {D : Type 0} {ghosts : Ghosts D} → Book D ghosts → Type 0
 IsAllKept book = kept_of book ≡ length (log_of book)
-
--- its disk keeps the model and is made
-abbrev pub IsOnMadeDisk : {D : Type 0} {ghosts : Ghosts D} → Book D ghosts → Type 0
-IsOnMadeDisk {D} {ghosts} book =
-    IsTrue (ghosts.keeps (disk_of book)) × Within (ghosts.image (disk_of book)) IsMade
 
 -- ---- for private functions
 

@@ -4,7 +4,6 @@ pub mod Booked
 pub mod Faults
 pub mod Served
 pub mod Stopped
-pub mod ByCalls
 pub mod Moments
 pub mod Answered
 pub mod Serving

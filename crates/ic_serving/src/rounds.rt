@@ -11,7 +11,7 @@ ghost use Rattle.ic_desk.specs.declared.limits.TheConstants.{MAX_ENTRIES};
 ghost use Rattle.ic_desk.specs.Book.{is_broken, start_of, table_of, log_of, keeper_of, IsUnchanged};
 ghost use Rattle.ic_desk.specs.Entries.{round_entry};
 ghost use Rattle.ic_serving.specs.Booked.{last_kept, IsAllKept, Advances, MakesRound, StaysPut};
-ghost use Rattle.ic_serving.specs.ByCalls.{IsByCalls};
+ghost use Rattle.ic_desk.specs.ByCalls.{IsByCalls};
 ghost use Rattle.ic_serving.specs.Faults.{ComesInLine};
 ghost use Rattle.ic_serving.specs.Grown.{IsSamePage};
 ghost use Rattle.ic_serving.specs.Moments.{FaultLeaves, Leaves, IsKeptOrNow};

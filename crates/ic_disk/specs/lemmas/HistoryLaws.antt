@@ -36,7 +36,7 @@ pub state_at_end : (k : ℕ) (h : History) → length h.calls ≤ k → state_at
 state_at_end k h all = ap (λ (calls : List Call). replay calls (begun h.first)) (take_all k h.calls all)
 
 pub image_left : (h : History) (t : ℕ) (file : List ℕ) → t ≤ length h.calls → IsImageIn (state h) file → IsLeftSince h t file
-image_left h t file come image = (length h.calls, come, omega arith, subst (λ (s : State). IsImageIn s file) (sym (state_at_end (length h.calls) h (omega arith))) image)
+image_left h t file come image = (length h.calls, come, (omega arith, subst (λ (s : State). IsImageIn s file) (sym (state_at_end (length h.calls) h (omega arith))) image))
 
 pub left_image : (h : History) (file : List ℕ) → IsLeftSince h (length h.calls) file → IsImageIn (state h) file
-left_image h file left = subst (λ (s : State). IsImageIn s file) (state_at_end left.0 h left.1) left.3
+left_image h file left = subst (λ (s : State). IsImageIn s file) (state_at_end left.0 h left.1) left.2.1

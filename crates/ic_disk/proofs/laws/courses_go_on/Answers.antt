@@ -1,4 +1,4 @@
-use Rattle.std.proofs.Common.{inl, inr, ⊎_elim, arith}
+use Rattle.std.proofs.Common.{inl, inr, ⊎_elim, ◌+◌, refl, arith}
 use Rattle.ic_disk.proofs.CourseLemmas.{begins, goes_on_reading, goes_on_syncing, goes_on_writing}
 use Rattle.ic_disk.proofs.laws.courses_go_on.Goals as goal
 
@@ -16,8 +16,8 @@ returns-clause-reads g c course is = goes_on_reading c.args.answer.now course is
 
 pub returns-clause-moments : goal.returns-clause-moments
 returns-clause-moments g c course midst now file is = ⊎_elim
-    (λ before. inr (inl (omega arith, before)))
-    (λ rest. ⊎_elim (λ during. inr (inr (inl (omega arith, during)))) (λ after. inl (omega arith, after)) rest)
+    (λ before. (course.calls, omega arith, inr (inl (refl, before))))
+    (λ rest. ⊎_elim (λ during. (course.calls, omega arith, inr (inr (inl (refl, during))))) (λ after. (course.calls + 1, omega arith, inl (refl, after))) rest)
     is
 
 pub returns-clause-past : goal.returns-clause-past

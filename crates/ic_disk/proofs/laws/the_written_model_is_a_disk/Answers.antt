@@ -1,4 +1,4 @@
-use Rattle.std.proofs.Common.{inl}
+use Rattle.std.proofs.Common.{inl, refl}
 use Rattle.ic_disk.proofs.CourseLemmas.{counted_in, left_is_image_in, nothing_in, read_in, sync_in, told_in, write_in}
 use Rattle.ic_disk.proofs.laws.the_written_model_is_a_disk.Goals as goal
 
@@ -21,7 +21,7 @@ pub returns-clause-unchanged : goal.returns-clause-unchanged
 returns-clause-unchanged g c course = nothing_in c.args.answer.now course
 
 pub returns-clause-image_is_left : goal.returns-clause-image_is_left
-returns-clause-image_is_left g c course t file come image = inl (come, image)
+returns-clause-image_is_left g c course t file come image = (course.calls, come, inl (refl, image))
 
 pub returns-clause-left_is_image : goal.returns-clause-left_is_image
 returns-clause-left_is_image g c course file is left = left_is_image_in course file is left

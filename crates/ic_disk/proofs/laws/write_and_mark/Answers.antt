@@ -33,3 +33,21 @@ returns-clause-ordered g c keeps =
     (leaves_weaker disk.clock disk.left old mid _ _ (c.write_synced.ensures.any_moment keeps) (λ file torn. inl torn))
     (c.write_synced-2.ensures.any_moment (c.write_synced.ensures.keeps ∙ keeps))
     (λ file torn. inr (subst (λ (image : List ℕ). Torn c.args.mark_at 1 image file) (only.no_other torn.0 torn.1) torn.2))
+
+-- where the first write failed
+pub returns-in_err-write_synced-clause-any_moment : goal.returns-in_err-write_synced-clause-any_moment
+returns-in_err-write_synced-clause-any_moment g c keeps =
+    let disk = g.D.Disk in
+    leaves_weaker disk.clock disk.left c.args.disk.now c.write_synced.new.disk _ _ (c.write_synced.ensures.any_moment keeps)
+    (torn_once c.args.at (length c.args.bytes.now) c.args.mark_at 1 (disk.image c.args.disk.now))
+
+pub returns-in_err-write_synced-clause-settled : goal.returns-in_err-write_synced-clause-settled
+returns-in_err-write_synced-clause-settled g c keeps only =
+    let disk = g.D.Disk in
+    leaves_weaker disk.clock disk.left c.args.disk.now c.write_synced.new.disk _ _ (returns-in_err-write_synced-clause-any_moment g c keeps)
+    (agrees_settled c.args.at (length c.args.bytes.now) c.args.mark_at 1 (disk.content c.args.disk.now) (disk.image c.args.disk.now) only)
+
+pub returns-in_err-write_synced-clause-ordered : goal.returns-in_err-write_synced-clause-ordered
+returns-in_err-write_synced-clause-ordered g c keeps =
+    let disk = g.D.Disk in
+    leaves_weaker disk.clock disk.left c.args.disk.now c.write_synced.new.disk _ _ (c.write_synced.ensures.any_moment keeps) (λ file torn. inl torn)

@@ -7,6 +7,7 @@ use Rattle.ic_frames.specs.Places.{place}
 use Rattle.ic_frames.specs.Held.{body_held}
 use Rattle.ic_frames.specs.inner.Finding.{IsChosen}
 use Rattle.ic_frames.proofs.FoundLemmas.{found_whole, found_spoiled, damage_answers}
+use Rattle.ic_frames.proofs.ReadLemmas.{reads_then}
 use Rattle.ic_frames.proofs.opening.find.Goals as goal
 
 pub returns-in_err-whole-clause-refused : goal.returns-in_err-whole-clause-refused
@@ -36,3 +37,15 @@ returns-clause-found g c keeps =
       made = λ e. subst (λ (n : ℕ). 4194317 ≤ n) long (leb-true 4194317 c.in_ok-len.len e);
       not_made = λ e. subst (λ (n : ℕ). n < 4194317) long (leb-false 4194317 c.in_ok-len.len e);
     }
+
+pub returns-in_err-frame-clause-reads : goal.returns-in_err-frame-clause-reads
+returns-in_err-frame-clause-reads g c keeps =
+    let disk = g.D.Disk in
+    reads_then disk.content disk.image disk.clock disk.left c.args.disk.now c.look.new.disk c.read_frame.new.disk
+    (c.look.ensures.reads keeps) (c.read_frame.ensures.reads (c.look.ensures.keeps ∙ keeps))
+
+pub returns-clause-reads : goal.returns-clause-reads
+returns-clause-reads g c keeps =
+    let disk = g.D.Disk in
+    reads_then disk.content disk.image disk.clock disk.left c.args.disk.now c.look.new.disk c.read_frame.new.disk
+    (c.look.ensures.reads keeps) (c.read_frame.ensures.reads (c.look.ensures.keeps ∙ keeps))

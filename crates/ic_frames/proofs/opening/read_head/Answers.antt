@@ -2,6 +2,7 @@ use Rattle.std.proofs.Common.{◌∙◌, ◌+◌, sym, ap, List, ℕ, arith}
 use Rattle.ic_disk.specs.Content.{bytes_at}
 use Rattle.ic_frames.specs.Places.{place}
 use Rattle.ic_frames.proofs.FieldLemmas.{short_shut, shut_from, open_from, gate_read, number_read, size_read}
+use Rattle.ic_frames.proofs.ReadLemmas.{reads_then}
 use Rattle.ic_frames.proofs.opening.read_head.Goals as goal
 
 pub returns-then-len-at-clause-head : goal.returns-then-len-at-clause-head
@@ -32,3 +33,29 @@ returns-clause-head g c keeps =
       number_is = number_read at file c.in_ok-read_bytes.field-0 c.from_be_bytes-number.result number c.from_be_bytes-number.ensures;
       size_is = size_read at file c.in_ok-read_bytes-2.field-0 c.from_be_bytes-size.result size c.from_be_bytes-size.ensures;
     }
+
+pub returns-clause-reads : goal.returns-clause-reads
+returns-clause-reads g c keeps =
+    let disk = g.D.Disk in
+    let old = c.args.disk.now in
+    let keeps_once = c.read_bytes.ensures.keeps ∙ keeps in
+    let keeps_twice = c.read_bytes-2.ensures.keeps ∙ keeps_once in
+    reads_then disk.content disk.image disk.clock disk.left old c.read_bytes-2.new.disk c.read_bytes-3.new.disk
+    (reads_then disk.content disk.image disk.clock disk.left old c.read_bytes.new.disk c.read_bytes-2.new.disk (c.read_bytes.ensures.reads keeps) (c.read_bytes-2.ensures.reads keeps_once))
+    (c.read_bytes-3.ensures.reads keeps_twice)
+
+pub returns-in_err-read_bytes-clause-reads : goal.returns-in_err-read_bytes-clause-reads
+returns-in_err-read_bytes-clause-reads g c keeps =
+    let disk = g.D.Disk in
+    reads_then disk.content disk.image disk.clock disk.left c.args.disk.now c.read_bytes.new.disk c.read_bytes-2.new.disk
+    (c.read_bytes.ensures.reads keeps) (c.read_bytes-2.ensures.reads (c.read_bytes.ensures.keeps ∙ keeps))
+
+pub returns-in_err-read_bytes-2-clause-reads : goal.returns-in_err-read_bytes-2-clause-reads
+returns-in_err-read_bytes-2-clause-reads g c keeps =
+    let disk = g.D.Disk in
+    let old = c.args.disk.now in
+    let keeps_once = c.read_bytes.ensures.keeps ∙ keeps in
+    let keeps_twice = c.read_bytes-2.ensures.keeps ∙ keeps_once in
+    reads_then disk.content disk.image disk.clock disk.left old c.read_bytes-2.new.disk c.read_bytes-3.new.disk
+    (reads_then disk.content disk.image disk.clock disk.left old c.read_bytes.new.disk c.read_bytes-2.new.disk (c.read_bytes.ensures.reads keeps) (c.read_bytes-2.ensures.reads keeps_once))
+    (c.read_bytes-3.ensures.reads keeps_twice)

@@ -1,6 +1,6 @@
 use Rattle.std.proofs.Common.{ℕ, List, refl, sym, subst, arith}
 use Rattle.ic_disk.specs.History.{History, clock_of, content_of, image_of}
-use Rattle.ic_disk.specs.lemmas.HistoryLaws.{image_left}
+use Rattle.ic_lives.proofs.MemLemmas.{image_now}
 use Rattle.ic_desk.specs.Book.{disk_of}
 use Rattle.ic_desk.specs.Server.{down, up}
 use Rattle.ic_lives.proofs.reached.a_run_is_reached.Goals as goal
@@ -25,7 +25,9 @@ returns c =
               c.facts.ensures.step,
               record {
                 keeps = refl;
-                left = λ file image. image_left (disk_of book) (clock_of (disk_of book)) file (omega arith)
+                moment = clock_of (disk_of book);
+                since = omega arith;
+                left = λ file image. image_now (disk_of book) file
                     (subst (λ (f : List ℕ). image_of (disk_of book) f) (sym (c.in-Ok-crash.ensures.settled.no_other file image)) here);
               },
             ),

@@ -11,6 +11,6 @@ returns-clause-answered g c moves result ls before behind serving run = (
 )
 
 pub returns-clause-stopped : goal.returns-clause-stopped
-returns-clause-stopped g c moves result ls before behind serving file run left = lines_stopped c.histories_split_and_join.ensures.table c.histories_split_and_join.ensures.legal c.one_is_held.ensures
+returns-clause-stopped g c moves result ls before behind serving run here = lines_stopped c.histories_split_and_join.ensures.table c.histories_split_and_join.ensures.legal c.one_is_held.ensures
     g.met.D.Disk.content_is_image g.met.D.Disk.image_is_left g.met.D.Disk.left_is_image
-    result moves c.args.old.now c.args.new.now ls before behind serving file run left
+    result moves c.args.old.now c.args.new.now ls before behind serving c.args.found.now run here

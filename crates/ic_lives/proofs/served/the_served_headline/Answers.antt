@@ -11,8 +11,8 @@ returns-clause-ended g c moves done run =
     )
 
 pub returns-clause-stopped : goal.returns-clause-stopped
-returns-clause-stopped g c moves = stopped_so c.histories_split_and_join.ensures.table c.histories_split_and_join.ensures.legal c.one_is_held.ensures
-    g.met.D.Disk.content_is_image g.met.D.Disk.image_is_left g.met.D.Disk.left_is_image moves c.args.old.now c.args.new.now
+returns-clause-stopped g c moves done = stopped_so c.histories_split_and_join.ensures.table c.histories_split_and_join.ensures.legal c.one_is_held.ensures
+    g.met.D.Disk.content_is_image g.met.D.Disk.image_is_left g.met.D.Disk.left_is_image moves c.args.old.now c.args.new.now done c.args.found.now
 
 pub returns-clause-broken : goal.returns-clause-broken
 returns-clause-broken g c = broken_by c.args.old.now c.args.new.now

@@ -11,7 +11,7 @@ use Rattle.ic_text.specs.declared.fault.TextFault.{TextFault}
 use Rattle.ic_lines.specs.Answers.{answer, after_line, events}
 use Rattle.ic_serving.specs.Booked.{last_kept, IsAllKept}
 use Rattle.ic_serving.specs.Grown.{GoesOn, HasRoom}
-use Rattle.ic_serving.proofs.CallLemmas.{by_nothing}
+use Rattle.ic_desk.specs.lemmas.Chains.{by_nothing}
 use Rattle.ic_serving.proofs.LineLemmas.{begun_none}
 use Rattle.ic_serving.proofs.PageLemmas.{goes_none, within_none}
 use Rattle.ic_serving.proofs.RunLemmas.{on_err}

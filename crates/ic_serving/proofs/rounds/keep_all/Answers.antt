@@ -3,7 +3,7 @@ use Rattle.ic_desk.specs.Book.{start_of, log_of}
 use Rattle.ic_jobs.specs.History.{replay}
 use Rattle.ic_serving.specs.Booked.{last_kept}
 use Rattle.ic_serving.specs.Moments.{IsKeptOrNow}
-use Rattle.ic_serving.proofs.CallLemmas.{by_keep}
+use Rattle.ic_desk.specs.lemmas.Chains.{by_keep}
 use Rattle.ic_serving.proofs.StopLemmas.{leaves_call}
 use Rattle.ic_serving.proofs.rounds.keep_all.Goals as goal
 

@@ -6,7 +6,7 @@ use Rattle.ic_serving.proofs.RunLemmas.{IsRun, at_first, one_more, keep_or_not, 
 use Rattle.ic_serving.proofs.PageLemmas.{page_first, page_more, page_whole, page_within}
 use Rattle.ic_lines.specs.Turns.{turns}
 use Rattle.ic_serving.specs.Parts.{IsKeptWithin}
-use Rattle.ic_serving.proofs.CallLemmas.{by_nothing}
+use Rattle.ic_desk.specs.lemmas.Chains.{by_nothing}
 use Rattle.ic_serving.proofs.StopLemmas.{leaves_nothing, leaves_in_run}
 use Rattle.ic_serving.proofs.running.make_rounds.Given as given
 use Rattle.ic_serving.proofs.running.make_rounds.Goals as goal

@@ -11,7 +11,7 @@ use Rattle.ic_serving.specs.declared.fault.ServeFault.TheVariants.{TooManyLines}
 use Rattle.ic_serving.specs.declared.limits.TheConstants.{MAX_LINES}
 use Rattle.ic_serving.specs.Answered.{IsAnswered, IsBegun}
 use Rattle.ic_serving.specs.Moments.{Leaves, IsKeptInLine}
-use Rattle.ic_serving.proofs.CallLemmas.{by_nothing}
+use Rattle.ic_desk.specs.lemmas.Chains.{by_nothing}
 use Rattle.ic_serving.proofs.LineLemmas.{kept_all}
 use Rattle.ic_serving.proofs.ServeLemmas.{under_first, under_more, ahead, taken, ended_at, cut_behind, kept_part, left_within, says_book, not_taken, none_behind, not_write, counts_behind, ready_behind}
 use Rattle.ic_serving.proofs.StopLemmas.{stops_first, stops_more, serving_over, serving_err, serving_untaken, fault_behind, kept_or_same, still_all, still_last}
