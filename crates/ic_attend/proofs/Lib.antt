@@ -1,3 +1,4 @@
 pub mod PartLemmas
 pub mod Crossings
 pub mod Exact
+pub mod HistoryLemmas

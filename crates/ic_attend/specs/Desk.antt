@@ -1,17 +1,54 @@
--- What a call at a desk answers, whatever the table is at that moment.
-use Rattle.std.specs.Prelude.{◌≡◌, ℕ, List, Option}
+-- What a call at a desk comes to. Which book is under the lock at that moment nobody knows: there is
+-- one that the call found and one that it left, and the book's own call says this of the two.
+use Rattle.std.specs.Prelude.{◌≡◌, ◌≢◌, ◌↔◌, ◌-◌, ◌^◌, ◌<◌, ℕ, List, Option, false, length, Result, IsErrOf, IfOk, IfErr}
+use Rattle.ic_disk.specs.declared.disk.Disk.{Ghosts}
+use Rattle.ic_term.specs.Configuration.{Configuration}
+use Rattle.ic_rules.specs.RuleSet.{Rules}
 use Rattle.ic_pool.specs.Flight.{FlightParts}
 use Rattle.ic_jobs.specs.declared.command.Command.{Command}
-use Rattle.ic_jobs.specs.declared.event.Event.TheVariants.{Command as by_command}
+use Rattle.ic_jobs.specs.declared.landed.Landed.{Landed}
 use Rattle.ic_jobs.specs.declared.reply.Reply.{Reply}
-use Rattle.ic_jobs.specs.Events.{IsAnswered}
-use Rattle.ic_jobs.specs.Job.{JobParts}
-use Rattle.ic_jobs.specs.Landing.{due}
+use Rattle.ic_jobs.specs.Landing.{due, Awaits}
+use Rattle.ic_desk.specs.declared.book.Book.{Book}
+use Rattle.ic_desk.specs.declared.fault.BookFault.{BookFault}
+use Rattle.ic_desk.specs.declared.fault.BookFault.TheVariants.{Broken, Worn, Memory}
+use Rattle.ic_desk.specs.declared.limits.TheConstants.{MAX_ENTRIES}
+use Rattle.ic_desk.specs.Book.{log_of, table_of, is_broken, number_of}
+use Rattle.ic_desk.specs.Calls.{BreaksOrStays, LeavesKeptOrAll, RefusesRound, TakesRound, TellsBroken, TellsFull}
+use Rattle.ic_desk.specs.Entries.{round_entry}
+use Rattle.ic_desk.specs.Moves.{round_move}
+use Rattle.ic_desk.specs.Server.{Step, StepsByCommand, up}
 
--- over some table the command is answered so
-abbrev pub MayAnswer : Command → Reply → Type 0
-MayAnswer command reply = (t : List JobParts) × IsAnswered t (by_command command) reply
+-- A command came to some book: it was answered and kept, or the disk failed at it, or it was
+-- refused and nothing came. A crash in it leaves the table that was kept, or the one after it.
+pub record IsCommanded {D : Type 0} (ghosts : Ghosts D) (who : ℕ) (command : Command)
+    (result : Result Reply BookFault) : Type 0 where
+  pub old : Book D ghosts
+  pub new : Book D ghosts
+  pub step : StepsByCommand who command result old new
+  pub fault : BreaksOrStays result old new
+  pub full : TellsFull result old
+  pub worn : IsErrOf result Worn ↔ ((is_broken old ≡ false)
+      × (length (log_of old) < MAX_ENTRIES) × (number_of old ≡ 2 ^ 64 - 1))
+  pub crash : LeavesKeptOrAll (log_of new) old new
 
--- over some table this is due
-abbrev pub MayBeDue : ℕ → Option FlightParts → Type 0
-MayBeDue after flight = (t : List JobParts) × (flight ≡ due t after)
+-- Of some book this was due, or it was broken, or memory was out.
+pub record IsTaken {D : Type 0} (ghosts : Ghosts D) (after : ℕ)
+    (result : Result (Option FlightParts) BookFault) : Type 0 where
+  pub book : Book D ghosts
+  pub broken : TellsBroken result book
+  pub memory : IfErr result (λ fault. fault ≢ Broken → fault ≡ Memory)
+  pub due : IfOk result (λ flight. flight ≡ due (table_of book) after)
+
+-- A round, or the halt of a job that can't make one, came to some book: it stands at the end of the
+-- log where the job was as it is said here, and else it was stale and nothing came.
+pub record IsLanded {D : Type 0} (ghosts : Ghosts D) (name : List ℕ) (rules : Rules)
+    (config : Configuration) (rounds : ℕ) (reply : Reply) (result : Result Landed BookFault)
+    : Type 0 where
+  pub old : Book D ghosts
+  pub new : Book D ghosts
+  pub step : Step (round_move name reply result) (up old) (up new)
+  pub fault : RefusesRound result old new
+  pub round : TakesRound (round_entry name reply)
+      (Awaits (table_of old) name rules config rounds) result old new
+  pub crash : LeavesKeptOrAll (log_of new) old new

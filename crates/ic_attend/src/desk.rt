@@ -1,8 +1,9 @@
 //! A book that threads share.
 
-ghost use Rattle.std.specs.Prelude.{◌≡◌, ◌≢◌, IsTrue, IfOk, IfErr};
+ghost use Rattle.std.specs.Prelude.{IsTrue};
 ghost use Rattle.ic_pool.specs.Flight.{is_blocked};
-ghost use Rattle.ic_attend.specs.Desk.{MayAnswer, MayBeDue};
+ghost use Rattle.ic_jobs.specs.declared.reply.Reply.TheVariants as reply;
+ghost use Rattle.ic_attend.specs.Desk.{IsCommanded, IsLanded, IsTaken};
 
 use ic_desk::{Book, BookFault};
 use ic_disk::Disk;
@@ -33,24 +34,22 @@ impl<D: Disk> Desk<D> {
         who: u64,
         command: Command,
     ) -> Result<Reply, BookFault>
-        ensures { IfOk result (λ reply. MayAnswer command reply) }
+        ensures { IsCommanded D.Disk who command result }
     {
         self.book.lock(rt).command(alloc, who, command)
     }
 
     /// `Book::due`.
     pub fn take<R: Wait>(&self, rt: &R, after: usize) -> Result<Option<Flight>, BookFault>
-        ensures due { IfOk result (λ flight. MayBeDue after flight) }
-        ensures fault { IfErr result (λ fault. fault ≢ BookFault.Broken
-            → fault ≡ BookFault.Memory) }
+        ensures { IsTaken D.Disk after result }
     {
         self.book.lock(rt).due(after)
     }
 
     /// `Book::land`.
     pub fn land<R: Wait>(&self, rt: &R, played: Played) -> Result<Landed, BookFault>
-        ensures { IfErr result (λ fault. fault ≢ BookFault.Broken → fault ≢ BookFault.LogFull
-            → fault ≡ BookFault.Memory) }
+        ensures { IsLanded D.Disk played.name played.rules played.before played.rounds
+            reply.Moved result }
     {
         self.book.lock(rt).land(played)
     }
@@ -58,8 +57,8 @@ impl<D: Disk> Desk<D> {
     /// `Book::halt`.
     pub fn halt<R: Wait>(&self, rt: &R, flight: &Flight) -> Result<Landed, BookFault>
         requires { IsTrue (is_blocked flight.now) }
-        ensures { IfErr result (λ fault. fault ≢ BookFault.Broken → fault ≢ BookFault.LogFull
-            → fault ≡ BookFault.Memory) }
+        ensures { IsLanded D.Disk flight.now.name flight.now.rules flight.now.config
+            flight.now.rounds reply.Halted result }
     {
         self.book.lock(rt).halt(flight)
     }

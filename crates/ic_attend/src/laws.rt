@@ -1,18 +1,29 @@
 //! Laws of the definitions that the contracts of this crate cite.
 
-ghost use Rattle.std.specs.Prelude.{◌≡◌, ◌≢◌, ◌≤◌, ℕ, List, [], ◌∷◌, ◌++◌, None, Some, length, take};
+ghost use Rattle.std.specs.Prelude.{◌≡◌, ◌≢◌, ◌≤◌, ℕ, List, [], ◌∷◌, ◌++◌, None, Some, false, length, take, slice_get};
+ghost use Rattle.std.specs.List.{AllByRecursion};
+ghost use Rattle.ic_rules.specs.System.{SystemParts};
 ghost use Rattle.ic_jobs.specs.declared.command.Command.{Command};
-ghost use Rattle.ic_jobs.specs.declared.command.Command.TheVariants.{Fetch};
+ghost use Rattle.ic_jobs.specs.declared.command.Command.TheVariants.{Fetch, Submit};
 ghost use Rattle.ic_jobs.specs.declared.event.Entry.{Entry};
+ghost use Rattle.ic_jobs.specs.declared.event.Event.TheVariants.{Command as by_command};
 ghost use Rattle.ic_jobs.specs.declared.reply.Reply.{Reply};
+ghost use Rattle.ic_jobs.specs.declared.reply.Reply.TheVariants.{Accepted};
 ghost use Rattle.ic_jobs.specs.Events.{IsAnswered};
 ghost use Rattle.ic_jobs.specs.History.{replay, IsLegal};
-ghost use Rattle.ic_jobs.specs.Job.{JobParts};
+ghost use Rattle.ic_jobs.specs.Job.{JobParts, begun};
+ghost use Rattle.ic_jobs.specs.Names.{mentions};
 ghost use Rattle.ic_jobs.specs.Table.{job_named};
 ghost use Rattle.ic_jobs.specs.Transitions.{fetch_reply};
+ghost use Rattle.ic_desk.specs.Book.{start_of, log_of, table_of};
 ghost use Rattle.ic_desk.specs.Entries.{command_entry, round_entry};
 ghost use Rattle.ic_desk.specs.Lives.{IsPage};
-ghost use Rattle.ic_attend.specs.Parts.{answer_to, part};
+ghost use Rattle.ic_attend.specs.declared.attended.ClientRun.{ClientRun as Run};
+ghost use Rattle.ic_attend.specs.OneHistory.{IsOneHistory, kept_log};
+ghost use Rattle.ic_attend.specs.Parts.{answer_to, commands_in, part};
+
+use crate::attended::Attended;
+use ic_disk::Disk;
 
 /// A client's part of a history grows by its own commands alone, each with its reply, in the order of
 /// the history. Rounds and the commands of others leave it as it is.
@@ -67,3 +78,86 @@ pub fn a_stop_leaves_each_answer()
         → (rest : List (Command × Reply))
         × (part who (take stop log) ≡ part who (take kept log) ++ rest) }
 {}
+
+/// A client reads back what it left: where no entry since is about the job, a fetch tells of it as
+/// it was then. So a fetch shows the job that was submitted, if nothing has come to it since.
+pub fn a_client_reads_back_its_own()
+    ensures left { (start : List JobParts) (front mid back : List Entry) (who : ℕ)
+        (name : List ℕ) (r : Reply)
+        → IsLegal start (front ++ mid ++ command_entry who (Fetch name) r ∷ back)
+        → AllByRecursion (λ e. mentions name e.event ≡ false) mid
+        → r ≡ fetch_reply (job_named name (replay start front)) }
+    ensures submitted { (start : List JobParts) (front : List Entry) (who : ℕ)
+        (name : List ℕ) (system : SystemParts)
+        → IsLegal start (front ++ command_entry who (Submit name system) Accepted ∷ [])
+        → job_named name (replay start (front ++ command_entry who (Submit name system) Accepted ∷ []))
+        ≡ Some (begun name system) }
+{
+    a_client_reads_what_came_before();
+    ic_jobs::laws::histories_split_and_join();
+    ic_jobs::laws::one_entry_is_legal_where_it_is_answered();
+    ic_jobs::laws::other_jobs_stay();
+}
+
+/// In one history each answer of a client is what the table says at its place: after all entries
+/// before it, the client's own earlier ones among them.
+pub fn each_answer_is_the_tables<D: Disk>(attended: &Attended<D>)
+    ensures { (scripts : List (List Command)) (runners turns who : ℕ) (run : Run)
+        (before after : List (Command × Reply)) (c : Command) (r : Reply)
+        → IsOneHistory scripts runners turns attended.now
+        → slice_get attended.now.answers.items who ≡ Some run
+        → run.answers.items ≡ before ++ (c, r) ∷ after
+        → (front : List Entry) × (back : List Entry)
+        × (log_of attended.now.book ≡ front ++ command_entry who c r ∷ back)
+        × (part who front ≡ before)
+        × IsAnswered (replay (start_of attended.now.book) front) (by_command c) r }
+{
+    let _ = attended;
+    a_client_reads_what_came_before();
+}
+
+/// Each command that is kept was answered to the client that gave it, behind the answers of the
+/// client's commands before it, and with those behind it behind it. So nobody else was answered it.
+pub fn each_kept_command_was_answered<D: Disk>(attended: &Attended<D>)
+    ensures { (scripts : List (List Command)) (runners turns who : ℕ) (front back : List Entry)
+        (c : Command) (r : Reply) → IsOneHistory scripts runners turns attended.now
+        → kept_log attended.now ≡ front ++ command_entry who c r ∷ back
+        → (run : Run) × (slice_get attended.now.answers.items who ≡ Some run)
+        × (run.answers.items ≡ part who front ++ (c, r) ∷ part who back) }
+{
+    let _ = attended;
+}
+
+/// The commands of a client that are kept begin its script, and are all of it where the client has
+/// no end. There is an end for each runner.
+pub fn each_script_is_given_in_order<D: Disk>(attended: &Attended<D>)
+    ensures script { (scripts : List (List Command)) (runners turns who : ℕ)
+        (script : List Command) → IsOneHistory scripts runners turns attended.now
+        → slice_get scripts who ≡ Some script
+        → (run : Run) × (slice_get attended.now.answers.items who ≡ Some run)
+        × ((rest : List Command) × (script ≡ commands_in who (kept_log attended.now) ++ rest))
+        × (run.end ≡ None → commands_in who (kept_log attended.now) ≡ script) }
+    ensures runners { (scripts : List (List Command)) (runners turns : ℕ)
+        → IsOneHistory scripts runners turns attended.now
+        → length attended.now.ends.items ≡ runners }
+{
+    let _ = attended;
+}
+
+/// A history leaves the table that its entries leave one by one. Where a further attendance goes on
+/// from this table, the two are one legal history, which leaves the table of the second.
+pub fn histories_join<D: Disk>(first: &Attended<D>, second: &Attended<D>)
+    ensures table { (scripts : List (List Command)) (runners turns : ℕ)
+        → IsOneHistory scripts runners turns first.now
+        → replay (start_of first.now.book) (log_of first.now.book) ≡ table_of first.now.book }
+    ensures joined { (scripts others : List (List Command)) (r s t u : ℕ)
+        → IsOneHistory scripts r t first.now → IsOneHistory others s u second.now
+        → start_of second.now.book ≡ table_of first.now.book
+        → IsLegal (start_of first.now.book) (log_of first.now.book ++ log_of second.now.book)
+        × (replay (start_of first.now.book) (log_of first.now.book ++ log_of second.now.book)
+        ≡ table_of second.now.book) }
+{
+    let _ = first;
+    let _ = second;
+    ic_jobs::laws::histories_split_and_join();
+}

@@ -1,0 +1,117 @@
+-- What one history says of each client's answers.
+use Rattle.std.proofs.Common.{◌≡◌, ◌∙◌, ℕ, ◌+◌, ◌<◌, List, [], ◌∷◌, ◌++◌, Bool, true, false, Option, None, Some, length, drop, map, zero, suc, refl, sym, ap, subst, arith, append_assoc, inl, inr, if◌then◌else◌}
+use Rattle.std.specs.Prelude.{is_some, nat_lt, slice_get}
+use Rattle.std.specs.Cmp.{unsigned_Decides}
+use Rattle.std.specs.List.{cons_option, find, All, AllByRecursion, AllZip}
+use Rattle.std.specs.Option.{option_or}
+use Rattle.std.specs.Str.{bytes_eq}
+use Rattle.std.proofs.Math.Seq.{get_or-append_seam}
+use Rattle.std.proofs.lemmas.List.{length-append, take-append-drop}
+use Rattle.std.proofs.lemmas.List.Folds.{find-append}
+use Rattle.std.proofs.lemmas.Option.{slice_get_cases}
+use Rattle.std.proofs.lemmas.Slice.Eq.{bytes_eq-Decides}
+use Rattle.ic_disk.specs.declared.disk.Disk.{Ghosts}
+use Rattle.ic_rules.specs.System.{SystemParts}
+use Rattle.ic_jobs.specs.declared.command.Command.{Command}
+use Rattle.ic_jobs.specs.declared.command.Command.TheVariants.{Submit}
+use Rattle.ic_jobs.specs.declared.event.Entry.{Entry}
+use Rattle.ic_jobs.specs.declared.event.Event.{Event}
+use Rattle.ic_jobs.specs.declared.limits.TheConstants.{MAX_JOBS}
+use Rattle.ic_jobs.specs.declared.reply.Reply.{Reply}
+use Rattle.ic_jobs.specs.declared.reply.Reply.TheVariants.{Accepted, Refused}
+use Rattle.ic_jobs.specs.declared.reply.Refusal.TheVariants.{Taken, Full}
+use Rattle.ic_jobs.specs.Events.{after_command, outcome}
+use Rattle.ic_jobs.specs.History.{replay, table_after}
+use Rattle.ic_jobs.specs.Job.{JobParts, begun}
+use Rattle.ic_jobs.specs.Names.{mentions}
+use Rattle.ic_jobs.specs.Table.{is_named, job_named}
+use Rattle.ic_desk.specs.Book.{log_of, kept_of}
+use Rattle.ic_desk.specs.Entries.{is_round, command_entry}
+use Rattle.ic_attend.specs.declared.attended.Attended.{Attended}
+use Rattle.ic_attend.specs.declared.attended.ClientRun.{ClientRun}
+use Rattle.ic_attend.specs.Clients.{asked, KeepsTo}
+use Rattle.ic_attend.specs.OneHistory.{IsOneHistory, kept_log, unkept_log}
+use Rattle.ic_attend.specs.Parts.{AreOfClients, answer_to, commands_in, part}
+use Rattle.ic_attend.proofs.PartLemmas.{answer_to-own, part-append, runs_counted}
+
+-- what holds of all elements holds of the one between two parts
+pub all_at : {X : Type 0} (P : X → Type 0) (front back : List X) (e : X) → All P (front ++ e ∷ back) → P e
+all_at P front back e all =
+    let count : length (front ++ e ∷ back) ≡ length front + length (e ∷ back) = length-append front (e ∷ back) in
+    subst P (get_or-append_seam front e back e) (all (length front) e (omega (arith, count)))
+
+-- what stands at a place of the one list has its partner at that of the other
+pub zip_at : {A B : Type 0} (R : A → B → Type 0) (xs : List A) (ys : List B) (k : ℕ) (x : A) → AllZip R xs ys → slice_get xs k ≡ Some x
+    → (y : B) × (slice_get ys k ≡ Some y) × R x y
+zip_at R [] ys k x all is = absurd (let bad : None ≡ Some x = is in cc)
+zip_at R (z ∷ xs) [] k x all is = absurd all
+zip_at R (z ∷ xs) (y ∷ ys) zero x all is = let same : z ≡ x = cc in (y, refl, subst (λ a. R a y) same all.0)
+zip_at R (z ∷ xs) (y ∷ ys) (suc k) x all is = zip_at R xs ys k x all.1 is
+
+module _ {D : Type 0} {ghosts : Ghosts D} (a : Attended D ghosts) where
+  log_parts : kept_log a ++ unkept_log a ≡ log_of a.book
+  log_parts = take-append-drop (kept_of a.book) (log_of a.book)
+
+  -- where the kept entries are cut, the whole log is
+  pub cut : (front back : List Entry) (e : Entry) → kept_log a ≡ front ++ e ∷ back → log_of a.book ≡ front ++ e ∷ (back ++ unkept_log a)
+  cut front back e split = sym log_parts ∙ ap (λ (l : List Entry). l ++ unkept_log a) split ∙ append_assoc front (e ∷ back) (unkept_log a)
+
+  -- a kept command was answered its client
+  pub kept_answer : (scripts : List (List Command)) (runners turns who : ℕ) (front back : List Entry) (c : Command) (r : Reply)
+      → IsOneHistory scripts runners turns a → kept_log a ≡ front ++ command_entry who c r ∷ back
+      → (run : ClientRun) × (slice_get a.answers.items who ≡ Some run) × (run.answers.items ≡ part who front ++ (c, r) ∷ part who back)
+  kept_answer scripts runners turns who front back c r history split =
+      let e = command_entry who c r in
+      let of : AreOfClients (length scripts) (front ++ e ∷ (back ++ unkept_log a)) = subst (AreOfClients (length scripts)) (cut front back e split) history.clients in
+      let here : is_round e.event ≡ false → e.who < length scripts = all_at (λ (x : Entry). is_round x.event ≡ false → x.who < length scripts) front (back ++ unkept_log a) e of in
+      let small : who < length scripts = here refl in
+      let count : length a.answers.items ≡ length scripts = runs_counted scripts a.answers.items history.scripts_kept in
+      let told : answer_to who e ≡ Some (c, r) = answer_to-own who e c r ((unsigned_Decides who who).1 refl) refl refl in
+      let parted : part who (kept_log a) ≡ part who front ++ (c, r) ∷ part who back =
+      ap (part who) split ∙ part-append who front (e ∷ back) ∙ ap (λ (o : Option (Command × Reply)). part who front ++ cons_option o (part who back)) told in
+      elim (slice_get_cases a.answers.items who).1 [
+        | inl h ↦ (h.0, h.2, history.answers who h.0 h.2 ∙ parted)
+        | inr h ↦ absurd (omega (arith, h.0, small, count))
+      ]
+
+  -- a client's kept commands begin its script
+  pub kept_script : (scripts : List (List Command)) (runners turns who : ℕ) (script : List Command) → IsOneHistory scripts runners turns a → slice_get scripts who ≡ Some script
+      → (run : ClientRun) × (slice_get a.answers.items who ≡ Some run)
+      × ((rest : List Command) × (script ≡ commands_in who (kept_log a) ++ rest))
+      × (run.end ≡ None → commands_in who (kept_log a) ≡ script)
+  kept_script scripts runners turns who script history is =
+      let found = zip_at KeepsTo scripts a.answers.items who script history.scripts_kept is in
+      let run = found.0 in
+      let same : asked run ≡ commands_in who (kept_log a) = ap (map (λ (p : Command × Reply). p.0)) (history.answers who run found.1) in
+      let n = length (asked run) in
+      let whole : script ≡ asked run ++ drop n script = sym (take-append-drop n script) ∙ ap (λ (l : List Command). l ++ drop n script) (sym found.2.first) in (
+        run,
+        found.1,
+        (drop n script, whole ∙ ap (λ (l : List Command). l ++ drop n script) same),
+        λ well. sym same ∙ found.2.finished well,
+      )
+
+-- ---- what a client reads back
+
+-- entries that aren't about a job leave it
+pub stays : ((t : List JobParts) (e : Event) (name : List ℕ) → mentions name e ≡ false → job_named name (table_after t e) ≡ job_named name t)
+    → (t : List JobParts) (name : List ℕ) (es : List Entry) → AllByRecursion (λ (e : Entry). mentions name e.event ≡ false) es
+    → job_named name (replay t es) ≡ job_named name t
+stays others t name [] none = refl
+stays others t name (e ∷ es) none = stays others (table_after t e.event) name es none.1 ∙ others t e.event name none.0
+
+-- an accepted submit leaves its job as it begins
+pub accepted_begins : (t : List JobParts) (name : List ℕ) (system : SystemParts) → (after_command t (Submit name system)).reply ≡ Accepted
+    → job_named name (after_command t (Submit name system)).table ≡ Some (begun name system)
+accepted_begins t name system is = at (job_named name t) (nat_lt (length t) MAX_JOBS) refl is
+  where
+    at : (o : Option JobParts) (room : Bool) → job_named name t ≡ o
+        → (if is_some o then outcome t (Refused Taken) else (if room then outcome (t ++ begun name system ∷ []) Accepted else outcome t (Refused Full))).reply ≡ Accepted
+        → job_named name (if is_some o then outcome t (Refused Taken) else (if room then outcome (t ++ begun name system ∷ []) Accepted else outcome t (Refused Full))).table ≡ Some (begun name system)
+    at (Some j) room none told = absurd (let bad : Refused Taken ≡ Accepted = told in cc)
+    at None false none told = absurd (let bad : Refused Full ≡ Accepted = told in cc)
+    at None true none told =
+        let own : bytes_eq name name ≡ true = (bytes_eq-Decides name name).1 refl in
+        find-append (is_named name) t (begun name system ∷ [])
+        ∙ ap (λ (o : Option JobParts). option_or o (find (is_named name) (begun name system ∷ []))) none
+        ∙ ap (λ (b : Bool). if b then Some (begun name system) else None) own

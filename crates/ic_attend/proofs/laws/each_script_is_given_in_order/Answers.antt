@@ -1,0 +1,8 @@
+use Rattle.ic_attend.proofs.HistoryLemmas.{kept_script}
+use Rattle.ic_attend.proofs.laws.each_script_is_given_in_order.Goals as goal
+
+pub returns-clause-script : goal.returns-clause-script
+returns-clause-script g c = kept_script c.args.attended.now
+
+pub returns-clause-runners : goal.returns-clause-runners
+returns-clause-runners g c = λ scripts runners turns history. history.counted
