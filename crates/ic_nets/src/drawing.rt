@@ -1,0 +1,231 @@
+//! Nets as graphs in Graphviz's DOT.
+
+ghost use Rattle.std.specs.Prelude.{◌≡◌, ◌++◌, IfOk, OnOk, slice_get};
+ghost use Rattle.std.specs.List.{flat_map};
+ghost use Rattle.std.specs.Fmt.{decimal};
+ghost use Rattle.ic_text.specs.Name.{name_text};
+ghost use Rattle.ic_text.specs.Text.{text_or_none};
+ghost use Rattle.ic_nets.specs.Dot.{agent_head, agent_line, agent_lines, dot_of, head_text, is_principal, joint_line, joint_lines};
+ghost use Rattle.ic_nets.specs.Dot.{port_cell, port_cells, port_text, ports_text, style_of, wire_line};
+
+use crate::net::{Agent, Net, Wire};
+use crate::port::Port;
+use ic_term::Symbols;
+use std::alloc::{AllocError, Global};
+
+/// A net as a graph: a vertex for each agent, with its ports in order, and an edge for each wire.
+///
+/// The principal port is at the symbol, where an edge has an arrow head. The places of the interface and free names are
+/// small vertices, and an equation of two names is a point. An agent whose symbol is unknown has no text.
+pub fn dot(alloc: Global, symbols: &Symbols, net: &Net) -> Result<Vec<u8>, AllocError>
+    ensures { IfOk result (λ graph. graph.items ≡ dot_of symbols.now net.now) }
+{
+    let mut out = Vec::new(alloc);
+    put_head(&mut out)?;
+    put_agents(alloc, symbols, &net.agents, &mut out)?;
+    put_joints(alloc, net.joints, &mut out)?;
+    put_wires(alloc, &net.wires, &mut out)?;
+    out.extend_from_slice(b"}\n")?;
+    Ok(out)
+}
+
+/// Appends how a graph begins.
+fn put_head(out: &mut Vec<u8>) -> Result<(), AllocError>
+    ensures { OnOk result (out.new.items ≡ out.old.items ++ head_text) }
+{
+    out.extend_from_slice(
+        b"graph net {\n\
+          node [shape=plaintext, width=0, height=0]\n\
+          edge [arrowsize=0.7]\n",
+    )?;
+    Ok(())
+}
+
+/// Appends the vertices of agents.
+fn put_agents(
+    alloc: Global,
+    symbols: &Symbols,
+    agents: &[Agent],
+    out: &mut Vec<u8>,
+) -> Result<(), AllocError>
+    ensures { OnOk result
+        (out.new.items ≡ out.old.items ++ agent_lines symbols.now 0 agents.now) }
+{
+    let mut number = 0;
+    for agent in agents {
+        put_agent(alloc, symbols, number, agent, out)?;
+        number += 1;
+    }
+    Ok(())
+}
+
+/// The text of a symbol, if it is known.
+fn text_of(symbols: &Symbols, sym: u32) -> &[u8]
+    ensures { result.now ≡ text_or_none (slice_get symbols.now sym) }
+{
+    if (sym as usize) < symbols.len() {
+        symbols.text(sym)
+    } else {
+        b""
+    }
+}
+
+/// Appends the vertex of an agent.
+fn put_agent(
+    alloc: Global,
+    symbols: &Symbols,
+    number: usize,
+    agent: &Agent,
+    out: &mut Vec<u8>,
+) -> Result<(), AllocError>
+    ensures { OnOk result
+        (out.new.items ≡ out.old.items ++ agent_line symbols.now number agent.now) }
+{
+    put_agent_head(alloc, number, out)?;
+    out.extend_from_slice(text_of(symbols, agent.sym))?;
+    put_ports(alloc, agent.arity, out)?;
+    out.extend_from_slice(b"}\"]\n")?;
+    Ok(())
+}
+
+/// Appends what stands before the symbol of an agent.
+fn put_agent_head(alloc: Global, number: usize, out: &mut Vec<u8>) -> Result<(), AllocError>
+    ensures { OnOk result (out.new.items ≡ out.old.items ++ agent_head number) }
+{
+    let head = format!(in alloc; "A{number} [shape=record, label=\"{{<0>")?;
+    out.extend_from_slice(head.as_bytes())?;
+    Ok(())
+}
+
+/// Appends the auxiliary ports of an agent.
+fn put_ports(alloc: Global, arity: usize, out: &mut Vec<u8>) -> Result<(), AllocError>
+    ensures { OnOk result (out.new.items ≡ out.old.items ++ ports_text arity) }
+{
+    put_cells(alloc, arity, out)?;
+    if arity > 0 {
+        out.push(b'}')?;
+    }
+    Ok(())
+}
+
+/// Appends so many ports in order.
+fn put_cells(alloc: Global, arity: usize, out: &mut Vec<u8>) -> Result<(), AllocError>
+    ensures { OnOk result (out.new.items ≡ out.old.items ++ port_cells arity) }
+{
+    for i in 0..arity {
+        put_cell(alloc, i + 1, out)?;
+    }
+    Ok(())
+}
+
+/// Appends the auxiliary port with this number.
+fn put_cell(alloc: Global, port: usize, out: &mut Vec<u8>) -> Result<(), AllocError>
+    ensures { OnOk result (out.new.items ≡ out.old.items ++ port_cell port) }
+{
+    let cell = if port == 1 {
+        format!(in alloc; "|{{<{port}>")?
+    } else {
+        format!(in alloc; "|<{port}>")?
+    };
+    out.extend_from_slice(cell.as_bytes())?;
+    Ok(())
+}
+
+/// Appends the points of so many equations of two names.
+fn put_joints(alloc: Global, joints: usize, out: &mut Vec<u8>) -> Result<(), AllocError>
+    ensures { OnOk result (out.new.items ≡ out.old.items ++ joint_lines joints) }
+{
+    for joint in 0..joints {
+        put_joint(alloc, joint, out)?;
+    }
+    Ok(())
+}
+
+/// Appends the point of an equation of two names.
+fn put_joint(alloc: Global, joint: usize, out: &mut Vec<u8>) -> Result<(), AllocError>
+    ensures { OnOk result (out.new.items ≡ out.old.items ++ joint_line joint) }
+{
+    let line = format!(in alloc; "J{joint} [shape=point]\n")?;
+    out.extend_from_slice(line.as_bytes())?;
+    Ok(())
+}
+
+/// Appends the edges of wires.
+fn put_wires(alloc: Global, wires: &[Wire], out: &mut Vec<u8>) -> Result<(), AllocError>
+    ensures { OnOk result (out.new.items ≡ out.old.items ++ flat_map wire_line wires.now) }
+{
+    for wire in wires {
+        put_wire(alloc, wire, out)?;
+    }
+    Ok(())
+}
+
+/// Appends the edge of a wire.
+fn put_wire(alloc: Global, wire: &Wire, out: &mut Vec<u8>) -> Result<(), AllocError>
+    ensures { OnOk result (out.new.items ≡ out.old.items ++ wire_line wire.now) }
+{
+    put_port(alloc, wire.from, out)?;
+    out.extend_from_slice(b" -- ")?;
+    put_port(alloc, wire.to, out)?;
+    out.extend_from_slice(style_of(wire))?;
+    out.push(b'\n')?;
+    Ok(())
+}
+
+/// How the edge of a wire is drawn: with an arrow head at each principal port, and thick at an active pair.
+fn style_of(wire: &Wire) -> &'static [u8]
+    ensures { result.now ≡ style_of wire.now }
+{
+    match (wire.active, is_principal(wire.from), is_principal(wire.to)) {
+        (true, _, _) => b" [dir=both, penwidth=3]",
+        (false, true, true) => b" [dir=both]",
+        (false, true, false) => b" [dir=back]",
+        (false, false, true) => b" [dir=forward]",
+        (false, false, false) => b"",
+    }
+}
+
+fn is_principal(port: Port) -> bool
+    ensures { result ≡ is_principal port }
+{
+    match port {
+        Port::Principal(_) => true,
+        _ => false,
+    }
+}
+
+/// Appends a port, as an edge names it.
+fn put_port(alloc: Global, port: Port, out: &mut Vec<u8>) -> Result<(), AllocError>
+    ensures { OnOk result (out.new.items ≡ out.old.items ++ port_text port) }
+{
+    let text = match port {
+        Port::Interface(place) => format!(in alloc; "I{place}")?,
+        Port::Principal(agent) => format!(in alloc; "A{agent}:0")?,
+        Port::Auxiliary(agent, port) => format!(in alloc; "A{agent}:{port}")?,
+        Port::Left(joint) => format!(in alloc; "J{joint}")?,
+        Port::Right(joint) => format!(in alloc; "J{joint}")?,
+        Port::Free(name) => return put_name(alloc, name, out),
+    };
+    out.extend_from_slice(text.as_bytes())?;
+    Ok(())
+}
+
+/// Appends the text of a name.
+fn put_name(alloc: Global, name: u64, out: &mut Vec<u8>) -> Result<(), AllocError>
+    ensures { OnOk result (out.new.items ≡ out.old.items ++ name_text name) }
+{
+    out.push(b'a' + (name % 26) as u8)?;
+    if name >= 26 {
+        put_decimal(alloc, name / 26, out)?;
+    }
+    Ok(())
+}
+
+/// Appends a number in digits.
+fn put_decimal(alloc: Global, number: u64, out: &mut Vec<u8>) -> Result<(), AllocError>
+    ensures { OnOk result (out.new.items ≡ out.old.items ++ decimal number) }
+{
+    let digits = number.to_string(alloc)?;
+    out.extend_from_slice(digits.as_bytes())?;
+    Ok(())
+}
