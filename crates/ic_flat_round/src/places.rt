@@ -1,0 +1,61 @@
+//! Where equations and their sides stand among words.
+
+ghost use Rattle.std.specs.Prelude.{◌≡◌, ◌∷◌, ◌<◌, ◌≤◌, length, drop, sum_by};
+ghost use Rattle.ic_term.specs.Tree.{nodes};
+ghost use Rattle.ic_flat.specs.Words.{forest, IsWhole};
+ghost use Rattle.ic_flat.specs.Flat.{configuration_words, sides};
+ghost use Rattle.ic_flat_round.specs.inner.Standing.{pair_at, pairs_at, AreSides, AreInTwos};
+
+use ic_flat::{Flat, Word, end_of_term};
+
+/// Where the sides of an equation begin, and the place behind the right one.
+#[derive(Clone, Copy, Debug)]
+pub(crate) struct Sides {
+    pub left: usize,
+    pub right: usize,
+    pub end: usize,
+}
+
+/// The place behind the interface, where the equations begin.
+pub(crate) fn equations_place(flat: &Flat) -> usize
+    ensures within { result ≤ length (configuration_words flat.now) }
+    ensures equations { forest (drop result (configuration_words flat.now))
+        ≡ sides flat.now.equations }
+    ensures nodes { result ≡ sum_by nodes flat.now.interface }
+{
+    end_of_terms(flat.words(), flat.interface_len())
+}
+
+/// The place behind so many terms.
+fn end_of_terms(words: &[Word], count: usize) -> usize
+    requires whole { IsWhole words.now }
+    requires there { count ≤ length (forest words.now) }
+    ensures within { result ≤ length words.now }
+    ensures rest { forest (drop result words.now) ≡ drop count (forest words.now) }
+{
+    let mut end = 0;
+    for _ in 0..count {
+        end = end_of_term(words, end);
+    }
+    end
+}
+
+/// Where the sides of the equation stand that begins at a place.
+pub(crate) fn sides_at(words: &[Word], place: usize) -> Sides
+    requires whole { IsWhole words.now }
+    requires there { place < length words.now }
+    requires twos { AreInTwos words.now place }
+    ensures begins { result.left ≡ place }
+    ensures sides { AreSides words.now result }
+    ensures equations { pairs_at words.now place
+        ≡ pair_at words.now result ∷ pairs_at words.now result.end }
+    ensures twos { AreInTwos words.now result.end }
+{
+    let right = end_of_term(words, place);
+    let end = end_of_term(words, right);
+    Sides {
+        left: place,
+        right,
+        end,
+    }
+}
