@@ -32,6 +32,14 @@ fn with_bytes(alloc: Global, disk: &MemDisk, at: usize, digits: &str) -> Result<
     Ok(MemDisk::from_bytes(bytes))
 }
 
+/// The disk with these bytes, in hexadecimal digits, in its two slots, and zeros between them.
+pub fn with_slots(alloc: Global, first: &str, second: &str) -> Result<MemDisk, Trouble> {
+    let mut bytes = bytes_of(alloc, first.as_bytes())?;
+    bytes.resize(SECOND_SLOT, 0)?;
+    bytes.append(&mut bytes_of(alloc, second.as_bytes())?)?;
+    Ok(MemDisk::from_bytes(bytes))
+}
+
 /// What a crash leaves of it: by these words, or by this choice where there are none.
 fn crashed(disk: MemDisk, words: &str, choice: Choice) -> Result<MemDisk, Trouble> {
     if words.is_empty() {

@@ -1,7 +1,7 @@
 //! A book on a disk in memory, driven word by word.
 
 use crate::faults::{book_fault, create_fault, open_cause};
-use crate::medium::{changed, opening_calls, slot};
+use crate::medium::{changed, opening_calls, slot, with_slots};
 use crate::plain::round_of;
 use ic_commands::{Line, print_reply, read_command};
 use ic_desk::{Book, BookFault};
@@ -51,14 +51,15 @@ impl Session {
         }
     }
 
-    /// What a word is answered. On the disk: `create`, `cut LENGTH`, `put PLACE BYTES`, `slot 0` (its gate, number and length),
-    /// `crash CHOICE`; `fuse K before|after stop|on`, where the call K after the next opening fails, and `opening K ..`,
+    /// What a word is answered. On the disk: `create`, `slots BYTES BYTES` (a disk with these two), `cut LENGTH`,
+    /// `put PLACE BYTES`, `slot 0` (its gate, number and length), `crash CHOICE`; `fuse K before|after stop|on`, where the call K after the next opening fails, and `opening K ..`,
     /// where its call K does; `open`, `close`. On the book: a command line, `run K`, `by WHO LINE`, `times K LINE`, `due K`,
     /// `land K` and `halt K` for the K-th flight, `keep`, `page`; and what it tells: `log`, `entry K`, `table`, `start`.
     pub fn answer(&mut self, word: &str) -> Result<Vec<u8>, Trouble> {
         let (verb, rest) = word.split_once(' ').unwrap_or((word, ""));
         match verb {
             "create" => self.create(),
+            "slots" => self.put_slots(rest),
             "cut" | "put" | "crash" => self.change(verb, rest),
             "slot" => self.slot(rest),
             "fuse" | "opening" => self.lay_fuse(verb, rest),
@@ -103,6 +104,12 @@ impl Session {
             return Err(Trouble("no disk"));
         };
         self.disk = Some(changed(self.alloc, disk, verb, rest, self.choice)?);
+        self.said("ok")
+    }
+
+    fn put_slots(&mut self, rest: &str) -> Result<Vec<u8>, Trouble> {
+        let (first, second) = rest.split_once(' ').unwrap_or((rest, ""));
+        self.disk = Some(with_slots(self.alloc, first, second)?);
         self.said("ok")
     }
 
