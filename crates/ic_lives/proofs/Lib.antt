@@ -4,3 +4,4 @@ pub mod JobLemmas
 pub mod ServedLemmas
 pub mod AmongLemmas
 pub mod MemLemmas
+pub mod WordLemmas

@@ -1,5 +1,5 @@
 -- What a server has after calls over its book, ended or stopped in their midst.
-use Rattle.std.proofs.Common.{◌≡◌, ◌⊎◌, inl, inr, Bool, true, false, Option, Result, ℕ, ◌≤◌, List, [], ◌∷◌, ◌++◌, refl, sym, ap, subst}
+use Rattle.std.proofs.Common.{◌≡◌, ◌⊎◌, inl, inr, Bool, true, false, Option, Result, ℕ, ◌≤◌, List, [], ◌∷◌, ◌++◌, refl, sym, ap, subst, append_assoc}
 use Rattle.std.specs.List.{AllByRecursion}
 use Rattle.std.specs.Prelude.{IsTrue}
 use Rattle.ic_disk.specs.declared.disk.Disk.{Ghosts}
@@ -20,8 +20,10 @@ use Rattle.ic_desk.specs.Server.{Server, down, up, Does, Opens, Refuses, IsFound
 use Rattle.ic_serving.specs.declared.fault.ServeFault.{ServeFault}
 use Rattle.ic_serving.specs.Booked.{IsAllKept, last_kept}
 use Rattle.ic_serving.specs.Serving.{IsServing}
+use Rattle.ic_serving.specs.InTurn.{AreAnsweredInTurn, AreServedInTurn, calls_for, moves_in_turn}
 use Rattle.ic_serving.specs.Stopped.{MayStand}
-use Rattle.ic_desk.specs.ByCalls.{Calls, IsByCalls, IsOnMadeDisk, IsNoFailure}
+use Rattle.ic_desk.specs.lemmas.Chains.{by_calls_then}
+use Rattle.ic_desk.specs.ByCalls.{Calls, FailsOnce, IsByCalls, IsOnMadeDisk, IsNoFailure}
 use Rattle.ic_lives.specs.Headline.{IsTableAfter}
 use Rattle.ic_lives.specs.Histories.{IsHistoryOf}
 use Rattle.ic_lives.specs.Served.{IsCutShort}
@@ -61,6 +63,26 @@ module _ {D : Type 0} {ghosts : Ghosts D} where
     runs = runs_join done.moves moves (down run.disk) (up old) (up new) run.runs (calls_run done.moves old new done.calls);
   }
 
+  -- lines that were answered in turn, and what is done behind some of them
+  pub reaches_turns : (moves : List Move) (ls : List (List ℕ)) (first last : Book D ghosts) (turns : AreAnsweredInTurn ls first last) → Reaches moves (up first)
+      → Reaches (moves_in_turn ls first last turns ++ moves) (up last)
+  reaches_turns moves [] first last turns run = subst (λ (b : Book D ghosts). Reaches moves (up b)) (sym turns) run
+  reaches_turns moves (line ∷ ls) first last turns run =
+      let done = calls_for turns.2.reading turns.1 first turns.0 turns.2.done in
+      subst (λ (ms : List Move). Reaches ms (up last)) (sym (append_assoc (moves_in_turn ls turns.0 last turns.3) done.moves moves))
+      (reaches_turns (done.moves ++ moves) ls turns.0 last turns.3 (reaches_more moves first turns.0 done run))
+
+  turns_split : (front more : List (List ℕ)) (first last : Book D ghosts) → AreAnsweredInTurn (front ++ more) first last
+      → (mid : Book D ghosts) × AreAnsweredInTurn front first mid × AreAnsweredInTurn more mid last
+  turns_split [] more first last turns = (first, refl, turns)
+  turns_split (line ∷ front) more first last turns =
+      let rest = turns_split front more turns.0 last turns.3 in (rest.0, (turns.0, turns.1, turns.2, rest.1), rest.2)
+
+  turns_calls : (ls : List (List ℕ)) (mid last new : Book D ghosts) → AreAnsweredInTurn ls mid last → IsByCalls last new → IsByCalls mid new
+  turns_calls [] mid last new turns done = subst (λ (b : Book D ghosts). IsByCalls b new) turns done
+  turns_calls (line ∷ ls) mid last new turns done =
+      by_calls_then mid turns.0 new (calls_for turns.2.reading turns.1 mid turns.0 turns.2.done) (turns_calls ls turns.0 last new turns.3 done)
+
   -- a stop in the midst of one
   stop_step : (move : Move) (before after : Book D ghosts) (found : D) → Does move before after → IsFound ghosts (disk_of before) (disk_of after) found
       → Step (stops move) (up before) (down found)
@@ -73,6 +95,19 @@ module _ {D : Type 0} {ghosts : Ghosts D} where
   stop_step stays before after found is here = (up after, is, here)
   stop_step closes before after found is here = (up after, is, here)
   stop_step (stops move) before after found is here = absurd is.page
+
+  pub step_stop : (move : Move) (before after : Book D ghosts) (found : D) → Step move (up before) (up after) → IsFound ghosts (disk_of before) (disk_of after) found
+      → Step (stops move) (up before) (down found)
+  step_stop opens before after found is here = (up after, is, here)
+  step_stop (refuses cause) before after found is here = (up after, is, here)
+  step_stop (answers who command reply) before after found is here = (up after, is, here)
+  step_stop (fails who command reply) before after found is here = (up after, is, here)
+  step_stop (rounds name reply) before after found is here = (up after, is, here)
+  step_stop keeps before after found is here = (up after, is, here)
+  step_stop stays before after found is here = (up after, is, here)
+  step_stop closes before after found is here = (up after, is, here)
+  step_stop (stops (stops move)) before after found is here = absurd is
+  step_stop (stops move) before after found is here = absurd is.page
 
   -- one more step
   pub reaches_step : (move : Move) (moves : List Move) (before after : Server ghosts) → Reaches moves before → Step move before after → Reaches (move ∷ moves) after
@@ -136,6 +171,19 @@ module _ {D : Type 0} {ghosts : Ghosts D} where
         let same : held.0 ≡ replay [] told.0 = ap table_in (one file (the_table held.0) (the_table (replay [] told.0)) held.2.held told.2.held) in
         (held.0, held.2, held.1, told.0, told.1, same))
 
+    -- behind any number of answered lines
+    pub turns_stopped : {T : Type 0} (result : Result T ServeFault) (moves : List Move) (ls : List (List ℕ)) (old new : Book D ghosts) (found : D)
+        (served : AreServedInTurn result ls old new) (front more : List (List ℕ)) → served.front ≡ front ++ more → Reaches moves (up old)
+        → (mid : Book D ghosts) × (turns : AreAnsweredInTurn front old mid) × (later : IsByCalls mid new)
+        × Reaches (moves_in_turn front old mid turns ++ moves) (up mid)
+        × (IsFound ghosts (disk_of mid) (disk_of new) found → (cut : List Move) × IsCutShort later.moves cut
+        × Reaches {ghosts = ghosts} (cut ++ (moves_in_turn front old mid turns ++ moves)) (down found))
+    turns_stopped result moves ls old new found served front more parted run =
+        let split = turns_split front more old served.between (subst (λ (xs : List (List ℕ)). AreAnsweredInTurn xs old served.between) parted served.answered) in
+        let later = turns_calls more split.0 served.between new split.2 served.behind in
+        let there = reaches_turns moves front old split.0 split.1 run in
+        (split.0, split.1, later, there, λ here. stopped_so (moves_in_turn front old split.0 split.1 ++ moves) split.0 new later found there here)
+
     -- ---- one serving after the other
 
     -- a serving goes on from what was reached
@@ -170,3 +218,23 @@ pub broken_by : {D : Type 0} {ghosts : Ghosts D} (old new : Book D ghosts) (done
     → done.moves ≡ later ++ fails who command reply ∷ earlier → is_broken new ≡ true
 broken_by old new done later earlier who command reply same =
     not_false (is_broken new) (λ whole. failed_among later earlier who command reply (subst (λ (ms : List Move). AllByRecursion IsNoFailure ms) same (done.answered whole)))
+
+-- two failures are among the moves
+once_among : (later between earlier : List Move) (who other : ℕ) (command second : Command) (reply answer : Reply)
+    → ¬ FailsOnce (later ++ fails who command reply ∷ (between ++ fails other second answer ∷ earlier))
+once_among [] between earlier who other command second reply answer is = failed_among between earlier other second answer is
+once_among (opens ∷ later) between earlier who other command second reply answer is = once_among later between earlier who other command second reply answer is
+once_among (refuses cause ∷ later) between earlier who other command second reply answer is = once_among later between earlier who other command second reply answer is
+once_among (answers w c r ∷ later) between earlier who other command second reply answer is = once_among later between earlier who other command second reply answer is
+once_among (fails w c r ∷ later) between earlier who other command second reply answer is =
+    failed_among later (between ++ fails other second answer ∷ earlier) who command reply is
+once_among (rounds name r ∷ later) between earlier who other command second reply answer is = once_among later between earlier who other command second reply answer is
+once_among (keeps ∷ later) between earlier who other command second reply answer is = once_among later between earlier who other command second reply answer is
+once_among (stays ∷ later) between earlier who other command second reply answer is = once_among later between earlier who other command second reply answer is
+once_among (closes ∷ later) between earlier who other command second reply answer is = once_among later between earlier who other command second reply answer is
+once_among (stops m ∷ later) between earlier who other command second reply answer is = once_among later between earlier who other command second reply answer is
+
+pub once_by : {D : Type 0} {ghosts : Ghosts D} (old new : Book D ghosts) (done : IsByCalls old new) (later between earlier : List Move) (who other : ℕ) (command second : Command) (reply answer : Reply)
+    → ¬ (done.moves ≡ later ++ fails who command reply ∷ (between ++ fails other second answer ∷ earlier))
+once_by old new done later between earlier who other command second reply answer same =
+    once_among later between earlier who other command second reply answer (subst (λ (ms : List Move). FailsOnce ms) same done.once)

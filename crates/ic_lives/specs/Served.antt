@@ -1,5 +1,7 @@
 -- What a stop makes of moves that were under way.
 use Rattle.std.specs.Prelude.{◌≡◌, List, ◌∷◌, ◌++◌}
+use Rattle.ic_disk.specs.declared.disk.Disk.{Ghosts}
+use Rattle.ic_desk.specs.declared.book.Book.{Book}
 use Rattle.ic_desk.specs.Moves.{Move, stops}
 
 -- Of these moves the earlier ones were made, and the next was stopped in its midst.
@@ -9,3 +11,7 @@ pub record IsCutShort (moves cut : List Move) : Type 0 where
   pub later : List Move
   pub parted : moves ≡ later ++ move ∷ earlier
   pub stopped : cut ≡ stops move ∷ earlier
+
+-- a book over such a disk
+abbrev pub BookOver : {D : Type 0} → Ghosts D → Type 0
+BookOver {D} ghosts = Book D ghosts

@@ -1,8 +1,10 @@
 //! Laws over the lives of a server: what its open book and its disk have after any list of moves,
 //! stopped at any moment. No program calls them; they say what the calls of a book come to.
-//! `served` says it of a server that serves lines, and `reached` that there are such runs.
+//! `served` says it of a server that serves lines, `reached` that there are such runs, and `words` what
+//! their words come to.
 #![tactic(auto)]
 
 pub mod laws;
 pub mod reached;
 pub mod served;
+pub mod words;

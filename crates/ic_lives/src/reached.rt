@@ -1,10 +1,11 @@
 //! That the premises of the laws are met: a run that is reached, and stops that are found.
 
-ghost use Rattle.std.specs.Prelude.{[], ◌∷◌, ℕ, List, IfSome};
+ghost use Rattle.std.specs.Prelude.{◌≤◌, [], ◌∷◌, ℕ, List, IfSome};
 ghost use Rattle.ic_disk.specs.History.{IsLeftSince, clock_of, fresh};
 ghost use Rattle.ic_jobs.specs.declared.reply.Reply.{Reply};
-ghost use Rattle.ic_desk.specs.Moves.{opens, answers, stays, stops};
-ghost use Rattle.ic_desk.specs.Server.{IsFound, Reaches, up};
+ghost use Rattle.ic_desk.specs.Book.{disk_of};
+ghost use Rattle.ic_desk.specs.Moves.{Move, opens, answers, stays, stops};
+ghost use Rattle.ic_desk.specs.Server.{IsFound, Opens, Reaches, Step, down, up};
 
 use ic_desk::Book;
 use ic_disk::{Choice, Disk, MemDisk};
@@ -19,6 +20,31 @@ pub fn each_file_left_is_found(before: &MemDisk, after: &MemDisk)
 {
     let _ = before;
     let _ = after;
+}
+
+/// Where the process alone was killed, the disk is found as it stands, with all its images.
+pub fn a_disk_in_use_is_found(before: &MemDisk, after: &MemDisk)
+    ensures { clock_of before.now ≤ clock_of after.now
+        → IsFound ⟦<MemDisk as Disk>⟧ before.now after.now after.now }
+{
+    let _ = before;
+    let _ = after;
+}
+
+/// Whatever an open book is called for, a stop in its midst is a step of the server, and so is one in
+/// the midst of an opening.
+pub fn a_call_may_be_stopped<D: Disk>(disk: &D, before: &Book<D>, after: &Book<D>, found: &D)
+    ensures of_book { (move : Move) → Step move (up before.now) (up after.now)
+        → IsFound D.Disk (disk_of before.now) (disk_of after.now) found.now
+        → Step (stops move) (up before.now) (down found.now) }
+    ensures of_opening { Opens disk.now after.now
+        → IsFound D.Disk disk.now (disk_of after.now) found.now
+        → Step {ghosts = D.Disk} (stops opens) (down disk.now) (down found.now) }
+{
+    let _ = disk;
+    let _ = before;
+    let _ = after;
+    let _ = found;
 }
 
 /// A run over a disk in memory. The empty table is put there, and a book is opened. A command is

@@ -1,6 +1,6 @@
 //! What a server has after lines were served over its book.
 
-ghost use Rattle.std.specs.Prelude.{◌≡◌, ◌⊎◌, [], ◌∷◌, ◌++◌, ℕ, List, Option, Result, true, IsTrue, OnOk};
+ghost use Rattle.std.specs.Prelude.{◌≡◌, ◌⊎◌, [], ◌∷◌, ◌++◌, ℕ, List, Ok, Option, Result, true, IsTrue, OnOk};
 ghost use Rattle.ic_disk.specs.Images.{Within};
 ghost use Rattle.ic_jobs.specs.declared.command.Command.{Command};
 ghost use Rattle.ic_jobs.specs.declared.event.Entry.{Entry};
@@ -10,18 +10,23 @@ ghost use Rattle.ic_jobs.specs.History.{replay};
 ghost use Rattle.ic_frames.specs.declared.faults.OpenCause.{OpenCause};
 ghost use Rattle.ic_frames.specs.declared.faults.OpenCause.TheVariants.{Device, Memory};
 ghost use Rattle.ic_slots.specs.Held.{HoldsTable};
+ghost use Rattle.ic_commands.specs.ReplyText.{reply_text};
+ghost use Rattle.ic_commands.specs.declared.line.Line.TheVariants.{Command as Asks, Run};
+ghost use Rattle.ic_lines.specs.Lines.{ended};
 ghost use Rattle.ic_desk.specs.Book.{disk_of, is_broken, table_of};
-ghost use Rattle.ic_desk.specs.Moves.{Move, fails, opens, refuses};
+ghost use Rattle.ic_desk.specs.Moves.{Move, answers, fails, keeps, opens, refuses};
 ghost use Rattle.ic_desk.specs.Server.{IsFound, Opens, Reaches, Refuses, down, up};
 ghost use Rattle.ic_serving.specs.declared.fault.ServeFault.{ServeFault};
 ghost use Rattle.ic_serving.specs.Booked.{IsAllKept, last_kept};
 ghost use Rattle.ic_desk.specs.ByCalls.{IsByCalls};
+ghost use Rattle.ic_serving.specs.Answered.{IsDoneFor};
+ghost use Rattle.ic_serving.specs.InTurn.{AreAnsweredInTurn, calls_for, moves_in_turn};
 ghost use Rattle.ic_serving.specs.Served.{AreAnswered};
 ghost use Rattle.ic_serving.specs.Serving.{IsServing};
 ghost use Rattle.ic_serving.specs.Stopped.{MayStand};
 ghost use Rattle.ic_lives.specs.Headline.{IsTableAfter};
 ghost use Rattle.ic_lives.specs.Histories.{IsHistoryOf};
-ghost use Rattle.ic_lives.specs.Served.{IsCutShort};
+ghost use Rattle.ic_lives.specs.Served.{BookOver, IsCutShort};
 ghost use Rattle.ic_lives.specs.Servings.{AreMovesOf, AreServings, Serving};
 
 use ic_desk::Book;
@@ -50,6 +55,12 @@ pub fn the_served_headline<D: Disk>(old: &Book<D>, new: &Book<D>, found: &D)
     ensures broken { (done : IsByCalls old.now new.now) (later earlier : List Move)
         (who : ℕ) (command : Command) (reply : Reply)
         → done.moves ≡ later ++ fails who command reply ∷ earlier → is_broken new.now ≡ true }
+
+    // And there is one such command at most: all others were answered.
+    ensures once { (done : IsByCalls old.now new.now) (later between earlier : List Move)
+        (who other : ℕ) (command second : Command) (reply answer : Reply)
+        → ¬ (done.moves ≡ later ++ fails who command reply
+        ∷ (between ++ fails other second answer ∷ earlier)) }
 {
     let _ = old;
     let _ = new;
@@ -131,4 +142,43 @@ pub fn lines_are_moves<D: Disk>(old: &Book<D>, new: &Book<D>, found: &D)
     ic_jobs::laws::histories_split_and_join();
     ic_jobs::laws::life_law();
     ic_slots::laws::one_is_held();
+}
+
+/// What a serving has answered stays. Behind any number of the lines that it answered the book is
+/// reached by their moves, each an answer with the reply that was written, or a keep behind a run. A
+/// stop that comes later is one in the midst of a later call: the moves of these lines are all there.
+pub fn answered_lines_stay<D: Disk>(old: &Book<D>, new: &Book<D>, found: &D)
+    ensures { (moves : List Move) (result : Result (Unit {0}) ServeFault)
+        (ls : List (List ℕ)) (before behind : Option (List ℕ))
+        (serving : IsServing result ls old.now new.now before behind)
+        (front more : List (List ℕ)) → serving.turns.front ≡ front ++ more
+        → Reaches moves (up old.now)
+        → (mid : BookOver D.Disk) × (turns : AreAnsweredInTurn front old.now mid)
+        × (later : IsByCalls mid new.now)
+        × Reaches (moves_in_turn front old.now mid turns ++ moves) (up mid)
+        × (IsFound D.Disk (disk_of mid) (disk_of new.now) found.now
+        → (cut : List Move) × IsCutShort later.moves cut × Reaches {ghosts = D.Disk}
+        (cut ++ (moves_in_turn front old.now mid turns ++ moves)) (down found.now)) }
+{
+    let _ = old;
+    let _ = new;
+    let _ = found;
+    ic_jobs::laws::histories_split_and_join();
+    ic_slots::laws::one_is_held();
+}
+
+/// What is done for a line that is answered: at a command the last of its moves answers it, with the
+/// reply that the bytes are; at a run the last one keeps all.
+pub fn answered_lines_are_moves<D: Disk>(old: &Book<D>, new: &Book<D>)
+    ensures command { (command : Command) (bytes : List ℕ)
+        (done : IsDoneFor (Ok (Asks command)) bytes old.now new.now)
+        → (reply : Reply) × (bytes ≡ ended (reply_text reply)) × (earlier : List Move)
+        × ((calls_for (Ok (Asks command)) bytes old.now new.now done).moves
+        ≡ answers 0 command reply ∷ earlier) }
+    ensures run { (count : ℕ) (bytes : List ℕ)
+        (done : IsDoneFor (Ok (Run count)) bytes old.now new.now) → (earlier : List Move)
+        × ((calls_for (Ok (Run count)) bytes old.now new.now done).moves ≡ keeps ∷ earlier) }
+{
+    let _ = old;
+    let _ = new;
 }

@@ -4,4 +4,5 @@ pub mod PageLemmas
 pub mod LineLemmas
 pub mod WriteLemmas
 pub mod ServeLemmas
+pub mod TurnLemmas
 pub mod StopLemmas

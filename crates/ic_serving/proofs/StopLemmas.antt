@@ -39,6 +39,7 @@ use Rattle.ic_serving.specs.declared.fault.ServeFault.TheVariants.{Write, Memory
 use Rattle.ic_serving.specs.Faults.{ComesInLine, MayCome, CountsServe}
 use Rattle.ic_serving.specs.Served.{OfLines, MayBeServed, SaysOf, IsEnded, IsCut}
 use Rattle.ic_serving.specs.Serving.{IsServing}
+use Rattle.ic_serving.specs.InTurn.{AreAnsweredInTurn}
 use Rattle.ic_lines.specs.Serving.{IsServed}
 use Rattle.ic_serving.specs.inner.Progress.{AreFirst, AreToCome, IsUnderWay}
 use Rattle.ic_desk.specs.lemmas.Chains.{by_calls_then}
@@ -223,6 +224,7 @@ module _ {D : Type 0} {ghosts : Ghosts D} where
     pub counted : ghosts.failures (disk_of book) ≡ ghosts.failures (disk_of first)
     pub ready : is_broken first ≡ false → is_broken book ≡ false
     pub last : IsAllKept book ⊎ (last_kept book ≡ last_kept first)
+    pub turns : AreAnsweredInTurn way.front first book
     pub moments : LeavesServed first book way.front
 
   pub stops_first : SomeWay → (book : Book D ghosts)
@@ -284,26 +286,27 @@ module _ {D : Type 0} {ghosts : Ghosts D} where
 
   -- all lines are answered
   pub serving_over : {T : Type 0} (v : T) → SomeWay → (text rest : Option (List ℕ)) (n : ℕ) (first book : Book D ghosts) (old mid new : Option (List ℕ))
-      → Serves text rest n first book old mid → HasNoLine rest → Keeps mid new → OfLines text (λ ls. IsServing {T = T} (Ok v) ls first book old new)
-  serving_over {T} v law text rest n first book old mid new s none kept =
+      → Serves text rest n first book old mid → HasNoLine rest → Keeps mid new → IsByCalls book book → OfLines text (λ ls. IsServing {T = T} (Ok v) ls first book old new)
+  serving_over {T} v law text rest n first book old mid new s none kept idle =
       of_lines text rest s.way.front [] (λ ls. IsServing {T = T} (Ok v) ls first book old new) s.way.first (none_ahead rest none) (record {
         served = over s.way.front (table_of first) (table_of book) old mid new s.way.answered kept;
         kept = s.kept;
         ended = tt;
         cut = λ is. cc;
         kept_at_cut = λ is. cc;
+        turns = record { front = s.way.front; rest = []; parted = refl; all = refl; between = book; answered = s.turns; behind = idle };
         crash = stops_longer law first book s.way.front [] s.moments;
       })
 
   -- a fault came behind these lines, and before those that are to come
   pub serving_err : {T : Type 0} (r : Result T ServeFault) (fault : ServeFault) → IsErrAnd r (λ x. x ≡ fault)
-      → (text rest : Option (List ℕ)) (front more : List (List ℕ)) (first new : Book D ghosts) (old now : Option (List ℕ))
+      → (text rest : Option (List ℕ)) (front more : List (List ℕ)) (first book new : Book D ghosts) (old now : Option (List ℕ))
       → AreFirst text front rest → AreToCome rest more
       → (fault ≢ Write → IsEnded fault (IsAllKept first) (front ++ more) (table_of first) (table_of new) (last_kept new) old now)
       → (fault ≡ Write → IsCut (front ++ more) (table_of first) (table_of new) old now) → (fault ≡ Write → IsAllKept first → IsAllKept new)
-      → LeavesServed first new (front ++ more) → OfLines text (λ ls. IsServing r ls first new old now)
-  serving_err (Ok v) fault is text rest front more first new old now begins coming ended cut kept run = absurd is
-  serving_err {T} (Err e) fault is text rest front more first new old now begins coming ended cut kept run =
+      → LeavesServed first new (front ++ more) → AreAnsweredInTurn front first book → IsByCalls book new → OfLines text (λ ls. IsServing r ls first new old now)
+  serving_err (Ok v) fault is text rest front more first book new old now begins coming ended cut kept run turns behind = absurd is
+  serving_err {T} (Err e) fault is text rest front more first book new old now begins coming ended cut kept run turns behind =
       let same : e ≡ fault = is in
       of_lines text rest front more (λ ls. IsServing {T = T} (Err e) ls first new old now) begins coming (record {
         served = tt;
@@ -311,21 +314,22 @@ module _ {D : Type 0} {ghosts : Ghosts D} where
         ended = λ other. subst (λ f. IsEnded f (IsAllKept first) (front ++ more) (table_of first) (table_of new) (last_kept new) old now) (sym same) (ended (λ write. other (same ∙ write)));
         cut = λ write. cut (let w : e ≡ Write = cc in sym same ∙ w);
         kept_at_cut = λ write. kept (let w : e ≡ Write = cc in sym same ∙ w);
+        turns = record { front = front; rest = more; parted = refl; all = tt; between = book; answered = turns; behind = behind };
         crash = run;
       })
 
   -- where no line is taken
   pub serving_untaken : {T : Type 0} (r : Result T ServeFault) (fault : ServeFault) → IsErrAnd r (λ x. x ≡ fault) → SomeWay
       → (text rest : Option (List ℕ)) (n : ℕ) (first book : Book D ghosts) (old mid new : Option (List ℕ)) (more : List (List ℕ))
-      → (s : Serves text rest n first book old mid) → Keeps mid new → AreToCome rest more → SaysOf fault s.way.front more → (IsAllKept book → last_kept book ≡ table_of book)
+      → (s : Serves text rest n first book old mid) → Keeps mid new → AreToCome rest more → SaysOf fault s.way.front more → (IsAllKept book → last_kept book ≡ table_of book) → IsByCalls book book
       → OfLines text (λ ls. IsServing r ls first book old new)
-  serving_untaken r fault is law text rest n first book old mid new more s kept coming says whole =
-      serving_err r fault is text rest s.way.front more first book old new s.way.first coming
+  serving_untaken r fault is law text rest n first book old mid new more s kept coming says whole idle =
+      serving_err r fault is text rest s.way.front more first book book old new s.way.first coming
       (λ other. ended_at fault (IsAllKept first) s.way.front more (table_of first) (table_of book) (table_of book) (last_kept book) old mid new s.way.answered kept says
       (left_first law fault (table_of book) (table_of book) more refl) (λ all. left_first law fault (table_of book) (last_kept book) more (whole (s.kept all))))
       (λ write. cut_before s.way.front more (table_of first) (table_of book) old mid new s.way.answered kept)
       (λ write. s.kept)
-      (stops_longer law first book s.way.front more s.moments)
+      (stops_longer law first book s.way.front more s.moments) s.turns idle
 
   -- ---- the fault of a call
 

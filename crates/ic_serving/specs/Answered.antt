@@ -1,12 +1,18 @@
 -- To be believed: what one line is answered, and what it leaves.
-use Rattle.std.specs.Prelude.{◌≡◌, ◌≢◌, ◌<◌, ◌-◌, ◌^◌, ℕ, List, Ok, Err, false, length}
+use Rattle.std.specs.Prelude.{◌≡◌, ◌≢◌, ◌<◌, ◌-◌, ◌^◌, ℕ, List, [], ◌∷◌, ◌++◌, Ok, Err, false, length}
 use Rattle.ic_disk.specs.declared.disk.Disk.{Ghosts}
+use Rattle.ic_jobs.specs.declared.reply.Reply.{Reply}
 use Rattle.ic_commands.specs.LineText.{ReadsLine}
-use Rattle.ic_commands.specs.declared.line.Line.TheVariants.{Blank, Command, Run}
+use Rattle.ic_commands.specs.ReplyText.{reply_text}
+use Rattle.ic_lines.specs.Lines.{ended}
+use Rattle.ic_commands.specs.declared.line.Line.TheVariants.{Blank, Command as Asks, Run}
+use Rattle.ic_jobs.specs.declared.command.Command.{Command}
 use Rattle.ic_lines.specs.Answers.{Reading, events, answer, after_line}
 use Rattle.ic_desk.specs.declared.book.Book.{Book}
 use Rattle.ic_desk.specs.Book.{is_broken, number_of, log_of, table_of, IsUnchanged}
 use Rattle.ic_desk.specs.declared.limits.TheConstants.{MAX_ENTRIES}
+use Rattle.ic_desk.specs.Moves.{Move, answers, keeps}
+use Rattle.ic_desk.specs.ByCalls.{IsByCalls}
 use Rattle.ic_serving.specs.Booked.{Begins, IsAllKept}
 use Rattle.ic_serving.specs.Grown.{GoesOn, HasRoom}
 
@@ -14,23 +20,44 @@ use Rattle.ic_serving.specs.Grown.{GoesOn, HasRoom}
 -- one change nothing
 abbrev pub IsKeptFor : {D : Type 0} {ghosts : Ghosts D} → Reading → (old new : Book D ghosts) → Type 0
 IsKeptFor (Ok Blank) old new = IsUnchanged old new
-IsKeptFor (Ok (Command command)) old new = IsAllKept new
+IsKeptFor (Ok (Asks command)) old new = IsAllKept new
 IsKeptFor (Ok (Run count)) old new = IsAllKept new
 IsKeptFor (Err fault) old new = IsUnchanged old new
 
 -- where a command or a run is answered, the book isn't broken
 abbrev pub IsWholeFor : {D : Type 0} {ghosts : Ghosts D} → Reading → (new : Book D ghosts) → Type 0
 IsWholeFor (Ok Blank) new = Unit {0}
-IsWholeFor (Ok (Command command)) new = is_broken new ≡ false
+IsWholeFor (Ok (Asks command)) new = is_broken new ≡ false
 IsWholeFor (Ok (Run count)) new = is_broken new ≡ false
 IsWholeFor (Err fault) new = Unit {0}
 
 -- and where a command is, the numbers of the slots weren't used up, unless a page was begun for it
 abbrev pub IsFreshFor : {D : Type 0} {ghosts : Ghosts D} → Reading → (old : Book D ghosts) → Type 0
 IsFreshFor (Ok Blank) old = Unit {0}
-IsFreshFor (Ok (Command command)) old = length (log_of old) < MAX_ENTRIES → number_of old ≢ 2 ^ 64 - 1
+IsFreshFor (Ok (Asks command)) old = length (log_of old) < MAX_ENTRIES → number_of old ≢ 2 ^ 64 - 1
 IsFreshFor (Ok (Run count)) old = Unit {0}
 IsFreshFor (Err fault) old = Unit {0}
+
+-- it is made of calls of the book, and this was the last of them
+pub record EndsWith {D : Type 0} {ghosts : Ghosts D} (move : Move) (old new : Book D ghosts) : Type 0 where
+  pub done : IsByCalls old new
+  pub earlier : List Move
+  pub last : done.moves ≡ move ∷ earlier
+
+-- a command is answered by its reply, which the book gave to it, and which these bytes are
+pub record IsReplied {D : Type 0} {ghosts : Ghosts D} (command : Command) (bytes : List ℕ)
+    (old new : Book D ghosts) : Type 0 where
+  pub reply : Reply
+  pub text : bytes ≡ ended (reply_text reply)
+  pub made : EndsWith (answers 0 command reply) old new
+
+-- What is done for a line is made of calls of the book: at a command the last of them answers it with
+-- the reply that these bytes are, and at a run the last one keeps all.
+abbrev pub IsDoneFor : {D : Type 0} {ghosts : Ghosts D} → Reading → List ℕ → (old new : Book D ghosts) → Type 0
+IsDoneFor (Ok Blank) bytes old new = IsByCalls old new
+IsDoneFor (Ok (Asks command)) bytes old new = IsReplied command bytes old new
+IsDoneFor (Ok (Run count)) bytes old new = EndsWith keeps old new
+IsDoneFor (Err fault) bytes old new = IsByCalls old new
 
 -- a line is answered, what it leaves is kept, and its events stand at the end of the page
 pub record IsAnswered {D : Type 0} {ghosts : Ghosts D} (line bytes : List ℕ)
@@ -44,6 +71,7 @@ pub record IsAnswered {D : Type 0} {ghosts : Ghosts D} (line bytes : List ℕ)
   pub fresh : IsFreshFor reading old
   pub page : HasRoom (events (table_of old) reading) old
       → GoesOn (events (table_of old) reading) old new
+  pub done : IsDoneFor reading bytes old new
 
 -- a line was begun: a front of its events has come to the table
 pub record IsBegun {D : Type 0} {ghosts : Ghosts D} (line : List ℕ)

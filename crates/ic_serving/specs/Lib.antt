@@ -6,5 +6,6 @@ pub mod Served
 pub mod Stopped
 pub mod Moments
 pub mod Answered
+pub mod InTurn
 pub mod Serving
 pub mod inner

@@ -11,7 +11,8 @@ ghost use Rattle.ic_lines.specs.Turns.{turns};
 ghost use Rattle.ic_lines.specs.Answers.{answer, after_line};
 ghost use Rattle.ic_serving.specs.Booked.{last_kept, Begins, IsAllKept};
 ghost use Rattle.ic_serving.specs.Parts.{IsKeptWithin};
-ghost use Rattle.ic_serving.specs.Answered.{IsAnswered, IsBegun};
+ghost use Rattle.ic_desk.specs.Moves.{keeps};
+ghost use Rattle.ic_serving.specs.Answered.{EndsWith, IsAnswered, IsBegun, IsReplied};
 ghost use Rattle.ic_serving.specs.Grown.{GoesOn, HasRoom};
 ghost use Rattle.ic_serving.specs.Moments.{FaultLeaves, Leaves, IsKeptInLine};
 ghost use Rattle.ic_serving.specs.Faults.{ComesInLine};
@@ -81,6 +82,7 @@ fn answer_command<D: Disk>(
         (table_of book.new ≡ after_line (table_of book.old) (Ok (Asks command))) }
     ensures kept { OnOk result (IsAllKept book.new) }
     ensures whole { OnOk result (is_broken book.new ≡ false) }
+    ensures replied { IfOk result (λ bytes. IsReplied command bytes.items book.old book.new) }
     ensures fresh { OnOk result (length (log_of book.old) < MAX_ENTRIES
         → number_of book.old ≢ 2 ^ 64 - 1) }
     ensures page { OnOk result (HasRoom (by_command command ∷ []) book.old
@@ -113,6 +115,7 @@ fn answer_run<T: Threads + Wait, D: Disk>(
         (table_of book.new ≡ after_line (table_of book.old) (Ok (Run count))) }
     ensures kept { OnOk result (IsAllKept book.new) }
     ensures whole { OnOk result (is_broken book.new ≡ false) }
+    ensures made { OnOk result (EndsWith keeps book.old book.new) }
     ensures page { OnOk result (HasRoom (turns count 0 (table_of book.old)) book.old
         → GoesOn (turns count 0 (table_of book.old)) book.old book.new) }
     ensures begun { OnErr result (Begins (turns count 0 (table_of book.old)) book.old book.new) }

@@ -12,6 +12,8 @@ ghost use Rattle.ic_desk.specs.Book.{is_broken, start_of, table_of, log_of, keep
 ghost use Rattle.ic_desk.specs.Entries.{round_entry};
 ghost use Rattle.ic_serving.specs.Booked.{last_kept, IsAllKept, Advances, MakesRound, StaysPut};
 ghost use Rattle.ic_desk.specs.ByCalls.{IsByCalls};
+ghost use Rattle.ic_desk.specs.Moves.{keeps};
+ghost use Rattle.ic_serving.specs.Answered.{EndsWith};
 ghost use Rattle.ic_serving.specs.Faults.{ComesInLine};
 ghost use Rattle.ic_serving.specs.Grown.{IsSamePage};
 ghost use Rattle.ic_serving.specs.Moments.{FaultLeaves, Leaves, IsKeptOrNow};
@@ -47,6 +49,7 @@ pub(crate) fn keep_all<D: Disk>(book: &mut Book<D>) -> Result<(), ServeFault>
     ensures kept { OnOk result (IsAllKept book.new) }
     ensures whole { OnOk result (is_broken book.new ≡ false) }
     ensures last { OnOk result (last_kept book.new ≡ table_of book.old) }
+    ensures made { OnOk result (EndsWith keeps book.old book.new) }
     ensures unkept { OnErr result (last_kept book.new ≡ last_kept book.old) }
     ensures page { IsSamePage book.old book.new }
     ensures fault { FaultLeaves ComesInLine result book.old book.new }

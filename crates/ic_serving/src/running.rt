@@ -5,6 +5,8 @@ ghost use Rattle.ic_desk.specs.Book.{is_broken, table_of};
 ghost use Rattle.ic_lines.specs.Turns.{turns, after_events};
 ghost use Rattle.ic_serving.specs.Booked.{last_kept, Begins, IsAllKept};
 ghost use Rattle.ic_serving.specs.Parts.{IsKeptWithin};
+ghost use Rattle.ic_desk.specs.Moves.{keeps};
+ghost use Rattle.ic_serving.specs.Answered.{EndsWith};
 ghost use Rattle.ic_serving.specs.Faults.{ComesInLine};
 ghost use Rattle.ic_serving.specs.Grown.{IsSamePage, GoesOn, HasRoom};
 ghost use Rattle.ic_serving.specs.Moments.{FaultLeaves, Leaves, IsKeptOrNow};
@@ -35,6 +37,7 @@ pub(crate) fn run<T: Threads + Wait, D: Disk>(
     ensures kept { OnOk result (IsAllKept book.new) }
     ensures whole { OnOk result (is_broken book.new ≡ false) }
     ensures last { OnOk result (last_kept book.new ≡ table_of book.new) }
+    ensures made { OnOk result (EndsWith keeps book.old book.new) }
     ensures page { OnOk result (HasRoom (turns count 0 (table_of book.old)) book.old
         → GoesOn (turns count 0 (table_of book.old)) book.old book.new) }
     ensures begun { OnErr result (Begins (turns count 0 (table_of book.old)) book.old book.new) }

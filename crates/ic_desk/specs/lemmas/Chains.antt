@@ -174,6 +174,10 @@ module _ {D : Type 0} {ghosts : Ghosts D} where
       fails_by true is = once_earlier second.moves first.moves (second.behind is) first.once
       fails_by false is = once_later second.moves first.moves (first.answered is) second.once
 
+  pub then_moves : (old mid new : Book D ghosts) (first : IsByCalls old mid) (second : IsByCalls mid new) → (by_calls_then old mid new first second).moves ≡ second.moves ++ first.moves
+  unfolding by_calls_then
+  then_moves old mid new first second = refl
+
   -- ---- one call
 
   one_call : (move : Move) (old new : Book D ghosts) → Does move old new → (is_broken new ≡ false → is_broken old ≡ false) → (is_broken new ≡ false → IsNoFailure move)
@@ -219,6 +223,11 @@ module _ {D : Type 0} {ghosts : Ghosts D} where
   by_keep result old new fault step = one_call (keep_move result) old new (does_of (keep_move result) old new step)
       (whole_before result old new fault) (λ is. keep_answered result) (λ is. keep_answered result)
 
+  pub keep_moves : {T : Type 0} (result : Result T BookFault) (old new : Book D ghosts) (fault : BreaksOrStays result old new) (step : Step (keep_move result) (up old) (up new))
+      → (by_keep result old new fault step).moves ≡ keep_move result ∷ []
+  unfolding by_keep one_call
+  keep_moves result old new fault step = refl
+
   -- a round or a halt
   pub by_round : {E : Type 0} (name : List ℕ) (reply : Reply) (result : Result Landed E) (old new : Book D ghosts) → keeper_of new ≡ keeper_of old
       → Step (round_move name reply result) (up old) (up new) → IsByCalls old new
@@ -230,6 +239,10 @@ module _ {D : Type 0} {ghosts : Ghosts D} where
   module _ {T : Type 0} (result : Result T BookFault) (who : ℕ) (command : Command) (reply : Reply) (old new : Book D ghosts) (fault : BreaksOrStays result old new) where
     pub by_answer : Does (answers who command reply) old new → IsByCalls old new
     by_answer does = one_call (answers who command reply) old new does (whole_before result old new fault) (λ is. tt) (λ is. tt)
+
+    pub answer_moves : (does : Does (answers who command reply) old new) → (by_answer does).moves ≡ answers who command reply ∷ []
+    unfolding by_answer one_call
+    answer_moves does = refl
 
     pub by_failure : IsErrOf result Device → Does (fails who command reply) old new → IsByCalls old new
     by_failure device does = one_call (fails who command reply) old new does (whole_before result old new fault)

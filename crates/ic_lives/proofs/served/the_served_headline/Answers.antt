@@ -1,5 +1,5 @@
 use Rattle.ic_lives.proofs.RunLemmas.{table_after}
-use Rattle.ic_lives.proofs.ServedLemmas.{reaches_more, stopped_so, broken_by}
+use Rattle.ic_lives.proofs.ServedLemmas.{reaches_more, stopped_so, broken_by, once_by}
 use Rattle.ic_lives.proofs.served.the_served_headline.Goals as goal
 
 pub returns-clause-ended : goal.returns-clause-ended
@@ -16,3 +16,6 @@ returns-clause-stopped g c moves done = stopped_so c.histories_split_and_join.en
 
 pub returns-clause-broken : goal.returns-clause-broken
 returns-clause-broken g c = broken_by c.args.old.now c.args.new.now
+
+pub returns-clause-once : goal.returns-clause-once
+returns-clause-once g c = once_by c.args.old.now c.args.new.now

@@ -7,12 +7,15 @@ use Rattle.ic_slots.specs.Keeper as keeper_parts
 use Rattle.ic_desk.specs.Entries.{command_entry}
 use Rattle.ic_serving.specs.Booked.{last_kept}
 use Rattle.ic_serving.proofs.RunLemmas.{kept_same, on_err}
-use Rattle.ic_desk.specs.lemmas.Chains.{by_answer, by_failure, by_refusal}
+use Rattle.ic_desk.specs.lemmas.Chains.{answer_moves, by_answer, by_failure, by_refusal}
 use Rattle.ic_serving.proofs.LineLemmas.{device_or_not, begun_none, begun_one, begun_kept, after_event, kept_behind, kept_all}
 use Rattle.ic_serving.proofs.PageLemmas.{command_goes, one_room, same_then, within_all, within_none}
 use Rattle.ic_serving.specs.Parts.{IsKeptWithin}
 use Rattle.ic_serving.specs.Moments.{IsKeptOrNow}
 use Rattle.ic_serving.proofs.StopLemmas.{kept_or_now, leaves_more, leaves_still, leaves_command}
+use Rattle.ic_desk.specs.Moves.{answers}
+use Rattle.ic_lines.specs.Lines.{ended}
+use Rattle.ic_serving.proofs.TurnLemmas.{ends_then}
 use Rattle.ic_serving.proofs.answering.answer_command.Goals as goal
 
 pub returns-in_err-make_room-clause-begun : goal.returns-in_err-make_room-clause-begun
@@ -130,3 +133,14 @@ returns-clause-kept g c = c.in_ok-reply.ensures.step.answered.page.1
 pub returns-clause-table : goal.returns-clause-table
 returns-clause-table g c = after_event (table_of c.make_room.new.book) (table_of c.command.new.self) (by_command c.args.command) c.in_ok-reply.reply
     c.in_ok-reply.ensures.step.answered.page.0.adds.event ∙ ap (λ y. table_after y (by_command c.args.command)) c.in_ok-make_room.ensures.stays.table
+
+pub returns-clause-replied : goal.returns-clause-replied
+returns-clause-replied g c = record {
+  reply = c.in_ok-reply.reply;
+  text = c.in_ok-ended.ensures ∙ ap ended c.in_ok-print_reply.ensures;
+  made = ends_then (answers 0 c.args.command c.in_ok-reply.reply) c.args.book.now c.make_room.new.book c.command.new.self c.make_room.ensures.crash.done (record {
+    done = by_answer _ 0 c.args.command c.in_ok-reply.reply c.make_room.new.book c.command.new.self c.in_ok-reply.ensures.fault c.in_ok-reply.ensures.step.answered;
+    earlier = [];
+    last = answer_moves _ 0 c.args.command c.in_ok-reply.reply c.make_room.new.book c.command.new.self c.in_ok-reply.ensures.fault c.in_ok-reply.ensures.step.answered;
+  });
+}

@@ -7,6 +7,8 @@ use Rattle.ic_serving.proofs.PageLemmas.{goes_same, within_all}
 use Rattle.ic_serving.specs.Parts.{IsKeptWithin}
 use Rattle.ic_serving.specs.Moments.{IsKeptOrNow}
 use Rattle.ic_serving.proofs.StopLemmas.{kept_or_all, leaves_then}
+use Rattle.ic_desk.specs.Moves.{keeps}
+use Rattle.ic_serving.proofs.TurnLemmas.{ends_then}
 use Rattle.ic_serving.proofs.running.run.Goals as goal
 
 pub returns-in_err-keep_all-clause-begun : goal.returns-in_err-keep_all-clause-begun
@@ -38,3 +40,6 @@ returns-clause-crash g c = leaves_then c.args.book.now c.make_rounds.new.book c.
     c.make_rounds.ensures.crash c.keep_all.ensures.crash
     (λ u. kept_or_all (table_of c.args.book.now) (last_kept c.args.book.now) (turns c.args.count 0 (table_of c.args.book.now)) (table_of c.make_rounds.new.book) (last_kept c.make_rounds.new.book) u
     c.in_ok-made.ensures.table c.in_ok-made.ensures.within)
+
+pub returns-clause-made : goal.returns-clause-made
+returns-clause-made g c = ends_then keeps c.args.book.now c.make_rounds.new.book c.keep_all.new.book c.make_rounds.ensures.crash.done c.in_ok-keep_all.ensures.made

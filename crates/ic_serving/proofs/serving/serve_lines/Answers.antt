@@ -13,6 +13,7 @@ use Rattle.ic_serving.specs.Answered.{IsAnswered, IsBegun}
 use Rattle.ic_serving.specs.Moments.{Leaves, IsKeptInLine}
 use Rattle.ic_desk.specs.lemmas.Chains.{by_nothing}
 use Rattle.ic_serving.proofs.LineLemmas.{kept_all}
+use Rattle.ic_serving.proofs.TurnLemmas.{turns_more}
 use Rattle.ic_serving.proofs.ServeLemmas.{under_first, under_more, ahead, taken, ended_at, cut_behind, kept_part, left_within, says_book, not_taken, none_behind, not_write, counts_behind, ready_behind}
 use Rattle.ic_serving.proofs.StopLemmas.{stops_first, stops_more, serving_over, serving_err, serving_untaken, fault_behind, kept_or_same, still_all, still_last}
 use Rattle.ic_serving.proofs.serving.serve_lines.Goals as goal
@@ -24,6 +25,7 @@ loop-init g c = record {
   counted = refl;
   ready = λ is. is;
   last = inr refl;
+  turns = refl;
   moments = stops_first c.one_line_reading.ensures.total c.args.book.now (g.met.D.Disk.left_is_image _) c.facts.ensures.either c.facts.ensures.history.replayed
       (by_nothing c.args.book.now c.facts.ensures.step)
       (kept_all (start_of c.args.book.now) (table_of c.args.book.now) (log_of c.args.book.now) (kept_of c.args.book.now) c.facts.ensures.history.replayed);
@@ -37,12 +39,12 @@ returns-in_err-take_line-clause-serving g c =
     (λ is. (omega (arith, c.loop-test.true, c.loop.invariant.way.counted), c.in_err-take_line.ensures.long (ap (λ e. Err e) is))) in
     serving_untaken c.from_residual.result (fault_of_line c.in_err-take_line.field-0.0) c.from_residual.ensures.1 c.one_line_reading.ensures.total (g.R.Read.remaining c.args.reader.now) rest c.loop.counter
     c.args.book.now c.loop.book (g.W.Write.contents c.args.writer.now) (g.W.Write.contents c.loop.writer) (g.W.Write.contents c.take_line.new.writer) none.more
-    c.loop.invariant c.take_line.ensures.kept none.coming none.says last
+    c.loop.invariant c.take_line.ensures.kept none.coming none.says last (by_nothing c.loop.book c.facts-in-loop.ensures.step)
 
 pub returns-then-not-branch-clause-serving : goal.returns-then-not-branch-clause-serving
 returns-then-not-branch-clause-serving g c = serving_over tt c.one_line_reading.ensures.total (g.R.Read.remaining c.args.reader.now) (to_come c.loop.lines (g.R.Read.remaining c.loop.reader)) c.loop.counter
     c.args.book.now c.loop.book (g.W.Write.contents c.args.writer.now) (g.W.Write.contents c.loop.writer) (g.W.Write.contents c.take_line.new.writer)
-    c.loop.invariant (c.in_ok-take_line.ensures.end (ap (λ b. Ok b) c.if-not-branch.true)) c.take_line.ensures.kept
+    c.loop.invariant (c.in_ok-take_line.ensures.end (ap (λ b. Ok b) c.if-not-branch.true)) c.take_line.ensures.kept (by_nothing c.loop.book c.facts-in-loop.ensures.step)
 
 pub returns-in_err-answer-clause-serving : goal.returns-in_err-answer-clause-serving
 returns-in_err-answer-clause-serving g c =
@@ -59,7 +61,7 @@ returns-in_err-answer-clause-serving g c =
     let reads : ReadsLine c.take_line.new.self.line begun.reading = rw c.line.ensures at begun.read in
     let sort = c.in_err-answer.ensures.fault.causes in
     serving_err c.from_residual-in_err-answer.result c.in_err-answer.field-0.0 c.from_residual-in_err-answer.ensures.1 (g.R.Read.remaining c.args.reader.now) rest
-    c.loop.invariant.way.front (c.take_line.new.self.line ∷ ahead next) c.args.book.now c.answer_line.new.book (g.W.Write.contents c.args.writer.now) (g.W.Write.contents c.take_line.new.writer)
+    c.loop.invariant.way.front (c.take_line.new.self.line ∷ ahead next) c.args.book.now c.loop.book c.answer_line.new.book (g.W.Write.contents c.args.writer.now) (g.W.Write.contents c.take_line.new.writer)
     c.loop.invariant.way.first (taken c.take_line.new.self.line rest next takes)
     (λ other. ended_at c.in_err-answer.field-0.0 (IsAllKept c.args.book.now) c.loop.invariant.way.front (c.take_line.new.self.line ∷ ahead next)
     (table_of c.args.book.now) (table_of c.loop.book) (table_of c.answer_line.new.book) (last_kept c.answer_line.new.book) (g.W.Write.contents c.args.writer.now) (g.W.Write.contents c.loop.writer) (g.W.Write.contents c.take_line.new.writer)
@@ -75,7 +77,7 @@ returns-in_err-answer-clause-serving g c =
     })))
     (λ write. absurd (not_write c.in_err-answer.field-0.0 sort write))
     (λ write. absurd (not_write c.in_err-answer.field-0.0 sort write))
-    stops
+    stops c.loop.invariant.turns c.answer_line.ensures.crash.done
 
 pub returns-in_err-answer-clause-fault : goal.returns-in_err-answer-clause-fault
 returns-in_err-answer-clause-fault g c = fault_behind c.from_residual-in_err-answer.result c.in_err-answer.field-0.0 c.from_residual-in_err-answer.ensures.1
@@ -95,7 +97,7 @@ returns-in_err-write_answer-clause-serving g c =
     let answered : IsAnswered c.line.result.now c.in_ok-answer.answer.items c.loop.book c.answer_line.new.book = c.in_ok-answer.ensures.answered in
     let reads : ReadsLine c.take_line.new.self.line answered.reading = rw c.line.ensures at answered.read in
     serving_err c.from_residual-in_err-write_answer.result c.in_err-write_answer.field-0.0 c.from_residual-in_err-write_answer.ensures.1 (g.R.Read.remaining c.args.reader.now) rest
-    c.loop.invariant.way.front (c.take_line.new.self.line ∷ ahead next) c.args.book.now c.answer_line.new.book (g.W.Write.contents c.args.writer.now) (g.W.Write.contents c.write_answer.new.writer)
+    c.loop.invariant.way.front (c.take_line.new.self.line ∷ ahead next) c.args.book.now c.loop.book c.answer_line.new.book (g.W.Write.contents c.args.writer.now) (g.W.Write.contents c.write_answer.new.writer)
     c.loop.invariant.way.first (taken c.take_line.new.self.line rest next takes)
     (λ other. absurd (other c.in_err-write_answer.ensures.fault))
     (λ write. cut_behind c.loop.invariant.way.front (ahead next) c.loop.counter (table_of c.args.book.now) (table_of c.loop.book) (table_of c.answer_line.new.book)
@@ -104,7 +106,7 @@ returns-in_err-write_answer-clause-serving g c =
     c.loop.invariant.way.answered c.loop.invariant.way.counted (c.in_ok-take_line.ensures.short done) c.loop-test.true reads answered.answer answered.table c.take_line.ensures.kept
     (rw c.deref.ensures.value at c.in_err-write_answer.ensures.cut))
     (λ write all. still_all c.loop.book c.answer_line.new.book (kept_or_same answered.reading c.loop.book c.answer_line.new.book answered.kept) (c.loop.invariant.kept all))
-    stops
+    stops c.loop.invariant.turns c.answer_line.ensures.crash.done
 
 pub loop-preserved : goal.loop-preserved
 loop-preserved g c =
@@ -131,6 +133,8 @@ loop-preserved g c =
       counted = c.in_ok-answer.ensures.fault.counted ∙ c.loop.invariant.counted;
       ready = λ is. c.in_ok-answer.ensures.fault.ready (c.loop.invariant.ready is);
       last = still_last c.args.book.now c.loop.book c.answer_line.new.book (kept_or_same answered.reading c.loop.book c.answer_line.new.book answered.kept) c.loop.invariant.last;
+      turns = turns_more c.loop.invariant.way.front c.take_line.new.self.line c.in_ok-answer.answer.items c.args.book.now c.loop.book c.answer_line.new.book c.loop.invariant.turns
+          (rw c.line.ensures at answered);
       moments = stops;
     }
 
@@ -144,12 +148,12 @@ returns-in-Ok-true-clause-serving g c =
     let takes : TakesLine c.take_line-2.new.self.line rest next = c.take_line-2.ensures.taken got in
     serving_untaken {T = Unit {0}} (Err TooManyLines) TooManyLines refl c.one_line_reading.ensures.total (g.R.Read.remaining c.args.reader.now) rest c.loop.counter
     c.args.book.now c.loop.book (g.W.Write.contents c.args.writer.now) (g.W.Write.contents c.loop.writer) (g.W.Write.contents c.take_line-2.new.writer) (c.take_line-2.new.self.line ∷ ahead next)
-    c.loop.invariant c.take_line-2.ensures.kept (taken c.take_line-2.new.self.line rest next takes) (c.loop.invariant.way.counted ∙ full) last
+    c.loop.invariant c.take_line-2.ensures.kept (taken c.take_line-2.new.self.line rest next takes) (c.loop.invariant.way.counted ∙ full) last (by_nothing c.loop.book c.facts-2.ensures.step)
 
 pub returns-in-Ok-false-clause-serving : goal.returns-in-Ok-false-clause-serving
 returns-in-Ok-false-clause-serving g c = serving_over tt c.one_line_reading.ensures.total (g.R.Read.remaining c.args.reader.now) (to_come c.loop.lines (g.R.Read.remaining c.loop.reader)) c.loop.counter
     c.args.book.now c.loop.book (g.W.Write.contents c.args.writer.now) (g.W.Write.contents c.loop.writer) (g.W.Write.contents c.take_line-2.new.writer)
-    c.loop.invariant (c.take_line-2.ensures.end (let got : c.take_line-2.result ≡ Ok false = cc in got)) c.take_line-2.ensures.kept
+    c.loop.invariant (c.take_line-2.ensures.end (let got : c.take_line-2.result ≡ Ok false = cc in got)) c.take_line-2.ensures.kept (by_nothing c.loop.book c.facts-2.ensures.step)
 
 pub returns-clause-serving : goal.returns-clause-serving
 returns-clause-serving g c =
@@ -160,7 +164,7 @@ returns-clause-serving g c =
     (c.loop.invariant.way.counted ∙ full) (λ is. c.take_line-2.ensures.long (c.in-Err.is ∙ ap (λ e. Err e) is)) in
     serving_untaken {T = Unit {0}} (Err c.behind_the_last.result) c.behind_the_last.result refl c.one_line_reading.ensures.total (g.R.Read.remaining c.args.reader.now) rest c.loop.counter
     c.args.book.now c.loop.book (g.W.Write.contents c.args.writer.now) (g.W.Write.contents c.loop.writer) (g.W.Write.contents c.take_line-2.new.writer) none.more
-    c.loop.invariant c.take_line-2.ensures.kept none.coming none.says last
+    c.loop.invariant c.take_line-2.ensures.kept none.coming none.says last (by_nothing c.loop.book c.facts-2.ensures.step)
 
 pub returns-clause-fault : goal.returns-clause-fault
 returns-clause-fault g c = record {

@@ -1,0 +1,24 @@
+-- Lines that are answered in turn, and the last call that is made for each.
+use Rattle.std.proofs.Common.{◌≡◌, ℕ, List, [], ◌∷◌, ◌++◌, refl, sym, ap, subst, ◌∙◌}
+use Rattle.ic_disk.specs.declared.disk.Disk.{Ghosts}
+use Rattle.ic_desk.specs.declared.book.Book.{Book}
+use Rattle.ic_desk.specs.Moves.{Move}
+use Rattle.ic_desk.specs.ByCalls.{IsByCalls}
+use Rattle.ic_desk.specs.lemmas.Chains.{by_calls_then, then_moves}
+use Rattle.ic_serving.specs.Answered.{EndsWith, IsAnswered}
+use Rattle.ic_serving.specs.InTurn.{AreAnsweredInTurn}
+
+module _ {D : Type 0} {ghosts : Ghosts D} where
+  -- behind other calls
+  pub ends_then : (move : Move) (old mid new : Book D ghosts) → IsByCalls old mid → EndsWith move mid new → EndsWith move old new
+  ends_then move old mid new first ends = record {
+    done = by_calls_then old mid new first ends.done;
+    earlier = ends.earlier ++ first.moves;
+    last = then_moves old mid new first ends.done ∙ ap (λ (ms : List Move). ms ++ first.moves) ends.last;
+  }
+
+  -- one line more
+  pub turns_more : (front : List (List ℕ)) (line bytes : List ℕ) (first book new : Book D ghosts) → AreAnsweredInTurn front first book → IsAnswered line bytes book new
+      → AreAnsweredInTurn (front ++ line ∷ []) first new
+  turns_more [] line bytes first book new turns is = (new, bytes, subst (λ (b : Book D ghosts). IsAnswered line bytes b new) turns is, refl)
+  turns_more (l ∷ front) line bytes first book new turns is = (turns.0, turns.1, turns.2, turns_more front line bytes turns.0 book new turns.3 is)
