@@ -24,6 +24,7 @@ use ic_commands::{Line, print_reply, read_command};
 use ic_desk::Book;
 use ic_disk::Disk;
 use ic_jobs::Command;
+use ic_pool::{Gate, OpenGate};
 use ic_text::{TextFault, print_fault};
 use std::alloc::{AllocError, Global};
 use std::sync::Wait;
@@ -53,12 +54,33 @@ pub fn answer_line<T: Threads + Wait, D: Disk>(
     ensures crash { Leaves book.old book.new
         (IsKeptInLine (table_of book.old) (last_kept book.old) line.now) }
 {
+    answer_watched(rt, alloc, book, line, workers, every, &OpenGate)
+}
+
+/// The same, watched by a gate.
+pub(crate) fn answer_watched<T: Threads + Wait, D: Disk, G: Gate>(
+    rt: &T,
+    alloc: Global,
+    book: &mut Book<D>,
+    line: &[u8],
+    workers: usize,
+    every: u64,
+    gate: &G,
+) -> Result<Vec<u8>, ServeFault>
+    requires workers { 1 ≤ workers }
+    requires every { 1 ≤ every }
+    ensures answered { IfOk result (λ bytes. IsAnswered line.now bytes.items book.old book.new) }
+    ensures begun { OnErr result (IsBegun line.now book.old book.new) }
+    ensures fault { FaultLeaves ComesInLine result book.old book.new }
+    ensures crash { Leaves book.old book.new
+        (IsKeptInLine (table_of book.old) (last_kept book.old) line.now) }
+{
     book.facts();
     ic_commands::laws::one_line_reading();
     match read_command(alloc, line) {
         Ok(Line::Blank) => Ok(Vec::new(alloc)),
         Ok(Line::Command(command)) => answer_command(alloc, book, command),
-        Ok(Line::Run(count)) => answer_run(rt, alloc, book, count, workers, every),
+        Ok(Line::Run(count)) => answer_run(rt, alloc, book, count, workers, every, gate),
         Err(TextFault::Memory) => Err(ServeFault::Memory),
         Err(fault) => answer_refused(alloc, fault),
     }
@@ -99,13 +121,14 @@ fn answer_command<D: Disk>(
     Ok(ended(print_reply(alloc, &reply)?)?)
 }
 
-fn answer_run<T: Threads + Wait, D: Disk>(
+fn answer_run<T: Threads + Wait, D: Disk, G: Gate>(
     rt: &T,
     alloc: Global,
     book: &mut Book<D>,
     count: u64,
     workers: usize,
     every: u64,
+    gate: &G,
 ) -> Result<Vec<u8>, ServeFault>
     requires workers { 1 ≤ workers }
     requires every { 1 ≤ every }
@@ -123,7 +146,7 @@ fn answer_run<T: Threads + Wait, D: Disk>(
     ensures crash { Leaves book.old book.new (IsKeptWithin (table_of book.old)
         (last_kept book.old) (turns count 0 (table_of book.old))) }
 {
-    let made = run(rt, alloc, book, count, workers, every)?;
+    let made = run(rt, alloc, book, count, workers, every, gate)?;
     book.facts();
     let mut line = b"ran ".to_vec(alloc)?;
     line.extend_from_slice(made.to_string(alloc)?.as_bytes())?;

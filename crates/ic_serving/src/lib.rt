@@ -2,8 +2,8 @@
 //!
 //! `answer_line` does what one line asks and keeps what it leaves: it answers a command, and makes
 //! the rounds of a `run` on several threads. `serve_lines` takes lines from a reader, has each
-//! answered, and writes the answer. What lines ask for and are answered is that of `ic_lines`.
-//! Why a serving ended is a `ServeFault`.
+//! answered, and writes the answer; `serve_watched` does so too, and tells a gate of the rounds. What
+//! lines ask for and are answered is that of `ic_lines`. Why a serving ended is a `ServeFault`.
 #![tactic(auto)]
 
 mod answering;
@@ -19,4 +19,4 @@ mod writing;
 pub use answering::answer_line;
 pub use fault::ServeFault;
 pub use limits::MAX_LINES;
-pub use serving::serve_lines;
+pub use serving::{serve_lines, serve_watched};

@@ -22,7 +22,7 @@ use crate::fault::ServeFault;
 use crate::limits::FEW;
 use ic_desk::{Book, MAX_ENTRIES};
 use ic_disk::Disk;
-use ic_pool::{Flight, OpenGate, Played, PoolFault, play, play_alone};
+use ic_pool::{Flight, Gate, Played, PoolFault, play, play_alone};
 use std::alloc::Global;
 use std::sync::Wait;
 use std::thread::Threads;
@@ -62,12 +62,13 @@ pub(crate) fn keep_all<D: Disk>(book: &mut Book<D>) -> Result<(), ServeFault>
 
 /// Makes the round of the job that is due from a place on, or halts it where it can't make one. Its
 /// place, or none where nothing is due.
-pub(crate) fn make_round<T: Threads + Wait, D: Disk>(
+pub(crate) fn make_round<T: Threads + Wait, D: Disk, G: Gate>(
     rt: &T,
     alloc: Global,
     book: &mut Book<D>,
     after: usize,
     workers: usize,
+    gate: &G,
 ) -> Result<Option<usize>, ServeFault>
     requires { 1 ≤ workers }
     ensures idle { IfOk result (λ place. IfNone place (due (table_of book.old) after ≡ None)) }
@@ -88,17 +89,18 @@ pub(crate) fn make_round<T: Threads + Wait, D: Disk>(
     };
     make_room(alloc, book)?;
     let place = flight.place();
-    land_or_halt(rt, alloc, book, &flight, workers)?;
+    land_or_halt(rt, alloc, book, &flight, workers, gate)?;
     Ok(Some(place))
 }
 
 /// Makes a round that the book awaits and lands it, or halts its job where it can't be made.
-fn land_or_halt<T: Threads + Wait, D: Disk>(
+fn land_or_halt<T: Threads + Wait, D: Disk, G: Gate>(
     rt: &T,
     alloc: Global,
     book: &mut Book<D>,
     flight: &Flight,
     workers: usize,
+    gate: &G,
 ) -> Result<(), ServeFault>
     requires workers { 1 ≤ workers }
     requires room { length (log_of book.old) < MAX_ENTRIES }
@@ -115,7 +117,7 @@ fn land_or_halt<T: Threads + Wait, D: Disk>(
 {
     book.facts();
     ic_pool::laws::refused_flights_are_blocked();
-    let played = match play_flight(rt, alloc, flight, workers) {
+    let played = match play_flight(rt, alloc, flight, workers, gate) {
         Ok(played) => played,
         Err(fault) => {
             if !fault.is_of_flight() {
@@ -130,11 +132,12 @@ fn land_or_halt<T: Threads + Wait, D: Disk>(
 }
 
 /// The round of a flight. One of few equations is made in this thread.
-fn play_flight<T: Threads + Wait>(
+fn play_flight<T: Threads + Wait, G: Gate>(
     rt: &T,
     alloc: Global,
     flight: &Flight,
     workers: usize,
+    gate: &G,
 ) -> Result<Played, PoolFault>
     requires { 1 ≤ workers }
     ensures answer { ByWorkers result (played_by workers flight.now) }
@@ -145,5 +148,5 @@ fn play_flight<T: Threads + Wait>(
         ic_pool::laws::refusals_come_in_order();
         return play_alone(alloc, flight);
     }
-    play(rt, alloc, flight, workers, &OpenGate)
+    play(rt, alloc, flight, workers, gate)
 }

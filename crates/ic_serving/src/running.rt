@@ -15,19 +15,22 @@ use crate::fault::ServeFault;
 use crate::rounds::{keep_all, make_round};
 use ic_desk::Book;
 use ic_disk::Disk;
+use ic_jobs::{Job, State};
+use ic_pool::Gate;
 use std::alloc::Global;
 use std::sync::Wait;
 use std::thread::Threads;
 
 /// Makes at most so many rounds of running jobs in turn, and keeps what they leave: after each
-/// `every` rounds and halts, and at the end. How many there were.
-pub(crate) fn run<T: Threads + Wait, D: Disk>(
+/// `every` rounds and halts, and at the end. How many there were. The gate is told of each.
+pub(crate) fn run<T: Threads + Wait, D: Disk, G: Gate>(
     rt: &T,
     alloc: Global,
     book: &mut Book<D>,
     count: u64,
     workers: usize,
     every: u64,
+    gate: &G,
 ) -> Result<u64, ServeFault>
     requires workers { 1 ≤ workers }
     requires every { 1 ≤ every }
@@ -45,19 +48,20 @@ pub(crate) fn run<T: Threads + Wait, D: Disk>(
     ensures crash { Leaves book.old book.new (IsKeptWithin (table_of book.old)
         (last_kept book.old) (turns count 0 (table_of book.old))) }
 {
-    let made = make_rounds(rt, alloc, book, count, workers, every)?;
+    let made = make_rounds(rt, alloc, book, count, workers, every, gate)?;
     keep_all(book)?;
     Ok(made)
 }
 
 /// The same, without the keep at the end.
-fn make_rounds<T: Threads + Wait, D: Disk>(
+fn make_rounds<T: Threads + Wait, D: Disk, G: Gate>(
     rt: &T,
     alloc: Global,
     book: &mut Book<D>,
     count: u64,
     workers: usize,
     every: u64,
+    gate: &G,
 ) -> Result<u64, ServeFault>
     requires workers { 1 ≤ workers }
     requires every { 1 ≤ every }
@@ -76,13 +80,21 @@ fn make_rounds<T: Threads + Wait, D: Disk>(
     book.facts();
     let mut place = 0;
     for made in 0..count {
-        match make_round(rt, alloc, book, place, workers)? {
+        match make_round(rt, alloc, book, place, workers, gate)? {
             None => return Ok(made),
             Some(last) => place = last + 1,
         }
+        gate.landed(count_running(book.table().jobs()));
         keep_each(book, made + 1, every)?;
     }
     Ok(count)
+}
+
+/// How many of these jobs are running.
+fn count_running(jobs: &[Job]) -> usize {
+    jobs.iter()
+        .filter(|job| job.state() == State::Running)
+        .count()
 }
 
 /// Keeps what isn't kept, where the number of rounds is a multiple of `every`.

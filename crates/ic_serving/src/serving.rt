@@ -7,13 +7,14 @@ ghost use Rattle.ic_serving.specs.Moments.{FaultLeaves};
 ghost use Rattle.ic_serving.specs.Served.{OfLines};
 ghost use Rattle.ic_serving.specs.Serving.{IsServing};
 
-use crate::answering::answer_line;
+use crate::answering::answer_watched;
 use crate::fault::ServeFault;
 use crate::limits::MAX_LINES;
 use crate::writing::write_answer;
 use ic_desk::Book;
 use ic_disk::Disk;
 use ic_lines::{LineBuffer, LineFault};
+use ic_pool::{Gate, OpenGate};
 use std::alloc::Global;
 use std::io::{Read, Write};
 use std::sync::Wait;
@@ -41,6 +42,27 @@ pub fn serve_lines<T: Threads + Wait, D: Disk, R: Read, W: Write>(
         book.old book.new (W.contents writer.old) (W.contents writer.new)) }
     ensures fault { FaultLeaves MayCome result book.old book.new }
 {
+    serve_watched(rt, alloc, book, reader, writer, workers, every, &OpenGate)
+}
+
+/// `serve_lines`, watched by a gate: it is told of each round that lands and each halt, and passed by
+/// the works of rounds that threads of their own make.
+pub fn serve_watched<T: Threads + Wait, D: Disk, R: Read, W: Write, G: Gate>(
+    rt: &T,
+    alloc: Global,
+    book: &mut Book<D>,
+    reader: &mut R,
+    writer: &mut W,
+    workers: usize,
+    every: u64,
+    gate: &G,
+) -> Result<(), ServeFault>
+    requires workers { 1 ≤ workers }
+    requires every { 1 ≤ every }
+    ensures serving { OfLines (R.remaining reader.old) (λ ls. IsServing result ls
+        book.old book.new (W.contents writer.old) (W.contents writer.new)) }
+    ensures fault { FaultLeaves MayCome result book.old book.new }
+{
     ic_commands::laws::one_line_reading();
     ic_lines::laws::lines_are_served_in_one_way();
     book.facts();
@@ -50,7 +72,7 @@ pub fn serve_lines<T: Threads + Wait, D: Disk, R: Read, W: Write>(
         if !lines.take_line(reader, writer)? {
             return Ok(());
         }
-        let answer = answer_line(rt, alloc, book, lines.line(), workers, every)?;
+        let answer = answer_watched(rt, alloc, book, lines.line(), workers, every, gate)?;
         write_answer(writer, &answer)?;
     }
     book.facts();

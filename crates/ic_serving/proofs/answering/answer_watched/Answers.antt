@@ -26,7 +26,7 @@ use Rattle.ic_serving.proofs.StopLemmas.{fault_memory, kept_in_line, leaves_more
 use Rattle.ic_desk.specs.Moves.{keeps}
 use Rattle.ic_desk.specs.ByCalls.{IsByCalls}
 use Rattle.ic_serving.specs.Answered.{EndsWith, IsReplied}
-use Rattle.ic_serving.proofs.answering.answer_line.Goals as goal
+use Rattle.ic_serving.proofs.answering.answer_watched.Goals as goal
 
 -- a command is answered, by what its answer says
 command_answered : {D V : Type 0} {ghosts : Ghosts D} (c : Command) (line : List ℕ) (old new : Book D ghosts) (r : Result V ServeFault) (items : V → List ℕ) → ReadsLine line (Ok (Asks c))

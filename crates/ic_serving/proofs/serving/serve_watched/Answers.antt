@@ -16,7 +16,7 @@ use Rattle.ic_serving.proofs.LineLemmas.{kept_all}
 use Rattle.ic_serving.proofs.TurnLemmas.{turns_more}
 use Rattle.ic_serving.proofs.ServeLemmas.{under_first, under_more, ahead, taken, ended_at, cut_behind, kept_part, left_within, says_book, not_taken, none_behind, not_write, counts_behind, ready_behind}
 use Rattle.ic_serving.proofs.StopLemmas.{stops_first, stops_more, serving_over, serving_err, serving_untaken, fault_behind, kept_or_same, still_all, still_last}
-use Rattle.ic_serving.proofs.serving.serve_lines.Goals as goal
+use Rattle.ic_serving.proofs.serving.serve_watched.Goals as goal
 
 pub loop-init : goal.loop-init
 loop-init g c = record {
@@ -53,35 +53,35 @@ returns-in_err-answer-clause-serving g c =
     let done = ap (λ b. Ok b) c.if-not-branch.false in
     let takes : TakesLine c.take_line.new.self.line rest next = c.in_ok-take_line.ensures.taken done in
     let last = kept_all (start_of c.loop.book) (table_of c.loop.book) (log_of c.loop.book) (kept_of c.loop.book) c.facts-in-loop.ensures.history.replayed in
-    let step : Leaves c.loop.book c.answer_line.new.book (IsKeptInLine (table_of c.loop.book) (last_kept c.loop.book) c.take_line.new.self.line) =
-    rw c.line.ensures at c.answer_line.ensures.crash in
-    let stops = stops_more c.one_line_reading.ensures.total (g.R.Read.remaining c.args.reader.now) rest c.loop.counter c.args.book.now c.loop.book c.answer_line.new.book
+    let step : Leaves c.loop.book c.answer_watched.new.book (IsKeptInLine (table_of c.loop.book) (last_kept c.loop.book) c.take_line.new.self.line) =
+    rw c.line.ensures at c.answer_watched.ensures.crash in
+    let stops = stops_more c.one_line_reading.ensures.total (g.R.Read.remaining c.args.reader.now) rest c.loop.counter c.args.book.now c.loop.book c.answer_watched.new.book
     (g.W.Write.contents c.args.writer.now) (g.W.Write.contents c.loop.writer) c.take_line.new.self.line (ahead next) c.loop.invariant last step in
-    let begun : IsBegun c.line.result.now c.loop.book c.answer_line.new.book = c.in_err-answer.ensures.begun in
+    let begun : IsBegun c.line.result.now c.loop.book c.answer_watched.new.book = c.in_err-answer.ensures.begun in
     let reads : ReadsLine c.take_line.new.self.line begun.reading = rw c.line.ensures at begun.read in
     let sort = c.in_err-answer.ensures.fault.causes in
     serving_err c.from_residual-in_err-answer.result c.in_err-answer.field-0.0 c.from_residual-in_err-answer.ensures.1 (g.R.Read.remaining c.args.reader.now) rest
-    c.loop.invariant.way.front (c.take_line.new.self.line ∷ ahead next) c.args.book.now c.loop.book c.answer_line.new.book (g.W.Write.contents c.args.writer.now) (g.W.Write.contents c.take_line.new.writer)
+    c.loop.invariant.way.front (c.take_line.new.self.line ∷ ahead next) c.args.book.now c.loop.book c.answer_watched.new.book (g.W.Write.contents c.args.writer.now) (g.W.Write.contents c.take_line.new.writer)
     c.loop.invariant.way.first (taken c.take_line.new.self.line rest next takes)
     (λ other. ended_at c.in_err-answer.field-0.0 (IsAllKept c.args.book.now) c.loop.invariant.way.front (c.take_line.new.self.line ∷ ahead next)
-    (table_of c.args.book.now) (table_of c.loop.book) (table_of c.answer_line.new.book) (last_kept c.answer_line.new.book) (g.W.Write.contents c.args.writer.now) (g.W.Write.contents c.loop.writer) (g.W.Write.contents c.take_line.new.writer)
+    (table_of c.args.book.now) (table_of c.loop.book) (table_of c.answer_watched.new.book) (last_kept c.answer_watched.new.book) (g.W.Write.contents c.args.writer.now) (g.W.Write.contents c.loop.writer) (g.W.Write.contents c.take_line.new.writer)
     c.loop.invariant.way.answered c.take_line.ensures.kept (says_book c.in_err-answer.field-0.0 c.loop.invariant.way.front (c.take_line.new.self.line ∷ ahead next) sort)
-    (left_within c.in_err-answer.field-0.0 (table_of c.loop.book) (table_of c.answer_line.new.book) (c.take_line.new.self.line ∷ ahead next) sort
+    (left_within c.in_err-answer.field-0.0 (table_of c.loop.book) (table_of c.answer_watched.new.book) (c.take_line.new.self.line ∷ ahead next) sort
     (record { reading = begun.reading; read = reads; part = begun.begun.table }))
-    (λ all. left_within c.in_err-answer.field-0.0 (table_of c.loop.book) (last_kept c.answer_line.new.book) (c.take_line.new.self.line ∷ ahead next) sort
+    (λ all. left_within c.in_err-answer.field-0.0 (table_of c.loop.book) (last_kept c.answer_watched.new.book) (c.take_line.new.self.line ∷ ahead next) sort
     (record {
       reading = begun.reading;
       read = reads;
-      part = kept_part (table_of c.loop.book) (last_kept c.loop.book) (events (table_of c.loop.book) begun.reading) (last_kept c.answer_line.new.book)
+      part = kept_part (table_of c.loop.book) (last_kept c.loop.book) (events (table_of c.loop.book) begun.reading) (last_kept c.answer_watched.new.book)
           (last (c.loop.invariant.kept all)) begun.begun.kept;
     })))
     (λ write. absurd (not_write c.in_err-answer.field-0.0 sort write))
     (λ write. absurd (not_write c.in_err-answer.field-0.0 sort write))
-    stops c.loop.invariant.turns c.answer_line.ensures.crash.done
+    stops c.loop.invariant.turns c.answer_watched.ensures.crash.done
 
 pub returns-in_err-answer-clause-fault : goal.returns-in_err-answer-clause-fault
 returns-in_err-answer-clause-fault g c = fault_behind c.from_residual-in_err-answer.result c.in_err-answer.field-0.0 c.from_residual-in_err-answer.ensures.1
-    c.args.book.now c.loop.book c.answer_line.new.book c.loop.invariant.counted c.loop.invariant.ready c.in_err-answer.ensures.fault
+    c.args.book.now c.loop.book c.answer_watched.new.book c.loop.invariant.counted c.loop.invariant.ready c.in_err-answer.ensures.fault
 
 pub returns-in_err-write_answer-clause-serving : goal.returns-in_err-write_answer-clause-serving
 returns-in_err-write_answer-clause-serving g c =
@@ -90,23 +90,23 @@ returns-in_err-write_answer-clause-serving g c =
     let done = ap (λ b. Ok b) c.if-not-branch.false in
     let takes : TakesLine c.take_line.new.self.line rest next = c.in_ok-take_line.ensures.taken done in
     let last = kept_all (start_of c.loop.book) (table_of c.loop.book) (log_of c.loop.book) (kept_of c.loop.book) c.facts-in-loop.ensures.history.replayed in
-    let step : Leaves c.loop.book c.answer_line.new.book (IsKeptInLine (table_of c.loop.book) (last_kept c.loop.book) c.take_line.new.self.line) =
-    rw c.line.ensures at c.answer_line.ensures.crash in
-    let stops = stops_more c.one_line_reading.ensures.total (g.R.Read.remaining c.args.reader.now) rest c.loop.counter c.args.book.now c.loop.book c.answer_line.new.book
+    let step : Leaves c.loop.book c.answer_watched.new.book (IsKeptInLine (table_of c.loop.book) (last_kept c.loop.book) c.take_line.new.self.line) =
+    rw c.line.ensures at c.answer_watched.ensures.crash in
+    let stops = stops_more c.one_line_reading.ensures.total (g.R.Read.remaining c.args.reader.now) rest c.loop.counter c.args.book.now c.loop.book c.answer_watched.new.book
     (g.W.Write.contents c.args.writer.now) (g.W.Write.contents c.loop.writer) c.take_line.new.self.line (ahead next) c.loop.invariant last step in
-    let answered : IsAnswered c.line.result.now c.in_ok-answer.answer.items c.loop.book c.answer_line.new.book = c.in_ok-answer.ensures.answered in
+    let answered : IsAnswered c.line.result.now c.in_ok-answer.answer.items c.loop.book c.answer_watched.new.book = c.in_ok-answer.ensures.answered in
     let reads : ReadsLine c.take_line.new.self.line answered.reading = rw c.line.ensures at answered.read in
     serving_err c.from_residual-in_err-write_answer.result c.in_err-write_answer.field-0.0 c.from_residual-in_err-write_answer.ensures.1 (g.R.Read.remaining c.args.reader.now) rest
-    c.loop.invariant.way.front (c.take_line.new.self.line ∷ ahead next) c.args.book.now c.loop.book c.answer_line.new.book (g.W.Write.contents c.args.writer.now) (g.W.Write.contents c.write_answer.new.writer)
+    c.loop.invariant.way.front (c.take_line.new.self.line ∷ ahead next) c.args.book.now c.loop.book c.answer_watched.new.book (g.W.Write.contents c.args.writer.now) (g.W.Write.contents c.write_answer.new.writer)
     c.loop.invariant.way.first (taken c.take_line.new.self.line rest next takes)
     (λ other. absurd (other c.in_err-write_answer.ensures.fault))
-    (λ write. cut_behind c.loop.invariant.way.front (ahead next) c.loop.counter (table_of c.args.book.now) (table_of c.loop.book) (table_of c.answer_line.new.book)
+    (λ write. cut_behind c.loop.invariant.way.front (ahead next) c.loop.counter (table_of c.args.book.now) (table_of c.loop.book) (table_of c.answer_watched.new.book)
     (g.W.Write.contents c.args.writer.now) (g.W.Write.contents c.loop.writer) (g.W.Write.contents c.take_line.new.writer) (g.W.Write.contents c.write_answer.new.writer)
     c.take_line.new.self.line c.in_ok-answer.answer.items answered.reading
     c.loop.invariant.way.answered c.loop.invariant.way.counted (c.in_ok-take_line.ensures.short done) c.loop-test.true reads answered.answer answered.table c.take_line.ensures.kept
     (rw c.deref.ensures.value at c.in_err-write_answer.ensures.cut))
-    (λ write all. still_all c.loop.book c.answer_line.new.book (kept_or_same answered.reading c.loop.book c.answer_line.new.book answered.kept) (c.loop.invariant.kept all))
-    stops c.loop.invariant.turns c.answer_line.ensures.crash.done
+    (λ write all. still_all c.loop.book c.answer_watched.new.book (kept_or_same answered.reading c.loop.book c.answer_watched.new.book answered.kept) (c.loop.invariant.kept all))
+    stops c.loop.invariant.turns c.answer_watched.ensures.crash.done
 
 pub loop-preserved : goal.loop-preserved
 loop-preserved g c =
@@ -115,25 +115,25 @@ loop-preserved g c =
     let done = ap (λ b. Ok b) c.if-not-branch.false in
     let takes : TakesLine c.take_line.new.self.line rest next = c.in_ok-take_line.ensures.taken done in
     let last = kept_all (start_of c.loop.book) (table_of c.loop.book) (log_of c.loop.book) (kept_of c.loop.book) c.facts-in-loop.ensures.history.replayed in
-    let step : Leaves c.loop.book c.answer_line.new.book (IsKeptInLine (table_of c.loop.book) (last_kept c.loop.book) c.take_line.new.self.line) =
-    rw c.line.ensures at c.answer_line.ensures.crash in
-    let stops = stops_more c.one_line_reading.ensures.total (g.R.Read.remaining c.args.reader.now) rest c.loop.counter c.args.book.now c.loop.book c.answer_line.new.book
+    let step : Leaves c.loop.book c.answer_watched.new.book (IsKeptInLine (table_of c.loop.book) (last_kept c.loop.book) c.take_line.new.self.line) =
+    rw c.line.ensures at c.answer_watched.ensures.crash in
+    let stops = stops_more c.one_line_reading.ensures.total (g.R.Read.remaining c.args.reader.now) rest c.loop.counter c.args.book.now c.loop.book c.answer_watched.new.book
     (g.W.Write.contents c.args.writer.now) (g.W.Write.contents c.loop.writer) c.take_line.new.self.line [] c.loop.invariant last step in
-    let answered : IsAnswered c.line.result.now c.in_ok-answer.answer.items c.loop.book c.answer_line.new.book = c.in_ok-answer.ensures.answered in
+    let answered : IsAnswered c.line.result.now c.in_ok-answer.answer.items c.loop.book c.answer_watched.new.book = c.in_ok-answer.ensures.answered in
     let reads : ReadsLine c.take_line.new.self.line answered.reading = rw c.line.ensures at answered.read in
     let written : Appends (g.W.Write.contents c.take_line.new.writer) (g.W.Write.contents c.write_answer.new.writer) c.in_ok-answer.answer.items =
     rw c.deref.ensures.value at c.in_ok-write_answer.ensures.written in
     record {
       way = under_more c.lines_are_served_in_one_way.ensures.joined (g.R.Read.remaining c.args.reader.now) rest next c.loop.counter
-          (table_of c.args.book.now) (table_of c.loop.book) (table_of c.answer_line.new.book)
+          (table_of c.args.book.now) (table_of c.loop.book) (table_of c.answer_watched.new.book)
           (g.W.Write.contents c.args.writer.now) (g.W.Write.contents c.loop.writer) (g.W.Write.contents c.take_line.new.writer) (g.W.Write.contents c.write_answer.new.writer)
           c.take_line.new.self.line c.in_ok-answer.answer.items answered.reading
           c.loop.invariant.way takes (c.in_ok-take_line.ensures.short done) c.loop-test.true reads answered.answer answered.table c.take_line.ensures.kept written;
-      kept = λ all. still_all c.loop.book c.answer_line.new.book (kept_or_same answered.reading c.loop.book c.answer_line.new.book answered.kept) (c.loop.invariant.kept all);
+      kept = λ all. still_all c.loop.book c.answer_watched.new.book (kept_or_same answered.reading c.loop.book c.answer_watched.new.book answered.kept) (c.loop.invariant.kept all);
       counted = c.in_ok-answer.ensures.fault.counted ∙ c.loop.invariant.counted;
       ready = λ is. c.in_ok-answer.ensures.fault.ready (c.loop.invariant.ready is);
-      last = still_last c.args.book.now c.loop.book c.answer_line.new.book (kept_or_same answered.reading c.loop.book c.answer_line.new.book answered.kept) c.loop.invariant.last;
-      turns = turns_more c.loop.invariant.way.front c.take_line.new.self.line c.in_ok-answer.answer.items c.args.book.now c.loop.book c.answer_line.new.book c.loop.invariant.turns
+      last = still_last c.args.book.now c.loop.book c.answer_watched.new.book (kept_or_same answered.reading c.loop.book c.answer_watched.new.book answered.kept) c.loop.invariant.last;
+      turns = turns_more c.loop.invariant.way.front c.take_line.new.self.line c.in_ok-answer.answer.items c.args.book.now c.loop.book c.answer_watched.new.book c.loop.invariant.turns
           (rw c.line.ensures at answered);
       moments = stops;
     }
