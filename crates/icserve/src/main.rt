@@ -1,13 +1,15 @@
 //! The program `icserve`: a job server for the interaction calculus.
 #![tactic(auto)]
 
+mod progress;
+
+use crate::progress::{Progress, WipedFirst};
 use ic_desk::Book;
 use ic_disk::{DiskFault, FileDisk};
 use ic_endings::Failure;
 use ic_jobs::Command;
-use ic_pool::OpenGate;
 use ic_scripts::{ScriptsFault, add_script, attend_scripts};
-use ic_serving::{ServeFault, serve_lines};
+use ic_serving::{ServeFault, serve_watched};
 use ic_streams::{StreamFault, once_stream, settle_stream};
 use ic_words::{Task, WordsFault, read_words};
 use std::env;
@@ -121,12 +123,14 @@ fn serve<T: Threads + Wait>(
 ) -> Result<(), ServeFault> {
     let workers = workers.max(1) as usize;
     let every = u64::from(every.max(1));
-    let Ok(mut output) = BufWriter::with_capacity(rt.alloc(), ANSWERS, io::writer(rt)) else {
+    let progress = Progress::new(rt);
+    let output = WipedFirst::new(&progress, io::writer(rt));
+    let Ok(mut output) = BufWriter::with_capacity(rt.alloc(), ANSWERS, output) else {
         book.close();
         return Err(ServeFault::Memory);
     };
     let mut input = rt.reader();
-    let served = serve_lines(
+    let served = serve_watched(
         threads,
         rt.alloc(),
         &mut book,
@@ -134,8 +138,10 @@ fn serve<T: Threads + Wait>(
         &mut output,
         workers,
         every,
+        &progress,
     );
     let flushed = output.flush().map_err(|_| ServeFault::Write);
+    progress.wipe();
     book.close();
     served.and(flushed)
 }
@@ -169,7 +175,9 @@ fn give<T: Threads + Wait + Sync>(
     numbers: [u32; 3],
 ) -> Result<(), ScriptsFault> {
     let [runners, turns, workers] = numbers;
-    let Ok(mut output) = BufWriter::with_capacity(rt.alloc(), ANSWERS, io::writer(rt)) else {
+    let progress = Progress::new(rt);
+    let output = WipedFirst::new(&progress, io::writer(rt));
+    let Ok(mut output) = BufWriter::with_capacity(rt.alloc(), ANSWERS, output) else {
         return Err(ScriptsFault::Memory);
     };
     let given = attend_scripts(
@@ -180,10 +188,11 @@ fn give<T: Threads + Wait + Sync>(
         runners as usize,
         turns as usize,
         workers as usize,
-        &OpenGate,
+        &progress,
         &mut output,
     );
     let flushed = output.flush().map_err(|_| ScriptsFault::Write);
+    progress.wipe();
     match given {
         Ok(_disk) => flushed,
         Err(fault) => Err(fault),

@@ -1,0 +1,15 @@
+-- To be believed: what the line of progress says (this project's choice).
+use Rattle.std.specs.Prelude.{ℕ, List, [], ◌∷◌, ◌++◌, Option, None, Some, codes}
+use Rattle.std.specs.Fmt.{decimal}
+use Rattle.icserve.specs.declared.progress.Pace.{Pace}
+
+-- at which pace rounds land, and how many jobs are running
+abbrev pub pace_text : Option Pace → List ℕ
+pace_text None = []
+pace_text (Some pace) = codes ", rounds a second " ++ decimal pace.rounds_a_second
+    ++ codes ", jobs running " ++ decimal pace.jobs_running
+
+-- what a terminal is sent: to the begin of its line, the text, and what erases the rest of the line
+abbrev pub progress_line : ℕ → Option Pace → List ℕ
+progress_line events pace =
+    13 ∷ codes "events " ++ decimal events ++ pace_text pace ++ 27 ∷ codes "[K"

@@ -1,0 +1,189 @@
+//! The line of progress that a terminal shows of long work.
+
+ghost use Rattle.std.specs.Prelude.{◌≡◌, IfOk};
+ghost use Rattle.icserve.specs.Progress.{pace_text, progress_line};
+
+use ic_pool::Gate;
+use std::alloc::{AllocError, Global};
+use std::io::{self, IsTerminal, Write};
+use std::sync::Mutex;
+use std::sync::atomic::{AtomicU64, Ordering};
+use std::time::{Duration, Instant};
+
+/// For how many milliseconds work goes on before it has a line, and a line stands before it is
+/// rewritten.
+const STANDS: u64 = 100;
+
+/// What wipes a line of a terminal: to its begin, and erase what stands there.
+const WIPED: &[u8] = b"\r\x1b[K";
+
+/// At which pace rounds land, and how many jobs are running.
+#[derive(Clone, Copy, Debug)]
+struct Pace {
+    rounds_a_second: u64,
+    jobs_running: u64,
+}
+
+/// Work without a pause, since its first event: when it began, how many rounds had landed then, when
+/// its line was last rewritten, and whether there is one.
+#[derive(Clone, Copy, Debug)]
+struct Stretch {
+    began: Instant,
+    rounds_before: u64,
+    rewritten: Instant,
+    is_shown: bool,
+}
+
+/// A gate that counts events, and shows them in a line on standard error where that is a terminal.
+/// The line is rewritten at most ten times a second, by the thread that comes by then. No thread
+/// waits for another.
+#[derive(Drop)]
+pub struct Progress<'a> {
+    rt: &'a HostRuntime,
+    has_terminal: bool,
+    events: AtomicU64,
+    rounds: AtomicU64,
+    running: AtomicU64,
+    stretch: Mutex<Option<Stretch>>,
+}
+
+impl<'a> Progress<'a> {
+    pub fn new(rt: &'a HostRuntime) -> Progress<'a> {
+        Progress {
+            rt,
+            has_terminal: rt.stderr().is_terminal(),
+            events: AtomicU64::new(0),
+            rounds: AtomicU64::new(0),
+            running: AtomicU64::new(0),
+            stretch: Mutex::new(None),
+        }
+    }
+
+    /// Counts an event, and shows what is counted, unless there is no terminal, or the line was
+    /// rewritten a short while ago, or another thread is about it.
+    fn count(&self) {
+        self.events.fetch_add(1, Ordering::SeqCst);
+        if !self.has_terminal {
+            return;
+        }
+        let Some(mut stretch) = self.stretch.try_lock() else {
+            return;
+        };
+        if let Ok(now) = Instant::now(self.rt) {
+            *stretch = Some(self.shown(*stretch, now));
+        }
+    }
+
+    /// The stretch as it goes on: it begins now, or its line stands, or is rewritten.
+    fn shown(&self, stretch: Option<Stretch>, now: Instant) -> Stretch {
+        let rounds = self.rounds.load(Ordering::SeqCst);
+        let Some(stretch) = stretch else {
+            return Stretch {
+                began: now,
+                rounds_before: rounds,
+                rewritten: now,
+                is_shown: false,
+            };
+        };
+        if now.duration_since(stretch.rewritten) < Duration::from_millis(STANDS) {
+            return stretch;
+        }
+        let pace = Pace {
+            rounds_a_second: a_second(
+                rounds.saturating_sub(stretch.rounds_before),
+                now.duration_since(stretch.began),
+            ),
+            jobs_running: self.running.load(Ordering::SeqCst),
+        };
+        let pace = Some(pace).filter(|_| rounds > 0);
+        let events = self.events.load(Ordering::SeqCst);
+        if let Ok(line) = progress_line(self.rt.alloc(), events, pace) {
+            let _ = self.rt.stderr().write_all(&line);
+        }
+        Stretch {
+            rewritten: now,
+            is_shown: true,
+            ..stretch
+        }
+    }
+
+    /// Wipes the line, where there is one. The next event begins a new stretch of work.
+    pub fn wipe(&self) {
+        let Some(mut stretch) = self.stretch.try_lock() else {
+            return;
+        };
+        if stretch.is_some_and(|stretch| stretch.is_shown) {
+            let _ = self.rt.stderr().write_all(WIPED);
+        }
+        *stretch = None;
+    }
+}
+
+impl Gate for Progress<'_> {
+    fn pass(&self, _place: u64) {}
+
+    fn answered(&self, _who: u64) {
+        self.count();
+    }
+
+    fn landed(&self, running: usize) {
+        self.running.store(running as u64, Ordering::SeqCst);
+        self.rounds.fetch_add(1, Ordering::SeqCst);
+        self.count();
+    }
+}
+
+/// How many there are in a second, of so many in this time.
+fn a_second(count: u64, time: Duration) -> u64 {
+    let millis = u64::try_from(time.as_millis()).unwrap_or(u64::MAX);
+    count.saturating_mul(1000) / millis.max(1)
+}
+
+/// What a terminal is sent: the line of so many events and their pace, in place of the one before.
+fn progress_line(alloc: Global, events: u64, pace: Option<Pace>) -> Result<Vec<u8>, AllocError>
+    ensures { IfOk result (λ line. line.items ≡ progress_line events pace) }
+{
+    let mut line = b"\revents ".to_vec(alloc)?;
+    line.extend_from_slice(events.to_string(alloc)?.as_bytes())?;
+    line.extend_from_slice(&pace_text(alloc, pace)?)?;
+    line.extend_from_slice(b"\x1b[K")?;
+    Ok(line)
+}
+
+/// What the line says of the pace.
+fn pace_text(alloc: Global, pace: Option<Pace>) -> Result<Vec<u8>, AllocError>
+    ensures { IfOk result (λ text. text.items ≡ pace_text pace) }
+{
+    let Some(pace) = pace else {
+        return Ok(Vec::new(alloc));
+    };
+    let mut text = b", rounds a second ".to_vec(alloc)?;
+    text.extend_from_slice(pace.rounds_a_second.to_string(alloc)?.as_bytes())?;
+    text.extend_from_slice(b", jobs running ")?;
+    text.extend_from_slice(pace.jobs_running.to_string(alloc)?.as_bytes())?;
+    Ok(text)
+}
+
+/// An output, before whose bytes the line of progress is wiped.
+#[derive(Drop)]
+pub struct WipedFirst<'a, W> {
+    progress: &'a Progress<'a>,
+    output: W,
+}
+
+impl<'a, W> WipedFirst<'a, W> {
+    pub fn new(progress: &'a Progress<'a>, output: W) -> WipedFirst<'a, W> {
+        WipedFirst { progress, output }
+    }
+}
+
+impl<W: Write> Write for WipedFirst<'_, W> {
+    fn write(&mut self, bytes: &[u8]) -> io::Result<usize> {
+        self.progress.wipe();
+        self.output.write(bytes)
+    }
+
+    fn flush(&mut self) -> io::Result<()> {
+        self.output.flush()
+    }
+}
