@@ -60,6 +60,17 @@ def table(drawn, most=6, least=0, sizes=(1, 1, 2, 4)):
     return Table(jobs)
 
 
+def sized_table(drawn, count, least, most):
+    """A table of so many jobs whose form has so many bytes: at least these, and less than those."""
+    size = 1
+    while True:
+        jobs = table(drawn, count, count, (size,))
+        length = len(model_disk.encode(jobs))
+        if least <= length < most:
+            return jobs
+        size = max(1, min(200, size * 2 if length < least else size * 2 // 3))
+
+
 def unsound(drawn, jobs):
     """Changes one value of a table, most often so that it is none any more."""
     job = drawn.choice(jobs.jobs)
@@ -275,16 +286,29 @@ class DrawnDisks(ModelTrial):
             lines = drawn.choice([[], ["run 0", "lists", ""]]) + session(drawn, ["two", "b"], small_systems(drawn, 1), 6, 9)
             self.opened(disk.content, lines, every=drawn.choice([1, 2, 100]))
 
+    def goes_on_with(self, drawn, jobs, most_rounds=40):
+        """A table that is opened, shown, run, changed and shown."""
+        disk, form = Disk(bytes(SECOND_SLOT + HEAD)), model_disk.encode(jobs)
+        disk.put_slot(drawn.randrange(2), drawn.randrange(2**64 - 99), form)
+        names = [job.name for job in jobs.jobs]
+        look = ["list", *(f"fetch {name}" for name in names)]
+        change = [f"{drawn.choice(['pause', 'resume', 'cancel'])} {name}" for name in names]
+        lines = [*look, f"run {most_rounds}", *look, *change, "run 9", "list"]
+        self.opened(disk.content, lines, every=drawn.choice([1, 7, 100]))
+
     def test_tables(self):
         drawn = self.draws()
         for most in [1, 2, 5] * 40 + [20, 32] * 6:
-            jobs = table(drawn, most)
-            disk = Disk(bytes(SECOND_SLOT + HEAD))
-            disk.put_slot(drawn.randrange(2), drawn.randrange(2**64 - 99), model_disk.encode(jobs))
-            names = [job.name for job in jobs.jobs]
-            look = ["list", *(f"fetch {name}" for name in names)]
-            change = [f"{drawn.choice(['pause', 'resume', 'cancel'])} {name}" for name in names]
-            self.opened(disk.content, [*look, "run 40", *look, *change, "run 9", "list"], every=drawn.choice([1, 7, 100]))
+            self.goes_on_with(drawn, table(drawn, most))
+
+    def test_tables_of_each_number_of_jobs_and_of_300_to_130_000_bytes(self):
+        drawn = self.draws()
+        for count in range(1, 9):
+            for least in (300, 1_000, 2_000, 3_000, 5_000):
+                self.goes_on_with(drawn, sized_table(drawn, count, least, 2 * least), 20)
+        for count in (9, 16, 20, 31, 32):
+            for least in (4_000, 16_000, 65_000):
+                self.goes_on_with(drawn, sized_table(drawn, count, least, 4 * least), 20)
 
     def test_spoilt_tables(self):
         drawn = self.draws()

@@ -150,6 +150,8 @@ class DrawnServing(ModelTrial):
         self.serve(disk, lines, *words)
         self.serve(disk, ["run 32", "list", *(f"fetch {name}" for name in names)], *words)
         self.serve(disk, [f"pause {names[0]}", "run 33", f"resume {names[0]}", "list"], *words, every=10)
+        # The page is turned with all of them.
+        self.serve(disk, ["pause no"] * 65_500 + ["run 70", "list", f"fetch {names[-2]}"], *words, every=64)
         lines = [f"cancel {name}" for name in drawn.sample(names, 16)] + [f"fetch {name}" for name in names]
         self.serve(disk, ["list", *lines, "list"], *words)
 
