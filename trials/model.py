@@ -3,6 +3,10 @@ settling, rounds, and tables of jobs. Bytes, disks and served lines stand in `mo
 
 A term is a tuple of numbers, its nodes in the order of the text. A name is its number; an agent is -1 less its symbol's
 number, and its arguments follow. So a term of any depth is a flat list, and its length is the number of its nodes.
+
+What a new command is comes into `read_line` and `Table.apply`, a new state into STATES and `Job.move`, a new part of a job
+into `Job`, and its bytes into `job_bytes` and `FormReader` of `model_disk`. What is drawn of them stands in WORDS and `session`
+of test_drawn_serving, in `table` and `unsound` of test_drawn_disks, and in test_drawn_attend; `known` has its own few commands.
 """
 
 import re

@@ -38,6 +38,8 @@ class Ended(Exception):
 
 # The byte form.
 
+FORM = b"ICT1"
+
 
 def number_bytes(number, length):
     return number.to_bytes(length, "big")
@@ -62,7 +64,7 @@ def job_bytes(job):
 
 
 def encode(table):
-    return b"".join([b"ICT1", bytes([len(table.jobs)]), *map(job_bytes, table.jobs)])
+    return b"".join([FORM, bytes([len(table.jobs)]), *map(job_bytes, table.jobs)])
 
 
 class NotATable(Exception):
@@ -148,7 +150,7 @@ def decode(form):
     """The table that has this form, or nothing."""
     reader = FormReader(form)
     try:
-        need(reader.bytes(4) == b"ICT1")
+        need(reader.bytes(4) == FORM)
         table = Table(reader.job() for _ in range(reader.number(1)))
         need(len(table.jobs) <= model.MAX_JOBS and len({job.name for job in table.jobs}) == len(table.jobs))
     except NotATable:

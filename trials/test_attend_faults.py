@@ -113,10 +113,15 @@ class AttendFaults(Attending):
         self.leaves(words, two=0)
 
     def test_stopped_broken_where_a_keep_has_failed_before(self):
+        """The first client still asks when the submit of the second can't be kept. That it comes so takes some luck."""
+        asking = self.script("asking", [*["list"] * 30_000, f"submit two {TWO.text}"])
         for most in (0, SECOND, SECOND + 13):
-            put(self.jobs, slot(1, EMPTY))
-            ran = run(*self.attends(*self.paths), **grows_to(most))
-            ends = ("device", "broken") if ran.out.startswith(b"client 0\nstopped device") else ("broken", "device")
-            told = ["client 0", f"stopped {ends[0]}", "client 1", f"stopped {ends[1]}"]
-            self.ended(ran, told, [f"icserve: {ends[0]}"], 4)
+            for _ in range(20):
+                put(self.jobs, slot(1, EMPTY))
+                ran = run(*self.attends(asking, self.paths[1]), **grows_to(most))
+                if ran.err != b"icserve: device\n":
+                    break
+            asked = ["jobs"] * ran.out.count(b"jobs\n")
+            told = ["client 0", *asked, "stopped broken", "client 1", "stopped device"]
+            self.ended(ran, told, ["icserve: broken"], 4)
             self.serves(self.jobs, "list", ["jobs"])
