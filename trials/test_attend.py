@@ -55,6 +55,30 @@ class Attend(Attending):
         longest = self.script("longest", ["list"] * 65_536)
         self.runs(*self.attends(longest, runners=0), out=["client 0", *["jobs"] * 65_536])
 
+    def test_clients_are_answered_while_others_ask(self):
+        """Each client begins to ask before the other one's job is there. On a machine that is busy it may want some luck."""
+        names = ["ann", "bob"]
+        asking = [[*["list"] * 30_000, f"submit {it} {LOOP.text}", "list"] for it in names]
+        paths = [self.script(name, lines) for name, lines in zip(names, asking)]
+        for _ in range(10):
+            ran = self.attended(self.attends(*paths, runners=0))
+            lists = [it.splitlines() for it in ran.out.decode().split("client ")[1:]]
+            self.equals(ran.command, "answers and status", ([30_003] * 2, 0), ([len(it) for it in lists], ran.status))
+            begun = [it[1] for it in lists]
+            if begun == ["jobs", "jobs"]:
+                break
+        self.equals(ran.command, "the first answers of both", ["jobs", "jobs"], begun)
+
+    def test_rounds_are_made_while_a_client_asks(self):
+        path = self.script("asking", [f"submit loop {LOOP.text}", *["fetch loop"] * 20_000])
+        for _ in range(10):
+            ran = self.attended(self.attends(path, runners=1, turns=0))
+            rounds = [int(it.split(" ")[2]) for it in ran.out.decode().splitlines()[2:]]
+            self.equals(ran.command, "answers, in the order of their rounds", (20_000, sorted(rounds)), (len(rounds), rounds))
+            if rounds[0] < rounds[-1]:
+                break
+        self.equals(ran.command, f"rounds between fetches, from {rounds[0]} on", True, rounds[0] < rounds[-1])
+
     def test_a_signal_to_end_leaves_the_disk_as_some_moment_did(self):
         lines = [f"submit loop {LOOP.text}", *["pause loop", "resume loop"] * 20_000]
         words = self.attends(self.script("long", lines), turns=60_000)
