@@ -5,6 +5,7 @@
 #![tactic(auto)]
 
 mod drawing;
+pub mod laws;
 mod links;
 mod net;
 mod port;

@@ -1,0 +1,8 @@
+use Rattle.ic_nets.proofs.EndLemmas.{ends_are_ports, free_ends_are_names}
+use Rattle.ic_nets.proofs.laws.wires_end_at_ports.Goals as goal
+
+pub returns-clause-bound : goal.returns-clause-bound
+returns-clause-bound c = ends_are_ports
+
+pub returns-clause-free : goal.returns-clause-free
+returns-clause-free c = free_ends_are_names
