@@ -1,8 +1,10 @@
-pub mod HangingLemmas
 pub mod ListLemmas
+pub mod HangingLemmas
 pub mod WiringLemmas
 pub mod DotLemmas
 pub mod DrawLemmas
 pub mod PortLemmas
 pub mod NameLemmas
 pub mod EndLemmas
+pub mod OnceLemmas
+pub mod NamedLemmas

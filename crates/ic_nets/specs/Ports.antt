@@ -1,9 +1,10 @@
 -- The ports of a net, and the ends of its wires.
-use Rattle.std.specs.Prelude.{ℕ, zero, suc, ◌+◌, ◌==◌, List, [], ◌∷◌, ◌++◌, Bool, true, false, ◌&&◌, if◌then◌else◌}
+use Rattle.std.specs.Prelude.{ℕ, zero, suc, ◌+◌, ◌==◌, List, [], ◌∷◌, ◌++◌, Bool, true, false, ◌&&◌, Option, None, Some, filter, if◌then◌else◌, map}
 use Rattle.std.specs.List.{flat_map}
 use Rattle.ic_nets.specs.declared.net.Agent.{Agent}
 use Rattle.ic_nets.specs.declared.net.Wire.{Wire}
 use Rattle.ic_nets.specs.declared.net.Net.{Net}
+use Rattle.ic_nets.specs.declared.links.Standing.{Standing}
 use Rattle.ic_nets.specs.declared.port.Port.{Port}
 use Rattle.ic_nets.specs.declared.port.Port.TheVariants.{Interface, Principal, Auxiliary, Left, Right, Free}
 
@@ -56,3 +57,12 @@ joint_ports j (suc n) = Left j ∷ Right j ∷ joint_ports (j + 1) n
 abbrev pub ports_of : Net → List Port
 ports_of net = counted_ports Interface 1 net.interface
     ++ (agent_ports 0 net.agents.items ++ joint_ports 0 net.joints)
+
+-- the ports at which a name stands, in the order of the text
+abbrev pub ports_at : ℕ → List Standing → List Port
+ports_at n ss = map (λ s. s.port) (filter (λ s. s.name == n) ss)
+
+-- the wire of a name
+abbrev pub wire_named : ℕ → List (ℕ × Wire) → Option Wire
+wire_named n [] = None
+wire_named n (w ∷ ws) = if w.0 == n then Some w.1 else wire_named n ws

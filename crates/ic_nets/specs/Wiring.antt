@@ -64,5 +64,8 @@ with_standing (w ∷ ws) s = if s.name == w.0 then (w.0, wire_of (Some w.1) s) �
     else w ∷ with_standing ws s
 
 -- the wires of names that stand at ports, in the order in which the names come first
+abbrev pub named_wires : List Standing → List (ℕ × Wire)
+named_wires ss = fold with_standing [] ss
+
 abbrev pub name_wires : List Standing → List Wire
-name_wires ss = map (λ w. w.1) (fold with_standing [] ss)
+name_wires ss = map (λ w. w.1) (named_wires ss)

@@ -1,10 +1,12 @@
 //! Laws of the definitions that the contracts of this crate cite.
 
-ghost use Rattle.std.specs.Prelude.{◌≡◌, ◌==◌, ℕ, List, true, if◌then◌else◌};
+ghost use Rattle.std.specs.Prelude.{◌≡◌, ◌≤◌, ◌==◌, ℕ, List, [], ◌∷◌, true, false, Some, if◌then◌else◌};
 ghost use Rattle.ic_term.specs.Configuration.{Configuration, IsConfiguration, configuration_names, occurrences};
 ghost use Rattle.ic_rules.specs.Rule.{Rule};
 ghost use Rattle.ic_nets.specs.Nets.{IsNet};
-ghost use Rattle.ic_nets.specs.Ports.{ends, is_bound, ports_of, times};
+ghost use Rattle.ic_nets.specs.Ports.{ends, is_bound, ports_at, ports_of, times, wire_named};
+ghost use Rattle.ic_nets.specs.Wiring.{named_wires};
+ghost use Rattle.ic_nets.specs.declared.links.Standing.{Standing};
 ghost use Rattle.ic_nets.specs.declared.net.Net.{Net};
 ghost use Rattle.ic_nets.specs.declared.port.Port.{Port};
 ghost use Rattle.ic_nets.specs.declared.port.Port.TheVariants.{Free};
@@ -18,4 +20,18 @@ pub fn wires_end_at_ports()
     ensures free { (rs : List Rule) (c : Configuration) (net : Net) (n : ℕ)
         → IsConfiguration c → IsNet rs c net → times (Free n) (ends net.wires.items)
         ≡ if occurrences n (configuration_names c) == 1 then 1 else 0 }
+{}
+
+/// No port of a net is listed twice. So each bound port is an end of exactly one wire.
+pub fn ports_are_listed_once()
+    ensures { (net : Net) (p : Port) → times p (ports_of net) ≤ 1 }
+{}
+
+/// A name that stands at two ports is the wire between them, and one that stands once a wire with a free end.
+pub fn names_are_wires()
+    ensures twice { (ss : List Standing) (n : ℕ) (p q : Port) → ports_at n ss ≡ p ∷ q ∷ []
+        → wire_named n (named_wires ss) ≡ Some (record { from = p; to = q; active = false }) }
+    ensures once { (ss : List Standing) (n : ℕ) (p : Port) → ports_at n ss ≡ p ∷ []
+        → wire_named n (named_wires ss)
+        ≡ Some (record { from = p; to = Free n; active = false }) }
 {}
