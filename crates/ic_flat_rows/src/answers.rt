@@ -7,8 +7,11 @@
 //!   symbols.
 //! - `restore TERMS NEXT WORDS`, `new TERMS WORDS`: the configuration of words with so many terms in its interface.
 //! - `ends WORDS`: how many terms there are, and the place behind each.
+//! - `tests SYSTEM`, `tests_from NEXT SYSTEM`: whether the configuration, with this `next` or its own, fits and is quiet; as
+//!   terms and equations it has to be told the same.
 
 use crate::configurations::{are_over, are_same, read_back, words};
+use crate::systems::tests;
 use crate::words::{ends, made, number};
 use ic_notation::{Answers, Row, Trouble, expanded};
 use std::alloc::Global;
@@ -43,6 +46,8 @@ impl Answers for Kinds {
                 )
             }
             "ends" => ends(alloc, &expanded(alloc, row.text)?),
+            "tests" => tests(alloc, None, row.text),
+            "tests_from" => tests(alloc, Some(number(first)?), rest),
             _ => Err(Trouble("no such kind")),
         }
     }

@@ -3,6 +3,7 @@
 
 mod answers;
 mod configurations;
+mod systems;
 mod words;
 
 use crate::answers::Kinds;
