@@ -1,5 +1,5 @@
 -- What a server has after calls over its book, ended or stopped in their midst.
-use Rattle.std.proofs.Common.{◌≡◌, ◌⊎◌, inl, inr, Bool, true, false, Option, Result, ℕ, ◌≤◌, List, [], ◌∷◌, ◌++◌, refl, sym, ap, subst, append_assoc}
+use Rattle.std.proofs.Common.{◌≡◌, ◌⊎◌, inl, inr, ⊎_elim, Bool, true, false, Option, Result, ℕ, ◌≤◌, List, [], ◌∷◌, ◌++◌, refl, sym, ap, subst, append_assoc}
 use Rattle.std.specs.List.{AllByRecursion}
 use Rattle.std.specs.Prelude.{IsTrue}
 use Rattle.ic_disk.specs.declared.disk.Disk.{Ghosts}
@@ -164,12 +164,16 @@ module _ {D : Type 0} {ghosts : Ghosts D} where
         × ((file : List ℕ) → ghosts.image found file → (t : List JobParts) × HoldsTable t file × MayStand (IsAllKept old) (last_kept old) (table_of old) ls t
         × (history : List Entry) × IsHistoryOf (cut ++ moves) history × (t ≡ replay [] history))
     lines_stopped result moves old new ls before behind serving found run here =
-        let so = stopped_so moves old new serving.crash.done found run here in
-        (so.0, so.1, so.2, λ file image.
-        let held = (serving.crash.any_moment (made_by moves old run)).each file (here.moment, here.since, here.left file image) in
-        let told = file_stands joins (so.0 ++ moves) file (prefix_after replays joins one content_is_image image_is_left left_is_image (so.0 ++ moves) found file so.2 image) in
-        let same : held.0 ≡ replay [] told.0 = ap table_in (one file (the_table held.0) (the_table (replay [] told.0)) held.2.held told.2.held) in
-        (held.0, held.2, held.1, told.0, told.1, same))
+        let so = stopped_so moves old new serving.crash.done found run here in (
+          so.0,
+          so.1,
+          so.2,
+          λ file image.
+              let held = (serving.crash.any_moment (made_by moves old run)).each file (here.moment, here.since, here.left file image) in
+              let told = file_stands joins (so.0 ++ moves) file (prefix_after replays joins one content_is_image image_is_left left_is_image (so.0 ++ moves) found file so.2 image) in
+              let same : held.0 ≡ replay [] told.0 = ap table_in (one file (the_table held.0) (the_table (replay [] told.0)) held.2.held told.2.held) in
+              (held.0, held.2, held.1, told.0, told.1, same),
+        )
 
     -- behind any number of answered lines
     pub turns_stopped : {T : Type 0} (result : Result T ServeFault) (moves : List Move) (ls : List (List ℕ)) (old new : Book D ghosts) (found : D)
@@ -189,13 +193,15 @@ module _ {D : Type 0} {ghosts : Ghosts D} where
     -- a serving goes on from what was reached
     served_so : (s : Serving ghosts) (before : D) (moves : List Move) → Reaches {ghosts = ghosts} moves (down before) → Opens before s.opened → IsStopped s ⊎ IsClosed s
         → (now : List Move) × Reaches {ghosts = ghosts} now (down s.found)
-        × (((cut : List Move) × IsCutShort s.done.moves cut × (now ≡ cut ++ opens ∷ moves)) ⊎ (now ≡ closes ∷ s.done.moves ++ opens ∷ moves))
-    served_so s before moves run call (inl stop) =
-        let at = stopped_so (opens ∷ moves) s.opened s.led_to s.done s.found (reaches_step opens moves (down before) (up s.opened) run call) stop in
-        (at.0 ++ opens ∷ moves, at.2, inl (at.0, at.1, refl))
-    served_so s before moves run call (inr close) =
-        let there = reaches_more (opens ∷ moves) s.opened s.led_to s.done (reaches_step opens moves (down before) (up s.opened) run call) in
-        (closes ∷ s.done.moves ++ opens ∷ moves, reaches_step closes (s.done.moves ++ opens ∷ moves) (up s.led_to) (down s.found) there close, inr refl)
+        × (((cut : List Move) × IsCutShort s.under_way.moves cut × (now ≡ cut ++ (s.answered.moves ++ opens ∷ moves))) ⊎ (now ≡ closes ∷ (s.under_way.moves ++ (s.answered.moves ++ opens ∷ moves))))
+    served_so s before moves run call end =
+        let so_far = s.answered.moves ++ opens ∷ moves in
+        let there = reaches_more (opens ∷ moves) s.opened s.answering s.answered (reaches_step opens moves (down before) (up s.opened) run call) in
+        ⊎_elim
+        (λ stop. let at = stopped_so so_far s.answering s.led_to s.under_way s.found there stop in (at.0 ++ so_far, at.2, inl (at.0, at.1, refl)))
+        (λ close. let all = reaches_more so_far s.answering s.led_to s.under_way there in
+            (closes ∷ (s.under_way.moves ++ so_far), reaches_step closes (s.under_way.moves ++ so_far) (up s.led_to) (down s.found) all close, inr refl))
+        end
 
     pub servings_run : (servings : List (Serving ghosts)) (first last : D) → IsTrue (ghosts.keeps first) → Within (ghosts.image first) (HoldsTable []) → AreServings servings first last
         → (moves : List Move) × AreMovesOf servings moves × Reaches {ghosts = ghosts} moves (down last)
@@ -204,6 +210,14 @@ module _ {D : Type 0} {ghosts : Ghosts D} where
         let so_far = servings_run servings first are.0 model created are.1 in
         let now = served_so s are.0 so_far.0 so_far.2 are.2 are.3 in
         (now.0, (so_far.0, so_far.1, now.2), subst (λ (d : D). Reaches {ghosts = ghosts} now.0 (down d)) (sym are.4) now.1)
+
+-- what a serving has answered stands in the moves
+pub answered_among : {D : Type 0} {ghosts : Ghosts D} (s : Serving ghosts) (servings : List (Serving ghosts)) (moves : List Move) → AreMovesOf (s ∷ servings) moves
+    → (later earlier : List Move) × (moves ≡ later ++ (s.answered.moves ++ opens ∷ earlier)) × AreMovesOf servings earlier
+answered_among s servings moves are = ⊎_elim
+    (λ cut. (cut.0, are.0, cut.2, are.1))
+    (λ all. (closes ∷ s.under_way.moves, are.0, all, are.1))
+    are.2
 
 -- a failure is among the moves
 failed_among : (later earlier : List Move) (who : ℕ) (command : Command) (reply : Reply) → ¬ AllByRecursion IsNoFailure (later ++ fails who command reply ∷ earlier)

@@ -27,5 +27,5 @@ pub cut_front : (moves cut : List Move) → IsCutShort moves cut → (behind : L
 cut_front moves cut is = (
   come is.later,
   ap come is.parted ∙ come_join is.later (is.move ∷ is.earlier)
-  ∙ ap (λ (ms : List Move). come ms ++ come is.later) (sym is.stopped),
+      ∙ ap (λ (ms : List Move). come ms ++ come is.later) (sym is.stopped),
 )

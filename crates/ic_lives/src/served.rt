@@ -102,12 +102,18 @@ pub fn a_stopped_serving_opens_again<D: Disk>(
 }
 
 /// Any number of servings, one after the other, each stopped at any moment or closed and opened
-/// again, are a run of a server: all that is said of runs is said of what they leave.
+/// again, are a run of a server: all that is said of runs is said of what they leave. What each has
+/// answered stands among its moves.
 pub fn servings_are_a_run<D: Disk>(first: &D, last: &D)
-    ensures { (servings : List (Serving D.Disk)) → IsTrue (D.keeps first.now)
+    ensures run { (servings : List (Serving D.Disk)) → IsTrue (D.keeps first.now)
         → Within (D.image first.now) (HoldsTable []) → AreServings servings first.now last.now
         → (moves : List Move) × AreMovesOf servings moves
         × Reaches {ghosts = D.Disk} moves (down last.now) }
+    ensures answered { (s : Serving D.Disk) (servings : List (Serving D.Disk))
+        (moves : List Move) → AreMovesOf (s ∷ servings) moves
+        → (later earlier : List Move)
+        × (moves ≡ later ++ (s.answered.moves ++ opens ∷ earlier))
+        × AreMovesOf servings earlier }
 {
     let _ = first;
     let _ = last;
