@@ -35,7 +35,10 @@ $(filter-out icserve,$(crates)):
 	(cd $$room/crates/$@ && exec nice -n $$((20 - $(words $(call above,$@)))) $(rt) lib) >$$own/build.log 2>&1 </dev/null ||
 	    { keeps=incremental; failed=yes; }
 	exec 8<crates/$@; flock 8
-	for part in rlib $$keeps; do rm -rf $$own/$$part; mv $$room/$$own/$$part $$own/; done
+	for part in rlib $$keeps; do
+	    rm -rf $$own/$$part
+	    [ ! -e $$room/$$own/$$part ] || mv $$room/$$own/$$part $$own/
+	done
 	rm -rf $$room
 	[ ! "$$failed" ] || $(fail)
 

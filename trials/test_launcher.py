@@ -12,13 +12,14 @@ from program import PATIENCE, PROGRAM, TOP, Trial, heeds_signals, run
 # What the launcher and the build call, but for make and rt.
 TOOLS = "sh env cat cp dirname find flock grep mkdir mv nice readlink rm sed setsid sha256sum sleep sort xargs".split()
 
-# Stands for `rt run` in crates/icserve: counts its calls, and puts the program where the prover would.
+# Stands for `rt lib` in the room of a library, and for `rt run` in crates/icserve: notes its calls, and puts the program where
+# the prover would.
 RT = f"""#!/bin/sh
-echo called >> "$CALLS"
+echo "$1" >> "$CALLS"
 [ -z "$SLOW" ] || sleep "$SLOW"
 [ -z "$UNTIL" ] || while [ ! -e "$UNTIL" ]; do sleep 0.05; done
-[ -z "$FAILS" ] || exit 1
-cp "{PROGRAM}" out/icserve
+[ "$FAILS" != "$1" ] || exit 1
+if [ "$1" = lib ]; then mkdir -p out/rlib; else cp "{PROGRAM}" out/icserve; fi
 """
 
 
@@ -29,9 +30,10 @@ class Launcher(Trial):
         self.calls.write_text("")
         for name in ("icserve", "build.mk"):
             shutil.copy(TOP / name, self.room / name)
-        (self.room / "crates.txt").write_text("icserve:\n")
+        (self.room / "crates.txt").write_text("low:\nicserve: low\n")
         for part in ("src", "specs", "proofs"):
             (self.room / "crates/icserve" / part).mkdir(parents=True)
+            (self.room / "crates/low" / part).mkdir(parents=True)
         (self.room / "crates/icserve/src/main.rt").write_text("first\n")
         self.tools = self.room / "tools"
         self.tools.mkdir()
@@ -46,7 +48,7 @@ class Launcher(Trial):
         return run(*words, given=given, program=path or self.room / "icserve", env=env, cwd="/")
 
     def built(self):
-        return len(self.calls.read_text().splitlines())
+        return self.calls.read_text().split().count("run")
 
     def is_built(self, times):
         """Fails unless the program has been built so often."""
@@ -77,10 +79,11 @@ class Launcher(Trial):
             self.ended(self.launch("serve", "--disk", "no file", path=path), err=["icserve: device"], status=3)
 
     def test_status_4_where_what_it_is_made_from_isnt_proved(self):
-        ran = self.launch("settle", FAILS="yes")
-        self.ended(ran._replace(err=b""), status=4)
-        told = b"icserve could not be proved and built; see "
-        self.equals(ran.command, f"whether it told {told}; it told {ran.err}", True, told in ran.err)
+        for fails, name in (("lib", "low"), ("run", "icserve")):
+            ran = self.launch("settle", FAILS=fails)
+            self.ended(ran._replace(err=b""), status=4)
+            told = f"icserve: {name} could not be proved and built; see {self.room}/crates/{name}/out/build.log\n".encode()
+            self.equals(ran.command, f"whether it told {told}; it told {ran.err}", True, told in ran.err)
         self.settles()
 
     def test_status_4_where_make_is_wanting(self):
@@ -108,17 +111,19 @@ class Launcher(Trial):
 
     def test_a_build_that_is_interrupted_ends_with_its_launch_and_is_begun_anew(self):
         env = {"PATH": str(self.tools), "CALLS": str(self.calls), "SLOW": "30"}
+        rooms = self.room / "crates/icserve/out/rooms"
         for sign in (signal.SIGINT, signal.SIGTERM, signal.SIGHUP):
-            begun = self.built()
             pipes = {"stdin": subprocess.DEVNULL, "stdout": subprocess.DEVNULL, "stderr": subprocess.DEVNULL}
             started = subprocess.Popen([self.room / "icserve", "settle"], env=env, preexec_fn=heeds_signals, **pipes)
             self.addCleanup(started.kill)
             end = time.monotonic() + PATIENCE
-            while self.built() == begun and started.poll() is None and time.monotonic() < end:
+            while not self.calls.read_text() and started.poll() is None and time.monotonic() < end:
                 time.sleep(0.02)
-            self.is_built(begun + 1)
+            what = f"./icserve settle, {sign!r} while it builds"
+            self.equals(what, "whether a library is built in a room", True, (rooms / "low").exists())
             started.send_signal(sign)
-            self.equals(f"./icserve settle, {sign!r} while it builds", "status", 4, started.wait(PATIENCE))
-            is_left = (self.room / "crates/icserve/out/rooms").exists()
-            self.equals(f"./icserve settle, {sign!r} while it builds", "whether out/rooms is left", False, is_left)
+            self.equals(what, "status", 4, started.wait(PATIENCE))
+            self.equals(what, "whether rooms are left", False, rooms.exists())
+            self.calls.write_text("")
         self.settles()
+        self.is_built(1)
