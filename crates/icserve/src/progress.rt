@@ -24,14 +24,13 @@ struct Pace {
     jobs_running: u64,
 }
 
-/// Work without a pause, since its first event: when it began, how many rounds had landed then, when
-/// its line was last rewritten, and whether there is one.
+/// When the line was last rewritten, or work began behind a pause; how many rounds had landed by
+/// then; and whether there is a line.
 #[derive(Clone, Copy, Debug)]
-struct Stretch {
-    began: Instant,
-    rounds_before: u64,
-    rewritten: Instant,
-    is_shown: bool,
+struct Shown {
+    at: Instant,
+    rounds: u64,
+    is_line: bool,
 }
 
 /// A gate that counts events, and shows them in a line on standard error where that is a terminal.
@@ -44,7 +43,7 @@ pub struct Progress<'a> {
     events: AtomicU64,
     rounds: AtomicU64,
     running: AtomicU64,
-    stretch: Mutex<Option<Stretch>>,
+    shown: Mutex<Option<Shown>>,
 }
 
 impl<'a> Progress<'a> {
@@ -55,7 +54,7 @@ impl<'a> Progress<'a> {
             events: AtomicU64::new(0),
             rounds: AtomicU64::new(0),
             running: AtomicU64::new(0),
-            stretch: Mutex::new(None),
+            shown: Mutex::new(None),
         }
     }
 
@@ -66,33 +65,30 @@ impl<'a> Progress<'a> {
         if !self.has_terminal {
             return;
         }
-        let Some(mut stretch) = self.stretch.try_lock() else {
+        let Some(mut shown) = self.shown.try_lock() else {
             return;
         };
         if let Ok(now) = Instant::now(self.rt) {
-            *stretch = Some(self.shown(*stretch, now));
+            *shown = Some(self.rewrite(*shown, now));
         }
     }
 
-    /// The stretch as it goes on: it begins now, or its line stands, or is rewritten.
-    fn shown(&self, stretch: Option<Stretch>, now: Instant) -> Stretch {
+    /// Rewrites the line, unless work begins just now or the line stands still.
+    fn rewrite(&self, shown: Option<Shown>, now: Instant) -> Shown {
         let rounds = self.rounds.load(Ordering::SeqCst);
-        let Some(stretch) = stretch else {
-            return Stretch {
-                began: now,
-                rounds_before: rounds,
-                rewritten: now,
-                is_shown: false,
+        let Some(last) = shown else {
+            return Shown {
+                at: now,
+                rounds,
+                is_line: false,
             };
         };
-        if now.duration_since(stretch.rewritten) < Duration::from_millis(STANDS) {
-            return stretch;
+        let time = now.duration_since(last.at);
+        if time < Duration::from_millis(STANDS) {
+            return last;
         }
         let pace = Pace {
-            rounds_a_second: a_second(
-                rounds.saturating_sub(stretch.rounds_before),
-                now.duration_since(stretch.began),
-            ),
+            rounds_a_second: a_second(rounds.saturating_sub(last.rounds), time),
             jobs_running: self.running.load(Ordering::SeqCst),
         };
         let pace = Some(pace).filter(|_| rounds > 0);
@@ -100,22 +96,22 @@ impl<'a> Progress<'a> {
         if let Ok(line) = progress_line(self.rt.alloc(), events, pace) {
             let _ = self.rt.stderr().write_all(&line);
         }
-        Stretch {
-            rewritten: now,
-            is_shown: true,
-            ..stretch
+        Shown {
+            at: now,
+            rounds,
+            is_line: true,
         }
     }
 
-    /// Wipes the line, where there is one. The next event begins a new stretch of work.
+    /// Wipes the line, where there is one. Work that comes behind it begins behind a pause.
     pub fn wipe(&self) {
-        let Some(mut stretch) = self.stretch.try_lock() else {
+        let Some(mut shown) = self.shown.try_lock() else {
             return;
         };
-        if stretch.is_some_and(|stretch| stretch.is_shown) {
+        if shown.is_some_and(|shown| shown.is_line) {
             let _ = self.rt.stderr().write_all(WIPED);
         }
-        *stretch = None;
+        *shown = None;
     }
 }
 
