@@ -8,3 +8,4 @@ pub mod NameLemmas
 pub mod EndLemmas
 pub mod OnceLemmas
 pub mod NamedLemmas
+pub mod FoundLemmas

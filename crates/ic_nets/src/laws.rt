@@ -1,8 +1,9 @@
 //! Laws of the definitions that the contracts of this crate cite.
 
-ghost use Rattle.std.specs.Prelude.{◌≡◌, ◌≤◌, ◌==◌, ℕ, List, [], ◌∷◌, true, false, Some, if◌then◌else◌};
+ghost use Rattle.std.specs.Prelude.{◌≡◌, ◌≤◌, ◌==◌, ℕ, List, [], ◌∷◌, true, false, Some, if◌then◌else◌, length};
 ghost use Rattle.ic_term.specs.Configuration.{Configuration, IsConfiguration, configuration_names, occurrences};
 ghost use Rattle.ic_rules.specs.Rule.{Rule};
+ghost use Rattle.ic_nets.specs.Links.{agents_of, links_of};
 ghost use Rattle.ic_nets.specs.Nets.{IsNet};
 ghost use Rattle.ic_nets.specs.Ports.{ends, is_bound, ports_at, ports_of, times, wire_named};
 ghost use Rattle.ic_nets.specs.Wiring.{named_wires};
@@ -34,4 +35,12 @@ pub fn names_are_wires()
     ensures once { (ss : List Standing) (n : ℕ) (p : Port) → ports_at n ss ≡ p ∷ []
         → wire_named n (named_wires ss)
         ≡ Some (record { from = p; to = Free n; active = false }) }
+{}
+
+/// The agents of a configuration and what it joins say which it is: nothing of its interface and its equations is lost
+/// before names become wires.
+pub fn what_is_joined_says_all()
+    ensures { (rs : List Rule) (c d : Configuration) → length c.interface ≡ length d.interface
+        → agents_of c ≡ agents_of d → links_of rs c ≡ links_of rs d
+        → (c.interface ≡ d.interface) × (c.equations ≡ d.equations) }
 {}
