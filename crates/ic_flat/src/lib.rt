@@ -19,3 +19,4 @@ pub use arities::over;
 pub use flat::Flat;
 pub use places::end_of_term;
 pub use word::{Word, terms_in};
+pub use writing::write_terms;

@@ -59,7 +59,7 @@ fn write_word<'a>(
 }
 
 /// Writes the words of all terms of a stack, from the top on.
-fn write_terms<'a>(mut stack: Vec<&'a Term>, words: &mut Vec<Word>) -> Result<(), AllocError>
+fn write_stack<'a>(mut stack: Vec<&'a Term>, words: &mut Vec<Word>) -> Result<(), AllocError>
     ensures { OnOk result
         (words.new.items ≡ words.old.items ++ flat_map tree_words (coming stack.entry.items)) }
 {
@@ -67,6 +67,16 @@ fn write_terms<'a>(mut stack: Vec<&'a Term>, words: &mut Vec<Word>) -> Result<()
         write_word(term, &mut stack, words)?;
     }
     Ok(())
+}
+
+/// Appends the words of terms in the order of the text. Takes memory for as many terms as wait at once.
+pub fn write_terms(alloc: Global, terms: &[Term], words: &mut Vec<Word>) -> Result<(), AllocError>
+    ensures { OnOk result
+        (words.new.items ≡ words.old.items ++ flat_map tree_words (map tree terms.now)) }
+{
+    let mut stack = Vec::new(alloc);
+    put_terms(terms, &mut stack)?;
+    write_stack(stack, words)
 }
 
 /// The words of a configuration in the order of the text.
@@ -77,6 +87,6 @@ pub(crate) fn words_of(alloc: Global, config: &Config) -> Result<Vec<Word>, Allo
     let mut stack = Vec::new(alloc);
     put_sides(config.equations(), &mut stack)?;
     put_terms(config.interface(), &mut stack)?;
-    write_terms(stack, &mut words)?;
+    write_stack(stack, &mut words)?;
     Ok(words)
 }

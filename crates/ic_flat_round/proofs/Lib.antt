@@ -1,1 +1,4 @@
 pub mod WordPlaces
+pub mod Appending
+pub mod RaisedWords
+pub mod Interacting

@@ -1,7 +1,7 @@
 -- Terms and equations that stand at places among words.
-use Rattle.std.proofs.Common.{◌≡◌, ℕ, ◌+◌, ◌-◌, ◌*◌, ◌<◌, ◌≤◌, ◌==◌, List, [], ◌∷◌, ◌++◌, Bool, ◌&&◌, ◌||◌, length, take, drop, get_or, sum_by, not, None, nat_le, refl, sym, ap, ◌∙◌, subst, arith, append-nil}
+use Rattle.std.proofs.Common.{◌≡◌, ℕ, ◌+◌, ◌-◌, ◌*◌, ◌<◌, ◌≤◌, ◌==◌, List, [], ◌∷◌, ◌++◌, Bool, ◌&&◌, ◌||◌, length, take, drop, get_or, sum_by, not, None, nat_le, refl, sym, ap, ◌∙◌, subst, arith, append-nil, append_assoc}
 use Rattle.std.specs.List.{flat_map, list_any}
-use Rattle.std.proofs.lemmas.List.{drop_more, length-drop, length-append, take_at, drop_at}
+use Rattle.std.proofs.lemmas.List.{drop_more, length-drop, length-append, length-take-le, take_at, drop_at}
 use Rattle.std.proofs.lemmas.List.Sums.{sum_by-cons, sum_by-append}
 use Rattle.ic_term.specs.Tree.{Tree, name, agent, trees_of, Pair, nodes, names, pair_nodes}
 use Rattle.ic_term.specs.Configuration.{Configuration}
@@ -10,27 +10,29 @@ use Rattle.ic_term.specs.Configuration.{occurrences}
 use Rattle.ic_rules.specs.Rule.{Rule}
 use Rattle.ic_settle.specs.Settling.{occurs}
 use Rattle.ic_settle.specs.lemmas.Ended.{is_applicable}
-use Rattle.ic_round.specs.Firing.{oriented, rule_of_sides, products_by}
+use Rattle.ic_round.specs.Firing.{arguments, oriented, rule_of_sides, products_by}
 use Rattle.ic_round.specs.lemmas.Sizes.{fired_nodes}
 use Rattle.ic_flat.specs.declared.word.Word.{Word}
 use Rattle.ic_flat.specs.declared.word.Word.TheVariants.{Name, Agent}
-use Rattle.ic_flat.specs.Words.{with_word, forest, IsWhole, tree_words, word_names, word_eq}
+use Rattle.ic_flat.specs.Words.{arguments as word_arguments, with_word, forest, IsWhole, tree_words, word_names, word_eq}
 use Rattle.ic_flat.specs.Flat.{pairs_of, sides, configuration_words}
 use Rattle.ic_flat.specs.lemmas.WordLaws.{whole-drop, whole-words, words-forest, nodes-forest, forest-le, forest-words}
 use Rattle.ic_flat.specs.lemmas.WordTests.{names-forest}
 use Rattle.ic_flat.specs.lemmas.FlatLaws.{pairs_of-sides, length-sides, forest-configuration_words, counted-configuration_words}
 use Rattle.ic_flat_round.specs.declared.places.Sides.{Sides}
+use Rattle.ic_term.specs.lemmas.TreeLaws.{list_of-trees_of}
+use Rattle.ic_flat_round.specs.inner.RuleWords.{pairs_words}
 use Rattle.ic_flat_round.specs.inner.Standing.{first_of, tree_at, pair_at, pairs_at, AreInTwos, IsTermAt, AreSides}
 
 -- ---- terms
 
 -- where there is a word, there is a term
-some_terms : (ws : List Word) → 0 < length ws → 1 ≤ length (forest ws)
+pub some_terms : (ws : List Word) → 0 < length ws → 1 ≤ length (forest ws)
 some_terms [] some = absurd (omega (arith, some))
 some_terms (Name n ∷ ws) some = omega arith
 some_terms (Agent s a ∷ ws) some = omega arith
 
-first-rest : (ts : List Tree) → 1 ≤ length ts → ts ≡ first_of ts ∷ drop 1 ts
+pub first-rest : (ts : List Tree) → 1 ≤ length ts → ts ≡ first_of ts ∷ drop 1 ts
 first-rest [] some = absurd (omega (arith, some))
 first-rest (t ∷ ts) some = refl
 
@@ -213,3 +215,39 @@ pub inert_nodes : (rs : List Rule) (p : Pair) → rule_of_sides rs p.left p.righ
 inert_nodes rs p none =
     ap (λ o. sum_by pair_nodes (option_map_or (products_by rs 0) (oriented p.left p.right o) (p ∷ []))) none
     ∙ omega (arith, sum_by-cons pair_nodes p [])
+
+-- ---- the arguments of an agent at a place
+
+pub arguments_at : (ws : List Word) (place : ℕ) (d : Word) → place < length ws
+    → arguments (tree_at ws place) ≡ take (word_arguments (get_or ws place d)) (forest (drop (place + 1) ws))
+arguments_at ws place d there = ap (λ l. arguments (first_of (forest l))) (drop_more ws place d there) ∙ of_word (get_or ws place d) (forest (drop (place + 1) ws))
+  where
+    of_word : (w : Word) (ts : List Tree) → arguments (first_of (with_word w ts)) ≡ take (word_arguments w) ts
+    of_word (Name n) ts = refl
+    of_word (Agent s a) ts = list_of-trees_of (take a ts)
+
+pub arguments_there : (ws : List Word) (place : ℕ) (d : Word) → IsWhole ws → place < length ws
+    → word_arguments (get_or ws place d) ≤ length (forest (drop (place + 1) ws))
+arguments_there ws place d whole there = (subst (λ l. IsWhole l) (drop_more ws place d there) (whole-drop place ws whole)).0
+
+pub arguments_count : (ws : List Word) (place : ℕ) (d : Word) → IsWhole ws → place < length ws
+    → length (arguments (tree_at ws place)) ≡ word_arguments (get_or ws place d)
+arguments_count ws place d whole there =
+    ap length (arguments_at ws place d there) ∙ length-take-le (word_arguments (get_or ws place d)) (forest (drop (place + 1) ws)) (arguments_there ws place d whole there)
+
+-- the words of an equation
+pub pair_slice : (ws : List Word) (s : Sides) → IsWhole ws → AreSides ws s → take (s.end - s.left) (drop s.left ws) ≡ pairs_words (pair_at ws s ∷ [])
+pair_slice ws s whole is =
+    let t = tree_at ws s.left in
+    let u = tree_at ws s.right in
+    let first = words_at ws s.left s.right whole is.left in
+    let second = words_at ws s.right s.end whole is.right in
+    let all : drop s.left ws ≡ (tree_words t ++ tree_words u) ++ drop s.end ws =
+    first ∙ ap (λ l. tree_words t ++ l) second ∙ sym (append_assoc (tree_words t) (tree_words u) (drop s.end ws)) in
+    let a = is.left.before in
+    let b = is.right.before in
+    let inside = is.right.within in
+    let count : length (tree_words t ++ tree_words u) ≡ s.end - s.left =
+    omega (arith, a, b, inside, ap length all, length-append (tree_words t ++ tree_words u) (drop s.end ws), length-drop s.left ws, length-drop s.end ws) in
+    ap (take (s.end - s.left)) all ∙ take_at (tree_words t ++ tree_words u) (drop s.end ws) (s.end - s.left) count
+    ∙ ap (λ l. tree_words t ++ l) (sym (append-nil (tree_words u)))

@@ -1,2 +1,4 @@
 -- For private functions. No public clause needs what stands here.
 pub mod Standing
+pub mod Room
+pub mod RuleWords

@@ -1,15 +1,21 @@
-//! Rounds of configurations in flat form: whether one fits, and whether one is quiet.
+//! Rounds of configurations in flat form: whether one fits, whether one is quiet, and what its active equations fire to.
 //!
 //! The answers are those of `ic_round` for the same configuration, found by walks over its words. No walk recurses on the
-//! depth of a configuration's terms; the nodes of a rule's terms are counted by `ic_term`, which does.
+//! depth of a configuration's terms; the nodes of a rule's terms are counted by `ic_term`, which does. `FlatRules` are rules
+//! whose sides are ready to be copied as words.
 #![tactic(auto)]
 
 mod ended;
+mod fired;
+mod firing;
 mod fitting;
+mod flat_rules;
 mod growth;
 mod places;
 mod quietness;
 
 pub use ended::is_settled;
+pub use fired::fire;
 pub use fitting::fits;
+pub use flat_rules::FlatRules;
 pub use quietness::quiet;

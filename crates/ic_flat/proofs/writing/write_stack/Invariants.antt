@@ -3,7 +3,7 @@ use Rattle.std.specs.List.{flat_map}
 use Rattle.ic_term.specs.Tree.{nodes}
 use Rattle.ic_flat.specs.Words.{tree_words}
 use Rattle.ic_flat.specs.inner.Stacks.{coming}
-use Rattle.ic_flat.proofs.writing.write_terms.Given as goal
+use Rattle.ic_flat.proofs.writing.write_stack.Given as goal
 
 -- the words so far and those of what is on the stack are those of the whole
 abbrev pub invariant-loop-term : goal.invariant-loop-term

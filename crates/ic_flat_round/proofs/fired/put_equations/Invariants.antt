@@ -1,0 +1,23 @@
+use Rattle.std.proofs.Common.{◌≡◌, ◌-◌, ◌≤◌, true, length}
+use Rattle.std.specs.List.{list_all}
+use Rattle.ic_term.specs.Symbol.{is_pair_over}
+use Rattle.ic_round.specs.Firing.{fired_from, next_behind}
+use Rattle.ic_flat_round.specs.inner.Room.{GoesOn}
+use Rattle.ic_flat_round.specs.inner.RuleWords.{pairs_words}
+use Rattle.ic_flat_round.specs.inner.Standing.{pairs_at, AreInTwos}
+use Rattle.ic_flat_round.proofs.fired.put_equations.Given as goal
+
+-- what the equations left give when they are fired is left
+abbrev pub invariant-loop-place : goal.invariant-loop-place
+invariant-loop-place l = record {
+  within : l.place ≤ length l.words;
+  twos : AreInTwos l.words l.place;
+  over : list_all (is_pair_over l.rules.symbols) (pairs_at l.words l.place) ≡ true;
+  names : next_behind l.rules.rules l.next (pairs_at l.words l.place) ≡ next_behind l.rules.rules l.fn.next (pairs_at l.words l.fn.place);
+  left :
+      GoesOn l.fn.out (pairs_words (fired_from l.rules.rules l.fn.next (pairs_at l.words l.fn.place)))
+      l.out (pairs_words (fired_from l.rules.rules l.next (pairs_at l.words l.place)));
+}
+
+abbrev pub decreases-loop-place : goal.decreases-loop-place
+decreases-loop-place l = length l.words - l.place

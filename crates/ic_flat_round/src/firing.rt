@@ -1,0 +1,125 @@
+//! The words of products, put on a list that has room for them.
+
+ghost use Rattle.std.specs.Prelude.{◌≡◌, ◌+◌, ◌<◌, ◌≤◌, length, map, drop};
+ghost use Rattle.ic_flat.specs.Words.{forest, IsWhole};
+ghost use Rattle.ic_round.specs.Firing.{arguments};
+ghost use Rattle.ic_flat_round.specs.inner.Room.{HasRoom, Appended};
+ghost use Rattle.ic_flat_round.specs.inner.RuleWords.{raised_word, product_words, against_words, interaction_words};
+ghost use Rattle.ic_flat_round.specs.inner.Standing.{tree_at, IsTermAt};
+
+use ic_flat::{Word, end_of_term};
+
+/// Appends words.
+pub(crate) fn put_copied(words: &[Word], out: &mut Vec<Word>)
+    requires { HasRoom out.old words.now }
+    ensures { Appended out.old out.new words.now }
+{
+    for word in words {
+        out.push_reserved(*word);
+    }
+}
+
+/// Appends words with their names made higher by the base.
+fn put_raised(words: &[Word], base: u64, out: &mut Vec<Word>)
+    requires { HasRoom out.old words.now }
+    ensures { Appended out.old out.new (map (raised_word base) words.now) }
+{
+    for word in words {
+        out.push_reserved(raised(*word, base));
+    }
+}
+
+fn raised(word: Word, base: u64) -> Word
+    ensures { result ≡ raised_word base word }
+{
+    match word {
+        Word::Name(name) => Word::Name(base.saturating_add(name)),
+        Word::Agent(sym, arity) => Word::Agent(sym, arity),
+    }
+}
+
+/// Appends the argument at a place, then the rule's term for it, and tells where both end.
+fn put_product(
+    words: &[Word],
+    place: usize,
+    template: &[Word],
+    from: usize,
+    base: u64,
+    out: &mut Vec<Word>,
+) -> (usize, usize)
+    requires whole { IsWhole words.now }
+    requires whole_template { IsWhole template.now }
+    requires there { place < length words.now }
+    requires term_there { from < length template.now }
+    requires room { HasRoom out.old
+        (product_words base (tree_at words.now place) (tree_at template.now from)) }
+    ensures argument { IsTermAt words.now place result.0 }
+    ensures term { IsTermAt template.now from result.1 }
+    ensures put { Appended out.old out.new
+        (product_words base (tree_at words.now place) (tree_at template.now from)) }
+{
+    let end = end_of_term(words, place);
+    put_copied(&words[place..end], out);
+    let until = end_of_term(template, from);
+    put_raised(&template[from..until], base, out);
+    (end, until)
+}
+
+/// Appends so many arguments of an agent, the first of them at a place, each with the rule's term for it behind it, and
+/// tells where these terms end.
+fn put_products(
+    words: &[Word],
+    place: usize,
+    count: usize,
+    template: &[Word],
+    from: usize,
+    base: u64,
+    out: &mut Vec<Word>,
+) -> usize
+    requires whole { IsWhole words.now }
+    requires whole_template { IsWhole template.now }
+    requires there { count ≤ length (forest (drop place words.now)) }
+    requires terms_there { count ≤ length (forest (drop from template.now)) }
+    requires room { HasRoom out.old (against_words base count
+        (forest (drop place words.now)) (forest (drop from template.now))) }
+    ensures rest { forest (drop result template.now) ≡ drop count (forest (drop from template.now)) }
+    ensures put { Appended out.old out.new (against_words base count
+        (forest (drop place words.now)) (forest (drop from template.now))) }
+{
+    let mut due = count;
+    let mut place = place;
+    let mut from = from;
+    while due > 0 {
+        let (end, until) = put_product(words, place, template, from, base, out);
+        place = end;
+        from = until;
+        due -= 1;
+    }
+    from
+}
+
+/// Appends the arguments of two agents, each with a rule's term for it behind it, where these are the words of the rule.
+pub(crate) fn put_interaction(
+    words: &[Word],
+    left: usize,
+    right: usize,
+    template: &[Word],
+    base: u64,
+    out: &mut Vec<Word>,
+)
+    requires whole { IsWhole words.now }
+    requires whole_template { IsWhole template.now }
+    requires there { left < length words.now }
+    requires right_there { right < length words.now }
+    requires terms_there { length (arguments (tree_at words.now left))
+        + length (arguments (tree_at words.now right)) ≤ length (forest template.now) }
+    requires room { HasRoom out.old (interaction_words base (arguments (tree_at words.now left))
+        (arguments (tree_at words.now right)) (forest template.now)) }
+    ensures { Appended out.old out.new (interaction_words base (arguments (tree_at words.now left))
+        (arguments (tree_at words.now right)) (forest template.now)) }
+{
+    let left_count = words[left].arguments();
+    let right_count = words[right].arguments();
+    let from = put_products(words, left + 1, left_count, template, 0, base, out);
+    put_products(words, right + 1, right_count, template, from, base, out);
+}
