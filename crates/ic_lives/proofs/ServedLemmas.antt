@@ -200,7 +200,7 @@ module _ {D : Type 0} {ghosts : Ghosts D} where
         ⊎_elim
         (λ stop. let at = stopped_so so_far s.answering s.led_to s.under_way s.found there stop in (at.0 ++ so_far, at.2, inl (at.0, at.1, refl)))
         (λ close. let all = reaches_more so_far s.answering s.led_to s.under_way there in
-            (closes ∷ (s.under_way.moves ++ so_far), reaches_step closes (s.under_way.moves ++ so_far) (up s.led_to) (down s.found) all close, inr refl))
+        (closes ∷ (s.under_way.moves ++ so_far), reaches_step closes (s.under_way.moves ++ so_far) (up s.led_to) (down s.found) all close, inr refl))
         end
 
     pub servings_run : (servings : List (Serving ghosts)) (first last : D) → IsTrue (ghosts.keeps first) → Within (ghosts.image first) (HoldsTable []) → AreServings servings first last
