@@ -1,6 +1,6 @@
 -- Where something differs, the comparison says so.
 use Rattle.std.proofs.Common.{◌≡◌, ℕ, ◌+◌, ◌<◌, ◌≤◌, suc, arith, List, [], ◌∷◌, ◌++◌, Option, Some, true, false, length, take, drop, refl, sym, ap, subst, ◌∙◌, inl, inr}
-use Rattle.std.specs.Prelude.{Result, Ok, Err, IsTrue, slice_index_or, slice_get}
+use Rattle.std.specs.Prelude.{Result, Ok, Err, IsSomeAnd, IsTrue, slice_index_or, slice_get}
 use Rattle.std.specs.Cmp.{unsigned_Decides}
 use Rattle.std.specs.List.{cons_option}
 use Rattle.std.proofs.Math.Seq.{drop-cons, get_or-append_seam}
@@ -86,7 +86,7 @@ last_round (e ∷ front) last rounds = last_round front last rounds.1
 -- the last of what may stand behind is a round, or of a client that a failing disk has ended
 pub last_behind : (runs : List ClientRun) (es front : List Entry) (last : Entry) → es ≡ front ++ last ∷ []
     → is_round last.event ≡ false → MayStandBehind runs es
-    → (run : ClientRun) × (slice_get runs last.who ≡ Some run) × (run.end ≡ Some Device)
+    → (run : ClientRun) × (slice_get runs last.who ≡ Some run) × (run.end ≡ Some Device) × IsSomeAnd run.refused (λ c. last.event ≡ by_command c)
 last_behind runs es front last is no_round (inl rounds) =
     let yes : is_round last.event ≡ true = last_round front last (subst AreRounds is rounds) in absurd (let no : true ≡ false = sym yes ∙ no_round in cc)
 last_behind runs es front last is no_round (inr ends) =
@@ -94,6 +94,7 @@ last_behind runs es front last is no_round (inr ends) =
       ends.client,
       ap (λ (e : Entry). slice_get runs e.who) (sym same) ∙ ends.sender,
       ends.failed,
+      subst (λ (e : Entry). IsSomeAnd ends.client.refused (λ c. e.event ≡ by_command c)) same ends.refused,
     )
 
 -- what is one history of scripts agrees with what was gathered

@@ -1,12 +1,12 @@
 -- What one history says of each client's answers.
 use Rattle.std.proofs.Common.{◌≡◌, ◌∙◌, ℕ, ◌+◌, ◌<◌, List, [], ◌∷◌, ◌++◌, Bool, true, false, Option, None, Some, length, drop, map, zero, suc, refl, sym, ap, subst, arith, append_assoc, inl, inr, if◌then◌else◌}
-use Rattle.std.specs.Prelude.{is_some, nat_lt, slice_get}
+use Rattle.std.specs.Prelude.{◌⊎◌, ◌==◌, IfSome, IsSomeAnd, is_some, nat_lt, slice_get}
 use Rattle.std.specs.Cmp.{unsigned_Decides}
 use Rattle.std.specs.List.{cons_option, find, All, AllByRecursion, AllZip}
 use Rattle.std.specs.Option.{option_or}
 use Rattle.std.specs.Str.{bytes_eq}
 use Rattle.std.proofs.Math.Seq.{get_or-append_seam}
-use Rattle.std.proofs.lemmas.List.{length-append, take-append-drop}
+use Rattle.std.proofs.lemmas.List.{append-nil, length-append, map-append, take-append-drop}
 use Rattle.std.proofs.lemmas.List.Folds.{find-append}
 use Rattle.std.proofs.lemmas.Option.{slice_get_cases}
 use Rattle.std.proofs.lemmas.Slice.Eq.{bytes_eq-Decides}
@@ -16,6 +16,7 @@ use Rattle.ic_jobs.specs.declared.command.Command.{Command}
 use Rattle.ic_jobs.specs.declared.command.Command.TheVariants.{Submit}
 use Rattle.ic_jobs.specs.declared.event.Entry.{Entry}
 use Rattle.ic_jobs.specs.declared.event.Event.{Event}
+use Rattle.ic_jobs.specs.declared.event.Event.TheVariants.{Command as by_command}
 use Rattle.ic_jobs.specs.declared.limits.TheConstants.{MAX_JOBS}
 use Rattle.ic_jobs.specs.declared.reply.Reply.{Reply}
 use Rattle.ic_jobs.specs.declared.reply.Reply.TheVariants.{Accepted, Refused}
@@ -26,13 +27,13 @@ use Rattle.ic_jobs.specs.Job.{JobParts, begun}
 use Rattle.ic_jobs.specs.Names.{mentions}
 use Rattle.ic_jobs.specs.Table.{is_named, job_named}
 use Rattle.ic_desk.specs.Book.{log_of, kept_of}
-use Rattle.ic_desk.specs.Entries.{is_round, command_entry}
+use Rattle.ic_desk.specs.Entries.{AreRounds, is_round, command_entry}
 use Rattle.ic_attend.specs.declared.attended.Attended.{Attended}
 use Rattle.ic_attend.specs.declared.attended.ClientRun.{ClientRun}
-use Rattle.ic_attend.specs.Clients.{asked, KeepsTo}
+use Rattle.ic_attend.specs.Clients.{asked, EndsUnanswered, KeepsTo}
 use Rattle.ic_attend.specs.OneHistory.{IsOneHistory, kept_log, unkept_log}
 use Rattle.ic_attend.specs.Parts.{AreOfClients, answer_to, commands_in, part}
-use Rattle.ic_attend.proofs.PartLemmas.{answer_to-own, part-append, runs_counted}
+use Rattle.ic_attend.proofs.PartLemmas.{answer_to-other, answer_to-own, answer_to-round, part-snoc, part-append, runs_counted}
 
 -- what holds of all elements holds of the one between two parts
 pub all_at : {X : Type 0} (P : X → Type 0) (front back : List X) (e : X) → All P (front ++ e ∷ back) → P e
@@ -47,6 +48,39 @@ zip_at R [] ys k x all is = absurd (let bad : None ≡ Some x = is in cc)
 zip_at R (z ∷ xs) [] k x all is = absurd all
 zip_at R (z ∷ xs) (y ∷ ys) zero x all is = let same : z ≡ x = cc in (y, refl, subst (λ a. R a y) same all.0)
 zip_at R (z ∷ xs) (y ∷ ys) (suc k) x all is = zip_at R xs ys k x all.1 is
+
+-- rounds are no client's
+pub rounds_no_part : (who : ℕ) (es : List Entry) → AreRounds es → part who es ≡ []
+rounds_no_part who [] rounds = refl
+rounds_no_part who (e ∷ es) rounds =
+    ap (λ (o : Option (Command × Reply)). cons_option o (part who es)) (answer_to-round who e rounds.0) ∙ rounds_no_part who es rounds.1
+
+-- the refused command is the next of the script, and it is the event
+pub next_of : (before script : List Command) {E : Command → Type 0} (o : Option Command) → IfSome o (λ c. (rest : List Command) × (script ≡ before ++ c ∷ rest)) → IsSomeAnd o E
+    → (c : Command) × E c × (rest : List Command) × (script ≡ before ++ c ∷ rest)
+next_of before script None next some = absurd some
+next_of before script (Some c) next some = (c, some, next.0, next.1)
+
+-- A last, unanswered command is another client's, or this client's own.
+pub last_part : (who : ℕ) (runs : List ClientRun) (es : List Entry) (ends : EndsUnanswered runs es)
+    → (part who es ≡ []) ⊎ ((slice_get runs who ≡ Some ends.client)
+    × ((c : Command) → ends.last.event ≡ by_command c → commands_in who es ≡ c ∷ []))
+last_part who runs es ends = at (ends.last.who == who) refl
+  where
+    whole : part who es ≡ cons_option (answer_to who ends.last) []
+    whole = ap (part who) ends.entries ∙ part-snoc who ends.front ends.last
+        ∙ ap (λ (l : List (Command × Reply)). l ++ cons_option (answer_to who ends.last) []) (rounds_no_part who ends.front ends.rounds)
+
+    at : (b : Bool) → (ends.last.who == who) ≡ b → (part who es ≡ []) ⊎ ((slice_get runs who ≡ Some ends.client)
+        × ((c : Command) → ends.last.event ≡ by_command c → commands_in who es ≡ c ∷ []))
+    at false is = inl (whole ∙ ap (λ (o : Option (Command × Reply)). cons_option o []) (answer_to-other who ends.last is))
+    at true is =
+        let own : ends.last.who ≡ who = (unsigned_Decides ends.last.who who).0 is in
+        inr (
+          ap (slice_get runs) (sym own) ∙ ends.sender,
+          λ c event. ap (map (λ (p : Command × Reply). p.0))
+              (whole ∙ ap (λ (o : Option (Command × Reply)). cons_option o []) (answer_to-own who ends.last c ends.last.reply is event refl)),
+        )
 
 module _ {D : Type 0} {ghosts : Ghosts D} (a : Attended D ghosts) where
   log_parts : kept_log a ++ unkept_log a ≡ log_of a.book
@@ -90,6 +124,38 @@ module _ {D : Type 0} {ghosts : Ghosts D} (a : Attended D ghosts) where
         (drop n script, whole ∙ ap (λ (l : List Command). l ++ drop n script) same),
         λ well. sym same ∙ found.2.finished well,
       )
+
+  -- all commands of a client begin its script
+  pub given_script : (scripts : List (List Command)) (runners turns who : ℕ) (script : List Command) → IsOneHistory scripts runners turns a → slice_get scripts who ≡ Some script
+      → (rest : List Command) × (script ≡ commands_in who (log_of a.book) ++ rest)
+  given_script scripts runners turns who script history is =
+      let found = zip_at KeepsTo scripts a.answers.items who script history.scripts_kept is in
+      let kept = kept_script scripts runners turns who script history is in
+      let parts : commands_in who (log_of a.book) ≡ commands_in who (kept_log a) ++ commands_in who (unkept_log a) =
+      ap (commands_in who) (sym log_parts) ∙ ap (map (λ (p : Command × Reply). p.0)) (part-append who (kept_log a) (unkept_log a))
+      ∙ map-append (λ (p : Command × Reply). p.0) (part who (kept_log a)) (part who (unkept_log a)) in
+      let none : commands_in who (unkept_log a) ≡ [] → (rest : List Command) × (script ≡ commands_in who (log_of a.book) ++ rest) = λ empty. (
+        kept.2.0,
+        kept.2.1 ∙ ap (λ (l : List Command). l ++ kept.2.0) (sym (parts ∙ ap (λ (l : List Command). commands_in who (kept_log a) ++ l) empty ∙ append-nil (commands_in who (kept_log a)))),
+      ) in
+      elim history.behind [
+        | inl rounds ↦ none (ap (map (λ (p : Command × Reply). p.0)) (rounds_no_part who (unkept_log a) rounds))
+        | inr ends ↦ elim (last_part who a.answers.items (unkept_log a) ends) [
+          | inl other ↦ none (ap (map (λ (p : Command × Reply). p.0)) other)
+          | inr own ↦
+              let one : Some found.0 ≡ Some ends.client = sym found.1 ∙ own.0 in
+              let same : found.0 ≡ ends.client = cc in
+              let asked_so : asked found.0 ≡ commands_in who (kept_log a) = ap (map (λ (p : Command × Reply). p.0)) (history.answers who found.0 found.1) in
+              let next = next_of (commands_in who (kept_log a)) script ends.client.refused
+              (subst (λ (l : List Command). IfSome ends.client.refused (λ c. (rest : List Command) × (script ≡ l ++ c ∷ rest))) asked_so
+              (subst (λ (r : ClientRun). IfSome r.refused (λ c. (rest : List Command) × (script ≡ asked found.0 ++ c ∷ rest))) same found.2.next)) ends.refused in
+              let mine : commands_in who (unkept_log a) ≡ next.0 ∷ [] = own.1 next.0 next.1 in (
+                next.2,
+                next.3 ∙ sym (append_assoc (commands_in who (kept_log a)) (next.0 ∷ []) next.2)
+                    ∙ ap (λ (l : List Command). l ++ next.2) (sym (parts ∙ ap (λ (l : List Command). commands_in who (kept_log a) ++ l) mine)),
+              )
+        ]
+      ]
 
 -- ---- what a client reads back
 

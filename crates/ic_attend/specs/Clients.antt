@@ -1,7 +1,8 @@
 -- What a client gathers, and what it says of a history.
-use Rattle.std.specs.Prelude.{◌≡◌, ◌⊎◌, ℕ, List, [], ◌∷◌, ◌++◌, None, Some, length, map, take, slice_get}
+use Rattle.std.specs.Prelude.{◌≡◌, ◌⊎◌, ℕ, List, [], ◌∷◌, ◌++◌, None, Some, IfSome, IsSomeAnd, length, map, take, slice_get}
 use Rattle.ic_jobs.specs.declared.command.Command.{Command}
 use Rattle.ic_jobs.specs.declared.event.Entry.{Entry}
+use Rattle.ic_jobs.specs.declared.event.Event.TheVariants.{Command as by_command}
 use Rattle.ic_jobs.specs.declared.reply.Reply.{Reply}
 use Rattle.ic_desk.specs.declared.fault.BookFault.TheVariants.{Device}
 use Rattle.ic_desk.specs.Entries.{AreRounds}
@@ -16,9 +17,16 @@ asked run = map (λ (a : Command × Reply). a.0) run.answers.items
 abbrev pub Begins : (script : List Command) (run : ClientRun) → Type 0
 Begins script run = asked run ≡ take (length (asked run)) script
 
+-- Where it was refused a command, that is the next one of its script.
+abbrev pub IsNext : (script : List Command) (run : ClientRun) → Type 0
+IsNext script run =
+    IfSome run.refused (λ c. (rest : List Command) × (script ≡ asked run ++ c ∷ rest))
+
 -- A client is answered the first commands of its script in order, and all of them where it finished.
+-- Where it was refused one, that is the next.
 pub record KeepsTo (script : List Command) (run : ClientRun) : Type 0 where
   pub first : Begins script run
+  pub next : IsNext script run
   pub finished : run.end ≡ None → asked run ≡ script
 
 -- The answers of each client, numbered from 0, are its part of these entries.
@@ -26,7 +34,7 @@ abbrev pub AreParts : List Entry → List ClientRun → Type 0
 AreParts es runs =
     (who : ℕ) (run : ClientRun) → slice_get runs who ≡ Some run → run.answers.items ≡ part who es
 
--- Rounds, and behind them one command of a client that a failing disk has ended.
+-- Rounds, and behind them the one command at which a failing disk has ended its client.
 pub record EndsUnanswered (runs : List ClientRun) (es : List Entry) : Type 0 where
   pub front : List Entry
   pub last : Entry
@@ -35,6 +43,7 @@ pub record EndsUnanswered (runs : List ClientRun) (es : List Entry) : Type 0 whe
   pub rounds : AreRounds front
   pub sender : slice_get runs last.who ≡ Some client
   pub failed : client.end ≡ Some Device
+  pub refused : IsSomeAnd client.refused (λ c. last.event ≡ by_command c)
 
 -- What may stand behind the kept entries: rounds alone, or one last command that wasn't answered.
 abbrev pub MayStandBehind : List ClientRun → List Entry → Type 0

@@ -12,6 +12,8 @@ pub struct ClientRun {
     pub answers: Vec<(Command, Reply)>,
     /// Why it ended before its script did; none where the script was finished.
     pub end: Option<BookFault>,
+    /// The command at which it ended so. Where the disk failed at it, it may stand in the history.
+    pub refused: Option<Command>,
 }
 
 /// How a runner ended.

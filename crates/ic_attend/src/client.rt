@@ -1,6 +1,6 @@
 //! A client: it gives the commands of its script, one by one, and gathers the answers.
 
-ghost use Rattle.std.specs.Prelude.{◌≡◌, ◌++◌, ◌∷◌, [], OnOk, OnErr, true};
+ghost use Rattle.std.specs.Prelude.{◌≡◌, ◌++◌, ◌∷◌, [], None, Some, OnOk, OnErr, IfErr, true, false};
 ghost use Rattle.ic_jobs.specs.declared.reply.Reply.{Reply as Answer};
 ghost use Rattle.ic_attend.specs.inner.Speech.{Speaks};
 
@@ -21,24 +21,62 @@ pub(crate) struct Speech {
     pub stopped: bool,
 }
 
+/// A command that was refused, and why.
+#[derive(Drop)]
+struct Refusal {
+    command: Command,
+    fault: BookFault,
+}
+
+impl Refusal {
+    fn new(command: Command, fault: BookFault) -> Refusal
+        ensures { result ≡ record { command = command; fault = fault } }
+    {
+        Refusal { command, fault }
+    }
+}
+
 impl Speech {
-    fn new(answers: Vec<(Command, Reply)>, end: Option<BookFault>, stopped: bool) -> Speech
+    fn new(answers: Vec<(Command, Reply)>, stopped: bool) -> Speech
         ensures answers { result.run.answers.items ≡ answers.items }
-        ensures end { result.run.end ≡ end }
+        ensures end { result.run.end ≡ None }
+        ensures refused { result.run.refused ≡ None }
         ensures stopped { result.stopped ≡ stopped }
     {
         Speech {
-            run: ClientRun { answers, end },
+            run: ClientRun {
+                answers,
+                end: None,
+                refused: None,
+            },
             stopped,
+        }
+    }
+
+    /// The speech of a client that was refused a command.
+    fn refused(answers: Vec<(Command, Reply)>, refusal: Refusal) -> Speech
+        ensures answers { result.run.answers.items ≡ answers.items }
+        ensures end { result.run.end ≡ Some refusal.fault }
+        ensures refused { result.run.refused ≡ Some refusal.command }
+        ensures stopped { result.stopped ≡ false }
+    {
+        Speech {
+            run: ClientRun {
+                answers,
+                end: Some(refusal.fault),
+                refused: Some(refusal.command),
+            },
+            stopped: false,
         }
     }
 
     /// The speech of a client whose thread wasn't started.
     pub(crate) fn none(alloc: Global) -> Speech
         ensures answers { result.run.answers.items ≡ [] }
+        ensures refused { result.run.refused ≡ None }
         ensures stopped { result.stopped ≡ true }
     {
-        Speech::new(Vec::new(alloc), None, true)
+        Speech::new(Vec::new(alloc), true)
     }
 }
 
@@ -58,18 +96,18 @@ pub(crate) fn speak<R: Wait, D: Disk, G: Gate>(
     let mut answers = Vec::new(alloc);
     for command in script {
         if signs.are_told_to_stop() {
-            return Speech::new(answers, None, true);
+            return Speech::new(answers, true);
         }
         match ask(rt, alloc, desk, who, command, &mut answers) {
             Ok(()) => gate.answered(who),
-            Err(fault) => return Speech::new(answers, Some(fault), false),
+            Err(refusal) => return Speech::refused(answers, refusal),
         }
     }
-    Speech::new(answers, None, false)
+    Speech::new(answers, false)
 }
 
 /// Gives a command, and puts it behind the answers with its reply. The copy and the room are made
-/// first, so a command that is answered is never lost.
+/// first, so a command that is answered is never lost. At Err it is handed back.
 fn ask<R: Wait, D: Disk>(
     rt: &R,
     alloc: Global,
@@ -77,14 +115,23 @@ fn ask<R: Wait, D: Disk>(
     who: u64,
     command: Command,
     answers: &mut Vec<(Command, Reply)>,
-) -> Result<(), BookFault>
+) -> Result<(), Refusal>
     ensures answered { OnOk result ((reply : Answer)
         × (answers.new.items ≡ answers.old.items ++ (command, reply) ∷ [])) }
     ensures refused { OnErr result (answers.new.items ≡ answers.old.items) }
+    ensures handed { IfErr result (λ refusal. refusal.command ≡ command) }
 {
-    let copy = command.copy(alloc)?;
-    answers.reserve(1)?;
-    let reply = desk.command(rt, alloc, who, command)?;
-    answers.push_reserved((copy, reply));
-    Ok(())
+    let Ok(copy) = command.copy(alloc) else {
+        return Err(Refusal::new(command, BookFault::Memory));
+    };
+    let Ok(()) = answers.reserve(1) else {
+        return Err(Refusal::new(command, BookFault::Memory));
+    };
+    match desk.command(rt, alloc, who, command) {
+        Ok(reply) => {
+            answers.push_reserved((copy, reply));
+            Ok(())
+        }
+        Err(fault) => Err(Refusal::new(copy, fault)),
+    }
 }

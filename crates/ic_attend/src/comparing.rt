@@ -1,6 +1,6 @@
 //! The history compared with what the threads gathered, exactly. It takes no memory.
 
-ghost use Rattle.std.specs.Prelude.{◌≡◌, ◌↔◌, ◌-◌, Some, IsTrue, length, take, map, slice_get};
+ghost use Rattle.std.specs.Prelude.{◌≡◌, ◌↔◌, ◌-◌, Some, IsTrue, IsSomeAnd, length, take, map, slice_get};
 ghost use Rattle.std.specs.List.{All};
 ghost use Rattle.ic_jobs.specs.declared.event.Event.TheVariants.{Command as by_command};
 ghost use Rattle.ic_desk.specs.declared.fault.BookFault.TheVariants.{Device as by_device};
@@ -103,26 +103,55 @@ fn is_answer(entry: &Entry, answer: &(Command, Reply)) -> bool
     }
 }
 
-/// Whether these entries are rounds, or rounds and one last command of a client that a failing disk
-/// has ended.
+/// Whether these entries are rounds, or rounds and one last command at which a failing disk has ended
+/// its client.
 fn may_stand_behind(entries: &[Entry], runs: &[ClientRun]) -> bool
     requires { AreRounds (take (length entries.now - 1) entries.now) }
     ensures { IsTrue result ↔ MayStandBehind runs.now entries.now }
 {
     match entries.split_last() {
         None => true,
-        Some((last, _)) => is_round(&last.event) || has_failed(runs, last.who),
+        Some((last, _)) => is_round(&last.event) || has_failed(runs, last.who, &last.event),
     }
 }
 
-/// Whether a failing disk has ended this client.
-fn has_failed(runs: &[ClientRun], who: u64) -> bool
+/// Whether a failing disk has ended this client at this command.
+fn has_failed(runs: &[ClientRun], who: u64, event: &Event) -> bool
     ensures { IsTrue result ↔ ((run : Run) × (slice_get runs.now who ≡ Some run)
-        × (run.end ≡ Some by_device)) }
+        × (run.end ≡ Some by_device)
+        × IsSomeAnd run.refused (λ c. event.now ≡ by_command c)) }
 {
     match runs.get(who as usize) {
-        Some(run) => is_device(run.end),
+        Some(run) => ended_at(run, event),
         None => false,
+    }
+}
+
+/// Whether a failing disk has ended this client at this command.
+fn ended_at(run: &ClientRun, event: &Event) -> bool
+    ensures { IsTrue result ↔ ((run.now.end ≡ Some by_device)
+        × IsSomeAnd run.now.refused (λ c. event.now ≡ by_command c)) }
+{
+    is_device(run.end) && is_refused(&run.refused, event)
+}
+
+/// Whether an event is the command that was refused.
+fn is_refused(refused: &Option<Command>, event: &Event) -> bool
+    ensures { IsTrue result ↔ IsSomeAnd refused.now (λ c. event.now ≡ by_command c) }
+{
+    match refused {
+        Some(command) => is_command(event, command),
+        None => false,
+    }
+}
+
+/// Whether an event is this command.
+fn is_command(event: &Event, asked: &Command) -> bool
+    ensures { IsTrue result ↔ (event.now ≡ by_command asked.now) }
+{
+    match event {
+        Event::Command(command) => same_command(command, asked),
+        Event::Round(_) => false,
     }
 }
 

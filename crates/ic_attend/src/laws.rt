@@ -90,8 +90,8 @@ pub fn a_client_reads_back_its_own()
     ensures submitted { (start : List JobParts) (front : List Entry) (who : ℕ)
         (name : List ℕ) (system : SystemParts)
         → IsLegal start (front ++ command_entry who (Submit name system) Accepted ∷ [])
-        → job_named name (replay start (front ++ command_entry who (Submit name system) Accepted ∷ []))
-        ≡ Some (begun name system) }
+        → job_named name (replay start
+        (front ++ command_entry who (Submit name system) Accepted ∷ [])) ≡ Some (begun name system) }
 {
     a_client_reads_what_came_before();
     ic_jobs::laws::histories_split_and_join();
@@ -128,9 +128,13 @@ pub fn each_kept_command_was_answered<D: Disk>(attended: &Attended<D>)
     let _ = attended;
 }
 
-/// The commands of a client that are kept begin its script, and are all of it where the client has
-/// no end. There is an end for each runner.
+/// The commands of a client begin its script, also where the last of them wasn't answered. Those that
+/// are kept are all of it where the client has no end. There is an end for each runner.
 pub fn each_script_is_given_in_order<D: Disk>(attended: &Attended<D>)
+    ensures given { (scripts : List (List Command)) (runners turns who : ℕ)
+        (script : List Command) → IsOneHistory scripts runners turns attended.now
+        → slice_get scripts who ≡ Some script → (rest : List Command)
+        × (script ≡ commands_in who (log_of attended.now.book) ++ rest) }
     ensures script { (scripts : List (List Command)) (runners turns who : ℕ)
         (script : List Command) → IsOneHistory scripts runners turns attended.now
         → slice_get scripts who ≡ Some script

@@ -20,6 +20,7 @@ returns-else-is_round c =
             rounds = front_rounds entries front last cut.0 c.requires;
             sender = found.1;
             failed = found.2;
+            refused = found.3;
           }),
       λ behind. c.has_failed.ensures.1 (
           last_behind runs entries front last cut.0 (sym c.is_round.ensures ∙ c.if-is_round.false) behind
