@@ -1,0 +1,130 @@
+"""The line of progress: what a terminal is shown on standard error of long work, and that nothing else is."""
+
+import os
+import re
+import subprocess
+import threading
+import time
+import tty
+
+from known import LOOP, STILL
+from program import IN_MEMORY, PATIENCE, PROGRAM, Trial, as_lines, said_of
+
+# A line as the program writes it: to the begin of the terminal's line, the text, and what erases the rest.
+LINE = re.compile(rb"\revents (\d+)(?:, rounds a second (\d+), jobs running (\d+))?\x1b\[K")
+WIPED = b"\r\x1b[K"
+
+# A system whose net grows with each round, so that many rounds take a while on any machine.
+GROWING = "{A(B(x),S(y))><B(A(x,y))} <r|A(x,r)=B(x)>"
+LONG = [f"submit grow {GROWING}", *["run 1000"] * 6]
+ANSWERS = ["accepted", *["ran 1000"] * 6]
+
+
+class Terminal:
+    """A terminal to which a program writes, and which a thread reads until no program has it open."""
+
+    def __enter__(self):
+        self.ours, self.theirs = os.openpty()
+        tty.setraw(self.theirs)
+        self.came = bytearray()
+        self.reader = threading.Thread(target=self.read)
+        self.reader.start()
+        return self
+
+    def read(self):
+        while True:
+            try:
+                more = os.read(self.ours, 65536)
+            except OSError:
+                return
+            self.came += more
+
+    def __exit__(self, *_):
+        os.close(self.theirs)
+        self.reader.join()
+        os.close(self.ours)
+
+
+class Progress(Trial):
+    seconds = 15
+    rooms = IN_MEMORY
+
+    def setUp(self):
+        super().setUp()
+        self.jobs = self.disk()
+
+    def shows(self, words, given=b"", out=True, err=True):
+        """Runs the program with terminals as its standard output or error: its status, what came on each, and how many
+        seconds it took."""
+        command, given = [PROGRAM, *map(str, words)], as_lines(given)
+        self.command = said_of(command, given)
+        with Terminal() as shown:
+            begun = time.monotonic()
+            pipes = {"stdout": shown.theirs if out else subprocess.PIPE, "stderr": shown.theirs if err else subprocess.PIPE}
+            ran = subprocess.run(command, input=given, timeout=PATIENCE, **pipes)
+            took = time.monotonic() - begun
+        return ran.returncode, ran.stdout, ran.stderr, bytes(shown.came), took
+
+    def lines_of(self, shown, took):
+        """What the lines say that came on a terminal: they are rewritten in place and seldom enough, and wiped at the end."""
+        lines = [tuple(int(it or 0) for it in line.groups()) for line in LINE.finditer(shown)]
+        rest = LINE.sub(b"", shown)
+        if rest.replace(WIPED, b"") or not shown.endswith(WIPED):
+            self.told(self.command, "standard error", "lines of progress, and last that they are wiped", shown)
+        events = [it[0] for it in lines]
+        self.assertEqual(events, sorted(events), self.command)
+        self.assertLessEqual(len(lines), 10 * took + 1, self.command)
+        return lines
+
+    def script(self, name, lines):
+        path = self.room / name
+        path.write_bytes(as_lines(lines))
+        return path
+
+    def test_a_run_shows_its_line_on_a_terminal_and_wipes_it(self):
+        status, out, _, shown, took = self.shows(["serve", "--disk", self.jobs], LONG, out=False)
+        self.assertEqual((status, out), (0, as_lines(ANSWERS)), self.command)
+        lines = self.lines_of(shown, took)
+        self.assertGreater(len(lines), 2, self.command)
+        for events, _, running in lines:
+            self.assertTrue(0 < events <= 6000 and running == 1, (self.command, events, running))
+
+    def test_scripts_show_their_line_on_a_terminal_and_wipe_it(self):
+        scripts = [self.script(f"script {i}", [f"submit loop{i} {LOOP.text}", *["list"] * 100]) for i in range(3)]
+        words = ["attend", "--disk", self.jobs, "--turns", 30_000, *scripts]
+        status, out, _, shown, took = self.shows(words, out=False)
+        self.assertEqual((status, out[:18]), (0, b"client 0\naccepted\n"), self.command)
+        lines = self.lines_of(shown, took)
+        self.assertGreater(len(lines), 1, self.command)
+        self.assertTrue(any(rate > 0 and running == 3 for _, rate, running in lines), (self.command, lines))
+
+    def test_without_rounds_the_line_tells_events_alone(self):
+        scripts = [self.script(f"script {i}", [f"submit j{i} {STILL.text}", f"cancel j{i}"] * 15_000) for i in range(2)]
+        words = ["attend", "--disk", self.jobs, "--runners", 0, *scripts]
+        status, out, _, shown, took = self.shows(words, out=False)
+        told = [it for i in range(2) for it in (f"client {i}", *["accepted", "ok"] * 15_000)]
+        self.assertEqual((status, out), (0, as_lines(told)), self.command)
+        self.assertGreater(len(self.lines_of(shown, took)), 0, self.command)
+        self.assertNotIn(b"rounds", shown, self.command)
+
+    def test_a_line_is_wiped_before_an_answer_or_a_fault_is_written(self):
+        """Standard output and error are one terminal: behind the answer of a run that showed a line stands no line."""
+        status, _, _, shown, _ = self.shows(["serve", "--disk", self.jobs], [*LONG, "x" * 262_145])
+        wanted = as_lines([*ANSWERS, "icserve: long line"])
+        self.assertEqual(status, 4, self.command)
+        self.agrees(self.command, "what stands on the terminal", wanted, LINE.sub(b"", shown).replace(WIPED, b""))
+        self.assertGreater(len(LINE.findall(shown)), 0, self.command)
+        for line in LINE.finditer(shown):
+            after = shown[line.end() :]
+            self.assertTrue(LINE.match(after) or after.startswith(WIPED), (self.command, shown))
+
+    def test_nothing_of_it_comes_where_standard_error_is_no_terminal(self):
+        status, _, err, shown, _ = self.shows(["serve", "--disk", self.jobs], LONG, err=False)
+        self.assertEqual((status, err, shown), (0, b"", as_lines(ANSWERS)), self.command)
+
+    def test_short_work_shows_no_line(self):
+        given = [f"submit loop {LOOP.text}", "run 1", "list"]
+        status, out, _, shown, took = self.shows(["serve", "--disk", self.jobs], given, out=False)
+        self.assertEqual((status, out), (0, b"accepted\nran 1\njobs loop:running:1\n"), self.command)
+        if took < 0.1:
+            self.assertEqual(shown, b"", self.command)
