@@ -9,3 +9,4 @@ pub mod EndLemmas
 pub mod OnceLemmas
 pub mod NamedLemmas
 pub mod FoundLemmas
+pub mod ActiveLemmas

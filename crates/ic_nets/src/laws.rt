@@ -1,8 +1,9 @@
 //! Laws of the definitions that the contracts of this crate cite.
 
-ghost use Rattle.std.specs.Prelude.{◌≡◌, ◌≤◌, ◌==◌, ℕ, List, [], ◌∷◌, true, false, Some, if◌then◌else◌, length};
+ghost use Rattle.std.specs.Prelude.{◌≡◌, ◌≤◌, ◌==◌, ℕ, List, [], ◌∷◌, true, false, Some, if◌then◌else◌, length, count_by, is_some};
 ghost use Rattle.ic_term.specs.Configuration.{Configuration, IsConfiguration, configuration_names, occurrences};
 ghost use Rattle.ic_rules.specs.Rule.{Rule};
+ghost use Rattle.ic_round.specs.Firing.{rule_of_sides};
 ghost use Rattle.ic_nets.specs.Links.{agents_of, links_of};
 ghost use Rattle.ic_nets.specs.Nets.{IsNet};
 ghost use Rattle.ic_nets.specs.Ports.{ends, is_bound, ports_at, ports_of, times, wire_named};
@@ -43,4 +44,11 @@ pub fn what_is_joined_says_all()
     ensures { (rs : List Rule) (c d : Configuration) → length c.interface ≡ length d.interface
         → agents_of c ≡ agents_of d → links_of rs c ≡ links_of rs d
         → (c.interface ≡ d.interface) × (c.equations ≡ d.equations) }
+{}
+
+/// As many wires stand out as there are equations whose sides have a rule.
+pub fn active_pairs_stand_out()
+    ensures { (rs : List Rule) (c : Configuration) (net : Net) → IsNet rs c net
+        → count_by (λ w. w.active) net.wires.items
+        ≡ count_by (λ p. is_some (rule_of_sides rs p.left p.right)) c.equations }
 {}
