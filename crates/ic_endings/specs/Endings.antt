@@ -18,7 +18,7 @@ use Rattle.ic_scripts.specs.declared.fault.ScriptsFault.{ScriptsFault}
 use Rattle.ic_scripts.specs.declared.fault.ScriptsFault.TheVariants as scripts
 use Rattle.ic_words.specs.declared.words.WordsFault.TheVariants as words
 use Rattle.ic_endings.specs.declared.failure.Failure.{Failure}
-use Rattle.ic_endings.specs.declared.failure.Failure.TheVariants.{Words, Stream, Disk, Create, Open, Serve, Attend}
+use Rattle.ic_endings.specs.declared.failure.Failure.TheVariants.{Words, Stream, Disk, Create, Open, Serve, Attend, NotDone}
 
 -- the exit status of `attend`: 1 for a refused script, 3 for a disk that isn't opened, 4 for all
 -- else
@@ -33,7 +33,8 @@ scripts_status (scripts.Pool fault) = 4
 scripts_status scripts.Memory = 4
 scripts_status scripts.Write = 4
 
--- the exit status: 1 for a refused text or round, 2 for refused words, 3 for a disk, 4 for all else
+-- the exit status: 1 for a refused text or round, 2 for refused words, 3 for a disk, 5 for rounds
+-- that didn't suffice, 4 for all else
 abbrev pub status_of : Failure → ℕ
 status_of (Words (words.Words text)) = 2
 status_of (Words words.Memory) = 4
@@ -47,6 +48,7 @@ status_of (Create fault) = 3
 status_of (Open cause) = 3
 status_of (Serve fault) = 4
 status_of (Attend fault) = scripts_status fault
+status_of NotDone = 5
 
 -- why a round isn't made
 abbrev pub round_word : RoundFault → List ℕ
@@ -117,3 +119,8 @@ failure_line (Create fault) = told (create_word fault)
 failure_line (Open cause) = told (open_word cause)
 failure_line (Serve fault) = told (serve_word fault)
 failure_line (Attend fault) = told (scripts_word fault)
+failure_line NotDone = told (codes "not done")
+
+-- the line that tells a stuck pair
+abbrev pub stuck_line : List ℕ → List ℕ
+stuck_line pair = told (codes "stuck " ++ pair)

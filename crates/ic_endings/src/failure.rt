@@ -2,7 +2,7 @@
 
 ghost use Rattle.std.specs.Prelude.{◌≡◌, IfOk};
 ghost use Rattle.ic_endings.specs.Endings.{status_of, scripts_status, failure_line, told};
-ghost use Rattle.ic_endings.specs.Endings.{stream_word, round_word, create_word, open_word, serve_word};
+ghost use Rattle.ic_endings.specs.Endings.{stream_word, round_word, create_word, open_word, serve_word, stuck_line};
 ghost use Rattle.ic_endings.specs.Endings.{scripts_word, script_words};
 
 use ic_disk::DiskFault;
@@ -33,11 +33,13 @@ pub enum Failure {
     Serve(ServeFault),
     /// Scripts aren't attended to, or not in full.
     Attend(ScriptsFault),
+    /// All rounds were made of what was to be reduced, and a step is still possible.
+    NotDone,
 }
 
 impl Failure {
     /// The exit status of the program: 1 for a refused text, round or script, 2 for refused words,
-    /// 3 for a disk, and 4 for all else.
+    /// 3 for a disk, 5 for rounds that didn't suffice, and 4 for all else.
     pub fn status(&self) -> u8
         ensures { result ≡ status_of self.now }
     {
@@ -49,6 +51,7 @@ impl Failure {
             Failure::Disk(_) | Failure::Create(_) | Failure::Open(_) => 3,
             Failure::Serve(_) => 4,
             Failure::Attend(fault) => scripts_status(*fault),
+            Failure::NotDone => 5,
         }
     }
 
@@ -66,8 +69,18 @@ impl Failure {
             Failure::Open(cause) => told(alloc, open_word(*cause)),
             Failure::Serve(fault) => told(alloc, serve_word(*fault)),
             Failure::Attend(fault) => scripts_line(alloc, *fault),
+            Failure::NotDone => told(alloc, b"not done"),
         }
     }
+}
+
+/// The line for standard error that tells a stuck pair, with its line feed. It is no failure.
+pub fn stuck_line(alloc: Global, pair: &[u8]) -> Result<Vec<u8>, AllocError>
+    ensures { IfOk result (λ line. line.items ≡ stuck_line pair.now) }
+{
+    let mut words = b"stuck ".to_vec(alloc)?;
+    words.extend_from_slice(pair)?;
+    told(alloc, &words)
 }
 
 /// The line that tells a word.

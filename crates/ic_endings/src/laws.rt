@@ -1,6 +1,6 @@
 //! Laws of what the program makes of its failures.
 
-ghost use Rattle.std.specs.Prelude.{◌≡◌, ℕ, [], ◌∷◌, ◌++◌, map, codes, string_bytes};
+ghost use Rattle.std.specs.Prelude.{◌≡◌, ℕ, List, [], ◌∷◌, ◌++◌, map, codes, string_bytes};
 ghost use Rattle.std.specs.Fmt.{decimal};
 ghost use Rattle.ic_disk.specs.declared.disk.DiskFault.{DiskFault};
 ghost use Rattle.ic_text.specs.Text.{fault_text};
@@ -20,11 +20,11 @@ ghost use Rattle.ic_serving.specs.declared.fault.ServeFault.TheVariants as serve
 ghost use Rattle.ic_words.specs.declared.words.WordsFault.TheVariants as words;
 ghost use Rattle.ic_lines.specs.declared.script.ScriptFault.{ScriptFault};
 ghost use Rattle.ic_scripts.specs.declared.fault.ScriptsFault.TheVariants as scripts;
-ghost use Rattle.ic_endings.specs.declared.failure.Failure.TheVariants.{Words, Stream, Disk, Create, Open, Serve, Attend};
-ghost use Rattle.ic_endings.specs.Endings.{status_of, failure_line};
+ghost use Rattle.ic_endings.specs.declared.failure.Failure.TheVariants.{Words, Stream, Disk, Create, Open, Serve, Attend, NotDone};
+ghost use Rattle.ic_endings.specs.Endings.{status_of, failure_line, stuck_line};
 
 /// The exit status is 2 for refused words, 1 for a refused text, round or script, 3 for a disk that
-/// isn't made or opened, and 4 for all else.
+/// isn't made or opened, 5 for rounds that didn't suffice, and 4 for all else.
 pub fn statuses_are(text: &String)
     ensures words { status_of (Words (words.Words text.now)) ≡ 2 }
     ensures text { (fault : TextFault) → status_of (Stream (stream.Text fault)) ≡ 1 }
@@ -38,6 +38,7 @@ pub fn statuses_are(text: &String)
     ensures attended { (cause : OpenCause) → status_of (Attend (scripts.Open cause)) ≡ 3 }
     ensures stopped { (fault : BookFault) → status_of (Attend (scripts.Book fault)) ≡ 4 }
     ensures pool { (fault : PoolFault) → status_of (Attend (scripts.Pool fault)) ≡ 4 }
+    ensures not_done { status_of NotDone ≡ 5 }
     ensures others { map status_of (Words words.Memory ∷ Stream stream.Read ∷ Stream stream.Memory
         ∷ Stream stream.Write ∷ []) ≡ 4 ∷ 4 ∷ 4 ∷ 4 ∷ [] }
     ensures attend { map status_of (Attend scripts.Read ∷ Attend scripts.NoThread
@@ -119,4 +120,11 @@ pub fn lines_of_attendances_are()
         ≡ codes "icserve: pool" ++ 10 ∷ [] }
     ensures memory { failure_line (Attend scripts.Memory) ≡ codes "icserve: memory" ++ 10 ∷ [] }
     ensures write { failure_line (Attend scripts.Write) ≡ codes "icserve: write" ++ 10 ∷ [] }
+{}
+
+/// The line on standard error where rounds didn't suffice, and that of a stuck pair.
+pub fn lines_of_looks_are()
+    ensures not_done { failure_line NotDone ≡ codes "icserve: not done" ++ 10 ∷ [] }
+    ensures stuck { (pair : List ℕ) → stuck_line pair
+        ≡ codes "icserve: stuck " ++ pair ++ 10 ∷ [] }
 {}

@@ -1,7 +1,7 @@
 //! The words after the program's name.
 
 use ic_notation::Trouble;
-use ic_words::{Task, WordsFault, read_words};
+use ic_words::{Task, TraceFormat, WordsFault, read_words};
 use std::alloc::{AllocError, Global};
 
 /// What words ask for, with all that comes with it. Of help and of a refusal it is told whether the text has the part
@@ -38,6 +38,14 @@ pub fn words(alloc: Global, line: &str) -> Result<Vec<u8>, Trouble> {
                 asked.push_str(script.as_str())?;
             }
             asked
+        }
+        Ok(Task::Reduce { rounds }) => format!(in alloc; "reduce {rounds}")?,
+        Ok(Task::Trace { rounds, format }) => {
+            let format = match format {
+                TraceFormat::Tsv => "tsv",
+                TraceFormat::Svg => "svg",
+            };
+            format!(in alloc; "trace {rounds} {format}")?
         }
         Ok(Task::Help(text)) => of_part(alloc, "help", &text, part)?,
         Ok(Task::Version(text)) => format!(in alloc; "version {text}")?,

@@ -1,119 +1,62 @@
 -- Each well-formed line of `attend` is taken, with its values.
-use Rattle.std.proofs.Common.{◌≡◌, ◌≢◌, ◌⊎◌, inl, inr, ℕ, ◌<◌, ◌≤◌, ◌^◌, List, [], ◌∷◌, ◌++◌, Bool, true, false, not, ◌&&◌, ◌||◌, cond, Option, None, Some, codes, fold, length, refl, sym, ◌∙◌, ap, ap₂, subst, append-nil, append_assoc, arith, unwrap_or, true≢false}
-use Rattle.std.specs.Prelude.{pos, find, nat_lt, option_map}
+use Rattle.std.proofs.Common.{◌≡◌, ◌≢◌, inl, inr, ℕ, ◌<◌, ◌≤◌, ◌^◌, List, [], ◌∷◌, ◌++◌, Bool, true, false, ◌&&◌, ◌||◌, cond, Option, None, Some, codes, fold, length, refl, sym, ◌∙◌, ap, ap₂, subst, append-nil, append_assoc, arith, unwrap_or, true≢false}
+use Rattle.std.specs.Prelude.{pos, option_map}
 use Rattle.std.specs.List.{AllByRecursion}
 use Rattle.std.specs.Option.{option_map_or}
 use Rattle.std.specs.Str.{bytes_eq}
-use Rattle.clap.specs.Words.{Rule, Row, Text, all_of, built, fault_of, subcommand_of}
+use Rattle.clap.specs.Words.{Row, Text, all_of, built, fault_of, subcommand_of}
 use Rattle.clap.specs.Facts.{explicit_source}
 use Rattle.clap.specs.Lexer.{usize_max}
-use Rattle.clap.specs.Values.{refused_kind, reading_of}
+use Rattle.clap.specs.Values.{refused_kind}
 use Rattle.clap.proofs.ValueTestLemmas.{Accepts-accepts}
 use Rattle.clap.specs.Takes.{is_given}
 use Rattle.clap.specs.Kinds.{Kinds, or_else, range_kinds, value_kinds, values_kinds}
 use Rattle.clap.specs.Simple.{entered}
-use Rattle.clap.specs.Walk.{Held, Walk, default_rows, finished, first_of, has_row, more_values, nothing_held, positional, reading_by, rows_after, settled, used, walk, walk_from, walked, with_default, with_values}
-use Rattle.clap.specs.Faults.{check_fault, defaults_fault, entered_fault, level_fault, settle_fault, turn_fault, use_fault, walk_fault}
+use Rattle.clap.specs.Walk.{Held, Walk, finished, has_row, more_values, nothing_held, positional, settled, walk, walk_from, walked, with_default, with_values}
+use Rattle.clap.specs.Faults.{check_fault, defaults_fault, level_fault, settle_fault, turn_fault, walk_fault}
 use Rattle.clap.proofs.OnLiterals.{clap_on_literals}
-use Rattle.clap.specs.declared.builder.value_parser.Reading.{Reading}
 use Rattle.clap.specs.declared.builder.value_parser.Reading.TheVariants as reading
-use Rattle.clap.specs.declared.builder.value_parser.ValueParser.{ValueParser}
 use Rattle.clap.specs.declared.builder.value_parser.ValueParser.TheVariants as vp
-use Rattle.clap.specs.declared.parser.matches.ValueSource.TheVariants.{CommandLine, DefaultValue}
-use Rattle.ic_words.specs.Words.{command_line, value_met, values_met}
-use Rattle.ic_words.specs.Lines.{AreOnce, AreWritten, Given, Gives, HasNoHyphen, HasValue, IsAttendLine, IsAttendOption, IsWithin, IsWritten}
-use Rattle.ic_words.proofs.OneValue.{at_end, one_value}
+use Rattle.clap.specs.declared.parser.matches.ValueSource.TheVariants.{CommandLine}
+use Rattle.ic_words.specs.Words.{command_line, most_rounds, value_met, values_met}
+use Rattle.ic_words.specs.Lines.{Given, HasNoHyphen, IsAttendLine, IsAttendOption, IsWithin, IsWritten}
+use Rattle.ic_words.specs.inner.Asking.{IsMet}
+use Rattle.ic_words.proofs.OneValue.{at_end}
+use Rattle.ic_words.proofs.OptionLines.{ReadsGiven, Stands, all_read, found_all, given_as, is_held, none_all, none_stays, option_value, stands_given, stands_more}
 use Rattle.ic_words.proofs.ServeNumbers.{disk, workers}
 use Rattle.ic_words.proofs.AttendNumbers.{attend_options, runners, script, turns}
-use Rattle.ic_words.proofs.WordsExact.{attend_stands, below, help, names_below, no_fault_behind, rules, stopped_at, top}
-use Rattle.ic_words.proofs.Steps.{row_with, Leads, at, leads_more, leads_none, no_dashes, no_long, no_short, one_turn, reads_one}
-use Rattle.ic_words.proofs.LineRows.{AreFresh, AreRowsOf, IsFoundRow, IsRowOf, default_found, first_value, found_in, found_last, found_more, fresh_behind, fresh_first, given_found, not_given, row_behind, same_texts}
+use Rattle.ic_words.proofs.WordsExact.{attend_stands, below, help, names_below, no_fault_behind, top}
+use Rattle.ic_words.proofs.Steps.{Leads, at, leads_more, leads_none, no_dashes, no_long, no_short, one_turn}
+use Rattle.ic_words.proofs.LineRows.{IsFoundRow, first_value, found_in, found_last, found_more, fresh_first, given_found, not_given, same_texts}
 use Rattle.std.proofs.lemmas.Bool.{le-ltb}
 use Rattle.ic_words.proofs.Options.{no_default}
 use Rattle.ic_words.proofs.TakenLines.{accepted, checks, either_none, or_none, top_fault}
 
 -- ---- a number from 0 is accepted
 
-counted : (most : ℕ) (v : Text) → most ≤ 1000000 → IsWithin 0 most v → value_kinds false (vp.Unsigned 0 most) v ≡ []
+pub counted : (most : ℕ) (v : Text) → most ≤ most_rounds → IsWithin 0 most v → value_kinds false (vp.Unsigned 0 most) v ≡ []
 counted most v few is =
     let same = is.1.1 in
     let greatest = is.3 in
     ap (λ b. cond b [] (refused_kind (vp.Unsigned 0 most) ∷ [])) (Accepts-accepts false (vp.Unsigned 0 most) v
     (is.1.0, omega (arith, same, greatest, few), omega arith, omega (arith, same, greatest)))
 
--- ---- the options, in any order
-
-abbrev is_held : Text → Held → Bool
-is_held id h = option_map_or (λ (q : Text × List Text). bytes_eq q.0 id) h.pending false
-
--- one more option is read, and this is its row
-record ReadsGiven (g : Given) (words : List Text) (h : Held) : Type 0 where
-  pub behind : Held
-  pub row : Row
-  pub leads : Leads (below 4) attend_options words (at (below 4) attend_options h) (at (below 4) attend_options behind)
-  pub settles : settle_fault attend_options false behind ≡ []
-  pub rows : (settled attend_options behind).rows ≡ (settled attend_options h).rows ++ row ∷ []
-  pub of : IsRowOf g row
-  pub aside : is_held (codes "script") behind ≡ false
+-- ---- the options
 
 given_read : (g : Given) → IsAttendOption g → (words : List Text) → IsWritten g words → (h : Held) → settle_fault attend_options false h ≡ []
-    → has_row g.name (settled attend_options h).rows ≡ false → ReadsGiven g words h
+    → has_row g.name (settled attend_options h).rows ≡ false → ReadsGiven (below 4) attend_options (codes "script") g words h
 given_read g (inl is) words written h settles none =
-    let there : IsWritten (record { name = codes "disk"; value = g.value }) words = subst (λ (n : Text). IsWritten (record { name = n; value = g.value }) words) is written in
-    let one = reads_one (below 4) attend_options (codes "disk") None vp.String true refl refl refl (λ v. (refl, refl)) (refl, refl) words g.value h there settles
-    (ap (λ (n : Text). has_row n (settled attend_options h).rows) (sym is) ∙ none) refl in
-    record { behind = one.behind; row = row_with (codes "disk") g.value vp.String; leads = one.leads; settles = one.read.settles; rows = one.read.rows; of = (sym is, refl, refl); aside = one.aside (codes "script") refl }
+    given_as (below 4) attend_options (codes "script") (codes "disk") None vp.String true refl refl refl (λ v. (refl, refl)) (refl, refl) refl
+    g is words written h settles none refl
 given_read g (inr (inl is)) words written h settles none =
-    let there : IsWritten (record { name = codes "runners"; value = g.value }) words = subst (λ (n : Text). IsWritten (record { name = n; value = g.value }) words) is.0 written in
-    let one = reads_one (below 4) attend_options (codes "runners") (Some (codes "2")) (vp.Unsigned 0 64) false refl refl refl (λ v. (refl, refl)) (refl, refl) words g.value h there settles
-    (ap (λ (n : Text). has_row n (settled attend_options h).rows) (sym is.0) ∙ none) (counted 64 g.value (omega arith) is.1) in
-    record { behind = one.behind; row = row_with (codes "runners") g.value (vp.Unsigned 0 64); leads = one.leads; settles = one.read.settles; rows = one.read.rows; of = (sym is.0, refl, refl); aside = one.aside (codes "script") refl }
+    given_as (below 4) attend_options (codes "script") (codes "runners") (Some (codes "2")) (vp.Unsigned 0 64) false refl refl refl (λ v. (refl, refl)) (refl, refl) refl
+    g is.0 words written h settles none (counted 64 g.value (omega arith) is.1)
 given_read g (inr (inr (inl is))) words written h settles none =
-    let there : IsWritten (record { name = codes "turns"; value = g.value }) words = subst (λ (n : Text). IsWritten (record { name = n; value = g.value }) words) is.0 written in
-    let one = reads_one (below 4) attend_options (codes "turns") (Some (codes "0")) (vp.Unsigned 0 1000000) false refl refl refl (λ v. (refl, refl)) (refl, refl) words g.value h there settles
-    (ap (λ (n : Text). has_row n (settled attend_options h).rows) (sym is.0) ∙ none) (counted 1000000 g.value (omega arith) is.1) in
-    record { behind = one.behind; row = row_with (codes "turns") g.value (vp.Unsigned 0 1000000); leads = one.leads; settles = one.read.settles; rows = one.read.rows; of = (sym is.0, refl, refl); aside = one.aside (codes "script") refl }
+    given_as (below 4) attend_options (codes "script") (codes "turns") (Some (codes "0")) (vp.Unsigned 0 1000000) false refl refl refl (λ v. (refl, refl)) (refl, refl) refl
+    g is.0 words written h settles none (counted 1000000 g.value (omega arith) is.1)
 given_read g (inr (inr (inr is))) words written h settles none =
-    let there : IsWritten (record { name = codes "workers"; value = g.value }) words = subst (λ (n : Text). IsWritten (record { name = n; value = g.value }) words) is.0 written in
-    let one = reads_one (below 4) attend_options (codes "workers") (Some (codes "2")) (vp.Signed (pos 1) (pos 64)) false refl refl refl (λ v. (refl, refl)) (refl, refl) words g.value h there settles
-    (ap (λ (n : Text). has_row n (settled attend_options h).rows) (sym is.0) ∙ none) (accepted 64 g.value (omega arith) is.1) in
-    record { behind = one.behind; row = row_with (codes "workers") g.value (vp.Signed (pos 1) (pos 64)); leads = one.leads; settles = one.read.settles; rows = one.read.rows; of = (sym is.0, refl, refl); aside = one.aside (codes "script") refl }
-
-record ReadsAll (gs : List Given) (words : List Text) (h : Held) : Type 0 where
-  pub behind : Held
-  pub more : List Row
-  pub leads : Leads (below 4) attend_options words (at (below 4) attend_options h) (at (below 4) attend_options behind)
-  pub settles : settle_fault attend_options false behind ≡ []
-  pub rows : (settled attend_options behind).rows ≡ (settled attend_options h).rows ++ more
-  pub of : AreRowsOf gs more
-  pub aside : is_held (codes "script") behind ≡ false
-
-all_read : (gs : List Given) → AllByRecursion IsAttendOption gs → AreOnce gs → (words : List Text) → AreWritten gs words → (h : Held) → settle_fault attend_options false h ≡ []
-    → AreFresh (settled attend_options h).rows gs → is_held (codes "script") h ≡ false → ReadsAll gs words h
-all_read [] sorts once words written h settles fresh aside = record {
-  behind = h;
-  more = [];
-  leads = subst (λ (ws : List Text). Leads (below 4) attend_options ws (at (below 4) attend_options h) (at (below 4) attend_options h)) (sym written) (leads_none (below 4) attend_options (at (below 4) attend_options h));
-  settles = settles;
-  rows = sym (append-nil (settled attend_options h).rows);
-  of = tt;
-  aside = aside;
-}
-all_read (g ∷ gs) sorts once words written h settles fresh aside =
-    let one = given_read g sorts.0 written.0 written.3 h settles fresh.0 in
-    let next : AreFresh (settled attend_options one.behind).rows gs =
-    subst (λ (rs : List Row). AreFresh rs gs) (sym one.rows) (fresh_behind (settled attend_options h).rows one.row g gs one.of.0 fresh.1 once.0) in
-    let all = all_read gs sorts.1 once.1 written.1 written.4 one.behind one.settles next one.aside in
-    record {
-      behind = all.behind;
-      more = one.row ∷ all.more;
-      leads = subst (λ (ws : List Text). Leads (below 4) attend_options ws (at (below 4) attend_options h) (at (below 4) attend_options all.behind)) (sym written.2)
-          (leads_more (below 4) attend_options written.0 written.1 (at (below 4) attend_options h) (at (below 4) attend_options one.behind) (at (below 4) attend_options all.behind) one.leads all.leads);
-      settles = all.settles;
-      rows = all.rows ∙ ap (λ (rs : List Row). rs ++ all.more) one.rows ∙ append_assoc (settled attend_options h).rows (one.row ∷ []) all.more;
-      of = (one.of, all.of);
-      aside = all.aside;
-    }
+    given_as (below 4) attend_options (codes "script") (codes "workers") (Some (codes "2")) (vp.Signed (pos 1) (pos 64)) false refl refl refl (λ v. (refl, refl)) (refl, refl) refl
+    g is.0 words written h settles none (accepted 64 g.value (omega arith) is.1)
 
 -- ---- the scripts behind them
 
@@ -165,69 +108,6 @@ all_scripts v more h bare aside settles =
 abbrev script_row : List Text → Row
 script_row vs = record { id = codes "script"; values = vs; count = None; source = Some CommandLine; reading = reading.AsWritten }
 
--- a row that is found stays
-found_stays : (a : Rule) (id : Text) (rows : List Row) (r : Row) → found_in id rows ≡ Some r → found_in id (with_default rows a) ≡ Some r
-found_stays a id rows r is = go (has_row a.id rows) refl (of_default a.defaults)
-  where
-    of_default : (vs : List Text) → has_row a.id rows ≡ false → found_in id (default_rows a.id (reading_by a) vs rows) ≡ Some r
-    of_default [] none = is
-    of_default (v ∷ vs) none = ap (found_in id) (at_end a.id (more_values DefaultValue (v ∷ vs)) _ rows none) ∙ found_more id rows _ r is
-
-    go : (b : Bool) → has_row a.id rows ≡ b → (has_row a.id rows ≡ false → found_in id (default_rows a.id (reading_by a) a.defaults rows) ≡ Some r)
-        → found_in id (cond b rows (default_rows a.id (reading_by a) a.defaults rows)) ≡ Some r
-    go true e rest = is
-    go false e rest = rest e
-
-found_all : (c : List Rule) (id : Text) (rows : List Row) (r : Row) → found_in id rows ≡ Some r → found_in id (fold with_default rows c) ≡ Some r
-found_all [] id rows r is = is
-found_all (a ∷ c) id rows r is = found_all c id (with_default rows a) r (found_stays a id rows r is)
-
--- where there is none, another argument's default adds none
-none_stays : (a : Rule) (id : Text) (rows : List Row) → bytes_eq a.id id ≡ false → has_row id rows ≡ false → has_row id (with_default rows a) ≡ false
-none_stays a id rows other none = go (has_row a.id rows) refl (of_default a.defaults)
-  where
-    of_default : (vs : List Text) → has_row a.id rows ≡ false → has_row id (default_rows a.id (reading_by a) vs rows) ≡ false
-    of_default [] e = none
-    of_default (v ∷ vs) e = ap (has_row id) (at_end a.id (more_values DefaultValue (v ∷ vs)) _ rows e) ∙ row_behind id rows _ none other
-
-    go : (b : Bool) → has_row a.id rows ≡ b → (has_row a.id rows ≡ false → has_row id (default_rows a.id (reading_by a) a.defaults rows) ≡ false)
-        → has_row id (cond b rows (default_rows a.id (reading_by a) a.defaults rows)) ≡ false
-    go true e rest = none
-    go false e rest = rest e
-
-none_all : (c : List Rule) (id : Text) (rows : List Row) → AllByRecursion (λ a. bytes_eq a.id id ≡ false) c → has_row id rows ≡ false
-    → has_row id (fold with_default rows c) ≡ false
-none_all [] id rows others none = none
-none_all (a ∷ c) id rows others none = none_all c id (with_default rows a) others.1 (none_stays a id rows others.0 none)
-
--- an option is found with this value, or isn't and has its default
-abbrev Stands : Text → Text → Text → List Row → Type 0
-Stands name default value rows = IsFoundRow name value rows ⊎ ((has_row name rows ≡ false) × (value ≡ default))
-
-stands_given : (gs : List Given) (rows : List Row) (name default value : Text) → AreRowsOf gs rows → AreOnce gs → HasValue gs name default value
-    → Stands name default value rows
-stands_given gs rows name default value are once (inl gives) = inl (given_found gs rows name value are once gives)
-stands_given gs rows name default value are once (inr default_is) = inr (not_given gs rows name are default_is.0, default_is.1)
-
-stands_more : (name default value : Text) (rows : List Row) (r : Row) → bytes_eq r.id name ≡ false → Stands name default value rows
-    → Stands name default value (rows ++ r ∷ [])
-stands_more name default value rows r other (inl found) =
-    inl (record { row = found.row; found = found_more name rows (r ∷ []) found.row found.found; values = found.values; source = found.source })
-stands_more name default value rows r other (inr none) = inr (row_behind name rows r none.0 other, none.1)
-
-option_value : (name default value : Text) (parser : ValueParser) (before behind : List Rule) (rows : List Row) → AllByRecursion (λ a. bytes_eq a.id name ≡ false) before
-    → bytes_eq name name ≡ true → Stands name default value rows
-    → first_of name (fold with_default (with_default (fold with_default rows before) (one_value name name (Some default) parser false)) behind) ≡ Some value
-option_value name default value parser before behind rows others same (inl found) =
-    let a = one_value name name (Some default) parser false in
-    let first = fold with_default rows before in
-    first_value name value _ found.row (found_all behind name (with_default first a) found.row (found_stays a name first found.row (found_all before name rows found.row found.found))) found.values
-option_value name default value parser before behind rows others same (inr none) =
-    let a = one_value name name (Some default) parser false in
-    let first = fold with_default rows before in
-    let found = default_found name parser false default first same (none_all before name rows others none.0) in
-    first_value name value _ _ (found_all behind name (with_default first a) _ found) (ap (λ (v : Text). v ∷ []) (sym none.1))
-
 defaults_none : (rows : List Row) → defaults_fault rows attend_options ≡ []
 unfolding defaults_fault clap_on_literals
 defaults_none rows =
@@ -269,6 +149,7 @@ pub record IsTaken (words : List Text) (path r t n : Text) (paths : List Text) :
   pub turns : value_met (codes "turns") (subcommand_of command_line words) ≡ t
   pub workers : value_met (codes "workers") (subcommand_of command_line words) ≡ n
   pub scripts : values_met (codes "script") (subcommand_of command_line words) ≡ paths
+  pub met : IsMet (codes "attend") (subcommand_of command_line words)
 
 attend_left : (w : Walk) → walk_fault (below 4) [] w [] ≡ []
 unfolding walk_fault
@@ -314,6 +195,7 @@ taken_by words rest path r t n scripts rows end begins leads settles are ends =
       workers = ap (value_met (codes "workers")) met
           ∙ ap text (option_value (codes "workers") (codes "2") n (vp.Signed (pos 1) (pos 64)) (disk ∷ runners ∷ turns ∷ []) (script ∷ help ∷ []) rows (refl, (refl, (refl, tt))) refl ends.workers);
       scripts = ap (values_met (codes "script")) met ∙ ends.scripts;
+      met = ap (λ (o : Option (Text × List Row)). option_map (λ (p : Text × List Row). p.0) o) met;
     }
 
 -- ---- a line with scripts, and one with none
@@ -367,7 +249,7 @@ no_scripts rows none =
 
 pub attend_taken : (words : List Text) (path r t n : Text) (scripts : List Text) → IsAttendLine words path r t n scripts → IsTaken words path r t n scripts
 attend_taken words path r t n [] line =
-    let all = all_read line.given line.options line.once line.front line.written nothing_held refl (fresh_first line.given) refl in
+    let all = all_read (below 4) attend_options (codes "script") IsAttendOption given_read line.given line.options line.once line.front line.written nothing_held refl (fresh_first line.given) refl in
     let rows : (settled attend_options all.behind).rows ≡ all.more = all.rows in
     let begins : words ≡ codes "attend" ∷ line.front = line.begins ∙ ap (λ (l : List Text). codes "attend" ∷ l) (append-nil line.front) in
     let apart : has_row (codes "script") all.more ≡ false = not_given line.given all.more (codes "script") all.of (named_apart line.given line.options) in
@@ -379,13 +261,13 @@ attend_taken words path r t n [] line =
       scripts = no_scripts all.more apart;
     })
 attend_taken words path r t n (v ∷ more) line =
-    let all = all_read line.given line.options line.once line.front line.written nothing_held refl (fresh_first line.given) refl in
+    let all = all_read (below 4) attend_options (codes "script") IsAttendOption given_read line.given line.options line.once line.front line.written nothing_held refl (fresh_first line.given) refl in
     let rows : (settled attend_options all.behind).rows ≡ all.more = all.rows in
     let apart : has_row (codes "script") all.more ≡ false = not_given line.given all.more (codes "script") all.of (named_apart line.given line.options) in
     let row = script_row (v ∷ more) in
     let leads : Leads (below 4) attend_options (line.front ++ v ∷ more) (walk_from nothing_held) (among all.behind (v ∷ more)) =
     leads_more (below 4) attend_options line.front (v ∷ more) (walk_from nothing_held) (at (below 4) attend_options all.behind) (among all.behind (v ∷ more)) all.leads
-    (all_scripts v more all.behind line.plain all.aside all.settles) in
+    (all_scripts v more all.behind line.plain all.apart all.settles) in
     let of_disk = given_found line.given all.more (codes "disk") path all.of line.once line.disk in
     let found : found_in (codes "script") (all.more ++ row ∷ []) ≡ Some row = found_last (codes "script") all.more row apart refl in
     taken_by words (line.front ++ v ∷ more) path r t n (v ∷ more) (all.more ++ row ∷ []) (among all.behind (v ∷ more)) line.begins leads

@@ -15,7 +15,7 @@ use Rattle.ic_words.proofs.OneValue.{Each, Good, Passes, Typed, default_there, o
 use Rattle.ic_words.proofs.Options.{AllFit, Fits, help_fits, no_default, option_fits, option_found, other_values, row_stays_there}
 use Rattle.ic_words.proofs.ServeNumbers.{disk, workers}
 use Rattle.ic_words.proofs.Spelt.{IsSpelt, from_none, from_one, spelt_words}
-use Rattle.ic_words.proofs.WordsExact.{attend_stops, below, help, level_free}
+use Rattle.ic_words.proofs.WordsExact.{attend_stands, stops, below, help, level_free}
 
 abbrev pub runners : Rule
 runners = one_value (codes "runners") (codes "runners") (Some (codes "2")) (vp.Unsigned 0 64) false
@@ -71,9 +71,9 @@ pub attend_numbers : (words : List Text) → fault_of command_line words ≡ [] 
 attend_numbers words none begins =
     let rest = begins.0 in
     let free : level_fault (below 4) [] nothing_held rest false [] ≡ [] =
-    ap (entered_fault (built command_line)) (sym (attend_stops rest)) ∙ level_free _ (ap (fault_of command_line) (sym begins.1) ∙ none) in
+    ap (entered_fault (built command_line)) (sym (stops (codes "attend") rest (attend_stands rest))) ∙ level_free _ (ap (fault_of command_line) (sym begins.1) ∙ none) in
     let met : subcommand_of command_line words ≡ Some (codes "attend", rows_after attend_options [] rest) =
-    ap (subcommand_of command_line) begins.1 ∙ ap (entered (built command_line)) (attend_stops rest) in
+    ap (subcommand_of command_line) begins.1 ∙ ap (entered (built command_line)) (stops (codes "attend") rest (attend_stands rest)) in
     let of_runners = options_fit (codes "runners") (vp.Unsigned 0 64) (λ e. absurd (true≢false (sym e))) (λ e. refl) (λ e. absurd (true≢false (sym e))) (λ e. absurd (true≢false (sym e))) refl in
     let of_turns = options_fit (codes "turns") (vp.Unsigned 0 1000000) (λ e. absurd (true≢false (sym e))) (λ e. absurd (true≢false (sym e))) (λ e. refl) (λ e. absurd (true≢false (sym e))) refl in
     let of_workers = options_fit (codes "workers") (vp.Signed (pos 1) (pos 64)) (λ e. absurd (true≢false (sym e))) (λ e. absurd (true≢false (sym e))) (λ e. absurd (true≢false (sym e))) (λ e. refl) refl in (

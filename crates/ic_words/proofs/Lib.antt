@@ -7,7 +7,10 @@ pub mod Options
 pub mod Spelt
 pub mod ServeNumbers
 pub mod AttendNumbers
-pub mod AttendTask
+pub mod Asked
+pub mod OptionLines
+pub mod LookNumbers
+pub mod LookLines
 pub mod Steps
 pub mod LineRows
 pub mod TakenLines

@@ -11,7 +11,7 @@ use Rattle.ic_words.specs.Words.{BeginsWith, command_line}
 use Rattle.ic_words.proofs.OneValue.{Typed, default_there, one_value}
 use Rattle.ic_words.proofs.Options.{AllFit, help_fits, option_fits, option_found, row_stays_there}
 use Rattle.ic_words.proofs.Spelt.{IsSpelt, from_one, spelt_words}
-use Rattle.ic_words.proofs.WordsExact.{below, help, level_free, serve_stops}
+use Rattle.ic_words.proofs.WordsExact.{below, help, level_free, serve_stands, stops}
 
 abbrev pub disk : Rule
 disk = one_value (codes "disk") (codes "disk") None vp.String true
@@ -50,9 +50,9 @@ pub serve_numbers : (words : List Text) → fault_of command_line words ≡ [] �
 serve_numbers words none begins =
     let rest = begins.0 in
     let free : level_fault (below 3) [] nothing_held rest false [] ≡ [] =
-    ap (entered_fault (built command_line)) (sym (serve_stops rest)) ∙ level_free _ (ap (fault_of command_line) (sym begins.1) ∙ none) in
+    ap (entered_fault (built command_line)) (sym (stops (codes "serve") rest (serve_stands rest))) ∙ level_free _ (ap (fault_of command_line) (sym begins.1) ∙ none) in
     let met : subcommand_of command_line words ≡ Some (codes "serve", rows_after options [] rest) =
-    ap (subcommand_of command_line) begins.1 ∙ ap (entered (built command_line)) (serve_stops rest) in
+    ap (subcommand_of command_line) begins.1 ∙ ap (entered (built command_line)) (stops (codes "serve") rest (serve_stands rest)) in
     let of_workers = options_fit (codes "workers") (vp.Signed (pos 1) (pos 64)) (λ e. absurd (true≢false (sym e))) (λ e. refl) (λ e. absurd (true≢false (sym e))) in
     let of_every = options_fit (codes "every") (vp.Signed (pos 1) (pos 1000000)) (λ e. absurd (true≢false (sym e))) (λ e. absurd (true≢false (sym e))) (λ e. refl) in (
       spelt_words (vp.Signed (pos 1) (pos 64)) 1 64 (from_one 64) (codes "workers") (codes "serve") (rows_after options [] rest) words met

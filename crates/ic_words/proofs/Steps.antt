@@ -15,7 +15,7 @@ use Rattle.clap.specs.declared.parser.matches.ValueSource.TheVariants.{CommandLi
 use Rattle.ic_words.specs.Lines.{HasNoHyphen, IsWritten}
 use Rattle.ic_words.proofs.OneValue.{at_end, one_value}
 
-abbrev dashes : Text
+abbrev pub dashes : Text
 dashes = 45 ∷ 45 ∷ []
 
 -- ---- a word that begins with no hyphen

@@ -1,8 +1,7 @@
 -- Each well-formed line of `create` and of `serve` is taken, with its values.
-use Rattle.std.proofs.Common.{◌≡◌, inl, inr, ℕ, ◌≤◌, List, [], ◌∷◌, ◌++◌, Bool, true, false, not, ◌||◌, cond, Option, None, Some, codes, fold, is_some, refl, sym, ◌∙◌, ap, ap₂, subst, append-nil, append_assoc, arith, unwrap_or, true≢false}
+use Rattle.std.proofs.Common.{◌≡◌, inl, inr, ℕ, ◌≤◌, List, [], ◌∷◌, ◌++◌, Bool, true, false, not, ◌||◌, cond, Option, None, Some, codes, fold, is_some, refl, sym, ◌∙◌, ap, ap₂, subst, append-nil, arith, unwrap_or, option_map, true≢false}
 use Rattle.std.specs.Prelude.{pos}
 use Rattle.std.proofs.lemmas.Bool.{eqb-true}
-use Rattle.std.specs.List.{AllByRecursion}
 use Rattle.std.specs.Option.{option_map_or}
 use Rattle.std.specs.Str.Parse.{IsNumeral, starts_with_minus, without_leading_plus}
 use Rattle.std.proofs.lemmas.Int.{ints}
@@ -18,11 +17,13 @@ use Rattle.clap.specs.Faults.{check_fault, defaults_fault, entered_fault, level_
 use Rattle.clap.proofs.OnLiterals.{clap_on_literals}
 use Rattle.clap.specs.declared.builder.value_parser.ValueParser.TheVariants as vp
 use Rattle.ic_words.specs.Words.{command_line, value_met}
-use Rattle.ic_words.specs.Lines.{AreOnce, AreWritten, Given, HasValue, IsCreateLine, IsServeLine, IsServeOption, IsWithin, IsWritten}
+use Rattle.ic_words.specs.Lines.{AreOnce, Given, HasValue, IsCreateLine, IsServeLine, IsServeOption, IsWithin, IsWritten}
+use Rattle.ic_words.specs.inner.Asking.{IsMet}
+use Rattle.ic_words.proofs.OptionLines.{ReadsGiven, given_as, line_read, nothing_wrong, rows_behind}
 use Rattle.ic_words.proofs.ServeNumbers.{disk, workers, every, options}
 use Rattle.ic_words.proofs.WordsExact.{below, create_stands, help, names_below, no_fault_behind, rules, serve_stands, top}
-use Rattle.ic_words.proofs.Steps.{row_with, Leads, at, leads_more, leads_none, reads_one}
-use Rattle.ic_words.proofs.LineRows.{AreFresh, AreRowsOf, IsRowOf, default_found, first_value, found_in, fresh_behind, fresh_first, given_found, not_given, still_found, still_none}
+use Rattle.ic_words.proofs.Steps.{row_with, at, reads_one}
+use Rattle.ic_words.proofs.LineRows.{AreRowsOf, default_found, first_value, found_in, given_found, not_given, still_found, still_none}
 
 -- ---- a number in its range is accepted
 
@@ -51,65 +52,16 @@ accepted most v few is =
 
 -- ---- the options of `serve`, in any order
 
--- one more option is read, and this is its row
-record ReadsGiven (g : Given) (words : List Text) (h : Held) : Type 0 where
-  pub behind : Held
-  pub row : Row
-  pub leads : Leads (below 3) options words (at (below 3) options h) (at (below 3) options behind)
-  pub settles : settle_fault options false behind ≡ []
-  pub rows : (settled options behind).rows ≡ (settled options h).rows ++ row ∷ []
-  pub of : IsRowOf g row
-
 given_read : (g : Given) → IsServeOption g → (words : List Text) → IsWritten g words → (h : Held) → settle_fault options false h ≡ []
-    → has_row g.name (settled options h).rows ≡ false → ReadsGiven g words h
+    → has_row g.name (settled options h).rows ≡ false → ReadsGiven (below 3) options [] g words h
 given_read g (inl is) words written h settles none =
-    let there : IsWritten (record { name = codes "disk"; value = g.value }) words = subst (λ (n : Text). IsWritten (record { name = n; value = g.value }) words) is written in
-    let one = reads_one (below 3) options (codes "disk") None vp.String true refl refl refl (λ v. (refl, refl)) (refl, refl) words g.value h there settles
-    (ap (λ (n : Text). has_row n (settled options h).rows) (sym is) ∙ none) refl in
-    record { behind = one.behind; row = row_with (codes "disk") g.value vp.String; leads = one.leads; settles = one.read.settles; rows = one.read.rows; of = (sym is, refl, refl) }
+    given_as (below 3) options [] (codes "disk") None vp.String true refl refl refl (λ v. (refl, refl)) (refl, refl) refl g is words written h settles none refl
 given_read g (inr (inl is)) words written h settles none =
-    let there : IsWritten (record { name = codes "workers"; value = g.value }) words = subst (λ (n : Text). IsWritten (record { name = n; value = g.value }) words) is.0 written in
-    let one = reads_one (below 3) options (codes "workers") (Some (codes "2")) (vp.Signed (pos 1) (pos 64)) false refl refl refl (λ v. (refl, refl)) (refl, refl) words g.value h there settles
-    (ap (λ (n : Text). has_row n (settled options h).rows) (sym is.0) ∙ none) (accepted 64 g.value (omega arith) is.1) in
-    record { behind = one.behind; row = row_with (codes "workers") g.value (vp.Signed (pos 1) (pos 64)); leads = one.leads; settles = one.read.settles; rows = one.read.rows; of = (sym is.0, refl, refl) }
+    given_as (below 3) options [] (codes "workers") (Some (codes "2")) (vp.Signed (pos 1) (pos 64)) false refl refl refl (λ v. (refl, refl)) (refl, refl) refl
+    g is.0 words written h settles none (accepted 64 g.value (omega arith) is.1)
 given_read g (inr (inr is)) words written h settles none =
-    let there : IsWritten (record { name = codes "every"; value = g.value }) words = subst (λ (n : Text). IsWritten (record { name = n; value = g.value }) words) is.0 written in
-    let one = reads_one (below 3) options (codes "every") (Some (codes "100")) (vp.Signed (pos 1) (pos 1000000)) false refl refl refl (λ v. (refl, refl)) (refl, refl) words g.value h there settles
-    (ap (λ (n : Text). has_row n (settled options h).rows) (sym is.0) ∙ none) (accepted 1000000 g.value (omega arith) is.1) in
-    record { behind = one.behind; row = row_with (codes "every") g.value (vp.Signed (pos 1) (pos 1000000)); leads = one.leads; settles = one.read.settles; rows = one.read.rows; of = (sym is.0, refl, refl) }
-
-record ReadsAll (gs : List Given) (words : List Text) (h : Held) : Type 0 where
-  pub behind : Held
-  pub more : List Row
-  pub leads : Leads (below 3) options words (at (below 3) options h) (at (below 3) options behind)
-  pub settles : settle_fault options false behind ≡ []
-  pub rows : (settled options behind).rows ≡ (settled options h).rows ++ more
-  pub of : AreRowsOf gs more
-
-all_read : (gs : List Given) → AllByRecursion IsServeOption gs → AreOnce gs → (words : List Text) → AreWritten gs words → (h : Held) → settle_fault options false h ≡ []
-    → AreFresh (settled options h).rows gs → ReadsAll gs words h
-all_read [] sorts once words written h settles fresh = record {
-  behind = h;
-  more = [];
-  leads = subst (λ (ws : List Text). Leads (below 3) options ws (at (below 3) options h) (at (below 3) options h)) (sym written) (leads_none (below 3) options (at (below 3) options h));
-  settles = settles;
-  rows = sym (append-nil (settled options h).rows);
-  of = tt;
-}
-all_read (g ∷ gs) sorts once words written h settles fresh =
-    let one = given_read g sorts.0 written.0 written.3 h settles fresh.0 in
-    let next : AreFresh (settled options one.behind).rows gs =
-    subst (λ (rs : List Row). AreFresh rs gs) (sym one.rows) (fresh_behind (settled options h).rows one.row g gs one.of.0 fresh.1 once.0) in
-    let all = all_read gs sorts.1 once.1 written.1 written.4 one.behind one.settles next in
-    record {
-      behind = all.behind;
-      more = one.row ∷ all.more;
-      leads = subst (λ (ws : List Text). Leads (below 3) options ws (at (below 3) options h) (at (below 3) options all.behind)) (sym written.2)
-          (leads_more (below 3) options written.0 written.1 (at (below 3) options h) (at (below 3) options one.behind) (at (below 3) options all.behind) one.leads all.leads);
-      settles = all.settles;
-      rows = all.rows ∙ ap (λ (rs : List Row). rs ++ all.more) one.rows ∙ append_assoc (settled options h).rows (one.row ∷ []) all.more;
-      of = (one.of, all.of);
-    }
+    given_as (below 3) options [] (codes "every") (Some (codes "100")) (vp.Signed (pos 1) (pos 1000000)) false refl refl refl (λ v. (refl, refl)) (refl, refl) refl
+    g is.0 words written h settles none (accepted 1000000 g.value (omega arith) is.1)
 
 -- ---- behind the options
 
@@ -208,47 +160,33 @@ unfolding defaults_fault
 serve_free rest free = ap (top_fault (codes "serve" ∷ rest)) (serve_stands rest)
     ∙ ap₂ (λ (a b : Kinds). or_else a (or_else b [])) (serve_first rest) free
 
-abbrev serve_end : Held → Kinds
-serve_end h = or_else (settle_fault options false h) (or_else (defaults_fault (settled options h).rows options) (check_fault (below 3) (finished options h) false))
-
 -- a line of `serve` is taken, and its options have these values
 pub record IsTaken (words : List Text) (path threads rounds : Text) : Type 0 where
   pub free : fault_of command_line words ≡ []
   pub disk : value_met (codes "disk") (subcommand_of command_line words) ≡ path
   pub workers : value_met (codes "workers") (subcommand_of command_line words) ≡ threads
   pub every : value_met (codes "every") (subcommand_of command_line words) ≡ rounds
-
-serve_left : (h : Held) → walk_fault (below 3) [] (at (below 3) options h) [] ≡ []
-unfolding walk_fault
-serve_left h = refl
+  pub met : IsMet (codes "serve") (subcommand_of command_line words)
 
 pub serve_taken : (words : List Text) (path threads rounds : Text) → IsServeLine words path threads rounds → IsTaken words path threads rounds
 serve_taken words path threads rounds line =
     let rest = line.rest in
-    let all = all_read line.given line.options line.once rest line.written nothing_held refl (fresh_first line.given) in
-    let ends = all.leads [] in
-    let same : rest ++ [] ≡ rest = append-nil rest in
-    let walks : walk_fault (below 3) [] (walk_from nothing_held) rest ≡ [] = ap (walk_fault (below 3) [] (walk_from nothing_held)) (sym same) ∙ ends.0 ∙ serve_left all.behind in
-    let stands : walk options [] nothing_held rest ≡ at (below 3) options all.behind = ap (fold (walked options []) (walk_from nothing_held)) (sym same) ∙ ends.1 in
-    let end : (walk options [] nothing_held rest).held ≡ all.behind = ap (λ (w : Walk). w.held) stands in
-    let rows : (settled options all.behind).rows ≡ all.more = all.rows in
-    let of_disk = given_found line.given all.more (codes "disk") path all.of line.once line.disk in
-    let last : List Row = behind_defaults all.more in
-    let finish : finished options all.behind ≡ last = ap behind_defaults rows in
-    let found : found_in (codes "disk") last ≡ Some of_disk.row = kept_found (codes "disk") all.more of_disk.row of_disk.found in
+    let read = line_read (below 3) options [] IsServeOption given_read line.given line.options line.once rest line.written in
+    let of_disk = given_found line.given read.rows (codes "disk") path read.of line.once line.disk in
+    let last : List Row = behind_defaults read.rows in
+    let found : found_in (codes "disk") last ≡ Some of_disk.row = kept_found (codes "disk") read.rows of_disk.row of_disk.found in
     let given : is_given (codes "disk") last ≡ true =
     ap (λ (o : Option Row). option_map_or (λ (r : Row). explicit_source r.source) o false) found ∙ ap explicit_source of_disk.source in
-    let checks_none : check_fault (below 3) (finished options all.behind) false ≡ [] = ap (λ (rs : List Row). check_fault (below 3) rs false) finish ∙ checked last given in
-    let end_none : serve_end all.behind ≡ [] = ap₂ or_else all.settles (ap₂ or_else (defaults_none (settled options all.behind).rows) checks_none) in
-    let free : level_fault (below 3) [] nothing_held rest false [] ≡ [] = ap₂ or_else walks (ap serve_end end ∙ end_none) in
+    let free : level_fault (below 3) [] nothing_held rest false [] ≡ [] = nothing_wrong (below 3) options [] line.given rest read (defaults_none read.rows) (checked last given) in
     let met : subcommand_of command_line words ≡ Some (codes "serve", last) =
     ap (subcommand_of command_line) line.begins ∙ ap (λ (w : Walk). entered (built command_line) w.stopped) (serve_stands rest)
-    ∙ ap (λ (h : Held). Some (codes "serve", finished options h)) end ∙ ap (λ (rs : List Row). Some (codes "serve", rs)) finish in
+    ∙ ap (λ (rs : List Row). Some (codes "serve", rs)) (rows_behind (below 3) options [] line.given rest read) in
     record {
       free = ap (fault_of command_line) line.begins ∙ serve_free rest free;
       disk = ap (value_met (codes "disk")) met ∙ ap (λ (o : Option Text). unwrap_or o []) (first_value (codes "disk") path last of_disk.row found of_disk.values);
-      workers = ap (value_met (codes "workers")) met ∙ ap (λ (o : Option Text). unwrap_or o []) (workers_value line.given all.more threads all.of line.once line.workers);
-      every = ap (value_met (codes "every")) met ∙ ap (λ (o : Option Text). unwrap_or o []) (every_value line.given all.more rounds all.of line.once line.every);
+      workers = ap (value_met (codes "workers")) met ∙ ap (λ (o : Option Text). unwrap_or o []) (workers_value line.given read.rows threads read.of line.once line.workers);
+      every = ap (value_met (codes "every")) met ∙ ap (λ (o : Option Text). unwrap_or o []) (every_value line.given read.rows rounds read.of line.once line.every);
+      met = ap (λ (o : Option (Text × List Row)). option_map (λ (p : Text × List Row). p.0) o) met;
     }
 
 -- ---- a line of `create`
@@ -281,6 +219,7 @@ create_end h = or_else (settle_fault create_options false h)
 pub record IsCreated (words : List Text) (path : Text) : Type 0 where
   pub free : fault_of command_line words ≡ []
   pub disk : value_met (codes "disk") (subcommand_of command_line words) ≡ path
+  pub met : IsMet (codes "create") (subcommand_of command_line words)
 
 create_left : (h : Held) → walk_fault (below 2) [] (at (below 2) create_options h) [] ≡ []
 unfolding walk_fault
@@ -305,4 +244,4 @@ create_taken words path line =
     let met : subcommand_of command_line words ≡ Some (codes "create", row ∷ []) =
     ap (subcommand_of command_line) line.1 ∙ ap (λ (w : Walk). entered (built command_line) w.stopped) (create_stands rest)
     ∙ ap (λ (h : Held). Some (codes "create", finished create_options h)) end ∙ ap (λ (rs : List Row). Some (codes "create", rs)) finish in
-    record { free = ap (fault_of command_line) line.1 ∙ create_free rest free; disk = ap (value_met (codes "disk")) met }
+    record { free = ap (fault_of command_line) line.1 ∙ create_free rest free; disk = ap (value_met (codes "disk")) met; met = ap (λ (o : Option (Text × List Row)). option_map (λ (p : Text × List Row). p.0) o) met }

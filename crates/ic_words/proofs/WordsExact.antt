@@ -1,5 +1,5 @@
 -- The words in which the parser finds no mistake.
-use Rattle.std.proofs.Common.{◌≡◌, ℕ, List, [], ◌∷◌, ◌++◌, Bool, true, false, cond, Option, None, Some, length, slice_get, drop, fold, unwrap_or, append-nil, append_assoc, codes, refl, sym, ◌∙◌, ap, ◌⊎◌, inl, inr}
+use Rattle.std.proofs.Common.{◌≡◌, ℕ, List, [], ◌∷◌, ◌++◌, Bool, true, false, cond, ◌||◌, subst, Option, None, Some, length, slice_get, drop, fold, unwrap_or, append-nil, append_assoc, codes, refl, sym, ◌∙◌, ap, ◌⊎◌, inl, inr}
 use Rattle.std.specs.Option.{option_map_or}
 use Rattle.std.specs.Str.{bytes_eq, chars}
 use Rattle.std.proofs.lemmas.Slice.Eq.{bytes_eq-Decides}
@@ -11,7 +11,9 @@ use Rattle.clap.specs.Simple.{filled, with_index, help_rule, version_rule}
 use Rattle.clap.specs.Kinds.{or_else}
 use Rattle.clap.specs.Faults.{bundle_fault, bundle_step_fault, entered_fault, flag_word_fault, flags_fault, level_fault, long_fault, short_fault, step_fault, turn_fault, walk_fault}
 use Rattle.clap.proofs.OnLiterals.{clap_on_literals}
+use Rattle.std.specs.List.{AllByRecursion}
 use Rattle.ic_words.specs.Words.{command_line, BeginsWith, NamesCommand}
+use Rattle.ic_words.specs.inner.Asking.{IsIn, commands}
 
 both_empty : (a b : Kinds) → or_else a b ≡ [] → (a ≡ []) × (b ≡ [])
 both_empty [] b e = (refl, e)
@@ -115,7 +117,8 @@ dashes = 45 ∷ 45 ∷ []
 -- the commands below a level
 abbrev pub names_below : Bool → Names
 names_below true = []
-names_below false = (codes "settle", []) ∷ (codes "once", []) ∷ (codes "create", []) ∷ (codes "serve", []) ∷ (codes "attend", []) ∷ []
+names_below false = (codes "settle", []) ∷ (codes "once", []) ∷ (codes "create", []) ∷ (codes "serve", []) ∷ (codes "attend", [])
+    ∷ (codes "reduce", []) ∷ (codes "trace", []) ∷ []
 
 behind_dashes : (base : Shape) (leaf : Bool) (u : Text)
     → turn_fault (level base leaf) (names_below leaf) (walked (rules leaf) (names_below leaf) (walk_from nothing_held) dashes) u ≡ [] → ⊥
@@ -162,13 +165,39 @@ unfolding walk_fault walked
 no_fault_behind name words [] = refl
 no_fault_behind name words (v ∷ vs) = no_fault_behind name (words ++ v ∷ []) vs
 
-settle_stops : (words : List Text) → (walk (rules false) (names_below false) nothing_held (codes "settle" ∷ words)).stopped ≡ Some (codes "settle", words)
+-- where a command's name is the first word, the others are its own
+pub settle_stands : (words : List Text) → walk (rules false) (names_below false) nothing_held (codes "settle" ∷ words) ≡ stopped_at (codes "settle") words
 unfolding walked
-settle_stops words = ap (λ (w : Walk). w.stopped) (stopped_with (codes "settle") [] words)
+settle_stands words = stopped_with (codes "settle") [] words
 
-once_stops : (words : List Text) → (walk (rules false) (names_below false) nothing_held (codes "once" ∷ words)).stopped ≡ Some (codes "once", words)
+pub once_stands : (words : List Text) → walk (rules false) (names_below false) nothing_held (codes "once" ∷ words) ≡ stopped_at (codes "once") words
 unfolding walked
-once_stops words = ap (λ (w : Walk). w.stopped) (stopped_with (codes "once") [] words)
+once_stands words = stopped_with (codes "once") [] words
+
+pub create_stands : (words : List Text) → walk (rules false) (names_below false) nothing_held (codes "create" ∷ words) ≡ stopped_at (codes "create") words
+unfolding walked
+create_stands words = stopped_with (codes "create") [] words
+
+pub serve_stands : (words : List Text) → walk (rules false) (names_below false) nothing_held (codes "serve" ∷ words) ≡ stopped_at (codes "serve") words
+unfolding walked
+serve_stands words = stopped_with (codes "serve") [] words
+
+pub attend_stands : (words : List Text) → walk (rules false) (names_below false) nothing_held (codes "attend" ∷ words) ≡ stopped_at (codes "attend") words
+unfolding walked
+attend_stands words = stopped_with (codes "attend") [] words
+
+pub reduce_stands : (words : List Text) → walk (rules false) (names_below false) nothing_held (codes "reduce" ∷ words) ≡ stopped_at (codes "reduce") words
+unfolding walked
+reduce_stands words = stopped_with (codes "reduce") [] words
+
+pub trace_stands : (words : List Text) → walk (rules false) (names_below false) nothing_held (codes "trace" ∷ words) ≡ stopped_at (codes "trace") words
+unfolding walked
+trace_stands words = stopped_with (codes "trace") [] words
+
+-- the walk over a command's words stops behind its name
+pub stops : (name : Text) (words : List Text) → walk (rules false) (names_below false) nothing_held (name ∷ words) ≡ stopped_at name words
+    → (walk (rules false) (names_below false) nothing_held (name ∷ words)).stopped ≡ Some (name, words)
+stops name words stands = ap (λ (w : Walk). w.stopped) stands
 
 -- words without a mistake have none at the level of their command
 pub level_free : (words : List Text) → fault_of command_line words ≡ []
@@ -177,12 +206,12 @@ level_free words e = (both_empty _ _ (both_empty _ _ e).1).0
 
 after_settle : (words : List Text) → fault_of command_line (codes "settle" ∷ words) ≡ [] → (words ≡ []) ⊎ (words ≡ dashes ∷ [])
 after_settle words e =
-    let free : level_fault (below 0) [] nothing_held words false [] ≡ [] = ap (entered_fault (built command_line)) (sym (settle_stops words)) ∙ level_free _ e in
+    let free : level_fault (below 0) [] nothing_held words false [] ≡ [] = ap (entered_fault (built command_line)) (sym (stops (codes "settle") words (settle_stands words))) ∙ level_free _ e in
     level_words (below 0) true words (λ v vs is. refl) (both_empty _ _ free).0
 
 after_once : (words : List Text) → fault_of command_line (codes "once" ∷ words) ≡ [] → (words ≡ []) ⊎ (words ≡ dashes ∷ [])
 after_once words e =
-    let free : level_fault (below 1) [] nothing_held words false [] ≡ [] = ap (entered_fault (built command_line)) (sym (once_stops words)) ∙ level_free _ e in
+    let free : level_fault (below 1) [] nothing_held words false [] ≡ [] = ap (entered_fault (built command_line)) (sym (stops (codes "once") words (once_stands words))) ∙ level_free _ e in
     level_words (below 1) true words (λ v vs is. refl) (both_empty _ _ free).0
 
 dashes_alone : fault_of command_line (dashes ∷ []) ≡ [] → ⊥
@@ -193,10 +222,10 @@ none_alone : fault_of command_line [] ≡ [] → ⊥
 unfolding clap_on_literals
 none_alone e = cc
 
-another_word : (v : Text) (vs : List Text) → bytes_eq (codes "settle") v ≡ false → bytes_eq (codes "once") v ≡ false
-    → bytes_eq (codes "create") v ≡ false → bytes_eq (codes "serve") v ≡ false → bytes_eq (codes "attend") v ≡ false → fault_of command_line (v ∷ vs) ≡ [] → ⊥
-another_word v vs no_settle no_once no_create no_serve no_attend e =
-    let met : subcommand_met (names_below false) idle v ≡ None = rw (no_settle, no_once, no_create, no_serve, no_attend) refl in
+another_word : (v : Text) (vs : List Text) → AllByRecursion (λ name. bytes_eq name v ≡ false) commands → fault_of command_line (v ∷ vs) ≡ [] → ⊥
+another_word v vs others e =
+    let met : subcommand_met (names_below false) idle v ≡ None =
+    rw (others.0, others.1.0, others.1.1.0, others.1.1.1.0, others.1.1.1.1.0, others.1.1.1.1.1.0, others.1.1.1.1.1.1.0) refl in
     let none : (w : Text) (ws : List Text) → v ∷ vs ≡ w ∷ ws → subcommand_met (names_below false) idle w ≡ None = λ w ws is. (let same : v ≡ w = cc in rw (← same) met) in
     elim (level_words top false (v ∷ vs) none (both_empty _ _ e).0) [
       | inl empty ↦ cc
@@ -204,61 +233,56 @@ another_word v vs no_settle no_once no_create no_serve no_attend e =
     ]
 
 -- the first word is a command, and what is behind it is nothing or `--`
-named_first : (name v : Text) (vs : List Text) → bytes_eq name v ≡ true
-    → ((ws : List Text) → fault_of command_line (name ∷ ws) ≡ [] → (ws ≡ []) ⊎ (ws ≡ dashes ∷ []))
-    → fault_of command_line (v ∷ vs) ≡ [] → NamesCommand name (v ∷ vs)
-named_first name v vs is after e =
-    let same : v ≡ name = sym ((bytes_eq-Decides name v).0 is) in
-    elim (after vs (ap (λ w. fault_of command_line (w ∷ vs)) (sym same) ∙ e)) [
-      | inl alone ↦ inl (rw (same, alone) refl)
-      | inr dashed ↦ inr (rw (same, dashed) refl)
+named_first : (name : Text) (vs : List Text) → ((ws : List Text) → fault_of command_line (name ∷ ws) ≡ [] → (ws ≡ []) ⊎ (ws ≡ dashes ∷ []))
+    → fault_of command_line (name ∷ vs) ≡ [] → NamesCommand name (name ∷ vs)
+named_first name vs after e =
+    elim (after vs e) [
+      | inl alone ↦ inl (ap (λ ws. name ∷ ws) alone)
+      | inr dashed ↦ inr (ap (λ ws. name ∷ ws) dashed)
     ]
 
-abbrev pub OneCommand : List Text → Type 0
-OneCommand words = NamesCommand (codes "settle") words ⊎ (NamesCommand (codes "once") words
-    ⊎ (BeginsWith (codes "create") words ⊎ (BeginsWith (codes "serve") words ⊎ BeginsWith (codes "attend") words)))
+-- a command that has no options is named alone, or with `--` behind it
+abbrev pub is_bare : Text → Bool
+is_bare name = bytes_eq name (codes "settle") || bytes_eq name (codes "once")
 
-is_first : (name v : Text) (vs : List Text) → bytes_eq name v ≡ true → BeginsWith name (v ∷ vs)
-is_first name v vs is = (vs, ap (λ w. w ∷ vs) (sym ((bytes_eq-Decides name v).0 is)))
+abbrev pub ByBareness : Bool → Text → List Text → Type 0
+ByBareness true name words = NamesCommand name words
+ByBareness false name words = BeginsWith name words
 
-first_named : (v : Text) (vs : List Text) (settle once create serve attend : Bool) → bytes_eq (codes "settle") v ≡ settle → bytes_eq (codes "once") v ≡ once
-    → bytes_eq (codes "create") v ≡ create → bytes_eq (codes "serve") v ≡ serve → bytes_eq (codes "attend") v ≡ attend
-    → fault_of command_line (v ∷ vs) ≡ [] → OneCommand (v ∷ vs)
-first_named v vs true once create serve attend is _ _ _ _ e = inl (named_first (codes "settle") v vs is after_settle e)
-first_named v vs false true create serve attend _ is _ _ _ e = inr (inl (named_first (codes "once") v vs is after_once e))
-first_named v vs false false true serve attend _ _ is _ _ e = inr (inr (inl (is_first (codes "create") v vs is)))
-first_named v vs false false false true attend _ _ _ is _ e = inr (inr (inr (inl (is_first (codes "serve") v vs is))))
-first_named v vs false false false false true _ _ _ _ is e = inr (inr (inr (inr (is_first (codes "attend") v vs is))))
-first_named v vs false false false false false no_settle no_once no_create no_serve no_attend e =
-    absurd (another_word v vs no_settle no_once no_create no_serve no_attend e)
+-- the words are one of the commands', and what may be behind it
+abbrev pub IsCalled : Text → List Text → Type 0
+IsCalled name words = IsIn name commands × ByBareness (is_bare name) name words
+
+is_called : (v name : Text) (vs : List Text) → v ≡ name → fault_of command_line (v ∷ vs) ≡ []
+    → (fault_of command_line (name ∷ vs) ≡ [] → ByBareness (is_bare name) name (name ∷ vs)) → ByBareness (is_bare v) v (v ∷ vs)
+is_called v name vs is e calls =
+    subst (λ (n : Text). ByBareness (is_bare n) n (n ∷ vs)) (sym is) (calls (ap (λ (n : Text). fault_of command_line (n ∷ vs)) (sym is) ∙ e))
+
+called_by : (v : Text) (vs : List Text) → IsIn v commands → fault_of command_line (v ∷ vs) ≡ [] → ByBareness (is_bare v) v (v ∷ vs)
+called_by v vs (inl is) e = is_called v (codes "settle") vs is e (named_first (codes "settle") vs after_settle)
+called_by v vs (inr (inl is)) e = is_called v (codes "once") vs is e (named_first (codes "once") vs after_once)
+called_by v vs (inr (inr (inl is))) e = is_called v (codes "create") vs is e (λ none. (vs, refl))
+called_by v vs (inr (inr (inr (inl is)))) e = is_called v (codes "serve") vs is e (λ none. (vs, refl))
+called_by v vs (inr (inr (inr (inr (inl is))))) e = is_called v (codes "attend") vs is e (λ none. (vs, refl))
+called_by v vs (inr (inr (inr (inr (inr (inl is)))))) e = is_called v (codes "reduce") vs is e (λ none. (vs, refl))
+called_by v vs (inr (inr (inr (inr (inr (inr (inl is))))))) e = is_called v (codes "trace") vs is e (λ none. (vs, refl))
+called_by v vs (inr (inr (inr (inr (inr (inr (inr none))))))) e = absurd none
+
+-- a text is one of these, or none
+in_or_none : (v : Text) (names : List Text) → IsIn v names ⊎ AllByRecursion (λ name. bytes_eq name v ≡ false) names
+in_or_none v [] = inr tt
+in_or_none v (name ∷ names) = go (bytes_eq name v) refl (in_or_none v names)
+  where
+    go : (b : Bool) → bytes_eq name v ≡ b → IsIn v names ⊎ AllByRecursion (λ other. bytes_eq other v ≡ false) names
+        → ((v ≡ name) ⊎ IsIn v names) ⊎ (((bytes_eq name v) ≡ false) × AllByRecursion (λ other. bytes_eq other v ≡ false) names)
+    go true is rest = inl (inl (sym ((bytes_eq-Decides name v).0 is)))
+    go false is (inl there) = inl (inr there)
+    go false is (inr none) = inr (is, none)
 
 -- words without a mistake name one of the commands
-pub one_command : (words : List Text) → fault_of command_line words ≡ [] → OneCommand words
+pub one_command : (words : List Text) → fault_of command_line words ≡ [] → (name : Text) × IsCalled name words
 one_command [] e = absurd (none_alone e)
-one_command (v ∷ vs) e = first_named v vs (bytes_eq (codes "settle") v) (bytes_eq (codes "once") v) (bytes_eq (codes "create") v)
-    (bytes_eq (codes "serve") v) (bytes_eq (codes "attend") v) refl refl refl refl refl e
-
--- where `create`, `serve` or `attend` is the first word, the others are its own
-pub create_stands : (words : List Text) → walk (rules false) (names_below false) nothing_held (codes "create" ∷ words) ≡ stopped_at (codes "create") words
-unfolding walked
-create_stands words = stopped_with (codes "create") [] words
-
-pub serve_stands : (words : List Text) → walk (rules false) (names_below false) nothing_held (codes "serve" ∷ words) ≡ stopped_at (codes "serve") words
-unfolding walked
-serve_stands words = stopped_with (codes "serve") [] words
-
-pub create_stops : (words : List Text)
-    → (walk (rules false) (names_below false) nothing_held (codes "create" ∷ words)).stopped ≡ Some (codes "create", words)
-create_stops words = ap (λ (w : Walk). w.stopped) (create_stands words)
-
-pub serve_stops : (words : List Text)
-    → (walk (rules false) (names_below false) nothing_held (codes "serve" ∷ words)).stopped ≡ Some (codes "serve", words)
-serve_stops words = ap (λ (w : Walk). w.stopped) (serve_stands words)
-
-pub attend_stands : (words : List Text) → walk (rules false) (names_below false) nothing_held (codes "attend" ∷ words) ≡ stopped_at (codes "attend") words
-unfolding walked
-attend_stands words = stopped_with (codes "attend") [] words
-
-pub attend_stops : (words : List Text)
-    → (walk (rules false) (names_below false) nothing_held (codes "attend" ∷ words)).stopped ≡ Some (codes "attend", words)
-attend_stops words = ap (λ (w : Walk). w.stopped) (attend_stands words)
+one_command (v ∷ vs) e = elim (in_or_none v commands) [
+  | inl there ↦ (v, (there, called_by v vs there e))
+  | inr none ↦ absurd (another_word v vs none e)
+]

@@ -1,20 +1,24 @@
 -- What the parser's contract says of the program's words.
-use Rattle.std.proofs.Common.{◌≡◌, ◌≢◌, ℕ, List, [], ◌∷◌, Option, None, Some, true, codes, map, refl, sym, ◌∙◌, ap, ◌⊎◌, inl, inr, true≢false, ◌==◌, slice_index}
+use Rattle.std.proofs.Common.{◌≡◌, ◌≢◌, ℕ, List, [], ◌∷◌, Bool, true, false, not, ◌&&◌, cond, Option, None, Some, codes, map, refl, sym, ◌∙◌, ap, ap₂, subst, inl, inr, true≢false}
 use Rattle.std.specs.Prelude.{option_map, unwrap_or}
 use Rattle.std.specs.Borrow.{Bor}
 use Rattle.clap.specs.Words.{App, HasKind, HasMatchesOf, IsAmong, Kinds, all_of, fault_of, first_of, matched_of, raw_values, is_simple, is_simple_and_free, kind_of, rows_of, subcommand_name_of, subcommand_of, subcommand_rows_of}
 use Rattle.clap.specs.Walk.{Row, Text}
 use Rattle.clap.specs.declared.error.Error.{Error}
 use Rattle.clap.specs.declared.error.ErrorKind.{ErrorKind}
-use Rattle.clap.specs.declared.error.ErrorKind.TheVariants.{DisplayHelp, DisplayVersion, OutOfMemory}
+use Rattle.clap.specs.declared.error.ErrorKind.TheVariants.{DisplayHelp, DisplayVersion, InvalidValue, OutOfMemory}
 use Rattle.clap.specs.declared.parser.matches.ArgMatches.{ArgMatches}
 use Rattle.clap.proofs.OnLiterals.{clap_on_literals}
 use Rattle.clap.specs.Matches.{first_value}
 use Rattle.clap.specs.Simple.{built, entered}
 use Rattle.clap.specs.declared.parser.matches.Found.{Found}
 use Rattle.clap.proofs.WalkLemmas.{first_value-rows, raw_values-rows}
-use Rattle.ic_words.specs.Words.{BeginsWith, NamesCommand, command_line, value_met, values_met}
-use Rattle.ic_words.proofs.WordsExact.{OneCommand, attend_stops, create_stops, serve_stops, one_command}
+use Rattle.std.specs.Str.{bytes_eq}
+use Rattle.std.proofs.lemmas.Slice.Eq.{bytes_eq-Decides}
+use Rattle.clap.specs.Kinds.{or_else}
+use Rattle.ic_words.specs.Words.{BeginsWith, command_line, format_mistakes, is_format, is_met, value_met, values_met}
+use Rattle.ic_words.specs.inner.Asking.{IsIn, IsMet, commands}
+use Rattle.ic_words.proofs.WordsExact.{ByBareness, IsCalled, is_bare, stops, settle_stands, once_stands, create_stands, serve_stands, attend_stands, reduce_stands, trace_stands}
 
 command_line_simple : is_simple_and_free command_line ≡ true
 unfolding clap_on_literals
@@ -82,19 +86,6 @@ simple : is_simple command_line ≡ true
 unfolding clap_on_literals
 simple = refl
 
-settle_met : (command_of (codes "settle" ∷ []) ≡ Some (codes "settle")) × (command_of (codes "settle" ∷ (45 ∷ 45 ∷ []) ∷ []) ≡ Some (codes "settle"))
-unfolding clap_on_literals
-settle_met = (refl, refl)
-
-once_met : (command_of (codes "once" ∷ []) ≡ Some (codes "once")) × (command_of (codes "once" ∷ (45 ∷ 45 ∷ []) ∷ []) ≡ Some (codes "once"))
-unfolding clap_on_literals
-once_met = (refl, refl)
-
-names_met : (name : Text) (words : List Text) → (command_of (name ∷ []) ≡ Some name) × (command_of (name ∷ (45 ∷ 45 ∷ []) ∷ []) ≡ Some name)
-    → NamesCommand name words → command_of words ≡ Some name
-names_met name words met (inl alone) = ap command_of alone ∙ met.0
-names_met name words met (inr dashed) = ap command_of dashed ∙ met.1
-
 option_map_twice : {X Y Z : Type 0} (f : Y → Z) (g : X → Y) (o : Option X) → option_map f (option_map g o) ≡ option_map (λ x. f (g x)) o
 option_map_twice f g None = refl
 option_map_twice f g (Some x) = refl
@@ -102,140 +93,87 @@ option_map_twice f g (Some x) = refl
 name_of_rows : (m : ArgMatches) → option_map (λ (p : Text × List Row). p.0) (subcommand_rows_of m) ≡ subcommand_name_of m
 name_of_rows m = option_map_twice _ _ _
 
-create_met : (words : List Text) → BeginsWith (codes "create") words → command_of words ≡ Some (codes "create")
-create_met words begins = ap command_of begins.1 ∙ ap (λ s. option_map (λ (p : Text × List Row). p.0) (entered (built command_line) s)) (create_stops begins.0)
+-- a command is met where its name stands first
+met_first : (name one : Text) (words : List Text) → name ≡ one → (command_of (one ∷ words) ≡ Some one) → command_of (name ∷ words) ≡ Some name
+met_first name one words is met = subst (λ (n : Text). command_of (n ∷ words) ≡ Some n) (sym is) met
 
-serve_met : (words : List Text) → BeginsWith (codes "serve") words → command_of words ≡ Some (codes "serve")
-serve_met words begins = ap command_of begins.1 ∙ ap (λ s. option_map (λ (p : Text × List Row). p.0) (entered (built command_line) s)) (serve_stops begins.0)
+abbrev entered_name : Option (Text × List Text) → Option Text
+entered_name s = option_map (λ (p : Text × List Row). p.0) (entered (built command_line) s)
 
-attend_met : (words : List Text) → BeginsWith (codes "attend") words → command_of words ≡ Some (codes "attend")
-attend_met words begins = ap command_of begins.1 ∙ ap (λ s. option_map (λ (p : Text × List Row). p.0) (entered (built command_line) s)) (attend_stops begins.0)
+first_met : (name : Text) (words : List Text) → IsIn name commands → command_of (name ∷ words) ≡ Some name
+first_met name words (inl is) = met_first name (codes "settle") words is (ap entered_name (stops (codes "settle") words (settle_stands words)))
+first_met name words (inr (inl is)) = met_first name (codes "once") words is (ap entered_name (stops (codes "once") words (once_stands words)))
+first_met name words (inr (inr (inl is))) = met_first name (codes "create") words is (ap entered_name (stops (codes "create") words (create_stands words)))
+first_met name words (inr (inr (inr (inl is)))) = met_first name (codes "serve") words is (ap entered_name (stops (codes "serve") words (serve_stands words)))
+first_met name words (inr (inr (inr (inr (inl is))))) = met_first name (codes "attend") words is (ap entered_name (stops (codes "attend") words (attend_stands words)))
+first_met name words (inr (inr (inr (inr (inr (inl is)))))) = met_first name (codes "reduce") words is (ap entered_name (stops (codes "reduce") words (reduce_stands words)))
+first_met name words (inr (inr (inr (inr (inr (inr (inl is))))))) = met_first name (codes "trace") words is (ap entered_name (stops (codes "trace") words (trace_stands words)))
+first_met name words (inr (inr (inr (inr (inr (inr (inr none))))))) = absurd none
 
--- the words name a command, which is the one that the parser met
-abbrev pub Met : List Text → Option Text → Type 0
-Met words met = (NamesCommand (codes "settle") words × (met ≡ Some (codes "settle")))
-    ⊎ ((NamesCommand (codes "once") words × (met ≡ Some (codes "once")))
-    ⊎ ((BeginsWith (codes "create") words × (met ≡ Some (codes "create")))
-    ⊎ ((BeginsWith (codes "serve") words × (met ≡ Some (codes "serve"))) ⊎ (BeginsWith (codes "attend") words × (met ≡ Some (codes "attend"))))))
+begins_by : (bare : Bool) (name : Text) (words : List Text) → ByBareness bare name words → BeginsWith name words
+begins_by true name words (inl alone) = ([], alone)
+begins_by true name words (inr dashed) = (_, dashed)
+begins_by false name words begins = begins
 
-met_by : (words : List Text) (met : Option Text) → OneCommand words → met ≡ command_of words → Met words met
-met_by words met (inl settle) is = inl (settle, is ∙ names_met (codes "settle") words settle_met settle)
-met_by words met (inr (inl once)) is = inr (inl (once, is ∙ names_met (codes "once") words once_met once))
-met_by words met (inr (inr (inl create))) is = inr (inr (inl (create, is ∙ create_met words create)))
-met_by words met (inr (inr (inr (inl serve)))) is = inr (inr (inr (inl (serve, is ∙ serve_met words serve))))
-met_by words met (inr (inr (inr (inr attend)))) is = inr (inr (inr (inr (attend, is ∙ attend_met words attend))))
+-- the command that the words name is the one that the parser met
+pub called_met : (name : Text) (words : List Text) → IsCalled name words → IsMet name (subcommand_of command_line words)
+called_met name words called =
+    let begins = begins_by (is_bare name) name words called.1 in
+    ap command_of begins.1 ∙ first_met name begins.0 called.0
 
--- words of which matches are made
-pub command_met : (app : App) (words : List Text) (m : ArgMatches) → app ≡ command_line → (is_simple_and_free app ≡ true → fault_of app words ≡ [])
-    → HasMatchesOf app words m → Met words (subcommand_name_of m)
-command_met app words m is fails matches =
-    let rows = (matches (ap is_simple is ∙ simple)).1 ∙ ap (λ a. subcommand_of a words) is in
-    met_by words _ (one_command words (none_made app words is fails)) (sym (name_of_rows m) ∙ ap (option_map (λ (p : Text × List Row). p.0)) rows)
+-- and it is no other
+pub one_met : (name one : Text) (met : Option (Text × List Row)) → IsMet name met → IsMet one met → name ≡ one
+one_met name one met is other = ap (λ (o : Option Text). unwrap_or o []) (sym is ∙ other)
+
+pub called_as : (name one : Text) (words : List Text) → IsCalled name words → IsMet one (subcommand_of command_line words) → ByBareness (is_bare one) one words
+called_as name one words called is =
+    subst (λ (n : Text). ByBareness (is_bare n) n words) (one_met name one _ (called_met name words called) is) called.1
 
 -- the rows of the command that the parser met
 pub rows_met : (app : App) (words : List Text) (m : ArgMatches) → app ≡ command_line → HasMatchesOf app words m
     → subcommand_rows_of m ≡ subcommand_of command_line words
 rows_met app words m is matches = (matches (ap is_simple is ∙ simple)).1 ∙ ap (λ a. subcommand_of a words) is
 
--- the name that was read is that of the command that was met
-same_name : (name : Option (Bor Text)) (x : Bor Text) (met : Option Text) (one other : Text)
-    → option_map (λ s. s.now) name ≡ met → name ≡ Some x → x.now ≡ one → met ≡ Some other → Some one ≡ Some other
-same_name name x met one other shown is same was = ap Some (sym same) ∙ sym (ap (option_map (λ s. s.now)) is) ∙ shown ∙ was
+-- words of which one command was met aren't another one alone
+pub no_other_alone : (one other : Text) (words : List Text) → IsMet one (subcommand_of command_line words) → command_of (other ∷ []) ≡ Some other
+    → bytes_eq one other ≡ false → words ≡ other ∷ [] → ⊥
+no_other_alone one other words met alone differs is =
+    let same : one ≡ other = one_met one other _ met (ap command_of is ∙ alone) in
+    true≢false (sym ((bytes_eq-Decides one other).1 same) ∙ differs)
 
--- these names have other letters
-pub settle_or_once : Some (codes "settle") ≡ Some (codes "once") → ⊥
-settle_or_once e = true≢false (ap (λ (o : Option Text). slice_index (unwrap_or o []) 0 == 115) e)
+pub settle_met : command_of (codes "settle" ∷ []) ≡ Some (codes "settle")
+settle_met = first_met (codes "settle") [] (inl refl)
 
-pub settle_or_create : Some (codes "settle") ≡ Some (codes "create") → ⊥
-settle_or_create e = true≢false (ap (λ (o : Option Text). slice_index (unwrap_or o []) 0 == 115) e)
+pub once_met : command_of (codes "once" ∷ []) ≡ Some (codes "once")
+once_met = first_met (codes "once") [] (inr (inl refl))
 
-pub settle_or_serve : Some (codes "settle") ≡ Some (codes "serve") → ⊥
-settle_or_serve e = true≢false (ap (λ (o : Option Text). slice_index (unwrap_or o []) 2 == 116) e)
+-- ---- formats
 
-pub settle_or_attend : Some (codes "settle") ≡ Some (codes "attend") → ⊥
-settle_or_attend e = true≢false (ap (λ (o : Option Text). slice_index (unwrap_or o []) 0 == 115) e)
+-- another command has no format, and so no mistake in it
+pub no_format : (one : Text) (met : Option (Text × List Row)) → IsMet one met → bytes_eq one (codes "trace") ≡ false → format_mistakes met ≡ []
+no_format one None is other = refl
+no_format one (Some p) is other =
+    let same : p.0 ≡ one = ap (λ (o : Option Text). unwrap_or o []) is in
+    ap (λ (b : Bool). cond (b && not (is_format (value_met (codes "format") (Some p)))) (InvalidValue ∷ []) []) (ap (λ (n : Text). bytes_eq n (codes "trace")) same ∙ other)
 
-pub once_or_create : Some (codes "once") ≡ Some (codes "create") → ⊥
-once_or_create e = true≢false (ap (λ (o : Option Text). slice_index (unwrap_or o []) 0 == 111) e)
+-- nor has one that there is
+pub a_format : (met : Option (Text × List Row)) → is_format (value_met (codes "format") met) ≡ true → format_mistakes met ≡ []
+a_format met is = go (is_met (codes "trace") met) is
+  where
+    go : (b : Bool) → is_format (value_met (codes "format") met) ≡ true → cond (b && not (is_format (value_met (codes "format") met))) (InvalidValue ∷ []) [] ≡ []
+    go true is = ap (λ (c : Bool). cond (not c) (InvalidValue ∷ []) []) is
+    go false is = refl
 
-pub once_or_serve : Some (codes "once") ≡ Some (codes "serve") → ⊥
-once_or_serve e = true≢false (ap (λ (o : Option Text). slice_index (unwrap_or o []) 0 == 111) e)
+pub another_format : (met : Option (Text × List Row)) → IsMet (codes "trace") met → is_format (value_met (codes "format") met) ≡ false → format_mistakes met ≡ InvalidValue ∷ []
+another_format None is other = cc
+another_format (Some p) is other =
+    let same : p.0 ≡ codes "trace" = ap (λ (o : Option Text). unwrap_or o []) is in
+    ap₂ (λ (b c : Bool). cond (b && not c) (InvalidValue ∷ []) []) (ap (λ (n : Text). bytes_eq n (codes "trace")) same) other
 
-pub once_or_attend : Some (codes "once") ≡ Some (codes "attend") → ⊥
-once_or_attend e = true≢false (ap (λ (o : Option Text). slice_index (unwrap_or o []) 0 == 111) e)
-
-pub create_or_serve : Some (codes "create") ≡ Some (codes "serve") → ⊥
-create_or_serve e = true≢false (ap (λ (o : Option Text). slice_index (unwrap_or o []) 0 == 99) e)
-
-pub create_or_attend : Some (codes "create") ≡ Some (codes "attend") → ⊥
-create_or_attend e = true≢false (ap (λ (o : Option Text). slice_index (unwrap_or o []) 0 == 99) e)
-
-pub serve_or_attend : Some (codes "serve") ≡ Some (codes "attend") → ⊥
-serve_or_attend e = true≢false (ap (λ (o : Option Text). slice_index (unwrap_or o []) 0 == 115) e)
-
--- the command of this name was met
-pub settle_named : (words : List Text) (met : Option Text) (name : Option (Bor Text)) (x : Bor Text) → Met words met
-    → option_map (λ s. s.now) name ≡ met → name ≡ Some x → x.now ≡ codes "settle" → NamesCommand (codes "settle") words
-settle_named words met name x (inl named) shown is same = named.0
-settle_named words met name x (inr (inl named)) shown is same = absurd (settle_or_once (same_name name x met _ _ shown is same named.1))
-settle_named words met name x (inr (inr (inl named))) shown is same = absurd (settle_or_create (same_name name x met _ _ shown is same named.1))
-settle_named words met name x (inr (inr (inr (inl named)))) shown is same = absurd (settle_or_serve (same_name name x met _ _ shown is same named.1))
-settle_named words met name x (inr (inr (inr (inr named)))) shown is same = absurd (settle_or_attend (same_name name x met _ _ shown is same named.1))
-
-pub once_named : (words : List Text) (met : Option Text) (name : Option (Bor Text)) (x : Bor Text) → Met words met
-    → option_map (λ s. s.now) name ≡ met → name ≡ Some x → x.now ≡ codes "once" → NamesCommand (codes "once") words
-once_named words met name x (inl named) shown is same = absurd (settle_or_once (sym (same_name name x met _ _ shown is same named.1)))
-once_named words met name x (inr (inl named)) shown is same = named.0
-once_named words met name x (inr (inr (inl named))) shown is same = absurd (once_or_create (same_name name x met _ _ shown is same named.1))
-once_named words met name x (inr (inr (inr (inl named)))) shown is same = absurd (once_or_serve (same_name name x met _ _ shown is same named.1))
-once_named words met name x (inr (inr (inr (inr named)))) shown is same = absurd (once_or_attend (same_name name x met _ _ shown is same named.1))
-
-pub create_named : (words : List Text) (met : Option Text) (name : Option (Bor Text)) (x : Bor Text) → Met words met
-    → option_map (λ s. s.now) name ≡ met → name ≡ Some x → x.now ≡ codes "create" → BeginsWith (codes "create") words
-create_named words met name x (inl named) shown is same = absurd (settle_or_create (sym (same_name name x met _ _ shown is same named.1)))
-create_named words met name x (inr (inl named)) shown is same = absurd (once_or_create (sym (same_name name x met _ _ shown is same named.1)))
-create_named words met name x (inr (inr (inl named))) shown is same = named.0
-create_named words met name x (inr (inr (inr (inl named)))) shown is same = absurd (create_or_serve (same_name name x met _ _ shown is same named.1))
-create_named words met name x (inr (inr (inr (inr named)))) shown is same = absurd (create_or_attend (same_name name x met _ _ shown is same named.1))
-
-pub serve_named : (words : List Text) (met : Option Text) (name : Option (Bor Text)) (x : Bor Text) → Met words met
-    → option_map (λ s. s.now) name ≡ met → name ≡ Some x → x.now ≡ codes "serve" → BeginsWith (codes "serve") words
-serve_named words met name x (inl named) shown is same = absurd (settle_or_serve (sym (same_name name x met _ _ shown is same named.1)))
-serve_named words met name x (inr (inl named)) shown is same = absurd (once_or_serve (sym (same_name name x met _ _ shown is same named.1)))
-serve_named words met name x (inr (inr (inl named))) shown is same = absurd (create_or_serve (sym (same_name name x met _ _ shown is same named.1)))
-serve_named words met name x (inr (inr (inr (inl named)))) shown is same = named.0
-serve_named words met name x (inr (inr (inr (inr named)))) shown is same = absurd (serve_or_attend (same_name name x met _ _ shown is same named.1))
-
-pub attend_named : (words : List Text) (met : Option Text) (name : Option (Bor Text)) (x : Bor Text) → Met words met
-    → option_map (λ s. s.now) name ≡ met → name ≡ Some x → x.now ≡ codes "attend" → BeginsWith (codes "attend") words
-attend_named words met name x (inl named) shown is same = absurd (settle_or_attend (sym (same_name name x met _ _ shown is same named.1)))
-attend_named words met name x (inr (inl named)) shown is same = absurd (once_or_attend (sym (same_name name x met _ _ shown is same named.1)))
-attend_named words met name x (inr (inr (inl named))) shown is same = absurd (create_or_attend (sym (same_name name x met _ _ shown is same named.1)))
-attend_named words met name x (inr (inr (inr (inl named)))) shown is same = absurd (serve_or_attend (sym (same_name name x met _ _ shown is same named.1)))
-attend_named words met name x (inr (inr (inr (inr named)))) shown is same = named.0
-
--- no other command was met, and one was met
-pub none_other : (words : List Text) (met : Option Text) (name : Option (Bor Text)) → Met words met → option_map (λ s. s.now) name ≡ met
-    → ((x : Bor Text) → name ≡ Some x → (x.now ≢ codes "settle") × (x.now ≢ codes "once") × (x.now ≢ codes "create") × (x.now ≢ codes "serve") × (x.now ≢ codes "attend")) → ⊥
-none_other words met None (inl named) shown other = let e = shown ∙ named.1 in cc
-none_other words met None (inr (inl named)) shown other = let e = shown ∙ named.1 in cc
-none_other words met None (inr (inr (inl named))) shown other = let e = shown ∙ named.1 in cc
-none_other words met None (inr (inr (inr (inl named)))) shown other = let e = shown ∙ named.1 in cc
-none_other words met None (inr (inr (inr (inr named)))) shown other = let e = shown ∙ named.1 in cc
-none_other words met (Some x) (inl named) shown other = (other x refl).0 (let e : Some x.now ≡ Some (codes "settle") = shown ∙ named.1 in cc)
-none_other words met (Some x) (inr (inl named)) shown other = (other x refl).1 (let e : Some x.now ≡ Some (codes "once") = shown ∙ named.1 in cc)
-none_other words met (Some x) (inr (inr (inl named))) shown other = (other x refl).2 (let e : Some x.now ≡ Some (codes "create") = shown ∙ named.1 in cc)
-none_other words met (Some x) (inr (inr (inr (inl named)))) shown other = (other x refl).3 (let e : Some x.now ≡ Some (codes "serve") = shown ∙ named.1 in cc)
-none_other words met (Some x) (inr (inr (inr (inr named)))) shown other = (other x refl).4 (let e : Some x.now ≡ Some (codes "attend") = shown ∙ named.1 in cc)
-
--- words that name one command aren't another one alone
-pub no_other_alone : (one other : Text) (words : List Text) → NamesCommand one words → words ≡ other ∷ [] → one ≡ other
-no_other_alone one other words (inl alone) is = cc
-no_other_alone one other words (inr dashed) is = cc
-
--- nor are words that begin with another
-pub begins_otherwise : (one other : Text) (words : List Text) → BeginsWith one words → words ≡ other ∷ [] → one ≡ other
-begins_otherwise one other words begins is = let e = begins.1 in cc
+-- a mistake that the parser finds is one of all
+pub among_all : (k : ErrorKind) (a b : Kinds) → IsAmong k a → IsAmong k (or_else a b)
+among_all k [] b among = absurd among
+among_all k (x ∷ xs) b among = among
 
 -- ---- the value of an option
 

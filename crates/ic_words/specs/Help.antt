@@ -13,13 +13,17 @@ program_help = text_of (codes "A job server for the interaction calculus"
     ∷ []
     ∷ codes "Usage: icserve <COMMAND>"
     ∷ []
-    ∷ codes "Commands:"
-    ∷ codes "  settle  Settles the configuration on standard input and prints it"
-    ∷ codes "  once    Makes one round of the system on standard input and prints the configuration"
+    ∷ codes "To look at a system, which is read from standard input:"
+    ∷ codes "  reduce  Makes rounds until no step is possible, and prints the configuration"
+    ∷ codes "  trace   Tells what each of these rounds does, as a table or a picture"
+    ∷ codes "  once    Makes one round, and prints the configuration"
+    ∷ codes "  settle  Settles a configuration that has no rules, and prints it"
+    ∷ []
+    ∷ codes "To run jobs, which outlive a crash:"
     ∷ codes "  create  Makes the file F an empty disk, whatever it held"
     ∷ codes "  serve   Serves the lines of standard input over the disk in the file F"
-    ∷ (codes "  attend  Gives the commands of scripts to the disk in the file F,"
-    ++ codes " one client to a script")
+    ∷ (codes "  attend  Gives the commands of scripts to the disk in the file F, one"
+    ++ codes " client to a script")
     ∷ []
     ∷ codes "Options:"
     ∷ codes "  -h, --help     Print help"
@@ -87,6 +91,32 @@ attend_help = text_of ((codes "Gives the commands of scripts to the disk in the 
     ∷ codes "  -h, --help         Print help"
     ∷ [])
 
+abbrev pub reduce_help : Text
+reduce_help = text_of ((codes "Makes rounds of the system on standard input until no step is possible,"
+    ++ codes " and prints the configuration")
+    ∷ []
+    ∷ codes "Usage: icserve reduce [OPTIONS]"
+    ∷ []
+    ∷ codes "Options:"
+    ∷ (codes "      --rounds <N>  How many rounds are made at most, from 0 to"
+    ++ codes " 4611686018427387904 [default: 1000000]")
+    ∷ codes "  -h, --help        Print help"
+    ∷ []
+    ∷ codes "The exit status is 5 where a step is still possible behind the last round."
+    ∷ [])
+
+abbrev pub trace_help : Text
+trace_help = text_of (codes "Tells what the rounds of the system on standard input do, until no step is possible"
+    ∷ []
+    ∷ codes "Usage: icserve trace [OPTIONS]"
+    ∷ []
+    ∷ codes "Options:"
+    ∷ (codes "      --rounds <N>       How many rounds are made at most, from 0 to"
+    ++ codes " 4611686018427387904 [default: 1000000]")
+    ∷ codes "      --format <FORMAT>  A table with tabs (tsv) or a picture (svg) [default: tsv]"
+    ∷ codes "  -h, --help             Print help"
+    ∷ [])
+
 -- the help that words ask for: that of the command that the first one names, or the program's
 abbrev pub help_of : List Text → Text
 help_of [] = program_help
@@ -94,7 +124,9 @@ help_of (word ∷ words) = if bytes_eq word (codes "settle") then settle_help
     else if bytes_eq word (codes "once") then once_help
     else if bytes_eq word (codes "create") then create_help
     else if bytes_eq word (codes "serve") then serve_help
-    else if bytes_eq word (codes "attend") then attend_help else program_help
+    else if bytes_eq word (codes "attend") then attend_help
+    else if bytes_eq word (codes "reduce") then reduce_help
+    else if bytes_eq word (codes "trace") then trace_help else program_help
 
 -- this part stands in a text
 abbrev pub Says : Text → Text → Type 0

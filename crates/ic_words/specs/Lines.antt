@@ -2,7 +2,7 @@
 use Rattle.std.specs.Prelude.{◌≡◌, ◌≢◌, ◌⊎◌, ◌<◌, ◌≤◌, ◌^◌, ℕ, List, [], ◌∷◌, ◌++◌, codes, length}
 use Rattle.std.specs.List.{AllByRecursion}
 use Rattle.clap.specs.Words.{Text}
-use Rattle.ic_words.specs.Words.{IsDecimal}
+use Rattle.ic_words.specs.Words.{IsDecimal, most_rounds}
 
 -- an option, and the value that it is given
 pub record Given : Type 0 where
@@ -41,6 +41,19 @@ IsAttendOption given = (given.name ≡ codes "disk")
     ⊎ (((given.name ≡ codes "runners") × IsWithin 0 64 given.value)
     ⊎ (((given.name ≡ codes "turns") × IsWithin 0 1000000 given.value)
     ⊎ ((given.name ≡ codes "workers") × IsWithin 1 64 given.value)))
+
+-- an option of `reduce`: a number of rounds
+abbrev pub IsReduceOption : Given → Type 0
+IsReduceOption given = (given.name ≡ codes "rounds") × IsWithin 0 most_rounds given.value
+
+-- one of the formats
+abbrev pub IsFormatText : Text → Type 0
+IsFormatText text = (text ≡ codes "tsv") ⊎ (text ≡ codes "svg")
+
+-- an option of `trace`: a number of rounds, or a format
+abbrev pub IsTraceOption : Given → Type 0
+IsTraceOption given = IsReduceOption given
+    ⊎ ((given.name ≡ codes "format") × IsFormatText given.value)
 
 -- `create --disk F`
 abbrev pub IsCreateLine : Text → List Text → Type 0
@@ -90,3 +103,24 @@ pub record IsAttendLine (words : List Text) (path r t n : Text) (scripts : List 
   pub workers : HasValue given (codes "workers") (codes "2") n
   pub plain : AllByRecursion HasNoHyphen scripts
   pub few : length scripts < 2 ^ 64
+
+-- `reduce`, with `--rounds N` or without
+pub record IsReduceLine (words : List Text) (most : Text) : Type 0 where
+  pub given : List Given
+  pub rest : List Text
+  pub begins : words ≡ codes "reduce" ∷ rest
+  pub written : AreWritten given rest
+  pub options : AllByRecursion IsReduceOption given
+  pub once : AreOnce given
+  pub rounds : HasValue given (codes "rounds") (codes "1000000") most
+
+-- `trace`, with `--rounds N` and `--format tsv|svg` or without, in any order, each once
+pub record IsTraceLine (words : List Text) (most shown : Text) : Type 0 where
+  pub given : List Given
+  pub rest : List Text
+  pub begins : words ≡ codes "trace" ∷ rest
+  pub written : AreWritten given rest
+  pub options : AllByRecursion IsTraceOption given
+  pub once : AreOnce given
+  pub rounds : HasValue given (codes "rounds") (codes "1000000") most
+  pub format : HasValue given (codes "format") (codes "tsv") shown

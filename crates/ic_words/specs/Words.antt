@@ -1,17 +1,22 @@
 -- What the words after the program's name ask for (this project's choice).
-use Rattle.std.specs.Prelude.{◌≡◌, ◌≢◌, ◌≤◌, ◌⊎◌, ℕ, pos, map, List, [], ◌∷◌, ◌++◌, Result, Ok, Err, true}
+use Rattle.std.specs.Prelude.{◌≡◌, ◌≢◌, ◌≤◌, ◌⊎◌, ℕ, Bool, pos, map, List, [], ◌∷◌, ◌++◌, Result, Ok, Err, true, false}
+use Rattle.std.specs.Prelude.{◌||◌, ◌&&◌, not, if◌then◌else◌, bytes_eq}
+use Rattle.std.specs.Option.{option_map_or}
 use Rattle.std.specs.Prelude.{codes, string_bytes, Option, Some, unwrap_or, option_and_then}
 use Rattle.std.specs.Str.Parse.{IsNumeral, digits_value, without_leading_plus}
 use Rattle.clap.specs.Words.{App, IsAmong, Kinds, Row, Rule, Shape, Text, all_of, first_of, new_app}
-use Rattle.clap.specs.Words.{new_rule, one_of, subcommand_of, with_rule, with_subcommand}
+use Rattle.clap.specs.Words.{fault_of, new_rule, one_of, subcommand_of, with_rule, with_subcommand}
+use Rattle.clap.specs.Kinds.{or_else}
 use Rattle.clap.specs.Lexer.{usize_max}
 use Rattle.clap.specs.Simple.{on_top}
 use Rattle.clap.specs.declared.builder.value_parser.ValueParser.TheVariants as parser
 use Rattle.clap.specs.declared.error.ErrorKind.{ErrorKind}
-use Rattle.clap.specs.declared.error.ErrorKind.TheVariants.{DisplayHelp, DisplayVersion}
+use Rattle.clap.specs.declared.error.ErrorKind.TheVariants.{DisplayHelp, DisplayVersion, InvalidValue}
 use Rattle.ic_words.specs.declared.words.Task.{Task}
 use Rattle.ic_words.specs.declared.words.Task.TheVariants.{Settle, Once, Create, Serve, Attend}
-use Rattle.ic_words.specs.declared.words.Task.TheVariants.{Help, Version}
+use Rattle.ic_words.specs.declared.words.Task.TheVariants.{Reduce, Trace, Help, Version}
+use Rattle.ic_words.specs.declared.words.TraceFormat.{TraceFormat}
+use Rattle.ic_words.specs.declared.words.TraceFormat.TheVariants.{Tsv, Svg}
 use Rattle.ic_words.specs.Help.{help_of, program_help}
 use Rattle.ic_words.specs.declared.words.WordsFault.{WordsFault}
 use Rattle.ic_words.specs.declared.words.WordsFault.TheVariants.{Words, Memory}
@@ -92,16 +97,46 @@ abbrev pub attend_command : App
 attend_command = with_rule (with_rule (with_rule (with_rule (with_rule (new_app (codes "attend"))
     disk_option) runners_option) turns_option) workers_option) script_argument
 
+-- the most rounds of `reduce` and `trace`: 2 ^ 62
+abbrev pub most_rounds : ℕ
+most_rounds = 4611686018427387904
+
+-- the option `--rounds N`, from 0 to 2 ^ 62, of which the default is 1,000,000
+abbrev pub rounds_option : Rule
+rounds_option = record (new_rule (codes "rounds")) {
+  long = Some (codes "rounds");
+  value_names = 1;
+  defaults = codes "1000000" ∷ [];
+  parser = Some (parser.Unsigned 0 most_rounds);
+}
+
+-- the option `--format FORMAT`, of which the default is tsv
+abbrev pub format_option : Rule
+format_option = record (new_rule (codes "format")) {
+  long = Some (codes "format");
+  value_names = 1;
+  defaults = codes "tsv" ∷ [];
+}
+
+abbrev pub reduce_command : App
+reduce_command = with_rule (new_app (codes "reduce")) rounds_option
+
+abbrev pub trace_command : App
+trace_command = with_rule (with_rule (new_app (codes "trace")) rounds_option) format_option
+
 -- the program with its commands `settle` and `once`
 abbrev pub with_streams : App
 with_streams = with_subcommand (with_subcommand program
     (new_app (codes "settle")).top) (new_app (codes "once")).top
 
--- the command line of the program, whose commands are `settle`, `once`, `create`, `serve` and
--- `attend`
-abbrev pub command_line : App
-command_line = with_subcommand (with_subcommand (with_subcommand with_streams create_command.top)
+-- the same with `create`, `serve` and `attend`
+abbrev pub with_disks : App
+with_disks = with_subcommand (with_subcommand (with_subcommand with_streams create_command.top)
     serve_command.top) attend_command.top
+
+-- the command line of the program, which has `reduce` and `trace`, too
+abbrev pub command_line : App
+command_line = with_subcommand (with_subcommand with_disks reduce_command.top) trace_command.top
 
 -- the line that tells the version
 abbrev pub version_line : List ℕ
@@ -112,6 +147,31 @@ abbrev pub words_fault_number : WordsFault → ℕ
 words_fault_number (Words text) = 1
 words_fault_number Memory = 2
 
+-- the value of an option of a command that is met, or no text where it has none
+abbrev pub value_met : Text → Option (Text × List Row) → Text
+value_met option met = unwrap_or (option_and_then (λ p. first_of option p.1) met) []
+
+-- the text of a format
+abbrev pub format_word : TraceFormat → Text
+format_word Tsv = codes "tsv"
+format_word Svg = codes "svg"
+
+abbrev pub is_format : Text → Bool
+is_format text = bytes_eq text (format_word Tsv) || bytes_eq text (format_word Svg)
+
+-- the command of this name is met
+abbrev pub is_met : Text → Option (Text × List Row) → Bool
+is_met name met = option_map_or (λ p. bytes_eq p.0 name) met false
+
+-- the mistake of a `trace` whose format is none
+abbrev pub format_mistakes : Option (Text × List Row) → Kinds
+format_mistakes met = if is_met (codes "trace") met && not (is_format (value_met (codes "format") met))
+    then InvalidValue ∷ [] else []
+
+-- the mistakes that words may have: the parser's, and where it finds none that of a format
+abbrev pub mistakes_of : List Text → Kinds
+mistakes_of words = or_else (fault_of command_line words) (format_mistakes (subcommand_of command_line words))
+
 -- What is answered, by the mistakes that the words may have: none, or help or the version that is
 -- asked for, or another.
 abbrev pub AnswersWords : Kinds → Result Task WordsFault → Type 0
@@ -120,6 +180,8 @@ AnswersWords mistakes (Ok Once) = mistakes ≡ []
 AnswersWords mistakes (Ok (Create disk)) = mistakes ≡ []
 AnswersWords mistakes (Ok (Serve disk workers every)) = mistakes ≡ []
 AnswersWords mistakes (Ok (Attend disk runners turns workers scripts)) = mistakes ≡ []
+AnswersWords mistakes (Ok (Reduce rounds)) = mistakes ≡ []
+AnswersWords mistakes (Ok (Trace rounds format)) = mistakes ≡ []
 AnswersWords mistakes (Ok (Help text)) = IsAmong DisplayHelp mistakes
 AnswersWords mistakes (Ok (Version text)) =
     IsAmong DisplayVersion mistakes × (string_bytes text ≡ version_line)
@@ -142,6 +204,8 @@ GivesHelp (Ok Once) = ⊥
 GivesHelp (Ok (Create disk)) = ⊥
 GivesHelp (Ok (Serve disk workers every)) = ⊥
 GivesHelp (Ok (Attend disk runners turns workers scripts)) = ⊥
+GivesHelp (Ok (Reduce rounds)) = ⊥
+GivesHelp (Ok (Trace rounds format)) = ⊥
 GivesHelp (Ok (Version text)) = ⊥
 GivesHelp (Err (Words text)) = ⊥
 
@@ -154,16 +218,14 @@ GivesVersion (Ok Once) = ⊥
 GivesVersion (Ok (Create disk)) = ⊥
 GivesVersion (Ok (Serve disk workers every)) = ⊥
 GivesVersion (Ok (Attend disk runners turns workers scripts)) = ⊥
+GivesVersion (Ok (Reduce rounds)) = ⊥
+GivesVersion (Ok (Trace rounds format)) = ⊥
 GivesVersion (Ok (Help text)) = ⊥
 GivesVersion (Err (Words text)) = ⊥
 
 -- the one word that is a command; a `--` behind it ends the options, of which there are none
 abbrev pub NamesCommand : List ℕ → List (List ℕ) → Type 0
 NamesCommand command words = (words ≡ command ∷ []) ⊎ (words ≡ command ∷ (45 ∷ 45 ∷ []) ∷ [])
-
--- the value of an option of a command that is met, or no text where it has none
-abbrev pub value_met : Text → Option (Text × List Row) → Text
-value_met option met = unwrap_or (option_and_then (λ p. first_of option p.1) met) []
 
 -- the values of an argument of a command that is met, none where it has none
 abbrev pub values_met : Text → Option (Text × List Row) → List Text
@@ -211,5 +273,10 @@ Names words (Serve disk workers every) = BeginsWith (codes "serve") words
     × IsNumberOf (codes "every") 1 1000000 words every
 Names words (Attend disk runners turns workers scripts) =
     NamesAttend words (string_bytes disk) runners turns workers (map string_bytes scripts.items)
+Names words (Reduce rounds) = BeginsWith (codes "reduce") words
+    × IsNumberOf (codes "rounds") 0 most_rounds words rounds
+Names words (Trace rounds format) = BeginsWith (codes "trace") words
+    × IsNumberOf (codes "rounds") 0 most_rounds words rounds
+    × (value_met (codes "format") (subcommand_of command_line words) ≡ format_word format)
 Names words (Help text) = string_bytes text ≡ help_of words
 Names words (Version text) = string_bytes text ≡ version_line

@@ -9,9 +9,13 @@ A job server for the interaction calculus
 
 Usage: icserve <COMMAND>
 
-Commands:
-  settle  Settles the configuration on standard input and prints it
-  once    Makes one round of the system on standard input and prints the configuration
+To look at a system, which is read from standard input:
+  reduce  Makes rounds until no step is possible, and prints the configuration
+  trace   Tells what each of these rounds does, as a table or a picture
+  once    Makes one round, and prints the configuration
+  settle  Settles a configuration that has no rules, and prints it
+
+To run jobs, which outlive a crash:
   create  Makes the file F an empty disk, whatever it held
   serve   Serves the lines of standard input over the disk in the file F
   attend  Gives the commands of scripts to the disk in the file F, one client to a script
@@ -82,6 +86,31 @@ Options:
   -h, --help         Print help
 ";
 
+/// The help of `reduce`.
+const REDUCE: &str = "\
+Makes rounds of the system on standard input until no step is possible, and prints the configuration
+
+Usage: icserve reduce [OPTIONS]
+
+Options:
+      --rounds <N>  How many rounds are made at most, from 0 to 4611686018427387904 [default: 1000000]
+  -h, --help        Print help
+
+The exit status is 5 where a step is still possible behind the last round.
+";
+
+/// The help of `trace`.
+const TRACE: &str = "\
+Tells what the rounds of the system on standard input do, until no step is possible
+
+Usage: icserve trace [OPTIONS]
+
+Options:
+      --rounds <N>       How many rounds are made at most, from 0 to 4611686018427387904 [default: 1000000]
+      --format <FORMAT>  A table with tabs (tsv) or a picture (svg) [default: tsv]
+  -h, --help             Print help
+";
+
 /// The help that words ask for: that of the command that the first one names, or the program's.
 pub(crate) fn help_of(words: &[String]) -> &'static str
     ensures { result.now ≡ help_of (map string_bytes words.now) }
@@ -95,6 +124,8 @@ pub(crate) fn help_of(words: &[String]) -> &'static str
         "create" => CREATE,
         "serve" => SERVE,
         "attend" => ATTEND,
+        "reduce" => REDUCE,
+        "trace" => TRACE,
         _ => PROGRAM,
     }
 }

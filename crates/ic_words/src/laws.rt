@@ -3,14 +3,16 @@
 ghost use Rattle.std.specs.Prelude.{◌≡◌, ◌≢◌, ◌↔◌, ◌⊎◌, ◌<◌, ◌≤◌, ◌^◌, ℕ, List, [], ◌∷◌, ◌++◌, Ok, Err, codes, map, string_bytes};
 ghost use Rattle.std.specs.List.{AllByRecursion};
 ghost use Rattle.std.specs.Fmt.{decimal};
-ghost use Rattle.clap.specs.Words.{Text, fault_of};
+ghost use Rattle.clap.specs.Words.{Text};
 ghost use Rattle.clap.specs.declared.error.ErrorKind.{ErrorKind};
-ghost use Rattle.clap.specs.declared.error.ErrorKind.TheVariants.{DisplayHelp, DisplayVersion};
-ghost use Rattle.ic_words.specs.declared.words.Task.TheVariants.{Settle, Once, Create, Serve, Attend, Help, Version};
+ghost use Rattle.clap.specs.declared.error.ErrorKind.TheVariants.{DisplayHelp, DisplayVersion, InvalidValue};
+ghost use Rattle.ic_words.specs.declared.words.Task.TheVariants.{Settle, Once, Create, Serve, Attend, Reduce, Trace, Help, Version};
+ghost use Rattle.ic_words.specs.declared.words.TraceFormat.{TraceFormat};
 ghost use Rattle.ic_words.specs.declared.words.WordsFault.TheVariants.{Words, Memory};
-ghost use Rattle.ic_words.specs.Words.{AnswersWords, command_line, words_fault_number, IsDecimal, Names};
+ghost use Rattle.ic_words.specs.Words.{AnswersWords, format_word, mistakes_of, words_fault_number, IsDecimal, Names};
 ghost use Rattle.ic_words.specs.Help.{help_of, Says, program_help, settle_help, once_help, create_help, serve_help, attend_help};
-ghost use Rattle.ic_words.specs.Lines.{IsAttendLine, IsCreateLine, IsServeLine};
+ghost use Rattle.ic_words.specs.Help.{reduce_help, trace_help};
+ghost use Rattle.ic_words.specs.Lines.{IsAttendLine, IsCreateLine, IsReduceLine, IsServeLine, IsTraceLine};
 
 /// A number's text is the number in decimal digits, before which a plus may stand, and no other
 /// number's; the empty text is none's.
@@ -45,12 +47,14 @@ pub fn answers_go_by_mistakes(text: &String)
 {}
 
 /// The words that are taken with no value: a command alone, and a `--` behind it. No other words name
-/// these commands.
+/// `settle` and `once`.
 pub fn commands_are_taken()
-    ensures settle { fault_of command_line (codes "settle" ∷ []) ≡ [] }
-    ensures settled { fault_of command_line (codes "settle" ∷ codes "--" ∷ []) ≡ [] }
-    ensures once { fault_of command_line (codes "once" ∷ []) ≡ [] }
-    ensures once_ended { fault_of command_line (codes "once" ∷ codes "--" ∷ []) ≡ [] }
+    ensures settle { mistakes_of (codes "settle" ∷ []) ≡ [] }
+    ensures settled { mistakes_of (codes "settle" ∷ codes "--" ∷ []) ≡ [] }
+    ensures once { mistakes_of (codes "once" ∷ []) ≡ [] }
+    ensures once_ended { mistakes_of (codes "once" ∷ codes "--" ∷ []) ≡ [] }
+    ensures reduce { mistakes_of (codes "reduce" ∷ []) ≡ [] }
+    ensures trace { mistakes_of (codes "trace" ∷ []) ≡ [] }
     ensures settle_named { (words : List Text) → Names words Settle
         → (words ≡ codes "settle" ∷ []) ⊎ (words ≡ codes "settle" ∷ codes "--" ∷ []) }
     ensures once_named { (words : List Text) → Names words Once
@@ -59,21 +63,24 @@ pub fn commands_are_taken()
 
 /// The words that ask for help, at each command too, and those that ask for the version.
 pub fn help_and_version_are_asked()
-    ensures help { fault_of command_line (codes "--help" ∷ []) ≡ DisplayHelp ∷ [] }
-    ensures short { fault_of command_line (codes "-h" ∷ []) ≡ DisplayHelp ∷ [] }
-    ensures settle { fault_of command_line (codes "settle" ∷ codes "--help" ∷ [])
+    ensures help { mistakes_of (codes "--help" ∷ []) ≡ DisplayHelp ∷ [] }
+    ensures short { mistakes_of (codes "-h" ∷ []) ≡ DisplayHelp ∷ [] }
+    ensures settle { mistakes_of (codes "settle" ∷ codes "--help" ∷ [])
         ≡ DisplayHelp ∷ [] }
-    ensures once { fault_of command_line (codes "once" ∷ codes "--help" ∷ []) ≡ DisplayHelp ∷ [] }
-    ensures create { fault_of command_line (codes "create" ∷ codes "--help" ∷ [])
+    ensures once { mistakes_of (codes "once" ∷ codes "--help" ∷ []) ≡ DisplayHelp ∷ [] }
+    ensures create { mistakes_of (codes "create" ∷ codes "--help" ∷ [])
         ≡ DisplayHelp ∷ [] }
-    ensures serve { fault_of command_line (codes "serve" ∷ codes "--help" ∷ [])
+    ensures serve { mistakes_of (codes "serve" ∷ codes "--help" ∷ [])
         ≡ DisplayHelp ∷ [] }
-    ensures short_serve { fault_of command_line (codes "serve" ∷ codes "-h" ∷ [])
+    ensures short_serve { mistakes_of (codes "serve" ∷ codes "-h" ∷ [])
         ≡ DisplayHelp ∷ [] }
-    ensures attend { fault_of command_line (codes "attend" ∷ codes "--help" ∷ [])
+    ensures attend { mistakes_of (codes "attend" ∷ codes "--help" ∷ [])
         ≡ DisplayHelp ∷ [] }
-    ensures version { fault_of command_line (codes "--version" ∷ []) ≡ DisplayVersion ∷ [] }
-    ensures short_version { fault_of command_line (codes "-V" ∷ []) ≡ DisplayVersion ∷ [] }
+    ensures reduce { mistakes_of (codes "reduce" ∷ codes "--help" ∷ [])
+        ≡ DisplayHelp ∷ [] }
+    ensures trace { mistakes_of (codes "trace" ∷ codes "--help" ∷ []) ≡ DisplayHelp ∷ [] }
+    ensures version { mistakes_of (codes "--version" ∷ []) ≡ DisplayVersion ∷ [] }
+    ensures short_version { mistakes_of (codes "-V" ∷ []) ≡ DisplayVersion ∷ [] }
 {}
 
 /// The help is that of the command which the first word names, and the program's where it names none.
@@ -85,14 +92,23 @@ pub fn each_command_has_its_help()
     ensures create { (words : List Text) → help_of (codes "create" ∷ words) ≡ create_help }
     ensures serve { (words : List Text) → help_of (codes "serve" ∷ words) ≡ serve_help }
     ensures attend { (words : List Text) → help_of (codes "attend" ∷ words) ≡ attend_help }
+    ensures reduce { (words : List Text) → help_of (codes "reduce" ∷ words) ≡ reduce_help }
+    ensures trace { (words : List Text) → help_of (codes "trace" ∷ words) ≡ trace_help }
     ensures program { (word : Text) (words : List Text) → AllByRecursion (λ name. word ≢ name)
-        (codes "settle" ∷ codes "once" ∷ codes "create" ∷ codes "serve" ∷ codes "attend" ∷ [])
+        (codes "settle" ∷ codes "once" ∷ codes "create" ∷ codes "serve" ∷ codes "attend"
+        ∷ codes "reduce" ∷ codes "trace" ∷ [])
         → help_of (word ∷ words) ≡ program_help }
     ensures commands { AllByRecursion (Says program_help) (codes "  settle  " ∷ codes "  once  "
         ∷ codes "  create  " ∷ codes "  serve  " ∷ codes "  attend  "
+        ∷ codes "  reduce  " ∷ codes "  trace  "
         ∷ codes "-h, --help" ∷ codes "-V, --version" ∷ []) }
     ensures streams { Says settle_help (codes "icserve settle")
         × Says once_help (codes "icserve once") }
+    ensures rounds { AllByRecursion (Says reduce_help) (codes "icserve reduce" ∷ codes "--rounds <N>"
+        ∷ codes "from 0 to 4611686018427387904 [default: 1000000]" ∷ []) }
+    ensures formats { AllByRecursion (Says trace_help) (codes "icserve trace" ∷ codes "--rounds <N>"
+        ∷ codes "from 0 to 4611686018427387904 [default: 1000000]" ∷ codes "--format <FORMAT>"
+        ∷ codes "(tsv)" ∷ codes "(svg)" ∷ codes "[default: tsv]" ∷ []) }
     ensures disk { AllByRecursion (Says create_help)
         (codes "icserve create" ∷ codes "--disk <F>" ∷ []) }
     ensures numbers { AllByRecursion (Says serve_help) (codes "icserve serve" ∷ codes "--disk <F>"
@@ -107,7 +123,7 @@ pub fn each_command_has_its_help()
 /// A well-formed line of `create` is taken, and names the file that it is given.
 pub fn create_lines_are_taken(disk: &String)
     ensures taken { (words : List Text) (path : Text) → IsCreateLine path words
-        → fault_of command_line words ≡ [] }
+        → mistakes_of words ≡ [] }
     ensures named { (words : List Text) (path : Text) → IsCreateLine path words
         → Names words (Create disk.now) → string_bytes disk.now ≡ path }
 {}
@@ -116,7 +132,7 @@ pub fn create_lines_are_taken(disk: &String)
 /// and the numbers that it is given, or their defaults: 2 workers, and 100 rounds between two keeps.
 pub fn serve_lines_are_taken(disk: &String)
     ensures taken { (words : List Text) (path workers every : Text)
-        → IsServeLine words path workers every → fault_of command_line words ≡ [] }
+        → IsServeLine words path workers every → mistakes_of words ≡ [] }
     ensures named { (words : List Text) (path workers every : Text) (threads rounds : ℕ)
         → IsServeLine words path workers every → Names words (Serve disk.now threads rounds)
         → (string_bytes disk.now ≡ path) × IsDecimal workers threads × IsDecimal every rounds
@@ -128,11 +144,30 @@ pub fn serve_lines_are_taken(disk: &String)
 /// it names the default: 2 runners, no turns, 2 workers.
 pub fn attend_lines_are_taken(disk: &String, paths: &Vec<String>)
     ensures taken { (words : List Text) (path r t n : Text) (scripts : List Text)
-        → IsAttendLine words path r t n scripts → fault_of command_line words ≡ [] }
+        → IsAttendLine words path r t n scripts → mistakes_of words ≡ [] }
     ensures named { (words : List Text) (path r t n : Text) (scripts : List Text)
         (runners turns workers : ℕ) → IsAttendLine words path r t n scripts
         → Names words (Attend disk.now runners turns workers paths.now)
         → (string_bytes disk.now ≡ path) × IsDecimal r runners × IsDecimal t turns
         × IsDecimal n workers × (runners ≤ 64) × (turns ≤ 1000000) × (1 ≤ workers)
         × (workers ≤ 64) × (map string_bytes paths.now.items ≡ scripts) }
+{}
+
+/// A well-formed line of `reduce` is taken, and names the number that it is given, or 1,000,000.
+pub fn reduce_lines_are_taken()
+    ensures taken { (words : List Text) (most : Text) → IsReduceLine words most
+        → mistakes_of words ≡ [] }
+    ensures named { (words : List Text) (most : Text) (rounds : ℕ) → IsReduceLine words most
+        → Names words (Reduce rounds) → IsDecimal most rounds × (rounds ≤ 2 ^ 62) }
+{}
+
+/// A well-formed line of `trace` is taken, in whatever order its options stand, and names the number
+/// and the format that it is given, or 1,000,000 and tsv. Another format is a mistake.
+pub fn trace_lines_are_taken()
+    ensures taken { (words : List Text) (most shown : Text) → IsTraceLine words most shown
+        → mistakes_of words ≡ [] }
+    ensures named { (words : List Text) (most shown : Text) (rounds : ℕ) (format : TraceFormat)
+        → IsTraceLine words most shown → Names words (Trace rounds format)
+        → IsDecimal most rounds × (rounds ≤ 2 ^ 62) × (format_word format ≡ shown) }
+    ensures other { mistakes_of (codes "trace" ∷ codes "--format=png" ∷ []) ≡ InvalidValue ∷ [] }
 {}

@@ -1,13 +1,15 @@
 //! The words after the program's name.
 
-ghost use Rattle.std.specs.Prelude.{◌≡◌, ◌≤◌, ℕ, false, map, IfOk, codes, [], ◌∷◌, string_bytes};
-ghost use Rattle.clap.specs.Words.{app_of, fault_of, rule_of, subcommand_rows_of};
+ghost use Rattle.std.specs.Prelude.{◌≡◌, ◌≤◌, ℕ, false, map, Ok, IfOk, codes, [], ◌∷◌, string_bytes};
+ghost use Rattle.clap.specs.Words.{app_of, rule_of, subcommand_rows_of};
 ghost use Rattle.clap.specs.declared.builder.command.Command.TheViews.{out-Command};
 ghost use Rattle.ic_words.specs.Words.{AnswersWords, GivesHelp, GivesTask, GivesVersion, Names};
-ghost use Rattle.ic_words.specs.Words.{attend_command, command_line, create_command, program, serve_command, with_streams};
-ghost use Rattle.ic_words.specs.Words.{disk_option, every_option, runners_option, script_argument, turns_option, workers_option};
-ghost use Rattle.ic_words.specs.Words.{IsDecimal, number_met, value_met, values_met};
-ghost use Rattle.ic_words.specs.inner.Attending.{AsksToAttend};
+ghost use Rattle.ic_words.specs.Words.{attend_command, command_line, create_command, program, reduce_command};
+ghost use Rattle.ic_words.specs.Words.{serve_command, trace_command, with_disks, with_streams};
+ghost use Rattle.ic_words.specs.Words.{disk_option, every_option, format_option, rounds_option, runners_option};
+ghost use Rattle.ic_words.specs.Words.{script_argument, turns_option, workers_option};
+ghost use Rattle.ic_words.specs.Words.{mistakes_of, value_met, values_met};
+ghost use Rattle.ic_words.specs.inner.Asking.{Asks, IsCommandMet, IsMet, IsReadFrom};
 
 use crate::help::help_of;
 use clap::error::ErrorKind;
@@ -28,6 +30,9 @@ const MAX_RUNNERS: u32 = 64;
 
 /// The most turns of a runner.
 const MAX_TURNS: u32 = 1_000_000;
+
+/// The most rounds of `reduce` and `trace`: 2^62.
+const MAX_ROUNDS: u64 = 4_611_686_018_427_387_904;
 
 /// What the words after the program's name ask for.
 #[derive(Debug, Drop)]
@@ -63,10 +68,31 @@ pub enum Task {
         /// The paths of the scripts, none or several.
         scripts: Vec<String>,
     },
+    /// Make rounds of the system on standard input until no step is possible.
+    Reduce {
+        /// How many rounds are made at most, from 0 to 2^62.
+        rounds: u64,
+    },
+    /// Tell what each of these rounds does.
+    Trace {
+        /// How many rounds are made at most, from 0 to 2^62.
+        rounds: u64,
+        /// How it is told.
+        format: TraceFormat,
+    },
     /// Show this help.
     Help(String),
     /// Show this line, which tells the version.
     Version(String),
+}
+
+/// How a trace is told.
+#[derive(Clone, Copy, Debug)]
+pub enum TraceFormat {
+    /// As a table with tabs.
+    Tsv,
+    /// As a picture.
+    Svg,
 }
 
 /// Why the words ask for nothing, each with its lasting number.
@@ -105,7 +131,7 @@ impl From<AllocError> for WordsFault {
 /// Reads the words after the program's name. Help is asked for by `--help` or `-h`, after a command too, and the version
 /// by `--version` or `-V`. The text of a refusal is clap's, with the usage; that of help is the one of `help`.
 pub fn read_words(alloc: Global, words: &[String]) -> Result<Task, WordsFault>
-    ensures answers { AnswersWords (fault_of command_line (map string_bytes words.now)) result }
+    ensures answers { AnswersWords (mistakes_of (map string_bytes words.now)) result }
     ensures named { IfOk result (Names (map string_bytes words.now)) }
     ensures settle { map string_bytes words.now ≡ codes "settle" ∷ []
         → GivesTask Task.Settle result }
@@ -114,26 +140,7 @@ pub fn read_words(alloc: Global, words: &[String]) -> Result<Task, WordsFault>
     ensures version { map string_bytes words.now ≡ codes "--version" ∷ [] → GivesVersion result }
 {
     match command(alloc)?.try_get_matches_from(words) {
-        Ok(matches) => match matches.subcommand_name() {
-            Some("settle") => Ok(Task::Settle),
-            Some("once") => Ok(Task::Once),
-            Some("create") => {
-                let disk = String::from_str(alloc, value_of(&matches, "disk"))?;
-                Ok(Task::Create { disk })
-            }
-            Some("serve") => {
-                let disk = String::from_str(alloc, value_of(&matches, "disk"))?;
-                let workers = number_of(&matches, "workers", 1, MAX_WORKERS);
-                let every = number_of(&matches, "every", 1, MAX_EVERY);
-                Ok(Task::Serve {
-                    disk,
-                    workers,
-                    every,
-                })
-            }
-            Some("attend") => Ok(attend_task(alloc, &matches)?),
-            _ => unreachable!(),
-        },
+        Ok(matches) => task_of(alloc, &matches),
         Err(error) => match error.kind() {
             ErrorKind::OutOfMemory => Err(WordsFault::Memory),
             ErrorKind::DisplayHelp => Ok(Task::Help(String::from_str(alloc, help_of(words))?)),
@@ -145,14 +152,56 @@ pub fn read_words(alloc: Global, words: &[String]) -> Result<Task, WordsFault>
     }
 }
 
-/// The task of the command `attend`, which was met.
-fn attend_task(alloc: Global, matches: &ArgMatches) -> Result<Task, AllocError>
-    ensures { IfOk result (AsksToAttend (subcommand_rows_of matches.now)) }
+/// What the command that was met is asked for.
+fn task_of(alloc: Global, matches: &ArgMatches) -> Result<Task, WordsFault>
+    requires { IsCommandMet (subcommand_rows_of matches.now) }
+    ensures { Asks (subcommand_rows_of matches.now) result }
+{
+    match matches.subcommand_name() {
+        Some("settle") => Ok(Task::Settle),
+        Some("once") => Ok(Task::Once),
+        Some("create") => create_task(alloc, matches),
+        Some("serve") => serve_task(alloc, matches),
+        Some("attend") => attend_task(alloc, matches),
+        Some("reduce") => Ok(reduce_task(matches)),
+        Some("trace") => trace_task(alloc, matches),
+        _ => unreachable!(),
+    }
+}
+
+/// The task of `create`.
+fn create_task(alloc: Global, matches: &ArgMatches) -> Result<Task, WordsFault>
+    requires { IsMet (codes "create") (subcommand_rows_of matches.now) }
+    ensures { Asks (subcommand_rows_of matches.now) result }
 {
     let disk = String::from_str(alloc, value_of(matches, "disk"))?;
-    let runners = number_of(matches, "runners", 0, MAX_RUNNERS);
-    let turns = number_of(matches, "turns", 0, MAX_TURNS);
-    let workers = number_of(matches, "workers", 1, MAX_WORKERS);
+    Ok(Task::Create { disk })
+}
+
+/// The task of `serve`.
+fn serve_task(alloc: Global, matches: &ArgMatches) -> Result<Task, WordsFault>
+    requires { IsMet (codes "serve") (subcommand_rows_of matches.now) }
+    ensures { Asks (subcommand_rows_of matches.now) result }
+{
+    let disk = String::from_str(alloc, value_of(matches, "disk"))?;
+    let workers = small_number_of(matches, "workers", 1, MAX_WORKERS);
+    let every = small_number_of(matches, "every", 1, MAX_EVERY);
+    Ok(Task::Serve {
+        disk,
+        workers,
+        every,
+    })
+}
+
+/// The task of `attend`.
+fn attend_task(alloc: Global, matches: &ArgMatches) -> Result<Task, WordsFault>
+    requires { IsMet (codes "attend") (subcommand_rows_of matches.now) }
+    ensures { Asks (subcommand_rows_of matches.now) result }
+{
+    let disk = String::from_str(alloc, value_of(matches, "disk"))?;
+    let runners = small_number_of(matches, "runners", 0, MAX_RUNNERS);
+    let turns = small_number_of(matches, "turns", 0, MAX_TURNS);
+    let workers = small_number_of(matches, "workers", 1, MAX_WORKERS);
     let scripts = values_of(alloc, matches, "script")?;
     Ok(Task::Attend {
         disk,
@@ -161,6 +210,37 @@ fn attend_task(alloc: Global, matches: &ArgMatches) -> Result<Task, AllocError>
         workers,
         scripts,
     })
+}
+
+/// The task of `reduce`.
+fn reduce_task(matches: &ArgMatches) -> Task
+    requires { IsMet (codes "reduce") (subcommand_rows_of matches.now) }
+    ensures { Asks (subcommand_rows_of matches.now) (Ok result) }
+{
+    let rounds = number_of(matches, "rounds", 0, MAX_ROUNDS);
+    Task::Reduce { rounds }
+}
+
+/// The task of `trace`. A format that there isn't is refused as the parser refuses such a value.
+fn trace_task(alloc: Global, matches: &ArgMatches) -> Result<Task, WordsFault>
+    requires { IsMet (codes "trace") (subcommand_rows_of matches.now) }
+    ensures { Asks (subcommand_rows_of matches.now) result }
+{
+    let rounds = number_of(matches, "rounds", 0, MAX_ROUNDS);
+    match value_of(matches, "format") {
+        "tsv" => Ok(Task::Trace {
+            rounds,
+            format: TraceFormat::Tsv,
+        }),
+        "svg" => Ok(Task::Trace {
+            rounds,
+            format: TraceFormat::Svg,
+        }),
+        other => Err(WordsFault::Words(format!(in alloc;
+            "error: invalid value '{other}' for '--format <FORMAT>'\n  [possible values: tsv, svg]\n\n\
+             For more information, try '--help'.\n"
+        )?)),
+    }
 }
 
 /// Texts that own their bytes.
@@ -201,21 +281,28 @@ fn value_of<'a>(matches: &ArgMatches<'a>, option: &str) -> &'a str
 
 /// The number that is the value of an option of the command that was met, in its range. The parser has refused any other
 /// value, so the bounds here change nothing.
-fn number_of(matches: &ArgMatches, option: &str, least: u32, most: u32) -> u32
+fn number_of(matches: &ArgMatches, option: &str, least: u64, most: u64) -> u64
     requires { least ≤ most }
     ensures least { least ≤ result }
     ensures most { result ≤ most }
-    ensures value { (number : ℕ) → IsDecimal (number_met option.now (subcommand_rows_of matches.now)) number
-        → least ≤ number → number ≤ most → result ≡ number }
+    ensures value { IsReadFrom option.now least most (subcommand_rows_of matches.now) result }
 {
     match matches.subcommand() {
         Some((_, met)) => met
-            .get_one::<u32>(option)
+            .get_one::<u64>(option)
             .unwrap_or(least)
             .max(least)
             .min(most),
         None => least,
     }
+}
+
+/// The same of a number of 32 bits.
+fn small_number_of(matches: &ArgMatches, option: &str, least: u32, most: u32) -> u32
+    requires { least ≤ most }
+    ensures { IsReadFrom option.now least most (subcommand_rows_of matches.now) result }
+{
+    number_of(matches, option, u64::from(least), u64::from(most)) as u32
 }
 
 /// The option that names a file.
@@ -285,6 +372,29 @@ fn script_argument<'a>(alloc: Global) -> Arg<'a>
     Arg::new(alloc, "script").value_name("SCRIPT").num_args(0..)
 }
 
+/// The option that says how many rounds are made at most.
+fn rounds_option<'a>(alloc: Global) -> Arg<'a>
+    ensures rule { rule_of result ≡ rounds_option }
+    ensures local { result.global ≡ false }
+{
+    Arg::new(alloc, "rounds")
+        .long("rounds")
+        .value_name("N")
+        .default_value("1000000")
+        .value_parser(value_parser!(u64).range(0..4_611_686_018_427_387_905))
+}
+
+/// The option that says how a trace is told.
+fn format_option<'a>(alloc: Global) -> Arg<'a>
+    ensures rule { rule_of result ≡ format_option }
+    ensures local { result.global ≡ false }
+{
+    Arg::new(alloc, "format")
+        .long("format")
+        .value_name("FORMAT")
+        .default_value("tsv")
+}
+
 /// The command that makes a file an empty disk.
 fn create_command<'a>(alloc: Global) -> Result<Command<'a>, AllocError>
     ensures shape { IfOk result (λ command. app_of command ≡ create_command) }
@@ -326,6 +436,25 @@ fn attend_command<'a>(alloc: Global) -> Result<Command<'a>, AllocError>
         .arg(script)
 }
 
+/// The command that reduces a system.
+fn reduce_command<'a>(alloc: Global) -> Result<Command<'a>, AllocError>
+    ensures shape { IfOk result (λ command. app_of command ≡ reduce_command) }
+    ensures local { IfOk result (λ command. (out-Command command).has_globals ≡ false) }
+{
+    let rounds = rounds_option(alloc);
+    Command::new(alloc, "reduce").arg(rounds)
+}
+
+/// The command that traces a system.
+fn trace_command<'a>(alloc: Global) -> Result<Command<'a>, AllocError>
+    ensures shape { IfOk result (λ command. app_of command ≡ trace_command) }
+    ensures local { IfOk result (λ command. (out-Command command).has_globals ≡ false) }
+{
+    let rounds = rounds_option(alloc);
+    let format = format_option(alloc);
+    Command::new(alloc, "trace").arg(rounds)?.arg(format)
+}
+
 /// The program without its commands.
 fn program<'a>(alloc: Global) -> Result<Command<'a>, AllocError>
     ensures { IfOk result (λ command. app_of command ≡ program) }
@@ -351,9 +480,9 @@ fn with_streams<'a>(alloc: Global) -> Result<Command<'a>, AllocError>
     program.subcommand(once)
 }
 
-/// The program's command line.
-fn command<'a>(alloc: Global) -> Result<Command<'a>, AllocError>
-    ensures { IfOk result (λ command. app_of command ≡ command_line) }
+/// The program with the commands over disks, too.
+fn with_disks<'a>(alloc: Global) -> Result<Command<'a>, AllocError>
+    ensures { IfOk result (λ command. app_of command ≡ with_disks) }
 {
     let create = create_command(alloc)?;
     let program = with_streams(alloc)?.subcommand(create)?;
@@ -361,4 +490,14 @@ fn command<'a>(alloc: Global) -> Result<Command<'a>, AllocError>
     let program = program.subcommand(serve)?;
     let attend = attend_command(alloc)?;
     program.subcommand(attend)
+}
+
+/// The program's command line: with the commands for whoever looks at nets, too.
+fn command<'a>(alloc: Global) -> Result<Command<'a>, AllocError>
+    ensures { IfOk result (λ command. app_of command ≡ command_line) }
+{
+    let reduce = reduce_command(alloc)?;
+    let program = with_disks(alloc)?.subcommand(reduce)?;
+    let trace = trace_command(alloc)?;
+    program.subcommand(trace)
 }

@@ -1,6 +1,7 @@
 //! The program `icserve`: a job server for the interaction calculus.
 #![tactic(auto)]
 
+mod looking;
 mod progress;
 
 use crate::progress::{Progress, WipedFirst};
@@ -60,6 +61,8 @@ fn run<T: Threads + Wait + Sync>(rt: &HostRuntime, threads: &T) -> Result<(), Fa
             let numbers = [runners, turns, workers];
             give(rt, threads, disk, scripts, numbers).map_err(Failure::Attend)
         }
+        Task::Reduce { rounds } => looking::reduce(rt, rounds),
+        Task::Trace { rounds, format } => looking::trace(rt, rounds, format),
         Task::Help(text) | Task::Version(text) => {
             show(&mut output, text.as_str()).map_err(Failure::Stream)
         }

@@ -1,6 +1,7 @@
-use Rattle.std.proofs.Common.{◌∙◌, sym, ap}
+use Rattle.std.proofs.Common.{◌∙◌, sym, ap, codes, refl}
 use Rattle.std.specs.Prelude.{string_bytes, option_copied}
-use Rattle.ic_words.proofs.HelpLemmas.{attend_first, other_first}
+use Rattle.ic_words.specs.Help.{attend_help, reduce_help, trace_help}
+use Rattle.ic_words.proofs.HelpLemmas.{other_first, own_first}
 use Rattle.ic_words.proofs.help.help_of.Goals as goal
 
 pub returns-in_default-as_str : goal.returns-in_default-as_str
@@ -8,9 +9,20 @@ returns-in_default-as_str c =
     let other = c.in_default-as_str in
     let text = c.as_str.ensures.value in
     sym (other_first c.args.words.now string_bytes c.in-Some.word.now (ap option_copied (sym c.in-Some.is) ∙ c.first.ensures.value)
-    (λ e. other.not-settle (text ∙ e)) (λ e. other.not-once (text ∙ e)) (λ e. other.not-create (text ∙ e)) (λ e. other.not-serve (text ∙ e)) (λ e. other.not-attend (text ∙ e)))
+    (λ e. other.not-settle (text ∙ e)) (λ e. other.not-once (text ∙ e)) (λ e. other.not-create (text ∙ e)) (λ e. other.not-serve (text ∙ e)) (λ e. other.not-attend (text ∙ e))
+    (λ e. other.not-reduce (text ∙ e)) (λ e. other.not-trace (text ∙ e)))
 
 pub returns-in-attend : goal.returns-in-attend
 returns-in-attend c =
-    sym (attend_first c.args.words.now string_bytes c.in-Some.word.now (ap option_copied (sym c.in-Some.is) ∙ c.first.ensures.value)
-    (sym c.as_str.ensures.value ∙ c.in-attend.is))
+    sym (own_first c.args.words.now string_bytes c.in-Some.word.now (codes "attend") attend_help (ap option_copied (sym c.in-Some.is) ∙ c.first.ensures.value)
+    (sym c.as_str.ensures.value ∙ c.in-attend.is) (λ more. refl))
+
+pub returns-in-reduce : goal.returns-in-reduce
+returns-in-reduce c =
+    sym (own_first c.args.words.now string_bytes c.in-Some.word.now (codes "reduce") reduce_help (ap option_copied (sym c.in-Some.is) ∙ c.first.ensures.value)
+    (sym c.as_str.ensures.value ∙ c.in-reduce.is) (λ more. refl))
+
+pub returns-in-trace : goal.returns-in-trace
+returns-in-trace c =
+    sym (own_first c.args.words.now string_bytes c.in-Some.word.now (codes "trace") trace_help (ap option_copied (sym c.in-Some.is) ∙ c.first.ensures.value)
+    (sym c.as_str.ensures.value ∙ c.in-trace.is) (λ more. refl))

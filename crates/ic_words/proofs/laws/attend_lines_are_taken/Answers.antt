@@ -1,10 +1,13 @@
-use Rattle.std.proofs.Common.{◌≡◌, ◌∙◌, ℕ, List, subst}
+use Rattle.std.proofs.Common.{◌∙◌, ℕ, List, ap₂, codes, refl, subst}
+use Rattle.clap.specs.Kinds.{or_else}
 use Rattle.ic_words.specs.Words.{IsDecimal}
+use Rattle.ic_words.proofs.WordsLaws.{no_format}
 use Rattle.ic_words.proofs.AttendLines.{attend_taken}
 use Rattle.ic_words.proofs.laws.attend_lines_are_taken.Goals as goal
 
 pub returns-clause-taken : goal.returns-clause-taken
-returns-clause-taken c = λ words path r t n scripts line. (attend_taken words path r t n scripts line).free
+returns-clause-taken c = λ words path r t n scripts line.
+    let is = attend_taken words path r t n scripts line in ap₂ or_else is.free (no_format (codes "attend") _ is.met refl)
 
 pub returns-clause-named : goal.returns-clause-named
 returns-clause-named c = λ words path r t n scripts runners turns workers line names.

@@ -23,3 +23,11 @@ returns-clause-settle_named c = λ words names. names
 
 pub returns-clause-once_named : goal.returns-clause-once_named
 returns-clause-once_named c = λ words names. names
+
+pub returns-clause-reduce : goal.returns-clause-reduce
+unfolding clap_on_literals
+returns-clause-reduce c = refl
+
+pub returns-clause-trace : goal.returns-clause-trace
+unfolding clap_on_literals
+returns-clause-trace c = refl

@@ -1,9 +1,12 @@
-use Rattle.std.proofs.Common.{◌∙◌}
+use Rattle.std.proofs.Common.{◌∙◌, ap₂, codes, refl}
+use Rattle.clap.specs.Kinds.{or_else}
 use Rattle.ic_words.proofs.TakenLines.{create_taken}
+use Rattle.ic_words.proofs.WordsLaws.{no_format}
 use Rattle.ic_words.proofs.laws.create_lines_are_taken.Goals as goal
 
 pub returns-clause-taken : goal.returns-clause-taken
-returns-clause-taken c = λ words path line. (create_taken words path line).free
+returns-clause-taken c = λ words path line.
+    let is = create_taken words path line in ap₂ or_else is.free (no_format (codes "create") _ is.met refl)
 
 pub returns-clause-named : goal.returns-clause-named
 returns-clause-named c = λ words path line names. names.1 ∙ (create_taken words path line).disk

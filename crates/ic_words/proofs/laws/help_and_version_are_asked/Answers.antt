@@ -41,3 +41,11 @@ returns-clause-version c = refl
 pub returns-clause-short_version : goal.returns-clause-short_version
 unfolding clap_on_literals
 returns-clause-short_version c = refl
+
+pub returns-clause-reduce : goal.returns-clause-reduce
+unfolding clap_on_literals
+returns-clause-reduce c = refl
+
+pub returns-clause-trace : goal.returns-clause-trace
+unfolding clap_on_literals
+returns-clause-trace c = refl

@@ -5,9 +5,7 @@ use Rattle.ic_words.proofs.words.command.Goals as goal
 
 pub returns : goal.returns
 returns c =
-    let create = c.in_ok-create.ensures in
-    let serve = c.in_ok-serve.ensures in
-    let attend = c.in_ok-attend.ensures in
-    let first = c.in_ok-program.ensures.shape create.local ∙ ap₂ with_subcommand c.in_ok-with_streams.ensures (ap (λ (a : App). a.top) create.shape) in
-    let second = c.in_ok-program-2.ensures.shape serve.local ∙ ap₂ with_subcommand first (ap (λ (a : App). a.top) serve.shape) in
-    IfOk-weaker c.subcommand-3.result _ _ (λ command h. h.shape attend.local ∙ ap₂ with_subcommand second (ap (λ (a : App). a.top) attend.shape)) c.subcommand-3.ensures
+    let reduce = c.in_ok-reduce.ensures in
+    let trace = c.in_ok-trace.ensures in
+    let first = c.in_ok-program.ensures.shape reduce.local ∙ ap₂ with_subcommand c.in_ok-with_disks.ensures (ap (λ (a : App). a.top) reduce.shape) in
+    IfOk-weaker c.subcommand-2.result _ _ (λ command h. h.shape trace.local ∙ ap₂ with_subcommand first (ap (λ (a : App). a.top) trace.shape)) c.subcommand-2.ensures

@@ -1,0 +1,13 @@
+use Rattle.std.proofs.Common.{◌≡◌, ◌∙◌, ap, rules, Some}
+use Rattle.clap.specs.declared.builder.value_parser.ValueParser.TheVariants as vp
+use Rattle.ic_words.proofs.words.rounds_option.Goals as goal
+
+pub returns : goal.returns
+returns c =
+    let given = c.value_parser-2.ensures.given in
+    let made : c.range.result ≡ vp.Unsigned 0 4611686018427387904 = rw c.value_parser.ensures at c.range.ensures in
+    let parser : c.value_parser-2.result.value_parser ≡ Some (vp.Unsigned 0 4611686018427387904) = given.1 ∙ ap Some (given.2 ∙ made) in
+    record {
+      rule = search (rules, parser);
+      local = search rules;
+    }

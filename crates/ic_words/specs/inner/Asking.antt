@@ -1,0 +1,56 @@
+-- What a task is read from: the command that the parser met, with its rows.
+use Rattle.std.specs.Prelude.{◌≡◌, ◌≤◌, ◌⊎◌, ℕ, List, [], ◌∷◌, Option, Some, Result, Ok, Err, codes, map, option_map, string_bytes, false}
+use Rattle.clap.specs.Words.{Row, Text}
+use Rattle.ic_words.specs.Words.{IsDecimal, format_word, is_format, most_rounds, number_met, value_met, values_met}
+use Rattle.ic_words.specs.declared.words.Task.{Task}
+use Rattle.ic_words.specs.declared.words.Task.TheVariants.{Settle, Once, Create, Serve, Attend, Reduce, Trace, Help, Version}
+use Rattle.ic_words.specs.declared.words.WordsFault.{WordsFault}
+use Rattle.ic_words.specs.declared.words.WordsFault.TheVariants.{Words, Memory}
+
+-- where the option's text is a number in the range, this is it
+abbrev pub IsReadFrom : (option : Text) (least most : ℕ) → Option (Text × List Row) → ℕ → Type 0
+IsReadFrom option least most met number = (n : ℕ) → IsDecimal (number_met option met) n
+    → least ≤ n → n ≤ most → number ≡ n
+
+-- the command of this name was met
+abbrev pub IsMet : Text → Option (Text × List Row) → Type 0
+IsMet name met = option_map (λ p. p.0) met ≡ Some name
+
+-- the commands of the program
+abbrev pub commands : List Text
+commands = codes "settle" ∷ codes "once" ∷ codes "create" ∷ codes "serve" ∷ codes "attend"
+    ∷ codes "reduce" ∷ codes "trace" ∷ []
+
+-- it is one of these
+abbrev pub IsIn : Text → List Text → Type 0
+IsIn name [] = ⊥
+IsIn name (one ∷ more) = (name ≡ one) ⊎ IsIn name more
+
+-- one of the program's commands was met
+abbrev pub IsCommandMet : Option (Text × List Row) → Type 0
+IsCommandMet met = (name : Text) × IsIn name commands × IsMet name met
+
+-- what is answered to the command that was met
+abbrev pub Asks : Option (Text × List Row) → Result Task WordsFault → Type 0
+Asks met (Ok Settle) = IsMet (codes "settle") met
+Asks met (Ok Once) = IsMet (codes "once") met
+Asks met (Ok (Create disk)) = IsMet (codes "create") met
+    × (string_bytes disk ≡ value_met (codes "disk") met)
+Asks met (Ok (Serve disk workers every)) = IsMet (codes "serve") met
+    × (string_bytes disk ≡ value_met (codes "disk") met)
+    × IsReadFrom (codes "workers") 1 64 met workers × IsReadFrom (codes "every") 1 1000000 met every
+Asks met (Ok (Attend disk runners turns workers scripts)) = IsMet (codes "attend") met
+    × (string_bytes disk ≡ value_met (codes "disk") met)
+    × IsReadFrom (codes "runners") 0 64 met runners × IsReadFrom (codes "turns") 0 1000000 met turns
+    × IsReadFrom (codes "workers") 1 64 met workers
+    × (map string_bytes scripts.items ≡ values_met (codes "script") met)
+Asks met (Ok (Reduce rounds)) = IsMet (codes "reduce") met
+    × IsReadFrom (codes "rounds") 0 most_rounds met rounds
+Asks met (Ok (Trace rounds format)) = IsMet (codes "trace") met
+    × IsReadFrom (codes "rounds") 0 most_rounds met rounds
+    × (value_met (codes "format") met ≡ format_word format)
+Asks met (Ok (Help text)) = ⊥
+Asks met (Ok (Version text)) = ⊥
+Asks met (Err (Words text)) = IsMet (codes "trace") met
+    × (is_format (value_met (codes "format") met) ≡ false)
+Asks met (Err Memory) = Unit {0}

@@ -1,0 +1,43 @@
+//! What the program does for whoever looks at nets, on standard input and output: `reduce` and `trace`.
+
+use ic_endings::{Failure, stuck_line};
+use ic_looks::{Format, Reduction, reduce_stream, trace_stream};
+use ic_words::TraceFormat;
+use std::io::{self, Write};
+
+/// Makes at most so many rounds until no step is possible, and prints the configuration. A stuck pair is told on
+/// standard error.
+pub(crate) fn reduce(rt: &HostRuntime, rounds: u64) -> Result<(), Failure> {
+    let mut input = rt.reader();
+    let mut output = io::writer(rt);
+    let reduction = reduce_stream(rt.alloc(), rounds, &mut input, &mut output).map_err(
+        Failure::Stream,
+    )?;
+    match reduction {
+        Reduction::NotDone => Err(Failure::NotDone),
+        Reduction::Done { stuck, .. } => {
+            if let Some(pair) = stuck {
+                tell_stuck(rt, &pair);
+            }
+            Ok(())
+        }
+    }
+}
+
+/// Tells on standard error which pair is stuck.
+fn tell_stuck(rt: &HostRuntime, pair: &[u8]) {
+    if let Ok(line) = stuck_line(rt.alloc(), pair) {
+        let _ = rt.stderr().write_all(&line);
+    }
+}
+
+/// Prints what each of at most so many rounds does.
+pub(crate) fn trace(rt: &HostRuntime, rounds: u64, format: TraceFormat) -> Result<(), Failure> {
+    let mut input = rt.reader();
+    let mut output = io::writer(rt);
+    let format = match format {
+        TraceFormat::Tsv => Format::Table,
+        TraceFormat::Svg => Format::Picture,
+    };
+    trace_stream(rt.alloc(), rounds, format, &mut input, &mut output).map_err(Failure::Stream)
+}
