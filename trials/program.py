@@ -1,6 +1,7 @@
 """How a trial starts the built program, feeds it, stops it and looks at what came. A trial that fails prints the command,
 what was wanted and what came."""
 
+import contextlib
 import os
 import random
 import resource
@@ -119,10 +120,11 @@ class Server:
         self.process.wait()
 
     def send(self, lines):
-        """Writes lines, and waits until the program has room for them."""
+        """Writes lines, and waits until the program has room for them or has ended."""
         text = as_lines([lines] if isinstance(lines, (str, bytes)) else lines)
         self.given += text
-        self.process.stdin.write(text)
+        with contextlib.suppress(BrokenPipeError):
+            self.process.stdin.write(text)
 
     def answer(self, seconds=PATIENCE / 4):
         """The next line that the program answers, without its line feed; None where it ends or is silent before."""

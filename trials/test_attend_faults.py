@@ -59,11 +59,13 @@ class AttendFaults(Attending):
         self.have_come(*ends)
 
     def test_each_call_on_the_disk_goes_wrong_in_turn(self):
-        """A script that can't be read, a disk that can't be opened, or clients that are stopped."""
+        """A script that can't be read, a disk that can't be opened, or clients that are stopped. Without runners no keep at the
+        end makes good what one before it lost."""
         ends = [(3, "device"), (4, "read"), (4, "device"), (4, "broken")]
         for how in ("once", "on", "done", "half"):
-            number = self.in_turn(self.attends(*self.paths, turns=3), "disk", how, ends, spared=3)
-            self.equals(self.id(), f"at least 20 calls, came {number}", True, number > 20)
+            for runners in (0, 2):
+                number = self.in_turn(self.attends(*self.paths, runners=runners, turns=3), "disk", how, ends, spared=3)
+                self.equals(self.id(), f"at least 20 calls, came {number}", True, number > 20)
         self.have_come(*ends[:3], "stopped device", "stopped broken")
 
     def test_a_keep_at_the_end_that_fails_is_device_behind_all_answers(self):

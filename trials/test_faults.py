@@ -131,10 +131,7 @@ class Faults(Stops):
         """A server that is asked line by line until it ends."""
         with Server(disk, *words, env=env) as server:
             for line in lines:
-                try:
-                    server.send(line)
-                except BrokenPipeError:
-                    break
+                server.send(line)
                 if line and server.answer() is None:
                     break
             return server.end()
