@@ -1,5 +1,6 @@
 -- Rows of rounds as a picture, in SVG (this project's choice).
-use Rattle.std.specs.Prelude.{ℕ, ◌*◌, ◌/◌, ◌%◌, List, [], ◌∷◌, codes, length, max, min, sum_by}
+use Rattle.std.specs.Prelude.{ℕ, ◌*◌, ◌/◌, ◌%◌, ◌==◌, List, [], ◌∷◌, ◌++◌, codes, length, max, min, sum_by}
+use Rattle.std.specs.Prelude.{if◌then◌else◌}
 use Rattle.std.specs.List.{concat, flat_map}
 use Rattle.std.specs.Fmt.{decimal}
 use Rattle.ic_looks.specs.Tables.{table_of}
@@ -42,15 +43,26 @@ sums_of rows = record {
 abbrev pub feed : List ℕ
 feed = 10 ∷ []
 
--- how a picture begins, and its title
-abbrev pub title_of : Sums → List ℕ
-title_of s = concat (
+-- how a picture begins
+abbrev pub head : List ℕ
+head = concat (
     codes "<svg xmlns='http://www.w3.org/2000/svg' viewBox='0 0 800 450' font-family='sans-serif'>"
     ∷ feed ∷ codes "<rect width='800' height='450' fill='white'/>" ∷ feed
-    ∷ codes "<text x='400' y='24' text-anchor='middle'>" ∷ decimal s.rounds ∷ codes " rounds, "
-    ∷ decimal s.interactions ∷ codes " interactions, at most " ∷ decimal s.greatest
-    ∷ codes " and on average " ∷ decimal s.whole ∷ codes "." ∷ decimal s.tenth
-    ∷ codes " in a round</text>" ∷ feed ∷ [])
+    ∷ codes "<text x='400' y='24' text-anchor='middle'>" ∷ [])
+
+-- a number and what it counts, which is one or several
+abbrev pub counted : ℕ → (one several : List ℕ) → List ℕ
+counted count one several = decimal count ++ (if count == 1 then one else several)
+
+-- how the title ends
+abbrev pub averages_of : Sums → List ℕ
+averages_of s = concat (codes "at most " ∷ decimal s.greatest ∷ codes " and on average "
+    ∷ decimal s.whole ∷ codes "." ∷ decimal s.tenth ∷ codes " in a round</text>" ∷ feed ∷ [])
+
+-- how a picture begins, and its title
+abbrev pub title_of : Sums → List ℕ
+title_of s = head ++ counted s.rounds (codes " round, ") (codes " rounds, ")
+    ++ counted s.interactions (codes " interaction, ") (codes " interactions, ") ++ averages_of s
 
 -- behind the title: the window in which a unit is one round and one equation
 abbrev pub top_of : Sums → List ℕ

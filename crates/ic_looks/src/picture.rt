@@ -3,6 +3,7 @@
 ghost use Rattle.std.specs.Prelude.{◌≡◌, ◌++◌, IfOk, OnOk};
 ghost use Rattle.std.specs.List.{flat_map};
 ghost use Rattle.ic_looks.specs.Pictures.{bar_of, bottom_of, middle_of, picture_of, point_of, title_of, top_of};
+ghost use Rattle.ic_looks.specs.Pictures.{averages_of, counted, head};
 
 use crate::row::Row;
 use crate::sums::{Sums, sums_of};
@@ -27,19 +28,60 @@ pub(crate) fn picture(alloc: Global, rows: &[Row]) -> Result<Vec<u8>, AllocError
 fn put_title(alloc: Global, sums: &Sums, picture: &mut Vec<u8>) -> Result<(), AllocError>
     ensures { OnOk result (picture.new.items ≡ picture.old.items ++ title_of sums.now) }
 {
+    put_head(alloc, picture)?;
+    put_counted(alloc, sums.rounds, b" round, ", b" rounds, ", picture)?;
+    put_counted(
+        alloc,
+        sums.interactions,
+        b" interaction, ",
+        b" interactions, ",
+        picture,
+    )?;
+    put_averages(alloc, sums, picture)?;
+    Ok(())
+}
+
+/// Appends how a picture begins.
+fn put_head(alloc: Global, picture: &mut Vec<u8>) -> Result<(), AllocError>
+    ensures { OnOk result (picture.new.items ≡ picture.old.items ++ head) }
+{
+    let text = format!(in alloc;
+        "<svg xmlns='http://www.w3.org/2000/svg' viewBox='0 0 800 450' font-family='sans-serif'>\n\
+         <rect width='800' height='450' fill='white'/>\n\
+         <text x='400' y='24' text-anchor='middle'>"
+    )?;
+    picture.extend_from_slice(text.as_bytes())?;
+    Ok(())
+}
+
+/// Appends a number and what it counts.
+fn put_counted(
+    alloc: Global,
+    count: u64,
+    one: &[u8],
+    several: &[u8],
+    picture: &mut Vec<u8>,
+) -> Result<(), AllocError>
+    ensures { OnOk result
+        (picture.new.items ≡ picture.old.items ++ counted count one.now several.now) }
+{
+    picture.extend_from_slice(count.to_string(alloc)?.as_bytes())?;
+    picture.extend_from_slice(if count == 1 { one } else { several })?;
+    Ok(())
+}
+
+/// Appends how the title ends.
+fn put_averages(alloc: Global, sums: &Sums, picture: &mut Vec<u8>) -> Result<(), AllocError>
+    ensures { OnOk result (picture.new.items ≡ picture.old.items ++ averages_of sums.now) }
+{
     let Sums {
-        rounds,
-        interactions,
         greatest,
         whole,
         tenth,
         ..
     } = *sums;
     let text = format!(in alloc;
-        "<svg xmlns='http://www.w3.org/2000/svg' viewBox='0 0 800 450' font-family='sans-serif'>\n\
-         <rect width='800' height='450' fill='white'/>\n\
-         <text x='400' y='24' text-anchor='middle'>{rounds} rounds, {interactions} \
-         interactions, at most {greatest} and on average {whole}.{tenth} in a round</text>\n"
+        "at most {greatest} and on average {whole}.{tenth} in a round</text>\n"
     )?;
     picture.extend_from_slice(text.as_bytes())?;
     Ok(())

@@ -1,0 +1,245 @@
+"""The words `reduce` and `trace`: the rows of ic_look_rows through the built program, each exit status and each line of
+standard error, and what goes wrong on the way."""
+
+import re
+import subprocess
+import xml.etree.ElementTree as xml
+
+import test_faults
+from known import ADD, LOOP
+from program import IN_MEMORY, PROGRAM, TOP, Trial, run
+from shim import shimmed, was_refused
+from test_statuses import SYSTEMS
+from worked_rows import expanded, rows
+
+TWO = f"{ADD} <r|Add(r,S(Z))=S(Z)>"
+DOUBLES = "{D(D(x,y),D(z,w))><E(E(x,y),E(z,w))}<|D(a,b)=E(a,b)>"
+HEAD = "round\tpairs\tnodes\tequations\tnames"
+SVG = "{http://www.w3.org/2000/svg}"
+
+# The most rounds that may be asked for.
+MOST = 2**62
+
+# What a row tells behind the line of a reduced system.
+ENDS = re.compile(rb"(<.*>)\n(?:done \d+(?: stuck (?P<pair>.*))?|(?P<rest>not done))")
+
+
+def asked(kinds):
+    """The rows of these kinds: name, kind, how many rounds, the text and the answer."""
+    for name, kind, text, answer in rows("ic_look_rows", *kinds):
+        count, _, text = text.partition(" ")
+        yield name, kind, count, expanded(text), answer
+
+
+def end_of(answer):
+    """How a `reduce` ends whose row has this answer: standard output, standard error and the status."""
+    told = ENDS.fullmatch(answer)
+    if not told:
+        return b"", b"icserve: " + answer + b"\n", 1
+    line = told[1] + b"\n"
+    if told["rest"]:
+        return line, b"icserve: not done\n", 5
+    return line, b"icserve: stuck " + told["pair"] + b"\n" if told["pair"] else b"", 0
+
+
+class Rows(Trial):
+    rooms = IN_MEMORY
+    seconds = 5
+
+    def test_each_row_that_is_reduced_has_its_line_and_its_status(self):
+        seen = set()
+        for name, _, count, text, answer in asked(["reduce"]):
+            with self.subTest(name=name, rounds=count):
+                out, err, status = end_of(answer)
+                self.runs("reduce", "--rounds", count, given=text, out=out, err=err, status=status)
+                seen.add(err.split(b" ")[1] if err else status)
+        self.assertLessEqual({0, b"stuck", b"not", b"bad", b"overgrown\n"}, seen)
+
+    def test_each_row_that_is_traced_has_its_table_or_picture(self):
+        tried = 0
+        for name, kind, count, text, answer in asked(["trace", "picture"]):
+            shown = "svg" if kind == "picture" else "tsv"
+            with self.subTest(name=name, kind=kind, rounds=count):
+                is_told = answer.startswith((b"round\t", b"<svg"))
+                out, err = (answer, b"") if is_told else (b"", b"icserve: " + answer + b"\n")
+                ends = {"out": out, "err": err, "status": 0 if is_told else 1}
+                self.runs("trace", "--rounds", count, "--format", shown, given=text, **ends)
+                tried += 1
+        self.assertGreater(tried, 10)
+
+    def test_a_million_rounds_are_made_and_a_table_is_told_where_nothing_else_is_said(self):
+        self.runs("reduce", given=TWO, out=["<S(S(Z))|>"])
+        self.refuses("reduce", given=DOUBLES, line="overgrown", status=1)
+        table = [HEAD, "1\t1\t7\t1\t2", "2\t1\t3\t0\t0"]
+        self.runs("trace", given=TWO, out=table)
+        self.runs("trace", "--format", "tsv", given=TWO, out=table)
+        self.refuses("reduce", given=LOOP.text, out=[LOOP.config(10**6)], line="not done", status=5)
+
+    def test_as_many_rounds_as_there_may_be_are_taken(self):
+        self.runs("reduce", "--rounds", MOST, given=TWO, out=["<S(S(Z))|>"])
+        self.runs("trace", "--rounds", MOST, given="{} <|>", out=[HEAD])
+        for word in ("reduce", "trace"):
+            ran = run(word, "--rounds", MOST + 1, given=TWO)
+            self.assertEqual((ran.status, ran.out), (2, b""))
+            self.assertIn(b"0..=4611686018427387904", ran.err)
+
+    def test_rounds_that_are_cut_go_on_where_they_ended(self):
+        """A configuration that isn't done is printed all the same; with the rules before it, it is reduced further."""
+        text = (TOP / "examples/ackermann.ic").read_text()
+        rules = text[: text.index("}") + 1]
+        whole, rounds, status = run("reduce", given=text), 0, 5
+        while status == 5:
+            ran = run("reduce", "--rounds", 5, given=text)
+            text, status, rounds = rules + ran.out.decode(), ran.status, rounds + 1
+        self.assertEqual((ran.out, status, rounds), (whole.out, 0, 4))
+
+
+class Endings(Trial):
+    rooms = IN_MEMORY
+
+    def test_refused_texts_are_told_and_nothing_is_printed(self):
+        for text, fault in SYSTEMS:
+            for words in (["reduce"], ["trace"], ["trace", "--format", "svg"]):
+                with self.subTest(text=text[:60], words=words):
+                    self.refuses(*words, given=text, line=fault, status=1)
+
+    def test_a_text_of_262145_bytes_is_too_long_and_one_of_262144_is_not(self):
+        for words, out in ((["reduce"], "<|>\n"), (["trace"], f"{HEAD}\n")):
+            self.runs(*words, given=" " * (262_144 - 6) + "{} <|>", out=out)
+            self.refuses(*words, given=" " * (262_145 - 6) + "{} <|>", line="bad limit", status=1)
+
+    def test_no_more_is_read_than_a_text_may_have(self):
+        """A source without end is refused at its 262,145th byte."""
+        for word in ("reduce", "trace"):
+            with open("/dev/zero", "rb") as zeros:
+                ran = run(word, stdin=zeros)
+            self.ended(ran, err=["icserve: bad limit"], status=1)
+
+    def test_words_that_ask_for_nothing_have_status_2(self):
+        for words in (["reduce", "F"], ["reduce", "--format", "svg"], ["trace", "--rounds"], ["trace", "--rounds", "-1"]):
+            ran = run(*words, given=TWO)
+            self.assertEqual((ran.status, ran.out, ran.err[:6]), (2, b"", b"error:"), words)
+        wanted = "error: invalid value 'png' for '--format <FORMAT>'\n  [possible values: tsv, svg]\n\n"
+        wanted += "For more information, try '--help'.\n"
+        self.runs("trace", "--format", "png", given=TWO, err=wanted, status=2)
+
+    def test_a_stuck_pair_is_told_on_standard_error_alone(self):
+        text = f"{ADD} <r|Ad(r,Z)=Z,Up=Down>"
+        self.runs("reduce", given=text, out=["<r|Ad(r,Z)=Z,Up=Down>"], err=["icserve: stuck Ad><Z"])
+        command = ["sh", "-c", 'exec "$0" reduce 2>&-', PROGRAM]
+        ran = subprocess.run(command, input=text.encode(), stdout=subprocess.PIPE, timeout=60)
+        self.assertEqual((ran.returncode, ran.stdout), (0, b"<r|Ad(r,Z)=Z,Up=Down>\n"))
+
+    def test_streams_that_are_closed_or_full_have_their_line(self):
+        for words in (["reduce"], ["trace"], ["trace", "--format", "svg"]):
+            for closing, line in (("<&-", "read"), (">&-", "write"), (">/dev/full", "write")):
+                command = ["sh", "-c", f'exec "$0" "$@" {closing}', PROGRAM, *words]
+                ran = subprocess.run(command, input=TWO.encode(), stdout=subprocess.PIPE, stderr=subprocess.PIPE, timeout=60)
+                self.assertEqual((ran.returncode, ran.stdout, ran.stderr), (4, b"", f"icserve: {line}\n".encode()), words)
+
+
+class Pictures(Trial):
+    rooms = IN_MEMORY
+
+    def drawn(self, text, words=()):
+        """The picture of a text, which is well-formed: its title, and how many bars and points it has."""
+        ran = run("trace", "--format", "svg", *words, given=text)
+        self.assertEqual((ran.status, ran.err), (0, b""))
+        picture = xml.fromstring(ran.out)
+        self.assertEqual(picture.tag, f"{SVG}svg")
+        bars = picture.findall(f".//{SVG}g/{SVG}rect")
+        points = picture.find(f".//{SVG}polyline").get("points").split()
+        return picture.find(f"{SVG}text").text, bars, points
+
+    def test_the_picture_of_each_example_is_well_formed_and_says_what_its_table_says(self):
+        tried = 0
+        for path in sorted(TOP.glob("examples/*.ic")):
+            text = path.read_bytes()
+            table = run("trace", given=text)
+            if table.status:
+                continue
+            told = [[int(it) for it in line.split("\t")] for line in table.out.decode().splitlines()[1:]]
+            with self.subTest(example=path.name):
+                title, bars, points = self.drawn(text)
+                self.assertEqual([(int(it.get("x")), int(it.get("height"))) for it in bars], [(it[0], it[1]) for it in told])
+                self.assertEqual(points, [f"{it[0]},{it[2]}" for it in told])
+                fired = sum(it[1] for it in told)
+                self.assertTrue(title.startswith(f"{len(told)} round{'s' * (len(told) != 1)}, {fired} interaction"), title)
+                tried += 1
+        self.assertGreaterEqual(tried, 7)
+
+    def test_one_round_is_one_round_and_none_are_no_rounds(self):
+        for text, rounds, title in (
+            (TWO, 1, "1 round, 1 interaction, at most 1 and on average 1.0 in a round"),
+            (TWO, 0, "0 rounds, 0 interactions, at most 0 and on average 0.0 in a round"),
+            (TWO, 2, "2 rounds, 2 interactions, at most 1 and on average 1.0 in a round"),
+        ):
+            self.assertEqual(self.drawn(text, ["--rounds", rounds])[0], title)
+
+    def test_the_pictures_in_docs_are_what_the_program_prints(self):
+        """docs/NAME.svg is the trace of examples/NAME.ic."""
+        pictures = sorted(TOP.glob("docs/*.svg"))
+        self.assertGreaterEqual(len(pictures), 2)
+        for picture in pictures:
+            text = (TOP / "examples" / f"{picture.stem}.ic").read_bytes()
+            self.runs("trace", "--format", "svg", given=text, out=picture.read_bytes())
+
+
+class Faults(Trial):
+    """Calls of the program to the system go wrong in turn, as in test_faults.py."""
+
+    rooms = IN_MEMORY
+    seconds = 15
+    in_turn = test_faults.Faults.in_turn
+    is_fault = test_faults.Faults.is_fault
+
+    def setUp(self):
+        super().setUp()
+        shimmed()
+        self.log = self.room / "log"
+        self.came = set()
+
+    # Words, a text, and how the run ends: standard output, standard error and the status.
+    RUNS = [
+        (["reduce"], TWO, b"<S(S(Z))|>\n", b"", 0),
+        (["reduce", "--rounds", "1"], TWO, b"<S(s)|Z=Add(s,S(Z))>\n", b"icserve: not done\n", 5),
+        (["reduce"], "{A><B} <|A=C>", b"<|A=C>\n", b"icserve: stuck A><C\n", 0),
+        (["reduce"], "{A(B,x)><A(x,C)} <|>", b"", b"icserve: bad lopsided 1\n", 1),
+        (["trace"], TWO, f"{HEAD}\n1\t1\t7\t1\t2\n2\t1\t3\t0\t0\n".encode(), b"", 0),
+    ]
+
+    def test_each_growth_is_refused_in_turn(self):
+        """It is `memory`, with nothing printed, or all goes as if it weren't refused; but where the line is printed before, its
+        own line of standard error may be wanting, which the status tells."""
+        for words, text, out, err, status in self.RUNS:
+
+            def attempt(env, call, words=words, text=text, out=out, err=err, status=status):
+                ran = run(*words, given=text, env=env)
+                if (ran.status, ran.out, ran.err) == (status, out, err):
+                    return
+                if ran.out and (ran.out, ran.status) == (out, 0) and not ran.err and b"stuck" in err:
+                    return
+                self.is_fault(ran, call, (4, "memory"))
+                if not (status == 5 and ran.out == out):
+                    self.agrees(ran.command, f"standard output, where it went wrong: {call}", b"", ran.out)
+
+            self.in_turn("growth", ("once", "on"), attempt)
+        self.assertEqual(self.came, {(4, "memory")})
+
+    def test_each_read_and_write_fails_in_turn(self):
+        svg = run("trace", "--format", "svg", given=TWO).out
+        for words, text, out, err, status in [*self.RUNS, (["trace", "--format", "svg"], TWO, svg, b"", 0)]:
+            for what, ways in (("read", ("once", "on", "interrupt", "short")), ("write", ("once", "on", "nothing", "half", "interrupt", "short"))):
+                for how in ways:
+
+                    def attempt(env, call, words=words, text=text, what=what, how=how, ends=(out, err, status)):
+                        ran = run(*words, given=text, env=env)
+                        if how in ("interrupt", "short") or not was_refused(self.log):
+                            self.ended(ran, *ends)
+                            return
+                        self.is_fault(ran, call, (4, what))
+                        if not ends[0].startswith(ran.out):
+                            self.told(ran.command, "standard output, which is cut", ends[0], ran.out)
+
+                    self.in_turn(what, [how], attempt)
+        self.assertEqual(self.came, {(4, "read"), (4, "write")})
