@@ -137,7 +137,8 @@ fn add_inside(
     agents: &mut Vec<Agent>,
     links: &mut Vec<Link>,
 ) -> Result<(), AllocError>
-    ensures agents { OnOk result (agents.new.items ≡ agents.old.items ++ agents_in (tree term.now)) }
+    ensures agents { OnOk result
+        (agents.new.items ≡ agents.old.items ++ agents_in (tree term.now)) }
     ensures links { OnOk result (links.new.items
         ≡ links.old.items ++ inside (length agents.old.items) (tree term.now)) }
 {
