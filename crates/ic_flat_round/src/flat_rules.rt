@@ -1,6 +1,7 @@
 //! Rules with the words of their sides.
 
 ghost use Rattle.std.specs.Prelude.{◌≡◌, ◌<◌, length, map, IfOk, IfSome, slice_get};
+ghost use Rattle.std.specs.Arc.{arc_value};
 ghost use Rattle.ic_rules.specs.RuleSet.{IsRuleSet};
 ghost use Rattle.ic_flat_round.specs.inner.RuleWords.{rule_words};
 
@@ -8,11 +9,12 @@ use ic_flat::{Word, write_terms};
 use ic_rules::{Rule, RuleSet};
 use std::alloc::{AllocError, Global};
 use std::marker::Model;
+use std::sync::Arc;
 
 /// A rule set, with the arguments of each rule as words that are ready to be copied.
 #[derive(Debug, Drop)]
 pub struct FlatRules {
-    rules: RuleSet,
+    rules: Arc<RuleSet>,
     words: Vec<Vec<Word>>,
 }
 
@@ -25,16 +27,18 @@ impl Model for FlatRules {
 
     ghost coded = { coded_rules };
 
-    ghost view = { λ s. s.rules };
+    ghost use Rattle.std.specs.Arc.{arc_value};
 
-    ghost invariant = { λ s. IsRuleSet s.rules
-        × (map (λ w. w.items) s.words.items ≡ map rule_words s.rules.rules) };
+    ghost view = { λ s. arc_value s.rules };
+
+    ghost invariant = { λ s. IsRuleSet (arc_value s.rules)
+        × (map (λ w. w.items) s.words.items ≡ map rule_words (arc_value s.rules).rules) };
 }
 
 impl FlatRules {
-    /// The same rules with their words. Takes memory in proportion to the nodes of the rules.
-    pub fn new(alloc: Global, rules: RuleSet) -> Result<FlatRules, AllocError>
-        ensures { IfOk result (λ flat. flat ≡ rules) }
+    /// The same rules with their words. Takes memory in proportion to the nodes of the rules, which it shares.
+    pub fn new(alloc: Global, rules: Arc<RuleSet>) -> Result<FlatRules, AllocError>
+        ensures { IfOk result (λ flat. flat ≡ arc_value rules) }
     {
         let words = words_of_rules(alloc, rules.rules())?;
         Ok(FlatRules { rules, words })

@@ -9,9 +9,11 @@
 //! - `ends WORDS`: how many terms there are, and the place behind each.
 //! - `tests SYSTEM`, `tests_from NEXT SYSTEM`: whether the configuration, with this `next` or its own, fits and is quiet; as
 //!   terms and equations it has to be told the same.
+//! - `fires SYSTEM`, `fires_from NEXT SYSTEM`: `next` and the text once all active equations have fired, which settles to
+//!   what a round of terms and equations gives.
 
 use crate::configurations::{are_over, are_same, read_back, words};
-use crate::systems::tests;
+use crate::systems::{fires, tests};
 use crate::words::{ends, made, number};
 use ic_notation::{Answers, Row, Trouble, expanded};
 use std::alloc::Global;
@@ -46,6 +48,8 @@ impl Answers for Kinds {
                 )
             }
             "ends" => ends(alloc, &expanded(alloc, row.text)?),
+            "fires" => fires(alloc, None, row.text),
+            "fires_from" => fires(alloc, Some(number(first)?), rest),
             "tests" => tests(alloc, None, row.text),
             "tests_from" => tests(alloc, Some(number(first)?), rest),
             _ => Err(Trouble("no such kind")),

@@ -1,8 +1,12 @@
 //! Systems in flat form.
 
 use ic_flat::{Flat, over};
-use ic_notation::{Trouble, expanded, system_of};
+use ic_flat_round::{FlatRules, fire};
+use ic_notation::{Trouble, decimal, expanded, printed, system_of};
+use ic_round::{RoundFault, round};
 use ic_rules::RuleSet;
+use ic_settle::settle;
+use ic_term::Config;
 use std::alloc::Global;
 
 /// The same configuration with another `next`.
@@ -43,4 +47,63 @@ pub fn tests(alloc: Global, next: Option<u64>, text: &str) -> Result<Vec<u8>, Tr
         (false, false) => "outgrows, goes on",
     };
     Ok(Vec::from_slice(alloc, line.as_bytes())?)
+}
+
+/// The configuration of a text with all its active equations fired, or why there is none.
+fn fired_of(
+    alloc: Global,
+    rules: &FlatRules,
+    flat: &Flat,
+) -> Result<Result<Flat, RoundFault>, Trouble> {
+    if !over(rules.rules().symbols(), flat) {
+        return Err(Trouble("not over the symbols"));
+    }
+    match fire(alloc, rules, flat) {
+        Err(RoundFault::Memory) => Err(Trouble("no memory")),
+        answer => Ok(answer),
+    }
+}
+
+/// Whether a round of terms and equations answers what is fired in flat form once it is settled.
+fn is_round(
+    alloc: Global,
+    rules: &RuleSet,
+    config: Config,
+    answer: &Result<Flat, RoundFault>,
+) -> Result<bool, Trouble> {
+    if !ic_term::over(rules.symbols(), &config) {
+        return Err(Trouble("not over the symbols"));
+    }
+    match (round(alloc, rules, config), answer) {
+        (Ok(after), Ok(fired)) => Ok(settle(alloc, fired.to_config(alloc)?)? == after),
+        (Err(one), Err(other)) => Ok(one == *other),
+        _ => Ok(false),
+    }
+}
+
+/// `next` and the text of a system's configuration with all its active equations fired, if a round of it as terms and
+/// equations comes to the same.
+pub fn fires(alloc: Global, next: Option<u64>, text: &str) -> Result<Vec<u8>, Trouble> {
+    let (rules, config) = system_of(alloc, &expanded(alloc, text)?)?.into_parts();
+    let own = Flat::from_config(alloc, &config)?;
+    let flat = match next {
+        Some(next) => begun_at(alloc, own, next)?,
+        None => own,
+    };
+    let rules = FlatRules::new(alloc, rules)?;
+    let answer = fired_of(alloc, &rules, &flat)?;
+    if !is_round(alloc, rules.rules(), flat.to_config(alloc)?, &answer)? {
+        return Err(Trouble("the two forms differ"));
+    }
+    match answer {
+        Ok(fired) => {
+            let mut line = Vec::new(alloc);
+            decimal(&mut line, fired.next())?;
+            line.push(b' ')?;
+            line.extend_from_slice(&printed(alloc, rules.rules(), &fired.to_config(alloc)?)?)?;
+            Ok(line)
+        }
+        Err(RoundFault::Overgrown) => Ok(Vec::from_slice(alloc, b"outgrows")?),
+        Err(_) => Ok(Vec::from_slice(alloc, b"names out")?),
+    }
 }
