@@ -90,8 +90,8 @@ class Progress(Trial):
             self.assertTrue(0 < events <= 6000 and running == 1, (self.command, events, running))
 
     def test_scripts_show_their_line_on_a_terminal_and_wipe_it(self):
-        scripts = [self.script(f"script {i}", [f"submit loop{i} {LOOP.text}", *["list"] * 100]) for i in range(3)]
-        words = ["attend", "--disk", self.jobs, "--turns", 30_000, *scripts]
+        scripts = [self.script(f"script {i}", [f"submit grow{i} {GROWING}", *["list"] * 100]) for i in range(3)]
+        words = ["attend", "--disk", self.jobs, "--turns", 2400, *scripts]
         status, out, _, shown, took = self.shows(words, out=False)
         self.assertEqual((status, out[:18]), (0, b"client 0\naccepted\n"), self.command)
         lines = self.lines_of(shown, took)
