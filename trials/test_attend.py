@@ -83,14 +83,15 @@ class Attend(Attending):
         lines = [f"submit loop {LOOP.text}", *["pause loop", "resume loop"] * 20_000]
         words = self.attends(self.script("long", lines), turns=60_000)
         for sign in (signal.SIGTERM, signal.SIGINT, signal.SIGHUP):
-            # On a machine that is busy all may be done before the signal comes.
-            for seconds in (0.1, 0.05, 0.02, 0.01, 0):
+            # On a machine that is busy all may be done before the signal comes, or nothing begun.
+            for seconds in (0.1, 0.05, 0.02, 0.3, 1):
                 self.disk()
                 ran = self.signalled(words, sign, seconds)
-                self.rounds()
-                if ran.status == -sign:
+                is_begun = "loop" in self.rounds()
+                if is_begun and ran.status == -sign:
                     break
-            self.equals(ran.command, f"the end by {sign!r}", (-sign, b"", b""), ran[1:])
+            came = is_begun, ran.status, ran.out[:99], ran.err
+            self.equals(ran.command, f"whether it had begun, and its end by {sign!r}", (True, -sign, b"", b""), came)
 
     def signalled(self, words, sign, seconds):
         """A run that gets a signal after so many seconds."""
