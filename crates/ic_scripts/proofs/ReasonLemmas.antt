@@ -1,18 +1,26 @@
 -- Why scripts have no history, and what a keep says of a book.
-use Rattle.std.proofs.Common.{◌≡◌, ◌≢◌, ◌∙◌, ℕ, ◌<◌, ◌≤◌, List, Option, None, Some, true, false, Bool, length, refl, sym, ap, arith}
-use Rattle.std.specs.Prelude.{Result, Ok, Err, IsErrOf, IfErr}
+use Rattle.std.proofs.Common.{◌≡◌, ◌≢◌, ◌∙◌, ℕ, ◌<◌, ◌≤◌, List, Option, None, Some, true, false, Bool, length, take, refl, sym, ap, subst, arith, take_all}
+use Rattle.std.specs.Prelude.{Result, Ok, Err, IsErrOf, IfErr, IsTrue, OnOk}
 use Rattle.std.specs.Io.KnownBytes.{Keeps}
 use Rattle.ic_disk.specs.declared.disk.Disk.{Ghosts}
+use Rattle.ic_disk.specs.Images.{Within}
 use Rattle.ic_jobs.specs.declared.command.Command.{Command}
+use Rattle.ic_jobs.specs.declared.event.Entry.{Entry}
+use Rattle.ic_jobs.specs.History.{replay}
+use Rattle.ic_jobs.specs.Job.{JobParts}
+use Rattle.ic_slots.specs.Held.{IsHeld, the_table}
 use Rattle.ic_slots.specs.Keeper as keeper
 use Rattle.ic_desk.specs.declared.book.Book.{Book}
 use Rattle.ic_desk.specs.declared.fault.BookFault.{BookFault}
 use Rattle.ic_desk.specs.declared.fault.BookFault.TheVariants.{Broken, LogFull, Worn, Memory, Device}
-use Rattle.ic_desk.specs.Book.{log_of, kept_of, is_broken}
+use Rattle.ic_desk.specs.Book.{disk_of, start_of, log_of, table_of, kept_of, is_broken}
 use Rattle.ic_desk.specs.Calls.{BreaksOrStays, KeepsAll, TellsWorn}
+use Rattle.ic_desk.specs.Kept.{IsHistory, IsOnDisk, table_kept}
+use Rattle.ic_desk.specs.Server.{Closes}
 use Rattle.ic_attend.specs.declared.fault.AttendFault.{AttendFault}
 use Rattle.ic_attend.specs.declared.fault.AttendFault.TheVariants as attending
 use Rattle.ic_attend.specs.Faults.{IfUnopened, IfUnbegun, IfStopped, IfTorn, IsUnopened, IsAsOpened, IsStopped, IsTorn}
+use Rattle.ic_scripts.specs.Attending.{HasTable}
 use Rattle.ic_scripts.specs.Outcome.{fault_of_attendance}
 use Rattle.ic_scripts.specs.Reasons.{KeepTells, SaysWhy}
 
@@ -53,3 +61,26 @@ keep_tells (Err Device) old new fault worn others all within =
   where
     less : (a b : ℕ) → a ≤ b → (a ≡ b → ⊥) → a < b
     less a b small apart = omega (arith, small, apart)
+
+-- ---- a book that is kept and closed
+
+-- where all was kept, the disk that a closed book leaves has its table, and a crash leaves it
+pub kept_closed : {T D : Type 0} {ghosts : Ghosts D} (result : Result T BookFault) (old new : Book D ghosts) (disk : D)
+    → KeepsAll result old new → OnOk result (kept_of new ≡ length (log_of new))
+    → IsHistory (start_of new) (log_of new) (table_of new) (kept_of new) (is_broken new)
+    → (IsTrue (ghosts.keeps (disk_of new))
+    → IsOnDisk (ghosts.content (disk_of new)) (ghosts.image (disk_of new)) (start_of new) (log_of new) (kept_of new) (is_broken new))
+    → Closes new disk → OnOk result (IsTrue (ghosts.keeps disk) → HasTable ghosts (table_of old) disk)
+kept_closed (Err fault) old new disk all kept history on_disk closes = tt
+kept_closed {D = D} {ghosts = g} (Ok done) old new disk all kept history on_disk closes = λ keeps.
+    let is = on_disk (subst (λ (d : D). IsTrue (g.keeps d)) closes.same keeps) in
+    let table : table_kept (start_of new) (log_of new) (kept_of new) ≡ table_of old =
+    ap (λ (k : ℕ). replay (start_of new) (take k (log_of new))) kept
+    ∙ ap (λ (es : List Entry). replay (start_of new) es) (take_all (length (log_of new)) (log_of new) (omega arith))
+    ∙ history.replayed ∙ all.table in
+    record {
+      held = subst (λ (d : D). IsHeld (the_table (table_of old)) (g.content d)) (sym closes.same)
+          (subst (λ (t : List JobParts). IsHeld (the_table t) (g.content (disk_of new))) table (is.held all.ready));
+      images = subst (λ (d : D). Within (g.image d) (IsHeld (the_table (table_of old)))) (sym closes.same)
+          (subst (λ (t : List JobParts). Within (g.image (disk_of new)) (IsHeld (the_table t))) table (is.holds all.ready));
+    }

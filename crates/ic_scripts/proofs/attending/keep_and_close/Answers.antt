@@ -1,6 +1,10 @@
-use Rattle.ic_scripts.proofs.ReasonLemmas.{keep_tells}
+use Rattle.ic_scripts.proofs.ReasonLemmas.{keep_tells, kept_closed}
 use Rattle.ic_scripts.proofs.attending.keep_and_close.Goals as goal
 
 pub returns-clause-tells : goal.returns-clause-tells
 returns-clause-tells g c =
     keep_tells c.keep-kept.result _ _ c.keep-kept.ensures.fault c.keep-kept.ensures.worn c.keep-kept.ensures.others c.keep-kept.ensures.all c.facts.ensures.history.within
+
+pub returns-clause-held : goal.returns-clause-held
+returns-clause-held g c =
+    kept_closed c.keep-kept.result c.args.book c.keep-kept.new.self c.close.result c.keep-kept.ensures.all c.keep-kept.ensures.kept c.facts-2.ensures.history c.facts-2.ensures.on_disk c.close.ensures.step
