@@ -2,6 +2,7 @@
 //!
 //! - `attended RUNNERS TURNS WORKERS SCRIPTS`: what each client is answered, and the jobs that are left.
 //! - `meeting WANTED RUNNERS TURNS WORKERS SCRIPTS`: the same, where each work waits until so many have begun.
+//! - `pair RUNNERS TURNS WORKERS SCRIPTS`: the same, where each answer of one of two clients waits until the other was answered.
 //! - `during COMMAND | SCRIPT`: a script of two commands, the second answered while a round of the job is made.
 //! - `drawn SEED COUNT`: so many drawn sets of scripts.
 //! - `counted DISK RUNNERS TURNS WORKERS SCRIPTS`: how many answers each client has, and why it ended; on a `new` disk or
@@ -15,7 +16,7 @@ use crate::attending::{Wanted, attended, counted};
 use crate::disks::{changed, unopened};
 use crate::drawn::drawn;
 use crate::failing::each_fused;
-use crate::gates::{Meeting, answered_during_round};
+use crate::gates::{Meeting, Pair, answered_during_round};
 use crate::served::served;
 use ic_disk::Blow;
 use ic_notation::{Row, Trouble, expanded};
@@ -51,6 +52,13 @@ pub fn answer<R: Threads + Wait + Clock + Sync>(
             let meeting = Meeting::new(rt, count as u64);
             let line = attended(rt, alloc, wanted, scripts, &meeting)?;
             meeting.kept()?;
+            Ok(line)
+        }
+        "pair" => {
+            let (wanted, scripts) = wanted_of(&text);
+            let pair = Pair::new(rt);
+            let line = attended(rt, alloc, wanted, scripts, &pair)?;
+            pair.kept()?;
             Ok(line)
         }
         "during" => answered_during_round(rt, alloc, &text),

@@ -26,6 +26,14 @@ fn wait<R: Clock>(rt: &R, counter: &AtomicU64, wanted: u64, missed: &AtomicBool)
     missed.store(true, Ordering::SeqCst);
 }
 
+/// Whether no wait has run out.
+fn none_missed(missed: &AtomicBool) -> Result<(), Trouble> {
+    if missed.load(Ordering::SeqCst) {
+        return Err(Trouble("a wait ran out"));
+    }
+    Ok(())
+}
+
 /// A gate that holds each work up until so many have begun.
 #[derive(Drop)]
 pub struct Meeting<'a, R> {
@@ -47,10 +55,7 @@ impl<'a, R> Meeting<'a, R> {
 
     /// Whether no wait has run out.
     pub fn kept(&self) -> Result<(), Trouble> {
-        if self.missed.load(Ordering::SeqCst) {
-            return Err(Trouble("a wait ran out"));
-        }
-        Ok(())
+        none_missed(&self.missed)
     }
 }
 
@@ -61,6 +66,45 @@ impl<'a, R: Clock + Sync> Gate for Meeting<'a, R> {
     }
 
     fn answered(&self, _who: u64) {}
+}
+
+/// A gate at which each answer of client 0 waits until client 1 was answered once, and the other way round.
+#[derive(Drop)]
+pub struct Pair<'a, R> {
+    rt: &'a R,
+    first: AtomicU64,
+    second: AtomicU64,
+    missed: AtomicBool,
+}
+
+impl<'a, R> Pair<'a, R> {
+    pub fn new(rt: &'a R) -> Pair<'a, R> {
+        Pair {
+            rt,
+            first: AtomicU64::new(0),
+            second: AtomicU64::new(0),
+            missed: AtomicBool::new(false),
+        }
+    }
+
+    /// Whether no wait has run out.
+    pub fn kept(&self) -> Result<(), Trouble> {
+        none_missed(&self.missed)
+    }
+}
+
+impl<'a, R: Clock + Sync> Gate for Pair<'a, R> {
+    fn pass(&self, _place: u64) {}
+
+    fn answered(&self, who: u64) {
+        let (own, other) = if who == 0 {
+            (&self.first, &self.second)
+        } else {
+            (&self.second, &self.first)
+        };
+        own.fetch_add(1, Ordering::SeqCst);
+        wait(self.rt, other, 1, &self.missed);
+    }
 }
 
 /// A gate at which the first answer waits until a work has begun, and each work until the second answer was given.
@@ -125,9 +169,7 @@ pub fn answered_during_round<R: Threads + Wait + Clock + Sync>(
         missed: AtomicBool::new(false),
     };
     let done = attended_on(rt, alloc, disk, wanted, scripts, &during)?;
-    if during.missed.load(Ordering::SeqCst) {
-        return Err(Trouble("a wait ran out"));
-    }
+    none_missed(&during.missed)?;
     check(alloc, &past, &done)?;
     Ok(Vec::from_slice(alloc, b"answered")?)
 }
