@@ -61,6 +61,9 @@ def at_once():
 
 def give_up(counts):
     print(f"trials: stopped after {AT_MOST} seconds\n{counts['ok']} passed, {counts['FAILED'] + 1} failed", flush=True)
+    # They hold the pipe to the gate, which waits for its end.
+    for worker in multiprocessing.active_children():
+        worker.kill()
     os._exit(1)
 
 

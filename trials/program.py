@@ -256,8 +256,12 @@ class Trial(unittest.TestCase):
         """How the program is started so that it may not read and write all files: root may, so as root it runs as nobody."""
         if os.geteuid():
             return {}
-        program = shutil.copy(PROGRAM, self.room / "icserve")
-        os.chmod(self.room, 0o711)
+        # Programs in a folder in memory may not be started everywhere.
+        room = tempfile.mkdtemp(prefix="trial-")
+        self.addCleanup(shutil.rmtree, room, ignore_errors=True)
+        program = shutil.copy(PROGRAM, room)
+        for it in (room, self.room):
+            os.chmod(it, 0o711)
         os.chmod(program, 0o755)
         how = {"program": program, "preexec_fn": lambda: os.setuid(65534)}
         try:

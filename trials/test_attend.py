@@ -73,6 +73,7 @@ class Attend(Attending):
         path = self.script("asking", [f"submit loop {LOOP.text}", *["fetch loop"] * 20_000])
         for _ in range(10):
             ran = self.attended(self.attends(path, runners=1, turns=0))
+            self.equals(ran.command, "status", 0, ran.status)
             rounds = [int(it.split(" ")[2]) for it in ran.out.decode().splitlines()[2:]]
             self.equals(ran.command, "answers, in the order of their rounds", (20_000, sorted(rounds)), (len(rounds), rounds))
             if rounds[0] < rounds[-1]:
@@ -84,7 +85,7 @@ class Attend(Attending):
         words = self.attends(self.script("long", lines), turns=60_000)
         for sign in (signal.SIGTERM, signal.SIGINT, signal.SIGHUP):
             # On a machine that is busy all may be done before the signal comes, or nothing begun.
-            for seconds in (0.1, 0.05, 0.02, 0.3, 1):
+            for seconds in (0.1, 0.05, 0.02, 0.3, 1, 5, 20):
                 self.disk()
                 ran = self.signalled(words, sign, seconds)
                 is_begun = "loop" in self.rounds()

@@ -109,7 +109,7 @@ class DrawnAttend(ModelTrial):
     def told_to(self, ran, count):
         """The answers to each client."""
         parts = ("\n" + ran.out.decode()).split("\nclient ")
-        self.assertEqual([part.split("\n")[0] for part in parts[1:]], [str(it) for it in range(count)], ran.command)
+        self.equals(ran.command, "the clients told", [str(it) for it in range(count)], [it.split("\n")[0] for it in parts[1:]])
         return [part.split("\n")[1:] for part in "\nclient ".join(parts)[:-1].split("\nclient ")[1:]]
 
     def test_one_client_without_runners(self):
@@ -147,7 +147,7 @@ class DrawnAttend(ModelTrial):
         """Each client has an answer to each of its commands, and one that may be."""
         for client, text, answers in zip(clients, texts, self.told_to(ran, len(texts))):
             commands = model_disk.read_script(text.encode())
-            self.assertEqual(len(commands), len(answers), ran.command)
+            self.equals(ran.command, f"how many answers {answers} are", len(commands), len(answers))
             for asked, answer in zip(commands, answers):
                 if not client.fits(asked, answer):
                     self.told(ran.command, f"what is told to {asked[0]} {asked[1]}", "some rounds' answer", answer)
@@ -156,7 +156,7 @@ class DrawnAttend(ModelTrial):
         """Each job that should be there is, as some number of rounds leaves it."""
         jobs = {name: (client, course) for client in clients for name, course in client.jobs.items()}
         listed = self.asks(self.path, ["list"])[0].split(" ")[1:]
-        self.assertEqual(sorted(it.split(":")[0] for it in listed), sorted(jobs), ran.command)
+        self.equals(ran.command, "the jobs that are there", sorted(jobs), sorted(it.split(":")[0] for it in listed))
         for name, answer in zip(jobs, self.asks(self.path, [f"fetch {name}" for name in jobs])):
             client, course = jobs[name]
             if not client.shows(course, answer):

@@ -66,7 +66,7 @@ class Kills(Stops):
 
     def test_a_signal_to_end_in_the_midst_of_a_long_run_is_obeyed_at_once(self):
         for sign in (signal.SIGTERM, signal.SIGINT, signal.SIGHUP, signal.SIGKILL):
-            for wait in (0.1, 1, 5, 20):
+            for wait in (0.02, 0.1, 0.005, 1, 5, 20):
                 disk = self.disk(f"{sign}.{wait}.disk")
                 lines = [f"submit loop {LOOP.text}", "run 10", "list"] + ["run 1000"] * 6
                 with Server(disk, "--every", "1", preexec_fn=heeds_signals) as server:
@@ -79,16 +79,29 @@ class Kills(Stops):
                 self.equals(ran.command, f"within {PROMPT} seconds", True, time.monotonic() - began < PROMPT)
                 self.equals(ran.command, "status and standard error", (-sign, b""), (ran.status, ran.err))
                 table = self.found(ran, disk, self.may_be_left(ran, lines, (), 1))
-                if table[0].rounds > 10:
+                if 10 < table[0].rounds < 6010:
                     break
-            self.equals(ran.command, "whether rounds of the run were kept before the signal", True, table[0].rounds > 10)
+            in_midst = 10 < table[0].rounds < 6010
+            self.equals(ran.command, f"whether the signal came in the midst, at {table[0].rounds} rounds", True, in_midst)
 
     def test_sigpipe_is_no_reason_to_end(self):
         with Server(self.disk()) as server:
             self.answers(server, f"submit loop {LOOP.text}", "accepted")
             server.process.send_signal(signal.SIGPIPE)
             self.answers(server, "run 3", "ran 3")
-            server.send("run 1000")
+            self.ended(server.end(), out=["accepted", "ran 3"])
+
+    def test_sigpipe_in_the_midst_of_a_long_run_is_no_reason_to_end(self):
+        """Each round is kept, so that the file changes while the runs are made."""
+        disk = self.disk()
+        with Server(disk, "--every", "1") as server:
+            self.answers(server, f"submit loop {LOOP.text}", "accepted")
+            begun = disk.read_bytes()
+            server.send(["run 1000"] * 20)
+            end = time.monotonic() + PATIENCE
+            while disk.read_bytes() == begun and time.monotonic() < end:
+                time.sleep(0.001)
             server.process.send_signal(signal.SIGPIPE)
-            self.equals(server.said(), "the answer to run 1000", "ran 1000", server.answer(PATIENCE))
-            self.ended(server.end(), out=["accepted", "ran 3", "ran 1000"])
+            came = [server.answer(PATIENCE) for _ in range(20)]
+            self.equals(server.said(), "the answers to the runs", ["ran 1000"] * 20, came)
+            self.ended(server.end(), out=["accepted", *["ran 1000"] * 20])

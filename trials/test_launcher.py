@@ -39,6 +39,8 @@ class Launcher(Trial):
         self.tools.mkdir()
         (self.tools / "rt").write_text(RT)
         (self.tools / "rt").chmod(0o755)
+        if not os.access(self.tools / "rt", os.X_OK):
+            self.skipTest(f"programs in {self.room} can't be started here")
         for name in ("make", *TOOLS):
             if shutil.which(name):
                 (self.tools / name).symlink_to(shutil.which(name))

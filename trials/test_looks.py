@@ -2,7 +2,6 @@
 standard error, and what goes wrong on the way."""
 
 import re
-import subprocess
 import xml.etree.ElementTree as xml
 
 import test_faults
@@ -53,7 +52,7 @@ class Rows(Trial):
                 out, err, status = end_of(answer)
                 self.runs("reduce", "--rounds", count, given=text, out=out, err=err, status=status)
                 seen.add(err.split(b" ")[1] if err else status)
-        self.assertLessEqual({0, b"stuck", b"not", b"bad", b"overgrown\n"}, seen)
+        self.equals("reduce", "ends that no row has", set(), {0, b"stuck", b"not", b"bad", b"overgrown\n"} - seen)
 
     def test_each_row_that_is_traced_has_its_table_or_picture(self):
         tried = 0
@@ -65,7 +64,7 @@ class Rows(Trial):
                 ends = {"out": out, "err": err, "status": 0 if is_told else 1}
                 self.runs("trace", "--rounds", count, "--format", shown, given=text, **ends)
                 tried += 1
-        self.assertGreater(tried, 10)
+        self.equals("trace", f"more than ten rows: {tried}", True, tried > 10)
 
     def test_a_million_rounds_are_made_and_a_table_is_told_where_nothing_else_is_said(self):
         self.runs("reduce", given=TWO, out=["<S(S(Z))|>"])
@@ -80,8 +79,8 @@ class Rows(Trial):
         self.runs("trace", "--rounds", MOST, given="{} <|>", out=[HEAD])
         for word in ("reduce", "trace"):
             ran = run(word, "--rounds", MOST + 1, given=TWO)
-            self.assertEqual((ran.status, ran.out), (2, b""))
-            self.assertIn(b"0..=4611686018427387904", ran.err)
+            self.equals(ran.command, "status and standard output", (2, b""), (ran.status, ran.out))
+            self.equals(ran.command, f"the range is told: {ran.err}", True, b"0..=4611686018427387904" in ran.err)
 
     def test_rounds_that_are_cut_go_on_where_they_ended(self):
         """A configuration that isn't done is printed all the same; with the rules before it, it is reduced further."""
@@ -91,7 +90,7 @@ class Rows(Trial):
         while status == 5:
             ran = run("reduce", "--rounds", 5, given=text)
             text, status, rounds = rules + ran.out.decode(), ran.status, rounds + 1
-        self.assertEqual((ran.out, status, rounds), (whole.out, 0, 4))
+        self.equals(ran.command, "the end, its status and after how many runs", (whole.out, 0, 4), (ran.out, status, rounds))
 
 
 class Endings(Trial):
@@ -118,7 +117,7 @@ class Endings(Trial):
     def test_words_that_ask_for_nothing_have_status_2(self):
         for words in (["reduce", "F"], ["reduce", "--format", "svg"], ["trace", "--rounds"], ["trace", "--rounds", "-1"]):
             ran = run(*words, given=TWO)
-            self.assertEqual((ran.status, ran.out, ran.err[:6]), (2, b"", b"error:"), words)
+            self.equals(ran.command, "how it ends", (2, b"", b"error:"), (ran.status, ran.out, ran.err[:6]))
         wanted = "error: invalid value 'png' for '--format <FORMAT>'\n  [possible values: tsv, svg]\n\n"
         wanted += "For more information, try '--help'.\n"
         self.runs("trace", "--format", "png", given=TWO, err=wanted, status=2)
@@ -126,16 +125,13 @@ class Endings(Trial):
     def test_a_stuck_pair_is_told_on_standard_error_alone(self):
         text = f"{ADD} <r|Ad(r,Z)=Z,Up=Down>"
         self.runs("reduce", given=text, out=["<r|Ad(r,Z)=Z,Up=Down>"], err=["icserve: stuck Ad><Z"])
-        command = ["sh", "-c", 'exec "$0" reduce 2>&-', PROGRAM]
-        ran = subprocess.run(command, input=text.encode(), stdout=subprocess.PIPE, timeout=60)
-        self.assertEqual((ran.returncode, ran.stdout), (0, b"<r|Ad(r,Z)=Z,Up=Down>\n"))
+        self.runs("-c", 'exec "$0" reduce 2>&-', PROGRAM, program="/bin/sh", given=text, out=["<r|Ad(r,Z)=Z,Up=Down>"])
 
     def test_streams_that_are_closed_or_full_have_their_line(self):
         for words in (["reduce"], ["trace"], ["trace", "--format", "svg"]):
             for closing, line in (("<&-", "read"), (">&-", "write"), (">/dev/full", "write")):
-                command = ["sh", "-c", f'exec "$0" "$@" {closing}', PROGRAM, *words]
-                ran = subprocess.run(command, input=TWO.encode(), stdout=subprocess.PIPE, stderr=subprocess.PIPE, timeout=60)
-                self.assertEqual((ran.returncode, ran.stdout, ran.stderr), (4, b"", f"icserve: {line}\n".encode()), words)
+                shell = ["-c", f'exec "$0" "$@" {closing}', PROGRAM, *words]
+                self.refuses(*shell, program="/bin/sh", given=TWO, line=line, status=4)
 
 
 class Pictures(Trial):
@@ -144,9 +140,9 @@ class Pictures(Trial):
     def drawn(self, text, words=()):
         """The picture of a text, which is well-formed: its title, and how many bars and points it has."""
         ran = run("trace", "--format", "svg", *words, given=text)
-        self.assertEqual((ran.status, ran.err), (0, b""))
+        self.equals(ran.command, "status and standard error", (0, b""), (ran.status, ran.err))
         picture = xml.fromstring(ran.out)
-        self.assertEqual(picture.tag, f"{SVG}svg")
+        self.equals(ran.command, "what the picture is", f"{SVG}svg", picture.tag)
         bars = picture.findall(f".//{SVG}g/{SVG}rect")
         points = picture.find(f".//{SVG}polyline").get("points").split()
         return picture.find(f"{SVG}text").text, bars, points
@@ -161,12 +157,14 @@ class Pictures(Trial):
             told = [[int(it) for it in line.split("\t")] for line in table.out.decode().splitlines()[1:]]
             with self.subTest(example=path.name):
                 title, bars, points = self.drawn(text)
-                self.assertEqual([(int(it.get("x")), int(it.get("height"))) for it in bars], [(it[0], it[1]) for it in told])
-                self.assertEqual(points, [f"{it[0]},{it[2]}" for it in told])
+                came = [(int(it.get("x")), int(it.get("height"))) for it in bars]
+                self.equals(path.name, "the bars of the picture", [(it[0], it[1]) for it in told], came)
+                self.equals(path.name, "the points of the picture", [f"{it[0]},{it[2]}" for it in told], points)
                 fired = sum(it[1] for it in told)
-                self.assertTrue(title.startswith(f"{len(told)} round{'s' * (len(told) != 1)}, {fired} interaction"), title)
+                wanted = f"{len(told)} round{'s' * (len(told) != 1)}, {fired} interaction"
+                self.equals(path.name, "how the title begins", wanted, title[: len(wanted)])
                 tried += 1
-        self.assertGreaterEqual(tried, 7)
+        self.equals("examples/", f"at least seven pictures: {tried}", True, tried >= 7)
 
     def test_one_round_is_one_round_and_none_are_no_rounds(self):
         for text, rounds, title in (
@@ -174,12 +172,12 @@ class Pictures(Trial):
             (TWO, 0, "0 rounds, 0 interactions, at most 0 and on average 0.0 in a round"),
             (TWO, 2, "2 rounds, 2 interactions, at most 1 and on average 1.0 in a round"),
         ):
-            self.assertEqual(self.drawn(text, ["--rounds", rounds])[0], title)
+            self.equals(f"trace --rounds {rounds}", "the title", title, self.drawn(text, ["--rounds", rounds])[0])
 
     def test_the_pictures_in_docs_are_what_the_program_prints(self):
         """docs/NAME.svg is the trace of examples/NAME.ic."""
         pictures = sorted(TOP.glob("docs/*.svg"))
-        self.assertGreaterEqual(len(pictures), 2)
+        self.equals("docs/", f"at least two pictures: {pictures}", True, len(pictures) >= 2)
         for picture in pictures:
             text = (TOP / "examples" / f"{picture.stem}.ic").read_bytes()
             self.runs("trace", "--format", "svg", given=text, out=picture.read_bytes())
@@ -224,12 +222,13 @@ class Faults(Trial):
                     self.agrees(ran.command, f"standard output, where it went wrong: {call}", b"", ran.out)
 
             self.in_turn("growth", ("once", "on"), attempt)
-        self.assertEqual(self.came, {(4, "memory")})
+        self.equals("reduce and trace", "the faults that came", {(4, "memory")}, self.came)
 
     def test_each_read_and_write_fails_in_turn(self):
         svg = run("trace", "--format", "svg", given=TWO).out
         for words, text, out, err, status in [*self.RUNS, (["trace", "--format", "svg"], TWO, svg, b"", 0)]:
-            for what, ways in (("read", ("once", "on", "interrupt", "short")), ("write", ("once", "on", "nothing", "half", "interrupt", "short"))):
+            writes = ("once", "on", "nothing", "half", "interrupt", "short")
+            for what, ways in (("read", ("once", "on", "interrupt", "short")), ("write", writes)):
                 for how in ways:
 
                     def attempt(env, call, words=words, text=text, what=what, how=how, ends=(out, err, status)):
@@ -242,4 +241,4 @@ class Faults(Trial):
                             self.told(ran.command, "standard output, which is cut", ends[0], ran.out)
 
                     self.in_turn(what, [how], attempt)
-        self.assertEqual(self.came, {(4, "read"), (4, "write")})
+        self.equals("reduce and trace", "the faults that came", {(4, "read"), (4, "write")}, self.came)

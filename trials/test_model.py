@@ -8,7 +8,7 @@ import draws
 import model
 import model_disk
 from model import Fault, Refusal
-from program import SEED
+from program import SEED, Trial
 from worked_rows import expanded, rows
 
 
@@ -60,28 +60,31 @@ def served(text):
     return " ; ".join(it for it in told if it is not None), server
 
 
-class TheModelSettlesAsDefined(unittest.TestCase):
+class TheModelSettlesAsDefined(Trial):
     def test_one_walk_is_step_after_step(self):
         drawn = random.Random(f"{SEED} {self.id()}")
         for _ in range(1_500):
             rules, config = draws.system(drawn, drawn.choice([1, 2, 3]), 3)
             after = model.fired(rules, config)
-            with self.subTest(model.printed(rules, config), seed=SEED):
+            text = model.printed(rules, config)
+            with self.subTest(text, seed=SEED):
                 settled = model.settled_by_steps(after)
-                self.assertEqual(model.settled(after), settled)
+                self.equals(f"the model, of {text}", "one walk", settled, model.settled(after))
                 active = any(rules.find(*equation) for equation in settled.equations)
-                self.assertEqual(model.is_quiet(rules, settled), not active)
-                self.assertEqual(model.is_quiet(rules, after), model.settled_by_steps(after) == after and not active)
+                self.equals(f"the model, of {text}", "quiet, once settled", not active, model.is_quiet(rules, settled))
+                is_quiet = settled == after and not active
+                self.equals(f"the model, of {text}", "quiet, once fired", is_quiet, model.is_quiet(rules, after))
 
 
-class TheModelAnswersTheRows(unittest.TestCase):
+class TheModelAnswersTheRows(Trial):
     def answers(self, answer, crate, *kinds):
         found = rows(crate, *kinds)
-        self.assertTrue(found)
+        self.equals(f"crates/{crate}/stdin", f"rows of {kinds}", True, bool(found))
         for name, kind, text, wanted in found:
             with self.subTest(name, kind=kind, text=text[:200]):
                 wanted = wanted.partition(b", jobs before")[0]
-                self.assertEqual(answer(kind, text).encode()[:2000], wanted[:2000])
+                came = answer(kind, text).encode()[:2000]
+                self.agrees(f"the model, of row {name}: {kind} {text[:200]}", "the answer", wanted[:2000], came)
 
     def test_of_settling(self):
         def answer(_, text):

@@ -50,12 +50,25 @@ class Pages(Trial):
         section = (TOP / "README.md").read_text().split("## A session")[1].split("\n## ")[0]
         (self.room / "session.md").write_text(section)
         served, lines, prints, killed, prints_then, console = blocks_of(self.room / "session.md")
-        self.assertIn("KILL", killed[0])
+        self.equals("README.md", f"it kills a server: {killed}", True, "KILL" in killed[0])
         file = (TOP / "examples/addition.session").read_text().split("\n")
-        self.assertEqual(lines, [it for it in file if it], "README.md shows other lines than the file has")
+        self.equals("README.md", "the lines of examples/addition.session", [it for it in file if it], lines)
         self.typed("README.md", served, prints)
-        self.typed("README.md", killed, prints_then, subprocess.DEVNULL)
-        self.assertEqual(len(typed_in(console)), 3)
+        self.killed_at(killed, prints_then)
+        self.equals("README.md", "how many commands stand behind the session", 3, len(typed_in(console)))
+
+    def killed_at(self, commands, prints):
+        """The server that is killed after two seconds has answered before. On a machine that is busy it may not have: then the
+        same is tried over a new copy of the disk with ten times as long."""
+        disk = self.room / "jobs.disk"
+        before = disk.read_bytes()
+        try:
+            self.typed("README.md", commands, prints, subprocess.DEVNULL)
+        except AssertionError:
+            disk.write_bytes(before)
+            longer = [it.replace("sleep 3)", "sleep 30)").replace("KILL 2 ", "KILL 20 ") for it in commands]
+            self.equals("README.md", "a server that is killed after two seconds", False, longer == commands)
+            self.typed("README.md", longer, prints, subprocess.DEVNULL)
 
     def test_the_session_of_the_page_on_clients_prints_what_the_page_says(self):
         section = (TOP / "docs/clients.md").read_text().split("## A session")[1].split("\n## ")[0]
@@ -69,7 +82,8 @@ class Pages(Trial):
         for page in sorted([*TOP.glob("*.md"), *TOP.glob("docs/*.md")]):
             blocks = [it for it in blocks_of(page) if it[0].startswith("$ ")]
             consoles += [(page.relative_to(TOP), typed_in(it)) for it in blocks]
-        self.assertLessEqual({"README.md", "docs/rounds.md", "docs/settling.md"}, {str(page) for page, _ in consoles})
+        wanting = {"README.md", "docs/rounds.md", "docs/settling.md"} - {str(page) for page, _ in consoles}
+        self.equals("README.md and docs/", "pages without a command that is typed", set(), wanting)
         for page, commands in consoles:
             for command, wanted in commands:
                 with self.subTest(page=str(page), command=command):
@@ -80,12 +94,12 @@ class Pages(Trial):
     def test_each_line_of_the_session_on_serving_has_the_answer_behind_it(self):
         block = next(it for it in blocks_of("docs/serving.md") if it[0].startswith("submit "))
         lines, answers = zip(*(re.split(r" {2,}", it, maxsplit=1) for it in block))
-        self.assertGreaterEqual(len(lines), 6)
+        self.equals("docs/serving.md", f"at least six lines: {lines}", True, len(lines) >= 6)
         self.serves(self.disk(), lines, answers)
 
     def test_each_session_in_examples_has_its_answers_by_any_number_of_workers(self):
         sessions = sorted(TOP.glob("examples/*.session"))
-        self.assertEqual(len(sessions), 5)
+        self.equals("examples/", "how many sessions there are", 5, len(sessions))
         for session in sessions:
             answers = session.with_suffix(".answers").read_bytes()
             for workers, every in ((1, 1), (2, 100), (7, 3), (64, 1_000_000)):
@@ -99,7 +113,7 @@ class Pages(Trial):
         rows = (TOP / "crates/ic_rows/stdin").read_text().splitlines()
         reduced = (TOP / "crates/ic_look_rows/stdin").read_text().splitlines()
         texts = sorted(TOP.glob("examples/*.ic"))
-        self.assertGreaterEqual(len(texts), 13)
+        self.equals("examples/", f"at least 13 texts: {texts}", True, len(texts) >= 13)
         tried = 0
         for text in texts:
             word = "once" if text.read_text().startswith("{") else "settle"
@@ -108,8 +122,8 @@ class Pages(Trial):
             with self.subTest(text=text.name):
                 answers = [it[len(asked) + 4 :] for it in rows if it.startswith(f"{asked} => ")]
                 is_reduced = any(it.startswith(told) for it in reduced)
-                self.assertTrue(answers or is_reduced, f"no file of rows has a row {asked} or {told}")
+                self.equals(text.name, f"whether a row has {asked} or {told}", True, bool(answers) or is_reduced)
                 for answer in answers:
                     self.runs(word, given=text.read_bytes(), out=[answer])
                     tried += 1
-        self.assertGreaterEqual(tried, 8)
+        self.equals("examples/", f"at least eight rows: {tried}", True, tried >= 8)

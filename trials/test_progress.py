@@ -6,9 +6,10 @@ import subprocess
 import threading
 import time
 import tty
+import unittest
 
 from known import LOOP, STILL
-from program import IN_MEMORY, PATIENCE, PROGRAM, Trial, as_lines, said_of
+from program import IN_MEMORY, PROGRAM, Trial, as_lines, run, said_of
 
 # A line as the program writes it: to the begin of the terminal's line, the text, and what erases the rest.
 LINE = re.compile(rb"\revents (\d+)(?:, rounds a second (\d+), jobs running (\d+))?\x1b\[K")
@@ -24,7 +25,10 @@ class Terminal:
     """A terminal to which a program writes, and which a thread reads until no program has it open."""
 
     def __enter__(self):
-        self.ours, self.theirs = os.openpty()
+        try:
+            self.ours, self.theirs = os.openpty()
+        except OSError as fault:
+            raise unittest.SkipTest(f"no terminal can be had here: {fault}") from fault
         tty.setraw(self.theirs)
         self.came = bytearray()
         self.reader = threading.Thread(target=self.read)
@@ -61,9 +65,9 @@ class Progress(Trial):
         with Terminal() as shown:
             begun = time.monotonic()
             pipes = {"stdout": shown.theirs if out else subprocess.PIPE, "stderr": shown.theirs if err else subprocess.PIPE}
-            ran = subprocess.run(command, input=given, timeout=PATIENCE, **pipes)
+            ran = run(*words, given=given, **pipes)
             took = time.monotonic() - begun
-        return ran.returncode, ran.stdout, ran.stderr, bytes(shown.came), took
+        return ran.status, ran.out, ran.err, bytes(shown.came), took
 
     def lines_of(self, shown, took):
         """What the lines say that came on a terminal: they are rewritten in place and seldom enough, and wiped at the end."""
@@ -72,8 +76,9 @@ class Progress(Trial):
         if rest.replace(WIPED, b"") or not shown.endswith(WIPED):
             self.told(self.command, "standard error", "lines of progress, and last that they are wiped", shown)
         events = [it[0] for it in lines]
-        self.assertEqual(events, sorted(events), self.command)
-        self.assertLessEqual(len(lines), 10 * took + 1, self.command)
+        self.equals(self.command, "the events, which grow", sorted(events), events)
+        is_seldom = len(lines) <= 10 * took + 1
+        self.equals(self.command, f"at most ten lines in a second: {len(lines)} in {took:.1f} s", True, is_seldom)
         return lines
 
     def script(self, name, lines):
@@ -83,48 +88,53 @@ class Progress(Trial):
 
     def test_a_run_shows_its_line_on_a_terminal_and_wipes_it(self):
         status, out, _, shown, took = self.shows(["serve", "--disk", self.jobs], LONG, out=False)
-        self.assertEqual((status, out), (0, as_lines(ANSWERS)), self.command)
+        self.equals(self.command, "status and standard output", (0, as_lines(ANSWERS)), (status, out))
         lines = self.lines_of(shown, took)
-        self.assertGreater(len(lines), 2, self.command)
-        for events, _, running in lines:
-            self.assertTrue(0 < events <= 6000 and running == 1, (self.command, events, running))
+        self.equals(self.command, f"more than two lines came: {lines}", True, len(lines) > 2)
+        told = all(0 < events <= 6000 and running == 1 for events, _, running in lines)
+        self.equals(self.command, f"1 to 6,000 events and one job that runs: {lines}", True, told)
 
     def test_scripts_show_their_line_on_a_terminal_and_wipe_it(self):
         scripts = [self.script(f"script {i}", [f"submit grow{i} {GROWING}", *["list"] * 100]) for i in range(3)]
         words = ["attend", "--disk", self.jobs, "--turns", 2400, *scripts]
         status, out, _, shown, took = self.shows(words, out=False)
-        self.assertEqual((status, out[:18]), (0, b"client 0\naccepted\n"), self.command)
+        self.equals(self.command, "status, and how the output begins", (0, b"client 0\naccepted\n"), (status, out[:18]))
         lines = self.lines_of(shown, took)
-        self.assertGreater(len(lines), 1, self.command)
-        self.assertTrue(any(rate > 0 and running == 3 for _, rate, running in lines), (self.command, lines))
+        self.equals(self.command, f"more than one line came: {lines}", True, len(lines) > 1)
+        told = any(rate > 0 and running == 3 for _, rate, running in lines)
+        self.equals(self.command, f"a line of three jobs that run: {lines}", True, told)
 
     def test_without_rounds_the_line_tells_events_alone(self):
-        scripts = [self.script(f"script {i}", [f"submit j{i} {STILL.text}", f"cancel j{i}"] * 15_000) for i in range(2)]
+        scripts = [self.script(f"script {i}", [f"submit j {STILL.text}", *["list"] * 32_000]) for i in range(2)]
         words = ["attend", "--disk", self.jobs, "--runners", 0, *scripts]
         status, out, _, shown, took = self.shows(words, out=False)
-        told = [it for i in range(2) for it in (f"client {i}", *["accepted", "ok"] * 15_000)]
-        self.assertEqual((status, out), (0, as_lines(told)), self.command)
-        self.assertGreater(len(self.lines_of(shown, took)), 0, self.command)
-        self.assertNotIn(b"rounds", shown, self.command)
+        first = out.decode().split("\n")[1]
+        submits = ["accepted", "refused taken"][:: 1 if first == "accepted" else -1]
+        told = [it for i in range(2) for it in (f"client {i}", submits[i], *["jobs j:done:0"] * 32_000)]
+        self.equals(self.command, "status", 0, status)
+        self.agrees(self.command, "standard output", as_lines(told), out)
+        self.equals(self.command, "a line came", True, len(self.lines_of(shown, took)) > 0)
+        self.equals(self.command, f"no word of rounds in {shown}", False, b"rounds" in shown)
 
     def test_a_line_is_wiped_before_an_answer_or_a_fault_is_written(self):
         """Standard output and error are one terminal: behind the answer of a run that showed a line stands no line."""
         status, _, _, shown, _ = self.shows(["serve", "--disk", self.jobs], [*LONG, "x" * 262_145])
         wanted = as_lines([*ANSWERS, "icserve: long line"])
-        self.assertEqual(status, 4, self.command)
+        self.equals(self.command, "status", 4, status)
         self.agrees(self.command, "what stands on the terminal", wanted, LINE.sub(b"", shown).replace(WIPED, b""))
-        self.assertGreater(len(LINE.findall(shown)), 0, self.command)
+        self.equals(self.command, f"a line came: {shown}", True, len(LINE.findall(shown)) > 0)
         for line in LINE.finditer(shown):
             after = shown[line.end() :]
-            self.assertTrue(LINE.match(after) or after.startswith(WIPED), (self.command, shown))
+            is_gone = bool(LINE.match(after)) or after.startswith(WIPED)
+            self.equals(self.command, f"a line is rewritten or wiped: {shown}", True, is_gone)
 
     def test_nothing_of_it_comes_where_standard_error_is_no_terminal(self):
         status, _, err, shown, _ = self.shows(["serve", "--disk", self.jobs], LONG, err=False)
-        self.assertEqual((status, err, shown), (0, b"", as_lines(ANSWERS)), self.command)
+        self.equals(self.command, "status, standard error and output", (0, b"", as_lines(ANSWERS)), (status, err, shown))
 
     def test_short_work_shows_no_line(self):
         given = [f"submit loop {LOOP.text}", "run 1", "list"]
         status, out, _, shown, took = self.shows(["serve", "--disk", self.jobs], given, out=False)
-        self.assertEqual((status, out), (0, b"accepted\nran 1\njobs loop:running:1\n"), self.command)
+        self.equals(self.command, "status and standard output", (0, b"accepted\nran 1\njobs loop:running:1\n"), (status, out))
         if took < 0.1:
-            self.assertEqual(shown, b"", self.command)
+            self.equals(self.command, f"what the terminal is shown of {took:.2f} s", b"", shown)

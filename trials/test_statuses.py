@@ -256,7 +256,7 @@ class Servings(Trial):
 
     def test_write_where_standard_output_cant_be_written(self):
         disk = self.disk()
-        with open("/dev/full", "wb") as full:
+        with open("/dev/full", "r+b", buffering=0) as full:
             self.refuses("settle", given="<|>", line="write", status=4, stdout=full)
             self.refuses("once", given="{} <|>", line="write", status=4, stdout=full)
             self.refuses("serve", "--disk", disk, given=[TWO], line="write", status=4, stdout=full)
