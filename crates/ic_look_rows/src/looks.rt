@@ -1,6 +1,6 @@
 //! What the program does for whoever looks at a net, without the program: over bytes in memory.
 
-use ic_looks::{Format, Reduction, reduce_stream, trace_stream};
+use ic_looks::{Format, OneThread, Reduction, reduce_stream, trace_stream};
 use ic_notation::{Trouble, decimal};
 use ic_round::RoundFault;
 use ic_streams::StreamFault;
@@ -26,7 +26,7 @@ impl Look {
         writer: &mut W,
     ) -> Result<Option<Reduction>, StreamFault> {
         match self {
-            Look::Reduce => match reduce_stream(alloc, rounds, reader, writer) {
+            Look::Reduce => match reduce_stream(alloc, &OneThread, rounds, reader, writer) {
                 Ok(reduction) => Ok(Some(reduction)),
                 Err(fault) => Err(fault),
             },
@@ -55,7 +55,7 @@ impl Look {
 }
 
 /// Appends how a reduction ended.
-fn put_ending(reduction: &Reduction, output: &mut Vec<u8>) -> Result<(), AllocError> {
+pub fn put_ending(reduction: &Reduction, output: &mut Vec<u8>) -> Result<(), AllocError> {
     match reduction {
         Reduction::NotDone => output.extend_from_slice(b"not done"),
         Reduction::Done { rounds, stuck } => {
@@ -71,7 +71,7 @@ fn put_ending(reduction: &Reduction, output: &mut Vec<u8>) -> Result<(), AllocEr
 }
 
 /// The words of a refused text or round.
-fn refusal(alloc: Global, fault: StreamFault) -> Result<Vec<u8>, Trouble> {
+pub fn refusal(alloc: Global, fault: StreamFault) -> Result<Vec<u8>, Trouble> {
     match fault {
         StreamFault::Text(refused) => Ok(print_fault(alloc, &refused)?),
         StreamFault::Round(RoundFault::Overgrown) => Ok(b"overgrown".to_vec(alloc)?),

@@ -6,11 +6,12 @@ mod answers;
 mod failing;
 mod looks;
 mod slow;
+mod workers;
 
 use crate::answers::Kinds;
 use ic_notation::check_rows;
 use std::io;
 
 fn main(rt: HostRuntime) -> io::Result<()> {
-    check_rows(&rt, rt.alloc(), &Kinds)
+    check_rows(&rt, rt.alloc(), &Kinds { rt: &rt })
 }

@@ -1,5 +1,5 @@
 -- Rounds that are made one after the other, and what the answer of a round says of them.
-use Rattle.std.proofs.Common.{◌≡◌, ◌≢◌, ◌&&◌, ℕ, ◌+◌, ◌<◌, List, Bool, true, false, Result, Ok, Err, cond, refl, sym, ap, ◌∙◌, arith, subst}
+use Rattle.std.proofs.Common.{◌≡◌, ◌≢◌, ◌&&◌, ℕ, ◌+◌, ◌<◌, List, Bool, true, false, Result, Ok, Err, cond, refl, sym, ap, ◌∙◌, add-one, arith, subst}
 use Rattle.std.specs.Prelude.{IfErr}
 use Rattle.std.specs.Result.{IsErrAnd}
 use borrow.Author.Count.{below_more}
@@ -29,6 +29,16 @@ fits_by false named a b e = cc
 
 pub answered_fits : (rs : List Rule) (c after : Configuration) → Answers (Ok after) (unless_unfit rs c (round rs c)) → fits rs c ≡ true
 answered_fits rs c after e = fits_by (is_small rs c) (has_names rs c) after (round rs c) e
+
+answer_by : {T : Type 0} (small named : Bool) (a b : T) → Ok a ≡ cond small (cond named (Ok b) (Err NamesOut)) (Err Overgrown) → a ≡ b
+answer_by true true a b e = cc
+answer_by true false a b e = cc
+answer_by false named a b e = cc
+
+-- what is answered behind so many rounds is the configuration behind one more
+pub answered_next : (rs : List Rule) (c now after : Configuration) (n : ℕ) → now ≡ iterate rs n c → Answers (Ok after) (unless_unfit rs now (round rs now)) → after ≡ iterate rs (n + 1) c
+answered_next rs c now after n is answer =
+    answer_by (is_small rs now) (has_names rs now) after (round rs now) answer ∙ ap (round rs) is ∙ ap (λ k. iterate rs k c) (sym (add-one n))
 
 answered_fault : {T : Type 0} (fault : RoundFault) (answer : Result T RoundFault) → Answers (Err fault) answer → fault ≢ Memory → answer ≡ Err fault
 answered_fault Overgrown answer e apart = sym e

@@ -1,11 +1,12 @@
 //! What the program does for whoever looks at nets, but for its own input and output.
 //!
 //! `reduce` makes rounds of a configuration until no step is possible, and `reduce_stream` does so of the system that
-//! a reader gives. `trace` tells of each round how many equations it fires and what there is behind it, and
+//! a reader gives; a `Maker` makes the rounds, by one thread or by several. `trace` tells of each round how many equations it fires and what there is behind it, and
 //! `trace_stream` writes that as a table or a picture.
 #![tactic(auto)]
 
 pub mod laws;
+mod making;
 mod picture;
 mod reducing;
 mod reduction;
@@ -16,6 +17,7 @@ mod sums;
 mod table;
 mod tracing;
 
+pub use making::{Maker, OneThread, Workers};
 pub use reducing::{Reduced, reduce};
 pub use reduction::Reduction;
 pub use row::Row;

@@ -5,7 +5,8 @@ ghost use Rattle.ic_term.specs.Symbol.{is_over};
 ghost use Rattle.ic_round.specs.Rounds.{IsQuiet, iterate};
 ghost use Rattle.ic_looks.specs.Reducing.{IsReducedBy, IsRefusedAfter};
 
-use ic_round::{RoundFault, quiet, round};
+use crate::making::Maker;
+use ic_round::{RoundFault, quiet};
 use ic_rules::RuleSet;
 use ic_term::Config;
 use std::alloc::Global;
@@ -22,8 +23,9 @@ pub struct Reduced {
 }
 
 /// Makes rounds of a configuration until no step is possible, but at most so many.
-pub fn reduce(
+pub fn reduce<M: Maker>(
     alloc: Global,
+    maker: &M,
     rules: &RuleSet,
     mut config: Config,
     most: u64,
@@ -47,7 +49,7 @@ pub fn reduce(
                 is_quiet: true,
             });
         }
-        config = round(alloc, rules, config)?;
+        config = maker.make(alloc, rules, config)?;
     }
     let is_quiet = quiet(rules, &config);
     Ok(Reduced {

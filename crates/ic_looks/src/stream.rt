@@ -9,6 +9,7 @@ ghost use Rattle.ic_looks.specs.Reductions.{Reduces, EndsAs, Tells};
 ghost use Rattle.ic_looks.specs.Pictures.{shown_as};
 ghost use Rattle.ic_looks.specs.Traces.{Traces};
 
+use crate::making::Maker;
 use crate::picture::picture;
 use crate::reducing::{Reduced, reduce};
 use crate::reduction::Reduction;
@@ -26,10 +27,11 @@ use std::io::{Read, Write};
 /// Makes rounds of the system that the reader gives until no step is possible, but at most so many,
 /// and writes its configuration as a line.
 ///
-/// Nothing is written before the text is read and the rounds are made. A text of more than 262,144 bytes is
-/// `TextFault::Limit`, and at most 262,145 bytes are read.
-pub fn reduce_stream<R: Read, W: Write>(
+/// Nothing is written before the text is read and the rounds are made, and whoever makes them, the line is the same. A text
+/// of more than 262,144 bytes is `TextFault::Limit`, and at most 262,145 bytes are read.
+pub fn reduce_stream<M: Maker, R: Read, W: Write>(
     alloc: Global,
+    maker: &M,
     rounds: u64,
     reader: &mut R,
     writer: &mut W,
@@ -45,7 +47,7 @@ pub fn reduce_stream<R: Read, W: Write>(
         (λ fault. TakesAt fault (R.remaining reader.old) (R.remaining reader.new)) }
 {
     let text = read_text(alloc, reader)?;
-    let (line, reduction) = reduced_line(alloc, &text, rounds)?;
+    let (line, reduction) = reduced_line(alloc, maker, &text, rounds)?;
     write_line(writer, &line)?;
     Ok(reduction)
 }
@@ -103,8 +105,9 @@ fn shown_as(alloc: Global, format: Format, rows: &[Row]) -> Result<Vec<u8>, Allo
 }
 
 /// The line of a text that is reduced by at most so many rounds, and how they ended.
-fn reduced_line(
+fn reduced_line<M: Maker>(
     alloc: Global,
+    maker: &M,
     text: &[u8],
     rounds: u64,
 ) -> Result<(Vec<u8>, Reduction), StreamFault>
@@ -115,7 +118,7 @@ fn reduced_line(
         (λ fault. (fault ≢ StreamFault.Write) × (fault ≢ StreamFault.Read)) }
 {
     let (rules, config) = read_system(alloc, text)?.into_parts();
-    let reduced = reduce(alloc, &rules, config, rounds)?;
+    let reduced = reduce(alloc, maker, &rules, config, rounds)?;
     let line = config_line(alloc, rules.symbols(), &reduced.config)?;
     let reduction = ending(alloc, &rules, &reduced)?;
     Ok((line, reduction))

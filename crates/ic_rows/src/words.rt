@@ -39,7 +39,7 @@ pub fn words(alloc: Global, line: &str) -> Result<Vec<u8>, Trouble> {
             }
             asked
         }
-        Ok(Task::Reduce { rounds }) => format!(in alloc; "reduce {rounds}")?,
+        Ok(Task::Reduce { rounds, workers }) => format!(in alloc; "reduce {rounds} {workers}")?,
         Ok(Task::Trace { rounds, format }) => {
             let format = match format {
                 TraceFormat::Tsv => "tsv",
@@ -47,6 +47,7 @@ pub fn words(alloc: Global, line: &str) -> Result<Vec<u8>, Trouble> {
             };
             format!(in alloc; "trace {rounds} {format}")?
         }
+        Ok(Task::Draw) => String::from_str(alloc, "draw")?,
         Ok(Task::Help(text)) => of_part(alloc, "help", &text, part)?,
         Ok(Task::Version(text)) => format!(in alloc; "version {text}")?,
         Err(WordsFault::Words(text)) => of_part(alloc, "refused", &text, part)?,

@@ -7,7 +7,7 @@ use Rattle.clap.specs.declared.error.ErrorKind.TheVariants.{InvalidValue}
 use Rattle.ic_words.specs.Words.{AnswersWords, GivesTask, Names, command_line, format_word, is_format, mistakes_of, most_rounds}
 use Rattle.ic_words.specs.inner.Asking.{Asks}
 use Rattle.ic_words.specs.declared.words.Task.{Task}
-use Rattle.ic_words.specs.declared.words.Task.TheVariants.{Settle, Once, Create, Serve, Attend, Reduce, Trace, Help, Version}
+use Rattle.ic_words.specs.declared.words.Task.TheVariants.{Settle, Once, Create, Serve, Attend, Reduce, Trace, Draw, Help, Version}
 use Rattle.ic_words.specs.declared.words.TraceFormat.{TraceFormat}
 use Rattle.ic_words.specs.declared.words.TraceFormat.TheVariants.{Tsv, Svg}
 use Rattle.ic_words.specs.declared.words.WordsFault.{WordsFault}
@@ -79,11 +79,16 @@ asked words none called (Ok (Attend disk runners turns workers scripts)) asks =
       settle = λ is. absurd (no_other_alone (codes "attend") (codes "settle") words asks.0 settle_met refl is);
       once = λ is. absurd (no_other_alone (codes "attend") (codes "once") words asks.0 once_met refl is);
     }
-asked words none called (Ok (Reduce rounds)) asks =
+asked words none called (Ok (Reduce rounds workers)) asks =
     let begins = called_as called.0 (codes "reduce") words called.1 asks.0 in
+    let spelt = reduce_numbers words none begins in
     record {
       answers = ap₂ or_else none (no_format (codes "reduce") _ asks.0 refl);
-      named = (begins, number_named (codes "rounds") 0 most_rounds rounds words _ (reduce_numbers words none begins) refl asks.1);
+      named = (
+        begins,
+        number_named (codes "rounds") 0 most_rounds rounds words _ spelt.0 refl asks.1,
+        number_named (codes "workers") 1 64 workers words _ spelt.1 refl asks.2,
+      );
       settle = λ is. absurd (no_other_alone (codes "reduce") (codes "settle") words asks.0 settle_met refl is);
       once = λ is. absurd (no_other_alone (codes "reduce") (codes "once") words asks.0 once_met refl is);
     }
@@ -95,6 +100,12 @@ asked words none called (Ok (Trace rounds format)) asks =
       settle = λ is. absurd (no_other_alone (codes "trace") (codes "settle") words asks.0 settle_met refl is);
       once = λ is. absurd (no_other_alone (codes "trace") (codes "once") words asks.0 once_met refl is);
     }
+asked words none called (Ok Draw) asks = record {
+  answers = ap₂ or_else none (no_format (codes "draw") _ asks refl);
+  named = called_as called.0 (codes "draw") words called.1 asks;
+  settle = λ is. absurd (no_other_alone (codes "draw") (codes "settle") words asks settle_met refl is);
+  once = λ is. absurd (no_other_alone (codes "draw") (codes "once") words asks once_met refl is);
+}
 asked words none called (Ok (Help text)) asks = absurd asks
 asked words none called (Ok (Version text)) asks = absurd asks
 asked words none called (Err (Words text)) asks = record {

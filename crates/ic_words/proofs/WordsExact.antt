@@ -118,7 +118,7 @@ dashes = 45 ∷ 45 ∷ []
 abbrev pub names_below : Bool → Names
 names_below true = []
 names_below false = (codes "settle", []) ∷ (codes "once", []) ∷ (codes "create", []) ∷ (codes "serve", []) ∷ (codes "attend", [])
-    ∷ (codes "reduce", []) ∷ (codes "trace", []) ∷ []
+    ∷ (codes "reduce", []) ∷ (codes "trace", []) ∷ (codes "draw", []) ∷ []
 
 behind_dashes : (base : Shape) (leaf : Bool) (u : Text)
     → turn_fault (level base leaf) (names_below leaf) (walked (rules leaf) (names_below leaf) (walk_from nothing_held) dashes) u ≡ [] → ⊥
@@ -194,6 +194,10 @@ pub trace_stands : (words : List Text) → walk (rules false) (names_below false
 unfolding walked
 trace_stands words = stopped_with (codes "trace") [] words
 
+pub draw_stands : (words : List Text) → walk (rules false) (names_below false) nothing_held (codes "draw" ∷ words) ≡ stopped_at (codes "draw") words
+unfolding walked
+draw_stands words = stopped_with (codes "draw") [] words
+
 -- the walk over a command's words stops behind its name
 pub stops : (name : Text) (words : List Text) → walk (rules false) (names_below false) nothing_held (name ∷ words) ≡ stopped_at name words
     → (walk (rules false) (names_below false) nothing_held (name ∷ words)).stopped ≡ Some (name, words)
@@ -214,6 +218,11 @@ after_once words e =
     let free : level_fault (below 1) [] nothing_held words false [] ≡ [] = ap (entered_fault (built command_line)) (sym (stops (codes "once") words (once_stands words))) ∙ level_free _ e in
     level_words (below 1) true words (λ v vs is. refl) (both_empty _ _ free).0
 
+after_draw : (words : List Text) → fault_of command_line (codes "draw" ∷ words) ≡ [] → (words ≡ []) ⊎ (words ≡ dashes ∷ [])
+after_draw words e =
+    let free : level_fault (below 7) [] nothing_held words false [] ≡ [] = ap (entered_fault (built command_line)) (sym (stops (codes "draw") words (draw_stands words))) ∙ level_free _ e in
+    level_words (below 7) true words (λ v vs is. refl) (both_empty _ _ free).0
+
 dashes_alone : fault_of command_line (dashes ∷ []) ≡ [] → ⊥
 unfolding clap_on_literals
 dashes_alone e = cc
@@ -225,7 +234,7 @@ none_alone e = cc
 another_word : (v : Text) (vs : List Text) → AllByRecursion (λ name. bytes_eq name v ≡ false) commands → fault_of command_line (v ∷ vs) ≡ [] → ⊥
 another_word v vs others e =
     let met : subcommand_met (names_below false) idle v ≡ None =
-    rw (others.0, others.1.0, others.1.1.0, others.1.1.1.0, others.1.1.1.1.0, others.1.1.1.1.1.0, others.1.1.1.1.1.1.0) refl in
+    rw (others.0, others.1.0, others.1.1.0, others.1.1.1.0, others.1.1.1.1.0, others.1.1.1.1.1.0, others.1.1.1.1.1.1.0, others.1.1.1.1.1.1.1.0) refl in
     let none : (w : Text) (ws : List Text) → v ∷ vs ≡ w ∷ ws → subcommand_met (names_below false) idle w ≡ None = λ w ws is. (let same : v ≡ w = cc in rw (← same) met) in
     elim (level_words top false (v ∷ vs) none (both_empty _ _ e).0) [
       | inl empty ↦ cc
@@ -243,7 +252,7 @@ named_first name vs after e =
 
 -- a command that has no options is named alone, or with `--` behind it
 abbrev pub is_bare : Text → Bool
-is_bare name = bytes_eq name (codes "settle") || bytes_eq name (codes "once")
+is_bare name = bytes_eq name (codes "settle") || bytes_eq name (codes "once") || bytes_eq name (codes "draw")
 
 abbrev pub ByBareness : Bool → Text → List Text → Type 0
 ByBareness true name words = NamesCommand name words
@@ -266,7 +275,8 @@ called_by v vs (inr (inr (inr (inl is)))) e = is_called v (codes "serve") vs is 
 called_by v vs (inr (inr (inr (inr (inl is))))) e = is_called v (codes "attend") vs is e (λ none. (vs, refl))
 called_by v vs (inr (inr (inr (inr (inr (inl is)))))) e = is_called v (codes "reduce") vs is e (λ none. (vs, refl))
 called_by v vs (inr (inr (inr (inr (inr (inr (inl is))))))) e = is_called v (codes "trace") vs is e (λ none. (vs, refl))
-called_by v vs (inr (inr (inr (inr (inr (inr (inr none))))))) e = absurd none
+called_by v vs (inr (inr (inr (inr (inr (inr (inr (inl is)))))))) e = is_called v (codes "draw") vs is e (named_first (codes "draw") vs after_draw)
+called_by v vs (inr (inr (inr (inr (inr (inr (inr (inr none)))))))) e = absurd none
 
 -- a text is one of these, or none
 in_or_none : (v : Text) (names : List Text) → IsIn v names ⊎ AllByRecursion (λ name. bytes_eq name v ≡ false) names

@@ -16,6 +16,7 @@ program_help = text_of (codes "A job server for the interaction calculus"
     ∷ codes "To look at a system, which is read from standard input:"
     ∷ codes "  reduce  Makes rounds until no step is possible, and prints the configuration"
     ∷ codes "  trace   Tells what each of these rounds does, as a table or a picture"
+    ∷ codes "  draw    Draws the net of a configuration as a graph, with its rules or without"
     ∷ codes "  once    Makes one round, and prints the configuration"
     ∷ codes "  settle  Settles a configuration that has no rules, and prints it"
     ∷ []
@@ -98,9 +99,11 @@ reduce_help = text_of ((codes "Makes rounds of the system on standard input unti
     ∷ codes "Usage: icserve reduce [OPTIONS]"
     ∷ []
     ∷ codes "Options:"
-    ∷ (codes "      --rounds <N>  How many rounds are made at most, from 0 to"
+    ∷ (codes "      --rounds <N>   How many rounds are made at most, from 0 to"
     ++ codes " 4611686018427387904 [default: 1000000]")
-    ∷ codes "  -h, --help        Print help"
+    ∷ (codes "      --workers <N>  Threads for a round of 1000 equations or more,"
+    ++ codes " from 1 to 64 [default: 2]")
+    ∷ codes "  -h, --help         Print help"
     ∷ []
     ∷ codes "The exit status is 5 where a step is still possible behind the last round."
     ∷ [])
@@ -117,6 +120,17 @@ trace_help = text_of (codes "Tells what the rounds of the system on standard inp
     ∷ codes "  -h, --help             Print help"
     ∷ [])
 
+abbrev pub draw_help : Text
+draw_help = text_of (codes "Draws the net of the configuration on standard input as a graph in Graphviz's DOT"
+    ∷ []
+    ∷ codes "Usage: icserve draw"
+    ∷ []
+    ∷ codes "Options:"
+    ∷ codes "  -h, --help  Print help"
+    ∷ []
+    ∷ codes "Rules may stand before the configuration: active pairs stand out then."
+    ∷ [])
+
 -- the help that words ask for: that of the command that the first one names, or the program's
 abbrev pub help_of : List Text → Text
 help_of [] = program_help
@@ -126,7 +140,8 @@ help_of (word ∷ words) = if bytes_eq word (codes "settle") then settle_help
     else if bytes_eq word (codes "serve") then serve_help
     else if bytes_eq word (codes "attend") then attend_help
     else if bytes_eq word (codes "reduce") then reduce_help
-    else if bytes_eq word (codes "trace") then trace_help else program_help
+    else if bytes_eq word (codes "trace") then trace_help
+    else if bytes_eq word (codes "draw") then draw_help else program_help
 
 -- this part stands in a text
 abbrev pub Says : Text → Text → Type 0

@@ -42,9 +42,14 @@ IsAttendOption given = (given.name ≡ codes "disk")
     ⊎ (((given.name ≡ codes "turns") × IsWithin 0 1000000 given.value)
     ⊎ ((given.name ≡ codes "workers") × IsWithin 1 64 given.value)))
 
--- an option of `reduce`: a number of rounds
+-- a number of rounds
+abbrev pub IsRoundsOption : Given → Type 0
+IsRoundsOption given = (given.name ≡ codes "rounds") × IsWithin 0 most_rounds given.value
+
+-- an option of `reduce`: a number of rounds, or of threads
 abbrev pub IsReduceOption : Given → Type 0
-IsReduceOption given = (given.name ≡ codes "rounds") × IsWithin 0 most_rounds given.value
+IsReduceOption given = IsRoundsOption given
+    ⊎ ((given.name ≡ codes "workers") × IsWithin 1 64 given.value)
 
 -- one of the formats
 abbrev pub IsFormatText : Text → Type 0
@@ -52,7 +57,7 @@ IsFormatText text = (text ≡ codes "tsv") ⊎ (text ≡ codes "svg")
 
 -- an option of `trace`: a number of rounds, or a format
 abbrev pub IsTraceOption : Given → Type 0
-IsTraceOption given = IsReduceOption given
+IsTraceOption given = IsRoundsOption given
     ⊎ ((given.name ≡ codes "format") × IsFormatText given.value)
 
 -- `create --disk F`
@@ -104,8 +109,8 @@ pub record IsAttendLine (words : List Text) (path r t n : Text) (scripts : List 
   pub plain : AllByRecursion HasNoHyphen scripts
   pub few : length scripts < 2 ^ 64
 
--- `reduce`, with `--rounds N` or without
-pub record IsReduceLine (words : List Text) (most : Text) : Type 0 where
+-- `reduce`, with `--rounds N` and `--workers W` or without, in any order, each once
+pub record IsReduceLine (words : List Text) (most threads : Text) : Type 0 where
   pub given : List Given
   pub rest : List Text
   pub begins : words ≡ codes "reduce" ∷ rest
@@ -113,6 +118,7 @@ pub record IsReduceLine (words : List Text) (most : Text) : Type 0 where
   pub options : AllByRecursion IsReduceOption given
   pub once : AreOnce given
   pub rounds : HasValue given (codes "rounds") (codes "1000000") most
+  pub workers : HasValue given (codes "workers") (codes "2") threads
 
 -- `trace`, with `--rounds N` and `--format tsv|svg` or without, in any order, each once
 pub record IsTraceLine (words : List Text) (most shown : Text) : Type 0 where

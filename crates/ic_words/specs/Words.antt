@@ -14,7 +14,7 @@ use Rattle.clap.specs.declared.error.ErrorKind.{ErrorKind}
 use Rattle.clap.specs.declared.error.ErrorKind.TheVariants.{DisplayHelp, DisplayVersion, InvalidValue}
 use Rattle.ic_words.specs.declared.words.Task.{Task}
 use Rattle.ic_words.specs.declared.words.Task.TheVariants.{Settle, Once, Create, Serve, Attend}
-use Rattle.ic_words.specs.declared.words.Task.TheVariants.{Reduce, Trace, Help, Version}
+use Rattle.ic_words.specs.declared.words.Task.TheVariants.{Reduce, Trace, Draw, Help, Version}
 use Rattle.ic_words.specs.declared.words.TraceFormat.{TraceFormat}
 use Rattle.ic_words.specs.declared.words.TraceFormat.TheVariants.{Tsv, Svg}
 use Rattle.ic_words.specs.Help.{help_of, program_help}
@@ -119,7 +119,7 @@ format_option = record (new_rule (codes "format")) {
 }
 
 abbrev pub reduce_command : App
-reduce_command = with_rule (new_app (codes "reduce")) rounds_option
+reduce_command = with_rule (with_rule (new_app (codes "reduce")) rounds_option) workers_option
 
 abbrev pub trace_command : App
 trace_command = with_rule (with_rule (new_app (codes "trace")) rounds_option) format_option
@@ -134,9 +134,10 @@ abbrev pub with_disks : App
 with_disks = with_subcommand (with_subcommand (with_subcommand with_streams create_command.top)
     serve_command.top) attend_command.top
 
--- the command line of the program, which has `reduce` and `trace`, too
+-- the command line of the program, which has `reduce`, `trace` and `draw`, too
 abbrev pub command_line : App
-command_line = with_subcommand (with_subcommand with_disks reduce_command.top) trace_command.top
+command_line = with_subcommand (with_subcommand (with_subcommand with_disks reduce_command.top)
+    trace_command.top) (new_app (codes "draw")).top
 
 -- the line that tells the version
 abbrev pub version_line : List ℕ
@@ -180,8 +181,9 @@ AnswersWords mistakes (Ok Once) = mistakes ≡ []
 AnswersWords mistakes (Ok (Create disk)) = mistakes ≡ []
 AnswersWords mistakes (Ok (Serve disk workers every)) = mistakes ≡ []
 AnswersWords mistakes (Ok (Attend disk runners turns workers scripts)) = mistakes ≡ []
-AnswersWords mistakes (Ok (Reduce rounds)) = mistakes ≡ []
+AnswersWords mistakes (Ok (Reduce rounds workers)) = mistakes ≡ []
 AnswersWords mistakes (Ok (Trace rounds format)) = mistakes ≡ []
+AnswersWords mistakes (Ok Draw) = mistakes ≡ []
 AnswersWords mistakes (Ok (Help text)) = IsAmong DisplayHelp mistakes
 AnswersWords mistakes (Ok (Version text)) =
     IsAmong DisplayVersion mistakes × (string_bytes text ≡ version_line)
@@ -204,8 +206,9 @@ GivesHelp (Ok Once) = ⊥
 GivesHelp (Ok (Create disk)) = ⊥
 GivesHelp (Ok (Serve disk workers every)) = ⊥
 GivesHelp (Ok (Attend disk runners turns workers scripts)) = ⊥
-GivesHelp (Ok (Reduce rounds)) = ⊥
+GivesHelp (Ok (Reduce rounds workers)) = ⊥
 GivesHelp (Ok (Trace rounds format)) = ⊥
+GivesHelp (Ok Draw) = ⊥
 GivesHelp (Ok (Version text)) = ⊥
 GivesHelp (Err (Words text)) = ⊥
 
@@ -218,8 +221,9 @@ GivesVersion (Ok Once) = ⊥
 GivesVersion (Ok (Create disk)) = ⊥
 GivesVersion (Ok (Serve disk workers every)) = ⊥
 GivesVersion (Ok (Attend disk runners turns workers scripts)) = ⊥
-GivesVersion (Ok (Reduce rounds)) = ⊥
+GivesVersion (Ok (Reduce rounds workers)) = ⊥
 GivesVersion (Ok (Trace rounds format)) = ⊥
+GivesVersion (Ok Draw) = ⊥
 GivesVersion (Ok (Help text)) = ⊥
 GivesVersion (Err (Words text)) = ⊥
 
@@ -273,10 +277,12 @@ Names words (Serve disk workers every) = BeginsWith (codes "serve") words
     × IsNumberOf (codes "every") 1 1000000 words every
 Names words (Attend disk runners turns workers scripts) =
     NamesAttend words (string_bytes disk) runners turns workers (map string_bytes scripts.items)
-Names words (Reduce rounds) = BeginsWith (codes "reduce") words
+Names words (Reduce rounds workers) = BeginsWith (codes "reduce") words
     × IsNumberOf (codes "rounds") 0 most_rounds words rounds
+    × IsNumberOf (codes "workers") 1 64 words workers
 Names words (Trace rounds format) = BeginsWith (codes "trace") words
     × IsNumberOf (codes "rounds") 0 most_rounds words rounds
     × (value_met (codes "format") (subcommand_of command_line words) ≡ format_word format)
+Names words Draw = NamesCommand (codes "draw") words
 Names words (Help text) = string_bytes text ≡ help_of words
 Names words (Version text) = string_bytes text ≡ version_line

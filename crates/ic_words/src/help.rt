@@ -12,6 +12,7 @@ Usage: icserve <COMMAND>
 To look at a system, which is read from standard input:
   reduce  Makes rounds until no step is possible, and prints the configuration
   trace   Tells what each of these rounds does, as a table or a picture
+  draw    Draws the net of a configuration as a graph, with its rules or without
   once    Makes one round, and prints the configuration
   settle  Settles a configuration that has no rules, and prints it
 
@@ -93,8 +94,9 @@ Makes rounds of the system on standard input until no step is possible, and prin
 Usage: icserve reduce [OPTIONS]
 
 Options:
-      --rounds <N>  How many rounds are made at most, from 0 to 4611686018427387904 [default: 1000000]
-  -h, --help        Print help
+      --rounds <N>   How many rounds are made at most, from 0 to 4611686018427387904 [default: 1000000]
+      --workers <N>  Threads for a round of 1000 equations or more, from 1 to 64 [default: 2]
+  -h, --help         Print help
 
 The exit status is 5 where a step is still possible behind the last round.
 ";
@@ -109,6 +111,18 @@ Options:
       --rounds <N>       How many rounds are made at most, from 0 to 4611686018427387904 [default: 1000000]
       --format <FORMAT>  A table with tabs (tsv) or a picture (svg) [default: tsv]
   -h, --help             Print help
+";
+
+/// The help of `draw`.
+const DRAW: &str = "\
+Draws the net of the configuration on standard input as a graph in Graphviz's DOT
+
+Usage: icserve draw
+
+Options:
+  -h, --help  Print help
+
+Rules may stand before the configuration: active pairs stand out then.
 ";
 
 /// The help that words ask for: that of the command that the first one names, or the program's.
@@ -126,6 +140,7 @@ pub(crate) fn help_of(words: &[String]) -> &'static str
         "attend" => ATTEND,
         "reduce" => REDUCE,
         "trace" => TRACE,
+        "draw" => DRAW,
         _ => PROGRAM,
     }
 }

@@ -6,12 +6,12 @@ ghost use Rattle.std.specs.Fmt.{decimal};
 ghost use Rattle.clap.specs.Words.{Text};
 ghost use Rattle.clap.specs.declared.error.ErrorKind.{ErrorKind};
 ghost use Rattle.clap.specs.declared.error.ErrorKind.TheVariants.{DisplayHelp, DisplayVersion, InvalidValue};
-ghost use Rattle.ic_words.specs.declared.words.Task.TheVariants.{Settle, Once, Create, Serve, Attend, Reduce, Trace, Help, Version};
+ghost use Rattle.ic_words.specs.declared.words.Task.TheVariants.{Settle, Once, Create, Serve, Attend, Reduce, Trace, Draw, Help, Version};
 ghost use Rattle.ic_words.specs.declared.words.TraceFormat.{TraceFormat};
 ghost use Rattle.ic_words.specs.declared.words.WordsFault.TheVariants.{Words, Memory};
 ghost use Rattle.ic_words.specs.Words.{AnswersWords, format_word, mistakes_of, words_fault_number, IsDecimal, Names};
 ghost use Rattle.ic_words.specs.Help.{help_of, Says, program_help, settle_help, once_help, create_help, serve_help, attend_help};
-ghost use Rattle.ic_words.specs.Help.{reduce_help, trace_help};
+ghost use Rattle.ic_words.specs.Help.{draw_help, reduce_help, trace_help};
 ghost use Rattle.ic_words.specs.Lines.{IsAttendLine, IsCreateLine, IsReduceLine, IsServeLine, IsTraceLine};
 
 /// A number's text is the number in decimal digits, before which a plus may stand, and no other
@@ -47,7 +47,7 @@ pub fn answers_go_by_mistakes(text: &String)
 {}
 
 /// The words that are taken with no value: a command alone, and a `--` behind it. No other words name
-/// `settle` and `once`.
+/// `settle`, `once` and `draw`.
 pub fn commands_are_taken()
     ensures settle { mistakes_of (codes "settle" ∷ []) ≡ [] }
     ensures settled { mistakes_of (codes "settle" ∷ codes "--" ∷ []) ≡ [] }
@@ -55,10 +55,14 @@ pub fn commands_are_taken()
     ensures once_ended { mistakes_of (codes "once" ∷ codes "--" ∷ []) ≡ [] }
     ensures reduce { mistakes_of (codes "reduce" ∷ []) ≡ [] }
     ensures trace { mistakes_of (codes "trace" ∷ []) ≡ [] }
+    ensures draw { mistakes_of (codes "draw" ∷ []) ≡ [] }
+    ensures drawn { mistakes_of (codes "draw" ∷ codes "--" ∷ []) ≡ [] }
     ensures settle_named { (words : List Text) → Names words Settle
         → (words ≡ codes "settle" ∷ []) ⊎ (words ≡ codes "settle" ∷ codes "--" ∷ []) }
     ensures once_named { (words : List Text) → Names words Once
         → (words ≡ codes "once" ∷ []) ⊎ (words ≡ codes "once" ∷ codes "--" ∷ []) }
+    ensures draw_named { (words : List Text) → Names words Draw
+        → (words ≡ codes "draw" ∷ []) ⊎ (words ≡ codes "draw" ∷ codes "--" ∷ []) }
 {}
 
 /// The words that ask for help, at each command too, and those that ask for the version.
@@ -79,6 +83,7 @@ pub fn help_and_version_are_asked()
     ensures reduce { mistakes_of (codes "reduce" ∷ codes "--help" ∷ [])
         ≡ DisplayHelp ∷ [] }
     ensures trace { mistakes_of (codes "trace" ∷ codes "--help" ∷ []) ≡ DisplayHelp ∷ [] }
+    ensures draw { mistakes_of (codes "draw" ∷ codes "--help" ∷ []) ≡ DisplayHelp ∷ [] }
     ensures version { mistakes_of (codes "--version" ∷ []) ≡ DisplayVersion ∷ [] }
     ensures short_version { mistakes_of (codes "-V" ∷ []) ≡ DisplayVersion ∷ [] }
 {}
@@ -94,18 +99,20 @@ pub fn each_command_has_its_help()
     ensures attend { (words : List Text) → help_of (codes "attend" ∷ words) ≡ attend_help }
     ensures reduce { (words : List Text) → help_of (codes "reduce" ∷ words) ≡ reduce_help }
     ensures trace { (words : List Text) → help_of (codes "trace" ∷ words) ≡ trace_help }
+    ensures draw { (words : List Text) → help_of (codes "draw" ∷ words) ≡ draw_help }
     ensures program { (word : Text) (words : List Text) → AllByRecursion (λ name. word ≢ name)
         (codes "settle" ∷ codes "once" ∷ codes "create" ∷ codes "serve" ∷ codes "attend"
-        ∷ codes "reduce" ∷ codes "trace" ∷ [])
+        ∷ codes "reduce" ∷ codes "trace" ∷ codes "draw" ∷ [])
         → help_of (word ∷ words) ≡ program_help }
     ensures commands { AllByRecursion (Says program_help) (codes "  settle  " ∷ codes "  once  "
         ∷ codes "  create  " ∷ codes "  serve  " ∷ codes "  attend  "
-        ∷ codes "  reduce  " ∷ codes "  trace  "
+        ∷ codes "  reduce  " ∷ codes "  trace  " ∷ codes "  draw  "
         ∷ codes "-h, --help" ∷ codes "-V, --version" ∷ []) }
     ensures streams { Says settle_help (codes "icserve settle")
-        × Says once_help (codes "icserve once") }
+        × Says once_help (codes "icserve once") × Says draw_help (codes "icserve draw") }
     ensures rounds { AllByRecursion (Says reduce_help) (codes "icserve reduce" ∷ codes "--rounds <N>"
-        ∷ codes "from 0 to 4611686018427387904 [default: 1000000]" ∷ []) }
+        ∷ codes "from 0 to 4611686018427387904 [default: 1000000]"
+        ∷ codes "--workers <N>" ∷ codes "from 1 to 64 [default: 2]" ∷ []) }
     ensures formats { AllByRecursion (Says trace_help) (codes "icserve trace" ∷ codes "--rounds <N>"
         ∷ codes "from 0 to 4611686018427387904 [default: 1000000]" ∷ codes "--format <FORMAT>"
         ∷ codes "(tsv)" ∷ codes "(svg)" ∷ codes "[default: tsv]" ∷ []) }
@@ -153,12 +160,15 @@ pub fn attend_lines_are_taken(disk: &String, paths: &Vec<String>)
         × (workers ≤ 64) × (map string_bytes paths.now.items ≡ scripts) }
 {}
 
-/// A well-formed line of `reduce` is taken, and names the number that it is given, or 1,000,000.
+/// A well-formed line of `reduce` is taken, in whatever order its options stand, and names the
+/// numbers that it is given, or their defaults: 1,000,000 rounds and 2 workers.
 pub fn reduce_lines_are_taken()
-    ensures taken { (words : List Text) (most : Text) → IsReduceLine words most
+    ensures taken { (words : List Text) (most threads : Text) → IsReduceLine words most threads
         → mistakes_of words ≡ [] }
-    ensures named { (words : List Text) (most : Text) (rounds : ℕ) → IsReduceLine words most
-        → Names words (Reduce rounds) → IsDecimal most rounds × (rounds ≤ 2 ^ 62) }
+    ensures named { (words : List Text) (most threads : Text) (rounds workers : ℕ)
+        → IsReduceLine words most threads → Names words (Reduce rounds workers)
+        → IsDecimal most rounds × IsDecimal threads workers
+        × (rounds ≤ 2 ^ 62) × (1 ≤ workers) × (workers ≤ 64) }
 {}
 
 /// A well-formed line of `trace` is taken, in whatever order its options stand, and names the number

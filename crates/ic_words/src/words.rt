@@ -72,6 +72,8 @@ pub enum Task {
     Reduce {
         /// How many rounds are made at most, from 0 to 2^62.
         rounds: u64,
+        /// How many threads make a round of 1,000 equations or more, from 1 to 64.
+        workers: u32,
     },
     /// Tell what each of these rounds does.
     Trace {
@@ -80,6 +82,8 @@ pub enum Task {
         /// How it is told.
         format: TraceFormat,
     },
+    /// Draw the net of the configuration on standard input.
+    Draw,
     /// Show this help.
     Help(String),
     /// Show this line, which tells the version.
@@ -165,6 +169,7 @@ fn task_of(alloc: Global, matches: &ArgMatches) -> Result<Task, WordsFault>
         Some("attend") => attend_task(alloc, matches),
         Some("reduce") => Ok(reduce_task(matches)),
         Some("trace") => trace_task(alloc, matches),
+        Some("draw") => Ok(Task::Draw),
         _ => unreachable!(),
     }
 }
@@ -218,7 +223,8 @@ fn reduce_task(matches: &ArgMatches) -> Task
     ensures { Asks (subcommand_rows_of matches.now) (Ok result) }
 {
     let rounds = number_of(matches, "rounds", 0, MAX_ROUNDS);
-    Task::Reduce { rounds }
+    let workers = small_number_of(matches, "workers", 1, MAX_WORKERS);
+    Task::Reduce { rounds, workers }
 }
 
 /// The task of `trace`. A format that there isn't is refused as the parser refuses such a value.
@@ -442,7 +448,8 @@ fn reduce_command<'a>(alloc: Global) -> Result<Command<'a>, AllocError>
     ensures local { IfOk result (λ command. (out-Command command).has_globals ≡ false) }
 {
     let rounds = rounds_option(alloc);
-    Command::new(alloc, "reduce").arg(rounds)
+    let workers = workers_option(alloc);
+    Command::new(alloc, "reduce").arg(rounds)?.arg(workers)
 }
 
 /// The command that traces a system.
@@ -499,5 +506,7 @@ fn command<'a>(alloc: Global) -> Result<Command<'a>, AllocError>
     let reduce = reduce_command(alloc)?;
     let program = with_disks(alloc)?.subcommand(reduce)?;
     let trace = trace_command(alloc)?;
-    program.subcommand(trace)
+    let program = program.subcommand(trace)?;
+    let draw = Command::new(alloc, "draw");
+    program.subcommand(draw)
 }

@@ -1,16 +1,28 @@
-//! What the program does for whoever looks at nets, on standard input and output: `reduce` and `trace`.
+//! What the program does for whoever looks at nets, on standard input and output: `reduce`, `trace` and `draw`.
 
 use ic_endings::{Failure, stuck_line};
-use ic_looks::{Format, Reduction, reduce_stream, trace_stream};
+use ic_looks::{Format, Reduction, Workers, reduce_stream, trace_stream};
+use ic_nets::draw_stream;
 use ic_words::TraceFormat;
 use std::io::{self, Write};
+use std::sync::Wait;
+use std::thread::Threads;
 
-/// Makes at most so many rounds until no step is possible, and prints the configuration. A stuck pair is told on
-/// standard error.
-pub(crate) fn reduce(rt: &HostRuntime, rounds: u64) -> Result<(), Failure> {
+/// Makes at most so many rounds until no step is possible, a round of many equations by so many workers, and prints the
+/// configuration. A stuck pair is told on standard error.
+pub(crate) fn reduce<T: Threads + Wait>(
+    rt: &HostRuntime,
+    threads: &T,
+    rounds: u64,
+    workers: u32,
+) -> Result<(), Failure> {
     let mut input = rt.reader();
     let mut output = io::writer(rt);
-    let reduction = reduce_stream(rt.alloc(), rounds, &mut input, &mut output).map_err(
+    let maker = Workers {
+        rt: threads,
+        count: workers as usize,
+    };
+    let reduction = reduce_stream(rt.alloc(), &maker, rounds, &mut input, &mut output).map_err(
         Failure::Stream,
     )?;
     match reduction {
@@ -40,4 +52,11 @@ pub(crate) fn trace(rt: &HostRuntime, rounds: u64, format: TraceFormat) -> Resul
         TraceFormat::Svg => Format::Picture,
     };
     trace_stream(rt.alloc(), rounds, format, &mut input, &mut output).map_err(Failure::Stream)
+}
+
+/// Prints the net of the configuration as a graph.
+pub(crate) fn draw(rt: &HostRuntime) -> Result<(), Failure> {
+    let mut input = rt.reader();
+    let mut output = io::writer(rt);
+    draw_stream(rt.alloc(), &mut input, &mut output).map_err(Failure::Stream)
 }

@@ -61,8 +61,9 @@ fn run<T: Threads + Wait + Sync>(rt: &HostRuntime, threads: &T) -> Result<(), Fa
             let numbers = [runners, turns, workers];
             give(rt, threads, disk, scripts, numbers).map_err(Failure::Attend)
         }
-        Task::Reduce { rounds } => looking::reduce(rt, rounds),
+        Task::Reduce { rounds, workers } => looking::reduce(rt, threads, rounds, workers),
         Task::Trace { rounds, format } => looking::trace(rt, rounds, format),
+        Task::Draw => looking::draw(rt),
         Task::Help(text) | Task::Version(text) => {
             show(&mut output, text.as_str()).map_err(Failure::Stream)
         }

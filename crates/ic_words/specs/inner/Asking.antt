@@ -3,7 +3,7 @@ use Rattle.std.specs.Prelude.{◌≡◌, ◌≤◌, ◌⊎◌, ℕ, List, [], �
 use Rattle.clap.specs.Words.{Row, Text}
 use Rattle.ic_words.specs.Words.{IsDecimal, format_word, is_format, most_rounds, number_met, value_met, values_met}
 use Rattle.ic_words.specs.declared.words.Task.{Task}
-use Rattle.ic_words.specs.declared.words.Task.TheVariants.{Settle, Once, Create, Serve, Attend, Reduce, Trace, Help, Version}
+use Rattle.ic_words.specs.declared.words.Task.TheVariants.{Settle, Once, Create, Serve, Attend, Reduce, Trace, Draw, Help, Version}
 use Rattle.ic_words.specs.declared.words.WordsFault.{WordsFault}
 use Rattle.ic_words.specs.declared.words.WordsFault.TheVariants.{Words, Memory}
 
@@ -19,7 +19,7 @@ IsMet name met = option_map (λ p. p.0) met ≡ Some name
 -- the commands of the program
 abbrev pub commands : List Text
 commands = codes "settle" ∷ codes "once" ∷ codes "create" ∷ codes "serve" ∷ codes "attend"
-    ∷ codes "reduce" ∷ codes "trace" ∷ []
+    ∷ codes "reduce" ∷ codes "trace" ∷ codes "draw" ∷ []
 
 -- it is one of these
 abbrev pub IsIn : Text → List Text → Type 0
@@ -44,11 +44,13 @@ Asks met (Ok (Attend disk runners turns workers scripts)) = IsMet (codes "attend
     × IsReadFrom (codes "runners") 0 64 met runners × IsReadFrom (codes "turns") 0 1000000 met turns
     × IsReadFrom (codes "workers") 1 64 met workers
     × (map string_bytes scripts.items ≡ values_met (codes "script") met)
-Asks met (Ok (Reduce rounds)) = IsMet (codes "reduce") met
+Asks met (Ok (Reduce rounds workers)) = IsMet (codes "reduce") met
     × IsReadFrom (codes "rounds") 0 most_rounds met rounds
+    × IsReadFrom (codes "workers") 1 64 met workers
 Asks met (Ok (Trace rounds format)) = IsMet (codes "trace") met
     × IsReadFrom (codes "rounds") 0 most_rounds met rounds
     × (value_met (codes "format") met ≡ format_word format)
+Asks met (Ok Draw) = IsMet (codes "draw") met
 Asks met (Ok (Help text)) = ⊥
 Asks met (Ok (Version text)) = ⊥
 Asks met (Err (Words text)) = IsMet (codes "trace") met

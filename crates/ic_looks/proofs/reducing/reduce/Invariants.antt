@@ -6,5 +6,5 @@ use Rattle.ic_looks.proofs.reducing.reduce.Given as goal
 
 -- the configuration is the one behind the rounds so far
 abbrev pub invariant-loop-rounds : goal.invariant-loop-rounds
-invariant-loop-rounds l =
+invariant-loop-rounds g l =
     (l.config ≡ iterate l.rules.rules l.rounds l.fn.config) × IsTrue (is_over l.rules.symbols l.config) × AreMade l.rules.rules l.fn.config l.rounds

@@ -31,3 +31,14 @@ returns-clause-reduce c = refl
 pub returns-clause-trace : goal.returns-clause-trace
 unfolding clap_on_literals
 returns-clause-trace c = refl
+
+pub returns-clause-draw : goal.returns-clause-draw
+unfolding clap_on_literals
+returns-clause-draw c = refl
+
+pub returns-clause-drawn : goal.returns-clause-drawn
+unfolding clap_on_literals
+returns-clause-drawn c = refl
+
+pub returns-clause-draw_named : goal.returns-clause-draw_named
+returns-clause-draw_named c = λ words names. names

@@ -18,10 +18,10 @@ pub returns-clause-attend : goal.returns-clause-attend
 returns-clause-attend c = λ words. refl
 
 pub returns-clause-program : goal.returns-clause-program
-returns-clause-program c = λ word words other. other_help word words other.0 other.1.0 other.1.1.0 other.1.1.1.0 other.1.1.1.1.0 other.1.1.1.1.1.0 other.1.1.1.1.1.1.0
+returns-clause-program c = λ word words other. other_help word words other.0 other.1.0 other.1.1.0 other.1.1.1.0 other.1.1.1.1.0 other.1.1.1.1.1.0 other.1.1.1.1.1.1.0 other.1.1.1.1.1.1.1.0
 
 pub returns-clause-commands : goal.returns-clause-commands
-returns-clause-commands c = ((332, refl), ((276, refl), ((436, refl), ((495, refl), ((568, refl), ((125, refl), ((204, refl), ((670, refl), ((698, refl), tt)))))))))
+returns-clause-commands c = ((413, refl), ((357, refl), ((517, refl), ((576, refl), ((649, refl), ((125, refl), ((204, refl), ((276, refl), ((751, refl), ((779, refl), tt))))))))))
 
 pub returns-clause-reduce : goal.returns-clause-reduce
 returns-clause-reduce c = λ words. refl
@@ -29,14 +29,17 @@ returns-clause-reduce c = λ words. refl
 pub returns-clause-trace : goal.returns-clause-trace
 returns-clause-trace c = λ words. refl
 
+pub returns-clause-draw : goal.returns-clause-draw
+returns-clause-draw c = λ words. refl
+
 pub returns-clause-rounds : goal.returns-clause-rounds
-returns-clause-rounds c = ((109, refl), ((150, refl), ((198, refl), tt)))
+returns-clause-rounds c = ((109, refl), ((150, refl), ((199, refl), ((254, refl), ((316, refl), tt)))))
 
 pub returns-clause-formats : goal.returns-clause-formats
 returns-clause-formats c = ((92, refl), ((132, refl), ((185, refl), ((240, refl), ((277, refl), ((296, refl), ((302, refl), tt)))))))
 
 pub returns-clause-streams : goal.returns-clause-streams
-returns-clause-streams c = ((66, refl), (85, refl))
+returns-clause-streams c = ((66, refl), (85, refl), (90, refl))
 
 pub returns-clause-disk : goal.returns-clause-disk
 returns-clause-disk c = ((57, refl), ((72, refl), tt))

@@ -49,3 +49,7 @@ returns-clause-reduce c = refl
 pub returns-clause-trace : goal.returns-clause-trace
 unfolding clap_on_literals
 returns-clause-trace c = refl
+
+pub returns-clause-draw : goal.returns-clause-draw
+unfolding clap_on_literals
+returns-clause-draw c = refl

@@ -6,8 +6,10 @@ use Rattle.ic_words.proofs.words.reduce_command.Goals as goal
 pub returns : goal.returns
 returns c =
     let bare : app_of c.new.result ≡ new_app (codes "reduce") = c.new.ensures.app in
-    let option = c.rounds_option-rounds.ensures in
+    let rounds = c.rounds_option-rounds.ensures in
+    let workers = c.workers_option-workers.ensures in
+    let first = c.in_ok-arg.ensures.shape rounds.local ∙ ap₂ with_rule bare rounds.rule in
     record {
-      shape = IfOk-weaker c.arg.result _ _ (λ command h. h.shape option.local ∙ ap₂ with_rule bare option.rule) c.arg.ensures;
-      local = IfOk-weaker c.arg.result _ _ (λ command h. h.globals ∙ search rules) c.arg.ensures;
+      shape = IfOk-weaker c.arg-2.result _ _ (λ command h. h.shape workers.local ∙ ap₂ with_rule first workers.rule) c.arg-2.ensures;
+      local = IfOk-weaker c.arg-2.result _ _ (λ command h. h.globals ∙ search rules) c.arg-2.ensures;
     }

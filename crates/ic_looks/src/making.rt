@@ -1,0 +1,59 @@
+//! Who makes rounds: one thread, or several.
+
+ghost use Rattle.std.specs.Prelude.{IsTrue, IfOk};
+ghost use Rattle.ic_term.specs.Symbol.{is_over};
+ghost use Rattle.ic_round.specs.Rounds.{round, unless_unfit};
+ghost use Rattle.ic_round.specs.RoundAnswers.{Answers};
+
+use ic_pool::{OpenGate, round_by_workers};
+use ic_round::{RoundFault, round};
+use ic_rules::RuleSet;
+use ic_term::Config;
+use std::alloc::Global;
+use std::sync::Wait;
+use std::thread::Threads;
+
+/// A round of fewer equations is made by the calling thread alone: to start others takes longer.
+const FEW: usize = 1_000;
+
+/// What makes rounds. Whoever makes them, they are the same rounds, with the same refusals.
+pub trait Maker {
+    /// The configuration after one round under these rules.
+    fn make(&self, alloc: Global, rules: &RuleSet, config: Config) -> Result<Config, RoundFault>
+        requires { IsTrue (is_over rules.now.symbols config) }
+        ensures round { Answers result
+            (unless_unfit rules.now.rules config (round rules.now.rules config)) }
+        ensures over { IfOk result (λ after. IsTrue (is_over rules.now.symbols after)) };
+}
+
+/// The calling thread alone.
+#[derive(Clone, Copy, Debug)]
+pub struct OneThread;
+
+impl Maker for OneThread {
+    fn make(&self, alloc: Global, rules: &RuleSet, config: Config) -> Result<Config, RoundFault> {
+        round(alloc, rules, config)
+    }
+}
+
+/// Threads of a runtime, at most so many for a round of 1,000 equations or more. Where they make none, as where
+/// a thread can't be started, the calling thread does.
+#[derive(Drop)]
+pub struct Workers<'a, R: Threads + Wait> {
+    pub rt: &'a R,
+    pub count: usize,
+}
+
+impl<R: Threads + Wait> Maker for Workers<'_, R> {
+    fn make(&self, alloc: Global, rules: &RuleSet, config: Config) -> Result<Config, RoundFault> {
+        if self.count > 1 && config.equations().len() >= FEW {
+            let copy = config.copy(alloc)?;
+            if let Ok(after) = round_by_workers(
+                self.rt, alloc, rules, copy, self.count, &OpenGate,
+            ) {
+                return Ok(after);
+            }
+        }
+        round(alloc, rules, config)
+    }
+}
