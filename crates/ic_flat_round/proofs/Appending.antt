@@ -1,5 +1,5 @@
 -- What is appended to a list within its room, part by part.
-use Rattle.std.proofs.Common.{◌+◌, List, [], ◌++◌, length-append, append-nil, append_assoc, refl, sym, ap, ◌∙◌, arith}
+use Rattle.std.proofs.Common.{List, [], ◌++◌, length-append, append-nil, append_assoc, refl, sym, ap, ◌∙◌, arith}
 use Rattle.std.specs.Prelude.{Vec}
 use Rattle.ic_flat_round.specs.inner.Room.{HasRoom, Appended, GoesOn}
 

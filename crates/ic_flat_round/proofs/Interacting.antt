@@ -7,10 +7,11 @@ use Rattle.std.specs.Cmp.{unsigned_Decides}
 use Rattle.std.proofs.lemmas.Bool.{and_parts}
 use Rattle.std.proofs.lemmas.List.{length-append, length-take-le, length-drop, take_all, take_at, drop_at}
 use Rattle.std.proofs.lemmas.List.Concat.{flat_map-append}
-use Rattle.std.proofs.Common.{min, cond, Ok, Err}
+use Rattle.std.proofs.Common.{min, cond, Result, Ok, Err}
 use Rattle.std.proofs.lemmas.Grind.{common_steps}
 use Rattle.ic_term.specs.declared.limits.TheConstants.{MAX_NODES}
 use Rattle.ic_round.specs.Rounds.{is_small, has_names, unless_unfit}
+use Rattle.ic_round.specs.declared.round_fault.RoundFault.{RoundFault}
 use Rattle.ic_round.specs.declared.round_fault.RoundFault.TheVariants.{Overgrown, NamesOut}
 use Rattle.std.proofs.lemmas.Option.{same_Some}
 use Rattle.ic_term.specs.Configuration.{Configuration, IsConfiguration, configuration_nodes}
@@ -234,3 +235,12 @@ answered rs c d small low =
     let first : is_small rs c ≡ true = grind (arith, common_steps, small) in
     let second : has_names rs c ≡ true = grind (arith, common_steps, low) in
     (λ i. cond (first i) (cond (second i) (Ok d) (Err NamesOut)) (Err Overgrown))
+
+-- what a round fires where it fits
+pub fired_where_fit : (rs : List Rule) (c v w : Configuration) → Ok v ≡ unless_unfit rs c w → v ≡ w
+fired_where_fit rs c v w e = by (is_small rs c) (has_names rs c) e
+  where
+    by : (a b : Bool) → ◌≡◌ {A = Result Configuration RoundFault} (Ok v) (cond a (cond b (Ok w) (Err NamesOut)) (Err Overgrown)) → v ≡ w
+    by true true e = cc
+    by true false e = cc
+    by false b e = cc

@@ -2,3 +2,10 @@ pub mod WordPlaces
 pub mod Appending
 pub mod RaisedWords
 pub mod Interacting
+pub mod BoundPlaces
+pub mod PassingWords
+pub mod SettledWords
+pub mod HeadLemmas
+pub mod PutWords
+pub mod StackedSpans
+pub mod WrittenSpans

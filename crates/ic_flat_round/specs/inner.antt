@@ -2,3 +2,6 @@
 pub mod Standing
 pub mod Room
 pub mod RuleWords
+pub mod Heads
+pub mod Waits
+pub mod Rebuilding

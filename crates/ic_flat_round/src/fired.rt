@@ -1,6 +1,6 @@
 //! Configurations with all their active equations fired.
 
-ghost use Rattle.std.specs.Prelude.{◌≡◌, ℕ, ◌+◌, ◌*◌, ◌≤◌, length, true, IsTrue};
+ghost use Rattle.std.specs.Prelude.{◌≡◌, ℕ, ◌+◌, ◌*◌, ◌≤◌, length, true, IfOk, IsTrue};
 ghost use Rattle.std.specs.List.{list_all};
 ghost use Rattle.ic_term.specs.declared.limits.TheConstants.{MAX_NEXT};
 ghost use Rattle.ic_term.specs.Symbol.{is_over, is_pair_over};
@@ -98,8 +98,9 @@ fn put_configuration(rules: &FlatRules, flat: &Flat, out: &mut Vec<Word>) -> u64
 /// The configuration with all its active equations fired, and not settled. Takes memory for it alone.
 pub fn fire(alloc: Global, rules: &FlatRules, flat: &Flat) -> Result<Flat, RoundFault>
     requires { IsTrue (is_over rules.now.symbols flat.now) }
-    ensures { Answers result
+    ensures fired { Answers result
         (unless_unfit rules.now.rules flat.now (fired rules.now.rules flat.now)) }
+    ensures over { IfOk result (λ after. IsTrue (is_over rules.now.symbols after)) }
 {
     let size = fired_size(rules.rules(), flat);
     if size.nodes > MAX_NODES {

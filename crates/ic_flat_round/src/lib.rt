@@ -5,17 +5,25 @@
 //! whose sides are ready to be copied as words.
 #![tactic(auto)]
 
+mod bound;
+mod containers;
 mod ended;
 mod fired;
 mod firing;
 mod fitting;
 mod flat_rules;
 mod growth;
+mod pass;
 mod places;
 mod quietness;
+mod rebuilding;
+mod rounds;
+mod settling;
 
 pub use ended::is_settled;
 pub use fired::fire;
 pub use fitting::fits;
 pub use flat_rules::FlatRules;
 pub use quietness::quiet;
+pub use rounds::round;
+pub use settling::settle;

@@ -1,15 +1,16 @@
 use Rattle.std.proofs.Common.{◌≡◌, ◌+◌, ◌*◌, ◌++◌, ◌≤◌, ◌∙◌, Ok, min, length, ap, sym, arith}
 use Rattle.ic_term.specs.Configuration.{configuration_nodes}
 use Rattle.ic_term.specs.declared.limits.TheConstants.{MAX_NODES, MAX_NEXT}
+use Rattle.ic_term.specs.Symbol.{is_over}
 use Rattle.ic_rules.specs.RuleSet.{Rules}
 use Rattle.ic_round.specs.Firing.{fired}
-use Rattle.ic_round.specs.lemmas.RoundLemmas.{sound_over, fired_is}
+use Rattle.ic_round.specs.lemmas.RoundLemmas.{sound_over, fired_is, fired_is_over}
 use Rattle.ic_round.specs.lemmas.Words.{u64_MAX}
 use Rattle.ic_flat.specs.Words.{forest}
 use Rattle.ic_flat.specs.Flat.{configuration_words}
 use Rattle.ic_flat.specs.lemmas.FlatLaws.{nodes-words, counted-configuration_words}
 use Rattle.ic_flat_round.proofs.WordPlaces.{whole_words}
-use Rattle.ic_flat_round.proofs.Interacting.{flat_parts, answered}
+use Rattle.ic_flat_round.proofs.Interacting.{flat_parts, answered, fired_where_fit}
 use Rattle.ic_flat_round.proofs.fired.fire.Goals as goal
 
 pub put_configuration-next-requires-clause-room : goal.put_configuration-next-requires-clause-room
@@ -54,8 +55,8 @@ from_parts-requires c =
     c.interface_len-terms.ensures.terms (c.equations_in-equations.ensures (length d.equations) counted) c.put_configuration-next.ensures.next in
     parts.0
 
-pub returns : goal.returns
-returns c =
+pub returns-clause-fired : goal.returns-clause-fired
+returns-clause-fired c =
     let rs = c.args.rules.now in
     let flat = c.args.flat.now in
     let d = fired rs.rules flat in
@@ -73,3 +74,10 @@ returns c =
     let parts = flat_parts d c.put_configuration-next.new.out.items c.interface_len-terms.result c.equations_in-equations.result c.put_configuration-next.result is items
     c.interface_len-terms.ensures.terms (c.equations_in-equations.ensures (length d.equations) counted) c.put_configuration-next.ensures.next in
     ap Ok (c.from_parts.ensures ∙ parts.1) ∙ sym (answered rs.rules flat d small low)
+
+pub returns-clause-over : goal.returns-clause-over
+returns-clause-over c =
+    let rs = c.args.rules.now in
+    let flat = c.args.flat.now in
+    ap (is_over rs.symbols) (fired_where_fit rs.rules flat c.from_parts.result (fired rs.rules flat) (returns-clause-fired c))
+    ∙ fired_is_over rs flat c.rules.ensures.sound c.requires

@@ -1,4 +1,4 @@
-use Rattle.std.proofs.Common.{◌-◌, ◌∙◌, ap, map, length, subst, List, length-append, arith}
+use Rattle.std.proofs.Common.{◌∙◌, ap, map, length, subst, List, length-append, arith}
 use Rattle.ic_flat.specs.declared.word.Word.{Word}
 use Rattle.ic_flat.specs.Words.{tree_words}
 use Rattle.ic_rules.specs.Renaming.{renamed}

@@ -1,0 +1,15 @@
+use Rattle.std.proofs.Common.{option_map, ap}
+use Rattle.std.specs.Prelude.{nat_eq}
+use Rattle.indexmap.specs.IndexMap.{get}
+use Rattle.ic_settle.specs.lemmas.Containers.{applicable_of}
+use Rattle.ic_settle.specs.lemmas.Deciding.{outlet_second}
+use Rattle.ic_flat_round.specs.inner.Heads.{head}
+use Rattle.ic_flat_round.proofs.containers.find_outlet.Goals as goal
+
+pub returns-then-target-place-2-clause-root : goal.returns-then-target-place-2-clause-root
+returns-then-target-place-2-clause-root c = λ r is.
+    let one = c.root-target.ensures.root r is in
+    let two = c.root-target-2.ensures.root r one.1 in
+    let second = outlet_second r c.args.place (get nat_eq c.args.places.now) c.args.side (head c.args.word) c.in-Name.name c.in_ok-first.field-0.now c.root-target.result c.root-target-2.result
+    (ap head c.in-Name.is) c.in_ok-first.ensures.value one.0 two.0 c.if-target-place.false c.if-target-place-2.true in
+    (ap (option_map (λ o. (applicable_of o, o.target))) second, two.1)

@@ -1,0 +1,28 @@
+use Rattle.std.proofs.Common.{◌≡◌, ◌+◌, ◌-◌, ◌≤◌, length, map}
+use Rattle.std.specs.Prelude.{nat_eq}
+use Rattle.std.specs.List.{AllByRecursion}
+use Rattle.indexmap.specs.IndexMap.{get}
+use Rattle.ic_settle.specs.lemmas.Containers.{IsLinked, AreUnlinkedFrom, AreKnown}
+use Rattle.ic_flat_round.specs.inner.Standing.{pairs_at, AreInTwos}
+use Rattle.ic_flat_round.specs.inner.Waits.{waiting, AreWithin, IsKeptWithin, kept_at}
+use Rattle.ic_flat_round.proofs.PassingWords.{IsPassingAt}
+use Rattle.ic_flat_round.proofs.pass.pass.Given as goal
+
+-- the slow settling is on its way, and the containers are sound
+abbrev pub invariant-loop-place : goal.invariant-loop-place
+invariant-loop-place l = record {
+  at : l.place ≤ length l.words;
+  twos : AreInTwos l.words l.place;
+  linked : IsLinked l.containers.links.items;
+  size : length l.containers.links.items ≡ length l.flat.equations + 1;
+  free : AreUnlinkedFrom l.number l.containers.links.items;
+  known : AreKnown l.containers.links.items (get nat_eq l.containers.places);
+  within : AreWithin l.words l.bound.entries;
+  kept : AllByRecursion (IsKeptWithin l.words) l.kept.items;
+  passing :
+      IsPassingAt l.flat (map (kept_at l.words) l.kept.items) (waiting l.words l.bound.entries) l.containers.links.items (get nat_eq l.containers.places) l.number
+      (pairs_at l.words l.place);
+}
+
+abbrev pub decreases-loop-place : goal.decreases-loop-place
+decreases-loop-place l = length l.words - l.place

@@ -1,0 +1,36 @@
+//! Names that are bound to places of terms while a configuration is settled.
+
+ghost use Rattle.std.specs.Prelude.{◌<◌, length};
+ghost use Rattle.ic_settle.specs.lemmas.Waiting.{Resolves};
+ghost use Rattle.ic_flat.specs.Words.{IsWhole};
+ghost use Rattle.ic_flat_round.specs.inner.Standing.{tree_at};
+ghost use Rattle.ic_flat_round.specs.inner.Waits.{waiting, AreWithin};
+
+use ic_flat::Word;
+use indexmap::IndexMap;
+
+/// Where the terms stand that wait until the names that they stand for are met. Each such name is met at most once, so it
+/// is taken out then.
+pub(crate) type Bound = IndexMap<u64, usize>;
+
+/// Where what stands for the term at a place begins: there itself, or where the term is a bound name, where what stands
+/// for the term begins that the name is bound to.
+pub(crate) fn resolved(words: &[Word], place: usize, bound: &mut Bound) -> usize
+    requires there { place < length words.now }
+    requires within { AreWithin words.now bound.old.entries }
+    ensures there { result < length words.now }
+    ensures within { AreWithin words.now bound.new.entries }
+    ensures resolves { Resolves (waiting words.now bound.old.entries)
+        (waiting words.now bound.new.entries) (tree_at words.now place) (tree_at words.now result) }
+{
+    let mut place = place;
+    loop {
+        match words[place] {
+            Word::Name(name) => match bound.swap_remove(&name) {
+                Some(term) => place = term,
+                None => return place,
+            },
+            Word::Agent(_, _) => return place,
+        }
+    }
+}

@@ -1,0 +1,206 @@
+//! In which equations a name stands.
+
+ghost use Rattle.std.specs.Prelude.{◌≡◌, ◌==◌, ℕ, ◌+◌, ◌<◌, ◌≤◌, None, Some, IfOk, IfSome, OnOk, length, drop, nat_eq, slice_index, if◌then◌else◌};
+ghost use Rattle.std.specs.List.{flat_map};
+ghost use Rattle.indexmap.specs.IndexMap.{get};
+ghost use Rattle.ic_settle.specs.lemmas.Containers.{IsLinked, IsRoot, AreUnlinkedFrom, AreKnown, IsChosen, noted, noted_in, noted_equations, noted_from, elsewhere};
+ghost use Rattle.ic_flat.specs.Words.{IsWhole, word_names};
+ghost use Rattle.ic_flat_round.specs.inner.Standing.{pairs_at, AreInTwos};
+ghost use Rattle.ic_flat_round.specs.inner.Heads.{head, heads, told_at, told, IsTarget};
+
+use crate::places::{equations_place, sides_at};
+use ic_flat::{Flat, Word};
+use ic_settle::{Applicable, Side};
+use indexmap::IndexMap;
+use std::alloc::{AllocError, Global};
+
+/// For each name the first and the last container in which it stands: the number of an equation, or for the interface how
+/// many equations there are.
+type Places = IndexMap<u64, (usize, usize)>;
+
+/// Where each name stands while equations are removed. What a removed equation holds goes to another container, by a link
+/// from its number.
+#[derive(Drop)]
+pub(crate) struct Containers {
+    links: Vec<usize>,
+    places: Places,
+}
+
+fn note(places: &mut Places, name: u64, place: usize) -> Result<(), AllocError>
+    ensures { OnOk result ((y : ℕ) → get nat_eq places.new y
+        ≡ (if name == y then noted place (get nat_eq places.old y) else get nat_eq places.old y)) }
+{
+    if let Some((first, _)) = places.insert(name, (place, place))? {
+        places.insert(name, (first, place))?;
+    }
+    Ok(())
+}
+
+fn note_word(places: &mut Places, word: Word, place: usize) -> Result<(), AllocError>
+    ensures { OnOk result ((y : ℕ) → get nat_eq places.new y
+        ≡ noted_in y place (word_names word) (get nat_eq places.old y)) }
+{
+    match word {
+        Word::Name(name) => note(places, name, place),
+        Word::Agent(_, _) => Ok(()),
+    }
+}
+
+/// Notes the names among words that stand in a container.
+fn note_words(places: &mut Places, words: &[Word], place: usize) -> Result<(), AllocError>
+    ensures { OnOk result ((y : ℕ) → get nat_eq places.new y
+        ≡ noted_in y place (flat_map word_names words.now) (get nat_eq places.old y)) }
+{
+    for word in words {
+        note_word(places, *word, place)?;
+    }
+    Ok(())
+}
+
+/// Notes the names of the equations from a place on, numbered from 0.
+fn note_equations(places: &mut Places, words: &[Word], from: usize) -> Result<(), AllocError>
+    requires whole { IsWhole words.now }
+    requires within { from ≤ length words.now }
+    requires twos { AreInTwos words.now from }
+    ensures { OnOk result ((y : ℕ) → get nat_eq places.new y
+        ≡ noted_equations y 0 (pairs_at words.now from) (get nat_eq places.old y)) }
+{
+    let mut place = from;
+    let mut number = 0;
+    while place < words.len() {
+        let sides = sides_at(words, place);
+        note_words(places, &words[sides.left..sides.end], number)?;
+        place = sides.end;
+        number += 1;
+    }
+    Ok(())
+}
+
+/// So many containers, none with a link.
+fn unlinked(alloc: Global, count: usize) -> Result<Vec<usize>, AllocError>
+    ensures length { IfOk result (λ links. length links.items ≡ count) }
+    ensures own { IfOk result (λ links. (e : ℕ) → e < count → slice_index links.items e ≡ e) }
+{
+    let mut links = Vec::with_capacity(alloc, count)?;
+    for place in 0..count {
+        links.push(place)?;
+    }
+    Ok(links)
+}
+
+/// Where the links from a container end. Halves the way there.
+fn root(links: &mut [usize], from: usize) -> usize
+    requires inside { from < length links.old }
+    requires linked { IsLinked links.old }
+    ensures inside { result < length links.old }
+    ensures linked { IsLinked links.new }
+    ensures end { slice_index links.new result ≡ result }
+    ensures root { (r : ℕ → ℕ) → IsRoot links.old r → (result ≡ r from) × IsRoot links.new r }
+    ensures unlinked { (e : ℕ) → slice_index links.old e ≡ e → slice_index links.new e ≡ e }
+{
+    let mut place = from;
+    while links[place] != place {
+        let next = links[links[place]];
+        links[place] = next;
+        place = next;
+    }
+    place
+}
+
+/// The name at the top of a side, if it stands outside of the container with this number, and the container in which it
+/// stands.
+fn find_outlet(
+    links: &mut [usize],
+    places: &Places,
+    word: Word,
+    side: Side,
+    place: usize,
+) -> Option<(Applicable, usize)>
+    requires linked { IsLinked links.old }
+    requires known { AreKnown links.old (get nat_eq places.now) }
+    ensures linked { IsLinked links.new }
+    ensures root { (r : ℕ → ℕ) → IsRoot links.old r
+        → (result ≡ told_at (λ y. elsewhere r place (get nat_eq places.now y)) side (head word))
+        × IsRoot links.new r }
+    ensures target { IfSome result (λ o. IsTarget links.new place o.1) }
+    ensures unlinked { (e : ℕ) → slice_index links.old e ≡ e → slice_index links.new e ≡ e }
+{
+    let Word::Name(name) = word else {
+        return None;
+    };
+    let (first, last) = *places.get(&name)?;
+    let target = root(links, first);
+    if target != place {
+        return Some((Applicable { name, side }, target));
+    }
+    let target = root(links, last);
+    if target != place {
+        return Some((Applicable { name, side }, target));
+    }
+    None
+}
+
+/// The first side of an equation that is a name which stands outside of it, and the container in which it stands.
+fn first_outlet(
+    links: &mut [usize],
+    places: &Places,
+    left: Word,
+    right: Word,
+    place: usize,
+) -> Option<(Applicable, usize)>
+    requires linked { IsLinked links.old }
+    requires known { AreKnown links.old (get nat_eq places.now) }
+    ensures linked { IsLinked links.new }
+    ensures root { (r : ℕ → ℕ) → IsRoot links.old r
+        → (result ≡ told (λ y. elsewhere r place (get nat_eq places.now y))
+        (head left) (head right))
+        × IsRoot links.new r }
+    ensures target { IfSome result (λ o. IsTarget links.new place o.1) }
+    ensures unlinked { (e : ℕ) → slice_index links.old e ≡ e → slice_index links.new e ≡ e }
+{
+    match find_outlet(links, places, left, Side::Left, place) {
+        Some(outlet) => Some(outlet),
+        None => find_outlet(links, places, right, Side::Right, place),
+    }
+}
+
+impl Containers {
+    /// Each equation and the interface as a container of its own.
+    pub fn of(alloc: Global, flat: &Flat) -> Result<Containers, AllocError>
+        ensures length { IfOk result
+            (λ c. length c.links.items ≡ length flat.now.equations + 1) }
+        ensures own { IfOk result (λ c. (e : ℕ) → e < length flat.now.equations + 1
+            → slice_index c.links.items e ≡ e) }
+        ensures places { IfOk result (λ c. (y : ℕ) → get nat_eq c.places y
+            ≡ noted_from y 0 flat.now.equations flat.now.interface None) }
+    {
+        let words = flat.words();
+        let count = flat.equations_len();
+        let from = equations_place(flat);
+        let mut places = IndexMap::with_capacity(alloc, count)?;
+        note_equations(&mut places, words, from)?;
+        note_words(&mut places, &words[..from], count)?;
+        let links = unlinked(alloc, count + 1)?;
+        Ok(Containers { links, places })
+    }
+
+    /// The applicable side of an equation whose resolved sides begin with these words, the left one if both are. What the
+    /// equation holds then goes to the container in which the name stands besides.
+    pub fn applicable(&mut self, left: Word, right: Word, place: usize) -> Option<Applicable>
+        requires inside { place < length self.old.links.items }
+        requires linked { IsLinked self.old.links.items }
+        requires free { AreUnlinkedFrom place self.old.links.items }
+        requires known { AreKnown self.old.links.items (get nat_eq self.old.places) }
+        ensures linked { IsLinked self.new.links.items }
+        ensures length { length self.new.links.items ≡ length self.old.links.items }
+        ensures free { AreUnlinkedFrom (place + 1) self.new.links.items }
+        ensures places { self.new.places ≡ self.old.places }
+        ensures chosen { (r : ℕ → ℕ) → IsRoot self.old.links.items r
+            → IsChosen r place (get nat_eq self.old.places) (heads left right)
+            self.new.links.items result }
+    {
+        let (applicable, target) = first_outlet(&mut self.links, &self.places, left, right, place)?;
+        self.links[place] = target;
+        Some(applicable)
+    }
+}

@@ -1,0 +1,34 @@
+//! Settling at once, on words.
+
+ghost use Rattle.std.specs.Prelude.{◌≡◌, List, IfOk, IsTrue};
+ghost use Rattle.ic_term.specs.Symbol.{Symbol, is_over};
+ghost use Rattle.ic_term.specs.Configuration.{Configuration};
+ghost use Rattle.ic_settle.specs.Settling.{settled};
+ghost use Rattle.ic_settle.specs.NameSteps.{NameStep, NameSteps};
+
+use crate::pass::{Passed, pass};
+use crate::rebuilding::{Span, put_equations, put_terms};
+use ic_flat::Flat;
+use std::alloc::{AllocError, Global};
+
+/// The configuration, settled. Takes time nearly in proportion to its nodes, and memory in proportion to them.
+pub fn settle(alloc: Global, flat: &Flat) -> Result<Flat, AllocError>
+    ensures settled { IfOk result (λ after. after ≡ settled flat.now) }
+    ensures reached { IfOk result (λ after. NameSteps flat.now after) }
+    ensures ended { IfOk result (λ after. (next : Configuration) → ¬ NameStep after next) }
+    ensures over { IfOk result (λ after. (symbols : List Symbol)
+        → IsTrue (is_over symbols flat.now) → IsTrue (is_over symbols after)) }
+{
+    let words = flat.words();
+    let terms = flat.interface_len();
+    let Passed { kept, mut bound } = pass(alloc, flat)?;
+    let mut out = Vec::with_capacity(alloc, words.len())?;
+    let mut stack = Vec::new(alloc);
+    let interface = Span {
+        place: 0,
+        count: terms,
+    };
+    put_terms(words, interface, &mut bound, &mut stack, &mut out)?;
+    put_equations(words, &kept, &mut bound, &mut stack, &mut out)?;
+    Ok(Flat::from_parts(out, terms, kept.len(), flat.next()))
+}
