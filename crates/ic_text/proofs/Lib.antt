@@ -29,3 +29,6 @@ pub mod ByteKinds
 pub mod InTextOrder
 pub mod NextAbove
 pub mod Surveying
+pub mod Going
+pub mod Placing
+pub mod PlaceLaws

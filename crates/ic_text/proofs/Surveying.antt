@@ -22,7 +22,7 @@ use Rattle.ic_text.proofs.InTextOrder.{among-phrase, among-system}
 use Rattle.ic_text.proofs.PrefixWords.{length-phrase_prefix}
 use Rattle.ic_text.proofs.JoinedPhrase.{joined_phrase, prefix-joined, length-rules_prefix}
 
-taken-none : (ts : List Token) → taken None ts ≡ None
+pub taken-none : (ts : List Token) → taken None ts ≡ None
 taken-none [] = refl
 taken-none (t ∷ ts) = taken-none ts
 

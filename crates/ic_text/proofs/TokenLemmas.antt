@@ -23,7 +23,7 @@ module _ (text : List ℕ) (start place b : ℕ) (inside : place < length text) 
   rest_here : drop place text ≡ b ∷ drop (place + 1) text
   rest_here = drop_more text place 0 inside ∙ ap (λ x. x ∷ drop (place + 1) text) (sym here)
 
-  run_here : take (place + 1 - start) (drop start text) ≡ take (place - start) (drop start text) ++ b ∷ []
+  pub run_here : take (place + 1 - start) (drop start text) ≡ take (place - start) (drop start text) ++ b ∷ []
   run_here =
       let more : place + 1 - start ≡ place - start + 1 = omega arith in
       let at : start + (place - start) ≡ place = omega arith in

@@ -36,23 +36,23 @@ mark_ends Open r run = refl
 mark_ends Close r run = refl
 
 -- what may stand between marks
-record IsWordText (w : List ℕ) : Type 0 where
-  bytes : list_all is_word_byte w ≡ true
-  one : word_of w ≡ word w ∷ []
+pub record IsWordText (w : List ℕ) : Type 0 where
+  pub bytes : list_all is_word_byte w ≡ true
+  pub one : word_of w ≡ word w ∷ []
 
 -- no word comes next
-abbrev IsMarked : List Token → Type 0
+abbrev pub IsMarked : List Token → Type 0
 IsMarked [] = Unit {0}
 IsMarked (word w ∷ ts) = ⊥
 IsMarked (mark m ∷ ts) = Unit {0}
 
 -- no two words stand side by side
-abbrev AreApart : List Token → Type 0
+abbrev pub AreApart : List Token → Type 0
 AreApart [] = Unit {0}
 AreApart (word w ∷ ts) = IsWordText w × IsMarked ts × AreApart ts
 AreApart (mark m ∷ ts) = AreApart ts
 
-tokens-text_of : (ts : List Token) → AreApart ts → tokens_behind [] (text_of ts) ≡ Some ts
+pub tokens-text_of : (ts : List Token) → AreApart ts → tokens_behind [] (text_of ts) ≡ Some ts
 tokens-text_of [] apart = refl
 tokens-text_of (mark m ∷ ts) apart = mark_ends m (text_of ts) [] ∙ ap (λ o. before [] (before (mark m ∷ []) o)) (tokens-text_of ts apart)
 tokens-text_of (word w ∷ []) apart = run_on w [] [] apart.0.bytes ∙ ap Some apart.0.one
@@ -73,7 +73,7 @@ digits_are_word : (ds : List ℕ) → AllBelowBase 10 ds → list_all is_word_by
 digits_are_word [] low = refl
 digits_are_word (d ∷ ds) low = and_from _ _ (digit_is_word d low.0) (digits_are_word ds low.1)
 
-name_is_word : (n : ℕ) → IsWordText (name_text n)
+pub name_is_word : (n : ℕ) → IsWordText (name_text n)
 name_is_word n = record { bytes = and_from _ _ (letter_is_word n) (digits_are_word (digits_of 10 (n / 26)) (all_below_base_digits_of 10 (n / 26) (omega arith))); one = refl }
 
 first_is_word : (b : ℕ) → (is_ascii_uppercase b || is_ascii_digit b) ≡ true → is_word_byte b ≡ true

@@ -10,5 +10,6 @@ pub mod Reading
 pub mod Text
 pub mod FaultNumber
 pub mod SystemText
+pub mod Places
 pub mod lemmas
 pub mod inner

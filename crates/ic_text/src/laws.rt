@@ -1,6 +1,6 @@
 //! What is proved of the definitions alone: each law is the contract of a function that does nothing.
 
-ghost use Rattle.std.specs.Prelude.{◌≡◌, ◌≢◌, ◌↔◌, ◌<◌, ◌≤◌, ◌+◌, ◌*◌, ◌^◌, ◌&&◌, ◌||◌, ◌==◌, ℕ, Bool, List, [], ◌∷◌, ◌++◌, Result, Ok, Err, Some, None, true, false, length, map, codes, not, slice_get, nat_le, Contains, IsTrue};
+ghost use Rattle.std.specs.Prelude.{◌≡◌, ◌≢◌, ◌↔◌, ◌<◌, ◌≤◌, ◌+◌, ◌*◌, ◌^◌, ◌&&◌, ◌||◌, ◌==◌, ℕ, Bool, List, [], ◌∷◌, ◌++◌, Result, Ok, Err, Some, None, true, false, length, map, codes, not, slice_get, nat_le, take, Contains, IsTrue};
 ghost use Rattle.std.specs.List.{filter, flat_map, list_any, list_all, AllByRecursion};
 ghost use Rattle.std.specs.Str.{bytes_eq};
 ghost use Rattle.std.specs.Char.{is_ascii_alphanumeric, is_ascii_lowercase, is_ascii_digit};
@@ -15,6 +15,7 @@ ghost use Rattle.ic_text.specs.SystemSense.{system_table};
 ghost use Rattle.ic_text.specs.SystemText.{SpellsSystem, ReadsSystem};
 ghost use Rattle.ic_text.specs.Text.{Spells, Reads, phrase_of, printed, text_of, fault_text};
 ghost use Rattle.ic_text.specs.FaultNumber.{all_faults, fault_number};
+ghost use Rattle.ic_text.specs.Places.{GoesOn, IsSyntaxPlace};
 ghost use Rattle.ic_text.specs.Sense.{symbols_after};
 ghost use Rattle.ic_text.specs.Token.{Token, word, mark, is_blank, is_word_byte, mark_byte, mark_of, tokens_at, followed, tokens, words_among};
 ghost use Rattle.ic_text.specs.declared.token.Mark.{Mark};
@@ -39,6 +40,31 @@ pub fn one_system_reading()
     ensures answer { (text : List ℕ) (a b : Result SystemParts TextFault) →
         ReadsSystem text a → ReadsSystem text b → a ≡ b }
     ensures total { (text : List ℕ) → (a : Result SystemParts TextFault) × ReadsSystem text a }
+{}
+
+/// A text has at most one place of a fault of syntax.
+pub fn a_fault_of_syntax_has_one_place()
+    ensures config { (text : List ℕ) (a b : ℕ) → IsSyntaxPlace IsPhrase phrase_words text a →
+        IsSyntaxPlace IsPhrase phrase_words text b → a ≡ b }
+    ensures system { (text : List ℕ) (a b : ℕ) → IsSyntaxPlace IsSystemPhrase system_words text a →
+        IsSyntaxPlace IsSystemPhrase system_words text b → a ≡ b }
+{}
+
+/// The text before a fault of syntax is innocent: cut there, it has such a fault nowhere but at its end.
+pub fn the_text_before_a_fault_is_innocent()
+    ensures config { (text : List ℕ) (at cut : ℕ) → IsSyntaxPlace IsPhrase phrase_words text at →
+        IsSyntaxPlace IsPhrase phrase_words (take at text) cut → cut ≡ at }
+    ensures system { (text : List ℕ) (at cut : ℕ) →
+        IsSyntaxPlace IsSystemPhrase system_words text at →
+        IsSyntaxPlace IsSystemPhrase system_words (take at text) cut → cut ≡ at }
+{}
+
+/// A text can go on to a phrase exactly where with more text behind a blank it spells one.
+pub fn a_text_can_go_on_where_more_makes_a_phrase()
+    ensures config { (text : List ℕ) → GoesOn IsPhrase phrase_words text
+        ↔ ((more : List ℕ) × (p : Phrase) × Spells (text ++ 32 ∷ more) p) }
+    ensures system { (text : List ℕ) → GoesOn IsSystemPhrase system_words text
+        ↔ ((more : List ℕ) × (s : SystemPhrase) × SpellsSystem (text ++ 32 ∷ more) s) }
 {}
 
 /// A system is told by its tokens: no other has them, and a test tells the tokens of systems from others.

@@ -2,6 +2,7 @@
 //!
 //! `read_config` answers what a text means, or the first refusal: its value is `sense` of the one phrase that the text
 //! spells. `read_system` does the same of rules and a configuration, and `is_system` tells whether a text is one.
+//! `find_config` and `find_system` also tell the place of a refusal.
 //! `print_config` and `put_config` write the tokens of a configuration without blanks, and `print_fault` the line of a
 //! refusal. For texts that hold others, `is_blank`, `is_word_byte`, `is_numeral` and `number_in` say what parts words and
 //! what digits write. `laws` holds what is proved of the definitions alone.
@@ -11,6 +12,7 @@ mod build;
 mod fault;
 pub mod laws;
 mod limits;
+mod misread;
 mod name;
 mod number;
 mod prefix;
@@ -23,9 +25,10 @@ mod token;
 
 pub use fault::TextFault;
 pub use limits::{MAX_NAME, MAX_TEXT};
+pub use misread::Misread;
 pub use name::{is_numeral, number_in};
 pub use print::{print_config, print_fault, put_config};
-pub use read::read_config;
+pub use read::{find_config, read_config};
 pub use survey::is_system;
-pub use system::read_system;
+pub use system::{find_system, read_system};
 pub use token::{is_blank, is_word_byte};

@@ -1,8 +1,10 @@
 //! Reading a configuration.
 
-ghost use Rattle.std.specs.Prelude.{◌≡◌, ◌≢◌, IfOk, IfErr, IsTrue, Ok, Err};
+ghost use Rattle.std.specs.Prelude.{◌≡◌, ◌≢◌, IfOk, IfErr, IsTrue, Ok, Err, Some};
 ghost use Rattle.ic_term.specs.Symbol.{is_over};
 ghost use Rattle.ic_text.specs.inner.Numbered.{Gives};
+ghost use Rattle.ic_text.specs.inner.Survey.{Tells};
+ghost use Rattle.ic_text.specs.Places.{IsPlaced};
 ghost use Rattle.ic_text.specs.Sense.{sense};
 ghost use Rattle.ic_text.specs.Source.{Phrase, IsPhrase, phrase_words};
 ghost use Rattle.ic_text.specs.inner.Spelled.{SpelledBy};
@@ -12,9 +14,10 @@ ghost use Rattle.ic_text.specs.inner.Tokens.{tokens_in};
 use crate::build::config_of;
 use crate::fault::TextFault;
 use crate::limits::MAX_TEXT;
+use crate::misread::Misread;
 use crate::number::number_words;
 use crate::prefix::prefix_of;
-use crate::survey::survey_config;
+use crate::survey::{Counts, survey_config};
 use crate::token::{Token, tokens_of};
 use ic_term::{Config, MAX_NODES, Symbols};
 use std::alloc::Global;
@@ -35,8 +38,48 @@ fn sense_of(alloc: Global, tokens: &[Token], words: usize) -> Result<(Symbols, C
     Ok((symbols, config))
 }
 
+/// The sense of a text that spells a configuration of so many words and tokens.
+fn config_in(alloc: Global, text: &[u8], counts: Counts) -> Result<(Symbols, Config), TextFault>
+    requires { Tells IsPhrase phrase_words text.now (Some counts) }
+    ensures sense { (p : Phrase) → Spells text.now p → Gives (λ v. v) result (sense p) }
+    ensures over { IfOk result (λ v. IsTrue (is_over v.0 v.1)) }
+{
+    if counts.words as u64 > MAX_NODES {
+        return Err(TextFault::Limit);
+    }
+    let tokens = tokens_of(alloc, text, counts.tokens)?;
+    sense_of(alloc, &tokens, counts.words)
+}
+
 /// The configuration that a text means, with its symbols numbered by first occurrence and `next` one above its
-/// greatest name, or the first refusal. Takes n log n steps. Limits are settled before anything recurses on nesting.
+/// greatest name, or the first refusal and its place. Takes n log n steps. Limits are settled before anything recurses
+/// on nesting.
+pub fn find_config(alloc: Global, text: &[u8]) -> Result<(Symbols, Config), Misread>
+    ensures read { IfOk result (λ v. Reads text.now (Ok v)) }
+    ensures over { IfOk result (λ v. IsTrue (is_over v.0 v.1)) }
+    ensures refused { IfErr result
+        (λ misread. misread.fault ≢ TextFault.Memory → Reads text.now (Err misread.fault)) }
+    ensures placed { IfErr result
+        (λ misread. IsPlaced IsPhrase phrase_words text.now misread.fault misread.place) }
+    ensures memory { IfErr result
+        (λ misread. misread.fault ≡ TextFault.Memory → (p : Phrase) × Spells text.now p) }
+{
+    if text.len() > MAX_TEXT {
+        return Err(Misread {
+            fault: TextFault::Limit,
+            place: Some(MAX_TEXT),
+        });
+    }
+    match survey_config(text) {
+        Ok(counts) => Ok(config_in(alloc, text, counts)?),
+        Err(place) => Err(Misread {
+            fault: TextFault::Syntax,
+            place: Some(place),
+        }),
+    }
+}
+
+/// The configuration that `find_config` answers, or its refusal without the place.
 pub fn read_config(alloc: Global, text: &[u8]) -> Result<(Symbols, Config), TextFault>
     ensures read { IfOk result (λ v. Reads text.now (Ok v)) }
     ensures over { IfOk result (λ v. IsTrue (is_over v.0 v.1)) }
@@ -44,15 +87,5 @@ pub fn read_config(alloc: Global, text: &[u8]) -> Result<(Symbols, Config), Text
         (λ fault. fault ≢ TextFault.Memory → Reads text.now (Err fault)) }
     ensures memory { result ≡ Err TextFault.Memory → (p : Phrase) × Spells text.now p }
 {
-    if text.len() > MAX_TEXT {
-        return Err(TextFault::Limit);
-    }
-    let Some(counts) = survey_config(text) else {
-        return Err(TextFault::Syntax);
-    };
-    if counts.words as u64 > MAX_NODES {
-        return Err(TextFault::Limit);
-    }
-    let tokens = tokens_of(alloc, text, counts.tokens)?;
-    sense_of(alloc, &tokens, counts.words)
+    Ok(find_config(alloc, text)?)
 }

@@ -1,10 +1,12 @@
 //! A first pass over the bytes of a text: whether they are a phrase of the grammar, and of how many words and tokens. It
 //! takes no memory, so that a text that is refused fills none.
 
-ghost use Rattle.std.specs.Prelude.{◌≡◌, ◌≤◌, ◌-◌, ◌^◌, [], ◌∷◌, Some, None, length};
+ghost use Rattle.std.specs.Prelude.{◌≡◌, ◌≤◌, ◌-◌, ◌^◌, [], ◌∷◌, Some, None, IfErr, length};
 ghost use Rattle.std.specs.Bool.{OnTrue, OnFalse};
-ghost use Rattle.ic_text.specs.inner.Survey.{IsWithin, HasRisen, taken, taken_at, counted, surveyed, Tells};
+ghost use Rattle.ic_text.specs.inner.Survey.{IsWithin, HasRisen, taken, taken_at, counted, surveyed, Leads, Tells};
+ghost use Rattle.ic_text.specs.inner.Survey.{counts_in};
 ghost use Rattle.ic_text.specs.inner.Tokens.{token_of};
+ghost use Rattle.ic_text.specs.Places.{IsLastPlace, IsSyntaxPlace};
 ghost use Rattle.ic_text.specs.Source.{IsPhrase, phrase_words};
 ghost use Rattle.ic_text.specs.SystemSource.{SystemPhrase, IsSystemPhrase, system_words};
 ghost use Rattle.ic_text.specs.SystemText.{SpellsSystem};
@@ -80,10 +82,12 @@ impl Progress {
     }
 }
 
-/// The words and tokens of a text that leads from the beginning of a part to the end. Takes one pass, and no memory.
-fn survey(part: Part, text: &[u8]) -> Option<Counts>
+/// The words and tokens of a text that leads from the beginning of a part to the end, or the place from where on the
+/// grammar has no such text. Takes one pass, and no memory.
+fn survey(part: Part, text: &[u8]) -> Result<Counts, usize>
     requires { length text.now ≤ MAX_TEXT }
-    ensures { result ≡ surveyed part (tokens text.now) }
+    ensures counts { counts_in result ≡ surveyed part (tokens text.now) }
+    ensures place { IfErr result (λ at. IsLastPlace (Leads part) text.now at) }
 {
     let mut progress = Progress {
         state: State::new(part),
@@ -96,32 +100,37 @@ fn survey(part: Part, text: &[u8]) -> Option<Counts>
     for (place, byte) in text.iter().enumerate() {
         if !is_word_byte(*byte) {
             if !progress.take_run(&text[start..place]) {
-                return None;
+                return Err(start);
             }
             if !progress.take_byte(*byte) {
-                return None;
+                return Err(place);
             }
             start = place + 1;
         }
     }
     if !progress.take_run(&text[start..]) {
-        return None;
+        return Err(start);
     }
-    progress.finish()
+    match progress.finish() {
+        Some(counts) => Ok(counts),
+        None => Err(text.len()),
+    }
 }
 
-/// The words and tokens of a configuration, or None where a text spells none.
-pub(crate) fn survey_config(text: &[u8]) -> Option<Counts>
+/// The words and tokens of a configuration, or where a text that spells none has its fault.
+pub(crate) fn survey_config(text: &[u8]) -> Result<Counts, usize>
     requires { length text.now ≤ MAX_TEXT }
-    ensures { Tells IsPhrase phrase_words text.now result }
+    ensures counts { Tells IsPhrase phrase_words text.now (counts_in result) }
+    ensures place { IfErr result (λ at. IsSyntaxPlace IsPhrase phrase_words text.now at) }
 {
     survey(Part::Begin, text)
 }
 
-/// The words and tokens of a system, or None where a text spells none.
-pub(crate) fn survey_system(text: &[u8]) -> Option<Counts>
+/// The words and tokens of a system, or where a text that spells none has its fault.
+pub(crate) fn survey_system(text: &[u8]) -> Result<Counts, usize>
     requires { length text.now ≤ MAX_TEXT }
-    ensures { Tells IsSystemPhrase system_words text.now result }
+    ensures counts { Tells IsSystemPhrase system_words text.now (counts_in result) }
+    ensures place { IfErr result (λ at. IsSyntaxPlace IsSystemPhrase system_words text.now at) }
 {
     survey(Part::Start, text)
 }
@@ -132,5 +141,5 @@ pub fn is_system(text: &[u8]) -> bool
     ensures spelled { OnTrue result ((s : SystemPhrase) × SpellsSystem text.now s) }
     ensures none { OnFalse result ((s : SystemPhrase) → ¬ SpellsSystem text.now s) }
 {
-    survey_system(text).is_some()
+    survey_system(text).is_ok()
 }

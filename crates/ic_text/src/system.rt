@@ -1,7 +1,9 @@
 //! Reading a system.
 
-ghost use Rattle.std.specs.Prelude.{◌≡◌, ◌≢◌, IfOk, IfErr, Ok, Err};
+ghost use Rattle.std.specs.Prelude.{◌≡◌, ◌≢◌, IfOk, IfErr, Ok, Err, Some};
 ghost use Rattle.ic_text.specs.inner.Numbered.{Gives};
+ghost use Rattle.ic_text.specs.inner.Survey.{Tells};
+ghost use Rattle.ic_text.specs.Places.{IsPlaced};
 ghost use Rattle.ic_text.specs.SystemSense.{system_sense};
 ghost use Rattle.ic_text.specs.SystemSource.{SystemPhrase, IsSystemPhrase, system_words};
 ghost use Rattle.ic_text.specs.inner.Spelled.{SystemSpelledBy};
@@ -11,9 +13,10 @@ ghost use Rattle.ic_text.specs.inner.Tokens.{tokens_in};
 use crate::build::system_of;
 use crate::fault::TextFault;
 use crate::limits::MAX_TEXT;
+use crate::misread::Misread;
 use crate::number::number_words;
 use crate::prefix::prefix_of;
-use crate::survey::survey_system;
+use crate::survey::{Counts, survey_system};
 use crate::syntax::split_at_brace;
 use crate::token::{Token, tokens_of};
 use ic_rules::{MAX_RULE_NODES, MAX_RULES, System};
@@ -40,9 +43,47 @@ fn sense_of(alloc: Global, tokens: &[Token], words: usize) -> Result<System, Tex
     system_of(alloc, symbols, items, rules.terms, config.terms)
 }
 
+/// The sense of a text that spells a system of so many words and tokens.
+fn system_in(alloc: Global, text: &[u8], counts: Counts) -> Result<System, TextFault>
+    requires { Tells IsSystemPhrase system_words text.now (Some counts) }
+    ensures { (s : SystemPhrase) → SpellsSystem text.now s →
+        Gives (λ system. system) result (system_sense s) }
+{
+    if counts.words as u64 > MAX_WORDS {
+        return Err(TextFault::Limit);
+    }
+    let tokens = tokens_of(alloc, text, counts.tokens)?;
+    sense_of(alloc, &tokens, counts.words)
+}
+
 /// The system that a text means, with its symbols numbered by first occurrence, rules first, the names of each rule
-/// numbered by first occurrence, and `next` one above the greatest name of the configuration, or the first refusal.
-/// Takes n log n steps. Limits are settled before anything recurses on nesting.
+/// numbered by first occurrence, and `next` one above the greatest name of the configuration, or the first refusal and
+/// its place. Takes n log n steps. Limits are settled before anything recurses on nesting.
+pub fn find_system(alloc: Global, text: &[u8]) -> Result<System, Misread>
+    ensures read { IfOk result (λ system. ReadsSystem text.now (Ok system)) }
+    ensures refused { IfErr result
+        (λ misread. misread.fault ≢ TextFault.Memory → ReadsSystem text.now (Err misread.fault)) }
+    ensures placed { IfErr result
+        (λ misread. IsPlaced IsSystemPhrase system_words text.now misread.fault misread.place) }
+    ensures memory { IfErr result (λ misread. misread.fault ≡ TextFault.Memory
+        → (s : SystemPhrase) × SpellsSystem text.now s) }
+{
+    if text.len() > MAX_TEXT {
+        return Err(Misread {
+            fault: TextFault::Limit,
+            place: Some(MAX_TEXT),
+        });
+    }
+    match survey_system(text) {
+        Ok(counts) => Ok(system_in(alloc, text, counts)?),
+        Err(place) => Err(Misread {
+            fault: TextFault::Syntax,
+            place: Some(place),
+        }),
+    }
+}
+
+/// The system that `find_system` answers, or its refusal without the place.
 pub fn read_system(alloc: Global, text: &[u8]) -> Result<System, TextFault>
     ensures read { IfOk result (λ system. ReadsSystem text.now (Ok system)) }
     ensures refused { IfErr result
@@ -50,15 +91,5 @@ pub fn read_system(alloc: Global, text: &[u8]) -> Result<System, TextFault>
     ensures memory { result ≡ Err TextFault.Memory
         → (s : SystemPhrase) × SpellsSystem text.now s }
 {
-    if text.len() > MAX_TEXT {
-        return Err(TextFault::Limit);
-    }
-    let Some(counts) = survey_system(text) else {
-        return Err(TextFault::Syntax);
-    };
-    if counts.words as u64 > MAX_WORDS {
-        return Err(TextFault::Limit);
-    }
-    let tokens = tokens_of(alloc, text, counts.tokens)?;
-    sense_of(alloc, &tokens, counts.words)
+    Ok(find_system(alloc, text)?)
 }

@@ -1,11 +1,11 @@
 -- For private functions: the first pass over a text, which checks its syntax and counts its words
 -- and tokens as they come.
-use Rattle.std.specs.Prelude.{◌≡◌, ℕ, ◌+◌, ◌≤◌, List, [], ◌∷◌, Option, None, Some, length, if◌then◌else◌, option_and_then}
+use Rattle.std.specs.Prelude.{◌≡◌, ℕ, ◌+◌, ◌≤◌, List, [], ◌∷◌, Option, None, Some, Result, Ok, Err, length, if◌then◌else◌, option_and_then}
 use Rattle.std.specs.Option.{option_map}
 use Rattle.ic_text.specs.declared.syntax.Part.{Part}
 use Rattle.ic_text.specs.declared.survey.Counts.{Counts}
 use Rattle.ic_text.specs.declared.survey.Progress.{Progress}
-use Rattle.ic_text.specs.Token.{Token, mark_of, tokens_at, words_among}
+use Rattle.ic_text.specs.Token.{Token, mark_of, tokens_at, tokens, words_among}
 use Rattle.ic_text.specs.Reading.{IsSpelling}
 use Rattle.ic_text.specs.inner.Syntax.{step, is_end, at_beginning}
 
@@ -50,12 +50,22 @@ abbrev pub counted : Option Progress → Option Counts
 counted None = None
 counted (Some p) = if is_end p.state.part then Some p.counts else None
 
+-- a check of a part in front of all tokens
+abbrev pub begun : Part → Progress
+begun part = record { state = at_beginning part; counts = record { words = 0; tokens = 0 } }
+
 -- what a check of a part counts in tokens
 abbrev pub surveyed : Part → Option (List Token) → Option Counts
-surveyed part o = counted (taken_behind (Some (record {
-  state = at_beginning part;
-  counts = record { words = 0; tokens = 0 };
-})) o)
+surveyed part o = counted (taken_behind (Some (begun part)) o)
+
+-- a check of a part takes all tokens of a text
+abbrev pub Leads : Part → List ℕ → Type 0
+Leads part text = (p : Progress) × (taken_behind (Some (begun part)) (tokens text) ≡ Some p)
+
+-- what was counted, without where a check was refused
+abbrev pub counts_in : Result Counts ℕ → Option Counts
+counts_in (Ok counts) = Some counts
+counts_in (Err at) = None
 
 -- what a survey of a text tells: that it spells no phrase of a kind, or one of so many words
 abbrev pub Tells : {P : Type 0} → (P → Type 0) → (P → List Token) → List ℕ → Option Counts → Type 0
