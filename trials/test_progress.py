@@ -105,12 +105,12 @@ class Progress(Trial):
         self.equals(self.command, f"a line of three jobs that run: {lines}", True, told)
 
     def test_without_rounds_the_line_tells_events_alone(self):
-        scripts = [self.script(f"script {i}", [f"submit j {STILL.text}", *["list"] * 32_000]) for i in range(2)]
+        # Each of these commands is kept. On a device that takes its time few are enough.
+        count = 15_000 if IN_MEMORY else 500
+        scripts = [self.script(f"script {i}", [f"submit j{i} {STILL.text}", f"cancel j{i}"] * count) for i in range(2)]
         words = ["attend", "--disk", self.jobs, "--runners", 0, *scripts]
         status, out, _, shown, took = self.shows(words, out=False)
-        first = out.decode().split("\n")[1]
-        submits = ["accepted", "refused taken"][:: 1 if first == "accepted" else -1]
-        told = [it for i in range(2) for it in (f"client {i}", submits[i], *["jobs j:done:0"] * 32_000)]
+        told = [it for i in range(2) for it in (f"client {i}", *["accepted", "ok"] * count)]
         self.equals(self.command, "status", 0, status)
         self.agrees(self.command, "standard output", as_lines(told), out)
         self.equals(self.command, "a line came", True, len(self.lines_of(shown, took)) > 0)
