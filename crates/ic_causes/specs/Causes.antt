@@ -1,0 +1,60 @@
+-- To be believed: why a call to a file has failed, in words (this project's choice).
+use Rattle.std.specs.Prelude.{ℕ, Bool, true, false, List, [], ◌∷◌, ◌++◌, ◌==◌, ◌||◌, nat_lt, if◌then◌else◌}
+use Rattle.std.specs.Prelude.{Option, None, Some, codes, map}
+use Rattle.std.specs.Fmt.{decimal}
+use Rattle.ic_causes.specs.declared.cause.FileCall.{FileCall}
+use Rattle.ic_causes.specs.declared.cause.FileCall.TheVariants as call
+use Rattle.ic_causes.specs.declared.cause.Reason.{Reason}
+use Rattle.ic_causes.specs.declared.cause.Reason.TheVariants as reason
+use Rattle.ic_causes.specs.declared.cause.Cause.{Cause}
+
+abbrev pub call_word : FileCall → List ℕ
+call_word call.Open = codes "open"
+call_word call.Lock = codes "lock"
+call_word call.Length = codes "length"
+call_word call.Seek = codes "seek"
+call_word call.Read = codes "read"
+call_word call.Write = codes "write"
+call_word call.Sync = codes "sync"
+
+abbrev pub reason_words : Reason → List ℕ
+reason_words reason.Missing = codes "no such file or folder"
+reason_words reason.Folder = codes "is a folder"
+reason_words reason.NoFolder = codes "a name on the way to it is no folder's"
+reason_words reason.LongName = codes "the name is too long"
+reason_words reason.Links = codes "too many symbolic links"
+reason_words reason.NoRights = codes "no rights"
+reason_words reason.ReadOnly = codes "the file system takes no writes"
+reason_words reason.Locked = codes "another server has it open"
+reason_words reason.Running = codes "is a program that runs"
+reason_words reason.NoRoom = codes "no room left on the device"
+reason_words reason.NoShare = codes "no room left of the quota"
+reason_words reason.TooLong = codes "the file may grow no further"
+reason_words reason.TooShort = codes "the file ends before"
+reason_words reason.NotPossible = codes "not possible with such a file"
+reason_words reason.NoMemory = codes "no memory"
+reason_words reason.Device = codes "input/output error of the device"
+reason_words (reason.Other number) = codes "error " ++ decimal number ++ codes " of the system"
+reason_words reason.Untold = codes "the system told no reason"
+
+-- the folder in which the file stands is named
+abbrev pub folder_words : Bool → List ℕ
+folder_words true = codes "its folder: "
+folder_words false = []
+
+-- the call that failed, and why
+abbrev pub cause_words : Option Cause → List ℕ
+cause_words (Some cause) =
+    folder_words cause.of_folder ++ call_word cause.call ++ codes ": " ++ reason_words cause.reason
+cause_words None = codes "a call to it has failed"
+
+-- a byte as a line shows it: in place of one that moves a terminal stands a question mark
+abbrev pub shown_byte : ℕ → ℕ
+shown_byte byte = if nat_lt byte 32 || byte == 127 then 63 else byte
+
+abbrev pub shown_path : List ℕ → List ℕ
+shown_path path = map shown_byte path
+
+-- the line that tells of the file of a path why a call to it has failed
+abbrev pub cause_line : List ℕ → Option Cause → List ℕ
+cause_line path cause = shown_path path ++ codes ": " ++ cause_words cause ++ 10 ∷ []

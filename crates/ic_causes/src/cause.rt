@@ -1,0 +1,113 @@
+//! Which call to a file has failed, and why.
+
+ghost use Rattle.std.specs.Prelude.{◌≡◌};
+ghost use Rattle.std.specs.IoError.{error_kind, raw_os_error};
+ghost use Rattle.ic_causes.specs.Reasons.{reason_of, reason_of_number};
+
+use std::io::{self, ErrorKind};
+
+/// A call to a file.
+#[derive(Clone, Copy, Debug, PartialEq, Eq)]
+pub enum FileCall {
+    Open,
+    Lock,
+    Length,
+    Seek,
+    Read,
+    Write,
+    Sync,
+}
+
+/// Why the system refused a call to a file.
+#[derive(Clone, Copy, Debug, PartialEq, Eq)]
+pub enum Reason {
+    /// There is no file of that path, or no folder on the way to it.
+    Missing,
+    /// It is a folder.
+    Folder,
+    /// Something on the way to it is no folder.
+    NoFolder,
+    /// Its name is longer than the system allows.
+    LongName,
+    /// There are too many symbolic links on the way to it.
+    Links,
+    /// Who runs the program may not do that.
+    NoRights,
+    /// The file system takes no writes.
+    ReadOnly,
+    /// Another open of the file holds its lock.
+    Locked,
+    /// It is a program that runs.
+    Running,
+    /// The device is full.
+    NoRoom,
+    /// Who runs the program has used up its share of the device.
+    NoShare,
+    /// The file is as long as a file may be.
+    TooLong,
+    /// The file ends before.
+    TooShort,
+    /// The file is none that this can be done with.
+    NotPossible,
+    /// Memory is wanting.
+    NoMemory,
+    /// The device can't be read or written.
+    Device,
+    /// Another error of the system, with its number.
+    Other(u32),
+    /// The system told no reason.
+    Untold,
+}
+
+impl Reason {
+    /// The reason of an error.
+    pub fn of(error: &io::Error) -> Reason
+        ensures { result ≡ reason_of (error_kind error.now) (raw_os_error error.now) }
+    {
+        match error.kind() {
+            ErrorKind::NotFound => Reason::Missing,
+            ErrorKind::IsADirectory => Reason::Folder,
+            ErrorKind::NotADirectory => Reason::NoFolder,
+            ErrorKind::InvalidFilename => Reason::LongName,
+            ErrorKind::FilesystemLoop => Reason::Links,
+            ErrorKind::PermissionDenied => Reason::NoRights,
+            ErrorKind::ReadOnlyFilesystem => Reason::ReadOnly,
+            ErrorKind::WouldBlock => Reason::Locked,
+            ErrorKind::ExecutableFileBusy => Reason::Running,
+            ErrorKind::StorageFull => Reason::NoRoom,
+            ErrorKind::QuotaExceeded => Reason::NoShare,
+            ErrorKind::FileTooLarge => Reason::TooLong,
+            ErrorKind::UnexpectedEof => Reason::TooShort,
+            ErrorKind::InvalidInput | ErrorKind::NotSeekable | ErrorKind::Unsupported => {
+                Reason::NotPossible
+            }
+            ErrorKind::OutOfMemory => Reason::NoMemory,
+            _ => reason_of_number(error.raw_os_error()),
+        }
+    }
+}
+
+/// The reason of an error of no kind that has a reason of its own.
+fn reason_of_number(number: Option<i32>) -> Reason
+    ensures { result ≡ reason_of_number number }
+{
+    match number {
+        Some(number) => {
+            let number = number.unsigned_abs();
+            if number == 5 {
+                Reason::Device
+            } else {
+                Reason::Other(number)
+            }
+        }
+        None => Reason::Untold,
+    }
+}
+
+/// A call that failed, of the file itself or of the folder in which it stands, and why.
+#[derive(Clone, Copy, Debug, PartialEq, Eq)]
+pub struct Cause {
+    pub of_folder: bool,
+    pub call: FileCall,
+    pub reason: Reason,
+}

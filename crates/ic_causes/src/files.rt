@@ -1,0 +1,146 @@
+//! The files of a runtime, of which each call that fails is noted.
+
+ghost use Rattle.std.specs.Prelude.{◌≡◌};
+
+use crate::{FileCall, Notes};
+use ic_disk::DiskFile;
+use std::alloc::Allocator;
+use std::fs::{File, Metadata, OpenFile, OpenOptions};
+use std::io::{self, Read, Seek, SeekFrom, Write};
+use std::rt::Files;
+
+/// The files of a runtime, while the disk in the file of this path is opened. Each call to a file
+/// that fails is noted; what is opened by another path is the folder of that file.
+#[derive(Drop)]
+pub struct NotedFiles<'a, 'n, R> {
+    pub rt: &'a R,
+    pub path: &'a str,
+    pub notes: &'n Notes,
+}
+
+/// A file whose calls answer as the file's do, and are noted where they fail.
+#[derive(Drop)]
+pub struct NotedFile<'n> {
+    file: File,
+    is_folder: bool,
+    notes: &'n Notes,
+}
+
+impl NotedFile<'_> {
+    /// The answer, which is noted where the call has failed.
+    fn noted<T: Drop>(&self, call: FileCall, answer: io::Result<T>) -> io::Result<T>
+        ensures { result ≡ answer }
+    {
+        if let Err(error) = &answer {
+            self.notes.note(self.is_folder, call, error);
+        }
+        answer
+    }
+}
+
+impl Read for NotedFile<'_> {
+    fn read(&mut self, buf: &mut [u8]) -> io::Result<usize> {
+        let answer = self.file.read(buf);
+        self.noted(FileCall::Read, answer)
+    }
+}
+
+impl Write for NotedFile<'_> {
+    fn write(&mut self, buf: &[u8]) -> io::Result<usize> {
+        let answer = self.file.write(buf);
+        self.noted(FileCall::Write, answer)
+    }
+
+    fn flush(&mut self) -> io::Result<()> {
+        let answer = self.file.flush();
+        self.noted(FileCall::Write, answer)
+    }
+}
+
+impl Seek for NotedFile<'_> {
+    fn seek(&mut self, to: SeekFrom) -> io::Result<u64> {
+        let answer = self.file.seek(to);
+        self.noted(FileCall::Seek, answer)
+    }
+}
+
+impl OpenFile for NotedFile<'_> {
+    fn metadata(&self) -> io::Result<Metadata> {
+        self.noted(FileCall::Length, self.file.metadata())
+    }
+
+    fn set_len(&self, size: u64) -> io::Result<()> {
+        self.noted(FileCall::Write, self.file.set_len(size))
+    }
+
+    fn sync_all(&self) -> io::Result<()> {
+        self.noted(FileCall::Sync, self.file.sync_all())
+    }
+
+    fn sync_data(&self) -> io::Result<()> {
+        self.noted(FileCall::Sync, self.file.sync_data())
+    }
+}
+
+impl DiskFile for NotedFile<'_> {
+    fn lock_alone(&self) -> io::Result<()> {
+        self.noted(FileCall::Lock, self.file.lock_alone())
+    }
+}
+
+impl<'n, R: Files<File = File>> Files for NotedFiles<'_, 'n, R> {
+    type File = NotedFile<'n>;
+
+    type Dir = R::Dir;
+
+    fn open_file(&self, how: &OpenOptions, path: &str) -> io::Result<NotedFile<'n>> {
+        let is_folder = path != self.path;
+        match self.rt.open_file(how, path) {
+            Ok(file) => Ok(NotedFile {
+                file,
+                is_folder,
+                notes: self.notes,
+            }),
+            Err(error) => {
+                self.notes.note(is_folder, FileCall::Open, &error);
+                Err(error)
+            }
+        }
+    }
+
+    fn open_dir(&self, path: &str) -> io::Result<R::Dir> {
+        self.rt.open_dir(path)
+    }
+
+    fn metadata(&self, path: &str) -> io::Result<Metadata> {
+        self.rt.metadata(path)
+    }
+
+    fn symlink_metadata(&self, path: &str) -> io::Result<Metadata> {
+        self.rt.symlink_metadata(path)
+    }
+
+    fn copy(&self, from: &str, to: &str) -> io::Result<u64> {
+        self.rt.copy(from, to)
+    }
+
+    fn rename(&self, from: &str, to: &str) -> io::Result<()> {
+        self.rt.rename(from, to)
+    }
+
+    fn remove_file(&self, path: &str) -> io::Result<()> {
+        self.rt.remove_file(path)
+    }
+
+    fn create_dir(&self, path: &str) -> io::Result<()> {
+        self.rt.create_dir(path)
+    }
+
+    fn remove_dir(&self, path: &str) -> io::Result<()> {
+        self.rt.remove_dir(path)
+    }
+
+    fn remove_dir_all<B: Allocator>(&self, alloc: B, path: &str) -> io::Result<()> {
+        self.rt.remove_dir_all(alloc, path)
+    }
+}

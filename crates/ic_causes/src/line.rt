@@ -1,0 +1,98 @@
+//! The line that tells why a call to a file has failed.
+
+ghost use Rattle.std.specs.Prelude.{◌≡◌, IfOk};
+ghost use Rattle.ic_causes.specs.Causes.{call_word, cause_line, cause_words, reason_words, shown_byte, shown_path};
+
+use crate::{Cause, FileCall, Reason};
+use std::alloc::{AllocError, Global};
+
+/// The line that tells of the file of this path why the last call to it has failed, with its line
+/// feed.
+pub fn cause_line(alloc: Global, path: &[u8], cause: Option<Cause>) -> Result<Vec<u8>, AllocError>
+    ensures { IfOk result (λ line. line.items ≡ cause_line path.now cause) }
+{
+    let mut line = shown_path(alloc, path)?;
+    line.extend_from_slice(b": ")?;
+    line.extend_from_slice(&cause_words(alloc, cause)?)?;
+    line.push(b'\n')?;
+    Ok(line)
+}
+
+/// A path as a line shows it.
+pub fn shown_path(alloc: Global, path: &[u8]) -> Result<Vec<u8>, AllocError>
+    ensures { IfOk result (λ shown. shown.items ≡ shown_path path.now) }
+{
+    path.iter().map(|byte| shown_byte(*byte)).collect(alloc)
+}
+
+/// A byte of a path as a line shows it.
+fn shown_byte(byte: u8) -> u8
+    ensures { result ≡ shown_byte byte }
+{
+    if byte < 32 || byte == 127 { b'?' } else { byte }
+}
+
+/// The call that failed, and why.
+fn cause_words(alloc: Global, cause: Option<Cause>) -> Result<Vec<u8>, AllocError>
+    ensures { IfOk result (λ words. words.items ≡ cause_words cause) }
+{
+    let Some(cause) = cause else {
+        return b"a call to it has failed".to_vec(alloc);
+    };
+    let mut words = Vec::new(alloc);
+    if cause.of_folder {
+        words.extend_from_slice(b"its folder: ")?;
+    }
+    words.extend_from_slice(call_word(cause.call))?;
+    words.extend_from_slice(b": ")?;
+    words.extend_from_slice(&reason_words(alloc, cause.reason)?)?;
+    Ok(words)
+}
+
+fn call_word(call: FileCall) -> &'static [u8]
+    ensures { result.now ≡ call_word call }
+{
+    match call {
+        FileCall::Open => b"open",
+        FileCall::Lock => b"lock",
+        FileCall::Length => b"length",
+        FileCall::Seek => b"seek",
+        FileCall::Read => b"read",
+        FileCall::Write => b"write",
+        FileCall::Sync => b"sync",
+    }
+}
+
+fn reason_words(alloc: Global, reason: Reason) -> Result<Vec<u8>, AllocError>
+    ensures { IfOk result (λ words. words.items ≡ reason_words reason) }
+{
+    match reason {
+        Reason::Missing => b"no such file or folder".to_vec(alloc),
+        Reason::Folder => b"is a folder".to_vec(alloc),
+        Reason::NoFolder => b"a name on the way to it is no folder's".to_vec(alloc),
+        Reason::LongName => b"the name is too long".to_vec(alloc),
+        Reason::Links => b"too many symbolic links".to_vec(alloc),
+        Reason::NoRights => b"no rights".to_vec(alloc),
+        Reason::ReadOnly => b"the file system takes no writes".to_vec(alloc),
+        Reason::Locked => b"another server has it open".to_vec(alloc),
+        Reason::Running => b"is a program that runs".to_vec(alloc),
+        Reason::NoRoom => b"no room left on the device".to_vec(alloc),
+        Reason::NoShare => b"no room left of the quota".to_vec(alloc),
+        Reason::TooLong => b"the file may grow no further".to_vec(alloc),
+        Reason::TooShort => b"the file ends before".to_vec(alloc),
+        Reason::NotPossible => b"not possible with such a file".to_vec(alloc),
+        Reason::NoMemory => b"no memory".to_vec(alloc),
+        Reason::Device => b"input/output error of the device".to_vec(alloc),
+        Reason::Other(number) => number_words(alloc, number),
+        Reason::Untold => b"the system told no reason".to_vec(alloc),
+    }
+}
+
+fn number_words(alloc: Global, number: u32) -> Result<Vec<u8>, AllocError>
+    ensures { IfOk result (λ words. words.items ≡ reason_words (Reason.Other number)) }
+{
+    let mut words = b"error ".to_vec(alloc)?;
+    words.extend_from_slice(number.to_string(alloc)?.as_bytes())?;
+    words.extend_from_slice(b" of the system")?;
+    Ok(words)
+}
