@@ -10,3 +10,4 @@ pub mod OnceLemmas
 pub mod NamedLemmas
 pub mod FoundLemmas
 pub mod ActiveLemmas
+pub mod RenamingLemmas

@@ -4,6 +4,7 @@ ghost use Rattle.std.specs.Prelude.{◌≡◌, ◌≤◌, ◌==◌, ℕ, List, [
 ghost use Rattle.ic_term.specs.Configuration.{Configuration, IsConfiguration, configuration_names, occurrences};
 ghost use Rattle.ic_rules.specs.Rule.{Rule};
 ghost use Rattle.ic_round.specs.Firing.{rule_of_sides};
+ghost use Rattle.ic_confluence.specs.Sameness.{Renames};
 ghost use Rattle.ic_nets.specs.Links.{agents_of, links_of};
 ghost use Rattle.ic_nets.specs.Nets.{IsNet};
 ghost use Rattle.ic_nets.specs.Ports.{ends, is_bound, ports_at, ports_of, times, wire_named};
@@ -51,4 +52,11 @@ pub fn active_pairs_stand_out()
     ensures { (rs : List Rule) (c : Configuration) (net : Net) → IsNet rs c net
         → count_by (λ w. w.active) net.wires.items
         ≡ count_by (λ p. is_some (rule_of_sides rs p.left p.right)) c.equations }
+{}
+
+/// A net has no names but free ones: where names are turned into others one-to-one, and free ones stay, the net stays as it
+/// is, to the order of its wires.
+pub fn names_are_forgotten()
+    ensures { (rs : List Rule) (c d : Configuration) (net : Net)
+        → IsConfiguration c → Renames c d → IsNet rs c net → IsNet rs d net }
 {}

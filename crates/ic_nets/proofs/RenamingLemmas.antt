@@ -1,0 +1,280 @@
+-- A net has no names but free ones: where names are turned into others, it stays.
+use Rattle.std.proofs.Common.{◌≡◌, ℕ, suc, ◌+◌, ◌≤◌, ◌==◌, List, [], ◌∷◌, ◌++◌, Bool, true, false, cond, Some, fold, length, map, refl, sym, ap, ◌∙◌, subst, arith}
+use Rattle.std.specs.Prelude.{is_some}
+use Rattle.std.specs.Cmp.{unsigned_Decides}
+use Rattle.std.proofs.lemmas.List.{length-map, map-append}
+use Rattle.std.proofs.lemmas.List.Concat.{flat_map-append}
+use Rattle.std.proofs.lemmas.List.Sums.{sum_by-cons}
+use Rattle.ic_term.specs.Tree.{Tree, name, agent, Trees, no_trees, more_trees, list_of, trees_of, Pair}
+use Rattle.ic_term.specs.Configuration.{Configuration, IsConfiguration, configuration_names, occurrences}
+use Rattle.ic_rules.specs.Rule.{Rule}
+use Rattle.ic_rules.specs.Renaming.{renamed, renamed_trees}
+use Rattle.ic_round.specs.Firing.{rule_of_sides}
+use Rattle.ic_confluence.specs.Sameness.{Renames, renamed_in, renamed_pair}
+use Rattle.ic_nets.specs.Links.{agents_among, agents_in, agents_of, end_of, equation_link, hanging, inside, joined, links_of, pair_agents, pair_links, pairs_agents}
+use Rattle.ic_nets.specs.Wiring.{are_names, joins_names, joints_in, name_wires, named_wires, plain_wires, standings, standings_at, standings_between, wire_between, wire_of, with_standing}
+use Rattle.ic_nets.specs.Nets.{IsNet}
+use Rattle.ic_nets.specs.Ports.{ends, is_bound, port_eq, times}
+use Rattle.ic_nets.specs.declared.net.Net.{Net}
+use Rattle.ic_nets.specs.declared.net.Wire.{Wire}
+use Rattle.ic_nets.specs.declared.links.End.{End}
+use Rattle.ic_nets.specs.declared.links.End.TheVariants.{At, Named}
+use Rattle.ic_nets.specs.declared.links.Link.{Link}
+use Rattle.ic_nets.specs.declared.links.Standing.{Standing}
+use Rattle.ic_nets.specs.declared.port.Port.{Port}
+use Rattle.ic_nets.specs.declared.port.Port.TheVariants.{Interface, Principal, Auxiliary, Left, Right, Free}
+use Rattle.ic_nets.proofs.PortLemmas.{times-append}
+use Rattle.ic_nets.proofs.NameLemmas.{AreBound, own_wires}
+use Rattle.ic_nets.proofs.EndLemmas.{are_bound, free_ends_are_names}
+
+module _ (f : ℕ → ℕ) where
+  -- ---- agents
+
+  renamed_length : (ts : Trees) → length (list_of (renamed_trees f ts)) ≡ length (list_of ts)
+  renamed_length no_trees = refl
+  renamed_length (more_trees t ts) = ap suc (renamed_length ts)
+
+  mutual
+    agents-renamed : (t : Tree) → agents_in (renamed f t) ≡ agents_in t
+    agents-renamed (name n) = refl
+    agents-renamed (agent s ts) = λ i. record { sym = s; arity = renamed_length ts i } ∷ among-renamed ts i
+
+    among-renamed : (ts : Trees) → agents_among (renamed_trees f ts) ≡ agents_among ts
+    among-renamed no_trees = refl
+    among-renamed (more_trees t ts) = λ i. agents-renamed t i ++ among-renamed ts i
+
+  pair_agents-renamed : (p : Pair) → pair_agents (renamed_pair f p) ≡ pair_agents p
+  pair_agents-renamed p = λ i. agents-renamed p.left i ++ agents-renamed p.right i
+
+  pairs_agents-renamed : (ps : List Pair) → pairs_agents (map (renamed_pair f) ps) ≡ pairs_agents ps
+  pairs_agents-renamed [] = refl
+  pairs_agents-renamed (p ∷ ps) = λ i. pair_agents-renamed p i ++ pairs_agents-renamed ps i
+
+  trees-renamed : (ts : List Tree) → trees_of (map (renamed f) ts) ≡ renamed_trees f (trees_of ts)
+  trees-renamed [] = refl
+  trees-renamed (t ∷ ts) = ap (more_trees (renamed f t)) (trees-renamed ts)
+
+  agents_of-renamed : (c : Configuration) → agents_of (renamed_in f c) ≡ agents_of c
+  agents_of-renamed c =
+      (λ i. agents_among (trees-renamed c.interface i) ++ pairs_agents (map (renamed_pair f) c.equations))
+      ∙ (λ i. among-renamed (trees_of c.interface) i ++ pairs_agents-renamed c.equations i)
+
+  -- ---- what is joined
+
+  abbrev end_named : End → End
+  end_named (At p) = At p
+  end_named (Named n) = Named (f n)
+
+  abbrev link_named : Link → Link
+  link_named l = record { from = end_named l.from; to = end_named l.to; active = l.active }
+
+  end-renamed : (k : ℕ) (t : Tree) → end_of k (renamed f t) ≡ end_named (end_of k t)
+  end-renamed k (name n) = refl
+  end-renamed k (agent s ts) = refl
+
+  mutual
+    inside-renamed : (k : ℕ) (t : Tree) → inside k (renamed f t) ≡ map link_named (inside k t)
+    inside-renamed k (name n) = refl
+    inside-renamed k (agent s ts) = hanging-renamed (Auxiliary k) 1 (k + 1) ts
+
+    hanging-renamed : (port : ℕ → Port) (i k : ℕ) (ts : Trees) → hanging port i k (renamed_trees f ts) ≡ map link_named (hanging port i k ts)
+    hanging-renamed port i k no_trees = refl
+    hanging-renamed port i k (more_trees t ts) =
+        let first : Link = record { from = At (port i); to = end_named (end_of k t); active = false } in
+        let later = k + length (agents_in t) in
+        (λ d. record { from = At (port i); to = end-renamed k t d; active = false }
+            ∷ (inside-renamed k t d ++ hanging port (i + 1) (k + length (agents-renamed t d)) (renamed_trees f ts)))
+        ∙ ap (λ (ls : List Link). first ∷ (map link_named (inside k t) ++ ls)) (hanging-renamed port (i + 1) later ts)
+        ∙ ap (λ (ls : List Link). first ∷ ls) (sym (map-append link_named (inside k t) (hanging port (i + 1) later ts)))
+
+  sides-renamed : (rs : List Rule) (t u : Tree) → rule_of_sides rs (renamed f t) (renamed f u) ≡ rule_of_sides rs t u
+  sides-renamed rs (name m) (name n) = refl
+  sides-renamed rs (name m) (agent r us) = refl
+  sides-renamed rs (agent s ts) (name n) = refl
+  sides-renamed rs (agent s ts) (agent r us) = refl
+
+  equation-renamed : (rs : List Rule) (j k : ℕ) (p : Pair) → equation_link rs j k (renamed_pair f p) ≡ link_named (equation_link rs j k p)
+  equation-renamed rs j k p =
+      λ d. record { from = end-renamed j p.left d; to = end-renamed k p.right d; active = is_some (sides-renamed rs p.left p.right d) }
+
+  pair_links-renamed : (rs : List Rule) (k : ℕ) (p : Pair) → pair_links rs k (renamed_pair f p) ≡ map link_named (pair_links rs k p)
+  pair_links-renamed rs k p =
+      let j = k + length (agents_in p.left) in
+      (λ d. inside-renamed k p.left d
+          ++ equation_link rs k (k + length (agents-renamed p.left d)) (renamed_pair f p) ∷ inside (k + length (agents-renamed p.left d)) (renamed f p.right))
+      ∙ (λ d. map link_named (inside k p.left) ++ equation-renamed rs k j p d ∷ inside-renamed j p.right d)
+      ∙ sym (map-append link_named (inside k p.left) (equation_link rs k j p ∷ inside j p.right))
+
+  joined-renamed : (rs : List Rule) (k : ℕ) (ps : List Pair) → joined rs k (map (renamed_pair f) ps) ≡ map link_named (joined rs k ps)
+  joined-renamed rs k [] = refl
+  joined-renamed rs k (p ∷ ps) =
+      let later = k + length (pair_agents p) in
+      (λ d. pair_links-renamed rs k p d ++ joined rs (k + length (pair_agents-renamed p d)) (map (renamed_pair f) ps))
+      ∙ ap (λ (ls : List Link). map link_named (pair_links rs k p) ++ ls) (joined-renamed rs later ps)
+      ∙ sym (map-append link_named (pair_links rs k p) (joined rs later ps))
+
+  links-renamed : (rs : List Rule) (c : Configuration) → links_of rs (renamed_in f c) ≡ map link_named (links_of rs c)
+  links-renamed rs c =
+      let ts = trees_of c.interface in
+      let later = length (agents_among ts) in
+      (λ d. hanging Interface 1 0 (trees-renamed c.interface d) ++ joined rs (length (agents_among (trees-renamed c.interface d))) (map (renamed_pair f) c.equations))
+      ∙ (λ d. hanging-renamed Interface 1 0 ts d ++ joined rs (length (among-renamed ts d)) (map (renamed_pair f) c.equations))
+      ∙ ap (λ (ls : List Link). map link_named (hanging Interface 1 0 ts) ++ ls) (joined-renamed rs later c.equations)
+      ∙ sym (map-append link_named (hanging Interface 1 0 ts) (joined rs later c.equations))
+
+  -- ---- the wires of ports, and equations of two names
+
+  between-renamed : (active : Bool) (a b : End) → wire_between active (end_named a) (end_named b) ≡ wire_between active a b
+  between-renamed active (At p) (At q) = refl
+  between-renamed active (At p) (Named n) = refl
+  between-renamed active (Named m) (At q) = refl
+  between-renamed active (Named m) (Named n) = refl
+
+  plain-renamed : (ls : List Link) → plain_wires (map link_named ls) ≡ plain_wires ls
+  plain-renamed [] = refl
+  plain-renamed (l ∷ ls) = λ d. between-renamed l.active l.from l.to d ++ plain-renamed ls d
+
+  are_names-renamed : (a b : End) → are_names (end_named a) (end_named b) ≡ are_names a b
+  are_names-renamed (At p) b = refl
+  are_names-renamed (Named m) (At q) = refl
+  are_names-renamed (Named m) (Named n) = refl
+
+  joints-renamed : (ls : List Link) → joints_in (map link_named ls) ≡ joints_in ls
+  joints-renamed [] = refl
+  joints-renamed (l ∷ ls) =
+      sum_by-cons (λ (x : Link). cond (joins_names x) 1 0) (link_named l) (map link_named ls)
+      ∙ (λ d. cond (are_names-renamed l.from l.to d) 1 0 + joints-renamed ls d)
+      ∙ sym (sum_by-cons (λ (x : Link). cond (joins_names x) 1 0) l ls)
+
+  -- ---- names that stand at ports
+
+  abbrev standing_named : Standing → Standing
+  standing_named s = record { name = f s.name; port = s.port }
+
+  at-renamed : (j : ℕ) (a b : End) → standings_between j (end_named a) (end_named b) ≡ map standing_named (standings_between j a b)
+  at-renamed j (At p) (At q) = refl
+  at-renamed j (At p) (Named n) = refl
+  at-renamed j (Named m) (At q) = refl
+  at-renamed j (Named m) (Named n) = refl
+
+  standings-renamed : (j : ℕ) (ls : List Link) → standings j (map link_named ls) ≡ map standing_named (standings j ls)
+  standings-renamed j [] = refl
+  standings-renamed j (l ∷ ls) =
+      let later = cond (joins_names l) (j + 1) j in
+      (λ d. at-renamed j l.from l.to d ++ standings (cond (are_names-renamed l.from l.to d) (j + 1) j) (map link_named ls))
+      ∙ ap (λ (ss : List Standing). map standing_named (standings_at j l) ++ ss) (standings-renamed later ls)
+      ∙ sym (map-append standing_named (standings_at j l) (standings later ls))
+
+  -- ---- their wires
+
+  abbrev port_named : Port → Port
+  port_named (Interface i) = Interface i
+  port_named (Principal k) = Principal k
+  port_named (Auxiliary k i) = Auxiliary k i
+  port_named (Left j) = Left j
+  port_named (Right j) = Right j
+  port_named (Free n) = Free (f n)
+
+  abbrev wire_named : Wire → Wire
+  wire_named w = record { from = w.from; to = port_named w.to; active = w.active }
+
+  abbrev entry_named : ℕ × Wire → ℕ × Wire
+  entry_named e = (f e.0, wire_named e.1)
+
+  bound_stays : (p : Port) → is_bound p ≡ true → port_named p ≡ p
+  bound_stays (Interface i) bound = refl
+  bound_stays (Principal k) bound = refl
+  bound_stays (Auxiliary k i) bound = refl
+  bound_stays (Left j) bound = refl
+  bound_stays (Right j) bound = refl
+  bound_stays (Free n) bound = cc
+
+  own-renamed : (es : List (ℕ × Wire)) → own_wires (map entry_named es) ≡ map wire_named (own_wires es)
+  own-renamed [] = refl
+  own-renamed (e ∷ es) = ap (λ (ws : List Wire). wire_named e.1 ∷ ws) (own-renamed es)
+
+  module _ (one : (m n : ℕ) → (f m == f n) ≡ (m == n)) where
+    standing-renamed : (es : List (ℕ × Wire)) (s : Standing) → is_bound s.port ≡ true → with_standing (map entry_named es) (standing_named s) ≡ map entry_named (with_standing es s)
+    standing-renamed [] s bound = refl
+    standing-renamed (e ∷ es) s bound =
+        (λ d. cond (one s.name e.0 d) ((f e.0, record { from = e.1.from; to = s.port; active = false }) ∷ map entry_named es) (entry_named e ∷ standing-renamed es s bound d))
+        ∙ by (s.name == e.0)
+      where
+        by : (b : Bool) → cond b ((f e.0, record { from = e.1.from; to = s.port; active = false }) ∷ map entry_named es) (entry_named e ∷ map entry_named (with_standing es s))
+            ≡ map entry_named (cond b ((e.0, wire_of (Some e.1) s) ∷ es) (e ∷ with_standing es s))
+        by true = ap (λ (p : Port). (f e.0, record { from = e.1.from; to = p; active = false }) ∷ map entry_named es) (sym (bound_stays s.port bound))
+        by false = refl
+
+    names-renamed : (es : List (ℕ × Wire)) (ss : List Standing) → AreBound ss → fold with_standing (map entry_named es) (map standing_named ss) ≡ map entry_named (fold with_standing es ss)
+    names-renamed es [] bound = refl
+    names-renamed es (s ∷ ss) bound =
+        ap (λ (x : List (ℕ × Wire)). fold with_standing x (map standing_named ss)) (standing-renamed es s bound.0) ∙ names-renamed (with_standing es s) ss bound.1
+
+  -- ---- free ends stay
+
+  wires_stay : (ws : List Wire) → ((m : ℕ) → 1 ≤ times (Free m) (ends ws) → f m ≡ m) → map wire_named ws ≡ ws
+  wires_stay [] free = refl
+  wires_stay (w ∷ ws) free =
+      λ d. record { from = w.from; to = here w.to free d; active = w.active } ∷ wires_stay ws (λ m some. free m (behind (cond (port_eq (Free m) w.from) 1 0) (cond (port_eq (Free m) w.to) 1 0) _ some)) d
+    where
+      behind : (a b r : ℕ) → 1 ≤ r → 1 ≤ a + (b + r)
+      behind a b r some = omega arith
+
+      front : (a r : ℕ) → 1 ≤ a + (1 + r)
+      front a r = omega arith
+
+      here : (p : Port) → ((m : ℕ) → 1 ≤ cond (port_eq (Free m) w.from) 1 0 + (cond (port_eq (Free m) p) 1 0 + times (Free m) (ends ws)) → f m ≡ m) → port_named p ≡ p
+      here (Interface i) free = refl
+      here (Principal k) free = refl
+      here (Auxiliary k i) free = refl
+      here (Left j) free = refl
+      here (Right j) free = refl
+      here (Free n) free =
+          ap Free (free n (subst (λ b. 1 ≤ cond (port_eq (Free n) w.from) 1 0 + (cond b 1 0 + times (Free n) (ends ws))) (sym ((unsigned_Decides n n).1 refl)) (front _ _)))
+
+-- ---- the law
+
+same_test : (f g : ℕ → ℕ) → ((n : ℕ) → g (f n) ≡ n) → (m n : ℕ) → (f m == f n) ≡ (m == n)
+same_test f g back m n = by (m == n) refl (f m == f n) refl
+  where
+    by : (b : Bool) → (m == n) ≡ b → (a : Bool) → (f m == f n) ≡ a → a ≡ b
+    by true e true e2 = refl
+    by false e false e2 = refl
+    by true e false e2 = sym e2 ∙ (unsigned_Decides (f m) (f n)).1 (ap f ((unsigned_Decides m n).0 e))
+    by false e true e2 =
+        let same : m ≡ n = sym (back m) ∙ (ap g ((unsigned_Decides (f m) (f n)).0 e2) ∙ back n) in
+        sym ((unsigned_Decides m n).1 same) ∙ e
+
+free_once : (b : Bool) (t k : ℕ) → t ≡ cond b 1 0 → 1 ≤ k → k ≤ t → b ≡ true
+free_once true t k e some le = refl
+free_once false t k e some le = absurd (omega arith)
+
+pub net_forgets : (rs : List Rule) (c d : Configuration) (net : Net) → IsConfiguration c → Renames c d → IsNet rs c net → IsNet rs d net
+net_forgets rs c d net sound renames is =
+    let f = renames.to in
+    let ls = links_of rs c in
+    let ss = standings 0 ls in
+    let links = links-renamed f rs c in
+    let named = ap (λ (x : List (ℕ × Wire)). own_wires x) (names-renamed f (same_test f renames.from renames.there_and_back) [] ss (are_bound rs c)) ∙ own-renamed f (named_wires ss) in
+    let ends_in : (m : ℕ) → times (Free m) (ends net.wires.items) ≡ times (Free m) (ends (plain_wires ls)) + times (Free m) (ends (name_wires ss)) =
+    λ m. ap (λ ws. times (Free m) (ends ws)) is.wires
+    ∙ ap (times (Free m)) (flat_map-append (λ (w : Wire). w.from ∷ w.to ∷ []) (plain_wires ls) (name_wires ss))
+    ∙ times-append (Free m) (ends (plain_wires ls)) (ends (name_wires ss)) in
+    let free : (m : ℕ) → 1 ≤ times (Free m) (ends (name_wires ss)) → f m ≡ m =
+    λ m some. renames.free m ((unsigned_Decides (occurrences m (configuration_names c)) 1).0
+    (free_once (occurrences m (configuration_names c) == 1) _ _ (free_ends_are_names rs c net m sound is) some (within _ _ _ (ends_in m)))) in
+    let stay = wires_stay f (name_wires ss) free in
+    let wires : plain_wires (links_of rs (renamed_in f c)) ++ name_wires (standings 0 (links_of rs (renamed_in f c))) ≡ plain_wires ls ++ name_wires ss =
+    (λ i. plain_wires (links i) ++ name_wires (standings 0 (links i)))
+    ∙ (λ i. plain-renamed f ls i ++ name_wires (standings-renamed f 0 ls i))
+    ∙ ap (λ (ws : List Wire). plain_wires ls ++ ws) (named ∙ stay) in
+    let net_of_renamed : IsNet rs (renamed_in f c) net = record {
+      interface = is.interface ∙ sym (length-map c.interface _);
+      agents = is.agents ∙ sym (agents_of-renamed f c);
+      joints = is.joints ∙ sym (joints-renamed f ls) ∙ sym (ap joints_in links);
+      wires = is.wires ∙ sym wires;
+    } in
+    subst (λ (e : Configuration). IsNet rs e net) (sym renames.result) net_of_renamed
+  where
+    within : (t a b : ℕ) → t ≡ a + b → b ≤ t
+    within t a b e = omega arith
