@@ -1,5 +1,5 @@
 -- Calls of a book as steps of a server.
-use Rattle.std.proofs.Common.{◌≡◌, ◌≢◌, inl, inr, true, false, IsErr, IsErrOf, ℕ, ◌≤◌, List, [], ◌∷◌, ◌++◌, Result, Ok, Err, length, refl, sym, ap, subst, arith}
+use Rattle.std.proofs.Common.{◌≡◌, ◌≢◌, ◌∙◌, inl, inr, Bool, true, false, IsErr, IsErrOf, ℕ, ◌≤◌, List, [], ◌∷◌, ◌++◌, Result, Ok, Err, length, refl, sym, ap, subst, arith}
 use Rattle.std.proofs.lemmas.List.{append-nil}
 use Rattle.ic_disk.specs.declared.disk.Disk.{Ghosts}
 use Rattle.ic_disk.specs.Time.{LeftSince}
@@ -11,7 +11,7 @@ use Rattle.ic_jobs.specs.declared.reply.Reply.{Reply}
 use Rattle.ic_desk.specs.declared.book.Book.{Book}
 use Rattle.ic_desk.specs.declared.fault.BookFault.{BookFault}
 use Rattle.ic_desk.specs.declared.fault.BookFault.TheVariants.{Broken, LogFull, Worn, Memory, Device}
-use Rattle.ic_desk.specs.Book.{start_of, log_of, table_of, kept_of, disk_of}
+use Rattle.ic_desk.specs.Book.{start_of, log_of, table_of, kept_of, disk_of, is_broken}
 use Rattle.ic_desk.specs.Calls.{LeavesKeptOrAll}
 use Rattle.ic_desk.specs.Entries.{AddsCommand, command_entry, round_entry}
 use Rattle.ic_desk.specs.inner.Entering.{EntersRound}
@@ -25,24 +25,29 @@ err-not-ok reply err = let never : false ≡ true = err in cc
 device-not-ok : (reply : Reply) → ¬ IsErrOf {T = Reply} {E = BookFault} (Ok reply) Device
 device-not-ok reply device = cc
 
+not-both : (b : Bool) → b ≡ false → b ≡ true → ⊥
+not-both b whole broke = let never : false ≡ true = sym whole ∙ broke in cc
+
 module _ {D : Type 0} {ghosts : Ghosts D} where
   -- a crash leaves what is said of the log with what comes
   crash_with : (old new : Book D ghosts) (log more : List Entry) → log ≡ log_of old ++ more → LeavesKeptOrAll log old new → LeavesKeptOrAll (log_of old ++ more) old new
   crash_with old new log more is crash = subst (λ (es : List Entry). LeavesKeptOrAll es old new) is crash
 
   -- nothing comes to the history
-  pub stays_on : (old new : Book D ghosts) → start_of new ≡ start_of old → log_of new ≡ log_of old → table_of new ≡ table_of old → kept_of old ≤ kept_of new
-      → LeavesKeptOrAll (log_of old) old new → Does stays old new
-  stays_on old new start log table kept crash = record {
-    page = record { start = start; log = log; table = table; kept = kept };
+  pub stays_on : (old new : Book D ghosts) → start_of new ≡ start_of old → log_of new ≡ log_of old → table_of new ≡ table_of old → kept_of new ≡ kept_of old
+      → LeavesKeptOrAll (log_of old) old new → (is_broken old ≡ true → is_broken new ≡ true) → Does stays old new
+  stays_on old new start log table kept crash broken = record {
+    page = (record { start = start; log = log; table = table }, kept);
+    broken = broken;
     crash = crash_with old new (log_of old) [] (sym (append-nil (log_of old))) crash;
   }
 
   -- all is kept, on the same page
-  pub keeps_page : (old new : Book D ghosts) → start_of new ≡ start_of old → log_of new ≡ log_of old → table_of new ≡ table_of old → kept_of old ≤ kept_of new
-      → kept_of new ≡ length (log_of new) → LeavesKeptOrAll (log_of old) old new → Does keeps old new
-  keeps_page old new start log table kept all crash = record {
-    page = (inl (record { start = start; log = log; table = table; kept = kept }), all);
+  pub keeps_page : (old new : Book D ghosts) → start_of new ≡ start_of old → log_of new ≡ log_of old → table_of new ≡ table_of old
+      → kept_of new ≡ length (log_of new) → LeavesKeptOrAll (log_of old) old new → is_broken old ≡ false → is_broken new ≡ false → Does keeps old new
+  keeps_page old new start log table all crash was whole = record {
+    page = (inl (record { start = start; log = log; table = table }), all, whole);
+    broken = λ broke. absurd (not-both (is_broken old) was broke);
     crash = crash_with old new (log_of old) [] (sym (append-nil (log_of old))) crash;
   }
 
@@ -52,7 +57,7 @@ module _ {D : Type 0} {ghosts : Ghosts D} where
 
   -- nothing is done at all
   pub idles : ((disk : D) (file : List ℕ) → LeftSince (ghosts.left disk) (ghosts.clock disk) file → ghosts.image disk file) → (book : Book D ghosts) → Does stays book book
-  idles law book = stays_on book book refl refl refl (omega arith) (unchanged law book)
+  idles law book = stays_on book book refl refl refl refl (unchanged law book) (λ is. is)
 
   -- ---- a round
 
@@ -63,22 +68,23 @@ module _ {D : Type 0} {ghosts : Ghosts D} where
 
   -- a refusal brings nothing
   pub round_unmade : {E : Type 0} {expected : Type 0} (name : List ℕ) (reply : Reply) (fault : E) (old new : Book D ghosts) → start_of new ≡ start_of old → kept_of new ≡ kept_of old
-      → EntersRound (round_entry name reply) expected (Err fault) (log_of old) (log_of new) (table_of old) (table_of new) → LeavesKeptOrAll (log_of new) old new → Does stays old new
+      → EntersRound (round_entry name reply) expected (Err fault) (log_of old) (log_of new) (table_of old) (table_of new) → LeavesKeptOrAll (log_of new) old new → (is_broken old ≡ true → is_broken new ≡ true) → Does stays old new
   round_unmade name reply fault old new start kept is crash =
-      stays_on old new start (is.same_log tt) (is.same_table tt) (omega (arith, kept)) (subst (λ (es : List Entry). LeavesKeptOrAll es old new) (is.same_log tt) crash)
+      stays_on old new start (is.same_log tt) (is.same_table tt) kept (subst (λ (es : List Entry). LeavesKeptOrAll es old new) (is.same_log tt) crash)
 
   -- it lands, or is stale
   pub round_made : {E : Type 0} {expected : Type 0} (F : Type 0) (name : List ℕ) (reply : Reply) (landed : Landed) (old new : Book D ghosts) → start_of new ≡ start_of old → kept_of new ≡ kept_of old
       → EntersRound {E = E} (round_entry name reply) expected (Ok landed) (log_of old) (log_of new) (table_of old) (table_of new) → LeavesKeptOrAll (log_of new) old new
-      → Step (round_move {E = F} name reply (Ok landed)) (up old) (up new)
-  round_made F name reply Moved old new start kept is crash =
+      → (is_broken old ≡ true → is_broken new ≡ true) → Step (round_move {E = F} name reply (Ok landed)) (up old) (up new)
+  round_made F name reply Moved old new start kept is crash broken =
       let adds = is.moved refl in
       record {
         page = (record { start = start; adds = adds }, kept);
+        broken = broken;
         crash = crash_with old new (log_of new) (round_entry name reply ∷ []) adds.entry crash;
       }
-  round_made F name reply Stale old new start kept is crash =
-      stays_on old new start (is.same_log tt) (is.same_table tt) (omega (arith, kept)) (subst (λ (es : List Entry). LeavesKeptOrAll es old new) (is.same_log tt) crash)
+  round_made F name reply Stale old new start kept is crash broken =
+      stays_on old new start (is.same_log tt) (is.same_table tt) kept (subst (λ (es : List Entry). LeavesKeptOrAll es old new) (is.same_log tt) crash) broken
 
   -- ---- a command
 
@@ -99,21 +105,27 @@ module _ {D : Type 0} {ghosts : Ghosts D} where
       with_entry : LeavesKeptOrAll (log_of old ++ command_entry who command reply ∷ []) old new
       with_entry = crash_with old new (log_of new) (command_entry who command reply ∷ []) adds.entry crash
 
-      failed_so : (fault : BookFault) → fault ≡ Device → kept_of new ≡ kept_of old → StepsByCommand who command (Err fault) old new
-      failed_so fault device kept = record {
+      failed_so : (fault : BookFault) → fault ≡ Device → kept_of new ≡ kept_of old → is_broken old ≡ false → is_broken new ≡ true → StepsByCommand who command (Err fault) old new
+      failed_so fault device kept was broke = record {
         answered = tt;
-        failed = λ _. (reply, record { page = (record { start = start; adds = adds }, kept); crash = with_entry });
+        failed = λ _. (reply, record { page = (record { start = start; adds = adds }, kept, was, broke); broken = λ _. broke; crash = with_entry });
         refused = λ _ other. absurd (other (ap (λ (f : BookFault). Err f) device));
       }
 
       -- the disk fails at it
-      pub command_failed : (result : Result Reply BookFault) (fault : BookFault) → result ≡ Err fault → fault ≡ Device → kept_of new ≡ kept_of old → StepsByCommand who command result old new
-      command_failed result fault is device kept = subst (λ (r : Result Reply BookFault). StepsByCommand who command r old new) (sym is) (failed_so fault device kept)
+      pub command_failed : (result : Result Reply BookFault) (fault : BookFault) → result ≡ Err fault → fault ≡ Device → kept_of new ≡ kept_of old → is_broken old ≡ false → is_broken new ≡ true
+          → StepsByCommand who command result old new
+      command_failed result fault is device kept was broke =
+          subst (λ (r : Result Reply BookFault). StepsByCommand who command r old new) (sym is) (failed_so fault device kept was broke)
 
       -- it is answered
-      pub command_answered : kept_of new ≡ length (log_of new) → StepsByCommand who command (Ok reply) old new
-      command_answered kept = record {
-        answered = record { page = (record { start = start; adds = adds }, kept); crash = with_entry };
+      pub command_answered : kept_of new ≡ length (log_of new) → is_broken old ≡ false → is_broken new ≡ false → StepsByCommand who command (Ok reply) old new
+      command_answered kept was whole = record {
+        answered = record {
+          page = (record { start = start; adds = adds }, kept, whole);
+          broken = λ broke. absurd (not-both (is_broken old) was broke);
+          crash = with_entry;
+        };
         failed = λ device. absurd (device-not-ok reply device);
         refused = λ err. absurd (err-not-ok reply err);
       }

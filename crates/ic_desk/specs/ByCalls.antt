@@ -1,13 +1,12 @@
 -- To be believed: of which calls of a book a call over it is made, as moves of a server, and which
 -- disk a stop in its midst has be found. This project's choice.
-use Rattle.std.specs.Prelude.{◌≡◌, ℕ, List, [], ◌∷◌, ◌++◌, true, false, IsTrue}
-use Rattle.std.specs.List.{AllByRecursion}
+use Rattle.std.specs.Prelude.{◌≡◌, List, [], ◌∷◌, ◌++◌, IsTrue}
 use Rattle.ic_disk.specs.declared.disk.Disk.{Ghosts}
 use Rattle.ic_disk.specs.Images.{Within}
 use Rattle.ic_frames.specs.Fields.{IsMade}
 use Rattle.ic_desk.specs.declared.book.Book.{Book}
-use Rattle.ic_desk.specs.Book.{disk_of, is_broken}
-use Rattle.ic_desk.specs.Moves.{Move, fails}
+use Rattle.ic_desk.specs.Book.{disk_of}
+use Rattle.ic_desk.specs.Moves.{Move}
 use Rattle.ic_desk.specs.Server.{Does, IsFound}
 
 -- its disk keeps the model and is made
@@ -21,17 +20,6 @@ abbrev pub Calls : {D : Type 0} {ghosts : Ghosts D}
 Calls [] first last = last ≡ first
 Calls {D} {ghosts} (move ∷ moves) first last =
     (before : Book D ghosts) × Calls moves first before × Does move before last
-
--- any but a command at which the disk failed
-abbrev pub IsNoFailure : Move → Type 0
-IsNoFailure (fails who command reply) = ⊥
-IsNoFailure move = Unit {0}
-
--- The disk failed at one command at most.
-abbrev pub FailsOnce : List Move → Type 0
-FailsOnce [] = Unit {0}
-FailsOnce (fails who command reply ∷ moves) = AllByRecursion IsNoFailure moves
-FailsOnce (move ∷ moves) = FailsOnce moves
 
 -- A stop came in the midst of one of these calls, and this disk is found: the earlier ones lead to a
 -- book, and the next one was under way.
@@ -48,15 +36,9 @@ pub record IsStoppedWithin {D : Type 0} {ghosts : Ghosts D} (moves : List Move)
   pub stop : IsFound ghosts (disk_of before) (disk_of after) found
 
 -- A book becomes another by calls of a book and nothing else. Whatever disk is found after a stop
--- since the first, on a made disk that keeps the model, is found after a stop in one of them. A
--- broken book stays broken. Unless the book is broken in the end every command among them was
--- answered, and else all but one; none fails in a book that was broken.
+-- since the first, on a made disk that keeps the model, is found after a stop in one of them.
 pub record IsByCalls {D : Type 0} {ghosts : Ghosts D} (old new : Book D ghosts) : Type 0 where
   pub moves : List Move
   pub calls : Calls moves old new
   pub stopped : IsOnMadeDisk old → (found : D)
       → IsFound ghosts (disk_of old) (disk_of new) found → IsStoppedWithin moves old found
-  pub whole : is_broken new ≡ false → is_broken old ≡ false
-  pub answered : is_broken new ≡ false → AllByRecursion IsNoFailure moves
-  pub once : FailsOnce moves
-  pub behind : is_broken old ≡ true → AllByRecursion IsNoFailure moves

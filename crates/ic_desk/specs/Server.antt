@@ -1,6 +1,6 @@
 -- A server and its steps, which are the calls of a book and the stops in their midst, and what it
 -- reaches by them. This project's choice.
-use Rattle.std.specs.Prelude.{◌≡◌, ◌⊎◌, ◌≤◌, List, ℕ, [], ◌∷◌, ◌++◌, Result, Ok, Err, IsTrue, IsErr, IsErrOf, IfOk, length}
+use Rattle.std.specs.Prelude.{◌≡◌, ◌⊎◌, ◌≤◌, List, ℕ, [], ◌∷◌, ◌++◌, Result, Ok, Err, true, false, IsTrue, IsErr, IsErrOf, IfOk, length}
 use Rattle.ic_disk.specs.declared.disk.Disk.{Ghosts}
 use Rattle.ic_disk.specs.Images.{Within}
 use Rattle.ic_jobs.specs.declared.command.Command.{Command}
@@ -15,7 +15,7 @@ use Rattle.ic_slots.specs.Opening.{Says}
 use Rattle.ic_desk.specs.declared.book.Book.{Book}
 use Rattle.ic_desk.specs.declared.fault.BookFault.{BookFault}
 use Rattle.ic_desk.specs.declared.fault.BookFault.TheVariants.{Device}
-use Rattle.ic_desk.specs.Book.{start_of, log_of, table_of, kept_of, disk_of}
+use Rattle.ic_desk.specs.Book.{start_of, log_of, table_of, kept_of, disk_of, is_broken}
 use Rattle.ic_desk.specs.Calls.{LeavesKeptOrAll}
 use Rattle.ic_desk.specs.Entries.{Adds, command_entry, round_entry}
 use Rattle.ic_desk.specs.Kept.{HoldsKeptOrAll}
@@ -39,12 +39,11 @@ pub record GoesOn {D : Type 0} {ghosts : Ghosts D} (entry : Entry)
   pub start : start_of new ≡ start_of old
   pub adds : Adds entry (log_of old) (log_of new) (table_of old) (table_of new)
 
--- the page stays as it is, and what was kept stays kept
+-- the page stays as it is
 pub record StaysOnPage {D : Type 0} {ghosts : Ghosts D} (old new : Book D ghosts) : Type 0 where
   pub start : start_of new ≡ start_of old
   pub log : log_of new ≡ log_of old
   pub table : table_of new ≡ table_of old
-  pub kept : kept_of old ≤ kept_of new
 
 -- a new page begins with the table
 pub record TurnsPage {D : Type 0} {ghosts : Ghosts D} (old new : Book D ghosts) : Type 0 where
@@ -52,28 +51,33 @@ pub record TurnsPage {D : Type 0} {ghosts : Ghosts D} (old new : Book D ghosts) 
   pub log : log_of new ≡ []
   pub table : table_of new ≡ table_of old
 
--- What a call makes of the page. At an answer and at a keep all is kept.
+-- What a call makes of the page. At an answer and at a keep all is kept, and the book isn't broken. A
+-- command at which the disk fails breaks it. Nothing more is kept by any other call.
 abbrev pub Turns : {D : Type 0} {ghosts : Ghosts D}
     → Move → Book D ghosts → Book D ghosts → Type 0
 Turns (answers who command reply) old new =
     GoesOn (command_entry who command reply) old new × (kept_of new ≡ length (log_of new))
+    × (is_broken new ≡ false)
 Turns (fails who command reply) old new =
     GoesOn (command_entry who command reply) old new × (kept_of new ≡ kept_of old)
+    × (is_broken old ≡ false) × (is_broken new ≡ true)
 Turns (rounds name reply) old new =
     GoesOn (round_entry name reply) old new × (kept_of new ≡ kept_of old)
 Turns keeps old new =
     (StaysOnPage old new ⊎ TurnsPage old new) × (kept_of new ≡ length (log_of new))
-Turns stays old new = StaysOnPage old new
+    × (is_broken new ≡ false)
+Turns stays old new = StaysOnPage old new × (kept_of new ≡ kept_of old)
 Turns opens old new = ⊥
 Turns (refuses cause) old new = ⊥
 Turns closes old new = ⊥
 Turns (stops move) old new = ⊥
 
--- A call of an open book: what it makes of the page, and that a crash in it leaves the table that
--- was kept, or the one after the log and what the call brings.
+-- A call of an open book: what it makes of the page, that a broken book stays broken, and that a crash
+-- in it leaves the table that was kept, or the one after the log and what the call brings.
 pub record Does {D : Type 0} {ghosts : Ghosts D} (move : Move)
     (old new : Book D ghosts) : Type 0 where
   pub page : Turns move old new
+  pub broken : is_broken old ≡ true → is_broken new ≡ true
   pub crash : LeavesKeptOrAll (log_of old ++ brings move) old new
 
 -- ---- openings and closings

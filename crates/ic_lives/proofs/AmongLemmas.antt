@@ -14,11 +14,11 @@ use Rattle.ic_lives.proofs.RunLemmas.{Joins, legal_front}
 
 -- ---- among others
 
-among_self : (es : List Entry) → StandAmong es es
+pub among_self : (es : List Entry) → StandAmong es es
 among_self [] = tt
 among_self (e ∷ es) = inl (refl, among_self es)
 
-among_behind : (others es : List Entry) → StandAmong es (others ++ es)
+pub among_behind : (others es : List Entry) → StandAmong es (others ++ es)
 among_behind [] es = among_self es
 among_behind (o ∷ others) [] = tt
 among_behind (o ∷ others) (e ∷ es) = inr (among_behind others (e ∷ es))
@@ -29,11 +29,27 @@ among_both (e ∷ es) [] more is = absurd is
 among_both (e ∷ es) (o ∷ others) more (inl here) = inl (here.0, among_both es others more here.1)
 among_both (e ∷ es) (o ∷ others) more (inr later) = inr (among_both (e ∷ es) others more later)
 
-among_longer : (es others more : List Entry) → StandAmong es others → StandAmong es (others ++ more)
+pub among_longer : (es others more : List Entry) → StandAmong es others → StandAmong es (others ++ more)
 among_longer [] others more is = tt
 among_longer (e ∷ es) [] more is = absurd is
 among_longer (e ∷ es) (o ∷ others) more (inl here) = inl (here.0, among_longer es others more here.1)
 among_longer (e ∷ es) (o ∷ others) more (inr later) = inr (among_longer (e ∷ es) others more later)
+
+pub among_join : (es more others rest : List Entry) → StandAmong es others → StandAmong more rest → StandAmong (es ++ more) (others ++ rest)
+among_join [] [] others rest is so = tt
+among_join [] (m ∷ more) [] rest is so = so
+among_join [] (m ∷ more) (o ∷ others) rest is so = inr (among_join [] (m ∷ more) others rest tt so)
+among_join (e ∷ es) more [] rest is so = absurd is
+among_join (e ∷ es) more (o ∷ others) rest (inl here) so = inl (here.0, among_join es more others rest here.1 so)
+among_join (e ∷ es) more (o ∷ others) rest (inr later) so = inr (among_join (e ∷ es) more others rest later so)
+
+pub among_trans : (es others all : List Entry) → StandAmong es others → StandAmong others all → StandAmong es all
+among_trans [] others all is so = tt
+among_trans (e ∷ es) [] all is so = absurd is
+among_trans (e ∷ es) (o ∷ others) [] is so = absurd so
+among_trans (e ∷ es) (o ∷ others) (a ∷ all) is (inr later) = inr (among_trans (e ∷ es) (o ∷ others) all is later)
+among_trans (e ∷ es) (o ∷ others) (a ∷ all) (inl here) (inl there) = inl (here.0 ∙ there.0, among_trans es others all here.1 there.1)
+among_trans (e ∷ es) (o ∷ others) (a ∷ all) (inr later) (inl there) = inr (among_trans (e ∷ es) others all later there.1)
 
 among_first : (es rest others : List Entry) → StandAmong (es ++ rest) others → StandAmong es others
 among_first [] rest others is = tt

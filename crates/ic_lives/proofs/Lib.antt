@@ -5,3 +5,4 @@ pub mod ServedLemmas
 pub mod AmongLemmas
 pub mod MemLemmas
 pub mod WordLemmas
+pub mod ServingLemmas

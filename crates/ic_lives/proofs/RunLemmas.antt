@@ -246,8 +246,8 @@ module _ {D : Type 0} {ghosts : Ghosts D} where
     made = crash.made is.keeps is.made;
   }
 
-  stays_on : (past : Past) (old new : Book D ghosts) → IsUp past old → LeavesKeptOrAll (log_of old ++ []) old new → StaysOnPage old new → GoesTo stays past (up new)
-  stays_on past old new is crash same = (past, refl, same_page past past.lasting old new is crash same (omega (arith, is.enough, same.kept)))
+  stays_on : (past : Past) (old new : Book D ghosts) → IsUp past old → LeavesKeptOrAll (log_of old ++ []) old new → StaysOnPage old new → kept_of new ≡ kept_of old → GoesTo stays past (up new)
+  stays_on past old new is crash same kept = (past, refl, same_page past past.lasting old new is crash same (omega (arith, is.enough, kept)))
 
   keeps_all : Replays → Joins → (past : Past) (old new : Book D ghosts) → IsUp past old → Does keeps old new → GoesTo keeps past (up new)
   keeps_all replays joins past old new is call = (
@@ -270,7 +270,7 @@ module _ {D : Type 0} {ghosts : Ghosts D} where
   does replays joins (rounds name reply) past old new is call =
       grows (rounds name reply) past old new is (round_entry name reply) past.lasting call.page.0 call.crash (refl, refl) (omega (arith, is.enough, call.page.1))
   does replays joins keeps past old new is call = keeps_all replays joins past old new is call
-  does replays joins stays past old new is call = stays_on past old new is call.crash call.page
+  does replays joins stays past old new is call = stays_on past old new is call.crash call.page.0 call.page.1
   does replays joins opens past old new is call = absurd call.page
   does replays joins (refuses cause) past old new is call = absurd call.page
   does replays joins closes past old new is call = absurd call.page

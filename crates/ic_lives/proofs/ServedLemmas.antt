@@ -1,9 +1,6 @@
 -- What a server has after calls over its book, ended or stopped in their midst.
-use Rattle.std.proofs.Common.{◌≡◌, ◌⊎◌, inl, inr, ⊎_elim, Bool, true, false, Option, Result, ℕ, ◌≤◌, List, [], ◌∷◌, ◌++◌, refl, sym, ap, subst, append_assoc}
-use Rattle.std.specs.List.{AllByRecursion}
-use Rattle.std.specs.Prelude.{IsTrue}
+use Rattle.std.proofs.Common.{◌≡◌, ◌⊎◌, true, false, Option, Result, ℕ, ◌≤◌, List, [], ◌∷◌, ◌++◌, refl, sym, ap, subst, ◌∙◌, append_assoc}
 use Rattle.ic_disk.specs.declared.disk.Disk.{Ghosts}
-use Rattle.ic_disk.specs.Images.{Within}
 use Rattle.ic_disk.specs.Time.{LeftSince}
 use Rattle.ic_slots.specs.Held.{HoldsTable, the_table}
 use Rattle.ic_jobs.specs.declared.command.Command.{Command}
@@ -15,7 +12,7 @@ use Rattle.ic_frames.specs.declared.faults.OpenCause.{OpenCause}
 use Rattle.ic_frames.specs.declared.faults.OpenCause.TheVariants.{Device, Memory}
 use Rattle.ic_desk.specs.declared.book.Book.{Book}
 use Rattle.ic_desk.specs.Book.{table_of, disk_of, is_broken}
-use Rattle.ic_desk.specs.Moves.{Move, opens, refuses, answers, fails, rounds, keeps, stays, closes, stops, brings}
+use Rattle.ic_desk.specs.Moves.{Move, opens, refuses, answers, fails, rounds, keeps, stays, closes, stops}
 use Rattle.ic_desk.specs.Server.{Server, down, up, Does, Opens, Refuses, IsFound, Step, Runs, Reaches}
 use Rattle.ic_serving.specs.declared.fault.ServeFault.{ServeFault}
 use Rattle.ic_serving.specs.Booked.{IsAllKept, last_kept}
@@ -23,11 +20,10 @@ use Rattle.ic_serving.specs.Serving.{IsServing}
 use Rattle.ic_serving.specs.InTurn.{AreAnsweredInTurn, AreServedInTurn, calls_for, moves_in_turn}
 use Rattle.ic_serving.specs.Stopped.{MayStand}
 use Rattle.ic_desk.specs.lemmas.Chains.{by_calls_then}
-use Rattle.ic_desk.specs.ByCalls.{Calls, FailsOnce, IsByCalls, IsOnMadeDisk, IsNoFailure}
+use Rattle.ic_desk.specs.ByCalls.{Calls, IsByCalls, IsOnMadeDisk}
 use Rattle.ic_lives.specs.Headline.{IsTableAfter}
 use Rattle.ic_lives.specs.Histories.{IsHistoryOf}
 use Rattle.ic_lives.specs.Served.{IsCutShort}
-use Rattle.ic_lives.specs.Servings.{Serving, IsStopped, IsClosed, AreServings, AreMovesOf}
 use Rattle.ic_lives.proofs.JobLemmas.{Lives}
 use Rattle.ic_lives.proofs.AmongLemmas.{file_stands}
 use Rattle.ic_lives.proofs.RunLemmas.{Replays, Joins, HoldsOne, IsUp, reached, prefix_after, refused_so, table_after, table_in}
@@ -51,7 +47,7 @@ module _ {D : Type 0} {ghosts : Ghosts D} where
   calls_run [] first last is = ap (λ (b : Book D ghosts). up b) is
   calls_run (move ∷ moves) first last is = (up is.0, calls_run moves first is.0 is.1, step_of move is.0 last is.2)
 
-  runs_join : (later earlier : List Move) (first mid last : Server ghosts) → Runs earlier first mid → Runs later mid last → Runs (later ++ earlier) first last
+  pub runs_join : (later earlier : List Move) (first mid last : Server ghosts) → Runs earlier first mid → Runs later mid last → Runs (later ++ earlier) first last
   runs_join [] earlier first mid last front back = subst (λ (s : Server ghosts). Runs earlier first s) (sym back) front
   runs_join (move ∷ later) earlier first mid last front back = (back.0, runs_join later earlier first mid back.0 front back.1, back.2)
 
@@ -78,7 +74,7 @@ module _ {D : Type 0} {ghosts : Ghosts D} where
   turns_split (line ∷ front) more first last turns =
       let rest = turns_split front more turns.0 last turns.3 in (rest.0, (turns.0, turns.1, turns.2, rest.1), rest.2)
 
-  turns_calls : (ls : List (List ℕ)) (mid last new : Book D ghosts) → AreAnsweredInTurn ls mid last → IsByCalls last new → IsByCalls mid new
+  pub turns_calls : (ls : List (List ℕ)) (mid last new : Book D ghosts) → AreAnsweredInTurn ls mid last → IsByCalls last new → IsByCalls mid new
   turns_calls [] mid last new turns done = subst (λ (b : Book D ghosts). IsByCalls b new) turns done
   turns_calls (line ∷ ls) mid last new turns done =
       by_calls_then mid turns.0 new (calls_for turns.2.reading turns.1 mid turns.0 turns.2.done) (turns_calls ls turns.0 last new turns.3 done)
@@ -176,79 +172,36 @@ module _ {D : Type 0} {ghosts : Ghosts D} where
         )
 
     -- behind any number of answered lines
-    pub turns_stopped : {T : Type 0} (result : Result T ServeFault) (moves : List Move) (ls : List (List ℕ)) (old new : Book D ghosts) (found : D)
-        (served : AreServedInTurn result ls old new) (front more : List (List ℕ)) → served.front ≡ front ++ more → Reaches moves (up old)
-        → (mid : Book D ghosts) × (turns : AreAnsweredInTurn front old mid) × (later : IsByCalls mid new)
+    pub turns_stopped : (moves : List Move) (old new : Book D ghosts) (found : D)
+        (all : List (List ℕ)) (served : AreServedInTurn all old new) (front more : List (List ℕ)) → all ≡ front ++ more → Reaches moves (up old)
+        → (mid : Book D ghosts) × (turns : AreAnsweredInTurn front old mid) × (others : AreAnsweredInTurn more mid served.between) × (later : IsByCalls mid new)
         × Reaches (moves_in_turn front old mid turns ++ moves) (up mid)
         × (IsFound ghosts (disk_of mid) (disk_of new) found → (cut : List Move) × IsCutShort later.moves cut
         × Reaches {ghosts = ghosts} (cut ++ (moves_in_turn front old mid turns ++ moves)) (down found))
-    turns_stopped result moves ls old new found served front more parted run =
+    turns_stopped moves old new found all served front more parted run =
         let split = turns_split front more old served.between (subst (λ (xs : List (List ℕ)). AreAnsweredInTurn xs old served.between) parted served.answered) in
         let later = turns_calls more split.0 served.between new split.2 served.behind in
         let there = reaches_turns moves front old split.0 split.1 run in
-        (split.0, split.1, later, there, λ here. stopped_so (moves_in_turn front old split.0 split.1 ++ moves) split.0 new later found there here)
+        (split.0, split.1, split.2, later, there, λ here. stopped_so (moves_in_turn front old split.0 split.1 ++ moves) split.0 new later found there here)
 
-    -- ---- one serving after the other
+-- a command at which the disk failed has broken the book, and it stays so
+pub broken_by : {D : Type 0} {ghosts : Ghosts D} (moves later earlier : List Move) (who : ℕ) (command : Command) (reply : Reply) (old new : Book D ghosts)
+    → Calls moves old new → moves ≡ later ++ fails who command reply ∷ earlier → is_broken new ≡ true
+broken_by {D} {ghosts} moves later earlier who command reply old new calls same =
+    broken_behind later new (subst (λ (ms : List Move). Calls {ghosts = ghosts} ms old new) same calls)
+  where
+    broken_behind : (later : List Move) (last : Book D ghosts) → Calls (later ++ fails who command reply ∷ earlier) old last → is_broken last ≡ true
+    broken_behind [] last calls = calls.2.page.3
+    broken_behind (move ∷ later) last calls = calls.2.broken (broken_behind later calls.0 calls.1)
 
-    -- a serving goes on from what was reached
-    served_so : (s : Serving ghosts) (before : D) (moves : List Move) → Reaches {ghosts = ghosts} moves (down before) → Opens before s.opened → IsStopped s ⊎ IsClosed s
-        → (now : List Move) × Reaches {ghosts = ghosts} now (down s.found)
-        × (((cut : List Move) × IsCutShort s.under_way.moves cut × (now ≡ cut ++ (s.answered.moves ++ opens ∷ moves))) ⊎ (now ≡ closes ∷ (s.under_way.moves ++ (s.answered.moves ++ opens ∷ moves))))
-    served_so s before moves run call end =
-        let so_far = s.answered.moves ++ opens ∷ moves in
-        let there = reaches_more (opens ∷ moves) s.opened s.answering s.answered (reaches_step opens moves (down before) (up s.opened) run call) in
-        ⊎_elim
-        (λ stop. let at = stopped_so so_far s.answering s.led_to s.under_way s.found there stop in (at.0 ++ so_far, at.2, inl (at.0, at.1, refl)))
-        (λ close. let all = reaches_more so_far s.answering s.led_to s.under_way there in
-        (closes ∷ (s.under_way.moves ++ so_far), reaches_step closes (s.under_way.moves ++ so_far) (up s.led_to) (down s.found) all close, inr refl))
-        end
-
-    pub servings_run : (servings : List (Serving ghosts)) (first last : D) → IsTrue (ghosts.keeps first) → Within (ghosts.image first) (HoldsTable []) → AreServings servings first last
-        → (moves : List Move) × AreMovesOf servings moves × Reaches {ghosts = ghosts} moves (down last)
-    servings_run [] first last model created are = ([], refl, record { disk = first; keeps = model; created = created; runs = ap (λ (d : D). down d) are })
-    servings_run (s ∷ servings) first last model created are =
-        let so_far = servings_run servings first are.0 model created are.1 in
-        let now = served_so s are.0 so_far.0 so_far.2 are.2 are.3 in
-        (now.0, (so_far.0, so_far.1, now.2), subst (λ (d : D). Reaches {ghosts = ghosts} now.0 (down d)) (sym are.4) now.1)
-
--- what a serving has answered stands in the moves
-pub answered_among : {D : Type 0} {ghosts : Ghosts D} (s : Serving ghosts) (servings : List (Serving ghosts)) (moves : List Move) → AreMovesOf (s ∷ servings) moves
-    → (later earlier : List Move) × (moves ≡ later ++ (s.answered.moves ++ opens ∷ earlier)) × AreMovesOf servings earlier
-answered_among s servings moves are = ⊎_elim
-    (λ cut. (cut.0, are.0, cut.2, are.1))
-    (λ all. (closes ∷ s.under_way.moves, are.0, all, are.1))
-    are.2
-
--- a failure is among the moves
-failed_among : (later earlier : List Move) (who : ℕ) (command : Command) (reply : Reply) → ¬ AllByRecursion IsNoFailure (later ++ fails who command reply ∷ earlier)
-failed_among [] earlier who command reply is = is.0
-failed_among (move ∷ later) earlier who command reply is = failed_among later earlier who command reply is.1
-
-not_false : (b : Bool) → ¬ (b ≡ false) → b ≡ true
-not_false true other = refl
-not_false false other = absurd (other refl)
-
-pub broken_by : {D : Type 0} {ghosts : Ghosts D} (old new : Book D ghosts) (done : IsByCalls old new) (later earlier : List Move) (who : ℕ) (command : Command) (reply : Reply)
-    → done.moves ≡ later ++ fails who command reply ∷ earlier → is_broken new ≡ true
-broken_by old new done later earlier who command reply same =
-    not_false (is_broken new) (λ whole. failed_among later earlier who command reply (subst (λ (ms : List Move). AllByRecursion IsNoFailure ms) same (done.answered whole)))
-
--- two failures are among the moves
-once_among : (later between earlier : List Move) (who other : ℕ) (command second : Command) (reply answer : Reply)
-    → ¬ FailsOnce (later ++ fails who command reply ∷ (between ++ fails other second answer ∷ earlier))
-once_among [] between earlier who other command second reply answer is = failed_among between earlier other second answer is
-once_among (opens ∷ later) between earlier who other command second reply answer is = once_among later between earlier who other command second reply answer is
-once_among (refuses cause ∷ later) between earlier who other command second reply answer is = once_among later between earlier who other command second reply answer is
-once_among (answers w c r ∷ later) between earlier who other command second reply answer is = once_among later between earlier who other command second reply answer is
-once_among (fails w c r ∷ later) between earlier who other command second reply answer is =
-    failed_among later (between ++ fails other second answer ∷ earlier) who command reply is
-once_among (rounds name r ∷ later) between earlier who other command second reply answer is = once_among later between earlier who other command second reply answer is
-once_among (keeps ∷ later) between earlier who other command second reply answer is = once_among later between earlier who other command second reply answer is
-once_among (stays ∷ later) between earlier who other command second reply answer is = once_among later between earlier who other command second reply answer is
-once_among (closes ∷ later) between earlier who other command second reply answer is = once_among later between earlier who other command second reply answer is
-once_among (stops m ∷ later) between earlier who other command second reply answer is = once_among later between earlier who other command second reply answer is
-
-pub once_by : {D : Type 0} {ghosts : Ghosts D} (old new : Book D ghosts) (done : IsByCalls old new) (later between earlier : List Move) (who other : ℕ) (command second : Command) (reply answer : Reply)
-    → ¬ (done.moves ≡ later ++ fails who command reply ∷ (between ++ fails other second answer ∷ earlier))
-once_by old new done later between earlier who other command second reply answer same =
-    once_among later between earlier who other command second reply answer (subst (λ (ms : List Move). FailsOnce ms) same done.once)
+-- behind it the disk fails at no other
+pub once_by : {D : Type 0} {ghosts : Ghosts D} (moves later between earlier : List Move) (who other : ℕ) (command second : Command) (reply answer : Reply) (old new : Book D ghosts)
+    → Calls moves old new → ¬ (moves ≡ later ++ fails who command reply ∷ (between ++ fails other second answer ∷ earlier))
+once_by {D} {ghosts} moves later between earlier who other command second reply answer old new calls same =
+    once_behind later new (subst (λ (ms : List Move). Calls {ghosts = ghosts} ms old new) same calls)
+  where
+    once_behind : (later : List Move) (last : Book D ghosts) → ¬ Calls (later ++ fails who command reply ∷ (between ++ fails other second answer ∷ earlier)) old last
+    once_behind [] last calls =
+        let broke = broken_by (between ++ fails other second answer ∷ earlier) between earlier other second answer old calls.0 calls.1 refl in
+        let never : true ≡ false = sym broke ∙ calls.2.page.2 in cc
+    once_behind (move ∷ later) last calls = once_behind later calls.0 calls.1

@@ -1,46 +1,80 @@
--- One serving of a server after the other, each ended by a stop or by its close.
-use Rattle.std.specs.Prelude.{◌≡◌, ◌⊎◌, List, [], ◌∷◌, ◌++◌}
+-- Servings of lines and other moves of a server, one after the other.
+use Rattle.std.specs.Prelude.{◌≡◌, ℕ, List, [], ◌∷◌, ◌++◌, Option, Result}
 use Rattle.ic_disk.specs.declared.disk.Disk.{Ghosts}
+use Rattle.ic_jobs.specs.declared.event.Entry.{Entry}
 use Rattle.ic_desk.specs.declared.book.Book.{Book}
 use Rattle.ic_desk.specs.Book.{disk_of}
 use Rattle.ic_desk.specs.ByCalls.{IsByCalls}
-use Rattle.ic_desk.specs.Moves.{Move, opens, closes}
-use Rattle.ic_desk.specs.Server.{Closes, IsFound, Opens}
+use Rattle.ic_desk.specs.Moves.{Move}
+use Rattle.ic_desk.specs.Server.{Server, down, up, IsFound, Runs}
+use Rattle.ic_serving.specs.declared.fault.ServeFault.{ServeFault}
+use Rattle.ic_serving.specs.InTurn.{AreAnsweredInTurn, moves_in_turn, replies_in_turn}
+use Rattle.ic_serving.specs.Serving.{IsServing}
+use Rattle.ic_lives.specs.Histories.{answered}
 use Rattle.ic_lives.specs.Served.{IsCutShort}
 
--- A serving: the book that was opened, the one behind all that was answered when it ended, the one to
--- which the calls behind that lead or would have led, and the disk that is found behind it.
+-- A serving is what a call of `serve_lines` says of its two books, or would say. Some of the lines
+-- that it answers come first, and lead to the book `answering`; the others lead on from there.
 pub record Serving {D : Type 0} (ghosts : Ghosts D) : Type 0 where
-  pub opened : Book D ghosts
+  pub old : Book D ghosts
+  pub new : Book D ghosts
+  pub result : Result (Unit {0}) ServeFault
+  pub ls : List (List ℕ)
+  pub before : Option (List ℕ)
+  pub behind : Option (List ℕ)
+  pub serves : IsServing result ls old new before behind
+  pub front : List (List ℕ)
+  pub more : List (List ℕ)
+  pub parted : serves.front ≡ front ++ more
   pub answering : Book D ghosts
-  pub led_to : Book D ghosts
-  pub answered : IsByCalls opened answering
-  pub under_way : IsByCalls answering led_to
-  pub found : D
+  pub first_lines : AreAnsweredInTurn front old answering
+  pub other_lines : AreAnsweredInTurn more answering serves.turns.between
 
--- A stop came at some moment behind what was answered, or it was closed.
-abbrev pub IsStopped : {D : Type 0} {ghosts : Ghosts D} → Serving ghosts → Type 0
-IsStopped {ghosts = g} s = IsFound g (disk_of s.answering) (disk_of s.led_to) s.found
+-- A part of a run: a serving that has ended, a serving in which a stop came behind its first lines, or
+-- any other moves, which lead to this server.
+pub data Part {D : Type 0} (ghosts : Ghosts D) : Type 0 where
+  ended : Serving ghosts → Part ghosts
+  stopped : Serving ghosts → (found : D) → Part ghosts
+  other : List Move → Server ghosts → Part ghosts
 
-abbrev pub IsClosed : {D : Type 0} {ghosts : Ghosts D} → Serving ghosts → Type 0
-IsClosed s = Closes s.led_to s.found
-
--- These servings lead from one disk to another: each opens what the one before it left. The newest
+-- These parts lead from one server to another, each from where the one before it led. The newest
 -- stands first.
-abbrev pub AreServings : {D : Type 0} {ghosts : Ghosts D}
-    → List (Serving ghosts) → (first last : D) → Type 0
-AreServings [] first last = last ≡ first
-AreServings {D} (s ∷ servings) first last =
-    (before : D) × AreServings servings first before × Opens before s.opened
-    × (IsStopped s ⊎ IsClosed s) × (last ≡ s.found)
+abbrev pub ArePartsOf : {D : Type 0} {ghosts : Ghosts D}
+    → List (Part ghosts) → (first last : Server ghosts) → Type 0
+ArePartsOf [] first last = last ≡ first
+ArePartsOf (ended s ∷ parts) first last =
+    ArePartsOf parts first (up s.old) × (last ≡ up s.new)
+ArePartsOf {ghosts = g} (stopped s found ∷ parts) first last =
+    ArePartsOf parts first (up s.old) × IsFound g (disk_of s.answering) (disk_of s.new) found
+    × (last ≡ down found)
+ArePartsOf {ghosts = g} (other moves server ∷ parts) first last =
+    (before : Server g) × ArePartsOf parts first before × Runs moves before server
+    × (last ≡ server)
 
--- These are their moves: each opens, and all is answered that was. Then its calls are cut short by a
--- stop in the midst of one, or all are made and the disk is closed.
+-- the moves of the first lines of a serving
+abbrev pub line_moves : {D : Type 0} {ghosts : Ghosts D} → Serving ghosts → List Move
+line_moves s = moves_in_turn s.front s.old s.answering s.first_lines
+
+-- The moves of these parts. In a serving those of its first lines come first; behind them it makes
+-- calls of the book, or a stop cuts these short.
 abbrev pub AreMovesOf : {D : Type 0} {ghosts : Ghosts D}
-    → List (Serving ghosts) → List Move → Type 0
+    → List (Part ghosts) → List Move → Type 0
 AreMovesOf [] moves = moves ≡ []
-AreMovesOf (s ∷ servings) moves =
-    (earlier : List Move) × AreMovesOf servings earlier
-    × (((cut : List Move) × IsCutShort s.under_way.moves cut
-    × (moves ≡ cut ++ (s.answered.moves ++ opens ∷ earlier)))
-    ⊎ (moves ≡ closes ∷ (s.under_way.moves ++ (s.answered.moves ++ opens ∷ earlier))))
+AreMovesOf (ended s ∷ parts) moves = (earlier : List Move) × AreMovesOf parts earlier
+    × (later : IsByCalls s.answering s.new)
+    × (moves ≡ later.moves ++ (line_moves s ++ earlier))
+AreMovesOf (stopped s found ∷ parts) moves = (earlier : List Move) × AreMovesOf parts earlier
+    × (later : IsByCalls s.answering s.new) × (cut : List Move) × IsCutShort later.moves cut
+    × (moves ≡ cut ++ (line_moves s ++ earlier))
+AreMovesOf (other more server ∷ parts) moves = (earlier : List Move) × AreMovesOf parts earlier
+    × (moves ≡ more ++ earlier)
+
+-- The commands that these parts have answered, with their replies, in order: of servings those of the
+-- first lines.
+abbrev pub answered_by : {D : Type 0} {ghosts : Ghosts D} → List (Part ghosts) → List Entry
+answered_by [] = []
+answered_by (ended s ∷ parts) = answered_by parts
+    ++ replies_in_turn s.front s.old s.answering s.first_lines
+answered_by (stopped s found ∷ parts) = answered_by parts
+    ++ replies_in_turn s.front s.old s.answering s.first_lines
+answered_by (other moves server ∷ parts) = answered_by parts ++ answered moves

@@ -47,8 +47,8 @@ pub fn the_headline<D: Disk>(book: &Book<D>, found: &D)
 }
 
 /// The headline by histories alone: what an open book has, and whatever file is found of a disk, is
-/// the table after a legal history that has every answered command with its reply, each once and in
-/// order, and nothing but what has come.
+/// the table after a legal history that has every answered command with its reply, in order, and
+/// nothing but what has come.
 pub fn every_answer_stands<D: Disk>(book: &Book<D>, found: &D)
     ensures open { (moves : List Move) → Reaches moves (up book.now)
         → (history : List Entry) × IsHistoryOf moves history

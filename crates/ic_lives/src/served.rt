@@ -15,7 +15,7 @@ ghost use Rattle.ic_commands.specs.declared.line.Line.TheVariants.{Command as As
 ghost use Rattle.ic_lines.specs.Lines.{ended};
 ghost use Rattle.ic_desk.specs.Book.{disk_of, is_broken, table_of};
 ghost use Rattle.ic_desk.specs.Moves.{Move, answers, fails, keeps, opens, refuses};
-ghost use Rattle.ic_desk.specs.Server.{IsFound, Opens, Reaches, Refuses, down, up};
+ghost use Rattle.ic_desk.specs.Server.{IsFound, Opens, Reaches, Refuses, Server, down, up};
 ghost use Rattle.ic_serving.specs.declared.fault.ServeFault.{ServeFault};
 ghost use Rattle.ic_serving.specs.Booked.{IsAllKept, last_kept};
 ghost use Rattle.ic_desk.specs.ByCalls.{IsByCalls};
@@ -25,9 +25,9 @@ ghost use Rattle.ic_serving.specs.Served.{AreAnswered};
 ghost use Rattle.ic_serving.specs.Serving.{IsServing};
 ghost use Rattle.ic_serving.specs.Stopped.{MayStand};
 ghost use Rattle.ic_lives.specs.Headline.{IsTableAfter};
-ghost use Rattle.ic_lives.specs.Histories.{IsHistoryOf};
+ghost use Rattle.ic_lives.specs.Histories.{IsHistoryOf, StandAmong};
 ghost use Rattle.ic_lives.specs.Served.{BookOver, IsCutShort};
-ghost use Rattle.ic_lives.specs.Servings.{AreMovesOf, AreServings, Serving};
+ghost use Rattle.ic_lives.specs.Servings.{AreMovesOf, ArePartsOf, Part, answered_by};
 
 use ic_desk::Book;
 use ic_disk::Disk;
@@ -101,23 +101,37 @@ pub fn a_stopped_serving_opens_again<D: Disk>(
     ic_slots::laws::one_is_held();
 }
 
-/// Any number of servings, one after the other, each stopped at any moment or closed and opened
-/// again, are a run of a server: all that is said of runs is said of what they leave. What each has
-/// answered stands among its moves.
-pub fn servings_are_a_run<D: Disk>(first: &D, last: &D)
-    ensures run { (servings : List (Serving D.Disk)) → IsTrue (D.keeps first.now)
-        → Within (D.image first.now) (HoldsTable []) → AreServings servings first.now last.now
-        → (moves : List Move) × AreMovesOf servings moves
-        × Reaches {ghosts = D.Disk} moves (down last.now) }
-    ensures answered { (s : Serving D.Disk) (servings : List (Serving D.Disk))
-        (moves : List Move) → AreMovesOf (s ∷ servings) moves
-        → (later earlier : List Move)
-        × (moves ≡ later ++ (s.answered.moves ++ opens ∷ earlier))
-        × AreMovesOf servings earlier }
+/// Any number of servings of lines, each stopped at any moment or ended, are a run of a server, with
+/// any other moves between them: openings, also those that are refused or stopped, calls of one's own,
+/// closings. Behind them the table is the one after a legal history of these moves. Every command that
+/// a line was answered stands there with the reply that was written for it, in order.
+pub fn servings_are_a_run<D: Disk>(first: &D, last: &D, book: &Book<D>)
+    ensures run { (parts : List (Part D.Disk)) (server : Server D.Disk)
+        → IsTrue (D.keeps first.now) → Within (D.image first.now) (HoldsTable [])
+        → ArePartsOf parts (down first.now) server
+        → (moves : List Move) × AreMovesOf parts moves × Reaches moves server }
+
+    // An open book has the table after such a history.
+    ensures open { (parts : List (Part D.Disk))
+        → IsTrue (D.keeps first.now) → Within (D.image first.now) (HoldsTable [])
+        → ArePartsOf parts (down first.now) (up book.now)
+        → (moves : List Move) × AreMovesOf parts moves
+        × (history : List Entry) × IsHistoryOf moves history
+        × StandAmong (answered_by parts) history × (table_of book.now ≡ replay [] history) }
+
+    // And so has whatever file is found of a disk.
+    ensures stopped { (parts : List (Part D.Disk)) (file : List ℕ)
+        → IsTrue (D.keeps first.now) → Within (D.image first.now) (HoldsTable [])
+        → ArePartsOf parts (down first.now) (down last.now) → D.image last.now file
+        → (moves : List Move) × AreMovesOf parts moves
+        × (history : List Entry) × IsHistoryOf moves history
+        × StandAmong (answered_by parts) history × HoldsTable (replay [] history) file }
 {
     let _ = first;
     let _ = last;
+    let _ = book;
     ic_jobs::laws::histories_split_and_join();
+    ic_jobs::laws::life_law();
     ic_slots::laws::one_is_held();
 }
 
@@ -150,16 +164,18 @@ pub fn lines_are_moves<D: Disk>(old: &Book<D>, new: &Book<D>, found: &D)
     ic_slots::laws::one_is_held();
 }
 
-/// What a serving has answered stays. Behind any number of the lines that it answered the book is
-/// reached by their moves, each an answer with the reply that was written, or a keep behind a run. A
-/// stop that comes later is one in the midst of a later call: the moves of these lines are all there.
+/// What a serving has answered stays, also where it ends by a fault. Behind any number of the lines
+/// that it answered the book is reached by their moves, each an answer with the reply that was
+/// written, or a keep behind a run. A stop that comes later is one in the midst of a later call: the
+/// moves of these lines are all there.
 pub fn answered_lines_stay<D: Disk>(old: &Book<D>, new: &Book<D>, found: &D)
     ensures { (moves : List Move) (result : Result (Unit {0}) ServeFault)
         (ls : List (List ℕ)) (before behind : Option (List ℕ))
         (serving : IsServing result ls old.now new.now before behind)
-        (front more : List (List ℕ)) → serving.turns.front ≡ front ++ more
+        (front more : List (List ℕ)) → serving.front ≡ front ++ more
         → Reaches moves (up old.now)
         → (mid : BookOver D.Disk) × (turns : AreAnsweredInTurn front old.now mid)
+        × (others : AreAnsweredInTurn more mid serving.turns.between)
         × (later : IsByCalls mid new.now)
         × Reaches (moves_in_turn front old.now mid turns ++ moves) (up mid)
         × (IsFound D.Disk (disk_of mid) (disk_of new.now) found.now

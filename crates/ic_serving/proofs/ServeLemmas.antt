@@ -157,45 +157,40 @@ over ls t u old mid new answered kept = subst (λ (xs : List (List ℕ)). AreAns
 
 pub ended_at : (fault : ServeFault) (all : Type 0) (ls more : List (List ℕ)) (t u v w : List JobParts) (old mid new : Option (List ℕ))
     → AreAnswered ls t u old mid → Keeps mid new → SaysOf fault ls more → IsLeftBy fault u more v → (all → IsLeftBy fault u more w)
-    → IsEnded fault all (ls ++ more) t v w old new
+    → IsEnded fault all ls more t v w old new
 ended_at fault all ls more t u v w old mid new answered kept says here keeps = record {
-  front = ls;
-  rest = more;
   between = u;
-  parted = refl;
   answered = answered_kept ls t u old mid new answered kept;
   says = says;
   in_line = here;
   keeps = keeps;
 }
 
-pub cut_before : (ls more : List (List ℕ)) (t u : List JobParts) (old mid new : Option (List ℕ)) → AreAnswered ls t u old mid → Keeps mid new → IsCut (ls ++ more) t u old new
-cut_before ls more t u old mid new answered kept = record {
-  front = ls;
+pub cut_before : (ls : List (List ℕ)) (t u : List JobParts) (old mid new : Option (List ℕ)) → AreAnswered ls t u old mid → Keeps mid new → IsCut ls t u old new
+cut_before ls t u old mid new answered kept = record {
+  whole = ls;
   last = [];
-  rest = more;
   between = u;
   answers = answered.answers;
   more = [];
-  parted = sym (append_assoc ls [] more);
+  parted = sym (append-nil ls);
   one = omega arith;
-  within = subst MayBeServed (sym (append-nil ls)) answered.within;
+  within = answered.within;
   answered = answered.served;
   done = served_none u;
   written = front_none old new answered.answers (appends_kept old mid new answered.answers answered.written kept);
 }
 
-pub cut_behind : (ls more : List (List ℕ)) (n : ℕ) (t u v : List JobParts) (old mid seen new : Option (List ℕ)) (line bytes : List ℕ) (r : Reading)
+pub cut_behind : (ls : List (List ℕ)) (n : ℕ) (t u v : List JobParts) (old mid seen new : Option (List ℕ)) (line bytes : List ℕ) (r : Reading)
     → AreAnswered ls t u old mid → length ls ≡ n → length line ≤ MAX_TEXT → n < MAX_LINES
-    → ReadsLine line r → bytes ≡ answer u r → v ≡ after_line u r → Keeps mid seen → AppendsFront seen new [] bytes → IsCut (ls ++ line ∷ more) t v old new
-cut_behind ls more n t u v old mid seen new line bytes r answered counted short less reads is left kept written = record {
-  front = ls;
+    → ReadsLine line r → bytes ≡ answer u r → v ≡ after_line u r → Keeps mid seen → AppendsFront seen new [] bytes → IsCut (ls ++ line ∷ []) t v old new
+cut_behind ls n t u v old mid seen new line bytes r answered counted short less reads is left kept written = record {
+  whole = ls;
   last = line ∷ [];
-  rest = more;
   between = u;
   answers = answered.answers;
   more = bytes;
-  parted = sym (append_assoc ls (line ∷ []) more);
+  parted = refl;
   one = omega arith;
   within = within_more ls line n answered.within counted less short;
   answered = answered.served;

@@ -289,12 +289,16 @@ module _ {D : Type 0} {ghosts : Ghosts D} where
       → Serves text rest n first book old mid → HasNoLine rest → Keeps mid new → IsByCalls book book → OfLines text (λ ls. IsServing {T = T} (Ok v) ls first book old new)
   serving_over {T} v law text rest n first book old mid new s none kept idle =
       of_lines text rest s.way.front [] (λ ls. IsServing {T = T} (Ok v) ls first book old new) s.way.first (none_ahead rest none) (record {
+        front = s.way.front;
+        rest = [];
+        parted = refl;
+        all = refl;
+        turns = record { between = book; answered = s.turns; behind = idle };
         served = over s.way.front (table_of first) (table_of book) old mid new s.way.answered kept;
         kept = s.kept;
         ended = tt;
         cut = λ is. cc;
         kept_at_cut = λ is. cc;
-        turns = record { front = s.way.front; rest = []; parted = refl; all = refl; between = book; answered = s.turns; behind = idle };
         crash = stops_longer law first book s.way.front [] s.moments;
       })
 
@@ -302,19 +306,23 @@ module _ {D : Type 0} {ghosts : Ghosts D} where
   pub serving_err : {T : Type 0} (r : Result T ServeFault) (fault : ServeFault) → IsErrAnd r (λ x. x ≡ fault)
       → (text rest : Option (List ℕ)) (front more : List (List ℕ)) (first book new : Book D ghosts) (old now : Option (List ℕ))
       → AreFirst text front rest → AreToCome rest more
-      → (fault ≢ Write → IsEnded fault (IsAllKept first) (front ++ more) (table_of first) (table_of new) (last_kept new) old now)
-      → (fault ≡ Write → IsCut (front ++ more) (table_of first) (table_of new) old now) → (fault ≡ Write → IsAllKept first → IsAllKept new)
+      → (fault ≢ Write → IsEnded fault (IsAllKept first) front more (table_of first) (table_of new) (last_kept new) old now)
+      → (fault ≡ Write → IsCut front (table_of first) (table_of new) old now) → (fault ≡ Write → IsAllKept first → IsAllKept new)
       → LeavesServed first new (front ++ more) → AreAnsweredInTurn front first book → IsByCalls book new → OfLines text (λ ls. IsServing r ls first new old now)
   serving_err (Ok v) fault is text rest front more first book new old now begins coming ended cut kept run turns behind = absurd is
   serving_err {T} (Err e) fault is text rest front more first book new old now begins coming ended cut kept run turns behind =
       let same : e ≡ fault = is in
       of_lines text rest front more (λ ls. IsServing {T = T} (Err e) ls first new old now) begins coming (record {
+        front = front;
+        rest = more;
+        parted = refl;
+        all = tt;
+        turns = record { between = book; answered = turns; behind = behind };
         served = tt;
         kept = tt;
-        ended = λ other. subst (λ f. IsEnded f (IsAllKept first) (front ++ more) (table_of first) (table_of new) (last_kept new) old now) (sym same) (ended (λ write. other (same ∙ write)));
+        ended = λ other. subst (λ f. IsEnded f (IsAllKept first) front more (table_of first) (table_of new) (last_kept new) old now) (sym same) (ended (λ write. other (same ∙ write)));
         cut = λ write. cut (let w : e ≡ Write = cc in sym same ∙ w);
         kept_at_cut = λ write. kept (let w : e ≡ Write = cc in sym same ∙ w);
-        turns = record { front = front; rest = more; parted = refl; all = tt; between = book; answered = turns; behind = behind };
         crash = run;
       })
 
@@ -327,7 +335,7 @@ module _ {D : Type 0} {ghosts : Ghosts D} where
       serving_err r fault is text rest s.way.front more first book book old new s.way.first coming
       (λ other. ended_at fault (IsAllKept first) s.way.front more (table_of first) (table_of book) (table_of book) (last_kept book) old mid new s.way.answered kept says
       (left_first law fault (table_of book) (table_of book) more refl) (λ all. left_first law fault (table_of book) (last_kept book) more (whole (s.kept all))))
-      (λ write. cut_before s.way.front more (table_of first) (table_of book) old mid new s.way.answered kept)
+      (λ write. cut_before s.way.front (table_of first) (table_of book) old mid new s.way.answered kept)
       (λ write. s.kept)
       (stops_longer law first book s.way.front more s.moments) s.turns idle
 

@@ -1,13 +1,14 @@
 -- To be believed: lines that were answered one after the other, and the moves that they made.
-use Rattle.std.specs.Prelude.{◌≡◌, ℕ, List, [], ◌∷◌, ◌++◌, Ok, Err, Result, OnOk}
+use Rattle.std.specs.Prelude.{◌≡◌, ℕ, List, [], ◌∷◌, ◌++◌, Ok, Err}
 use Rattle.ic_disk.specs.declared.disk.Disk.{Ghosts}
 use Rattle.ic_commands.specs.declared.line.Line.TheVariants.{Blank, Command, Run}
 use Rattle.ic_lines.specs.Answers.{Reading}
 use Rattle.ic_desk.specs.declared.book.Book.{Book}
+use Rattle.ic_jobs.specs.declared.event.Entry.{Entry}
+use Rattle.ic_desk.specs.Entries.{command_entry}
 use Rattle.ic_desk.specs.Moves.{Move}
 use Rattle.ic_desk.specs.ByCalls.{IsByCalls}
 use Rattle.ic_serving.specs.Answered.{IsAnswered, IsDoneFor}
-use Rattle.ic_serving.specs.declared.fault.ServeFault.{ServeFault}
 
 -- the calls of a book by which a line was done
 abbrev pub calls_for : {D : Type 0} {ghosts : Ghosts D} (reading : Reading) (bytes : List ℕ)
@@ -32,14 +33,25 @@ moves_in_turn [] first last turns = []
 moves_in_turn (line ∷ ls) first last turns = moves_in_turn ls turns.0 last turns.3
     ++ (calls_for turns.2.reading turns.1 first turns.0 turns.2.done).moves
 
--- Some front of these lines was answered in turn, all of them where all are answered. What was done
--- behind them is calls of the book.
-pub record AreServedInTurn {T : Type 0} {D : Type 0} {ghosts : Ghosts D} (result : Result T ServeFault)
-    (ls : List (List ℕ)) (old new : Book D ghosts) : Type 0 where
-  pub front : List (List ℕ)
-  pub rest : List (List ℕ)
-  pub parted : ls ≡ front ++ rest
-  pub all : OnOk result (rest ≡ [])
+-- the command that a line was, with the reply that answered it
+abbrev pub reply_for : {D : Type 0} {ghosts : Ghosts D} (reading : Reading) (bytes : List ℕ)
+    (old new : Book D ghosts) → IsDoneFor reading bytes old new → List Entry
+reply_for (Ok Blank) bytes old new done = []
+reply_for (Ok (Command command)) bytes old new done = command_entry 0 command done.reply ∷ []
+reply_for (Ok (Run count)) bytes old new done = []
+reply_for (Err fault) bytes old new done = []
+
+-- the commands of these lines with the replies that answered them, in order
+abbrev pub replies_in_turn : {D : Type 0} {ghosts : Ghosts D} (ls : List (List ℕ))
+    (first last : Book D ghosts) → AreAnsweredInTurn ls first last → List Entry
+replies_in_turn [] first last turns = []
+replies_in_turn (line ∷ ls) first last turns =
+    reply_for turns.2.reading turns.1 first turns.0 turns.2.done
+    ++ replies_in_turn ls turns.0 last turns.3
+
+-- These lines were answered in turn, and what was done behind them is calls of the book.
+pub record AreServedInTurn {D : Type 0} {ghosts : Ghosts D} (ls : List (List ℕ))
+    (old new : Book D ghosts) : Type 0 where
   pub between : Book D ghosts
-  pub answered : AreAnsweredInTurn front old between
+  pub answered : AreAnsweredInTurn ls old between
   pub behind : IsByCalls between new

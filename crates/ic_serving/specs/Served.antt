@@ -52,14 +52,11 @@ IsLeftBy (Book fault) t ls u = IsInFirst t ls u
 IsLeftBy (Pool fault) t ls u = IsInFirst t ls u
 IsLeftBy Memory t ls u = IsInFirst t ls u
 
--- A serving was ended by a fault other than that of the writer: a front of the lines is answered,
+-- A serving was ended by a fault other than that of the writer: this front of the lines is answered,
 -- and the table is within the line behind it, as is the one that was kept last where all was kept.
-pub record IsEnded (fault : ServeFault) (all_kept : Type 0) (ls : List (List ℕ))
+pub record IsEnded (fault : ServeFault) (all_kept : Type 0) (front rest : List (List ℕ))
     (t u kept : List JobParts) (old new : Option (List ℕ)) : Type 0 where
-  pub front : List (List ℕ)
-  pub rest : List (List ℕ)
   pub between : List JobParts
-  pub parted : ls ≡ front ++ rest
   pub answered : AreAnswered front t between old new
   pub says : SaysOf fault front rest
   pub in_line : IsLeftBy fault between rest u
@@ -72,18 +69,17 @@ pub record AppendsFront (old new : Option (List ℕ)) (before behind : List ℕ)
   pub parted : behind ≡ sent ++ unsent
   pub written : Appends old new (before ++ sent)
 
--- The writer failed: a front of the lines is answered, and behind them stands at most one line that
--- is done, of whose answer a front is written.
-pub record IsCut (ls : List (List ℕ)) (t u : List JobParts) (old new : Option (List ℕ)) : Type 0 where
-  pub front : List (List ℕ)
+-- The writer failed: this front of the lines is done. The answers to all of them are written, but for
+-- at most the last one, of which a front is.
+pub record IsCut (front : List (List ℕ)) (t u : List JobParts) (old new : Option (List ℕ)) : Type 0 where
+  pub whole : List (List ℕ)
   pub last : List (List ℕ)
-  pub rest : List (List ℕ)
   pub between : List JobParts
   pub answers : List ℕ
   pub more : List ℕ
-  pub parted : ls ≡ front ++ last ++ rest
+  pub parted : front ≡ whole ++ last
   pub one : length last ≤ 1
-  pub within : MayBeServed (front ++ last)
-  pub answered : IsServed t front answers between
+  pub within : MayBeServed front
+  pub answered : IsServed t whole answers between
   pub done : IsServed between last more u
   pub written : AppendsFront old new answers more

@@ -149,27 +149,25 @@ pub fn faults_leave()
 /// A fault ends a serving behind a front of the lines, which are answered. The table is within the
 /// line behind them, as is the one that was kept last, where all was kept when it began.
 pub fn a_fault_ends_a_serving()
-    ensures within { (fault : ServeFault) (all : Bool) (ls : List (List ℕ))
+    ensures within { (fault : ServeFault) (all : Bool) (front rest : List (List ℕ))
         (t u kept : List JobParts) (old new : Option (List ℕ))
-        → IsEnded fault (all ≡ true) ls t u kept old new
-        → (front : List (List ℕ)) × (rest : List (List ℕ)) × (answers : List ℕ)
-        × (v : List JobParts) × (ls ≡ front ++ rest) × IsServed t front answers v
+        → IsEnded fault (all ≡ true) front rest t u kept old new
+        → (answers : List ℕ) × (v : List JobParts) × IsServed t front answers v
         × Appends old new answers × IsInFirst v rest u × (all ≡ true → IsInFirst v rest kept) }
-    ensures read { (all : Bool) (ls : List (List ℕ)) (t u kept : List JobParts)
-        (old new : Option (List ℕ)) → IsEnded Read (all ≡ true) ls t u kept old new
-        → (front : List (List ℕ)) × (rest : List (List ℕ)) × (answers : List ℕ)
-        × (ls ≡ front ++ rest) × IsServed t front answers u × Appends old new answers
+    ensures read { (all : Bool) (front rest : List (List ℕ)) (t u kept : List JobParts)
+        (old new : Option (List ℕ)) → IsEnded Read (all ≡ true) front rest t u kept old new
+        → (answers : List ℕ) × IsServed t front answers u × Appends old new answers
         × (all ≡ true → kept ≡ u) }
-    ensures long_line { (all : Bool) (ls : List (List ℕ)) (t u kept : List JobParts)
-        (old new : Option (List ℕ)) → IsEnded LongLine (all ≡ true) ls t u kept old new
-        → (front : List (List ℕ)) × (line : List ℕ) × (more : List (List ℕ))
-        × (answers : List ℕ) × (ls ≡ front ++ line ∷ more) × (length front < 1000000)
-        × (262144 < length line) × IsServed t front answers u × Appends old new answers
-        × (all ≡ true → kept ≡ u) }
-    ensures too_many_lines { (all : Bool) (ls : List (List ℕ)) (t u kept : List JobParts)
-        (old new : Option (List ℕ)) → IsEnded TooManyLines (all ≡ true) ls t u kept old new
-        → (front : List (List ℕ)) × (line : List ℕ) × (more : List (List ℕ))
-        × (answers : List ℕ) × (ls ≡ front ++ line ∷ more) × (length front ≡ 1000000)
+    ensures long_line { (all : Bool) (front rest : List (List ℕ)) (t u kept : List JobParts)
+        (old new : Option (List ℕ)) → IsEnded LongLine (all ≡ true) front rest t u kept old new
+        → (line : List ℕ) × (more : List (List ℕ)) × (answers : List ℕ)
+        × (rest ≡ line ∷ more) × (length front < 1000000) × (262144 < length line)
+        × IsServed t front answers u × Appends old new answers × (all ≡ true → kept ≡ u) }
+    ensures too_many_lines { (all : Bool) (front rest : List (List ℕ)) (t u kept : List JobParts)
+        (old new : Option (List ℕ))
+        → IsEnded TooManyLines (all ≡ true) front rest t u kept old new
+        → (line : List ℕ) × (more : List (List ℕ)) × (answers : List ℕ)
+        × (rest ≡ line ∷ more) × (length front ≡ 1000000)
         × IsServed t front answers u × Appends old new answers × (all ≡ true → kept ≡ u) }
 {
     ic_commands::laws::one_line_reading();
@@ -180,16 +178,15 @@ pub fn a_fault_ends_a_serving()
 pub fn a_failing_writer_cuts_a_serving()
     ensures sent { (before behind a b : List ℕ) → AppendsFront (Some a) (Some b) before behind
         → (n : ℕ) × (n ≤ length behind) × (b ≡ a ++ (before ++ take n behind)) }
-    ensures answered { (ls : List (List ℕ)) (t u : List JobParts) (old new : Option (List ℕ))
-        → IsCut ls t u old new
-        → (front : List (List ℕ)) × (last : List (List ℕ)) × (rest : List (List ℕ))
-        × (answers : List ℕ) × (more : List ℕ) × (v : List JobParts)
-        × (ls ≡ front ++ last ++ rest) × (length last ≤ 1) × IsServed t front answers v
-        × IsServed v last more u × AppendsFront old new answers more }
-    ensures done { (ls : List (List ℕ)) (t u : List JobParts) (old new : Option (List ℕ))
-        → IsCut ls t u old new
-        → (front : List (List ℕ)) × (rest : List (List ℕ)) × (answers : List ℕ)
-        × (ls ≡ front ++ rest) × MayBeServed front × IsServed t front answers u }
+    ensures answered { (front : List (List ℕ)) (t u : List JobParts) (old new : Option (List ℕ))
+        → IsCut front t u old new
+        → (whole : List (List ℕ)) × (last : List (List ℕ)) × (answers : List ℕ)
+        × (more : List ℕ) × (v : List JobParts) × (front ≡ whole ++ last) × (length last ≤ 1)
+        × IsServed t whole answers v × IsServed v last more u
+        × AppendsFront old new answers more }
+    ensures done { (front : List (List ℕ)) (t u : List JobParts) (old new : Option (List ℕ))
+        → IsCut front t u old new
+        → (answers : List ℕ) × MayBeServed front × IsServed t front answers u }
 {
     ic_lines::laws::lines_are_served_in_one_way();
 }

@@ -73,6 +73,7 @@ pub fn serve_watched<T: Threads + Wait, D: Disk, R: Read, W: Write, G: Gate>(
             return Ok(());
         }
         let answer = answer_watched(rt, alloc, book, lines.line(), workers, every, gate)?;
+        book.facts();
         write_answer(writer, &answer)?;
     }
     book.facts();

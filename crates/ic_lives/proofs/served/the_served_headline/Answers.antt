@@ -15,7 +15,8 @@ returns-clause-stopped g c moves done = stopped_so c.histories_split_and_join.en
     g.met.D.Disk.content_is_image g.met.D.Disk.image_is_left g.met.D.Disk.left_is_image moves c.args.old.now c.args.new.now done c.args.found.now
 
 pub returns-clause-broken : goal.returns-clause-broken
-returns-clause-broken g c = broken_by c.args.old.now c.args.new.now
+returns-clause-broken g c done later earlier who command reply = broken_by done.moves later earlier who command reply c.args.old.now c.args.new.now done.calls
 
 pub returns-clause-once : goal.returns-clause-once
-returns-clause-once g c = once_by c.args.old.now c.args.new.now
+returns-clause-once g c done later between earlier who other command second reply answer =
+    once_by done.moves later between earlier who other command second reply answer c.args.old.now c.args.new.now done.calls

@@ -82,33 +82,33 @@ returns-in_err-reply-clause-crash g c =
           let failed = c.in_err-reply.ensures.step.failed device in
           leaves_command c.args.book.now c.make_room.new.book c.command.new.self c.args.command failed.0 c.make_room.ensures.crash c.in_ok-make_room.ensures.stays
           c.facts.ensures.history.replayed c.facts.ensures.history.within failed.1.page.0.adds c.command.ensures.crash.keeps c.command.ensures.crash.made c.command.ensures.crash.any_moment
-          (by_failure _ 0 c.args.command failed.0 c.make_room.new.book c.command.new.self c.in_err-reply.ensures.fault device failed.1))
+          (by_failure 0 c.args.command failed.0 c.make_room.new.book c.command.new.self failed.1))
       | inr other ↦ (let u : IsUnchanged c.make_room.new.book c.command.new.self = c.in_err-reply.ensures.fault.refused refl (λ same. other (cc)) in
           leaves_still c.args.book.now c.make_room.new.book c.command.new.self (IsKeptWithin (table_of c.args.book.now) (last_kept c.args.book.now) (by_command c.args.command ∷ []))
           (leaves_more c.args.book.now c.make_room.new.book (IsKeptOrNow c.args.book.now)
           (IsKeptWithin (table_of c.args.book.now) (last_kept c.args.book.now) (by_command c.args.command ∷ [])) c.make_room.ensures.crash
           (kept_or_now (table_of c.args.book.now) (last_kept c.args.book.now) (by_command c.args.command ∷ [])))
           u.same_keeper
-          (by_refusal _ c.make_room.new.book c.command.new.self c.in_err-reply.ensures.fault (c.in_err-reply.ensures.step.refused refl (λ same. other (cc)))))
+          (by_refusal c.make_room.new.book c.command.new.self (c.in_err-reply.ensures.step.refused refl (λ same. other (cc)))))
     ]
 
 pub returns-in_err-print_reply-clause-crash : goal.returns-in_err-print_reply-clause-crash
 returns-in_err-print_reply-clause-crash g c =
     leaves_command c.args.book.now c.make_room.new.book c.command.new.self c.args.command c.in_ok-reply.reply c.make_room.ensures.crash c.in_ok-make_room.ensures.stays
     c.facts.ensures.history.replayed c.facts.ensures.history.within c.in_ok-reply.ensures.step.answered.page.0.adds c.command.ensures.crash.keeps c.command.ensures.crash.made c.command.ensures.crash.any_moment
-    (by_answer _ 0 c.args.command c.in_ok-reply.reply c.make_room.new.book c.command.new.self c.in_ok-reply.ensures.fault c.in_ok-reply.ensures.step.answered)
+    (by_answer 0 c.args.command c.in_ok-reply.reply c.make_room.new.book c.command.new.self c.in_ok-reply.ensures.step.answered)
 
 pub returns-in_err-ended-clause-crash : goal.returns-in_err-ended-clause-crash
 returns-in_err-ended-clause-crash g c =
     leaves_command c.args.book.now c.make_room.new.book c.command.new.self c.args.command c.in_ok-reply.reply c.make_room.ensures.crash c.in_ok-make_room.ensures.stays
     c.facts.ensures.history.replayed c.facts.ensures.history.within c.in_ok-reply.ensures.step.answered.page.0.adds c.command.ensures.crash.keeps c.command.ensures.crash.made c.command.ensures.crash.any_moment
-    (by_answer _ 0 c.args.command c.in_ok-reply.reply c.make_room.new.book c.command.new.self c.in_ok-reply.ensures.fault c.in_ok-reply.ensures.step.answered)
+    (by_answer 0 c.args.command c.in_ok-reply.reply c.make_room.new.book c.command.new.self c.in_ok-reply.ensures.step.answered)
 
 pub returns-clause-crash : goal.returns-clause-crash
 returns-clause-crash g c =
     leaves_command c.args.book.now c.make_room.new.book c.command.new.self c.args.command c.in_ok-reply.reply c.make_room.ensures.crash c.in_ok-make_room.ensures.stays
     c.facts.ensures.history.replayed c.facts.ensures.history.within c.in_ok-reply.ensures.step.answered.page.0.adds c.command.ensures.crash.keeps c.command.ensures.crash.made c.command.ensures.crash.any_moment
-    (by_answer _ 0 c.args.command c.in_ok-reply.reply c.make_room.new.book c.command.new.self c.in_ok-reply.ensures.fault c.in_ok-reply.ensures.step.answered)
+    (by_answer 0 c.args.command c.in_ok-reply.reply c.make_room.new.book c.command.new.self c.in_ok-reply.ensures.step.answered)
 
 pub returns-clause-page : goal.returns-clause-page
 returns-clause-page g c = λ room. command_goes c.args.command c.in_ok-reply.reply c.args.book.now c.make_room.new.book c.command.new.self
@@ -139,8 +139,8 @@ returns-clause-replied g c = record {
   reply = c.in_ok-reply.reply;
   text = c.in_ok-ended.ensures ∙ ap ended c.in_ok-print_reply.ensures;
   made = ends_then (answers 0 c.args.command c.in_ok-reply.reply) c.args.book.now c.make_room.new.book c.command.new.self c.make_room.ensures.crash.done (record {
-    done = by_answer _ 0 c.args.command c.in_ok-reply.reply c.make_room.new.book c.command.new.self c.in_ok-reply.ensures.fault c.in_ok-reply.ensures.step.answered;
+    done = by_answer 0 c.args.command c.in_ok-reply.reply c.make_room.new.book c.command.new.self c.in_ok-reply.ensures.step.answered;
     earlier = [];
-    last = answer_moves _ 0 c.args.command c.in_ok-reply.reply c.make_room.new.book c.command.new.self c.in_ok-reply.ensures.fault c.in_ok-reply.ensures.step.answered;
+    last = answer_moves 0 c.args.command c.in_ok-reply.reply c.make_room.new.book c.command.new.self c.in_ok-reply.ensures.step.answered;
   });
 }

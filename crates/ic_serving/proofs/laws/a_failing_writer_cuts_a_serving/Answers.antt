@@ -1,5 +1,6 @@
-use Rattle.std.proofs.Common.{◌++◌, length, take, sym, ap, ◌∙◌, arith, length-append}
+use Rattle.std.proofs.Common.{ℕ, List, ◌++◌, length, take, sym, ap, subst, ◌∙◌, arith, length-append}
 use Rattle.std.proofs.Math.Seq.{take-append_seam}
+use Rattle.ic_lines.specs.Serving.{IsServed}
 use Rattle.ic_serving.proofs.laws.a_failing_writer_cuts_a_serving.Goals as goal
 
 pub returns-clause-sent : goal.returns-clause-sent
@@ -9,15 +10,13 @@ returns-clause-sent c = λ before behind text more is.
     (length is.sent, omega (arith, sum), is.written ∙ ap (λ sent. text ++ (before ++ sent)) (sym front))
 
 pub returns-clause-answered : goal.returns-clause-answered
-returns-clause-answered c = λ ls t u old new is.
-    (is.front, is.last, is.rest, is.answers, is.more, is.between, is.parted, is.one, is.answered, is.done, is.written)
+returns-clause-answered c = λ front t u old new is.
+    (is.whole, is.last, is.answers, is.more, is.between, is.parted, is.one, is.answered, is.done, is.written)
 
 pub returns-clause-done : goal.returns-clause-done
-returns-clause-done c = λ ls t u old new is. (
-  is.front ++ is.last,
-  is.rest,
+returns-clause-done c = λ front t u old new is. (
   is.answers ++ is.more,
-  is.parted,
   is.within,
-  c.lines_are_served_in_one_way.ensures.joined t is.between u is.front is.last is.answers is.more is.answered is.done,
+  subst (λ (ls : List (List ℕ)). IsServed t ls (is.answers ++ is.more) u) (sym is.parted)
+      (c.lines_are_served_in_one_way.ensures.joined t is.between u is.whole is.last is.answers is.more is.answered is.done),
 )

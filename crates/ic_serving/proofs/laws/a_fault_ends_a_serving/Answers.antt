@@ -1,58 +1,50 @@
-use Rattle.std.proofs.Common.{◌++◌, sym, ap, subst, ◌∙◌}
+use Rattle.std.proofs.Common.{sym, subst, ◌∙◌}
 use Rattle.ic_lines.specs.Serving.{IsServed}
 use Rattle.ic_serving.proofs.PartLemmas.{left_within, says_long, says_many}
 use Rattle.ic_serving.proofs.laws.a_fault_ends_a_serving.Goals as goal
 
 pub returns-clause-within : goal.returns-clause-within
-returns-clause-within c = λ fault all ls t u kept old new is.
+returns-clause-within c = λ fault all front rest t u kept old new is.
     let law = c.one_line_reading.ensures.total in (
-      is.front,
-      is.rest,
       is.answered.answers,
       is.between,
-      is.parted,
       is.answered.served,
       is.answered.written,
-      left_within law fault is.between u is.rest is.in_line,
-      λ yes. left_within law fault is.between kept is.rest (is.keeps yes),
+      left_within law fault is.between u rest is.in_line,
+      λ yes. left_within law fault is.between kept rest (is.keeps yes),
     )
 
 pub returns-clause-read : goal.returns-clause-read
-returns-clause-read c = λ all ls t u kept old new is. (
-  is.front,
-  is.rest,
+returns-clause-read c = λ all front rest t u kept old new is. (
   is.answered.answers,
-  is.parted,
-  subst (IsServed t is.front is.answered.answers) (sym is.in_line) is.answered.served,
+  subst (IsServed t front is.answered.answers) (sym is.in_line) is.answered.served,
   is.answered.written,
   λ yes. is.keeps yes ∙ sym is.in_line,
 )
 
 pub returns-clause-long_line : goal.returns-clause-long_line
-returns-clause-long_line c = λ all ls t u kept old new is.
-    let says = says_long is.front is.rest is.says in (
-      is.front,
+returns-clause-long_line c = λ all front rest t u kept old new is.
+    let says = says_long front rest is.says in (
       says.0,
       says.1,
       is.answered.answers,
-      is.parted ∙ ap (λ rest. is.front ++ rest) says.2,
+      says.2,
       says.3,
       says.4,
-      subst (IsServed t is.front is.answered.answers) (sym is.in_line) is.answered.served,
+      subst (IsServed t front is.answered.answers) (sym is.in_line) is.answered.served,
       is.answered.written,
       λ yes. is.keeps yes ∙ sym is.in_line,
     )
 
 pub returns-clause-too_many_lines : goal.returns-clause-too_many_lines
-returns-clause-too_many_lines c = λ all ls t u kept old new is.
-    let says = says_many is.front is.rest is.says in (
-      is.front,
+returns-clause-too_many_lines c = λ all front rest t u kept old new is.
+    let says = says_many front rest is.says in (
       says.0,
       says.1,
       is.answered.answers,
-      is.parted ∙ ap (λ rest. is.front ++ rest) says.2,
+      says.2,
       says.3,
-      subst (IsServed t is.front is.answered.answers) (sym is.in_line) is.answered.served,
+      subst (IsServed t front is.answered.answers) (sym is.in_line) is.answered.served,
       is.answered.written,
       λ yes. is.keeps yes ∙ sym is.in_line,
     )

@@ -1,4 +1,4 @@
-use Rattle.std.proofs.Common.{inl, inr, [], refl}
+use Rattle.std.proofs.Common.{Ok, inl, inr, [], refl}
 use Rattle.ic_desk.specs.Book.{start_of, log_of}
 use Rattle.ic_jobs.specs.History.{replay}
 use Rattle.ic_serving.specs.Booked.{last_kept}
@@ -10,16 +10,16 @@ use Rattle.ic_serving.proofs.rounds.keep_all.Goals as goal
 pub returns-in_err-keep-clause-crash : goal.returns-in_err-keep-clause-crash
 returns-in_err-keep-clause-crash g c = leaves_call c.args.book.now c.keep.new.self (last_kept c.args.book.now) (replay (start_of c.args.book.now) (log_of c.args.book.now))
     (IsKeptOrNow c.args.book.now) c.keep.ensures.crash.keeps c.keep.ensures.crash.made c.keep.ensures.crash.any_moment
-    (by_keep c.keep.result c.args.book.now c.keep.new.self c.keep.ensures.fault c.keep.ensures.step) (inl refl) (inr c.facts.ensures.history.replayed)
+    (by_keep c.keep.result c.args.book.now c.keep.new.self c.keep.ensures.step) (inl refl) (inr c.facts.ensures.history.replayed)
 
 pub returns-clause-crash : goal.returns-clause-crash
 returns-clause-crash g c = leaves_call c.args.book.now c.keep.new.self (last_kept c.args.book.now) (replay (start_of c.args.book.now) (log_of c.args.book.now))
     (IsKeptOrNow c.args.book.now) c.keep.ensures.crash.keeps c.keep.ensures.crash.made c.keep.ensures.crash.any_moment
-    (by_keep c.keep.result c.args.book.now c.keep.new.self c.keep.ensures.fault c.keep.ensures.step) (inl refl) (inr c.facts.ensures.history.replayed)
+    (by_keep c.keep.result c.args.book.now c.keep.new.self c.keep.ensures.step) (inl refl) (inr c.facts.ensures.history.replayed)
 
 pub returns-clause-made : goal.returns-clause-made
 returns-clause-made g c = record {
-  done = by_keep _ c.args.book.now c.keep.new.self c.in_ok-keep.ensures.fault c.in_ok-keep.ensures.step;
+  done = by_keep {T = Unit {0}} (Ok tt) c.args.book.now c.keep.new.self c.in_ok-keep.ensures.step;
   earlier = [];
-  last = keep_moves _ c.args.book.now c.keep.new.self c.in_ok-keep.ensures.fault c.in_ok-keep.ensures.step;
+  last = keep_moves {T = Unit {0}} (Ok tt) c.args.book.now c.keep.new.self c.in_ok-keep.ensures.step;
 }

@@ -18,13 +18,13 @@ pub returns-then-not-is_of_flight-clause-done : goal.returns-then-not-is_of_flig
 returns-then-not-is_of_flight-clause-done g c = by_nothing c.args.book.now c.facts.ensures.step
 
 pub returns-in_err-halt_awaited-in-Err-clause-done : goal.returns-in_err-halt_awaited-in-Err-clause-done
-returns-in_err-halt_awaited-in-Err-clause-done g c = by_round _ Halted c.halt_awaited.result c.args.book.now c.halt_awaited.new.self c.halt_awaited.ensures.round.keeper c.halt_awaited.ensures.step
+returns-in_err-halt_awaited-in-Err-clause-done g c = by_round _ Halted c.halt_awaited.result c.args.book.now c.halt_awaited.new.self c.halt_awaited.ensures.step
 
 pub returns-in-Err-clause-done : goal.returns-in-Err-clause-done
-returns-in-Err-clause-done g c = by_round _ Halted c.halt_awaited.result c.args.book.now c.halt_awaited.new.self c.halt_awaited.ensures.round.keeper c.halt_awaited.ensures.step
+returns-in-Err-clause-done g c = by_round _ Halted c.halt_awaited.result c.args.book.now c.halt_awaited.new.self c.halt_awaited.ensures.step
 
 pub returns-in_err-land_awaited-clause-done : goal.returns-in_err-land_awaited-clause-done
-returns-in_err-land_awaited-clause-done g c = by_round _ Moved c.land_awaited.result c.args.book.now c.land_awaited.new.self c.land_awaited.ensures.round.keeper c.land_awaited.ensures.step
+returns-in_err-land_awaited-clause-done g c = by_round _ Moved c.land_awaited.result c.args.book.now c.land_awaited.new.self c.land_awaited.ensures.step
 
 pub returns-clause-done : goal.returns-clause-done
-returns-clause-done g c = by_round _ Moved c.land_awaited.result c.args.book.now c.land_awaited.new.self c.land_awaited.ensures.round.keeper c.land_awaited.ensures.step
+returns-clause-done g c = by_round _ Moved c.land_awaited.result c.args.book.now c.land_awaited.new.self c.land_awaited.ensures.step

@@ -10,12 +10,12 @@ use Rattle.ic_serving.proofs.rounds.make_room.Goals as goal
 pub returns-in_err-new_page-clause-crash : goal.returns-in_err-new_page-clause-crash
 returns-in_err-new_page-clause-crash g c = leaves_call c.args.book.now c.new_page.new.self (last_kept c.args.book.now) (replay (start_of c.args.book.now) (log_of c.args.book.now))
     (IsKeptOrNow c.args.book.now) c.new_page.ensures.crash.keeps c.new_page.ensures.crash.made c.new_page.ensures.crash.any_moment
-    (by_keep c.new_page.result c.args.book.now c.new_page.new.self c.new_page.ensures.fault c.new_page.ensures.step) (inl refl) (inr c.facts.ensures.history.replayed)
+    (by_keep c.new_page.result c.args.book.now c.new_page.new.self c.new_page.ensures.step) (inl refl) (inr c.facts.ensures.history.replayed)
 
 pub returns-clause-crash : goal.returns-clause-crash
 returns-clause-crash g c = leaves_call c.args.book.now c.new_page.new.self (last_kept c.args.book.now) (replay (start_of c.args.book.now) (log_of c.args.book.now))
     (IsKeptOrNow c.args.book.now) c.new_page.ensures.crash.keeps c.new_page.ensures.crash.made c.new_page.ensures.crash.any_moment
-    (by_keep c.new_page.result c.args.book.now c.new_page.new.self c.new_page.ensures.fault c.new_page.ensures.step) (inl refl) (inr c.facts.ensures.history.replayed)
+    (by_keep c.new_page.result c.args.book.now c.new_page.new.self c.new_page.ensures.step) (inl refl) (inr c.facts.ensures.history.replayed)
 
 pub returns-then-log-lt-MAX_ENTRIES-clause-crash : goal.returns-then-log-lt-MAX_ENTRIES-clause-crash
 returns-then-log-lt-MAX_ENTRIES-clause-crash g c = leaves_nothing c.args.book.now (IsKeptOrNow c.args.book.now) (g.met.D.Disk.left_is_image _) c.facts.ensures.either

@@ -14,8 +14,8 @@ use Rattle.ic_serving.specs.Moments.{Leaves, IsKeptInLine}
 use Rattle.ic_desk.specs.lemmas.Chains.{by_nothing}
 use Rattle.ic_serving.proofs.LineLemmas.{kept_all}
 use Rattle.ic_serving.proofs.TurnLemmas.{turns_more}
-use Rattle.ic_serving.proofs.ServeLemmas.{under_first, under_more, ahead, taken, ended_at, cut_behind, kept_part, left_within, says_book, not_taken, none_behind, not_write, counts_behind, ready_behind}
-use Rattle.ic_serving.proofs.StopLemmas.{stops_first, stops_more, serving_over, serving_err, serving_untaken, fault_behind, kept_or_same, still_all, still_last}
+use Rattle.ic_serving.proofs.ServeLemmas.{under_first, under_more, ahead, is_ahead, first_more, taken, ended_at, cut_behind, kept_part, left_within, says_book, not_taken, none_behind, not_write, counts_behind, ready_behind}
+use Rattle.ic_serving.proofs.StopLemmas.{stops_first, stops_more, stops_longer, serving_over, serving_err, serving_untaken, fault_behind, kept_or_same, still_all, still_last}
 use Rattle.ic_serving.proofs.serving.serve_watched.Goals as goal
 
 pub loop-init : goal.loop-init
@@ -93,20 +93,24 @@ returns-in_err-write_answer-clause-serving g c =
     let step : Leaves c.loop.book c.answer_watched.new.book (IsKeptInLine (table_of c.loop.book) (last_kept c.loop.book) c.take_line.new.self.line) =
     rw c.line.ensures at c.answer_watched.ensures.crash in
     let stops = stops_more c.one_line_reading.ensures.total (g.R.Read.remaining c.args.reader.now) rest c.loop.counter c.args.book.now c.loop.book c.answer_watched.new.book
-    (g.W.Write.contents c.args.writer.now) (g.W.Write.contents c.loop.writer) c.take_line.new.self.line (ahead next) c.loop.invariant last step in
+    (g.W.Write.contents c.args.writer.now) (g.W.Write.contents c.loop.writer) c.take_line.new.self.line [] c.loop.invariant last step in
     let answered : IsAnswered c.line.result.now c.in_ok-answer.answer.items c.loop.book c.answer_watched.new.book = c.in_ok-answer.ensures.answered in
     let reads : ReadsLine c.take_line.new.self.line answered.reading = rw c.line.ensures at answered.read in
-    serving_err c.from_residual-in_err-write_answer.result c.in_err-write_answer.field-0.0 c.from_residual-in_err-write_answer.ensures.1 (g.R.Read.remaining c.args.reader.now) rest
-    c.loop.invariant.way.front (c.take_line.new.self.line ∷ ahead next) c.args.book.now c.loop.book c.answer_watched.new.book (g.W.Write.contents c.args.writer.now) (g.W.Write.contents c.write_answer.new.writer)
-    c.loop.invariant.way.first (taken c.take_line.new.self.line rest next takes)
+    serving_err c.from_residual-in_err-write_answer.result c.in_err-write_answer.field-0.0 c.from_residual-in_err-write_answer.ensures.1 (g.R.Read.remaining c.args.reader.now) next
+    (c.loop.invariant.way.front ++ c.take_line.new.self.line ∷ []) (ahead next) c.args.book.now c.answer_watched.new.book c.answer_watched.new.book
+    (g.W.Write.contents c.args.writer.now) (g.W.Write.contents c.write_answer.new.writer)
+    (first_more (g.R.Read.remaining c.args.reader.now) rest next c.loop.invariant.way.front c.take_line.new.self.line c.loop.invariant.way.first takes) (is_ahead next)
     (λ other. absurd (other c.in_err-write_answer.ensures.fault))
-    (λ write. cut_behind c.loop.invariant.way.front (ahead next) c.loop.counter (table_of c.args.book.now) (table_of c.loop.book) (table_of c.answer_watched.new.book)
+    (λ write. cut_behind c.loop.invariant.way.front c.loop.counter (table_of c.args.book.now) (table_of c.loop.book) (table_of c.answer_watched.new.book)
     (g.W.Write.contents c.args.writer.now) (g.W.Write.contents c.loop.writer) (g.W.Write.contents c.take_line.new.writer) (g.W.Write.contents c.write_answer.new.writer)
     c.take_line.new.self.line c.in_ok-answer.answer.items answered.reading
     c.loop.invariant.way.answered c.loop.invariant.way.counted (c.in_ok-take_line.ensures.short done) c.loop-test.true reads answered.answer answered.table c.take_line.ensures.kept
     (rw c.deref.ensures.value at c.in_err-write_answer.ensures.cut))
     (λ write all. still_all c.loop.book c.answer_watched.new.book (kept_or_same answered.reading c.loop.book c.answer_watched.new.book answered.kept) (c.loop.invariant.kept all))
-    stops c.loop.invariant.turns c.answer_watched.ensures.crash.done
+    (stops_longer c.one_line_reading.ensures.total c.args.book.now c.answer_watched.new.book (c.loop.invariant.way.front ++ c.take_line.new.self.line ∷ []) (ahead next) stops)
+    (turns_more c.loop.invariant.way.front c.take_line.new.self.line c.in_ok-answer.answer.items c.args.book.now c.loop.book c.answer_watched.new.book c.loop.invariant.turns
+    (rw c.line.ensures at answered))
+    (by_nothing c.answer_watched.new.book c.facts-in-loop-2.ensures.step)
 
 pub loop-preserved : goal.loop-preserved
 loop-preserved g c =

@@ -74,8 +74,9 @@ returns-in_err-keep_table-clause-step g c =
     let told = e.2 in
     let same : e.0 ≡ c.in_err-keep_table.field-0.0 = cc in
     command_failed c.args.who c.args.command c.args.self.now _ c.in_ok-answer.answer (returns-in_err-keep_table-clause-crash g c) refl c.in_ok-answer.ensures.added
-    c.from_residual-in_err-keep_table.result e.0 e.1 (same ∙ c.in_err-keep_table.ensures.device) refl
+    c.from_residual-in_err-keep_table.result e.0 e.1 (same ∙ c.in_err-keep_table.ensures.device) refl c.in_ok-check_room.ensures.ok.0 c.in_err-keep_table.ensures.breaks
 
 pub returns-clause-step : goal.returns-clause-step
 returns-clause-step g c =
     command_answered c.args.who c.args.command c.args.self.now _ c.in_ok-answer.answer (returns-clause-crash g c) refl c.in_ok-answer.ensures.added (omega (arith, c.len-self-2.ensures))
+    c.in_ok-check_room.ensures.ok.0 c.in_ok-keep_table.ensures.ready

@@ -29,4 +29,4 @@ returns-in_err-check_room-clause-step g c =
 
 pub returns-clause-step : goal.returns-clause-step
 returns-clause-step g c =
-    round_made BookFault c.args.flight.now.name Halted c.in_ok-enter_halted.field-0 c.args.self.now _ refl refl c.in_ok-enter_halted.ensures (returns-clause-crash g c)
+    round_made BookFault c.args.flight.now.name Halted c.in_ok-enter_halted.field-0 c.args.self.now _ refl refl c.in_ok-enter_halted.ensures (returns-clause-crash g c) (λ is. is)

@@ -1,4 +1,4 @@
-use Rattle.std.proofs.Common.{◌≡◌, ◌≤◌, ◌∙◌, true, false, length, refl, sym, arith}
+use Rattle.std.proofs.Common.{◌≡◌, ◌∙◌, true, false, length, refl, sym, arith}
 use Rattle.std.proofs.lemmas.Result.{err_from_is_err_and}
 use Rattle.ic_desk.proofs.BookLemmas.{failed_on_disk, kept_on_disk, stands_here, unchanged, written}
 use Rattle.ic_desk.proofs.StepLemmas.{idles, keep_refused, keeps_page, stays_on}
@@ -47,12 +47,11 @@ returns-in_err-check_keepable-clause-step g c =
 pub returns-in_err-keep_table-clause-step : goal.returns-in_err-keep_table-clause-step
 returns-in_err-keep_table-clause-step g c =
     let e = err_from_is_err_and c.from_residual-in_err-keep_table.result c.from_residual-in_err-keep_table.ensures.1 in
-    let same : c.args.self.now.kept ≤ c.args.self.now.kept = omega arith in
     keep_refused c.from_residual-in_err-keep_table.result e.0 c.args.self.now _ e.1
-    (stays_on c.args.self.now _ refl refl refl same (returns-in_err-keep_table-clause-crash g c))
+    (stays_on c.args.self.now _ refl refl refl refl (returns-in_err-keep_table-clause-crash g c) (λ _. c.in_err-keep_table.ensures.breaks))
 
 pub returns-clause-step : goal.returns-clause-step
 returns-clause-step g c =
     let book = c.args.self.now in
     let count : c.len-self.result ≡ length book.log.items = omega (arith, c.len-self.ensures) in
-    keeps_page book _ refl refl refl (omega (arith, count, book.history.within)) count (returns-clause-crash g c)
+    keeps_page book _ refl refl refl count (returns-clause-crash g c) c.in_ok-check_keepable.ensures.ok c.in_ok-keep_table.ensures.ready

@@ -31,8 +31,8 @@ pub returns-in_err-enter_played-clause-step : goal.returns-in_err-enter_played-c
 returns-in_err-enter_played-clause-step g c =
     let e = err_from_is_err_and c.from_residual-in_err-enter_played.result c.from_residual-in_err-enter_played.ensures.1 in
     round_refused c.args.played.name Moved c.from_residual-in_err-enter_played.result e.0 c.args.self.now _ e.1
-    (round_unmade c.args.played.name Moved c.in_err-enter_played.field-0.0 c.args.self.now _ refl refl c.in_err-enter_played.ensures (returns-in_err-enter_played-clause-crash g c))
+    (round_unmade c.args.played.name Moved c.in_err-enter_played.field-0.0 c.args.self.now _ refl refl c.in_err-enter_played.ensures (returns-in_err-enter_played-clause-crash g c) (λ is. is))
 
 pub returns-clause-step : goal.returns-clause-step
 returns-clause-step g c =
-    round_made BookFault c.args.played.name Moved c.in_ok-enter_played.field-0 c.args.self.now _ refl refl c.in_ok-enter_played.ensures (returns-clause-crash g c)
+    round_made BookFault c.args.played.name Moved c.in_ok-enter_played.field-0 c.args.self.now _ refl refl c.in_ok-enter_played.ensures (returns-clause-crash g c) (λ is. is)
