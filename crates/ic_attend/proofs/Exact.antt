@@ -107,6 +107,7 @@ agrees_of opening scripts runners turns a start history =
       clients = subst (λ (n : ℕ). AreOfClients n (log_of a.book)) (sym counted) history.clients;
       answers = history.answers;
       behind = history.behind;
+      failed = history.failed;
       ends = history.ends;
     }
 

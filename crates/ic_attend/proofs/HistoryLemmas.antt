@@ -1,6 +1,6 @@
 -- What one history says of each client's answers.
 use Rattle.std.proofs.Common.{◌≡◌, ◌∙◌, ℕ, ◌+◌, ◌<◌, List, [], ◌∷◌, ◌++◌, Bool, true, false, Option, None, Some, length, drop, map, zero, suc, refl, sym, ap, subst, arith, append_assoc, inl, inr, if◌then◌else◌}
-use Rattle.std.specs.Prelude.{◌⊎◌, ◌==◌, IfSome, IsSomeAnd, is_some, nat_lt, slice_get}
+use Rattle.std.specs.Prelude.{◌⊎◌, ◌==◌, ◌↔◌, IfSome, IsSomeAnd, is_some, nat_lt, slice_get}
 use Rattle.std.specs.Cmp.{unsigned_Decides}
 use Rattle.std.specs.List.{cons_option, find, All, AllByRecursion, AllZip}
 use Rattle.std.specs.Option.{option_or}
@@ -26,14 +26,17 @@ use Rattle.ic_jobs.specs.History.{replay, table_after}
 use Rattle.ic_jobs.specs.Job.{JobParts, begun}
 use Rattle.ic_jobs.specs.Names.{mentions}
 use Rattle.ic_jobs.specs.Table.{is_named, job_named}
+use Rattle.ic_desk.specs.declared.fault.BookFault.{BookFault}
+use Rattle.ic_desk.specs.declared.fault.BookFault.TheVariants.{Device}
 use Rattle.ic_desk.specs.Book.{log_of, kept_of}
 use Rattle.ic_desk.specs.Entries.{AreRounds, is_round, command_entry}
 use Rattle.ic_attend.specs.declared.attended.Attended.{Attended}
 use Rattle.ic_attend.specs.declared.attended.ClientRun.{ClientRun}
-use Rattle.ic_attend.specs.Clients.{asked, EndsUnanswered, KeepsTo}
+use Rattle.ic_attend.specs.Clients.{asked, EndsUnanswered, Follows, KeepsTo}
 use Rattle.ic_attend.specs.OneHistory.{IsOneHistory, kept_log, unkept_log}
 use Rattle.ic_attend.specs.Parts.{AreOfClients, answer_to, commands_in, part}
-use Rattle.ic_attend.proofs.PartLemmas.{answer_to-other, answer_to-own, answer_to-round, part-snoc, part-append, runs_counted}
+use Rattle.ic_attend.proofs.Exact.{same_last}
+use Rattle.ic_attend.proofs.PartLemmas.{entry_is, answer_to-other, answer_to-own, answer_to-round, part-snoc, part-append, runs_counted}
 
 -- what holds of all elements holds of the one between two parts
 pub all_at : {X : Type 0} (P : X → Type 0) (front back : List X) (e : X) → All P (front ++ e ∷ back) → P e
@@ -60,6 +63,20 @@ pub next_of : (before script : List Command) {E : Command → Type 0} (o : Optio
     → (c : Command) × E c × (rest : List Command) × (script ≡ before ++ c ∷ rest)
 next_of before script None next some = absurd some
 next_of before script (Some c) next some = (c, some, next.0, next.1)
+
+-- a client that was refused a command was refused the next one
+next_refused : (before script : List Command) (o : Option Command) → is_some o ≡ true → IfSome o (λ c. (rest : List Command) × (script ≡ before ++ c ∷ rest))
+    → (c : Command) × (rest : List Command) × (o ≡ Some c) × (script ≡ before ++ c ∷ rest)
+next_refused before script None there next = absurd (let no : false ≡ true = there in cc)
+next_refused before script (Some c) there next = (c, next.0, refl, next.1)
+
+refused_is : (E : Command → Type 0) (o : Option Command) → IsSomeAnd o E → (c : Command) × (o ≡ Some c) × E c
+refused_is E None some = absurd some
+refused_is E (Some c) some = (c, refl, some)
+
+-- a list is shorter than what goes on behind it
+goes_on : (xs rest : List Command) (c : Command) → xs ≡ xs ++ c ∷ rest → ⊥
+goes_on xs rest c is = let count : length xs ≡ length xs + length (c ∷ rest) = ap length is ∙ length-append xs (c ∷ rest) in absurd (omega (arith, count))
 
 -- A last, unanswered command is another client's, or this client's own.
 pub last_part : (who : ℕ) (runs : List ClientRun) (es : List Entry) (ends : EndsUnanswered runs es)
@@ -118,12 +135,40 @@ module _ {D : Type 0} {ghosts : Ghosts D} (a : Attended D ghosts) where
       let run = found.0 in
       let same : asked run ≡ commands_in who (kept_log a) = ap (map (λ (p : Command × Reply). p.0)) (history.answers who run found.1) in
       let n = length (asked run) in
-      let whole : script ≡ asked run ++ drop n script = sym (take-append-drop n script) ∙ ap (λ (l : List Command). l ++ drop n script) (sym found.2.first) in (
+      let whole : script ≡ asked run ++ drop n script = sym (take-append-drop n script) ∙ ap (λ (l : List Command). l ++ drop n script) (sym found.2.follows.first) in (
         run,
         found.1,
         (drop n script, whole ∙ ap (λ (l : List Command). l ++ drop n script) same),
         λ well. sym same ∙ found.2.finished well,
       )
+
+  -- a client that has an end was refused the command behind those that are kept
+  pub refused_next : (scripts : List (List Command)) (runners turns who : ℕ) (script : List Command) (run : ClientRun) (fault : BookFault)
+      → IsOneHistory scripts runners turns a → slice_get scripts who ≡ Some script → slice_get a.answers.items who ≡ Some run → run.end ≡ Some fault
+      → (c : Command) × (rest : List Command) × (run.refused ≡ Some c) × (script ≡ commands_in who (kept_log a) ++ c ∷ rest)
+  refused_next scripts runners turns who script run fault history is at end =
+      let found = zip_at KeepsTo scripts a.answers.items who script history.scripts_kept is in
+      let one : Some found.0 ≡ Some run = sym found.1 ∙ at in
+      let same : found.0 ≡ run = cc in
+      let follows : Follows script run = subst (Follows script) same found.2.follows in
+      let asked_so : asked run ≡ commands_in who (kept_log a) = ap (map (λ (p : Command × Reply). p.0)) (history.answers who run at) in
+      let next = subst (λ (l : List Command). IfSome run.refused (λ c. (rest : List Command) × (script ≡ l ++ c ∷ rest))) asked_so follows.next in
+      next_refused (commands_in who (kept_log a)) script run.refused (sym follows.ended ∙ ap is_some end) next
+
+  -- and all of it exactly where the client has no end
+  pub script_kept : (scripts : List (List Command)) (runners turns who : ℕ) (script : List Command) → IsOneHistory scripts runners turns a → slice_get scripts who ≡ Some script
+      → (run : ClientRun) × (slice_get a.answers.items who ≡ Some run)
+      × ((rest : List Command) × (script ≡ commands_in who (kept_log a) ++ rest))
+      × (run.end ≡ None ↔ commands_in who (kept_log a) ≡ script)
+  script_kept scripts runners turns who script history is =
+      let kept = kept_script scripts runners turns who script history is in
+      (kept.0, kept.1, kept.2, (kept.3, λ whole. no_end kept.0 kept.1 kept.0.end refl whole))
+    where
+      no_end : (run : ClientRun) → slice_get a.answers.items who ≡ Some run → (o : Option BookFault) → run.end ≡ o → commands_in who (kept_log a) ≡ script → run.end ≡ None
+      no_end run at None end whole = end
+      no_end run at (Some fault) end whole =
+          let next = refused_next scripts runners turns who script run fault history is at end in
+          absurd (goes_on (commands_in who (kept_log a)) next.1 next.0 (whole ∙ next.3))
 
   -- all commands of a client begin its script
   pub given_script : (scripts : List (List Command)) (runners turns who : ℕ) (script : List Command) → IsOneHistory scripts runners turns a → slice_get scripts who ≡ Some script
@@ -148,7 +193,7 @@ module _ {D : Type 0} {ghosts : Ghosts D} (a : Attended D ghosts) where
               let asked_so : asked found.0 ≡ commands_in who (kept_log a) = ap (map (λ (p : Command × Reply). p.0)) (history.answers who found.0 found.1) in
               let next = next_of (commands_in who (kept_log a)) script ends.client.refused
               (subst (λ (l : List Command). IfSome ends.client.refused (λ c. (rest : List Command) × (script ≡ l ++ c ∷ rest))) asked_so
-              (subst (λ (r : ClientRun). IfSome r.refused (λ c. (rest : List Command) × (script ≡ asked found.0 ++ c ∷ rest))) same found.2.next)) ends.refused in
+              (subst (λ (r : ClientRun). IfSome r.refused (λ c. (rest : List Command) × (script ≡ asked found.0 ++ c ∷ rest))) same found.2.follows.next)) ends.refused in
               let mine : commands_in who (unkept_log a) ≡ next.0 ∷ [] = own.1 next.0 next.1 in (
                 next.2,
                 next.3 ∙ sym (append_assoc (commands_in who (kept_log a)) (next.0 ∷ []) next.2)
@@ -156,6 +201,31 @@ module _ {D : Type 0} {ghosts : Ghosts D} (a : Attended D ghosts) where
               )
         ]
       ]
+
+  -- one client alone is told that the disk has failed
+  pub failed_alone : (scripts : List (List Command)) (runners turns who other : ℕ) (run twin : ClientRun) → IsOneHistory scripts runners turns a
+      → slice_get a.answers.items who ≡ Some run → run.end ≡ Some Device → slice_get a.answers.items other ≡ Some twin → twin.end ≡ Some Device → who ≡ other
+  failed_alone scripts runners turns who other run twin history at failed at_twin too =
+      let mine = history.failed who run at failed in
+      let its = history.failed other twin at_twin too in
+      let same : mine.last ≡ its.last = same_last mine.front its.front mine.last its.last (sym mine.entries ∙ its.entries) in
+      sym mine.sender ∙ ap (λ (e : Entry). e.who) same ∙ its.sender
+
+  -- its command stands last
+  pub failed_last : (scripts : List (List Command)) (runners turns who : ℕ) (run : ClientRun) → IsOneHistory scripts runners turns a
+      → slice_get a.answers.items who ≡ Some run → run.end ≡ Some Device
+      → (front : List Entry) × (c : Command) × (r : Reply) × (run.refused ≡ Some c) × (log_of a.book ≡ front ++ command_entry who c r ∷ [])
+  failed_last scripts runners turns who run history at failed =
+      let mine = history.failed who run at failed in
+      let told = refused_is (λ c. mine.last.event ≡ by_command c) run.refused mine.refused in
+      let here : mine.last ≡ command_entry who told.0 mine.last.reply = entry_is who mine.last told.0 mine.last.reply (record { own = mine.sender; event = told.2; reply = refl }) in (
+        kept_log a ++ mine.front,
+        told.0,
+        mine.last.reply,
+        told.1,
+        sym log_parts ∙ ap (λ (l : List Entry). kept_log a ++ l) mine.entries ∙ sym (append_assoc (kept_log a) mine.front (mine.last ∷ []))
+            ∙ ap (λ (e : Entry). (kept_log a ++ mine.front) ++ e ∷ []) here,
+      )
 
 -- ---- what a client reads back
 

@@ -233,4 +233,4 @@ not_false false is = absurd (let no : true ≡ false = is in cc)
 pub keeps_to : (a b : List Command) (speech : Speech) → a ≡ b → Speaks a speech → not speech.stopped ≡ true → KeepsTo b speech.run
 keeps_to a b speech same speaks on =
     let s = subst (λ (l : List Command). Speaks l speech) same speaks in
-    record { first = s.first; next = s.next; finished = s.finished (not_true speech.stopped on) }
+    record { follows = s.follows; finished = s.finished (not_true speech.stopped on) }

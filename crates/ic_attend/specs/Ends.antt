@@ -42,6 +42,18 @@ PlayTells workers of_pool.Lost = Unit {0}
 PlayTells workers of_pool.Stranger = Unit {0}
 PlayTells workers of_pool.RoundsOut = ⊥
 
+-- How a runner may end, whatever the book is. It keeps nothing, so two refusals by the book never
+-- come.
+abbrev pub EndMayBe : (workers : ℕ) → RunnerEnd → Type 0
+EndMayBe workers Idle = Unit {0}
+EndMayBe workers Turns = Unit {0}
+EndMayBe workers (by_book Broken) = Unit {0}
+EndMayBe workers (by_book LogFull) = Unit {0}
+EndMayBe workers (by_book Worn) = ⊥
+EndMayBe workers (by_book Memory) = Unit {0}
+EndMayBe workers (by_book Device) = ⊥
+EndMayBe workers (by_pool fault) = PlayTells workers fault
+
 -- what a runner's end says, if it is a refusal
 abbrev pub EndTells : {D : Type 0} {ghosts : Ghosts D}
     → (workers : ℕ) → Book D ghosts → RunnerEnd → Type 0

@@ -1,6 +1,6 @@
 -- What the faults of an attendance say.
 use Rattle.std.specs.Prelude.{◌≡◌, ℕ, List, [], Result, Ok, Err, IsTrue, length}
-use Rattle.std.specs.List.{AllZip}
+use Rattle.std.specs.List.{All, AllZip}
 use Rattle.ic_disk.specs.declared.disk.Disk.{Ghosts}
 use Rattle.ic_frames.specs.Faults.{CountsOpen}
 use Rattle.ic_frames.specs.Opening.{LeavesAsFound}
@@ -14,9 +14,9 @@ use Rattle.ic_desk.specs.Book.{start_of, log_of, table_of}
 use Rattle.ic_attend.specs.declared.attended.Attended.{Attended}
 use Rattle.ic_attend.specs.declared.fault.AttendFault.{AttendFault}
 use Rattle.ic_attend.specs.declared.fault.AttendFault.TheVariants.{Open, NoThread, Memory, Torn}
-use Rattle.ic_attend.specs.Clients.{Begins, KeepsTo}
+use Rattle.ic_attend.specs.Clients.{Follows, KeepsTo}
 use Rattle.ic_attend.specs.OneHistory.{IsOneHistory}
-use Rattle.ic_attend.specs.Ends.{EndsTell}
+use Rattle.ic_attend.specs.Ends.{EndMayBe, EndsTell}
 
 -- where the disk wasn't opened, this holds of the refusal
 abbrev pub IfUnopened : {D : Type 0} {ghosts : Ghosts D}
@@ -70,19 +70,23 @@ pub record IsAsOpened {D : Type 0} {ghosts : Ghosts D} (disk : D) (book : Book D
   pub table : table_of book ≡ start_of book
   pub log : log_of book ≡ []
 
--- For each script a client was answered its first commands, or none. Each runner has an end.
+-- Each script's client was answered its first commands, or none, and was refused the next one
+-- exactly where it has an end. Each runner has an end that may be a runner's.
 pub record IsStopped {D : Type 0} {ghosts : Ghosts D} (scripts : List (List Command))
-    (runners : ℕ) (a : Attended D ghosts) : Type 0 where
-  pub begun : AllZip Begins scripts a.answers.items
+    (runners workers : ℕ) (a : Attended D ghosts) : Type 0 where
+  pub followed : AllZip Follows scripts a.answers.items
   pub counted : length a.ends.items ≡ runners
+  pub may_be : All (EndMayBe workers) a.ends.items
 
--- Each client keeps to its script and each runner has an end. But the book began with another table,
--- or its log isn't one history of them, or an end by a refusal isn't borne out.
+-- Each client keeps to its script and each runner has an end that may be a runner's. But the book
+-- began with another table, or its log isn't one history of them, or an end by a refusal isn't borne
+-- out.
 pub record Differs {D : Type 0} {ghosts : Ghosts D} (opening : List JobParts)
     (scripts : List (List Command)) (runners turns workers : ℕ) (a : Attended D ghosts)
     : Type 0 where
   pub scripts_kept : AllZip KeepsTo scripts a.answers.items
   pub counted : length a.ends.items ≡ runners
+  pub may_be : All (EndMayBe workers) a.ends.items
   pub differs : start_of a.book ≡ opening → IsOneHistory scripts runners turns a
       → ¬ EndsTell workers a
 

@@ -9,7 +9,7 @@ use Rattle.ic_jobs.specs.History.{replay, IsLegal}
 use Rattle.ic_desk.specs.Book.{start_of, log_of, table_of, kept_of}
 use Rattle.ic_attend.specs.declared.attended.Attended.{Attended}
 use Rattle.ic_attend.specs.Parts.{AreOfClients}
-use Rattle.ic_attend.specs.Clients.{AreParts, KeepsTo, MayStandBehind}
+use Rattle.ic_attend.specs.Clients.{AreParts, FailuresStandLast, KeepsTo, MayStandBehind}
 use Rattle.ic_attend.specs.Runners.{EndHolds}
 
 -- the entries that are kept, and those behind them
@@ -27,6 +27,7 @@ pub record Agrees {D : Type 0} {ghosts : Ghosts D} (opening : List JobParts) (tu
   pub clients : AreOfClients (length a.answers.items) (log_of a.book)
   pub answers : AreParts (kept_log a) a.answers.items
   pub behind : MayStandBehind a.answers.items (unkept_log a)
+  pub failed : FailuresStandLast a.answers.items (unkept_log a)
   pub ends : All (EndHolds turns (table_of a.book) (log_of a.book)) a.ends.items
 
 -- The log is one legal history of these scripts' clients and of so many runners.
@@ -37,6 +38,7 @@ pub record IsOneHistory {D : Type 0} {ghosts : Ghosts D} (scripts : List (List C
   pub clients : AreOfClients (length scripts) (log_of a.book)
   pub answers : AreParts (kept_log a) a.answers.items
   pub behind : MayStandBehind a.answers.items (unkept_log a)
+  pub failed : FailuresStandLast a.answers.items (unkept_log a)
   pub scripts_kept : AllZip KeepsTo scripts a.answers.items
   pub counted : length a.ends.items ≡ runners
   pub ends : All (EndHolds turns (table_of a.book) (log_of a.book)) a.ends.items

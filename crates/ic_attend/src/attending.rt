@@ -53,7 +53,7 @@ pub fn attend<R: Threads + Wait + Sync, D: Disk + Send, G: Gate>(
     // At `NoThread` the first commands of each script were answered, or none. `Torn` comes only
     // where one of the facts at Ok fails.
     ensures stopped { IfStopped result (λ attended.
-        IsStopped (map vec_items scripts.items) runners attended) }
+        IsStopped (map vec_items scripts.items) runners workers attended) }
     ensures torn { IfTorn result (λ attended.
         IsTorn D.Disk disk (map vec_items scripts.items) runners turns workers attended) }
 {
@@ -106,7 +106,7 @@ fn attend_book<R: Threads + Wait + Sync, D: Disk + Send, G: Gate>(
     ensures ends { IfOk result (λ attended. EndsTell duty.workers attended) }
     ensures begun { IsBegun result }
     ensures stopped { IfStopped result (λ attended.
-        IsStopped (map vec_items scripts.items) runners attended) }
+        IsStopped (map vec_items scripts.items) runners duty.workers attended) }
     ensures torn { IfTorn result (λ attended. Differs opening.now
         (map vec_items scripts.items) runners duty.turns duty.workers attended) }
 {

@@ -73,6 +73,7 @@ impl Speech {
     /// The speech of a client whose thread wasn't started.
     pub(crate) fn none(alloc: Global) -> Speech
         ensures answers { result.run.answers.items ≡ [] }
+        ensures end { result.run.end ≡ None }
         ensures refused { result.run.refused ≡ None }
         ensures stopped { result.stopped ≡ true }
     {

@@ -7,7 +7,7 @@ ghost use Rattle.ic_desk.specs.declared.fault.BookFault.TheVariants.{Device as b
 ghost use Rattle.ic_desk.specs.Entries.{is_round, AreRounds};
 ghost use Rattle.ic_attend.specs.declared.attended.ClientRun.{ClientRun as Run};
 ghost use Rattle.ic_attend.specs.Parts.{part, AreOfClients};
-ghost use Rattle.ic_attend.specs.Clients.{AreParts, MayStandBehind};
+ghost use Rattle.ic_attend.specs.Clients.{AreParts, FailureStandsLast, FailuresStandLast, MayStandBehind, StandsLast};
 ghost use Rattle.ic_attend.specs.Runners.{NoneRuns, rounds_among, EndHolds};
 ghost use Rattle.ic_attend.specs.OneHistory.{Agrees};
 ghost use Rattle.ic_attend.specs.Ends.{EndsTell};
@@ -40,6 +40,7 @@ impl<D: Disk> Attended<D> {
             && are_of_clients(log, answers.len())
             && are_parts(kept, answers)
             && may_stand_behind(unkept, answers)
+            && failures_stand_last(unkept, answers)
             && ends_hold(ends, turns, self.book.table().jobs(), log)
     }
 }
@@ -133,6 +134,35 @@ fn ended_at(run: &ClientRun, event: &Event) -> bool
         × IsSomeAnd run.now.refused (λ c. event.now ≡ by_command c)) }
 {
     is_device(run.end) && is_refused(&run.refused, event)
+}
+
+/// Whether each client that a failing disk has ended is the one whose command stands last.
+fn failures_stand_last(entries: &[Entry], runs: &[ClientRun]) -> bool
+    ensures { IsTrue result ↔ FailuresStandLast runs.now entries.now }
+{
+    for who in 0..runs.len() {
+        if !failure_stands_last(entries, who as u64, &runs[who]) {
+            return false;
+        }
+    }
+    true
+}
+
+/// Whether this client's command stands last, if a failing disk has ended it.
+fn failure_stands_last(entries: &[Entry], who: u64, run: &ClientRun) -> bool
+    ensures { IsTrue result ↔ FailureStandsLast entries.now who run.now }
+{
+    !is_device(run.end) || stands_last(entries, who, run)
+}
+
+/// Whether the command that this client was refused stands last among these entries.
+fn stands_last(entries: &[Entry], who: u64, run: &ClientRun) -> bool
+    ensures { IsTrue result ↔ StandsLast entries.now who run.now }
+{
+    match entries.split_last() {
+        None => false,
+        Some((last, _)) => last.who == who && is_refused(&run.refused, &last.event),
+    }
 }
 
 /// Whether an event is the command that was refused.

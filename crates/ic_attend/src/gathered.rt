@@ -1,6 +1,8 @@
 //! What the threads hand over, gathered.
 
 ghost use Rattle.std.specs.Prelude.{◌≡◌, ◌+◌, ◌<◌, ◌++◌, ◌∷◌, ◌&&◌, [], not, is_some, length, IfOk, vec_len, vec_capacity};
+ghost use Rattle.std.specs.Option.{unwrap_or};
+ghost use Rattle.ic_attend.specs.declared.attended.RunnerEnd.TheVariants.{Idle};
 ghost use Rattle.ic_attend.specs.inner.Gathering.{IsReady};
 
 use crate::attended::{ClientRun, RunnerEnd};
@@ -48,7 +50,8 @@ impl Gathered {
     /// Puts how a runner ended behind the others; none where its thread wasn't started.
     pub(crate) fn add_end(&mut self, end: Option<RunnerEnd>)
         requires { vec_len self.old.ends < vec_capacity self.old.ends }
-        ensures ends { vec_len self.new.ends ≡ vec_len self.old.ends + 1 }
+        ensures ends { self.new.ends.items ≡ self.old.ends.items ++ unwrap_or end Idle ∷ [] }
+        ensures len { vec_len self.new.ends ≡ vec_len self.old.ends + 1 }
         ensures count { length self.new.ends.items ≡ length self.old.ends.items + 1 }
         ensures room { vec_capacity self.new.ends ≡ vec_capacity self.old.ends }
         ensures answers { self.new.answers ≡ self.old.answers }

@@ -1,12 +1,15 @@
 //! Laws of the definitions that the contracts of this crate cite.
 
-ghost use Rattle.std.specs.Prelude.{◌≡◌, ◌≢◌, ◌≤◌, ℕ, List, [], ◌∷◌, ◌++◌, None, Some, false, length, take, slice_get};
+ghost use Rattle.std.specs.Prelude.{◌≡◌, ◌≢◌, ◌↔◌, ◌≤◌, ℕ, List, [], ◌∷◌, ◌++◌, None, Some, Result, false, length, take, slice_get};
 ghost use Rattle.std.specs.List.{AllByRecursion};
+ghost use Rattle.ic_term.specs.Configuration.{Configuration};
+ghost use Rattle.ic_rules.specs.RuleSet.{Rules};
 ghost use Rattle.ic_rules.specs.System.{SystemParts};
 ghost use Rattle.ic_jobs.specs.declared.command.Command.{Command};
 ghost use Rattle.ic_jobs.specs.declared.command.Command.TheVariants.{Fetch, Submit};
 ghost use Rattle.ic_jobs.specs.declared.event.Entry.{Entry};
 ghost use Rattle.ic_jobs.specs.declared.event.Event.TheVariants.{Command as by_command};
+ghost use Rattle.ic_jobs.specs.declared.landed.Landed.{Landed};
 ghost use Rattle.ic_jobs.specs.declared.reply.Reply.{Reply};
 ghost use Rattle.ic_jobs.specs.declared.reply.Reply.TheVariants.{Accepted};
 ghost use Rattle.ic_jobs.specs.Events.{IsAnswered};
@@ -15,14 +18,18 @@ ghost use Rattle.ic_jobs.specs.Job.{JobParts, begun};
 ghost use Rattle.ic_jobs.specs.Names.{mentions};
 ghost use Rattle.ic_jobs.specs.Table.{job_named};
 ghost use Rattle.ic_jobs.specs.Transitions.{fetch_reply};
+ghost use Rattle.ic_desk.specs.declared.fault.BookFault.{BookFault};
+ghost use Rattle.ic_desk.specs.declared.fault.BookFault.TheVariants.{Device};
 ghost use Rattle.ic_desk.specs.Book.{start_of, log_of, table_of};
 ghost use Rattle.ic_desk.specs.Entries.{command_entry, round_entry};
 ghost use Rattle.ic_desk.specs.Lives.{IsPage};
 ghost use Rattle.ic_attend.specs.declared.attended.ClientRun.{ClientRun as Run};
+ghost use Rattle.ic_attend.specs.Desk.{AddsOneAtMost, IsCommanded, IsLanded};
 ghost use Rattle.ic_attend.specs.OneHistory.{IsOneHistory, kept_log};
 ghost use Rattle.ic_attend.specs.Parts.{answer_to, commands_in, part};
 
 use crate::attended::Attended;
+use crate::desk::Desk;
 use ic_disk::Disk;
 
 /// A client's part of a history grows by its own commands alone, each with its reply, in the order of
@@ -129,7 +136,8 @@ pub fn each_kept_command_was_answered<D: Disk>(attended: &Attended<D>)
 }
 
 /// The commands of a client begin its script, also where the last of them wasn't answered. Those that
-/// are kept are all of it where the client has no end. There is an end for each runner.
+/// are kept are all of it exactly where the client has no end. Where it has one it was refused the
+/// command behind them. There is an end for each runner.
 pub fn each_script_is_given_in_order<D: Disk>(attended: &Attended<D>)
     ensures given { (scripts : List (List Command)) (runners turns who : ℕ)
         (script : List Command) → IsOneHistory scripts runners turns attended.now
@@ -140,10 +148,46 @@ pub fn each_script_is_given_in_order<D: Disk>(attended: &Attended<D>)
         → slice_get scripts who ≡ Some script
         → (run : Run) × (slice_get attended.now.answers.items who ≡ Some run)
         × ((rest : List Command) × (script ≡ commands_in who (kept_log attended.now) ++ rest))
-        × (run.end ≡ None → commands_in who (kept_log attended.now) ≡ script) }
+        × (run.end ≡ None ↔ commands_in who (kept_log attended.now) ≡ script) }
+    ensures refused { (scripts : List (List Command)) (runners turns who : ℕ)
+        (script : List Command) (run : Run) (fault : BookFault)
+        → IsOneHistory scripts runners turns attended.now → slice_get scripts who ≡ Some script
+        → slice_get attended.now.answers.items who ≡ Some run → run.end ≡ Some fault
+        → (c : Command) × (rest : List Command) × (run.refused ≡ Some c)
+        × (script ≡ commands_in who (kept_log attended.now) ++ c ∷ rest) }
     ensures runners { (scripts : List (List Command)) (runners turns : ℕ)
         → IsOneHistory scripts runners turns attended.now
         → length attended.now.ends.items ≡ runners }
+{
+    let _ = attended;
+}
+
+/// A call at a desk adds one entry at most to the book that it found: none at a refusal, but for the
+/// command at which the disk failed, and none at a round that is stale.
+pub fn a_call_adds_one_entry_at_most<D: Disk>(desk: &Desk<D>)
+    ensures commanded { (who : ℕ) (command : Command) (result : Result Reply BookFault)
+        (call : IsCommanded D.Disk who command result)
+        → AddsOneAtMost (log_of call.old) (log_of call.new) }
+    ensures landed { (name : List ℕ) (rules : Rules) (config : Configuration) (rounds : ℕ)
+        (reply : Reply) (result : Result Landed BookFault)
+        (call : IsLanded D.Disk name rules config rounds reply result)
+        → AddsOneAtMost (log_of call.old) (log_of call.new) }
+{
+    let _ = desk;
+}
+
+/// Of a failing disk one client alone is told: the one whose command stands last, unanswered.
+pub fn one_client_is_told_of_a_failure<D: Disk>(attended: &Attended<D>)
+    ensures alone { (scripts : List (List Command)) (runners turns who other : ℕ) (run twin : Run)
+        → IsOneHistory scripts runners turns attended.now
+        → slice_get attended.now.answers.items who ≡ Some run → run.end ≡ Some Device
+        → slice_get attended.now.answers.items other ≡ Some twin → twin.end ≡ Some Device
+        → who ≡ other }
+    ensures last { (scripts : List (List Command)) (runners turns who : ℕ) (run : Run)
+        → IsOneHistory scripts runners turns attended.now
+        → slice_get attended.now.answers.items who ≡ Some run → run.end ≡ Some Device
+        → (front : List Entry) × (c : Command) × (r : Reply) × (run.refused ≡ Some c)
+        × (log_of attended.now.book ≡ front ++ command_entry who c r ∷ []) }
 {
     let _ = attended;
 }

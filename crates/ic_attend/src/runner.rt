@@ -1,5 +1,8 @@
 //! A runner: it takes rounds, makes them outside the lock, and lands them.
 
+ghost use Rattle.std.specs.Prelude.{IfErr};
+ghost use Rattle.ic_attend.specs.Ends.{EndMayBe};
+
 use crate::attended::RunnerEnd;
 use crate::desk::Desk;
 use crate::signs::Signs;
@@ -63,7 +66,9 @@ pub(crate) fn make_rounds<R: Threads + Wait, D: Disk, G: Gate>(
     signs: &Signs,
     gate: &G,
     duty: Duty,
-) -> RunnerEnd {
+) -> RunnerEnd
+    ensures { EndMayBe duty.workers result }
+{
     let mut laps = Laps::new();
     let mut turns_left = duty.turns;
     for _ in rt.forever() {
@@ -101,7 +106,10 @@ fn make_round<R: Threads + Wait, D: Disk, G: Gate>(
     gate: &G,
     flight: &Flight,
     workers: usize,
-) -> Result<Landed, RunnerEnd> {
+) -> Result<Landed, RunnerEnd>
+    ensures { IfErr result (EndMayBe workers) }
+{
+    ic_pool::laws::refused_flights_are_blocked();
     let landed = if flight.blocked() {
         desk.halt(rt, flight)
     } else {
@@ -110,5 +118,8 @@ fn make_round<R: Threads + Wait, D: Disk, G: Gate>(
             Err(fault) => return Err(RunnerEnd::Pool(fault)),
         }
     };
-    landed.map_err(RunnerEnd::Book)
+    match landed {
+        Ok(landed) => Ok(landed),
+        Err(fault) => Err(RunnerEnd::Book(fault)),
+    }
 }

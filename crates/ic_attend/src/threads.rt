@@ -2,6 +2,8 @@
 //! first is joined, and all have ended when they are gathered.
 
 ghost use Rattle.std.specs.Prelude.{◌≡◌, ◌≤◌, map, vec_items, vec_len, vec_capacity, IfSome, length};
+ghost use Rattle.std.specs.List.{All};
+ghost use Rattle.ic_attend.specs.Ends.{EndMayBe};
 ghost use Rattle.ic_attend.specs.inner.Speech.{Speaks};
 ghost use Rattle.ic_attend.specs.inner.Gathering.{HasGathered, IsReady};
 
@@ -18,7 +20,7 @@ use std::alloc::Global;
 use std::snapshot::Snapshot;
 use std::sync::Wait;
 use std::thread;
-use std::thread::{JoinHandle, Promise, PromisedHandle, Scope, Threads};
+use std::thread::{Promise, PromisedHandle, Scope, Threads};
 
 /// What a client's thread promises: to keep to its script.
 #[derive(Drop)]
@@ -30,6 +32,18 @@ impl Promise<Speech> for Script {
     ghost use Rattle.ic_attend.specs.inner.Speech.{Speaks};
 
     ghost kept_by = { λ p speech. Speaks p.commands.value.items speech };
+}
+
+/// What a runner's thread promises: an end that a runner with so many workers may have.
+#[derive(Drop)]
+struct Ending {
+    workers: usize,
+}
+
+impl Promise<RunnerEnd> for Ending {
+    ghost use Rattle.ic_attend.specs.Ends.{EndMayBe};
+
+    ghost kept_by = { λ p end. EndMayBe p.workers end };
 }
 
 /// Gives the scripts and makes rounds, each script and each runner in a thread of its own. All
@@ -46,14 +60,14 @@ pub(crate) fn gather<R: Threads + Wait + Sync, D: Disk + Send, G: Gate>(
     gathered: Gathered,
 ) -> Gathered
     requires { IsReady (vec_len scripts) runners gathered }
-    ensures { HasGathered (map vec_items scripts.items) runners result }
+    ensures { HasGathered (map vec_items scripts.items) runners duty.workers result }
 {
     thread::scope(
         thread::scope_env(),
         rt,
         |scope| -> Gathered
             requires { IsReady (vec_len scripts) runners gathered }
-            ensures { HasGathered (map vec_items scripts.items) runners result }
+            ensures { HasGathered (map vec_items scripts.items) runners duty.workers result }
         {
             start_clients(
                 rt, alloc, scope, desk, signs, gate, scripts, runners, duty, gathered,
@@ -77,7 +91,7 @@ fn start_clients<'s, R: Threads + Wait + Sync, E, D: Disk + Send, G: Gate>(
     gathered: Gathered,
 ) -> Gathered
     requires { IsReady (vec_len scripts) runners gathered }
-    ensures gathered { HasGathered (map vec_items scripts.items) runners result }
+    ensures gathered { HasGathered (map vec_items scripts.items) runners duty.workers result }
     ensures len { vec_len result.answers ≡ vec_len scripts }
     ensures room { vec_capacity result.answers ≡ vec_capacity gathered.answers }
 {
@@ -162,6 +176,7 @@ fn start_runners<'s, R: Threads + Wait + Sync, E, D: Disk + Send, G: Gate>(
 ) -> Gathered
     requires { IsReady 0 runners gathered }
     ensures count { length result.ends.items ≡ runners }
+    ensures may_be { All (EndMayBe duty.workers) result.ends.items }
     ensures len { vec_len result.ends ≡ runners }
     ensures room { vec_capacity result.ends ≡ vec_capacity gathered.ends }
     ensures answers { result.answers ≡ gathered.answers }
@@ -181,7 +196,7 @@ fn start_runners<'s, R: Threads + Wait + Sync, E, D: Disk + Send, G: Gate>(
         duty,
         gathered,
     );
-    gathered.add_end(runner.map(|runner| runner.join(rt)));
+    gathered.add_end(await_end(rt, runner, duty.workers));
     gathered
 }
 
@@ -194,14 +209,39 @@ fn start_runner<'s, R: Threads + Wait + Sync, E, D: Disk + Send, G: Gate>(
     signs: &'s Signs,
     gate: &'s G,
     duty: Duty,
-) -> Option<JoinHandle<RunnerEnd>> {
+) -> Option<PromisedHandle<RunnerEnd, Ending>>
+    ensures { IfSome result (λ runner. runner.promise.workers ≡ duty.workers) }
+{
     if signs.are_told_to_stop() {
         return None;
     }
-    let started = scope.spawn(move || make_rounds(rt, alloc, desk, signs, gate, duty));
+    let promise = Ending {
+        workers: duty.workers,
+    };
+    let started = scope.spawn_with(
+        promise,
+        move || -> RunnerEnd
+            ensures { EndMayBe duty.workers result }
+        { make_rounds(rt, alloc, desk, signs, gate, duty) },
+    );
     let Ok(runner) = started else {
         signs.tell_to_stop();
         return None;
     };
     Some(runner)
+}
+
+/// How a runner ended: none where its thread wasn't started.
+fn await_end<R: Threads>(
+    rt: &R,
+    runner: Option<PromisedHandle<RunnerEnd, Ending>>,
+    workers: usize,
+) -> Option<RunnerEnd>
+    requires { IfSome runner (λ started. started.promise.workers ≡ workers) }
+    ensures { IfSome result (EndMayBe workers) }
+{
+    match runner {
+        Some(runner) => Some(runner.join(rt)),
+        None => None,
+    }
 }

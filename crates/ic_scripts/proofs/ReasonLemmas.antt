@@ -31,7 +31,7 @@ keeps_same (Some xs) = refl
 -- a fault without its history says what `attend` said of it
 pub says_why : {D : Type 0} {ghosts : Ghosts D} (disk : D) (scripts : List (List Command)) (runners turns workers : ℕ) (fault : AttendFault D ghosts)
     → IfUnopened (Err fault) (IsUnopened ghosts disk) → IfUnbegun (Err fault) (IsAsOpened disk)
-    → IfStopped (Err fault) (IsStopped scripts runners) → IfTorn (Err fault) (IsTorn ghosts disk scripts runners turns workers)
+    → IfStopped (Err fault) (IsStopped scripts runners workers) → IfTorn (Err fault) (IsTorn ghosts disk scripts runners turns workers)
     → SaysWhy ghosts disk scripts runners turns workers (fault_of_attendance fault)
 says_why disk scripts runners turns workers (attending.Open fault) unopened unbegun stopped torn = (fault, refl, unopened)
 says_why disk scripts runners turns workers (attending.NoThread a) unopened unbegun stopped torn = (a, stopped)

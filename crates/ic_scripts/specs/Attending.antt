@@ -6,8 +6,9 @@ use Rattle.ic_disk.specs.Images.{Within}
 use Rattle.ic_jobs.specs.declared.command.Command.{Command}
 use Rattle.ic_jobs.specs.Job.{JobParts}
 use Rattle.ic_slots.specs.Held.{IsHeld, the_table}
-use Rattle.ic_desk.specs.Book.{start_of, table_of}
+use Rattle.ic_desk.specs.Book.{start_of, table_of, disk_of}
 use Rattle.ic_desk.specs.declared.fault.BookFault.{BookFault}
+use Rattle.ic_desk.specs.Refusals.{CountsBook}
 use Rattle.ic_attend.specs.declared.attended.Attended.{Attended}
 use Rattle.ic_attend.specs.declared.attended.ClientRun.{ClientRun}
 use Rattle.ic_attend.specs.Ends.{EndsTell}
@@ -45,11 +46,15 @@ IsToldOf runs faults (Err fault) old new =
     IsToldFault runs faults fault old new ⊎ IsToldPart runs faults fault old new
 
 -- The faults are those of the clients, of the runners and of the keep behind them. The keep ended
--- as the book that they left has it.
-pub record IsTold {T D : Type 0} {ghosts : Ghosts D} (a : Attended D ghosts)
-    (result : Result T ScriptsFault) (old new : Option (List ℕ)) : Type 0 where
+-- as the book that they left has it, and on the disk that it left a call more is counted as failed
+-- exactly where it was `Device`. At Ok this disk is handed out.
+pub record IsTold {D : Type 0} {ghosts : Ghosts D} (a : Attended D ghosts)
+    (result : Result D ScriptsFault) (old new : Option (List ℕ)) : Type 0 where
   pub kept : Result (Unit {0}) BookFault
   pub bears : KeepTells a.book kept
+  pub left : D
+  pub counted : CountsBook kept (ghosts.failures (disk_of a.book)) (ghosts.failures left)
+  pub handed : IfOk result (λ disk. disk ≡ left)
   pub told : IsToldOf a.answers.items (faults_of a.answers.items a.ends.items kept) result old new
 
 -- One legal history of these scripts' clients and of so many runners, which goes on from the table

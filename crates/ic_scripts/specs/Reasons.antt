@@ -19,7 +19,7 @@ abbrev pub SaysWhy : {D : Type 0} (ghosts : Ghosts D) (disk : D) (scripts : List
 SaysWhy {D = D} ghosts disk scripts runners turns workers (Open cause) =
     (fault : OpenFault D) × (fault.cause ≡ cause) × IsUnopened ghosts disk fault
 SaysWhy {D = D} ghosts disk scripts runners turns workers NoThread =
-    (a : Attended D ghosts) × IsStopped scripts runners a
+    (a : Attended D ghosts) × IsStopped scripts runners workers a
 SaysWhy {D = D} ghosts disk scripts runners turns workers Torn =
     (a : Attended D ghosts) × IsTorn ghosts disk scripts runners turns workers a
 SaysWhy {D = D} ghosts disk scripts runners turns workers Memory =

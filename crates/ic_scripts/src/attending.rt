@@ -1,7 +1,8 @@
 //! Scripts that are given to a disk.
 
 ghost use Rattle.std.specs.Prelude.{◌≡◌, map, vec_items, OnOk, IsTrue};
-ghost use Rattle.ic_desk.specs.Book.{table_of};
+ghost use Rattle.ic_desk.specs.Book.{disk_of, table_of};
+ghost use Rattle.ic_desk.specs.Refusals.{CountsBook};
 ghost use Rattle.ic_scripts.specs.Attending.{HasTable, HoldsAll, IsAttended, IsTold};
 ghost use Rattle.ic_scripts.specs.Reasons.{KeepTells};
 
@@ -71,6 +72,8 @@ fn finish<D: Disk + Drop, W: Write>(
 /// Keeps what isn't kept, and closes the book.
 fn keep_and_close<D: Disk>(mut book: Book<D>) -> (Result<(), BookFault>, D)
     ensures tells { KeepTells book result.0 }
+    ensures counted { CountsBook result.0
+        (D.failures (disk_of book)) (D.failures result.1) }
     ensures held { OnOk result.0 (IsTrue (D.keeps result.1)
         → HasTable D.Disk (table_of book) result.1) }
 {

@@ -2,10 +2,9 @@
 use Rattle.std.specs.Prelude.{◌≡◌, List, None, false}
 use Rattle.ic_jobs.specs.declared.command.Command.{Command}
 use Rattle.ic_attend.specs.declared.client.Speech.{Speech}
-use Rattle.ic_attend.specs.Clients.{asked, Begins, IsNext}
+use Rattle.ic_attend.specs.Clients.{asked, Follows}
 
--- A client keeps to its script, and finishes it where it ended well and wasn't told to stop.
+-- A client follows its script, and finishes it where it ended well and wasn't told to stop.
 pub record Speaks (script : List Command) (speech : Speech) : Type 0 where
-  pub first : Begins script speech.run
-  pub next : IsNext script speech.run
+  pub follows : Follows script speech.run
   pub finished : speech.stopped ≡ false → speech.run.end ≡ None → asked speech.run ≡ script

@@ -17,6 +17,7 @@ returns-clause-history g c =
       clients = subst (λ (n : ℕ). AreOfClients n c.finish.result.log.items) (runs_counted _ _ runs) clients;
       answers = agrees.answers;
       behind = agrees.behind;
+      failed = agrees.failed;
       scripts_kept = runs;
       counted = gathered.ends;
       ends = agrees.ends;
@@ -28,6 +29,7 @@ returns-then-not-is_borne_out-clause-torn g c =
     record {
       scripts_kept = gathered.runs c.if-not-is_complete.false;
       counted = gathered.ends;
+      may_be = gathered.may_be;
       differs = λ start history told.
           let yes : c.is_borne_out.result ≡ true = c.is_borne_out.ensures.1 (agrees_of _ _ _ _ _ start history, told) in
           let no : true ≡ false = sym yes ∙ c.if-not-is_borne_out.true in

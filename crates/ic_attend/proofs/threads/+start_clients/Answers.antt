@@ -1,7 +1,9 @@
 use Rattle.std.proofs.Common.{◌≡◌, List, [], ◌∷◌, ◌++◌, not, map, ap, sym, subst, ◌∙◌, vec_items, vec_len, length, ◌+◌}
 use Rattle.std.proofs.lemmas.List.{map-append, length_push}
 use Rattle.ic_jobs.specs.declared.command.Command.{Command}
-use Rattle.ic_attend.specs.Clients.{Begins, KeepsTo}
+use Rattle.std.specs.List.{All}
+use Rattle.ic_attend.specs.Clients.{Follows, KeepsTo}
+use Rattle.ic_attend.specs.Ends.{EndMayBe}
 use Rattle.ic_attend.proofs.PartLemmas.{both_true, keeps_to, runs_more}
 use Rattle.ic_attend.proofs.threads.+start_clients.Goals as goal
 
@@ -19,10 +21,11 @@ returns-clause-gathered g t c =
     record {
       ends = ap (λ v. length v.items) c.add_speech.ensures.ends ∙ rec.ends;
       ends_len = ap vec_len c.add_speech.ensures.ends ∙ rec.ends_len;
+      may_be = subst (λ v. All (EndMayBe c.args.duty.workers) v.items) (sym c.add_speech.ensures.ends) rec.may_be;
       answers_len = c.add_speech.ensures.len ∙ ap (λ n. n + 1) rec.answers_len ∙ sym (ap length all ∙ length_push before script.items);
-      begun =
-          let said : Begins script.items run = subst (λ (l : List Command). Begins l run) same speaks.first in
-          rw (all, c.add_speech.ensures.answers) (runs_more Begins before old.answers.items script.items run rec.begun said);
+      followed =
+          let said : Follows script.items run = subst (λ (l : List Command). Follows l run) same speaks.follows in
+          rw (all, c.add_speech.ensures.answers) (runs_more Follows before old.answers.items script.items run rec.followed said);
       runs = λ complete.
           let parts = both_true old.complete (not c.hear-speech.result.stopped) (sym c.add_speech.ensures.complete ∙ complete) in
           let one : KeepsTo script.items run = keeps_to c.of-commands.result.value.items script.items c.hear-speech.result same speaks parts.1 in

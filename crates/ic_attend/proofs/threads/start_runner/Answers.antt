@@ -5,8 +5,8 @@ use Rattle.ic_attend.proofs.signs.Signs.TheSendSync as signs
 use Rattle.ic_attend.proofs.Crossings.{Desk_row_sync}
 use Rattle.ic_attend.proofs.threads.start_runner.Goals as goal
 
-pub spawn-started-requires-send-F : goal.spawn-started-requires-send-F
-spawn-started-requires-send-F g c κs within =
+pub spawn_with-started-requires-send-F : goal.spawn_with-started-requires-send-F
+spawn_with-started-requires-send-F g c κs within =
     let send = c.type_bounds.send-D in
     let share = c.type_bounds.sync-R in
     let gate = c.type_bounds.sync-G in
