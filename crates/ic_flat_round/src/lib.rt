@@ -1,8 +1,9 @@
-//! Rounds of configurations in flat form: whether one fits, whether one is quiet, and what its active equations fire to.
+//! Rounds of configurations in flat form: whether one fits, whether one is quiet, what its active equations fire to, what a
+//! configuration settles to, and `round`, which is both in turn.
 //!
-//! The answers are those of `ic_round` for the same configuration, found by walks over its words. No walk recurses on the
-//! depth of a configuration's terms; the nodes of a rule's terms are counted by `ic_term`, which does. `FlatRules` are rules
-//! whose sides are ready to be copied as words.
+//! The answers are those of `ic_round` and `ic_settle` for the same configuration, found by walks over its words. No walk
+//! recurses on the depth of a configuration's terms; the nodes of a rule's terms are counted by `ic_term`, which does.
+//! `FlatRules` are rules whose sides are ready to be copied as words.
 #![tactic(auto)]
 
 mod bound;
