@@ -1,0 +1,77 @@
+-- To be believed: how a place of a text is told: its line and column, the line with a mark under the
+-- place, and a sentence (this project's choice).
+use Rattle.std.specs.Prelude.{ℕ, ◌+◌, ◌-◌, ◌==◌, List, [], ◌∷◌, ◌++◌, Bool, ◌&&◌, ◌||◌, not, codes, map, length, take, drop, replicate, nat_le, nat_lt, if◌then◌else◌}
+use Rattle.std.specs.List.{concat, count_by, list_any}
+use Rattle.std.specs.Fmt.{decimal}
+use Rattle.ic_text.specs.Token.{is_blank}
+
+-- a line feed, which ends a line
+abbrev pub is_feed : ℕ → Bool
+is_feed b = b == 10
+
+-- in which line a text ends, from 1
+abbrev pub line_number : List ℕ → ℕ
+line_number front = count_by is_feed front + 1
+
+-- the line in which a text ends, as far as it goes: what stands behind the last line feed
+abbrev pub last_line : List ℕ → List ℕ
+last_line [] = []
+last_line (b ∷ bs) = if list_any is_feed (b ∷ bs) then last_line bs else b ∷ bs
+
+-- where a line ends: at a carriage return before a line feed too
+abbrev pub is_end : ℕ → Bool
+is_end b = b == 10 || b == 13
+
+-- the line with which a text begins: what stands before its first line feed or carriage return
+abbrev pub first_line : List ℕ → List ℕ
+first_line [] = []
+first_line (b ∷ bs) = if is_end b then [] else b ∷ first_line bs
+
+-- a byte of ASCII; the first byte of a character of UTF-8, or a byte that is of none
+abbrev pub is_ascii : ℕ → Bool
+is_ascii b = nat_lt b 128
+
+abbrev pub begins_character : ℕ → Bool
+begins_character b = is_ascii b || nat_le 192 b
+
+-- at which character behind a front of its line a place is, from 1
+abbrev pub column : List ℕ → ℕ
+column line = count_by begins_character line + 1
+
+-- a byte as it is shown: itself where it is printable ASCII, else a space or `?`
+abbrev pub shown : ℕ → ℕ
+shown b = if nat_lt 32 b && nat_lt b 127 then b else (if is_blank b then 32 else 63)
+
+-- a line before the place, of which the last 57 bytes are shown where it has more than 60
+abbrev pub shown_before : List ℕ → List ℕ
+shown_before line =
+    if nat_le (length line) 60 then map shown line
+    else codes "..." ++ map shown (drop (length line - 57) line)
+
+-- a line from the place on, of which the first 17 bytes are shown where it has more than 20
+abbrev pub shown_behind : List ℕ → List ℕ
+shown_behind line =
+    if nat_le (length line) 20 then map shown line
+    else map shown (take 17 line) ++ codes "..."
+
+abbrev pub feed : List ℕ
+feed = 10 ∷ []
+
+-- how far lines of a text stand in
+abbrev pub margin : List ℕ
+margin = codes "    "
+
+-- the line and the column of a place, where these bytes stand before it
+abbrev pub head_of : List ℕ → List ℕ
+head_of front = concat (codes "line " ∷ decimal (line_number front)
+    ∷ codes ", column " ∷ decimal (column (last_line front)) ∷ feed ∷ [])
+
+-- the line of the place, and a mark under it
+abbrev pub picture_of : (before behind : List ℕ) → List ℕ
+picture_of before behind = concat (margin ∷ shown_before before ∷ shown_behind behind ∷ feed
+    ∷ margin ∷ replicate (length (shown_before before)) 32 ∷ codes "^" ∷ feed ∷ [])
+
+-- a place of a text, told in lines
+abbrev pub place_lines : List ℕ → ℕ → List ℕ → List ℕ
+place_lines text at sentence = concat (head_of (take at text)
+    ∷ picture_of (last_line (take at text)) (first_line (drop at text)) ∷ sentence ∷ feed ∷ [])

@@ -1,0 +1,109 @@
+//! A place of a text told in lines.
+
+ghost use Rattle.std.specs.Prelude.{◌≡◌, ◌≤◌, ◌++◌, IfOk, OnOk, length};
+ghost use Rattle.ic_places.specs.Lines.{line_number, last_line, first_line, column, head_of, picture_of, place_lines};
+
+use crate::shown::{shown_before, shown_behind};
+use std::alloc::{AllocError, Global};
+
+/// In which line a text ends, from 1.
+fn line_number(front: &[u8]) -> usize
+    ensures { result ≡ line_number front.now }
+{
+    let mut feeds = 0;
+    for byte in front {
+        if *byte == b'\n' {
+            feeds += 1;
+        }
+    }
+    feeds + 1
+}
+
+/// The line in which a text ends, as far as it goes.
+fn last_line(front: &[u8]) -> &[u8]
+    ensures { result.now ≡ last_line front.now }
+{
+    let mut start = front.len();
+    while start > 0 && front[start - 1] != b'\n' {
+        start -= 1;
+    }
+    &front[start..]
+}
+
+/// The line with which a text begins.
+fn first_line(rest: &[u8]) -> &[u8]
+    ensures { result.now ≡ first_line rest.now }
+{
+    for (place, byte) in rest.iter().enumerate() {
+        if *byte == b'\n' || *byte == b'\r' {
+            return &rest[..place];
+        }
+    }
+    rest
+}
+
+/// At which character behind a front of its line a place is, from 1.
+fn column(line: &[u8]) -> usize
+    ensures { result ≡ column line.now }
+{
+    let mut characters = 0;
+    for byte in line {
+        if *byte < 128 || *byte >= 192 {
+            characters += 1;
+        }
+    }
+    characters + 1
+}
+
+/// Appends the line and the column of a place, where these bytes stand before it.
+fn put_head(alloc: Global, front: &[u8], lines: &mut Vec<u8>) -> Result<(), AllocError>
+    ensures { OnOk result (lines.new.items ≡ lines.old.items ++ head_of front.now) }
+{
+    let line = line_number(front);
+    let column = column(last_line(front));
+    let head = format!(in alloc; "line {line}, column {column}\n")?;
+    lines.extend_from_slice(head.as_bytes())?;
+    Ok(())
+}
+
+/// Appends the line of a place, and a mark under it.
+fn put_picture(
+    alloc: Global,
+    before: &[u8],
+    behind: &[u8],
+    lines: &mut Vec<u8>,
+) -> Result<(), AllocError>
+    ensures { OnOk result
+        (lines.new.items ≡ lines.old.items ++ picture_of before.now behind.now) }
+{
+    let before = shown_before(alloc, before)?;
+    let behind = shown_behind(alloc, behind)?;
+    let blanks = vec![in alloc; b' '; before.len()]?;
+    lines.extend_from_slice(b"    ")?;
+    lines.extend_from_slice(&before)?;
+    lines.extend_from_slice(&behind)?;
+    lines.extend_from_slice(b"\n    ")?;
+    lines.extend_from_slice(&blanks)?;
+    lines.extend_from_slice(b"^\n")?;
+    Ok(())
+}
+
+/// A place of a text, told in lines: its line and column, as editors count them; the line, with a mark under the place;
+/// and a sentence. A line end is LF or CR and LF, and a character is one of UTF-8.
+pub fn place_lines(
+    alloc: Global,
+    text: &[u8],
+    at: usize,
+    sentence: &[u8],
+) -> Result<Vec<u8>, AllocError>
+    requires { at ≤ length text.now }
+    ensures { IfOk result (λ lines. lines.items ≡ place_lines text.now at sentence.now) }
+{
+    let front = &text[..at];
+    let mut lines = Vec::new(alloc);
+    put_head(alloc, front, &mut lines)?;
+    put_picture(alloc, last_line(front), first_line(&text[at..]), &mut lines)?;
+    lines.extend_from_slice(sentence)?;
+    lines.push(b'\n')?;
+    Ok(lines)
+}

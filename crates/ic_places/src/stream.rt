@@ -1,0 +1,125 @@
+//! Answering what a reader gives, and telling of a text that is refused.
+
+ghost use Rattle.std.specs.Prelude.{◌≡◌, ◌≢◌, ◌≤◌, ◌++◌, ◌⊎◌, Ok, IfOk, IfErr, IfSome, OnOk, length};
+ghost use Rattle.std.specs.Io.KnownBytes.{Keeps};
+ghost use Rattle.ic_text.specs.Source.{IsPhrase, phrase_words};
+ghost use Rattle.ic_text.specs.SystemSource.{IsSystemPhrase, system_words};
+ghost use Rattle.ic_streams.specs.Streams.{OfText, IsAnswered, FaultOf, Rounds, Settles, TakesAt, TakesText};
+ghost use Rattle.ic_places.specs.Telling.{Appended, AppendedAt, told_lines};
+ghost use Rattle.ic_streams.specs.Faults.{fault_of_text};
+
+use crate::telling::{Kind, told_lines};
+use ic_round::{round, settle};
+use ic_streams::{StreamFault, config_line, read_text, write_line};
+use ic_text::{Misread, find_config, find_system};
+use std::alloc::Global;
+use std::io::{Read, Write};
+
+/// Settles the configuration that the reader gives, and writes it as a line, as `settle_stream` does. Where the text is
+/// refused, the lines that tell of it are appended to `told`.
+pub fn settle_telling<R: Read, W: Write>(
+    alloc: Global,
+    reader: &mut R,
+    writer: &mut W,
+    told: &mut Vec<u8>,
+) -> Result<(), StreamFault>
+    // There is a text of which this holds: the reader's, where it tells its bytes.
+    ensures answered { OfText (R.remaining reader.old) (λ text. IsAnswered Settles text result
+        (W.contents writer.old) (W.contents writer.new)) }
+    ensures silent { IfErr result (λ fault. fault ≢ StreamFault.Write
+        → Keeps (W.contents writer.old) (W.contents writer.new)) }
+    ensures taken { OnOk result (TakesText (R.remaining reader.old) (R.remaining reader.new)) }
+    ensures taken_at_fault { IfErr result
+        (λ fault. TakesAt fault (R.remaining reader.old) (R.remaining reader.new)) }
+    ensures told { IfErr result (λ fault. Appended IsPhrase phrase_words Kind.Config
+        (R.remaining reader.old) (R.remaining reader.new) fault told.old.items told.new.items) }
+    ensures quiet { OnOk result (told.new.items ≡ told.old.items) }
+{
+    let text = read_text(alloc, reader)?;
+    let line = settled_line(alloc, &text, told)?;
+    write_line(writer, &line)
+}
+
+/// Makes one round of the system that the reader gives, and writes its configuration as a line, as `once_stream` does.
+/// Where the text is refused, the lines that tell of it are appended to `told`.
+pub fn once_telling<R: Read, W: Write>(
+    alloc: Global,
+    reader: &mut R,
+    writer: &mut W,
+    told: &mut Vec<u8>,
+) -> Result<(), StreamFault>
+    // There is a text of which this holds: the reader's, where it tells its bytes.
+    ensures answered { OfText (R.remaining reader.old) (λ text. IsAnswered Rounds text result
+        (W.contents writer.old) (W.contents writer.new)) }
+    ensures silent { IfErr result (λ fault. fault ≢ StreamFault.Write
+        → Keeps (W.contents writer.old) (W.contents writer.new)) }
+    ensures taken { OnOk result (TakesText (R.remaining reader.old) (R.remaining reader.new)) }
+    ensures taken_at_fault { IfErr result
+        (λ fault. TakesAt fault (R.remaining reader.old) (R.remaining reader.new)) }
+    ensures told { IfErr result (λ fault. Appended IsSystemPhrase system_words Kind.System
+        (R.remaining reader.old) (R.remaining reader.new) fault told.old.items told.new.items) }
+    ensures quiet { OnOk result (told.new.items ≡ told.old.items) }
+{
+    let text = read_text(alloc, reader)?;
+    let line = once_line(alloc, &text, told)?;
+    write_line(writer, &line)
+}
+
+/// The fault of a stream whose text is refused, of which `told` gets the lines.
+fn refused(
+    alloc: Global,
+    kind: Kind,
+    text: &[u8],
+    misread: Misread,
+    told: &mut Vec<u8>,
+) -> StreamFault
+    requires { IfSome misread.place (λ at. at ≤ length text.now) }
+    ensures fault { (result ≡ StreamFault.Memory) ⊎ (result ≡ fault_of_text misread.fault) }
+    ensures told { result ≢ StreamFault.Memory → told.new.items
+        ≡ told.old.items ++ told_lines kind text.now misread.fault misread.place }
+{
+    match told_lines(alloc, kind, text, misread) {
+        Ok(lines) => match told.extend_from_slice(&lines) {
+            Ok(()) => StreamFault::from(misread.fault),
+            Err(_) => StreamFault::Memory,
+        },
+        Err(_) => StreamFault::Memory,
+    }
+}
+
+/// The line of a text that is settled, or its refusal, of which `told` gets the lines.
+fn settled_line(alloc: Global, text: &[u8], told: &mut Vec<u8>) -> Result<Vec<u8>, StreamFault>
+    ensures line { IfOk result (λ line. Settles text.now (Ok line.items)) }
+    ensures refused { IfErr result (λ fault. FaultOf Settles text.now fault) }
+    ensures told { IfErr result (λ fault. AppendedAt IsPhrase phrase_words Kind.Config text.now fault
+        told.old.items told.new.items) }
+    ensures quiet { OnOk result (told.new.items ≡ told.old.items) }
+    ensures sort { IfErr result
+        (λ fault. (fault ≢ StreamFault.Write) × (fault ≢ StreamFault.Read)) }
+{
+    let (symbols, config) = match find_config(alloc, text) {
+        Ok(found) => found,
+        Err(misread) => return Err(refused(alloc, Kind::Config, text, misread, told)),
+    };
+    let settled = settle(alloc, config)?;
+    Ok(config_line(alloc, &symbols, &settled)?)
+}
+
+/// The line of a text of which one round is made, or its refusal, of which `told` gets the lines.
+fn once_line(alloc: Global, text: &[u8], told: &mut Vec<u8>) -> Result<Vec<u8>, StreamFault>
+    ensures line { IfOk result (λ line. Rounds text.now (Ok line.items)) }
+    ensures refused { IfErr result (λ fault. FaultOf Rounds text.now fault) }
+    ensures told { IfErr result (λ fault. AppendedAt IsSystemPhrase system_words Kind.System text.now
+        fault told.old.items told.new.items) }
+    ensures quiet { OnOk result (told.new.items ≡ told.old.items) }
+    ensures sort { IfErr result
+        (λ fault. (fault ≢ StreamFault.Write) × (fault ≢ StreamFault.Read)) }
+{
+    let system = match find_system(alloc, text) {
+        Ok(found) => found,
+        Err(misread) => return Err(refused(alloc, Kind::System, text, misread, told)),
+    };
+    let (rules, config) = system.into_parts();
+    let after = round(alloc, &rules, config)?;
+    Ok(config_line(alloc, rules.symbols(), &after)?)
+}
