@@ -1,18 +1,19 @@
-"""The words `reduce` and `trace`: the rows of ic_look_rows through the built program, each exit status and each line of
+"""The words `reduce`, `trace` and `draw`: the rows of ic_look_rows through the built program, each exit status and each line of
 standard error, and what goes wrong on the way."""
 
 import re
 import xml.etree.ElementTree as xml
 
 import test_faults
-from known import ADD, LOOP
-from program import IN_MEMORY, PROGRAM, TOP, Trial, run
+from known import ADD, LOOP, WIDE
+from program import IN_MEMORY, PROGRAM, TOP, Trial, as_lines, run
 from shim import shimmed, was_refused
 from test_statuses import SYSTEMS
 from worked_rows import expanded, rows
 
 TWO = f"{ADD} <r|Add(r,S(Z))=S(Z)>"
 DOUBLES = "{D(D(x,y),D(z,w))><E(E(x,y),E(z,w))}<|D(a,b)=E(a,b)>"
+GRAPH = ["graph net {", "node [shape=plaintext, width=0, height=0]", "edge [arrowsize=0.7]"]
 HEAD = "round\tpairs\tnodes\tequations\tnames"
 SVG = "{http://www.w3.org/2000/svg}"
 
@@ -82,6 +83,24 @@ class Rows(Trial):
             self.equals(ran.command, "status and standard output", (2, b""), (ran.status, ran.out))
             self.equals(ran.command, f"the range is told: {ran.err}", True, b"0..=4611686018427387904" in ran.err)
 
+    def test_workers_change_nothing_of_what_is_reduced(self):
+        """Neither what few equations reduce to, which one thread does anyway, nor what 1,000 do."""
+        for _, _, count, text, answer in asked(["reduce"]):
+            if len(text) < 2000:
+                out, err, status = end_of(answer)
+                self.runs("reduce", "--workers", 64, "--rounds", count, given=text, out=out, err=err, status=status)
+        pairs = ",".join(f"A(a{i})=B(a{i})" for i in range(1, 1201))
+        swaps = f"{{A(B(x))><B(A(x))}} <|{pairs}>"
+        alone = run("reduce", "--workers", 1, "--rounds", 5, given=swaps)
+        told = (alone.status, alone.err, alone.out.count(b"="))
+        self.equals(alone.command, "how it ends, and how many equations there are", (5, b"icserve: not done\n", 1200), told)
+        for workers in (2, 3, 64):
+            self.runs("reduce", "--workers", workers, "--rounds", 5, given=swaps, out=alone.out, err=alone.err, status=5)
+            self.runs("reduce", "--workers", workers, given=WIDE.text, out=[WIDE.config(1)], err=["icserve: stuck P><P"])
+        for wrong in (0, 65, -1):
+            ran = run("reduce", "--workers", wrong, given=TWO)
+            self.equals(ran.command, "how it ends", (2, b"", b"error:"), (ran.status, ran.out, ran.err[:6]))
+
     def test_rounds_that_are_cut_go_on_where_they_ended(self):
         """A configuration that isn't done is printed all the same; with the rules before it, it is reduced further."""
         text = (TOP / "examples/ackermann.ic").read_text()
@@ -109,7 +128,7 @@ class Endings(Trial):
 
     def test_no_more_is_read_than_a_text_may_have(self):
         """A source without end is refused at its 262,145th byte."""
-        for word in ("reduce", "trace"):
+        for word in ("reduce", "trace", "draw"):
             with open("/dev/zero", "rb") as zeros:
                 ran = run(word, stdin=zeros)
             self.ended(ran, err=["icserve: bad limit"], status=1)
@@ -128,7 +147,7 @@ class Endings(Trial):
         self.runs("-c", 'exec "$0" reduce 2>&-', PROGRAM, program="/bin/sh", given=text, out=["<r|Ad(r,Z)=Z,Up=Down>"])
 
     def test_streams_that_are_closed_or_full_have_their_line(self):
-        for words in (["reduce"], ["trace"], ["trace", "--format", "svg"]):
+        for words in (["reduce"], ["trace"], ["trace", "--format", "svg"], ["draw"]):
             for closing, line in (("<&-", "read"), (">&-", "write"), (">/dev/full", "write")):
                 shell = ["-c", f'exec "$0" "$@" {closing}', PROGRAM, *words]
                 self.refuses(*shell, program="/bin/sh", given=TWO, line=line, status=4)
@@ -203,6 +222,8 @@ class Faults(Trial):
         (["reduce", "--rounds", "1"], TWO, b"<S(s)|Z=Add(s,S(Z))>\n", b"icserve: not done\n", 5),
         (["reduce"], "{A><B} <|A=C>", b"<|A=C>\n", b"icserve: stuck A><C\n", 0),
         (["reduce"], "{A(B,x)><A(x,C)} <|>", b"", b"icserve: bad lopsided 1\n", 1),
+        (["draw"], "<a|a=b>", as_lines([*GRAPH, "J0 [shape=point]", "I1 -- J0", "J0 -- b", "}"]), b"", 0),
+        (["draw"], "{} <a1,a1|a1=A>", b"", b"icserve: bad name a1\n", 1),
         (["trace"], TWO, f"{HEAD}\n1\t1\t7\t1\t2\n2\t1\t3\t0\t0\n".encode(), b"", 0),
     ]
 
@@ -222,7 +243,7 @@ class Faults(Trial):
                     self.agrees(ran.command, f"standard output, where it went wrong: {call}", b"", ran.out)
 
             self.in_turn("growth", ("once", "on"), attempt)
-        self.equals("reduce and trace", "the faults that came", {(4, "memory")}, self.came)
+        self.equals("reduce, trace and draw", "the faults that came", {(4, "memory")}, self.came)
 
     def test_each_read_and_write_fails_in_turn(self):
         svg = run("trace", "--format", "svg", given=TWO).out
@@ -241,4 +262,4 @@ class Faults(Trial):
                             self.told(ran.command, "standard output, which is cut", ends[0], ran.out)
 
                     self.in_turn(what, [how], attempt)
-        self.equals("reduce and trace", "the faults that came", {(4, "read"), (4, "write")}, self.came)
+        self.equals("reduce, trace and draw", "the faults that came", {(4, "read"), (4, "write")}, self.came)

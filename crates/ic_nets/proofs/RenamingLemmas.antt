@@ -83,7 +83,7 @@ module _ (f : ℕ → ℕ) where
         let first : Link = record { from = At (port i); to = end_named (end_of k t); active = false } in
         let later = k + length (agents_in t) in
         (λ d. record { from = At (port i); to = end-renamed k t d; active = false }
-            ∷ (inside-renamed k t d ++ hanging port (i + 1) (k + length (agents-renamed t d)) (renamed_trees f ts)))
+        ∷ (inside-renamed k t d ++ hanging port (i + 1) (k + length (agents-renamed t d)) (renamed_trees f ts)))
         ∙ ap (λ (ls : List Link). first ∷ (map link_named (inside k t) ++ ls)) (hanging-renamed port (i + 1) later ts)
         ∙ ap (λ (ls : List Link). first ∷ ls) (sym (map-append link_named (inside k t) (hanging port (i + 1) later ts)))
 
@@ -101,7 +101,7 @@ module _ (f : ℕ → ℕ) where
   pair_links-renamed rs k p =
       let j = k + length (agents_in p.left) in
       (λ d. inside-renamed k p.left d
-          ++ equation_link rs k (k + length (agents-renamed p.left d)) (renamed_pair f p) ∷ inside (k + length (agents-renamed p.left d)) (renamed f p.right))
+      ++ equation_link rs k (k + length (agents-renamed p.left d)) (renamed_pair f p) ∷ inside (k + length (agents-renamed p.left d)) (renamed f p.right))
       ∙ (λ d. map link_named (inside k p.left) ++ equation-renamed rs k j p d ∷ inside-renamed j p.right d)
       ∙ sym (map-append link_named (inside k p.left) (equation_link rs k j p ∷ inside j p.right))
 
