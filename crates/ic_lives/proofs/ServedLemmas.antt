@@ -1,5 +1,5 @@
 -- What a server has after calls over its book, ended or stopped in their midst.
-use Rattle.std.proofs.Common.{◌≡◌, ◌⊎◌, true, false, Option, Result, ℕ, ◌≤◌, List, [], ◌∷◌, ◌++◌, refl, sym, ap, subst, ◌∙◌, append_assoc}
+use Rattle.std.proofs.Common.{◌≡◌, ◌⊎◌, Bool, true, false, Option, Result, ℕ, ◌<◌, ◌≤◌, List, [], ◌∷◌, ◌++◌, length, refl, sym, ap, subst, ◌∙◌, append_assoc, arith, length-append}
 use Rattle.ic_disk.specs.declared.disk.Disk.{Ghosts}
 use Rattle.ic_disk.specs.Time.{LeftSince}
 use Rattle.ic_slots.specs.Held.{HoldsTable, the_table}
@@ -11,7 +11,7 @@ use Rattle.ic_jobs.specs.History.{replay}
 use Rattle.ic_frames.specs.declared.faults.OpenCause.{OpenCause}
 use Rattle.ic_frames.specs.declared.faults.OpenCause.TheVariants.{Device, Memory}
 use Rattle.ic_desk.specs.declared.book.Book.{Book}
-use Rattle.ic_desk.specs.Book.{table_of, disk_of, is_broken}
+use Rattle.ic_desk.specs.Book.{table_of, log_of, kept_of, disk_of, is_broken}
 use Rattle.ic_desk.specs.Moves.{Move, opens, refuses, answers, fails, rounds, keeps, stays, closes, stops}
 use Rattle.ic_desk.specs.Server.{Server, down, up, Does, Opens, Refuses, IsFound, Step, Runs, Reaches}
 use Rattle.ic_serving.specs.declared.fault.ServeFault.{ServeFault}
@@ -19,7 +19,9 @@ use Rattle.ic_serving.specs.Booked.{IsAllKept, last_kept}
 use Rattle.ic_serving.specs.Serving.{IsServing}
 use Rattle.ic_serving.specs.InTurn.{AreAnsweredInTurn, AreServedInTurn, calls_for, moves_in_turn}
 use Rattle.ic_serving.specs.Stopped.{MayStand}
+use Rattle.ic_desk.specs.Entries.{command_entry, round_entry}
 use Rattle.ic_desk.specs.lemmas.Chains.{by_calls_then}
+use Rattle.ic_desk.specs.lemmas.Facts.{history_of}
 use Rattle.ic_desk.specs.ByCalls.{Calls, IsByCalls, IsOnMadeDisk}
 use Rattle.ic_lives.specs.Headline.{IsTableAfter}
 use Rattle.ic_lives.specs.Histories.{IsHistoryOf}
@@ -184,24 +186,55 @@ module _ {D : Type 0} {ghosts : Ghosts D} where
         let there = reaches_turns moves front old split.0 split.1 run in
         (split.0, split.1, split.2, later, there, λ here. stopped_so (moves_in_turn front old split.0 split.1 ++ moves) split.0 new later found there here)
 
--- a command at which the disk failed has broken the book, and it stays so
-pub broken_by : {D : Type 0} {ghosts : Ghosts D} (moves later earlier : List Move) (who : ℕ) (command : Command) (reply : Reply) (old new : Book D ghosts)
-    → Calls moves old new → moves ≡ later ++ fails who command reply ∷ earlier → is_broken new ≡ true
-broken_by {D} {ghosts} moves later earlier who command reply old new calls same =
-    broken_behind later new (subst (λ (ms : List Move). Calls {ghosts = ghosts} ms old new) same calls)
-  where
-    broken_behind : (later : List Move) (last : Book D ghosts) → Calls (later ++ fails who command reply ∷ earlier) old last → is_broken last ≡ true
-    broken_behind [] last calls = calls.2.page.3
-    broken_behind (move ∷ later) last calls = calls.2.broken (broken_behind later calls.0 calls.1)
+-- ---- a command at which the disk failed
 
--- behind it the disk fails at no other
-pub once_by : {D : Type 0} {ghosts : Ghosts D} (moves later between earlier : List Move) (who other : ℕ) (command second : Command) (reply answer : Reply) (old new : Book D ghosts)
-    → Calls moves old new → ¬ (moves ≡ later ++ fails who command reply ∷ (between ++ fails other second answer ∷ earlier))
-once_by {D} {ghosts} moves later between earlier who other command second reply answer old new calls same =
-    once_behind later new (subst (λ (ms : List Move). Calls {ghosts = ghosts} ms old new) same calls)
-  where
-    once_behind : (later : List Move) (last : Book D ghosts) → ¬ Calls (later ++ fails who command reply ∷ (between ++ fails other second answer ∷ earlier)) old last
-    once_behind [] last calls =
-        let broke = broken_by (between ++ fails other second answer ∷ earlier) between earlier other second answer old calls.0 calls.1 refl in
-        let never : true ≡ false = sym broke ∙ calls.2.page.2 in cc
-    once_behind (move ∷ later) last calls = once_behind later calls.0 calls.1
+not_both : (b : Bool) → b ≡ true → b ≡ false → ⊥
+not_both b one other = let never : true ≡ false = sym one ∙ other in cc
+
+-- it has broken the book, and isn't kept
+pub record StandsUnkept {D : Type 0} {ghosts : Ghosts D} (book : Book D ghosts) : Type 0 where
+  pub broken : is_broken book ≡ true
+  pub unkept : kept_of book < length (log_of book)
+
+module _ {D : Type 0} {ghosts : Ghosts D} where
+  -- so it stays
+  unkept_on : (move : Move) (old new : Book D ghosts) → Does move old new → StandsUnkept old → StandsUnkept new
+  unkept_on (answers who command reply) old new does is = absurd (not_both (is_broken new) (does.broken is.broken) does.page.2)
+  unkept_on (fails who command reply) old new does is = absurd (not_both (is_broken old) is.broken does.page.2)
+  unkept_on (rounds name reply) old new does is =
+      let long = ap length does.page.0.adds.entry ∙ length-append (log_of old) (round_entry name reply ∷ []) in
+      record { broken = does.broken is.broken; unkept = omega (arith, is.unkept, does.page.1, long) }
+  unkept_on keeps old new does is = absurd (not_both (is_broken new) (does.broken is.broken) does.page.2)
+  unkept_on stays old new does is =
+      let long = ap length does.page.0.log in
+      record { broken = does.broken is.broken; unkept = omega (arith, is.unkept, does.page.1, long) }
+  unkept_on opens old new does is = absurd does.page
+  unkept_on (refuses cause) old new does is = absurd does.page
+  unkept_on closes old new does is = absurd does.page
+  unkept_on (stops move) old new does is = absurd does.page
+
+  module _ (who : ℕ) (command : Command) (reply : Reply) where
+    failed : (old new : Book D ghosts) → Does (fails who command reply) old new → StandsUnkept new
+    failed old new does =
+        let long = ap length does.page.0.adds.entry ∙ length-append (log_of old) (command_entry who command reply ∷ []) in
+        record { broken = does.page.3; unkept = omega (arith, (history_of old).within, does.page.1, long) }
+
+    unkept_behind : (later earlier : List Move) (old new : Book D ghosts) → Calls (later ++ fails who command reply ∷ earlier) old new → StandsUnkept new
+    unkept_behind [] earlier old new calls = failed calls.0 new calls.2
+    unkept_behind (move ∷ later) earlier old new calls = unkept_on move calls.0 new calls.2 (unkept_behind later earlier old calls.0 calls.1)
+
+    pub failed_by : (moves later earlier : List Move) (old new : Book D ghosts) → Calls moves old new → moves ≡ later ++ fails who command reply ∷ earlier → StandsUnkept new
+    failed_by moves later earlier old new calls same = unkept_behind later earlier old new (subst (λ (ms : List Move). Calls {ghosts = ghosts} ms old new) same calls)
+
+  -- behind it the disk fails at no other
+  once_behind : (later between earlier : List Move) (who other : ℕ) (command second : Command) (reply answer : Reply) (old new : Book D ghosts)
+      → ¬ Calls (later ++ fails who command reply ∷ (between ++ fails other second answer ∷ earlier)) old new
+  once_behind [] between earlier who other command second reply answer old new calls =
+      not_both (is_broken calls.0) (unkept_behind other second answer between earlier old calls.0 calls.1).broken calls.2.page.2
+  once_behind (move ∷ later) between earlier who other command second reply answer old new calls =
+      once_behind later between earlier who other command second reply answer old calls.0 calls.1
+
+  pub once_by : (moves later between earlier : List Move) (who other : ℕ) (command second : Command) (reply answer : Reply) (old new : Book D ghosts)
+      → Calls moves old new → ¬ (moves ≡ later ++ fails who command reply ∷ (between ++ fails other second answer ∷ earlier))
+  once_by moves later between earlier who other command second reply answer old new calls same =
+      once_behind later between earlier who other command second reply answer old new (subst (λ (ms : List Move). Calls {ghosts = ghosts} ms old new) same calls)

@@ -1,6 +1,6 @@
 //! What a server has after lines were served over its book.
 
-ghost use Rattle.std.specs.Prelude.{◌≡◌, ◌⊎◌, [], ◌∷◌, ◌++◌, ℕ, List, Ok, Option, Result, true, IsTrue, OnOk};
+ghost use Rattle.std.specs.Prelude.{◌≡◌, ◌⊎◌, ◌<◌, [], ◌∷◌, ◌++◌, ℕ, List, Ok, Option, Result, length, true, IsTrue, OnOk};
 ghost use Rattle.ic_disk.specs.Images.{Within};
 ghost use Rattle.ic_jobs.specs.declared.command.Command.{Command};
 ghost use Rattle.ic_jobs.specs.declared.event.Entry.{Entry};
@@ -13,7 +13,7 @@ ghost use Rattle.ic_slots.specs.Held.{HoldsTable};
 ghost use Rattle.ic_commands.specs.ReplyText.{reply_text};
 ghost use Rattle.ic_commands.specs.declared.line.Line.TheVariants.{Command as Asks, Run};
 ghost use Rattle.ic_lines.specs.Lines.{ended};
-ghost use Rattle.ic_desk.specs.Book.{disk_of, is_broken, table_of};
+ghost use Rattle.ic_desk.specs.Book.{disk_of, is_broken, kept_of, log_of, table_of};
 ghost use Rattle.ic_desk.specs.Moves.{Move, answers, fails, keeps, opens, refuses};
 ghost use Rattle.ic_desk.specs.Server.{IsFound, Opens, Reaches, Refuses, Server, down, up};
 ghost use Rattle.ic_serving.specs.declared.fault.ServeFault.{ServeFault};
@@ -51,10 +51,11 @@ pub fn the_served_headline<D: Disk>(old: &Book<D>, new: &Book<D>, found: &D)
         → (cut : List Move) × IsCutShort done.moves cut
         × Reaches {ghosts = D.Disk} (cut ++ moves) (down found.now) }
 
-    // A command among the moves at which the disk failed has broken the book.
+    // A command among the moves at which the disk failed has broken the book, and isn't kept.
     ensures broken { (done : IsByCalls old.now new.now) (later earlier : List Move)
         (who : ℕ) (command : Command) (reply : Reply)
-        → done.moves ≡ later ++ fails who command reply ∷ earlier → is_broken new.now ≡ true }
+        → done.moves ≡ later ++ fails who command reply ∷ earlier
+        → (is_broken new.now ≡ true) × (kept_of new.now < length (log_of new.now)) }
 
     // And there is one such command at most: all others were answered.
     ensures once { (done : IsByCalls old.now new.now) (later between earlier : List Move)

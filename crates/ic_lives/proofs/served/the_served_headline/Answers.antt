@@ -1,5 +1,5 @@
 use Rattle.ic_lives.proofs.RunLemmas.{table_after}
-use Rattle.ic_lives.proofs.ServedLemmas.{reaches_more, stopped_so, broken_by, once_by}
+use Rattle.ic_lives.proofs.ServedLemmas.{reaches_more, stopped_so, failed_by, once_by}
 use Rattle.ic_lives.proofs.served.the_served_headline.Goals as goal
 
 pub returns-clause-ended : goal.returns-clause-ended
@@ -15,7 +15,8 @@ returns-clause-stopped g c moves done = stopped_so c.histories_split_and_join.en
     g.met.D.Disk.content_is_image g.met.D.Disk.image_is_left g.met.D.Disk.left_is_image moves c.args.old.now c.args.new.now done c.args.found.now
 
 pub returns-clause-broken : goal.returns-clause-broken
-returns-clause-broken g c done later earlier who command reply = broken_by done.moves later earlier who command reply c.args.old.now c.args.new.now done.calls
+returns-clause-broken g c done later earlier who command reply same =
+    let is = failed_by who command reply done.moves later earlier c.args.old.now c.args.new.now done.calls same in (is.broken, is.unkept)
 
 pub returns-clause-once : goal.returns-clause-once
 returns-clause-once g c done later between earlier who other command second reply answer =
