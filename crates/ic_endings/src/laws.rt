@@ -1,6 +1,6 @@
 //! Laws of what the program makes of its failures.
 
-ghost use Rattle.std.specs.Prelude.{◌≡◌, ℕ, List, [], ◌∷◌, ◌++◌, map, codes, string_bytes};
+ghost use Rattle.std.specs.Prelude.{◌≡◌, ℕ, List, [], ◌∷◌, ◌++◌, Option, map, codes, string_bytes};
 ghost use Rattle.std.specs.Fmt.{decimal};
 ghost use Rattle.ic_disk.specs.declared.disk.DiskFault.{DiskFault};
 ghost use Rattle.ic_text.specs.Text.{fault_text};
@@ -22,6 +22,9 @@ ghost use Rattle.ic_lines.specs.declared.script.ScriptFault.{ScriptFault};
 ghost use Rattle.ic_scripts.specs.declared.fault.ScriptsFault.TheVariants as scripts;
 ghost use Rattle.ic_endings.specs.declared.failure.Failure.TheVariants.{Words, Stream, Disk, Create, Open, Serve, Attend, NotDone};
 ghost use Rattle.ic_endings.specs.Endings.{status_of, failure_line, stuck_line};
+ghost use Rattle.ic_endings.specs.Behind.{lines_behind};
+ghost use Rattle.ic_causes.specs.declared.cause.Cause.{Cause};
+ghost use Rattle.ic_causes.specs.Causes.{cause_line, shown_path};
 
 /// The exit status is 2 for refused words, 1 for a refused text, round or script, 3 for a disk that
 /// isn't made or opened, 5 for rounds that didn't suffice, and 4 for all else.
@@ -127,4 +130,29 @@ pub fn lines_of_looks_are()
     ensures not_done { failure_line NotDone ≡ codes "icserve: not done" ++ 10 ∷ [] }
     ensures stuck { (pair : List ℕ) → stuck_line pair
         ≡ codes "icserve: stuck " ++ pair ++ 10 ∷ [] }
+{}
+
+/// What is told behind the line of a failure: of `device` why the last call to the file has failed,
+/// of a disk that isn't opened what is wrong with the file, and of all else nothing.
+pub fn lines_behind_are(text: &String)
+    ensures file { (fault : DiskFault) (path : List ℕ) (cause : Option Cause)
+        → lines_behind (Disk fault) path cause ≡ cause_line path cause }
+    ensures created { (path : List ℕ) (cause : Option Cause)
+        → lines_behind (Create creating.Device) path cause ≡ cause_line path cause }
+    ensures opened { (path : List ℕ) (cause : Option Cause)
+        → lines_behind (Open opening.Device) path cause ≡ cause_line path cause }
+    ensures served { (path : List ℕ) (cause : Option Cause)
+        → lines_behind (Serve (serve.Book book.Device)) path cause ≡ cause_line path cause }
+    ensures attended { (path : List ℕ) (cause : Option Cause)
+        → lines_behind (Attend (scripts.Book book.Device)) path cause ≡ cause_line path cause }
+    ensures no_disk { (path : List ℕ) (cause : Option Cause)
+        → lines_behind (Open opening.NoSlot) path cause ≡ shown_path path ++ codes ": "
+        ++ codes "the file is no disk; `icserve create --disk F` makes the file F one" ++ 10 ∷ [] }
+    ensures damaged { (path : List ℕ) (cause : Option Cause)
+        → lines_behind (Open opening.Damaged) path cause ≡ shown_path path ++ codes ": "
+        ++ codes "something else has changed the file, or it was copied in part" ++ 10 ∷ [] }
+    ensures text { (fault : TextFault) (path : List ℕ) (cause : Option Cause)
+        → lines_behind (Stream (stream.Text fault)) path cause ≡ [] }
+    ensures words { (path : List ℕ) (cause : Option Cause)
+        → lines_behind (Words (words.Words text.now)) path cause ≡ [] }
 {}

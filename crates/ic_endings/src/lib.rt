@@ -1,7 +1,8 @@
 //! How the program ends where it doesn't do what it is asked: an exit status, and a line on standard
-//! error. There, too, is the line of a stuck pair.
+//! error. There, too, are the line of a stuck pair, and what is told behind the line of a disk.
 #![tactic(auto)]
 
+mod behind;
 mod failure;
 pub mod laws;
 

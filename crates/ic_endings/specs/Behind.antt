@@ -1,0 +1,83 @@
+-- What is told behind the line of a failure, by cases over all of them (this project's choice).
+use Rattle.std.specs.Prelude.{ℕ, List, [], ◌∷◌, ◌++◌, codes, Option}
+use Rattle.ic_causes.specs.declared.cause.Cause.{Cause}
+use Rattle.ic_causes.specs.Causes.{cause_line, shown_path}
+use Rattle.ic_frames.specs.declared.faults.OpenCause.{OpenCause}
+use Rattle.ic_frames.specs.declared.faults.OpenCause.TheVariants as opening
+use Rattle.ic_slots.specs.declared.fault.CreateFault.{CreateFault}
+use Rattle.ic_slots.specs.declared.fault.CreateFault.TheVariants as creating
+use Rattle.ic_desk.specs.declared.fault.BookFault.{BookFault}
+use Rattle.ic_desk.specs.declared.fault.BookFault.TheVariants as book
+use Rattle.ic_serving.specs.declared.fault.ServeFault.{ServeFault}
+use Rattle.ic_serving.specs.declared.fault.ServeFault.TheVariants as serve
+use Rattle.ic_scripts.specs.declared.fault.ScriptsFault.{ScriptsFault}
+use Rattle.ic_scripts.specs.declared.fault.ScriptsFault.TheVariants as scripts
+use Rattle.ic_endings.specs.declared.failure.Failure.{Failure}
+use Rattle.ic_endings.specs.declared.failure.Failure.TheVariants.{Words, Stream, Disk, Create, Open, Serve, Attend, NotDone}
+
+-- of a file that is no disk
+abbrev pub no_disk : List ℕ
+no_disk = codes "the file is no disk; `icserve create --disk F` makes the file F one"
+
+-- of a file that no server has left so
+abbrev pub not_as_left : List ℕ
+not_as_left = codes "something else has changed the file, or it was copied in part"
+
+-- the line that says this of the file of a path
+abbrev pub shown_of : (path words : List ℕ) → List ℕ
+shown_of path words = shown_path path ++ codes ": " ++ words ++ 10 ∷ []
+
+-- where no disk is made
+abbrev pub create_lines : CreateFault → List ℕ → Option Cause → List ℕ
+create_lines creating.Device path cause = cause_line path cause
+create_lines creating.Memory path cause = []
+
+-- where a disk isn't opened
+abbrev pub open_lines : OpenCause → List ℕ → Option Cause → List ℕ
+open_lines opening.Device path cause = cause_line path cause
+open_lines opening.NoSlot path cause = shown_of path no_disk
+open_lines opening.TwoAlike path cause = shown_of path not_as_left
+open_lines opening.Damaged path cause = shown_of path not_as_left
+open_lines opening.Memory path cause = []
+
+-- where a book refuses
+abbrev pub book_lines : BookFault → List ℕ → Option Cause → List ℕ
+book_lines book.Broken path cause = cause_line path cause
+book_lines book.Device path cause = cause_line path cause
+book_lines book.LogFull path cause = []
+book_lines book.Worn path cause = []
+book_lines book.Memory path cause = []
+
+-- where a serving ended
+abbrev pub serve_lines : ServeFault → List ℕ → Option Cause → List ℕ
+serve_lines (serve.Book fault) path cause = book_lines fault path cause
+serve_lines serve.Read path cause = []
+serve_lines serve.Write path cause = []
+serve_lines serve.TooManyLines path cause = []
+serve_lines (serve.Pool fault) path cause = []
+serve_lines serve.LongLine path cause = []
+serve_lines serve.Memory path cause = []
+
+-- where scripts aren't attended to, or not in full
+abbrev pub scripts_lines : ScriptsFault → List ℕ → Option Cause → List ℕ
+scripts_lines (scripts.Open fault) path cause = open_lines fault path cause
+scripts_lines (scripts.Book fault) path cause = book_lines fault path cause
+scripts_lines scripts.Read path cause = []
+scripts_lines (scripts.Script place refusal) path cause = []
+scripts_lines scripts.NoThread path cause = []
+scripts_lines scripts.Torn path cause = []
+scripts_lines (scripts.Pool fault) path cause = []
+scripts_lines scripts.Memory path cause = []
+scripts_lines scripts.Write path cause = []
+
+-- what standard error is told behind the line of a failure, where the disk is in the file of this
+-- path and the cause is that of the last call to it that has failed
+abbrev pub lines_behind : Failure → List ℕ → Option Cause → List ℕ
+lines_behind (Disk fault) path cause = cause_line path cause
+lines_behind (Create fault) path cause = create_lines fault path cause
+lines_behind (Open fault) path cause = open_lines fault path cause
+lines_behind (Serve fault) path cause = serve_lines fault path cause
+lines_behind (Attend fault) path cause = scripts_lines fault path cause
+lines_behind (Words fault) path cause = []
+lines_behind (Stream fault) path cause = []
+lines_behind NotDone path cause = []

@@ -1,0 +1,132 @@
+//! What is told behind the line of a failure: why a disk's file doesn't serve.
+
+ghost use Rattle.std.specs.Prelude.{◌≡◌, IfOk};
+ghost use Rattle.ic_endings.specs.Behind.{book_lines, create_lines, lines_behind, open_lines, scripts_lines};
+ghost use Rattle.ic_endings.specs.Behind.{serve_lines, shown_of};
+
+use crate::Failure;
+use ic_causes::{Cause, cause_line, shown_path};
+use ic_desk::BookFault;
+use ic_scripts::ScriptsFault;
+use ic_serving::ServeFault;
+use ic_slots::{CreateFault, OpenCause};
+use std::alloc::{AllocError, Global};
+
+/// What is said of a file that is no disk.
+const NO_DISK: &[u8] = b"the file is no disk; `icserve create --disk F` makes the file F one";
+
+/// What is said of a file that no server has left so.
+const NOT_AS_LEFT: &[u8] = b"something else has changed the file, or it was copied in part";
+
+impl Failure {
+    /// What standard error is told behind the line of the failure, where the disk is in the file of
+    /// this path and the cause is that of the last call to it that has failed: a line, or nothing.
+    pub fn lines_behind(
+        &self,
+        alloc: Global,
+        path: &[u8],
+        cause: Option<Cause>,
+    ) -> Result<Vec<u8>, AllocError>
+        ensures { IfOk result (λ lines. lines.items ≡ lines_behind self.now path.now cause) }
+    {
+        match self {
+            Failure::Disk(_) => cause_line(alloc, path, cause),
+            Failure::Create(fault) => create_lines(alloc, *fault, path, cause),
+            Failure::Open(fault) => open_lines(alloc, *fault, path, cause),
+            Failure::Serve(fault) => serve_lines(alloc, *fault, path, cause),
+            Failure::Attend(fault) => scripts_lines(alloc, *fault, path, cause),
+            Failure::Words(_) | Failure::Stream(_) | Failure::NotDone => Ok(Vec::new(alloc)),
+        }
+    }
+}
+
+fn create_lines(
+    alloc: Global,
+    fault: CreateFault,
+    path: &[u8],
+    cause: Option<Cause>,
+) -> Result<Vec<u8>, AllocError>
+    ensures { IfOk result (λ lines. lines.items ≡ create_lines fault path.now cause) }
+{
+    match fault {
+        CreateFault::Device => cause_line(alloc, path, cause),
+        CreateFault::Memory => Ok(Vec::new(alloc)),
+    }
+}
+
+fn open_lines(
+    alloc: Global,
+    fault: OpenCause,
+    path: &[u8],
+    cause: Option<Cause>,
+) -> Result<Vec<u8>, AllocError>
+    ensures { IfOk result (λ lines. lines.items ≡ open_lines fault path.now cause) }
+{
+    match fault {
+        OpenCause::Device => cause_line(alloc, path, cause),
+        OpenCause::NoSlot => said_of(alloc, path, NO_DISK),
+        OpenCause::TwoAlike | OpenCause::Damaged => said_of(alloc, path, NOT_AS_LEFT),
+        OpenCause::Memory => Ok(Vec::new(alloc)),
+    }
+}
+
+fn book_lines(
+    alloc: Global,
+    fault: BookFault,
+    path: &[u8],
+    cause: Option<Cause>,
+) -> Result<Vec<u8>, AllocError>
+    ensures { IfOk result (λ lines. lines.items ≡ book_lines fault path.now cause) }
+{
+    match fault {
+        BookFault::Broken | BookFault::Device => cause_line(alloc, path, cause),
+        BookFault::LogFull | BookFault::Worn | BookFault::Memory => Ok(Vec::new(alloc)),
+    }
+}
+
+fn serve_lines(
+    alloc: Global,
+    fault: ServeFault,
+    path: &[u8],
+    cause: Option<Cause>,
+) -> Result<Vec<u8>, AllocError>
+    ensures { IfOk result (λ lines. lines.items ≡ serve_lines fault path.now cause) }
+{
+    match fault {
+        ServeFault::Book(refused) => book_lines(alloc, refused, path, cause),
+        ServeFault::Read | ServeFault::Write | ServeFault::Pool(_) | ServeFault::Memory => {
+            Ok(Vec::new(alloc))
+        }
+        ServeFault::TooManyLines | ServeFault::LongLine => Ok(Vec::new(alloc)),
+    }
+}
+
+fn scripts_lines(
+    alloc: Global,
+    fault: ScriptsFault,
+    path: &[u8],
+    cause: Option<Cause>,
+) -> Result<Vec<u8>, AllocError>
+    ensures { IfOk result (λ lines. lines.items ≡ scripts_lines fault path.now cause) }
+{
+    match fault {
+        ScriptsFault::Open(refused) => open_lines(alloc, refused, path, cause),
+        ScriptsFault::Book(refused) => book_lines(alloc, refused, path, cause),
+        ScriptsFault::Read | ScriptsFault::Script(_, _) | ScriptsFault::NoThread => {
+            Ok(Vec::new(alloc))
+        }
+        ScriptsFault::Torn | ScriptsFault::Pool(_) => Ok(Vec::new(alloc)),
+        ScriptsFault::Memory | ScriptsFault::Write => Ok(Vec::new(alloc)),
+    }
+}
+
+/// The line that says this of the file of a path.
+fn said_of(alloc: Global, path: &[u8], words: &[u8]) -> Result<Vec<u8>, AllocError>
+    ensures { IfOk result (λ line. line.items ≡ shown_of path.now words.now) }
+{
+    let mut line = shown_path(alloc, path)?;
+    line.extend_from_slice(b": ")?;
+    line.extend_from_slice(words)?;
+    line.push(b'\n')?;
+    Ok(line)
+}
