@@ -32,12 +32,26 @@ PATIENCE = float(os.environ.get("PATIENCE") or 120)
 
 
 class Ran(NamedTuple):
-    """A run of the program that has ended. A signal that ended it is a negative status, as of `subprocess`."""
+    """A run of the program that has ended. A signal that ended it is a negative status, as of `subprocess`. What stands on
+    standard error behind the line of a disk stands by itself."""
 
     command: str
     status: int
     out: bytes
     err: bytes
+    behind: bytes = b""
+
+
+# The lines of standard error behind which a line tells of the disk's file.
+OF_DISKS = [f"icserve: {it}\n".encode() for it in ("device", "broken", "no slot", "two alike", "damaged", "not empty")]
+
+
+def ran_with(command, status, out, err):
+    """A run, what it wrote on standard error parted: a line that tells of the disk's file stands by itself."""
+    line, feed, behind = err.partition(b"\n")
+    if line + feed in OF_DISKS and behind.count(b"\n") == 1:
+        return Ran(command, status, out, line + feed, behind)
+    return Ran(command, status, out, err)
 
 
 def as_bytes(text):
@@ -94,7 +108,7 @@ def run(*words, given=b"", program=None, before=(), seconds=PATIENCE, **how):
             started.kill()
             out, err = started.communicate()
             err = (err or b"") + f"\n(the trial stopped it after {seconds} seconds)".encode()
-    return Ran(said_of(command, given), started.returncode, out or b"", err or b"")
+    return ran_with(said_of(command, given), started.returncode, out or b"", err or b"")
 
 
 class Server:
@@ -169,7 +183,7 @@ class Server:
             out, err = self.process.communicate()
             err += f"\n(the trial stopped it after {seconds} seconds)".encode()
         self.came += out
-        return Ran(said_of(self.command, self.given), self.process.returncode, bytes(self.came), err)
+        return ran_with(said_of(self.command, self.given), self.process.returncode, bytes(self.came), err)
 
 
 class Trial(unittest.TestCase):

@@ -42,6 +42,7 @@ class Pages(Trial):
     def typed(self, page, commands, wanted, streams=subprocess.STDOUT):
         """Runs the commands of a page by a shell in the trial's folder: they print just these lines."""
         text = "\n".join(commands).replace("/tmp/", shlex.quote(f"{self.room}/"))
+        wanted = [it.replace("/tmp/", f"{self.room}/") for it in wanted]
         how = {"cwd": self.room, "stdin": subprocess.DEVNULL, "stdout": subprocess.PIPE, "stderr": streams}
         how["timeout"] = PATIENCE
         ran = subprocess.run(["sh", "-c", text], **how)

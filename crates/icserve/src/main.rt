@@ -5,6 +5,7 @@ mod looking;
 mod progress;
 
 use crate::progress::{Progress, WipedFirst};
+use ic_causes::{NotedFile, NotedFiles, Notes};
 use ic_desk::Book;
 use ic_disk::{DiskFault, FileDisk};
 use ic_endings::Failure;
@@ -23,30 +24,64 @@ use std::thread::Threads;
 /// How many bytes of answers are gathered at most before they are written.
 const ANSWERS: usize = 65_536;
 
+/// A disk in a file, of which each call that fails is noted.
+type NotedDisk<'a> = FileDisk<NotedFile<'a>>;
+
 fn main(rt: HostRuntime) -> ExitCode {
-    match run(&rt, &rt) {
+    let notes = Notes::new();
+    let mut path = String::new(rt.alloc());
+    match begin(&rt, &rt, &mut path, &notes) {
         Ok(()) => ExitCode::SUCCESS,
-        Err(failure) => refuse(&rt, &failure),
+        Err(failure) => refuse(&rt, &failure, path.as_str(), &notes),
     }
 }
 
-/// Does what the words after the program's name ask for, on standard input and output but for
-/// `create`, and but for the input of `attend`.
-fn run<T: Threads + Wait + Sync>(rt: &HostRuntime, threads: &T) -> Result<(), Failure> {
+/// Does what the words after the program's name ask for. It hands out the path of the disk's file,
+/// and notes the calls to it that fail.
+fn begin<T: Threads + Wait + Sync>(
+    rt: &HostRuntime,
+    threads: &T,
+    path: &mut String,
+    notes: &Notes,
+) -> Result<(), Failure> {
+    let task = task(rt).map_err(Failure::Words)?;
+    if path.push_str(path_of(&task)).is_err() {
+        return Err(Failure::Words(WordsFault::Memory));
+    }
+    run(rt, threads, task, notes)
+}
+
+/// The path of the disk's file that a task names, or no path.
+fn path_of(task: &Task) -> &str {
+    match task {
+        Task::Create { disk } => disk.as_str(),
+        Task::Serve { disk, .. } => disk.as_str(),
+        Task::Attend { disk, .. } => disk.as_str(),
+        _ => "",
+    }
+}
+
+/// Does a task on standard input and output, but for `create`, and but for the input of `attend`.
+fn run<T: Threads + Wait + Sync>(
+    rt: &HostRuntime,
+    threads: &T,
+    task: Task,
+    notes: &Notes,
+) -> Result<(), Failure> {
     let mut input = rt.reader();
     let mut output = io::writer(rt);
-    match task(rt).map_err(Failure::Words)? {
+    match task {
         Task::Settle => {
             settle_stream(rt.alloc(), &mut input, &mut output).map_err(Failure::Stream)
         }
         Task::Once => once_stream(rt.alloc(), &mut input, &mut output).map_err(Failure::Stream),
-        Task::Create { disk } => create(rt, disk.as_str()),
+        Task::Create { disk } => create(rt, disk.as_str(), notes),
         Task::Serve {
             disk,
             workers,
             every,
         } => {
-            let book = open(rt, disk.as_str())?;
+            let book = open(rt, disk.as_str(), notes)?;
             serve(rt, threads, book, workers, every).map_err(Failure::Serve)
         }
         Task::Attend {
@@ -57,7 +92,7 @@ fn run<T: Threads + Wait + Sync>(rt: &HostRuntime, threads: &T) -> Result<(), Fa
             scripts,
         } => {
             let scripts = read_scripts(rt, &scripts).map_err(Failure::Attend)?;
-            let disk = open_disk(rt, disk.as_str(), false)?;
+            let disk = open_disk(rt, disk.as_str(), false, notes)?;
             let numbers = [runners, turns, workers];
             give(rt, threads, disk, scripts, numbers).map_err(Failure::Attend)
         }
@@ -96,20 +131,30 @@ fn stand_ins(rt: &HostRuntime) -> io::Result<[File; 3]> {
 }
 
 /// Opens the disk in the file of this path, which with `create` is made where it is missing.
-fn open_disk(rt: &HostRuntime, path: &str, create: bool) -> Result<FileDisk, Failure> {
+fn open_disk<'a>(
+    rt: &HostRuntime,
+    path: &str,
+    create: bool,
+    notes: &'a Notes,
+) -> Result<NotedDisk<'a>, Failure> {
     let _stand_ins = stand_ins(rt).map_err(|_| Failure::Disk(DiskFault))?;
-    FileDisk::open(rt, path, create).map_err(Failure::Disk)
+    let files = NotedFiles { rt, path, notes };
+    FileDisk::open(&files, path, create).map_err(Failure::Disk)
 }
 
 /// Puts the empty table on the disk in the file of this path.
-fn create(rt: &HostRuntime, path: &str) -> Result<(), Failure> {
-    let mut disk = open_disk(rt, path, true)?;
+fn create(rt: &HostRuntime, path: &str, notes: &Notes) -> Result<(), Failure> {
+    let mut disk = open_disk(rt, path, true, notes)?;
     ic_slots::create(rt.alloc(), &mut disk).map_err(Failure::Create)
 }
 
 /// Opens the book on the disk in the file of this path.
-fn open(rt: &HostRuntime, path: &str) -> Result<Book<FileDisk>, Failure> {
-    let disk = open_disk(rt, path, false)?;
+fn open<'a>(
+    rt: &HostRuntime,
+    path: &str,
+    notes: &'a Notes,
+) -> Result<Book<NotedDisk<'a>>, Failure> {
+    let disk = open_disk(rt, path, false, notes)?;
     match Book::open(rt.alloc(), disk) {
         Ok(book) => Ok(book),
         Err(fault) => Err(Failure::Open(fault.cause)),
@@ -121,7 +166,7 @@ fn open(rt: &HostRuntime, path: &str) -> Result<Book<FileDisk>, Failure> {
 fn serve<T: Threads + Wait>(
     rt: &HostRuntime,
     threads: &T,
-    mut book: Book<FileDisk>,
+    mut book: Book<NotedDisk<'_>>,
     workers: u32,
     every: u32,
 ) -> Result<(), ServeFault> {
@@ -174,7 +219,7 @@ fn read_file(rt: &HostRuntime, path: &str) -> Result<Vec<u8>, ScriptsFault> {
 fn give<T: Threads + Wait + Sync>(
     rt: &HostRuntime,
     threads: &T,
-    disk: FileDisk,
+    disk: NotedDisk<'_>,
     scripts: Vec<Vec<Command>>,
     numbers: [u32; 3],
 ) -> Result<(), ScriptsFault> {
@@ -211,12 +256,15 @@ fn show<W: Write>(output: &mut W, text: &str) -> Result<(), StreamFault> {
     output.flush().map_err(|_| StreamFault::Write)
 }
 
-/// Writes the line of a failure to standard error, or that there is no memory for it. The exit
-/// status says which failure it was.
-fn refuse(rt: &HostRuntime, failure: &Failure) -> ExitCode {
+/// Writes the line of a failure to standard error, or that there is no memory for it, and behind it
+/// what is to be told of the disk's file of this path. The exit status says which failure it was.
+fn refuse(rt: &HostRuntime, failure: &Failure, path: &str, notes: &Notes) -> ExitCode {
     match failure.line(rt.alloc()) {
         Ok(line) => {
             let _ = rt.stderr().write_all(&line);
+            if let Ok(lines) = failure.lines_behind(rt.alloc(), path.as_bytes(), notes.last()) {
+                let _ = rt.stderr().write_all(&lines);
+            }
             ExitCode::from(failure.status())
         }
         Err(_) => {

@@ -1,0 +1,140 @@
+"""What standard error tells behind the line of a disk: the path, and why a call to the file has failed or what is wrong with
+it. The first lines and the statuses are tried in test_statuses.py and test_faults.py."""
+
+import os
+import shutil
+import subprocess
+
+from disks import EMPTY, disk_of, slot
+from known import TWO
+from program import PROGRAM, Server, Trial, grows_to, run
+from shim import shimmed, was_refused
+
+NO_DISK = "the file is no disk; `icserve create --disk F` makes the file F one"
+NOT_AS_LEFT = "something else has changed the file, or it was copied in part"
+
+
+class Causes(Trial):
+    def tells(self, ran, line, behind):
+        """Fails unless a run ended with this line on standard error, and this one behind it."""
+        self.equals(ran.command, "standard error", (f"icserve: {line}\n", behind + "\n"), (ran.err.decode(), ran.behind.decode()))
+
+    def serve(self, path, cause, **how):
+        """Fails unless the disk of this path isn't served, with `device` and this cause."""
+        for words in (["serve", "--disk", path], ["attend", "--disk", path]):
+            ran = run(*words, given="list", **how)
+            self.equals(ran.command, "status", 3, ran.status)
+            self.tells(ran, "device", f"{path}: {cause}")
+
+    def create(self, path, cause, **how):
+        """Fails unless no disk is made in the file of this path, with `device` and this cause."""
+        ran = run("create", "--disk", path, **how)
+        self.equals(ran.command, "status", 3, ran.status)
+        self.tells(ran, "device", f"{path}: {cause}")
+
+    def test_a_file_or_a_folder_is_missing(self):
+        self.serve(self.room / "missing", "open: no such file or folder")
+        self.serve("", "open: no such file or folder")
+        self.create(self.room / "no/folder", "open: no such file or folder")
+
+    def test_a_folder(self):
+        self.serve(self.room, "open: is a folder")
+        self.create(self.room, "open: is a folder")
+
+    def test_a_name_that_is_no_folders_or_too_long_or_a_link_to_itself(self):
+        disk = self.disk()
+        self.serve(disk / "more", "open: a name on the way to it is no folder's")
+        self.create(self.room / ("x" * 300), "open: the name is too long")
+        os.symlink(self.room / "link", self.room / "link")
+        self.serve(self.room / "link", "open: too many symbolic links")
+
+    def test_no_rights(self):
+        how = self.without_rights()
+        path = self.disk()
+        for mode in (0o444, 0o222, 0o000):
+            os.chmod(path, mode)
+            self.serve(path, "open: no rights", **how)
+            self.create(path, "open: no rights", **how)
+
+    def test_a_folder_that_cant_be_read_is_named(self):
+        """With `create` the folder is synced, and for that it is opened."""
+        how = self.without_rights()
+        folder = self.room / "folder"
+        folder.mkdir()
+        os.chmod(folder, 0o333)
+        self.create(folder / "disk", "its folder: open: no rights", **how)
+
+    def test_another_server_has_it_open(self):
+        path = self.disk()
+        with Server(path) as server:
+            self.answers(server, "list", "jobs")
+            self.serve(path, "lock: another server has it open")
+            self.create(path, "lock: another server has it open")
+            self.ends(server)
+        self.serves(path, "list", ["jobs"])
+
+    def test_a_device_and_a_pipe_cant_be_synced(self):
+        os.mkfifo(self.room / "pipe")
+        for path in ("/dev/full", "/dev/null", self.room / "pipe"):
+            self.serve(path, "sync: not possible with such a file")
+            self.create(path, "sync: not possible with such a file")
+
+    def test_a_program_that_runs(self):
+        program = shutil.copy(PROGRAM, self.room / "icserve")
+        with Server(self.disk(), program=program) as server:
+            self.answers(server, "list", "jobs")
+            self.serve(program, "open: is a program that runs")
+            self.ends(server)
+
+    def test_a_file_that_may_grow_no_further(self):
+        self.create(self.room / "new", "write: the file may grow no further", **grows_to(100))
+        path = self.disk()
+        ran = run("serve", "--disk", path, given=f"submit two {TWO.text}", **grows_to(100))
+        self.equals(ran.command, "status", 4, ran.status)
+        self.tells(ran, "device", f"{path}: write: the file may grow no further")
+        script = self.room / "script"
+        script.write_text(f"submit two {TWO.text}\n")
+        ran = run("attend", "--disk", path, script, **grows_to(100))
+        self.equals(ran.command, "status", 4, ran.status)
+        self.tells(ran, "device", f"{path}: write: the file may grow no further")
+
+    def test_control_bytes_of_a_path_are_shown_as_question_marks(self):
+        ran = run("serve", "--disk", self.room / "\x1b[31m\n\x7fä", given="list")
+        self.tells(ran, "device", f"{self.room}/?[31m??ä: open: no such file or folder")
+
+    def test_each_call_that_goes_wrong_is_told_with_its_reason(self):
+        """The shim lets the n-th call fail: a write for want of room, all others by an error of input or output."""
+        log, told, number = self.room / "log", set(), 0
+        while True:
+            number += 1
+            path = self.room / "jobs.disk"
+            path.write_bytes(disk_of(slot(1, EMPTY)))
+            ran = run("serve", "--disk", path, given=f"submit two {TWO.text}", env=shimmed(f"disk {number} once", log))
+            if not was_refused(log):
+                break
+            if ran.behind:
+                told.add(ran.behind.decode().removeprefix(f"{path}: ").rstrip("\n"))
+        calls = {f"{call}: input/output error of the device" for call in ("open", "lock", "length", "seek", "read", "sync")}
+        self.equals(ran.command, "what was told", {"write: no room left on the device", *calls}, told - {"a call to it has failed"})
+
+    def test_a_file_that_is_no_disk(self):
+        path = self.room / "file"
+        for data in (b"", b"a text\n", bytes(5_000_000)):
+            path.write_bytes(data)
+            self.tells(run("serve", "--disk", path, given="list"), "no slot", f"{path}: {NO_DISK}")
+            self.tells(run("attend", "--disk", path), "no slot", f"{path}: {NO_DISK}")
+
+    def test_a_disk_that_something_else_has_changed(self):
+        path = self.room / "file"
+        path.write_bytes(disk_of(slot(1, EMPTY), slot(1, EMPTY)))
+        self.tells(run("serve", "--disk", path, given="list"), "two alike", f"{path}: {NOT_AS_LEFT}")
+        path.write_bytes(disk_of(slot(1, EMPTY), slot(2, b"no table")))
+        self.tells(run("serve", "--disk", path, given="list"), "damaged", f"{path}: {NOT_AS_LEFT}")
+
+    def test_nothing_is_told_behind_other_lines(self):
+        path = self.disk()
+        for words, given in ((["settle"], "<|"), (["serve", "--disk", path], "x" * 300_000), (["attend", "--disk", path, "no"], "")):
+            ran = run(*words, given=given)
+            self.equals(ran.command, "lines on standard error", (1, b""), (ran.err.count(b"\n"), ran.behind))
+        with subprocess.Popen([PROGRAM, "serve"], stderr=subprocess.PIPE) as started:
+            self.equals("serve", "the words", b"error: ", started.communicate()[1][:7])
