@@ -20,6 +20,9 @@ SVG = "{http://www.w3.org/2000/svg}"
 # The most rounds that may be asked for.
 MOST = 2**62
 
+# A row of the table of examples on docs/looks.md: an example, its answer, and the numbers of its trace.
+TOLD = re.compile(r"\| `(\w+\.ic)` \| [^|]+ \| (none: the next round is )?`(.+)` \| (\d+) \| (\d+) \| (\d+) \| (\d+\.\d) \| .*\|")
+
 # What a row tells behind the line of a reduced system.
 ENDS = re.compile(rb"(<.*>)\n(?:done \d+(?: stuck (?P<pair>.*))?|(?P<rest>not done))")
 
@@ -112,6 +115,41 @@ class Rows(Trial):
         self.equals(ran.command, "the end, its status and after how many runs", (whole.out, 0, 4), (ran.out, status, rounds))
 
 
+class Examples(Trial):
+    """The table of the examples on docs/looks.md."""
+
+    rooms = IN_MEMORY
+
+    def table(self):
+        """What the table tells of each example."""
+        lines = (TOP / "docs/looks.md").read_text().splitlines()
+        return {found[1]: found.groups()[1:] for found in map(TOLD.fullmatch, lines) if found}
+
+    def test_the_table_has_each_example_that_is_a_system(self):
+        systems = {path.name for path in TOP.glob("examples/*.ic") if "{" in path.read_text()}
+        self.equals("docs/looks.md", "the systems of the table", systems, set(self.table()))
+
+    def test_the_table_tells_how_each_example_ends(self):
+        for name, (refused, answer, rounds, *_) in self.table().items():
+            given = (TOP / "examples" / name).read_bytes()
+            with self.subTest(example=name):
+                if refused:
+                    self.refuses("reduce", given=given, line=answer, status=1)
+                    self.refuses("reduce", "--rounds", int(rounds) + 1, given=given, line=answer, status=1)
+                else:
+                    self.runs("reduce", given=given, out=[answer.replace("\\|", "|")])
+
+    def test_the_table_tells_the_sums_of_each_trace(self):
+        for name, (refused, _, rounds, *sums) in self.table().items():
+            given = (TOP / "examples" / name).read_bytes()
+            with self.subTest(example=name):
+                ran = run("trace", *(["--rounds", rounds] if refused else []), given=given)
+                fired = [int(line.split(b"\t")[1]) for line in ran.out.splitlines()[1:]]
+                tenths = 10 * sum(fired) // len(fired)
+                came = [str(len(fired)), str(sum(fired)), str(max(fired)), f"{tenths // 10}.{tenths % 10}"]
+                self.equals(ran.command, "rounds, interactions, at most, on average", [rounds, *sums], came)
+
+
 class Endings(Trial):
     rooms = IN_MEMORY
 
@@ -194,12 +232,15 @@ class Pictures(Trial):
             self.equals(f"trace --rounds {rounds}", "the title", title, self.drawn(text, ["--rounds", rounds])[0])
 
     def test_the_pictures_in_docs_are_what_the_program_prints(self):
-        """docs/NAME.svg is the trace of examples/NAME.ic."""
+        """docs/NAME.svg is the trace of examples/NAME.ic, and docs/NAME-N.svg that of its first N rounds."""
         pictures = sorted(TOP.glob("docs/*.svg"))
-        self.equals("docs/", f"at least two pictures: {pictures}", True, len(pictures) >= 2)
+        self.equals("docs/", f"at least five pictures: {pictures}", True, len(pictures) >= 5)
         for picture in pictures:
-            text = (TOP / "examples" / f"{picture.stem}.ic").read_bytes()
-            self.runs("trace", "--format", "svg", given=text, out=picture.read_bytes())
+            name, dash, count = picture.stem.partition("-")
+            words = ["--rounds", count] if dash else []
+            with self.subTest(picture=picture.name):
+                text = (TOP / "examples" / f"{name}.ic").read_bytes()
+                self.runs("trace", "--format", "svg", *words, given=text, out=picture.read_bytes())
 
 
 class Faults(Trial):
