@@ -216,12 +216,25 @@ class Pictures(Trial):
                 title, bars, points = self.drawn(text)
                 came = [(int(it.get("x")), int(it.get("height"))) for it in bars]
                 self.equals(path.name, "the bars of the picture", [(it[0], it[1]) for it in told], came)
-                self.equals(path.name, "the points of the picture", [f"{it[0]},{it[2]}" for it in told], points)
+                most = max(it[2] for it in told)
+                wanted = [f"{(2 * it[0] - 1) * 3200 // len(told)},{it[2] * 3500 // most}" for it in told]
+                self.equals(path.name, "the points of the picture", wanted, points)
                 fired = sum(it[1] for it in told)
                 wanted = f"{len(told)} round{'s' * (len(told) != 1)}, {fired} interaction"
                 self.equals(path.name, "how the title begins", wanted, title[: len(wanted)])
                 tried += 1
         self.equals("examples/", f"at least seven pictures: {tried}", True, tried >= 7)
+
+    def test_a_picture_is_in_svg_1_1_and_its_line_is_not_stretched(self):
+        """Its elements and attributes are of SVG 1.1, and a unit of the line is as wide as it is high."""
+        attributes = "viewBox font-family x y width height preserveAspectRatio transform fill stroke stroke-width text-anchor points d"
+        ran = run("trace", "--format", "svg", given=TWO)
+        picture = xml.fromstring(ran.out)
+        later = {name for it in picture.iter() for name in it.keys()} - set(attributes.split())
+        later |= {it.tag for it in picture.iter()} - {f"{SVG}{name}" for name in "svg g rect text polyline path".split()}
+        self.equals(ran.command, "elements and attributes of later versions", set(), later)
+        places = [it.get("transform") for it in picture if it.find(f"{SVG}polyline") is not None]
+        self.equals(ran.command, "how the line is placed", ["matrix(0.1 0 0 -0.1 80 400)"], places)
 
     def test_one_round_is_one_round_and_none_are_no_rounds(self):
         for text, rounds, title in (

@@ -1,5 +1,5 @@
 -- Rows of rounds as a picture, in SVG (this project's choice).
-use Rattle.std.specs.Prelude.{ℕ, ◌*◌, ◌/◌, ◌%◌, ◌==◌, List, [], ◌∷◌, ◌++◌, codes, length, max, min, sum_by}
+use Rattle.std.specs.Prelude.{ℕ, ◌-◌, ◌*◌, ◌/◌, ◌%◌, ◌==◌, List, [], ◌∷◌, ◌++◌, codes, length, max, min, sum_by}
 use Rattle.std.specs.Prelude.{if◌then◌else◌}
 use Rattle.std.specs.List.{concat, flat_map}
 use Rattle.std.specs.Fmt.{decimal}
@@ -25,7 +25,8 @@ interactions_in rows = min (sum_by (λ row. row.pairs) rows) MOST
 abbrev pub tenths_in : List Row → ℕ
 tenths_in rows = min (interactions_in rows * 10) MOST / max (length rows) 1
 
--- what the rows say all together, and the sizes of the windows that they are drawn in, which aren't 0
+-- what the rows say all together, and what the picture's width and the greatest heights of bars and
+-- line stand for, which isn't 0
 abbrev pub sums_of : List Row → Sums
 sums_of rows = record {
   rounds = length rows;
@@ -77,22 +78,27 @@ abbrev pub bar_of : Row → List ℕ
 bar_of row = concat (codes "<rect width='0.9' x='" ∷ decimal row.round ∷ codes "' height='"
     ∷ decimal row.pairs ∷ codes "'/>" ∷ feed ∷ [])
 
--- behind the bars: the window in which a unit is one round and one node, and a line in it
-abbrev pub middle_of : Sums → List ℕ
-middle_of s = concat (codes "</g></svg>" ∷ feed
-    ∷ codes "<svg x='80' y='50' width='640' height='350' preserveAspectRatio='none' viewBox='0.5 0 "
-    ∷ decimal s.width ∷ codes " " ∷ decimal s.line ∷ codes "'>" ∷ feed
-    ∷ codes "<g transform='matrix(1 0 0 -1 0 " ∷ decimal s.line ∷ codes ")'>" ∷ feed
-    ∷ codes "<polyline fill='none' stroke='black' stroke-width='2'"
-    ∷ codes " vector-effect='non-scaling-stroke' points='" ∷ feed ∷ [])
+-- behind the bars: a line, in tenths of the picture's unit from where the axes meet
+abbrev pub middle : List ℕ
+middle = concat (codes "</g></svg>" ∷ feed
+    ∷ codes "<g transform='matrix(0.1 0 0 -0.1 80 400)'>" ∷ feed
+    ∷ codes "<polyline fill='none' stroke='black' stroke-width='20' points='" ∷ feed ∷ [])
+
+-- how far to the right the middle of a round's bar is; all bars are 6400 wide
+abbrev pub across : Sums → Row → ℕ
+across s row = (row.round * 2 - 1) * 3200 / s.width
+
+-- how far above the axis the nodes behind a round are; the most nodes are 3500 high
+abbrev pub up : Sums → Row → ℕ
+up s row = row.nodes * 3500 / s.line
 
 -- a point of the line: the nodes behind a round
-abbrev pub point_of : Row → List ℕ
-point_of row = concat (decimal row.round ∷ codes "," ∷ decimal row.nodes ∷ feed ∷ [])
+abbrev pub point_of : Sums → Row → List ℕ
+point_of s row = concat (decimal (across s row) ∷ codes "," ∷ decimal (up s row) ∷ feed ∷ [])
 
 -- behind the line: the axes and their numbers
 abbrev pub bottom_of : Sums → List ℕ
-bottom_of s = concat (codes "'/></g></svg>" ∷ feed
+bottom_of s = concat (codes "'/></g>" ∷ feed
     ∷ codes "<path d='M80 50V400H720V50' fill='none' stroke='black'/>" ∷ feed
     ∷ codes "<text x='80' y='42'>pairs fired (bars)</text>" ∷ feed
     ∷ codes "<text x='720' y='42' text-anchor='end'>nodes (line)</text>" ∷ feed
@@ -108,7 +114,7 @@ bottom_of s = concat (codes "'/></g></svg>" ∷ feed
 -- the picture of rows: a bar for each, and a line through the nodes behind each
 abbrev pub picture_of : List Row → List ℕ
 picture_of rows = concat (title_of (sums_of rows) ∷ top_of (sums_of rows) ∷ flat_map bar_of rows
-    ∷ middle_of (sums_of rows) ∷ flat_map point_of rows ∷ bottom_of (sums_of rows) ∷ [])
+    ∷ middle ∷ flat_map (point_of (sums_of rows)) rows ∷ bottom_of (sums_of rows) ∷ [])
 
 -- rows in a format
 abbrev pub shown_as : Format → List Row → List ℕ

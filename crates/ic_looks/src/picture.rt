@@ -1,8 +1,8 @@
 //! Rows of rounds as a picture, in SVG.
 
-ghost use Rattle.std.specs.Prelude.{◌≡◌, ◌++◌, IfOk, OnOk};
+ghost use Rattle.std.specs.Prelude.{◌≡◌, ◌≤◌, ◌++◌, IfOk, OnOk};
 ghost use Rattle.std.specs.List.{flat_map};
-ghost use Rattle.ic_looks.specs.Pictures.{bar_of, bottom_of, middle_of, picture_of, point_of, title_of, top_of};
+ghost use Rattle.ic_looks.specs.Pictures.{bar_of, bottom_of, middle, picture_of, point_of, title_of, top_of};
 ghost use Rattle.ic_looks.specs.Pictures.{averages_of, counted, head};
 
 use crate::row::Row;
@@ -18,8 +18,8 @@ pub(crate) fn picture(alloc: Global, rows: &[Row]) -> Result<Vec<u8>, AllocError
     put_title(alloc, &sums, &mut picture)?;
     put_top(alloc, &sums, &mut picture)?;
     put_bars(alloc, rows, &mut picture)?;
-    put_middle(alloc, &sums, &mut picture)?;
-    put_points(alloc, rows, &mut picture)?;
+    put_middle(alloc, &mut picture)?;
+    put_points(alloc, &sums, rows, &mut picture)?;
     put_bottom(alloc, &sums, &mut picture)?;
     Ok(picture)
 }
@@ -123,39 +123,47 @@ fn put_bar(alloc: Global, row: &Row, picture: &mut Vec<u8>) -> Result<(), AllocE
 }
 
 /// Appends what stands between the bars and the line.
-fn put_middle(alloc: Global, sums: &Sums, picture: &mut Vec<u8>) -> Result<(), AllocError>
-    ensures { OnOk result (picture.new.items ≡ picture.old.items ++ middle_of sums.now) }
+fn put_middle(alloc: Global, picture: &mut Vec<u8>) -> Result<(), AllocError>
+    ensures { OnOk result (picture.new.items ≡ picture.old.items ++ middle) }
 {
-    let Sums { width, line, .. } = *sums;
     let text = format!(in alloc;
         "</g></svg>\n\
-         <svg x='80' y='50' width='640' height='350' preserveAspectRatio='none' \
-         viewBox='0.5 0 {width} {line}'>\n\
-         <g transform='matrix(1 0 0 -1 0 {line})'>\n\
-         <polyline fill='none' stroke='black' stroke-width='2' \
-         vector-effect='non-scaling-stroke' points='\n"
+         <g transform='matrix(0.1 0 0 -0.1 80 400)'>\n\
+         <polyline fill='none' stroke='black' stroke-width='20' points='\n"
     )?;
     picture.extend_from_slice(text.as_bytes())?;
     Ok(())
 }
 
 /// Appends the points of the line.
-fn put_points(alloc: Global, rows: &[Row], picture: &mut Vec<u8>) -> Result<(), AllocError>
-    ensures { OnOk result (picture.new.items ≡ picture.old.items ++ flat_map point_of rows.now) }
+fn put_points(
+    alloc: Global,
+    sums: &Sums,
+    rows: &[Row],
+    picture: &mut Vec<u8>,
+) -> Result<(), AllocError>
+    requires width { 1 ≤ sums.now.width }
+    requires line { 1 ≤ sums.now.line }
+    ensures { OnOk result
+        (picture.new.items ≡ picture.old.items ++ flat_map (point_of sums.now) rows.now) }
 {
     for row in rows {
-        put_point(alloc, row, picture)?;
+        put_point(alloc, sums, row, picture)?;
     }
     Ok(())
 }
 
 /// Appends the point of a round.
-fn put_point(alloc: Global, row: &Row, picture: &mut Vec<u8>) -> Result<(), AllocError>
-    ensures { OnOk result (picture.new.items ≡ picture.old.items ++ point_of row.now) }
+fn put_point(alloc: Global, sums: &Sums, row: &Row, picture: &mut Vec<u8>) -> Result<(), AllocError>
+    requires width { 1 ≤ sums.now.width }
+    requires line { 1 ≤ sums.now.line }
+    ensures { OnOk result
+        (picture.new.items ≡ picture.old.items ++ point_of sums.now row.now) }
 {
-    let round = row.round;
-    let nodes = row.nodes;
-    let text = format!(in alloc; "{round},{nodes}\n")?;
+    let middle = (u128::from(row.round) * 2).saturating_sub(1);
+    let across = middle * 3200 / u128::from(sums.width);
+    let up = u128::from(row.nodes) * 3500 / u128::from(sums.line);
+    let text = format!(in alloc; "{across},{up}\n")?;
     picture.extend_from_slice(text.as_bytes())?;
     Ok(())
 }
@@ -171,7 +179,7 @@ fn put_bottom(alloc: Global, sums: &Sums, picture: &mut Vec<u8>) -> Result<(), A
         ..
     } = *sums;
     let text = format!(in alloc;
-        "'/></g></svg>\n\
+        "'/></g>\n\
          <path d='M80 50V400H720V50' fill='none' stroke='black'/>\n\
          <text x='80' y='42'>pairs fired (bars)</text>\n\
          <text x='720' y='42' text-anchor='end'>nodes (line)</text>\n\

@@ -1,6 +1,6 @@
 //! What rows of rounds say all together, and in which format they are shown.
 
-ghost use Rattle.std.specs.Prelude.{◌≡◌, min, sum_by};
+ghost use Rattle.std.specs.Prelude.{◌≡◌, ◌≤◌, min, sum_by};
 ghost use Rattle.ic_looks.specs.Pictures.{MOST, greatest, sums_of};
 
 use crate::row::Row;
@@ -27,7 +27,7 @@ pub(crate) struct Sums {
     /// How many equations a round fires on average, and the tenths of it.
     pub whole: u64,
     pub tenth: u64,
-    /// The sizes of the windows that rows are drawn in: their width, and the heights for bars and line.
+    /// What the picture's width and the greatest heights of bars and line stand for; not 0.
     pub width: u64,
     pub bars: u64,
     pub line: u64,
@@ -35,7 +35,9 @@ pub(crate) struct Sums {
 
 /// What rows say all together.
 pub(crate) fn sums_of(rows: &[Row]) -> Sums
-    ensures { result ≡ sums_of rows.now }
+    ensures value { result ≡ sums_of rows.now }
+    ensures width { 1 ≤ result.width }
+    ensures line { 1 ≤ result.line }
 {
     let rounds = rows.len() as u64;
     let width = rounds.max(1);
