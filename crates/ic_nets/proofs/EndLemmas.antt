@@ -20,11 +20,11 @@ use Rattle.ic_nets.proofs.NameLemmas.{AreBound, AreFew, all_added, all_counted, 
 -- ---- none of the ports that are joined is the free end of a name
 
 module _ (n : ℕ) where
-  free-counted : (port : ℕ → Port) → ((i : ℕ) → port_eq (Free n) (port i) ≡ false) → (i m : ℕ) → times (Free n) (counted_ports port i m) ≡ 0
+  pub free-counted : (port : ℕ → Port) → ((i : ℕ) → port_eq (Free n) (port i) ≡ false) → (i m : ℕ) → times (Free n) (counted_ports port i m) ≡ 0
   free-counted port off i zero = refl
   free-counted port off i (suc m) = (λ k. cond (off i k) 1 0 + free-counted port off (i + 1) m k)
 
-  free-agents : (k : ℕ) (xs : List Agent) → times (Free n) (agent_ports k xs) ≡ 0
+  pub free-agents : (k : ℕ) (xs : List Agent) → times (Free n) (agent_ports k xs) ≡ 0
   free-agents k [] = refl
   free-agents k (a ∷ xs) =
       sums _ _ _ (times-append (Free n) (counted_ports (Auxiliary k) 1 a.arity) (agent_ports (k + 1) xs)) (free-counted (Auxiliary k) (λ _. refl) 1 a.arity) (free-agents (k + 1) xs)
@@ -32,7 +32,7 @@ module _ (n : ℕ) where
       sums : (all c r : ℕ) → all ≡ c + r → c ≡ 0 → r ≡ 0 → 0 + all ≡ 0
       sums all c r e1 e2 e3 = omega arith
 
-  free-joints : (j m : ℕ) → times (Free n) (joint_ports j m) ≡ 0
+  pub free-joints : (j m : ℕ) → times (Free n) (joint_ports j m) ≡ 0
   free-joints j zero = refl
   free-joints j (suc m) = sums _ (free-joints (j + 1) m)
     where

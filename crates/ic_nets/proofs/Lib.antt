@@ -11,3 +11,9 @@ pub mod NamedLemmas
 pub mod FoundLemmas
 pub mod ActiveLemmas
 pub mod RenamingLemmas
+pub mod SettledLemmas
+pub mod LeadLemmas
+pub mod BuiltLemmas
+pub mod ReadLemmas
+pub mod NamingLemmas
+pub mod PortNames

@@ -67,7 +67,7 @@ equations-names rs k (e ∷ es) =
     names-append (pair_links rs k e) (joined rs (k + length (pair_agents e)) es)
     ∙ (λ i. pair-names rs k e i ++ equations-names rs (k + length (pair_agents e)) es i)
 
-names_of-trees_of : (ts : List Tree) → names_of (trees_of ts) ≡ flat_map names ts
+pub names_of-trees_of : (ts : List Tree) → names_of (trees_of ts) ≡ flat_map names ts
 names_of-trees_of [] = refl
 names_of-trees_of (t ∷ ts) = ap (λ l. names t ++ l) (names_of-trees_of ts)
 
@@ -126,7 +126,7 @@ same-refl n = (unsigned_Decides n n).1 refl
 turned : (m n : ℕ) → (m == n) ≡ true → (n == m) ≡ true
 turned m n e = (unsigned_Decides n m).1 (sym ((unsigned_Decides m n).0 e))
 
-few : (b : Bool) → cond b 2 1 ≤ 1 → b ≡ false
+pub few : (b : Bool) → cond b 2 1 ≤ 1 → b ≡ false
 few true le = absurd (omega arith)
 few false le = refl
 
@@ -181,7 +181,7 @@ module _ (s : Standing) (bound : is_bound s.port ≡ true) where
           let off : (e.0 == n) ≡ true → (s.name == n) ≡ false = λ f. ap (λ m. s.name == m) (sym ((unsigned_Decides e.0 n).0 f)) ∙ is in
           kept (e.0 == n) (s.name == n) (cond (is_bound e.1.to) 2 1) (stands n (with_standing es s)) (stands n es) off (rest low)
 
-  own_added : (es : List (ℕ × Wire)) → stands s.name es ≤ 1 → AreOwn es → AreOwn (with_standing es s)
+  pub own_added : (es : List (ℕ × Wire)) → stands s.name es ≤ 1 → AreOwn es → AreOwn (with_standing es s)
   own_added [] le own = (bound, inr refl, refl, tt)
   own_added (e ∷ es) le own = by (s.name == e.0) refl (own_added es)
     where
@@ -205,10 +205,10 @@ AreBound (s ∷ ss) = (is_bound s.port ≡ true) × AreBound ss
 abbrev pub AreFew : List (ℕ × Wire) → List Standing → Type 0
 AreFew es ss = (n : ℕ) → stands n es + often n ss ≤ 2
 
-first_low : (es : List (ℕ × Wire)) (s : Standing) (ss : List Standing) → AreFew es (s ∷ ss) → stands s.name es ≤ 1
+pub first_low : (es : List (ℕ × Wire)) (s : Standing) (ss : List Standing) → AreFew es (s ∷ ss) → stands s.name es ≤ 1
 first_low es s ss le = let here = subst (λ b. stands s.name es + (cond b 1 0 + often s.name ss) ≤ 2) (same-refl s.name) (le s.name) in omega arith
 
-next_few : (es : List (ℕ × Wire)) (s : Standing) (ss : List Standing) → is_bound s.port ≡ true → AreFew es (s ∷ ss) → AreFew (with_standing es s) ss
+pub next_few : (es : List (ℕ × Wire)) (s : Standing) (ss : List Standing) → is_bound s.port ≡ true → AreFew es (s ∷ ss) → AreFew (with_standing es s) ss
 next_few es s ss bound le n = let here = counted s bound n es (first_low es s ss le) in let all = le n in sums _ _ _ _ here all
   where
     sums : (w e o f : ℕ) → w ≡ e + o → e + (o + f) ≤ 2 → w + f ≤ 2

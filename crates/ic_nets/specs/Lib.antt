@@ -4,4 +4,5 @@ pub mod Nets
 pub mod Ports
 pub mod Dot
 pub mod Draws
+pub mod ReadBack
 pub mod inner

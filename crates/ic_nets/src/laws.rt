@@ -3,11 +3,13 @@
 ghost use Rattle.std.specs.Prelude.{◌≡◌, ◌≤◌, ◌==◌, ℕ, List, [], ◌∷◌, true, false, Some, if◌then◌else◌, length, count_by, is_some};
 ghost use Rattle.ic_term.specs.Configuration.{Configuration, IsConfiguration, configuration_names, occurrences};
 ghost use Rattle.ic_rules.specs.Rule.{Rule};
+ghost use Rattle.ic_settle.specs.Settling.{settled};
 ghost use Rattle.ic_round.specs.Firing.{rule_of_sides};
-ghost use Rattle.ic_confluence.specs.Sameness.{Renames};
+ghost use Rattle.ic_confluence.specs.Sameness.{Renames, Same};
 ghost use Rattle.ic_nets.specs.Links.{agents_of, links_of};
 ghost use Rattle.ic_nets.specs.Nets.{IsNet};
 ghost use Rattle.ic_nets.specs.Ports.{ends, is_bound, ports_at, ports_of, times, wire_named};
+ghost use Rattle.ic_nets.specs.ReadBack.{IsNaming, read_back};
 ghost use Rattle.ic_nets.specs.Wiring.{named_wires};
 ghost use Rattle.ic_nets.specs.declared.links.Standing.{Standing};
 ghost use Rattle.ic_nets.specs.declared.net.Net.{Net};
@@ -60,3 +62,22 @@ pub fn names_are_forgotten()
     ensures { (rs : List Rule) (c d : Configuration) (net : Net)
         → IsConfiguration c → Renames c d → IsNet rs c net → IsNet rs d net }
 {}
+
+/// A configuration is found again in its net. With a name for each port, an equation for each agent and one for each wire, the
+/// net is a configuration that settles to the net of the configuration settled. There are such names for each net. So
+/// configurations with one net settle to one net.
+pub fn a_configuration_is_found_again()
+    ensures read { (rs : List Rule) (c : Configuration) (net : Net) (name_of : Port → ℕ)
+        (next : ℕ) → IsConfiguration c → IsNet rs c net → IsNaming name_of c.next next net
+        → Same (settled (read_back name_of next net)) (settled (record c { next = next })) }
+    ensures names { (net : Net) (first : ℕ)
+        → (name_of : Port → ℕ) × (next : ℕ) × IsNaming name_of first next net }
+    ensures one { (rs : List Rule) (c d : Configuration) (net : Net)
+        → IsConfiguration c → IsConfiguration d → IsNet rs c net → IsNet rs d net
+        → (next : ℕ) × Same (settled (record c { next = next })) (settled (record d { next = next })) }
+{
+    ic_confluence::laws::same_is_an_equivalence();
+    ic_confluence::laws::same_nets_take_the_same_name_steps();
+    ic_confluence::laws::same_nets_have_the_same_rounds();
+    ic_confluence::laws::every_order_settles_to_the_same_net();
+}

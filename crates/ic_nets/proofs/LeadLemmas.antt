@@ -1,0 +1,200 @@
+-- Configurations that settle to one net: rearranging equations and putting terms for names leads from one to the other.
+use Rattle.std.proofs.Common.{◌≡◌, ℕ, suc, ◌+◌, ◌≤◌, ◌==◌, List, [], ◌∷◌, ◌++◌, Bool, true, cond, map, refl, sym, ap, ◌∙◌, arith, eq-eqb, inl, append_assoc, subst as transport}
+use Rattle.std.specs.List.{flat_map}
+use Rattle.ic_term.specs.Tree.{Tree, name, agent, Trees, no_trees, more_trees, trees_of, names, Pair, pair_names}
+use Rattle.ic_term.specs.Configuration.{Configuration, names_in, occurrences}
+use Rattle.ic_settle.specs.Settling.{occurs, subst, subst_all, subst_in, subst_pair, settled}
+use Rattle.ic_settle.specs.NameSteps.{NameStep, NameSteps, no_step, one_more}
+use Rattle.ic_settle.specs.lemmas.SubstitutionLaws.{occurrences-append, occurrences_some, subst-absent}
+use Rattle.ic_round.specs.Naming.{HasNames}
+use Rattle.ic_round.specs.lemmas.NamesLemmas.{name_step-names}
+use Rattle.ic_round.specs.lemmas.NameStepLemmas.{in_either, in_first}
+use Rattle.ic_confluence.specs.Sameness.{turned, Alike, itself, exchanged, Rearranged, nothing, kept, swapped, one_by_one, Same, rearranging, through}
+use Rattle.ic_nets.specs.ReadBack.{equated}
+use Rattle.ic_nets.proofs.SettledLemmas.{settled_ends, settles_on}
+
+-- what is proved of configurations of one net
+pub record Laws : Type 0 where
+  pub back : (c d : Configuration) → Same c d → Same d c
+  pub keep : (c d : Configuration) → Same c d → HasNames c → HasNames d
+  pub settle : (c d : Configuration) → HasNames c → Same c d → Same (settled c) (settled d)
+  pub ends : (c d : Configuration) → HasNames c → NameSteps c d → ((f : Configuration) → ¬ NameStep d f) → Same d (settled c)
+
+-- both settle to one net
+abbrev pub Leads : Configuration → Configuration → Type 0
+Leads c d = HasNames c → HasNames d × Same (settled d) (settled c)
+
+abbrev pub parts : List Tree → List Pair → ℕ → Configuration
+parts ts es n = record { interface = ts; equations = es; next = n }
+
+-- ---- rearranging
+
+pub as_they_are : (es : List Pair) → Rearranged es es
+as_they_are [] = nothing
+as_they_are (p ∷ es) = kept p p es es (itself p) (as_they_are es)
+
+pub behind : (p : Pair) (xs es : List Pair) → Rearranged (p ∷ (xs ++ es)) (xs ++ (p ∷ es))
+behind p [] es = as_they_are (p ∷ es)
+behind p (x ∷ xs) es = one_by_one _ _ _ (swapped p x (xs ++ es)) (kept x x _ _ (itself x) (behind p xs es))
+
+pub before : (p : Pair) (xs es : List Pair) → Rearranged (xs ++ (p ∷ es)) (p ∷ (xs ++ es))
+before p [] es = as_they_are (p ∷ es)
+before p (x ∷ xs) es = one_by_one _ _ _ (kept x x _ _ (itself x) (before p xs es)) (swapped x p (xs ++ es))
+
+pub after_these : (xs ys zs : List Pair) → Rearranged ys zs → Rearranged (xs ++ ys) (xs ++ zs)
+after_these [] ys zs r = r
+after_these (x ∷ xs) ys zs r = kept x x _ _ (itself x) (after_these xs ys zs r)
+
+pub exchange : (xs ys es : List Pair) → Rearranged (xs ++ (ys ++ es)) (ys ++ (xs ++ es))
+exchange [] ys es = as_they_are (ys ++ es)
+exchange (x ∷ xs) ys es = one_by_one _ _ _ (kept x x _ _ (itself x) (exchange xs ys es)) (behind x ys (xs ++ es))
+
+pub turn : (t u : Tree) (es : List Pair) → Rearranged (equated t u ∷ es) (equated u t ∷ es)
+turn t u es = kept (equated t u) (equated u t) es es (exchanged (equated t u)) (as_they_are es)
+
+-- ---- terms without the name
+
+terms-absent : (x : ℕ) (u : Tree) (ts : List Tree) → occurrences x (flat_map names ts) ≡ 0 → map (subst x u) ts ≡ ts
+terms-absent x u [] none = refl
+terms-absent x u (t ∷ ts) none =
+    let all = occurrences-append x (names t) (flat_map names ts) in
+    let first : occurrences x (names t) ≡ 0 = omega (arith, all, none) in
+    let rest : occurrences x (flat_map names ts) ≡ 0 = omega (arith, all, none) in
+    (λ i. subst-absent x u t first i ∷ terms-absent x u ts rest i)
+
+pairs-absent : (x : ℕ) (u : Tree) (es : List Pair) → occurrences x (flat_map pair_names es) ≡ 0 → map (subst_pair x u) es ≡ es
+pairs-absent x u [] none = refl
+pairs-absent x u (p ∷ es) none =
+    let all = occurrences-append x (pair_names p) (flat_map pair_names es) in
+    let both = occurrences-append x (names p.left) (names p.right) in
+    let left : occurrences x (names p.left) ≡ 0 = omega (arith, all, both, none) in
+    let right : occurrences x (names p.right) ≡ 0 = omega (arith, all, both, none) in
+    let rest : occurrences x (flat_map pair_names es) ≡ 0 = omega (arith, all, none) in
+    (λ i. record { left = subst-absent x u p.left left i; right = subst-absent x u p.right right i } ∷ pairs-absent x u es rest i)
+
+pub itself_equal : (x : ℕ) → (x == x) ≡ true
+itself_equal x = eq-eqb x x refl
+
+pub alone : (x : ℕ) → occurrences x (x ∷ []) ≡ 1
+alone x = rw (itself_equal x) refl
+
+pub put_alone : (x : ℕ) (u : Tree) → subst x u (name x) ≡ u
+put_alone x u = rw (itself_equal x) refl
+
+some_among : (x : ℕ) (front back : List Tree) → 1 ≤ occurrences x (flat_map names (front ++ (name x ∷ back)))
+some_among x [] back = let all = occurrences-append x (x ∷ []) (flat_map names back) in let one = alone x in omega (arith, all, one)
+some_among x (t ∷ ts) back = let all = occurrences-append x (names t) (flat_map names (ts ++ (name x ∷ back))) in let rest = some_among x ts back in omega (arith, all, rest)
+
+-- a name among terms
+pub put_among : (x : ℕ) (u : Tree) (before after : List Tree) → occurrences x (flat_map names (before ++ (name x ∷ after))) ≤ 1
+    → map (subst x u) (before ++ (name x ∷ after)) ≡ before ++ (u ∷ after)
+put_among x u [] after few =
+    let all = occurrences-append x (x ∷ []) (flat_map names after) in
+    let one = alone x in
+    let none : occurrences x (flat_map names after) ≡ 0 = omega (arith, all, one, few) in
+    (λ i. put_alone x u i ∷ terms-absent x u after none i)
+put_among x u (t ∷ ts) after few =
+    let rest = ts ++ (name x ∷ after) in
+    let all = occurrences-append x (names t) (flat_map names rest) in
+    let some = some_among x ts after in
+    let none : occurrences x (names t) ≡ 0 = omega (arith, all, some, few) in
+    let fewer : occurrences x (flat_map names rest) ≤ 1 = omega (arith, all, few) in
+    (λ i. subst-absent x u t none i ∷ put_among x u ts after fewer i)
+
+pub stands_among : (x : ℕ) (before after : List Tree) → occurs x (flat_map names (before ++ (name x ∷ after))) ≡ true
+stands_among x [] after = in_first x (x ∷ []) (flat_map names after) (rw (itself_equal x) refl)
+stands_among x (t ∷ ts) after = in_either x (names t) (flat_map names (ts ++ (name x ∷ after))) (stands_among x ts after)
+
+module _ (laws : Laws) where
+  -- ---- what leads on
+
+  pub leads-through : (c d e : Configuration) → Leads c d → Leads d e → Leads c e
+  leads-through c d e first second named = let one = first named in let two = second one.0 in (two.0, through _ _ _ two.1 one.1)
+
+  stays_there : (c : Configuration) → Leads c c
+  stays_there c named = (named, rearranging (settled c) (settled c) (record { equations = as_they_are (settled c).equations; result = refl }))
+
+  pub leads-itself : (c d : Configuration) → c ≡ d → Leads c d
+  leads-itself c d same =
+      let P : Configuration → Type 0 = λ e. Leads c e in
+      transport P same (stays_there c)
+
+  leads-step : (c d : Configuration) → NameStep c d → Leads c d
+  leads-step c d step named = (
+    name_step-names c d step named,
+    laws.ends c (settled d) named (settles_on c d (one_more c c d (no_step c) step)) (λ f s. settled_ends d f s),
+  )
+
+  pub leads-rearranged : (ts : List Tree) (n : ℕ) (es fs : List Pair) → Rearranged es fs → Leads (parts ts es n) (parts ts fs n)
+  leads-rearranged ts n es fs r named =
+      let same : Same (parts ts es n) (parts ts fs n) = rearranging _ _ (record { equations = r; result = refl }) in
+      (laws.keep _ _ same named, laws.back _ _ (laws.settle _ _ named same))
+
+  -- ---- the first equation is put into the second one, or into the interface
+
+  counted_two : (x : ℕ) (u v w : Tree) (ts : List Tree) (es : List Pair)
+      → occurrences x (names_in ts (equated (name x) u ∷ (equated v w ∷ es)))
+      ≡ occurrences x (flat_map names ts) + (1 + occurrences x (names u) + (occurrences x (names v) + occurrences x (names w) + occurrences x (flat_map pair_names es)))
+  counted_two x u v w ts es =
+      let all = occurrences-append x (flat_map names ts) (flat_map pair_names (equated (name x) u ∷ (equated v w ∷ es))) in
+      let one = occurrences-append x (x ∷ names u) (flat_map pair_names (equated v w ∷ es)) in
+      let own = occurrences-append x (x ∷ []) (names u) in
+      let self = alone x in
+      let two = occurrences-append x (names v ++ names w) (flat_map pair_names es) in
+      let both = occurrences-append x (names v) (names w) in
+      omega (arith, all, one, own, self, two, both)
+
+  pub put_right : (x : ℕ) (u v w put : Tree) (ts : List Tree) (es : List Pair) (n : ℕ)
+      → occurs x (names w) ≡ true → (occurrences x (names w) ≤ 1 → subst x u w ≡ put)
+      → Leads (parts ts (equated (name x) u ∷ (equated v w ∷ es)) n) (parts ts (equated v put ∷ es) n)
+  put_right x u v w put ts es n there is named =
+      let two = named.twice x in
+      let all = counted_two x u v w ts es in
+      let some = occurrences_some x (names w) there in
+      let outside : occurrences x (flat_map names ts) ≡ 0 = omega (arith, two, all, some) in
+      let left : occurrences x (names v) ≡ 0 = omega (arith, two, all, some) in
+      let few : occurrences x (names w) ≤ 1 = omega (arith, two, all, some) in
+      let rest : occurrences x (flat_map pair_names es) ≡ 0 = omega (arith, two, all, some) in
+      let stays_left = subst-absent x u v left in
+      let stays = terms-absent x u ts outside in
+      let stay = pairs-absent x u es rest in
+      let c = parts ts (equated (name x) u ∷ (equated v w ∷ es)) n in
+      let result : subst_in x u (parts ts (equated v w ∷ es) n) ≡ parts ts (equated v put ∷ es) n =
+      (λ i. parts (stays i) (equated (stays_left i) (is few i) ∷ stay i) n) in
+      leads-step c (parts ts (equated v put ∷ es) n) (record {
+        before = [];
+        equation = equated (name x) u;
+        after = equated v w ∷ es;
+        bound = record { name = x; term = u };
+        place = refl;
+        side = inl refl;
+        outside = in_either x (flat_map names ts) _ (in_first x (names v ++ names w) (flat_map pair_names es) (in_either x (names v) (names w) there));
+        result = sym result;
+      }) named
+
+  pub put_place : (x : ℕ) (u : Tree) (before after : List Tree) (es : List Pair) (n : ℕ)
+      → Leads (parts (before ++ (name x ∷ after)) (equated (name x) u ∷ es) n) (parts (before ++ (u ∷ after)) es n)
+  put_place x u before after es n named =
+      let ts = before ++ (name x ∷ after) in
+      let two = named.twice x in
+      let all = occurrences-append x (flat_map names ts) (flat_map pair_names (equated (name x) u ∷ es)) in
+      let one = occurrences-append x (x ∷ names u) (flat_map pair_names es) in
+      let own = occurrences-append x (x ∷ []) (names u) in
+      let self = alone x in
+      let there = stands_among x before after in
+      let some = occurrences_some x (flat_map names ts) there in
+      let few : occurrences x (flat_map names ts) ≤ 1 = omega (arith, two, all, one, own, self) in
+      let rest : occurrences x (flat_map pair_names es) ≡ 0 = omega (arith, two, all, one, own, self, some) in
+      let put = put_among x u before after few in
+      let stay = pairs-absent x u es rest in
+      let result : subst_in x u (parts ts es n) ≡ parts (before ++ (u ∷ after)) es n = (λ i. parts (put i) (stay i) n) in
+      leads-step (parts ts (equated (name x) u ∷ es) n) (parts (before ++ (u ∷ after)) es n) (record {
+        before = [];
+        equation = equated (name x) u;
+        after = es;
+        bound = record { name = x; term = u };
+        place = refl;
+        side = inl refl;
+        outside = in_first x (flat_map names ts) (flat_map pair_names es) there;
+        result = sym result;
+      }) named
