@@ -6,3 +6,4 @@ pub mod AmongLemmas
 pub mod MemLemmas
 pub mod WordLemmas
 pub mod ServingLemmas
+pub mod ToldLemmas

@@ -1,5 +1,5 @@
 -- What a server has after calls over its book, ended or stopped in their midst.
-use Rattle.std.proofs.Common.{◌≡◌, ◌⊎◌, Bool, true, false, Option, Result, ℕ, ◌<◌, ◌≤◌, List, [], ◌∷◌, ◌++◌, length, refl, sym, ap, subst, ◌∙◌, append_assoc, arith, length-append}
+use Rattle.std.proofs.Common.{◌≡◌, ◌⊎◌, Bool, true, false, Option, Result, ℕ, ◌≤◌, List, [], ◌∷◌, ◌++◌, length, refl, sym, ap, subst, ◌∙◌, append_assoc, arith}
 use Rattle.ic_disk.specs.declared.disk.Disk.{Ghosts}
 use Rattle.ic_disk.specs.Time.{LeftSince}
 use Rattle.ic_slots.specs.Held.{HoldsTable, the_table}
@@ -70,7 +70,7 @@ module _ {D : Type 0} {ghosts : Ghosts D} where
       subst (λ (ms : List Move). Reaches ms (up last)) (sym (append_assoc (moves_in_turn ls turns.0 last turns.3) done.moves moves))
       (reaches_turns (done.moves ++ moves) ls turns.0 last turns.3 (reaches_more moves first turns.0 done run))
 
-  turns_split : (front more : List (List ℕ)) (first last : Book D ghosts) → AreAnsweredInTurn (front ++ more) first last
+  pub turns_split : (front more : List (List ℕ)) (first last : Book D ghosts) → AreAnsweredInTurn (front ++ more) first last
       → (mid : Book D ghosts) × AreAnsweredInTurn front first mid × AreAnsweredInTurn more mid last
   turns_split [] more first last turns = (first, refl, turns)
   turns_split (line ∷ front) more first last turns =
@@ -191,39 +191,57 @@ module _ {D : Type 0} {ghosts : Ghosts D} where
 not_both : (b : Bool) → b ≡ true → b ≡ false → ⊥
 not_both b one other = let never : true ≡ false = sym one ∙ other in cc
 
--- it has broken the book, and isn't kept
-pub record StandsUnkept {D : Type 0} {ghosts : Ghosts D} (book : Book D ghosts) : Type 0 where
+-- it has broken the book, and its entry stands on the page and isn't kept
+pub record StandsUnkept {D : Type 0} {ghosts : Ghosts D} (entry : Entry) (book : Book D ghosts) : Type 0 where
   pub broken : is_broken book ≡ true
-  pub unkept : kept_of book < length (log_of book)
+  pub front : List Entry
+  pub behind : List Entry
+  pub log : log_of book ≡ front ++ entry ∷ behind
+  pub unkept : kept_of book ≤ length front
 
 module _ {D : Type 0} {ghosts : Ghosts D} where
   -- so it stays
-  unkept_on : (move : Move) (old new : Book D ghosts) → Does move old new → StandsUnkept old → StandsUnkept new
-  unkept_on (answers who command reply) old new does is = absurd (not_both (is_broken new) (does.broken is.broken) does.page.2)
-  unkept_on (fails who command reply) old new does is = absurd (not_both (is_broken old) is.broken does.page.2)
-  unkept_on (rounds name reply) old new does is =
-      let long = ap length does.page.0.adds.entry ∙ length-append (log_of old) (round_entry name reply ∷ []) in
-      record { broken = does.broken is.broken; unkept = omega (arith, is.unkept, does.page.1, long) }
-  unkept_on keeps old new does is = absurd (not_both (is_broken new) (does.broken is.broken) does.page.2)
-  unkept_on stays old new does is =
-      let long = ap length does.page.0.log in
-      record { broken = does.broken is.broken; unkept = omega (arith, is.unkept, does.page.1, long) }
-  unkept_on opens old new does is = absurd does.page
-  unkept_on (refuses cause) old new does is = absurd does.page
-  unkept_on closes old new does is = absurd does.page
-  unkept_on (stops move) old new does is = absurd does.page
+  unkept_on : (entry : Entry) (move : Move) (old new : Book D ghosts) → Does move old new → StandsUnkept entry old → StandsUnkept entry new
+  unkept_on entry (answers who command reply) old new does is = absurd (not_both (is_broken new) (does.broken is.broken) does.page.2)
+  unkept_on entry (fails who command reply) old new does is = absurd (not_both (is_broken old) is.broken does.page.2)
+  unkept_on entry (rounds name reply) old new does is =
+      let one = round_entry name reply ∷ [] in
+      record {
+        broken = does.broken is.broken;
+        front = is.front;
+        behind = is.behind ++ one;
+        log = does.page.0.adds.entry ∙ ap (λ (es : List Entry). es ++ one) is.log ∙ append_assoc is.front (entry ∷ is.behind) one;
+        unkept = omega (arith, is.unkept, does.page.1);
+      }
+  unkept_on entry keeps old new does is = absurd (not_both (is_broken new) (does.broken is.broken) does.page.2)
+  unkept_on entry stays old new does is = record {
+    broken = does.broken is.broken;
+    front = is.front;
+    behind = is.behind;
+    log = does.page.0.log ∙ is.log;
+    unkept = omega (arith, is.unkept, does.page.1);
+  }
+  unkept_on entry opens old new does is = absurd does.page
+  unkept_on entry (refuses cause) old new does is = absurd does.page
+  unkept_on entry closes old new does is = absurd does.page
+  unkept_on entry (stops move) old new does is = absurd does.page
 
   module _ (who : ℕ) (command : Command) (reply : Reply) where
-    failed : (old new : Book D ghosts) → Does (fails who command reply) old new → StandsUnkept new
-    failed old new does =
-        let long = ap length does.page.0.adds.entry ∙ length-append (log_of old) (command_entry who command reply ∷ []) in
-        record { broken = does.page.3; unkept = omega (arith, (history_of old).within, does.page.1, long) }
+    failed : (old new : Book D ghosts) → Does (fails who command reply) old new → StandsUnkept (command_entry who command reply) new
+    failed old new does = record {
+      broken = does.page.3;
+      front = log_of old;
+      behind = [];
+      log = does.page.0.adds.entry;
+      unkept = omega (arith, (history_of old).within, does.page.1);
+    }
 
-    unkept_behind : (later earlier : List Move) (old new : Book D ghosts) → Calls (later ++ fails who command reply ∷ earlier) old new → StandsUnkept new
+    unkept_behind : (later earlier : List Move) (old new : Book D ghosts) → Calls (later ++ fails who command reply ∷ earlier) old new → StandsUnkept (command_entry who command reply) new
     unkept_behind [] earlier old new calls = failed calls.0 new calls.2
-    unkept_behind (move ∷ later) earlier old new calls = unkept_on move calls.0 new calls.2 (unkept_behind later earlier old calls.0 calls.1)
+    unkept_behind (move ∷ later) earlier old new calls = unkept_on (command_entry who command reply) move calls.0 new calls.2 (unkept_behind later earlier old calls.0 calls.1)
 
-    pub failed_by : (moves later earlier : List Move) (old new : Book D ghosts) → Calls moves old new → moves ≡ later ++ fails who command reply ∷ earlier → StandsUnkept new
+    pub failed_by : (moves later earlier : List Move) (old new : Book D ghosts) → Calls moves old new → moves ≡ later ++ fails who command reply ∷ earlier
+        → StandsUnkept (command_entry who command reply) new
     failed_by moves later earlier old new calls same = unkept_behind later earlier old new (subst (λ (ms : List Move). Calls {ghosts = ghosts} ms old new) same calls)
 
   -- behind it the disk fails at no other

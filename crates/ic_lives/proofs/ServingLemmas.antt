@@ -1,5 +1,5 @@
 -- Servings and other moves, one after the other, and what they have answered.
-use Rattle.std.proofs.Common.{◌≡◌, ℕ, ◌≤◌, List, [], ◌∷◌, ◌++◌, Ok, Err, refl, sym, ap, subst, ◌∙◌, append-nil, append_assoc}
+use Rattle.std.proofs.Common.{◌≡◌, ℕ, ◌≤◌, List, [], ◌∷◌, ◌++◌, Option, Result, Ok, Err, refl, sym, ap, subst, ◌∙◌, append-nil, append_assoc}
 use Rattle.std.specs.Prelude.{IsTrue}
 use Rattle.ic_disk.specs.declared.disk.Disk.{Ghosts}
 use Rattle.ic_disk.specs.Images.{Within}
@@ -15,18 +15,20 @@ use Rattle.ic_desk.specs.ByCalls.{IsByCalls}
 use Rattle.ic_desk.specs.Entries.{command_entry}
 use Rattle.ic_desk.specs.Moves.{Move, opens, refuses, answers, fails, rounds, keeps, stays, closes, stops}
 use Rattle.ic_desk.specs.Server.{Server, down, up, Reaches}
+use Rattle.ic_serving.specs.declared.fault.ServeFault.{ServeFault}
 use Rattle.ic_serving.specs.Answered.{IsDoneFor}
 use Rattle.ic_serving.specs.InTurn.{AreAnsweredInTurn, calls_for, moves_in_turn, reply_for, replies_in_turn}
+use Rattle.ic_serving.specs.Serving.{IsServing}
 use Rattle.ic_lives.specs.Histories.{answered, StandAmong, IsHistoryOf}
-use Rattle.ic_lives.specs.Servings.{Serving, Part, ended, stopped, other, ArePartsOf, AreMovesOf, line_moves, answered_by}
+use Rattle.ic_lives.specs.Servings.{Serving, Part, ended, stopped, other, ArePartsOf, AreMovesOf, line_moves, line_replies, answered_by}
 use Rattle.ic_lives.proofs.JobLemmas.{Lives}
 use Rattle.ic_lives.proofs.AmongLemmas.{among_self, among_behind, among_join, among_longer, among_trans, file_stands, table_stands}
 use Rattle.ic_lives.proofs.RunLemmas.{Replays, Joins, HoldsOne, prefix_after, table_after}
-use Rattle.ic_lives.proofs.ServedLemmas.{reaches_more, reaches_turns, runs_join, stopped_so, turns_calls}
+use Rattle.ic_lives.proofs.ServedLemmas.{reaches_more, reaches_turns, runs_join, stopped_so, turns_calls, turns_split}
 
 -- ---- what moves have answered
 
-answered_join : (later earlier : List Move) → answered (later ++ earlier) ≡ answered earlier ++ answered later
+pub answered_join : (later earlier : List Move) → answered (later ++ earlier) ≡ answered earlier ++ answered later
 answered_join [] earlier = sym (append-nil (answered earlier))
 answered_join (opens ∷ later) earlier = answered_join later earlier
 answered_join (refuses cause ∷ later) earlier = answered_join later earlier
@@ -73,9 +75,9 @@ module _ {D : Type 0} {ghosts : Ghosts D} where
 
   -- with the first lines of a serving, and moves behind them
   serving_among : (s : Serving ghosts) (es : List Entry) (later earlier moves : List Move) → StandAmong es (answered earlier) → moves ≡ later ++ (line_moves s ++ earlier)
-      → StandAmong (es ++ replies_in_turn s.front s.old s.answering s.first_lines) (answered moves)
+      → StandAmong (es ++ line_replies s) (answered moves)
   serving_among s es later earlier moves first same =
-      let replies = replies_in_turn s.front s.old s.answering s.first_lines in
+      let replies = line_replies s in
       subst (λ (ms : List Move). StandAmong (es ++ replies) (answered ms)) (sym same)
       (among_earlier (es ++ replies) later (line_moves s ++ earlier)
       (among_moves es replies (line_moves s) earlier first (replies_among s.front s.old s.answering s.first_lines)))
@@ -87,6 +89,36 @@ module _ {D : Type 0} {ghosts : Ghosts D} where
   parts_among (other more server ∷ parts) moves are =
       subst (λ (ms : List Move). StandAmong (answered_by parts ++ answered more) (answered ms)) (sym are.2)
       (among_moves (answered_by parts) (answered more) more are.0 (parts_among parts are.0 are.1) (among_self (answered more)))
+
+  -- ---- a call is a serving
+
+  pub call_serves : (old new : Book D ghosts) (result : Result (Unit {0}) ServeFault) (ls : List (List ℕ)) (before behind : Option (List ℕ))
+      (serves : IsServing result ls old new before behind) (front more : List (List ℕ)) → serves.front ≡ front ++ more
+      → (serving : Serving ghosts) × (serving.old ≡ old) × (serving.new ≡ new) × (serving.ls ≡ ls) × (serving.result ≡ result) × (serving.front ≡ front)
+  call_serves old new result ls before behind serves front more parted =
+      let between = serves.turns.between in
+      let split = turns_split front more old between (subst (λ (xs : List (List ℕ)). AreAnsweredInTurn xs old between) parted serves.turns.answered) in (
+        record {
+          old = old;
+          new = new;
+          result = result;
+          ls = ls;
+          before = before;
+          behind = behind;
+          serves = serves;
+          front = front;
+          more = more;
+          parted = parted;
+          answering = split.0;
+          first_lines = split.1;
+          other_lines = split.2;
+        },
+        refl,
+        refl,
+        refl,
+        refl,
+        refl,
+      )
 
   -- ---- parts are a run
 

@@ -8,10 +8,22 @@ use Rattle.ic_desk.specs.ByCalls.{IsByCalls}
 use Rattle.ic_desk.specs.Moves.{Move}
 use Rattle.ic_desk.specs.Server.{Server, down, up, IsFound, Runs}
 use Rattle.ic_serving.specs.declared.fault.ServeFault.{ServeFault}
+use Rattle.ic_serving.specs.Answered.{IsAnswered}
 use Rattle.ic_serving.specs.InTurn.{AreAnsweredInTurn, moves_in_turn, replies_in_turn}
 use Rattle.ic_serving.specs.Serving.{IsServing}
 use Rattle.ic_lives.specs.Histories.{answered}
 use Rattle.ic_lives.specs.Served.{IsCutShort}
+
+-- A line was answered between others: those in front of it led to the book `before`, and those behind
+-- it on from the book `after`.
+pub record IsAnsweredBetween {D : Type 0} {ghosts : Ghosts D} (front : List (List ℕ))
+    (line : List ℕ) (back : List (List ℕ)) (first last : Book D ghosts) : Type 0 where
+  pub before : Book D ghosts
+  pub after : Book D ghosts
+  pub bytes : List ℕ
+  pub in_front : AreAnsweredInTurn front first before
+  pub answered : IsAnswered line bytes before after
+  pub behind : AreAnsweredInTurn back after last
 
 -- A serving is what a call of `serve_lines` says of its two books, or would say. Some of the lines
 -- that it answers come first, and lead to the book `answering`; the others lead on from there.
@@ -55,6 +67,10 @@ ArePartsOf {ghosts = g} (other moves server ∷ parts) first last =
 abbrev pub line_moves : {D : Type 0} {ghosts : Ghosts D} → Serving ghosts → List Move
 line_moves s = moves_in_turn s.front s.old s.answering s.first_lines
 
+-- the commands of these lines with the replies that answered them, in order
+abbrev pub line_replies : {D : Type 0} {ghosts : Ghosts D} → Serving ghosts → List Entry
+line_replies s = replies_in_turn s.front s.old s.answering s.first_lines
+
 -- The moves of these parts. In a serving those of its first lines come first; behind them it makes
 -- calls of the book, or a stop cuts these short.
 abbrev pub AreMovesOf : {D : Type 0} {ghosts : Ghosts D}
@@ -73,8 +89,6 @@ AreMovesOf (other more server ∷ parts) moves = (earlier : List Move) × AreMov
 -- first lines.
 abbrev pub answered_by : {D : Type 0} {ghosts : Ghosts D} → List (Part ghosts) → List Entry
 answered_by [] = []
-answered_by (ended s ∷ parts) = answered_by parts
-    ++ replies_in_turn s.front s.old s.answering s.first_lines
-answered_by (stopped s found ∷ parts) = answered_by parts
-    ++ replies_in_turn s.front s.old s.answering s.first_lines
+answered_by (ended s ∷ parts) = answered_by parts ++ line_replies s
+answered_by (stopped s found ∷ parts) = answered_by parts ++ line_replies s
 answered_by (other moves server ∷ parts) = answered_by parts ++ answered moves

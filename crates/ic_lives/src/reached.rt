@@ -22,7 +22,8 @@ pub fn each_file_left_is_found(before: &MemDisk, after: &MemDisk)
     let _ = after;
 }
 
-/// Where the process alone was killed, the disk is found as it stands, with all its images.
+/// Where the process alone was killed behind a call, the disk is found as the call left it, with all
+/// its images.
 pub fn a_disk_in_use_is_found(before: &MemDisk, after: &MemDisk)
     ensures { clock_of before.now ≤ clock_of after.now
         → IsFound ⟦<MemDisk as Disk>⟧ before.now after.now after.now }

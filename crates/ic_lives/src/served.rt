@@ -1,6 +1,6 @@
 //! What a server has after lines were served over its book.
 
-ghost use Rattle.std.specs.Prelude.{◌≡◌, ◌⊎◌, ◌<◌, [], ◌∷◌, ◌++◌, ℕ, List, Ok, Option, Result, length, true, IsTrue, OnOk};
+ghost use Rattle.std.specs.Prelude.{◌≡◌, ◌⊎◌, ◌≤◌, [], ◌∷◌, ◌++◌, ℕ, List, Ok, Option, Result, length, true, IsTrue, OnOk};
 ghost use Rattle.ic_disk.specs.Images.{Within};
 ghost use Rattle.ic_jobs.specs.declared.command.Command.{Command};
 ghost use Rattle.ic_jobs.specs.declared.event.Entry.{Entry};
@@ -14,20 +14,21 @@ ghost use Rattle.ic_commands.specs.ReplyText.{reply_text};
 ghost use Rattle.ic_commands.specs.declared.line.Line.TheVariants.{Command as Asks, Run};
 ghost use Rattle.ic_lines.specs.Lines.{ended};
 ghost use Rattle.ic_desk.specs.Book.{disk_of, is_broken, kept_of, log_of, table_of};
+ghost use Rattle.ic_desk.specs.Entries.{command_entry};
 ghost use Rattle.ic_desk.specs.Moves.{Move, answers, fails, keeps, opens, refuses};
 ghost use Rattle.ic_desk.specs.Server.{IsFound, Opens, Reaches, Refuses, Server, down, up};
 ghost use Rattle.ic_serving.specs.declared.fault.ServeFault.{ServeFault};
 ghost use Rattle.ic_serving.specs.Booked.{IsAllKept, last_kept};
 ghost use Rattle.ic_desk.specs.ByCalls.{IsByCalls};
 ghost use Rattle.ic_serving.specs.Answered.{IsDoneFor};
-ghost use Rattle.ic_serving.specs.InTurn.{AreAnsweredInTurn, calls_for, moves_in_turn};
+ghost use Rattle.ic_serving.specs.InTurn.{AreAnsweredInTurn, calls_for, moves_in_turn, reply_for};
 ghost use Rattle.ic_serving.specs.Served.{AreAnswered};
 ghost use Rattle.ic_serving.specs.Serving.{IsServing};
 ghost use Rattle.ic_serving.specs.Stopped.{MayStand};
 ghost use Rattle.ic_lives.specs.Headline.{IsTableAfter};
 ghost use Rattle.ic_lives.specs.Histories.{IsHistoryOf, StandAmong};
 ghost use Rattle.ic_lives.specs.Served.{BookOver, IsCutShort};
-ghost use Rattle.ic_lives.specs.Servings.{AreMovesOf, ArePartsOf, Part, answered_by};
+ghost use Rattle.ic_lives.specs.Servings.{AreMovesOf, ArePartsOf, Part, Serving, answered_by};
 
 use ic_desk::Book;
 use ic_disk::Disk;
@@ -51,11 +52,14 @@ pub fn the_served_headline<D: Disk>(old: &Book<D>, new: &Book<D>, found: &D)
         → (cut : List Move) × IsCutShort done.moves cut
         × Reaches {ghosts = D.Disk} (cut ++ moves) (down found.now) }
 
-    // A command among the moves at which the disk failed has broken the book, and isn't kept.
+    // A command among the moves at which the disk failed has broken the book. Its entry stands on the
+    // page, and isn't kept.
     ensures broken { (done : IsByCalls old.now new.now) (later earlier : List Move)
         (who : ℕ) (command : Command) (reply : Reply)
         → done.moves ≡ later ++ fails who command reply ∷ earlier
-        → (is_broken new.now ≡ true) × (kept_of new.now < length (log_of new.now)) }
+        → (is_broken new.now ≡ true) × (front behind : List Entry)
+        × (log_of new.now ≡ front ++ command_entry who command reply ∷ behind)
+        × (kept_of new.now ≤ length front) }
 
     // And there is one such command at most: all others were answered.
     ensures once { (done : IsByCalls old.now new.now) (later between earlier : List Move)
@@ -105,7 +109,8 @@ pub fn a_stopped_serving_opens_again<D: Disk>(
 /// Any number of servings of lines, each stopped at any moment or ended, are a run of a server, with
 /// any other moves between them: openings, also those that are refused or stopped, calls of one's own,
 /// closings. Behind them the table is the one after a legal history of these moves. Every command that
-/// a line was answered stands there with the reply that was written for it, in order.
+/// one of the first lines of a serving was answered stands there, in order, with the reply whose line
+/// answers it.
 pub fn servings_are_a_run<D: Disk>(first: &D, last: &D, book: &Book<D>)
     ensures run { (parts : List (Part D.Disk)) (server : Server D.Disk)
         → IsTrue (D.keeps first.now) → Within (D.image first.now) (HoldsTable [])
@@ -134,6 +139,20 @@ pub fn servings_are_a_run<D: Disk>(first: &D, last: &D, book: &Book<D>)
     ic_jobs::laws::histories_split_and_join();
     ic_jobs::laws::life_law();
     ic_slots::laws::one_is_held();
+}
+
+/// A call of `serve_lines` is a serving by its clauses alone. As many of the lines that it answered as
+/// one likes may be its first lines.
+pub fn a_call_is_a_serving<D: Disk>(old: &Book<D>, new: &Book<D>)
+    ensures { (result : Result (Unit {0}) ServeFault)
+        (ls : List (List ℕ)) (before behind : Option (List ℕ))
+        (serves : IsServing result ls old.now new.now before behind)
+        (front more : List (List ℕ)) → serves.front ≡ front ++ more
+        → (serving : Serving D.Disk) × (serving.old ≡ old.now) × (serving.new ≡ new.now)
+        × (serving.ls ≡ ls) × (serving.result ≡ result) × (serving.front ≡ front) }
+{
+    let _ = old;
+    let _ = new;
 }
 
 /// The same in the words of the lines. Where all are answered, the table is both the one that they
@@ -165,10 +184,10 @@ pub fn lines_are_moves<D: Disk>(old: &Book<D>, new: &Book<D>, found: &D)
     ic_slots::laws::one_is_held();
 }
 
-/// What a serving has answered stays, also where it ends by a fault. Behind any number of the lines
-/// that it answered the book is reached by their moves, each an answer with the reply that was
-/// written, or a keep behind a run. A stop that comes later is one in the midst of a later call: the
-/// moves of these lines are all there.
+/// What a serving has answered stays, also where it ends by a fault. Behind any number of the first
+/// lines that it answered there is a book that their moves reach, each line's last an answer with the
+/// reply whose line the bytes are, or a keep behind a run. A stop from that book's clock on is one in
+/// the midst of a later call: the moves of these lines are all there.
 pub fn answered_lines_stay<D: Disk>(old: &Book<D>, new: &Book<D>, found: &D)
     ensures { (moves : List Move) (result : Result (Unit {0}) ServeFault)
         (ls : List (List ℕ)) (before behind : Option (List ℕ))
@@ -191,13 +210,15 @@ pub fn answered_lines_stay<D: Disk>(old: &Book<D>, new: &Book<D>, found: &D)
 }
 
 /// What is done for a line that is answered: at a command the last of its moves answers it, with the
-/// reply that the bytes are; at a run the last one keeps all.
+/// reply whose line the bytes are, which its entry has too. At a run the last one keeps all.
 pub fn answered_lines_are_moves<D: Disk>(old: &Book<D>, new: &Book<D>)
     ensures command { (command : Command) (bytes : List ℕ)
         (done : IsDoneFor (Ok (Asks command)) bytes old.now new.now)
         → (reply : Reply) × (bytes ≡ ended (reply_text reply)) × (earlier : List Move)
         × ((calls_for (Ok (Asks command)) bytes old.now new.now done).moves
-        ≡ answers 0 command reply ∷ earlier) }
+        ≡ answers 0 command reply ∷ earlier)
+        × (reply_for (Ok (Asks command)) bytes old.now new.now done
+        ≡ command_entry 0 command reply ∷ []) }
     ensures run { (count : ℕ) (bytes : List ℕ)
         (done : IsDoneFor (Ok (Run count)) bytes old.now new.now) → (earlier : List Move)
         × ((calls_for (Ok (Run count)) bytes old.now new.now done).moves ≡ keeps ∷ earlier) }

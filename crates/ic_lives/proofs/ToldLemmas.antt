@@ -1,0 +1,210 @@
+-- What lines, parts and moves tell of commands, and where an entry has come.
+use Rattle.std.proofs.Common.{◌≡◌, ◌⊎◌, inl, inr, ℕ, List, [], ◌∷◌, ◌++◌, Ok, Err, refl, sym, ap, subst, ◌∙◌, append-nil, append_assoc}
+use Rattle.ic_disk.specs.declared.disk.Disk.{Ghosts}
+use Rattle.ic_jobs.specs.declared.command.Command.{Command}
+use Rattle.ic_jobs.specs.declared.event.Entry.{Entry}
+use Rattle.ic_jobs.specs.declared.reply.Reply.{Reply}
+use Rattle.ic_commands.specs.declared.line.Line.TheVariants.{Blank, Command as Asks, Run}
+use Rattle.ic_commands.specs.LineText.{ReadsLine}
+use Rattle.ic_commands.specs.ReplyText.{reply_text}
+use Rattle.ic_lines.specs.Answers.{Reading}
+use Rattle.ic_lines.specs.Lines.{ended as line_of}
+use Rattle.ic_desk.specs.declared.book.Book.{Book}
+use Rattle.ic_desk.specs.Entries.{command_entry, round_entry}
+use Rattle.ic_desk.specs.Moves.{Move, opens, refuses, answers, fails, rounds, keeps, stays, closes, stops, brings}
+use Rattle.ic_serving.specs.Answered.{IsDoneFor}
+use Rattle.ic_serving.specs.InTurn.{AreAnsweredInTurn, reply_for, replies_in_turn}
+use Rattle.ic_lives.specs.Histories.{answered, come, StandAmong}
+use Rattle.ic_lives.specs.Servings.{IsAnsweredBetween, Part, ended, stopped, other, line_replies, answered_by}
+use Rattle.ic_lives.proofs.ServingLemmas.{answered_join}
+use Rattle.ic_lives.proofs.WordLemmas.{among_at}
+
+-- ---- what has come
+
+abbrev tail_of : List Entry → List Entry
+tail_of [] = []
+tail_of (e ∷ es) = es
+
+abbrev head_or : Entry → List Entry → Entry
+head_or first [] = first
+head_or first (e ∷ es) = e
+
+none_left : (xs ys : List Entry) (e : Entry) → [] ≡ xs ++ e ∷ ys → ⊥
+none_left [] ys e is = let never : [] ≡ e ∷ ys = is in cc
+none_left (x ∷ xs) ys e is = let never : [] ≡ x ∷ (xs ++ e ∷ ys) = is in cc
+
+-- an entry of a longer list is the last one, or stands before it
+record IsEarlier (xs before behind : List Entry) (x e : Entry) : Type 0 where
+  rest : List Entry
+  back : behind ≡ rest ++ x ∷ []
+  here : xs ≡ before ++ e ∷ rest
+
+record IsLast (xs before behind : List Entry) (x e : Entry) : Type 0 where
+  none : behind ≡ []
+  front : xs ≡ before
+  same : x ≡ e
+
+longer : (y b : Entry) (xs before behind : List Entry) (x e : Entry) → y ≡ b → IsLast xs before behind x e ⊎ IsEarlier xs before behind x e
+    → IsLast (y ∷ xs) (b ∷ before) behind x e ⊎ IsEarlier (y ∷ xs) (b ∷ before) behind x e
+longer y b xs before behind x e first (inl last) = inl (record { none = last.none; front = (λ i. first i ∷ last.front i); same = last.same })
+longer y b xs before behind x e first (inr earlier) = inr (record { rest = earlier.rest; back = earlier.back; here = (λ i. first i ∷ earlier.here i) })
+
+last_or_earlier : (xs before behind : List Entry) (x e : Entry) → xs ++ x ∷ [] ≡ before ++ e ∷ behind → IsLast xs before behind x e ⊎ IsEarlier xs before behind x e
+last_or_earlier [] [] behind x e is = inl (record { none = sym (ap tail_of is); front = refl; same = ap (head_or x) is })
+last_or_earlier [] (b ∷ before) behind x e is = absurd (none_left before behind e (ap tail_of is))
+last_or_earlier (y ∷ xs) [] behind x e is = inr (record { rest = xs; back = sym (ap tail_of is); here = ap (λ (z : Entry). z ∷ xs) (ap (head_or y) is) })
+last_or_earlier (y ∷ xs) (b ∷ before) behind x e is = longer y b xs before behind x e (ap (head_or y) is) (last_or_earlier xs before behind x e (ap tail_of is))
+
+-- the move that brought an entry, and what has come before and behind it
+record ComesAt (moves : List Move) (before behind : List Entry) (e : Entry) : Type 0 where
+  later : List Move
+  earlier : List Move
+  move : Move
+  parted : moves ≡ later ++ move ∷ earlier
+  brought : brings move ≡ e ∷ []
+  first : come earlier ≡ before
+  next : come later ≡ behind
+
+abbrev BringsFew : Move → Type 0
+BringsFew move = (brings move ≡ []) ⊎ ((x : Entry) × (brings move ≡ x ∷ []))
+
+brings_few : (move : Move) → BringsFew move
+brings_few opens = inl refl
+brings_few (refuses cause) = inl refl
+brings_few (answers who command reply) = inr (command_entry who command reply, refl)
+brings_few (fails who command reply) = inr (command_entry who command reply, refl)
+brings_few (rounds name reply) = inr (round_entry name reply, refl)
+brings_few keeps = inl refl
+brings_few stays = inl refl
+brings_few closes = inl refl
+brings_few (stops move) = brings_few move
+
+module _ (m : Move) (ms : List Move) (before behind : List Entry) (e : Entry) where
+  -- it was brought by an earlier move
+  further : (rest more : List Entry) → brings m ≡ more → behind ≡ rest ++ more → ComesAt ms before rest e → ComesAt (m ∷ ms) before behind e
+  further rest more last back is = record {
+    later = m ∷ is.later;
+    earlier = is.earlier;
+    move = is.move;
+    parted = ap (λ (l : List Move). m ∷ l) is.parted;
+    brought = is.brought;
+    first = is.first;
+    next = ap (λ (es : List Entry). come is.later ++ es) last ∙ ap (λ (es : List Entry). es ++ more) is.next ∙ sym back;
+  }
+
+  by_last : (x : Entry) → brings m ≡ x ∷ [] → IsLast (come ms) before behind x e ⊎ IsEarlier (come ms) before behind x e
+      → ((rest : List Entry) → come ms ≡ before ++ e ∷ rest → ComesAt ms before rest e) → ComesAt (m ∷ ms) before behind e
+  by_last x one (inl last) so_far = record {
+    later = [];
+    earlier = ms;
+    move = m;
+    parted = refl;
+    brought = one ∙ ap (λ (y : Entry). y ∷ []) last.same;
+    first = last.front;
+    next = sym last.none;
+  }
+  by_last x one (inr earlier) so_far = further earlier.rest (x ∷ []) one earlier.back (so_far earlier.rest earlier.here)
+
+  by_bringing : BringsFew m → come ms ++ brings m ≡ before ++ e ∷ behind
+      → ((rest : List Entry) → come ms ≡ before ++ e ∷ rest → ComesAt ms before rest e) → ComesAt (m ∷ ms) before behind e
+  by_bringing (inl none) is so_far =
+      let all = sym (append-nil (come ms)) ∙ ap (λ (es : List Entry). come ms ++ es) (sym none) ∙ is in
+      further behind [] none (sym (append-nil behind)) (so_far behind all)
+  by_bringing (inr one) is so_far =
+      by_last one.0 one.1 (last_or_earlier (come ms) before behind one.0 e (ap (λ (es : List Entry). come ms ++ es) (sym one.1) ∙ is)) so_far
+
+comes_at : (moves : List Move) (before behind : List Entry) (e : Entry) → come moves ≡ before ++ e ∷ behind → ComesAt moves before behind e
+comes_at [] before behind e is = absurd (none_left before behind e is)
+comes_at (m ∷ ms) before behind e is = by_bringing m ms before behind e (brings_few m) is (λ rest. comes_at ms before rest e)
+
+pub brought_at : (moves : List Move) (front back : List Entry) (e : Entry) → StandAmong (front ++ e ∷ back) (come moves)
+    → (later earlier : List Move) × (move : Move) × (moves ≡ later ++ move ∷ earlier) × (brings move ≡ e ∷ [])
+    × StandAmong front (come earlier) × StandAmong back (come later)
+brought_at moves front back e is =
+    let among = among_at front back (come moves) e is in
+    let at = comes_at moves among.0 among.1 e among.2 in (
+      at.later,
+      at.earlier,
+      at.move,
+      at.parted,
+      at.brought,
+      subst (λ (es : List Entry). StandAmong front es) (sym at.first) among.3,
+      subst (λ (es : List Entry). StandAmong back es) (sym at.next) among.4,
+    )
+
+-- ---- what moves have answered
+
+pub answer_told : (later earlier : List Move) (who : ℕ) (command : Command) (reply : Reply)
+    → answered (later ++ answers who command reply ∷ earlier) ≡ answered earlier ++ command_entry who command reply ∷ answered later
+answer_told later earlier who command reply =
+    answered_join later (answers who command reply ∷ earlier) ∙ append_assoc (answered earlier) (command_entry who command reply ∷ []) (answered later)
+
+module _ {D : Type 0} {ghosts : Ghosts D} where
+  -- ---- what lines tell
+
+  one_entry : (reading : Reading) (bytes : List ℕ) (old new : Book D ghosts) (done : IsDoneFor reading bytes old new) (command : Command) → reading ≡ Ok (Asks command)
+      → (reply : Reply) × (bytes ≡ line_of (reply_text reply)) × (reply_for reading bytes old new done ≡ command_entry 0 command reply ∷ [])
+  one_entry reading bytes old new done command same = subst
+      (λ (r : Reading). (is : IsDoneFor r bytes old new) → (reply : Reply) × (bytes ≡ line_of (reply_text reply)) × (reply_for r bytes old new is ≡ command_entry 0 command reply ∷ []))
+      (sym same) (λ is. (is.reply, is.text, refl)) done
+
+  no_entry : (reading : Reading) (bytes : List ℕ) (old new : Book D ghosts) (done : IsDoneFor reading bytes old new) → ((command : Command) → ¬ (reading ≡ Ok (Asks command)))
+      → reply_for reading bytes old new done ≡ []
+  no_entry (Ok Blank) bytes old new done none = refl
+  no_entry (Ok (Asks command)) bytes old new done none = absurd (none command refl)
+  no_entry (Ok (Run count)) bytes old new done none = refl
+  no_entry (Err fault) bytes old new done none = refl
+
+  record RepliesAt (front back : List (List ℕ)) (line : List ℕ) (first last : Book D ghosts) (turns : AreAnsweredInTurn (front ++ line ∷ back) first last) : Type 0 where
+    here : IsAnsweredBetween front line back first last
+    replies : replies_in_turn (front ++ line ∷ back) first last turns ≡ replies_in_turn front first here.before here.in_front
+        ++ (reply_for here.answered.reading here.bytes here.before here.after here.answered.done ++ replies_in_turn back here.after last here.behind)
+
+  replies_at : (front back : List (List ℕ)) (line : List ℕ) (first last : Book D ghosts) (turns : AreAnsweredInTurn (front ++ line ∷ back) first last) → RepliesAt front back line first last turns
+  replies_at [] back line first last turns = record {
+    here = record { before = first; after = turns.0; bytes = turns.1; in_front = refl; answered = turns.2; behind = turns.3 };
+    replies = refl;
+  }
+  replies_at (one ∷ front) back line first last turns =
+      let rest = replies_at front back line turns.0 last turns.3 in
+      let at = rest.here in
+      let own = reply_for turns.2.reading turns.1 first turns.0 turns.2.done in
+      record {
+        here = record { before = at.before; after = at.after; bytes = at.bytes; in_front = (turns.0, turns.1, turns.2, at.in_front); answered = at.answered; behind = at.behind };
+        replies = ap (λ (es : List Entry). own ++ es) rest.replies ∙ sym (append_assoc own (replies_in_turn front turns.0 at.before at.in_front)
+            (reply_for at.answered.reading at.bytes at.before at.after at.answered.done ++ replies_in_turn back at.after last at.behind));
+      }
+
+  pub command_told : ((text : List ℕ) (a b : Reading) → ReadsLine text a → ReadsLine text b → a ≡ b) → (front back : List (List ℕ)) (line : List ℕ) (command : Command)
+      (first last : Book D ghosts) (turns : AreAnsweredInTurn (front ++ line ∷ back) first last) → ReadsLine line (Ok (Asks command))
+      → (here : IsAnsweredBetween front line back first last) × (reply : Reply) × (here.bytes ≡ line_of (reply_text reply))
+      × (replies_in_turn (front ++ line ∷ back) first last turns
+      ≡ replies_in_turn front first here.before here.in_front ++ command_entry 0 command reply ∷ replies_in_turn back here.after last here.behind)
+  command_told one front back line command first last turns reads =
+      let is = replies_at front back line first last turns in
+      let at = is.here in
+      let own = one_entry at.answered.reading at.bytes at.before at.after at.answered.done command (one line at.answered.reading (Ok (Asks command)) at.answered.read reads) in (
+        at,
+        own.0,
+        own.1,
+        is.replies ∙ ap (λ (es : List Entry). replies_in_turn front first at.before at.in_front ++ (es ++ replies_in_turn back at.after last at.behind)) own.2,
+      )
+
+  pub other_told : (front back : List (List ℕ)) (line : List ℕ) (first last : Book D ghosts) (turns : AreAnsweredInTurn (front ++ line ∷ back) first last)
+      → ((command : Command) → ¬ ReadsLine line (Ok (Asks command))) → (here : IsAnsweredBetween front line back first last)
+      × (replies_in_turn (front ++ line ∷ back) first last turns ≡ replies_in_turn front first here.before here.in_front ++ replies_in_turn back here.after last here.behind)
+  other_told front back line first last turns none =
+      let is = replies_at front back line first last turns in
+      let at = is.here in
+      let own = no_entry at.answered.reading at.bytes at.before at.after at.answered.done (λ command same. none command (subst (λ (r : Reading). ReadsLine line r) same at.answered.read)) in (
+        at,
+        is.replies ∙ ap (λ (es : List Entry). replies_in_turn front first at.before at.in_front ++ (es ++ replies_in_turn back at.after last at.behind)) own,
+      )
+
+  -- ---- what parts tell
+
+  pub parts_told : (later earlier : List (Part ghosts)) → answered_by (later ++ earlier) ≡ answered_by earlier ++ answered_by later
+  parts_told [] earlier = sym (append-nil (answered_by earlier))
+  parts_told (ended s ∷ later) earlier = ap (λ (es : List Entry). es ++ line_replies s) (parts_told later earlier) ∙ append_assoc (answered_by earlier) (answered_by later) (line_replies s)
+  parts_told (stopped s found ∷ later) earlier = ap (λ (es : List Entry). es ++ line_replies s) (parts_told later earlier) ∙ append_assoc (answered_by earlier) (answered_by later) (line_replies s)
+  parts_told (other moves server ∷ later) earlier = ap (λ (es : List Entry). es ++ answered moves) (parts_told later earlier) ∙ append_assoc (answered_by earlier) (answered_by later) (answered moves)
