@@ -1,10 +1,13 @@
 //! Laws of the definitions that the contracts of this crate cite.
 
-ghost use Rattle.std.specs.Prelude.{◌≡◌, ◌≢◌, ◌↔◌, ◌≤◌, ℕ, List, [], ◌∷◌, ◌++◌, None, Some, Result, false, length, take, slice_get};
+ghost use Rattle.std.specs.Prelude.{◌≡◌, ◌≢◌, ◌↔◌, ◌≤◌, ℕ, List, [], ◌∷◌, ◌++◌, None, Some, Result, IsTrue, false, length, take, slice_get};
 ghost use Rattle.std.specs.List.{AllByRecursion};
 ghost use Rattle.ic_term.specs.Configuration.{Configuration};
 ghost use Rattle.ic_rules.specs.RuleSet.{Rules};
 ghost use Rattle.ic_rules.specs.System.{SystemParts};
+ghost use Rattle.ic_pool.specs.PoolFault.{is_of_flight};
+ghost use Rattle.ic_pool.specs.declared.fault.PoolFault.{PoolFault};
+ghost use Rattle.ic_pool.specs.declared.fault.PoolFault.TheVariants.{NoWorkers};
 ghost use Rattle.ic_jobs.specs.declared.command.Command.{Command};
 ghost use Rattle.ic_jobs.specs.declared.command.Command.TheVariants.{Fetch, Submit};
 ghost use Rattle.ic_jobs.specs.declared.event.Entry.{Entry};
@@ -19,12 +22,15 @@ ghost use Rattle.ic_jobs.specs.Names.{mentions};
 ghost use Rattle.ic_jobs.specs.Table.{job_named};
 ghost use Rattle.ic_jobs.specs.Transitions.{fetch_reply};
 ghost use Rattle.ic_desk.specs.declared.fault.BookFault.{BookFault};
-ghost use Rattle.ic_desk.specs.declared.fault.BookFault.TheVariants.{Device};
+ghost use Rattle.ic_desk.specs.declared.fault.BookFault.TheVariants.{Worn, Device};
 ghost use Rattle.ic_desk.specs.Book.{start_of, log_of, table_of};
 ghost use Rattle.ic_desk.specs.Entries.{command_entry, round_entry};
 ghost use Rattle.ic_desk.specs.Lives.{IsPage};
 ghost use Rattle.ic_attend.specs.declared.attended.ClientRun.{ClientRun as Run};
+ghost use Rattle.ic_attend.specs.declared.attended.RunnerEnd.{RunnerEnd};
+ghost use Rattle.ic_attend.specs.declared.attended.RunnerEnd.TheVariants.{Book as by_book, Pool as by_pool};
 ghost use Rattle.ic_attend.specs.Desk.{AddsOneAtMost, IsCommanded, IsLanded};
+ghost use Rattle.ic_attend.specs.Ends.{EndMayBe, EndTells};
 ghost use Rattle.ic_attend.specs.OneHistory.{IsOneHistory, kept_log};
 ghost use Rattle.ic_attend.specs.Parts.{answer_to, commands_in, part};
 
@@ -188,6 +194,21 @@ pub fn one_client_is_told_of_a_failure<D: Disk>(attended: &Attended<D>)
         → slice_get attended.now.answers.items who ≡ Some run → run.end ≡ Some Device
         → (front : List Entry) × (c : Command) × (r : Reply) × (run.refused ≡ Some c)
         × (log_of attended.now.book ≡ front ++ command_entry who c r ∷ []) }
+{
+    let _ = attended;
+}
+
+/// A runner keeps nothing, and halts a job that can't make a round. So it never ends by worn numbers,
+/// a failing disk or such a job, and for want of workers only where there are none. All that the book
+/// and the workers bear out may be its end.
+pub fn runners_end_so<D: Disk>(attended: &Attended<D>)
+    ensures book { (workers : ℕ) → ¬ EndMayBe workers (by_book Worn)
+        × ¬ EndMayBe workers (by_book Device) }
+    ensures flight { (workers : ℕ) (fault : PoolFault) → IsTrue (is_of_flight fault)
+        → ¬ EndMayBe workers (by_pool fault) }
+    ensures workers { (workers : ℕ) → EndMayBe workers (by_pool NoWorkers) → workers ≡ 0 }
+    ensures told { (workers : ℕ) (end : RunnerEnd)
+        → EndTells workers attended.now.book end → EndMayBe workers end }
 {
     let _ = attended;
 }
