@@ -4,7 +4,7 @@ use Rattle.std.specs.List.{flat_map, list_any}
 use Rattle.std.proofs.lemmas.List.{drop_more, length-drop, length-append, length-take-le, take_at, drop_at}
 use Rattle.std.proofs.lemmas.List.Sums.{sum_by-cons, sum_by-append}
 use Rattle.ic_term.specs.Tree.{Tree, name, agent, trees_of, Pair, nodes, names, pair_nodes}
-use Rattle.ic_term.specs.Configuration.{Configuration}
+use Rattle.ic_term.specs.Configuration.{Configuration, IsConfiguration, configuration_nodes}
 use Rattle.std.specs.Option.{option_map_or}
 use Rattle.ic_term.specs.Configuration.{occurrences}
 use Rattle.ic_rules.specs.Rule.{Rule}
@@ -18,7 +18,7 @@ use Rattle.ic_flat.specs.Words.{arguments as word_arguments, with_word, forest, 
 use Rattle.ic_flat.specs.Flat.{pairs_of, sides, configuration_words}
 use Rattle.ic_flat.specs.lemmas.WordLaws.{whole-drop, whole-words, words-forest, nodes-forest, forest-le, forest-words}
 use Rattle.ic_flat.specs.lemmas.WordTests.{names-forest}
-use Rattle.ic_flat.specs.lemmas.FlatLaws.{pairs_of-sides, length-sides, forest-configuration_words, counted-configuration_words}
+use Rattle.ic_flat.specs.lemmas.FlatLaws.{pairs_of-sides, length-sides, forest-configuration_words, counted-configuration_words, nodes-words}
 use Rattle.ic_flat_round.specs.declared.places.Sides.{Sides}
 use Rattle.ic_term.specs.lemmas.TreeLaws.{list_of-trees_of}
 use Rattle.ic_flat_round.specs.inner.RuleWords.{pairs_words}
@@ -174,6 +174,11 @@ whole_words c ws is = subst (λ l. IsWhole l) (sym is) (whole-words (c.interface
 
 pub interface_there : (c : Configuration) (ws : List Word) (count : ℕ) → ws ≡ configuration_words c → count ≡ length c.interface → count ≤ length (forest ws)
 interface_there c ws count is counted = omega (arith, counted, ap (λ l. length (forest l)) is, counted-configuration_words c)
+
+pub equations_few : (c : Configuration) → IsConfiguration c → length c.equations ≤ 8192
+equations_few c sound =
+    let few : configuration_nodes c ≤ 8192 = sound.nodes in
+    omega (arith, few, nodes-words c, counted-configuration_words c, forest-le (configuration_words c))
 
 -- behind the interface stand the equations
 pub equations_behind : (c : Configuration) (ws : List Word) (count place : ℕ) → ws ≡ configuration_words c → count ≡ length c.interface

@@ -1,6 +1,6 @@
 //! In which equations a name stands.
 
-ghost use Rattle.std.specs.Prelude.{◌≡◌, ◌==◌, ℕ, ◌+◌, ◌<◌, ◌≤◌, None, Some, IfOk, IfSome, OnOk, length, drop, nat_eq, slice_index, if◌then◌else◌};
+ghost use Rattle.std.specs.Prelude.{◌≡◌, ◌==◌, ℕ, ◌+◌, ◌<◌, ◌≤◌, None, Some, IfSome, OnOk, length, drop, nat_eq, slice_index, if◌then◌else◌};
 ghost use Rattle.std.specs.List.{flat_map};
 ghost use Rattle.indexmap.specs.IndexMap.{get};
 ghost use Rattle.ic_settle.specs.lemmas.Containers.{IsLinked, IsRoot, AreUnlinkedFrom, AreKnown, IsChosen, noted, noted_in, noted_equations, noted_from, elsewhere};
@@ -76,16 +76,17 @@ fn note_equations(places: &mut Places, words: &[Word], from: usize) -> Result<()
     Ok(())
 }
 
-/// So many containers, none with a link.
-fn unlinked(alloc: Global, count: usize) -> Result<Vec<usize>, AllocError>
-    ensures length { IfOk result (λ links. length links.items ≡ count) }
-    ensures own { IfOk result (λ links. (e : ℕ) → e < count → slice_index links.items e ≡ e) }
+/// Makes so many containers of a list, none with a link.
+fn unlink(links: &mut Vec<usize>, count: usize) -> Result<(), AllocError>
+    ensures length { OnOk result (length links.new.items ≡ count) }
+    ensures own { OnOk result ((e : ℕ) → e < count → slice_index links.new.items e ≡ e) }
 {
-    let mut links = Vec::with_capacity(alloc, count)?;
+    links.clear();
+    links.reserve(count)?;
     for place in 0..count {
         links.push(place)?;
     }
-    Ok(links)
+    Ok(())
 }
 
 /// Where the links from a container end. Halves the way there.
@@ -165,23 +166,31 @@ fn first_outlet(
 }
 
 impl Containers {
-    /// Each equation and the interface as a container of its own.
-    pub fn of(alloc: Global, flat: &Flat) -> Result<Containers, AllocError>
-        ensures length { IfOk result
-            (λ c. length c.links.items ≡ length flat.now.equations + 1) }
-        ensures own { IfOk result (λ c. (e : ℕ) → e < length flat.now.equations + 1
-            → slice_index c.links.items e ≡ e) }
-        ensures places { IfOk result (λ c. (y : ℕ) → get nat_eq c.places y
+    /// No containers. Takes no memory.
+    pub fn new(alloc: Global) -> Containers {
+        Containers {
+            links: Vec::new(alloc),
+            places: IndexMap::new(alloc),
+        }
+    }
+
+    /// Makes each equation and the interface a container of its own. Keeps the memory of those before.
+    pub fn refill(&mut self, flat: &Flat) -> Result<(), AllocError>
+        ensures length { OnOk result (length self.new.links.items ≡ length flat.now.equations + 1) }
+        ensures own { OnOk result ((e : ℕ) → e < length flat.now.equations + 1
+            → slice_index self.new.links.items e ≡ e) }
+        ensures places { OnOk result ((y : ℕ) → get nat_eq self.new.places y
             ≡ noted_from y 0 flat.now.equations flat.now.interface None) }
     {
         let words = flat.words();
         let count = flat.equations_len();
         let from = equations_place(flat);
-        let mut places = IndexMap::with_capacity(alloc, count)?;
-        note_equations(&mut places, words, from)?;
-        note_words(&mut places, &words[..from], count)?;
-        let links = unlinked(alloc, count + 1)?;
-        Ok(Containers { links, places })
+        self.places.clear();
+        self.places.reserve(count)?;
+        note_equations(&mut self.places, words, from)?;
+        note_words(&mut self.places, &words[..from], count)?;
+        unlink(&mut self.links, count + 1)?;
+        Ok(())
     }
 
     /// The applicable side of an equation whose resolved sides begin with these words, the left one if both are. What the

@@ -95,8 +95,13 @@ fn put_configuration(rules: &FlatRules, flat: &Flat, out: &mut Vec<Word>) -> u64
     put_equations(rules, words, place, flat.next(), out)
 }
 
-/// The configuration with all its active equations fired, and not settled. Takes memory for it alone.
-pub fn fire(alloc: Global, rules: &FlatRules, flat: &Flat) -> Result<Flat, RoundFault>
+/// The configuration with all its active equations fired, and not settled, on a list whose own words go. Takes memory only
+/// where the list is too short.
+pub(crate) fn fire_onto(
+    rules: &FlatRules,
+    flat: &Flat,
+    mut words: Vec<Word>,
+) -> Result<Flat, RoundFault>
     requires { IsTrue (is_over rules.now.symbols flat.now) }
     ensures fired { Answers result
         (unless_unfit rules.now.rules flat.now (fired rules.now.rules flat.now)) }
@@ -109,11 +114,22 @@ pub fn fire(alloc: Global, rules: &FlatRules, flat: &Flat) -> Result<Flat, Round
     if size.names > MAX_NEXT {
         return Err(RoundFault::NamesOut);
     }
-    let mut words = Vec::with_capacity(alloc, size.nodes as usize)?;
+    words.clear();
+    words.reserve(size.nodes as usize)?;
     let next = put_configuration(rules, flat, &mut words);
     let terms = flat.interface_len();
     let equations = equations_in(&words, terms);
     Ok(Flat::from_parts(words, terms, equations, next))
+}
+
+/// The configuration with all its active equations fired, and not settled. Takes memory for it alone.
+pub fn fire(alloc: Global, rules: &FlatRules, flat: &Flat) -> Result<Flat, RoundFault>
+    requires { IsTrue (is_over rules.now.symbols flat.now) }
+    ensures fired { Answers result
+        (unless_unfit rules.now.rules flat.now (fired rules.now.rules flat.now)) }
+    ensures over { IfOk result (λ after. IsTrue (is_over rules.now.symbols after)) }
+{
+    fire_onto(rules, flat, Vec::new(alloc))
 }
 
 /// How many equations words write behind so many terms of an interface.

@@ -3,7 +3,7 @@
 //!
 //! The answers are those of `ic_round` and `ic_settle` for the same configuration, found by walks over its words. No walk
 //! recurses on the depth of a configuration's terms; the nodes of a rule's terms are counted by `ic_term`, which does.
-//! `FlatRules` are rules whose sides are ready to be copied as words.
+//! `FlatRules` are rules whose sides are ready to be copied as words, and a `Workspace` has the lists that rounds are made in.
 #![tactic(auto)]
 
 mod bound;
@@ -20,6 +20,7 @@ mod quietness;
 mod rebuilding;
 mod rounds;
 mod settling;
+mod workspace;
 
 pub use ended::is_settled;
 pub use fired::fire;
@@ -28,3 +29,4 @@ pub use flat_rules::FlatRules;
 pub use quietness::quiet;
 pub use rounds::round;
 pub use settling::settle;
+pub use workspace::Workspace;

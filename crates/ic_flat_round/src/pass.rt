@@ -1,6 +1,6 @@
 //! The one pass of settling over the equations.
 
-ghost use Rattle.std.specs.Prelude.{◌≡◌, IfOk, map};
+ghost use Rattle.std.specs.Prelude.{◌≡◌, OnOk, map};
 ghost use Rattle.std.specs.List.{AllByRecursion};
 ghost use Rattle.ic_settle.specs.lemmas.Passed.{IsPassed};
 ghost use Rattle.ic_flat.specs.Flat.{configuration_words};
@@ -11,8 +11,7 @@ use crate::containers::Containers;
 use crate::places::{equations_place, sides_at};
 use ic_flat::Flat;
 use ic_settle::Side;
-use indexmap::IndexMap;
-use std::alloc::{AllocError, Global};
+use std::alloc::AllocError;
 
 /// Where the sides of an equation begin that stays.
 #[derive(Clone, Copy, Debug)]
@@ -21,36 +20,35 @@ pub(crate) struct Kept {
     pub right: usize,
 }
 
-/// A configuration once each equation was looked at.
-#[derive(Drop)]
-pub(crate) struct Passed {
-    /// The equations that stay, with their sides resolved.
-    pub kept: Vec<Kept>,
-    /// What stands for the names of the others.
-    pub bound: Bound,
-}
-
 /// Goes through the equations once. Each whose resolved sides have an applicable one is removed, and its other side waits
-/// for that name.
-pub(crate) fn pass(alloc: Global, flat: &Flat) -> Result<Passed, AllocError>
-    ensures passed { IfOk result (λ p. IsPassed flat.now
-        (map (kept_at (configuration_words flat.now)) p.kept.items)
-        (waiting (configuration_words flat.now) p.bound.entries)) }
-    ensures kept { IfOk result
-        (λ p. AllByRecursion (IsKeptWithin (configuration_words flat.now)) p.kept.items) }
-    ensures within { IfOk result (λ p. AreWithin (configuration_words flat.now) p.bound.entries) }
+/// for that name. Leaves the equations that stay, with their sides resolved, and what stands for the names of the others.
+/// What the lists held goes, and their memory is kept.
+pub(crate) fn pass(
+    flat: &Flat,
+    containers: &mut Containers,
+    bound: &mut Bound,
+    kept: &mut Vec<Kept>,
+) -> Result<(), AllocError>
+    ensures passed { OnOk result (IsPassed flat.now
+        (map (kept_at (configuration_words flat.now)) kept.new.items)
+        (waiting (configuration_words flat.now) bound.new.entries)) }
+    ensures kept { OnOk result
+        (AllByRecursion (IsKeptWithin (configuration_words flat.now)) kept.new.items) }
+    ensures within { OnOk result (AreWithin (configuration_words flat.now) bound.new.entries) }
 {
     let words = flat.words();
     let count = flat.equations_len();
-    let mut containers = Containers::of(alloc, flat)?;
-    let mut bound = IndexMap::with_capacity(alloc, count)?;
-    let mut kept = Vec::with_capacity(alloc, count)?;
+    containers.refill(flat)?;
+    bound.clear();
+    bound.reserve(count)?;
+    kept.clear();
+    kept.reserve(count)?;
     let mut place = equations_place(flat);
     let mut number = 0;
     while place < words.len() {
         let sides = sides_at(words, place);
-        let left = resolved(words, sides.left, &mut bound);
-        let right = resolved(words, sides.right, &mut bound);
+        let left = resolved(words, sides.left, bound);
+        let right = resolved(words, sides.right, bound);
         match containers.applicable(words[left], words[right], number) {
             Some(applicable) => {
                 bound.insert(applicable.name, other_place(left, right, applicable.side))?;
@@ -60,7 +58,7 @@ pub(crate) fn pass(alloc: Global, flat: &Flat) -> Result<Passed, AllocError>
         place = sides.end;
         number += 1;
     }
-    Ok(Passed { kept, bound })
+    Ok(())
 }
 
 /// The place of the side opposite to a side.

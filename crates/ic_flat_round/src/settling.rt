@@ -6,8 +6,7 @@ ghost use Rattle.ic_term.specs.Configuration.{Configuration};
 ghost use Rattle.ic_settle.specs.Settling.{settled};
 ghost use Rattle.ic_settle.specs.NameSteps.{NameStep, NameSteps};
 
-use crate::pass::{Passed, pass};
-use crate::rebuilding::{Span, put_equations, put_terms};
+use crate::workspace::Workspace;
 use ic_flat::Flat;
 use std::alloc::{AllocError, Global};
 
@@ -19,16 +18,6 @@ pub fn settle(alloc: Global, flat: &Flat) -> Result<Flat, AllocError>
     ensures over { IfOk result (λ after. (symbols : List Symbol)
         → IsTrue (is_over symbols flat.now) → IsTrue (is_over symbols after)) }
 {
-    let words = flat.words();
-    let terms = flat.interface_len();
-    let Passed { kept, mut bound } = pass(alloc, flat)?;
-    let mut out = Vec::with_capacity(alloc, words.len())?;
-    let mut stack = Vec::new(alloc);
-    let interface = Span {
-        place: 0,
-        count: terms,
-    };
-    put_terms(words, interface, &mut bound, &mut stack, &mut out)?;
-    put_equations(words, &kept, &mut bound, &mut stack, &mut out)?;
-    Ok(Flat::from_parts(out, terms, kept.len(), flat.next()))
+    let mut workspace = Workspace::new(alloc);
+    workspace.settle(alloc, flat)
 }

@@ -1,4 +1,4 @@
-use Rattle.std.proofs.Common.{◌≡◌, ℕ, ◌<◌, ◌∙◌, List, Some, length, get_or, map, sym, ap, arith, subst as transport}
+use Rattle.std.proofs.Common.{◌≡◌, ℕ, ◌<◌, ◌∙◌, List, [], Some, length, get_or, map, sym, ap, arith, subst as transport}
 use Rattle.std.specs.Prelude.{nat_eq}
 use Rattle.std.specs.List.{AllByRecursion}
 use Rattle.indexmap.specs.IndexMap.{get}
@@ -30,11 +30,14 @@ loop-place-init c =
     let sound = c.words-words.ensures.sound in
     let place = c.equations_place-place.result in
     let start = c.equations_place-place.ensures in
-    let links = c.in_ok-containers.containers.links.items in
-    let look = get nat_eq c.in_ok-containers.containers.places in
-    let made = c.in_ok-containers.ensures in
+    let links = c.refill.new.self.links.items in
+    let look = get nat_eq c.refill.new.self.places in
+    let made = c.in_ok-refill.ensures in
     let own : (e : ℕ) → e < length links → get_or links e 0 ≡ e = λ e within. made.own e (omega (arith, made.length)) in
-    let kept = c.in_ok-kept.kept.items in
+    let kept = c.reserve-2.new.self.items in
+    let none : kept ≡ [] = c.in_ok-reserve-2.ensures.items ∙ c.clear-2.ensures.items in
+    let es = c.reserve.new.self.entries in
+    let nothing : es ≡ [] = c.in_ok-reserve.ensures.entries ∙ c.clear.ensures.empty in
     record {
       at = within_start flat ws place is start.within;
       twos = twos_start flat ws place is start.equations;
@@ -44,10 +47,10 @@ loop-place-init c =
       known = λ y p found.
           let both = placed-within y flat.equations flat.interface p (sound.twice y) (sym (made.places y) ∙ found) in
           (omega (arith, both.0, made.length), omega (arith, both.1, made.length));
-      within = within-none ws c.in_ok-bound.bound.entries c.in_ok-bound.ensures.empty;
-      kept = transport (λ (l : List Kept). AllByRecursion (IsKeptWithin ws) l) (sym c.in_ok-kept.ensures.items) tt;
+      within = within-none ws es nothing;
+      kept = transport (λ (l : List Kept). AllByRecursion (IsKeptWithin ws) l) (sym none) tt;
       passing =
-          passing_at-start flat ws kept c.in_ok-bound.bound.entries links look (pairs_at ws place) c.in_ok-kept.ensures.items c.in_ok-bound.ensures.empty
+          passing_at-start flat ws kept es links look (pairs_at ws place) none nothing
           (pairs_start flat ws place is start.equations) (passing-start flat links look sound own made.places);
     }
 

@@ -11,7 +11,7 @@ use Rattle.ic_flat.specs.Flat.{configuration_words}
 use Rattle.ic_flat.specs.lemmas.FlatLaws.{nodes-words, counted-configuration_words}
 use Rattle.ic_flat_round.proofs.WordPlaces.{whole_words}
 use Rattle.ic_flat_round.proofs.Interacting.{flat_parts, answered, fired_where_fit}
-use Rattle.ic_flat_round.proofs.fired.fire.Goals as goal
+use Rattle.ic_flat_round.proofs.fired.fire_onto.Goals as goal
 
 pub put_configuration-next-requires-clause-room : goal.put_configuration-next-requires-clause-room
 put_configuration-next-requires-clause-room c =
@@ -24,7 +24,7 @@ put_configuration-next-requires-clause-room c =
     let last = c.if-size-gt-MAX_NEXT.false in
     let small : configuration_nodes d ≤ MAX_NODES = omega (arith, nodes, few) in
     let low : d.next ≤ MAX_NEXT = omega (arith, names, last) in
-    omega (arith, nodes, few, nodes-words d, c.in_ok-words.ensures.len, c.in_ok-words.ensures.exact)
+    omega (arith, nodes, few, nodes-words d, c.in_ok-reserve.ensures.len, c.clear.ensures.len, c.in_ok-reserve.ensures.ok)
 
 pub equations_in-equations-requires : goal.equations_in-equations-requires
 equations_in-equations-requires c =
@@ -32,7 +32,7 @@ equations_in-equations-requires c =
     let flat = c.args.flat.now in
     let d = fired rs.rules flat in
     let items : c.put_configuration-next.new.out.items ≡ configuration_words d =
-    c.put_configuration-next.ensures.put.items ∙ ap (λ l. l ++ configuration_words d) c.in_ok-words.ensures.items in
+    c.put_configuration-next.ensures.put.items ∙ ap (λ l. l ++ configuration_words d) (c.in_ok-reserve.ensures.items ∙ c.clear.ensures.items) in
     whole_words d c.deref.result.now (c.deref.ensures.value ∙ items)
 
 pub from_parts-requires : goal.from_parts-requires
@@ -47,7 +47,7 @@ from_parts-requires c =
     let small : configuration_nodes d ≤ MAX_NODES = omega (arith, nodes, few) in
     let low : d.next ≤ MAX_NEXT = omega (arith, names, last) in
     let items : c.put_configuration-next.new.out.items ≡ configuration_words d =
-    c.put_configuration-next.ensures.put.items ∙ ap (λ l. l ++ configuration_words d) c.in_ok-words.ensures.items in
+    c.put_configuration-next.ensures.put.items ∙ ap (λ l. l ++ configuration_words d) (c.in_ok-reserve.ensures.items ∙ c.clear.ensures.items) in
     let is = fired_is rs.rules flat (sound_over rs flat c.rules.ensures.sound c.requires) c.interface_len-terms.ensures.sound small low in
     let counted : length (forest c.deref.result.now) ≡ c.interface_len-terms.result + 2 * length d.equations =
     omega (arith, ap (λ l. length (forest l)) (c.deref.ensures.value ∙ items), counted-configuration_words d, c.interface_len-terms.ensures.terms) in
@@ -67,7 +67,7 @@ returns-clause-fired c =
     let small : configuration_nodes d ≤ MAX_NODES = omega (arith, nodes, few) in
     let low : d.next ≤ MAX_NEXT = omega (arith, names, last) in
     let items : c.put_configuration-next.new.out.items ≡ configuration_words d =
-    c.put_configuration-next.ensures.put.items ∙ ap (λ l. l ++ configuration_words d) c.in_ok-words.ensures.items in
+    c.put_configuration-next.ensures.put.items ∙ ap (λ l. l ++ configuration_words d) (c.in_ok-reserve.ensures.items ∙ c.clear.ensures.items) in
     let is = fired_is rs.rules flat (sound_over rs flat c.rules.ensures.sound c.requires) c.interface_len-terms.ensures.sound small low in
     let counted : length (forest c.deref.result.now) ≡ c.interface_len-terms.result + 2 * length d.equations =
     omega (arith, ap (λ l. length (forest l)) (c.deref.ensures.value ∙ items), counted-configuration_words d, c.interface_len-terms.ensures.terms) in

@@ -5,9 +5,9 @@ use Rattle.std.specs.Map.{lookup}
 use Rattle.ic_term.specs.Tree.{names}
 use Rattle.ic_settle.specs.lemmas.Containers.{noted_in, noted_equations}
 use Rattle.ic_settle.specs.lemmas.Spots.{noted_behind}
-use Rattle.ic_flat_round.proofs.WordPlaces.{whole_words, pairs_start, twos_start, within_start}
+use Rattle.ic_flat_round.proofs.WordPlaces.{whole_words, equations_few, pairs_start, twos_start, within_start}
 use Rattle.ic_flat_round.proofs.PassingWords.{names-interface}
-use Rattle.ic_flat_round.proofs.containers.Containers.of.Goals as goal
+use Rattle.ic_flat_round.proofs.containers.Containers.refill.Goals as goal
 
 pub note_equations-requires-clause-whole : goal.note_equations-requires-clause-whole
 note_equations-requires-clause-whole c = whole_words c.args.flat.now c.words-words.result.now c.words-words.ensures.words
@@ -17,6 +17,11 @@ note_equations-requires-clause-within c = within_start c.args.flat.now c.words-w
 
 pub note_equations-requires-clause-twos : goal.note_equations-requires-clause-twos
 note_equations-requires-clause-twos c = twos_start c.args.flat.now c.words-words.result.now c.equations_place-from.result c.words-words.ensures.words c.equations_place-from.ensures.equations
+
+pub overflow_add-count : goal.overflow_add-count
+overflow_add-count c =
+    let few = equations_few c.args.flat.now c.equations_len-count.ensures.sound in
+    omega (arith, few, c.equations_len-count.ensures.equations)
 
 pub returns-clause-places : goal.returns-clause-places
 returns-clause-places c = λ y.
@@ -30,6 +35,6 @@ returns-clause-places c = λ y.
     c.in_ok-note_words.ensures y
     ∙ ap (λ l. noted_in y n l (lookup (nat_eq y) c.note_equations.new.places.entries)) names_is
     ∙ ap (noted_in y n (flat_map names flat.interface))
-    (c.in_ok-note_equations.ensures y ∙ ap (λ l. noted_equations y 0 l (lookup (nat_eq y) c.in_ok-places.places.entries)) pairs
-    ∙ ap (λ l. noted_equations y 0 flat.equations (lookup (nat_eq y) l)) c.in_ok-places.ensures.empty)
+    (c.in_ok-note_equations.ensures y ∙ ap (λ l. noted_equations y 0 l (lookup (nat_eq y) c.reserve.new.self.entries)) pairs
+    ∙ ap (λ l. noted_equations y 0 flat.equations (lookup (nat_eq y) l)) (c.in_ok-reserve.ensures.entries ∙ c.clear.ensures.empty))
     ∙ ap (λ k. noted_in y k (flat_map names flat.interface) (noted_equations y 0 flat.equations None)) count ∙ noted_behind y 0 flat.equations flat.interface None

@@ -12,8 +12,8 @@ use Rattle.ic_flat_round.specs.inner.Waits.{waiting, kept_at}
 use Rattle.ic_flat_round.specs.inner.Rebuilding.{PutsOn, span_terms, state}
 use Rattle.ic_flat_round.proofs.WordPlaces.{whole_words, interface_there}
 use Rattle.ic_flat_round.proofs.SettledWords.{settled_parts, interface_terms}
-use Rattle.ic_flat_round.proofs.settling.settle.Goals as goal
-use Rattle.ic_flat_round.proofs.settling.settle.Goals.{After-next}
+use Rattle.ic_flat_round.proofs.workspace.Workspace.settle.Goals as goal
+use Rattle.ic_flat_round.proofs.workspace.Workspace.settle.Goals.{After-next}
 
 pub put_terms-requires-clause-whole : goal.put_terms-requires-clause-whole
 put_terms-requires-clause-whole c = whole_words c.args.flat.now c.words-words.result.now c.words-words.ensures.words
@@ -29,28 +29,27 @@ put_equations-requires-clause-whole c = whole_words c.args.flat.now c.words-word
 parts : (c : After-next)
     → IsFlat c.put_equations.new.out.items c.interface_len-terms.result c.len.result c.next.result
     × (configuration_of c.put_equations.new.out.items c.interface_len-terms.result c.next.result
-    ≡ put_in c.in_ok-kept.ensures.passed.bs c.args.flat.now (map (kept_at (configuration_words c.args.flat.now)) c.in_ok-kept.field-0.kept.items))
+    ≡ put_in c.in_ok-pass.ensures.passed.bs c.args.flat.now (map (kept_at (configuration_words c.args.flat.now)) c.pass.new.kept.items))
 parts c =
     let flat = c.args.flat.now in
     let ws = configuration_words flat in
     let is = c.words-words.ensures.words in
-    let f = c.in_ok-kept.field-0 in
     let terms = c.interface_len-terms.result in
-    let es = f.bound.entries in
+    let es = c.pass.new.bound.entries in
     let es' = c.put_terms.new.bound.entries in
     let es'' = c.put_equations.new.bound.entries in
-    let start = c.in_ok-out.out.items in
+    let start = c.reserve.new.self.items in
     let out = c.put_terms.new.out.items in
     let out' = c.put_equations.new.out.items in
     let interface : Span = record { place = 0; count = terms } in
     let first : PutsOn (state (waiting ws es) start (span_terms ws interface)) (state (waiting ws es') out []) =
     transport (λ (l : List Word). PutsOn (state (waiting l es) start (span_terms l interface)) (state (waiting l es') out [])) is c.in_ok-put_terms.ensures.puts in
-    let second : PutsOn (state (waiting ws es') out (sides (map (kept_at ws) f.kept.items))) (state (waiting ws es'') out' []) =
+    let second : PutsOn (state (waiting ws es') out (sides (map (kept_at ws) c.pass.new.kept.items))) (state (waiting ws es'') out' []) =
     transport (λ (k : List Kept). PutsOn (state (waiting ws es') out (sides (map (kept_at ws) k))) (state (waiting ws es'') out' [])) c.deref.ensures.value
     (transport (λ (l : List Word). PutsOn (state (waiting l es') out (sides (map (kept_at l) c.deref.result.now))) (state (waiting l es'') out' [])) is c.in_ok-put_equations.ensures) in
-    settled_parts flat (map (kept_at ws) f.kept.items) (waiting ws es) (waiting ws es') (waiting ws es'') (span_terms ws interface) start out out' terms c.len.result c.next.result
-    c.in_ok-kept.ensures.passed (interface_terms flat ws terms refl c.interface_len-terms.ensures.terms) c.in_ok-out.ensures.items first second c.interface_len-terms.ensures.terms
-    (c.len.ensures ∙ f.kept.ok.0 ∙ sym (length-map f.kept.items (kept_at ws))) c.next.ensures.next
+    settled_parts flat (map (kept_at ws) c.pass.new.kept.items) (waiting ws es) (waiting ws es') (waiting ws es'') (span_terms ws interface) start out out' terms c.len.result c.next.result
+    c.in_ok-pass.ensures.passed (interface_terms flat ws terms refl c.interface_len-terms.ensures.terms) (c.in_ok-reserve.ensures.items ∙ c.clear.ensures.items) first second c.interface_len-terms.ensures.terms
+    (c.len.ensures ∙ c.pass.new.kept.ok.0 ∙ sym (length-map c.pass.new.kept.items (kept_at ws))) c.next.ensures.next
 
 pub from_parts-requires : goal.from_parts-requires
 from_parts-requires c = (parts c).0
@@ -58,8 +57,8 @@ from_parts-requires c = (parts c).0
 pub returns : goal.returns
 returns c =
     let flat = c.args.flat.now in
-    let passed = c.in_ok-kept.ensures.passed in
-    let result : c.from_parts.result ≡ put_in passed.bs flat (map (kept_at (configuration_words flat)) c.in_ok-kept.field-0.kept.items) =
+    let passed = c.in_ok-pass.ensures.passed in
+    let result : c.from_parts.result ≡ put_in passed.bs flat (map (kept_at (configuration_words flat)) c.pass.new.kept.items) =
     c.from_parts.ensures ∙ (parts (goal.at.returns c).After-next).1 in
     let R : Configuration → Type 0 = λ d. NameSteps flat d in
     let N : Configuration → Type 0 = λ d. (e : Configuration) → ¬ NameStep d e in

@@ -1,5 +1,5 @@
 use Rattle.std.proofs.Common.{◌≡◌, ℕ, ◌<◌, get_or, length}
-use Rattle.ic_flat_round.proofs.containers.unlinked.Given as goal
+use Rattle.ic_flat_round.proofs.containers.unlink.Given as goal
 
 -- each container so far is linked to itself
 abbrev pub invariant-loop-place : goal.invariant-loop-place

@@ -1,0 +1,106 @@
+//! The lists that rounds are made in.
+
+ghost use Rattle.std.specs.Prelude.{◌≡◌, ℕ, ◌+◌, List, IfOk, OnOk, OnErr, IsTrue};
+ghost use Rattle.ic_term.specs.Symbol.{Symbol, is_over};
+ghost use Rattle.ic_term.specs.Configuration.{Configuration};
+ghost use Rattle.ic_settle.specs.Settling.{settled};
+ghost use Rattle.ic_settle.specs.NameSteps.{NameStep, NameSteps};
+ghost use Rattle.ic_round.specs.Steps.{Steps};
+ghost use Rattle.ic_round.specs.Rounds.{round, iterate, unless_unfit};
+ghost use Rattle.ic_round.specs.RoundAnswers.{Answers};
+ghost use Rattle.ic_flat_round.specs.InPlace.{left_by};
+
+use crate::bound::Bound;
+use crate::containers::Containers;
+use crate::fired::fire_onto;
+use crate::flat_rules::FlatRules;
+use crate::pass::{Kept, pass};
+use crate::rebuilding::{Span, put_equations, put_terms};
+use ic_flat::{Flat, Word};
+use ic_round::RoundFault;
+use indexmap::IndexMap;
+use std::alloc::{AllocError, Global};
+use std::mem;
+
+/// Lists that are kept from one round to the next, so that rounds take no memory once they are long enough.
+#[derive(Drop)]
+pub struct Workspace {
+    fired: Vec<Word>,
+    settled: Vec<Word>,
+    containers: Containers,
+    bound: Bound,
+    kept: Vec<Kept>,
+    stack: Vec<Span>,
+}
+
+impl Workspace {
+    /// Takes no memory.
+    pub fn new(alloc: Global) -> Workspace {
+        Workspace {
+            fired: Vec::new(alloc),
+            settled: Vec::new(alloc),
+            containers: Containers::new(alloc),
+            bound: IndexMap::new(alloc),
+            kept: Vec::new(alloc),
+            stack: Vec::new(alloc),
+        }
+    }
+
+    /// The configuration, settled. Takes time nearly in proportion to its nodes, and memory only where a list is too short.
+    pub fn settle(&mut self, alloc: Global, flat: &Flat) -> Result<Flat, AllocError>
+        ensures settled { IfOk result (λ after. after ≡ settled flat.now) }
+        ensures reached { IfOk result (λ after. NameSteps flat.now after) }
+        ensures ended { IfOk result (λ after. (next : Configuration) → ¬ NameStep after next) }
+        ensures over { IfOk result (λ after. (symbols : List Symbol)
+            → IsTrue (is_over symbols flat.now) → IsTrue (is_over symbols after)) }
+    {
+        let words = flat.words();
+        let terms = flat.interface_len();
+        pass(flat, &mut self.containers, &mut self.bound, &mut self.kept)?;
+        let mut out = mem::replace(&mut self.settled, Vec::new(alloc));
+        out.clear();
+        out.reserve(words.len())?;
+        self.stack.clear();
+        let interface = Span {
+            place: 0,
+            count: terms,
+        };
+        put_terms(words, interface, &mut self.bound, &mut self.stack, &mut out)?;
+        put_equations(
+            words,
+            &self.kept,
+            &mut self.bound,
+            &mut self.stack,
+            &mut out,
+        )?;
+        Ok(Flat::from_parts(out, terms, self.kept.len(), flat.next()))
+    }
+
+    /// Makes a round of a configuration, in its place. Where it is refused, the configuration stays.
+    pub fn round(
+        &mut self,
+        alloc: Global,
+        rules: &FlatRules,
+        flat: &mut Flat,
+    ) -> Result<(), RoundFault>
+        requires { IsTrue (is_over rules.now.symbols flat.old) }
+        ensures round { Answers (left_by result flat.new)
+            (unless_unfit rules.now.rules flat.old (round rules.now.rules flat.old)) }
+        ensures reached { OnOk result (Steps rules.now.rules flat.old flat.new) }
+        ensures over { OnOk result (IsTrue (is_over rules.now.symbols flat.new)) }
+        ensures counted { OnOk result ((start : Configuration) (n : ℕ)
+            → flat.old ≡ iterate rules.now.rules n start
+            → flat.new ≡ iterate rules.now.rules (n + 1) start) }
+        ensures same { OnErr result (flat.new ≡ flat.old) }
+    {
+        let words = mem::replace(&mut self.fired, Vec::new(alloc));
+        let fired = fire_onto(rules, flat, words)?;
+        let after = self.settle(alloc, &fired)?;
+        let before = mem::replace(flat, after);
+        let (fired, _, _, _) = fired.into_parts();
+        let (settled, _, _, _) = before.into_parts();
+        self.fired = fired;
+        self.settled = settled;
+        Ok(())
+    }
+}
