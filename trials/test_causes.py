@@ -10,7 +10,7 @@ from known import TWO
 from program import PROGRAM, Server, Trial, grows_to, run
 from shim import shimmed, was_refused
 
-NO_DISK = "the file is no disk; `icserve create --disk F` makes the file F one"
+NO_DISK = "the file is no disk; `icserve create --disk F` makes a new file F one"
 NOT_AS_LEFT = "something else has changed the file, or it was copied in part"
 
 
@@ -133,7 +133,7 @@ class Causes(Trial):
 
     def test_nothing_is_told_behind_other_lines(self):
         path = self.disk()
-        for words, given in ((["settle"], "<|"), (["serve", "--disk", path], "x" * 300_000), (["attend", "--disk", path, "no"], "")):
+        for words, given in ((["settle"], "<r|r=r>"), (["serve", "--disk", path], "x" * 300_000), (["attend", "--disk", path, "no"], "")):
             ran = run(*words, given=given)
             self.equals(ran.command, "lines on standard error", (1, b""), (ran.err.count(b"\n"), ran.behind))
         with subprocess.Popen([PROGRAM, "serve"], stderr=subprocess.PIPE) as started:

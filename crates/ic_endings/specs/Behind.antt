@@ -17,7 +17,7 @@ use Rattle.ic_endings.specs.declared.failure.Failure.TheVariants.{Words, Stream,
 
 -- of a file that is no disk
 abbrev pub no_disk : List ℕ
-no_disk = codes "the file is no disk; `icserve create --disk F` makes the file F one"
+no_disk = codes "the file is no disk; `icserve create --disk F` makes a new file F one"
 
 -- of a file that no server has left so
 abbrev pub not_as_left : List ℕ

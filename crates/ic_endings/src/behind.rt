@@ -13,7 +13,7 @@ use ic_slots::{CreateFault, OpenCause};
 use std::alloc::{AllocError, Global};
 
 /// What is said of a file that is no disk.
-const NO_DISK: &[u8] = b"the file is no disk; `icserve create --disk F` makes the file F one";
+const NO_DISK: &[u8] = b"the file is no disk; `icserve create --disk F` makes a new file F one";
 
 /// What is said of a file that no server has left so.
 const NOT_AS_LEFT: &[u8] = b"something else has changed the file, or it was copied in part";

@@ -147,7 +147,7 @@ pub fn lines_behind_are(text: &String)
         → lines_behind (Attend (scripts.Book book.Device)) path cause ≡ cause_line path cause }
     ensures no_disk { (path : List ℕ) (cause : Option Cause)
         → lines_behind (Open opening.NoSlot) path cause ≡ shown_path path ++ codes ": "
-        ++ codes "the file is no disk; `icserve create --disk F` makes the file F one" ++ 10 ∷ [] }
+        ++ codes "the file is no disk; `icserve create --disk F` makes a new file F one" ++ 10 ∷ [] }
     ensures damaged { (path : List ℕ) (cause : Option Cause)
         → lines_behind (Open opening.Damaged) path cause ≡ shown_path path ++ codes ": "
         ++ codes "something else has changed the file, or it was copied in part" ++ 10 ∷ [] }
