@@ -33,7 +33,7 @@ PATIENCE = float(os.environ.get("PATIENCE") or 120)
 
 class Ran(NamedTuple):
     """A run of the program that has ended. A signal that ended it is a negative status, as of `subprocess`. What stands on
-    standard error behind the line of a disk stands by itself."""
+    standard error behind the line of a disk or of a text stands by itself."""
 
     command: str
     status: int
@@ -47,9 +47,12 @@ OF_DISKS = [f"icserve: {it}\n".encode() for it in ("device", "broken", "no slot"
 
 
 def ran_with(command, status, out, err):
-    """A run, what it wrote on standard error parted: a line that tells of the disk's file stands by itself."""
+    """A run, what it wrote on standard error parted: a line that tells of the disk's file stands by itself, and so do the four
+    lines of a place in a text."""
     line, feed, behind = err.partition(b"\n")
-    if line + feed in OF_DISKS and behind.count(b"\n") == 1:
+    of_disk = line + feed in OF_DISKS and behind.count(b"\n") == 1
+    of_text = line.startswith(b"icserve: bad ") and behind.startswith(b"line ") and behind.count(b"\n") == 4
+    if of_disk or of_text:
         return Ran(command, status, out, line + feed, behind)
     return Ran(command, status, out, err)
 

@@ -63,10 +63,12 @@ class Faults(Stops):
     def test_each_growth_of_settle_is_refused_in_turn(self):
         self.are(20, self.stream_by("settle", "<r|r=S(s),s=Z>", b"<S(Z)|>\n"))
         self.stream_by("settle", "<x|x=A(x)>", b"", 1, b"icserve: bad name x\n")
+        self.stream_by("settle", "<x|x==A(x)>", b"", 1, b"icserve: bad syntax\n")
 
     def test_each_growth_of_once_is_refused_in_turn(self):
         self.are(40, self.stream_by("once", f"{ADD} <r|Add(r,S(Z))=S(Z)>", b"<S(s)|Z=Add(s,S(Z))>\n"))
         self.stream_by("once", "{A(B,x)><A(x,C)} <|>", b"", 1, b"icserve: bad lopsided 1\n")
+        self.stream_by("once", "{A(B,x)><A(x,C)} <|", b"", 1, b"icserve: bad syntax\n")
 
     def test_each_growth_over_words_is_refused_in_turn(self):
         for words in (["--help"], ["--version"], ["settles"], ["serve"], ["serve", "--disk", "F", "--workers", "65"]):

@@ -10,9 +10,10 @@ use ic_desk::Book;
 use ic_disk::{DiskFault, FileDisk};
 use ic_endings::Failure;
 use ic_jobs::Command;
+use ic_places::{once_telling, settle_telling};
 use ic_scripts::{ScriptsFault, add_script, attend_scripts};
 use ic_serving::{ServeFault, serve_watched};
-use ic_streams::{StreamFault, once_stream, settle_stream};
+use ic_streams::StreamFault;
 use ic_words::{Task, WordsFault, read_words};
 use std::env;
 use std::fs::{self, File};
@@ -30,25 +31,27 @@ type NotedDisk<'a> = FileDisk<NotedFile<'a>>;
 fn main(rt: HostRuntime) -> ExitCode {
     let notes = Notes::new();
     let mut path = String::new(rt.alloc());
-    match begin(&rt, &rt, &mut path, &notes) {
+    let mut told = Vec::new(rt.alloc());
+    match begin(&rt, &rt, &mut path, &notes, &mut told) {
         Ok(()) => ExitCode::SUCCESS,
-        Err(failure) => refuse(&rt, &failure, path.as_str(), &notes),
+        Err(failure) => refuse(&rt, &failure, path.as_str(), &notes, &told),
     }
 }
 
 /// Does what the words after the program's name ask for. It hands out the path of the disk's file,
-/// and notes the calls to it that fail.
+/// notes the calls to it that fail, and appends to `told` where a text is refused.
 fn begin<T: Threads + Wait + Sync>(
     rt: &HostRuntime,
     threads: &T,
     path: &mut String,
     notes: &Notes,
+    told: &mut Vec<u8>,
 ) -> Result<(), Failure> {
     let task = task(rt).map_err(Failure::Words)?;
     if path.push_str(path_of(&task)).is_err() {
         return Err(Failure::Words(WordsFault::Memory));
     }
-    run(rt, threads, task, notes)
+    run(rt, threads, task, notes, told)
 }
 
 /// The path of the disk's file that a task names, or no path.
@@ -62,19 +65,23 @@ fn path_of(task: &Task) -> &str {
 }
 
 /// Does a task on standard input and output, but for `create`, and but for the input of `attend`.
+/// The lines that tell the place of a fault in a text are appended to `told`.
 fn run<T: Threads + Wait + Sync>(
     rt: &HostRuntime,
     threads: &T,
     task: Task,
     notes: &Notes,
+    told: &mut Vec<u8>,
 ) -> Result<(), Failure> {
     let mut input = rt.reader();
     let mut output = io::writer(rt);
     match task {
         Task::Settle => {
-            settle_stream(rt.alloc(), &mut input, &mut output).map_err(Failure::Stream)
+            settle_telling(rt.alloc(), &mut input, &mut output, told).map_err(Failure::Stream)
         }
-        Task::Once => once_stream(rt.alloc(), &mut input, &mut output).map_err(Failure::Stream),
+        Task::Once => {
+            once_telling(rt.alloc(), &mut input, &mut output, told).map_err(Failure::Stream)
+        }
         Task::Create { disk } => create(rt, disk.as_str(), notes),
         Task::Serve {
             disk,
@@ -257,14 +264,16 @@ fn show<W: Write>(output: &mut W, text: &str) -> Result<(), StreamFault> {
 }
 
 /// Writes the line of a failure to standard error, or that there is no memory for it, and behind it
-/// what is to be told of the disk's file of this path. The exit status says which failure it was.
-fn refuse(rt: &HostRuntime, failure: &Failure, path: &str, notes: &Notes) -> ExitCode {
+/// what is to be told of the disk's file of this path, and what is told of a text. The exit status
+/// says which failure it was.
+fn refuse(rt: &HostRuntime, failure: &Failure, path: &str, notes: &Notes, told: &[u8]) -> ExitCode {
     match failure.line(rt.alloc()) {
         Ok(line) => {
             let _ = rt.stderr().write_all(&line);
             if let Ok(lines) = failure.lines_behind(rt.alloc(), path.as_bytes(), notes.last()) {
                 let _ = rt.stderr().write_all(&lines);
             }
+            let _ = rt.stderr().write_all(told);
             ExitCode::from(failure.status())
         }
         Err(_) => {

@@ -1,0 +1,79 @@
+"""What standard error tells behind the line of a refused text: the line and the column, the line of the text with a mark under
+the place, and what is amiss there. The model of `places.py` says what is to be told. The first lines are tried in
+test_statuses.py."""
+
+import draws
+import model
+import places
+from program import Trial, run
+from worked_rows import expanded, rows, short_texts
+
+# Which word of the program reads which kind of text, and the kinds of rows with such texts.
+WORDS = {"settle": "configuration", "once": "system"}
+CONFIGS = ("config", "settle", "config_place", "settle_told")
+SYSTEMS = ("system", "once", "system_place", "once_told")
+
+
+class Places(Trial):
+    seconds = 6
+
+    def tells(self, word, text):
+        """Fails unless a text that this word refuses has the place of the model told, and another nothing."""
+        ran = run(word, given=text)
+        self.agrees(ran.command, "what stands behind the first line", places.told(text, WORDS[word]), ran.behind)
+        if ran.behind:
+            line = b"icserve: bad limit\n" if len(text) > places.MOST_BYTES else b"icserve: bad syntax\n"
+            self.equals(ran.command, "status and first line", (1, line, b""), (ran.status, ran.err, ran.out))
+        else:
+            self.equals(ran.command, "a fault of syntax", False, ran.err == b"icserve: bad syntax\n")
+
+    def test_each_row(self):
+        for word, kinds in (("settle", CONFIGS), ("once", SYSTEMS)):
+            for _, _, text, _ in rows("ic_rows", *kinds):
+                self.tells(word, expanded(text))
+
+    def test_fronts_of_texts(self):
+        drawn = self.draws()
+        for word, kinds in (("settle", CONFIGS), ("once", SYSTEMS)):
+            fronts = dict.fromkeys(text[:at] for text in short_texts("ic_rows", *kinds) for at in range(len(text) + 1))
+            for text in drawn.sample(list(fronts), min(len(fronts), 150)):
+                self.tells(word, text)
+
+    def test_drawn_texts_that_are_spoilt(self):
+        drawn = self.draws()
+        for _ in range(150):
+            rule_set, config = draws.system(drawn, drawn.choice([1, 2, 5]), drawn.choice([2, 3, 6]))
+            for word, text in (("once", draws.system_text(rule_set, config)), ("settle", model.printed(rule_set, config))):
+                text = draws.spaced(drawn, text) if drawn.random() < 0.5 else text
+                text = text.encode() if isinstance(text, str) else text
+                for _ in range(drawn.choice([1, 1, 2])):
+                    text = draws.spoilt(drawn, text)
+                self.tells(word, text)
+
+    def test_a_text_of_the_other_kind(self):
+        self.tells("settle", b"{} <|>")
+        self.tells("once", b"<|>")
+        for word in WORDS:
+            self.tells(word, b"submit two {} <|>\n")
+            self.tells(word, b"# a comment\n<|>")
+
+    def test_texts_of_the_greatest_length(self):
+        for word in WORDS:
+            for text in (b"<", b" ", b"\xc3\xa9", b"\t\xff", b"x\n", b"\r\n", b"\n"):
+                long = text * places.MOST_BYTES
+                for most in (places.MOST_BYTES, places.MOST_BYTES + 1, 2 * places.MOST_BYTES):
+                    self.tells(word, long[:most])
+
+    def test_a_text_of_many_lines(self):
+        for end in (b"\n", b"\r\n", b"\r"):
+            text = b"<|" + end * 100_000 + b"\tA=B, " + b"Add(A,B)" * 20 + b">" + end
+            ran = run("settle", given=text)
+            line, column = (1, 100_017) if end == b"\r" else (100_001, 15)
+            self.agrees(ran.command, "the place", f"line {line}, column {column}", ran.behind.split(b"\n")[0])
+            self.tells("settle", text)
+
+    def test_nothing_is_told_of_a_refused_round_and_of_other_faults(self):
+        deep = "C(" * 8187 + "D" + ")" * 8187
+        for text in ("{A(x)><B} <|>", "{A><B;B><A} <|>", f"{{A><B(C(C(D)))}} <|A=B(P),{deep}=Q>"):
+            ran = run("once", given=text)
+            self.equals(ran.command, "status and lines", (1, 1, b""), (ran.status, ran.err.count(b"\n"), ran.behind))
