@@ -1,10 +1,12 @@
 -- Rounds that are made one after the other, and what the answer of a round says of them.
 use Rattle.std.proofs.Common.{◌≡◌, ◌≢◌, ◌&&◌, ℕ, ◌+◌, ◌<◌, List, Bool, true, false, Result, Ok, Err, cond, refl, sym, ap, ◌∙◌, add-one, arith, subst}
-use Rattle.std.specs.Prelude.{IfErr}
+use Rattle.std.specs.Prelude.{◌↔◌, IfErr, IsTrue}
 use Rattle.std.specs.Result.{IsErrAnd}
+use Rattle.std.proofs.lemmas.Bool.{true≢false}
 use borrow.Author.Count.{below_more}
 use Rattle.ic_term.specs.Configuration.{Configuration}
 use Rattle.ic_rules.specs.Rule.{Rule}
+use Rattle.ic_rules.specs.RuleSet.{Rules}
 use Rattle.ic_round.specs.Rounds.{IsQuiet, fits, is_small, has_names, iterate, round, unless_unfit}
 use Rattle.ic_round.specs.RoundAnswers.{Answers}
 use Rattle.ic_round.specs.declared.round_fault.RoundFault.{RoundFault}
@@ -19,6 +21,12 @@ one_more_made rs c n made going fit =
     let Going : ℕ → Type 0 = λ k. ¬ IsQuiet rs (iterate rs k c) in
     let Fitting : ℕ → Type 0 = λ k. fits rs (iterate rs k c) ≡ true in
     record { going = below_more Going n made.going going; fitting = below_more Fitting n made.fitting fit }
+
+-- a step is possible where the test for none fails
+pub goes_on : (q rs : Rules) (c : Configuration) (test : Bool) → q ≡ rs → (IsTrue test ↔ IsQuiet q.rules c) → test ≡ false → ¬ IsQuiet rs.rules c
+goes_on q rs c test same says fails quiet =
+    let Silent : Rules → Type 0 = λ r. IsQuiet r.rules c in
+    true≢false (sym (says.1 (subst Silent (sym same) quiet)) ∙ fails)
 
 -- ---- what a round answers
 

@@ -5,10 +5,10 @@ ghost use Rattle.ic_term.specs.Symbol.{is_over};
 ghost use Rattle.ic_round.specs.Rounds.{round, unless_unfit};
 ghost use Rattle.ic_round.specs.RoundAnswers.{Answers};
 
+use ic_flat::Flat;
+use ic_flat_round::{FlatRules, Workspace};
 use ic_pool::{OpenGate, round_by_workers};
-use ic_round::{RoundFault, round};
-use ic_rules::RuleSet;
-use ic_term::Config;
+use ic_round::RoundFault;
 use std::alloc::Global;
 use std::sync::Wait;
 use std::thread::Threads;
@@ -18,8 +18,14 @@ const FEW: usize = 1_000;
 
 /// What makes rounds. Whoever makes them, they are the same rounds, with the same refusals.
 pub trait Maker {
-    /// The configuration after one round under these rules.
-    fn make(&self, alloc: Global, rules: &RuleSet, config: Config) -> Result<Config, RoundFault>
+    /// The configuration after one round under these rules. The workspace has the lists that rounds are made in.
+    fn make(
+        &self,
+        alloc: Global,
+        rules: &FlatRules,
+        workspace: &mut Workspace,
+        config: Flat,
+    ) -> Result<Flat, RoundFault>
         requires { IsTrue (is_over rules.now.symbols config) }
         ensures round { Answers result
             (unless_unfit rules.now.rules config (round rules.now.rules config)) }
@@ -31,8 +37,15 @@ pub trait Maker {
 pub struct OneThread;
 
 impl Maker for OneThread {
-    fn make(&self, alloc: Global, rules: &RuleSet, config: Config) -> Result<Config, RoundFault> {
-        round(alloc, rules, config)
+    fn make(
+        &self,
+        alloc: Global,
+        rules: &FlatRules,
+        workspace: &mut Workspace,
+        mut config: Flat,
+    ) -> Result<Flat, RoundFault> {
+        workspace.round(alloc, rules, &mut config)?;
+        Ok(config)
     }
 }
 
@@ -45,15 +58,27 @@ pub struct Workers<'a, R: Threads + Wait> {
 }
 
 impl<R: Threads + Wait> Maker for Workers<'_, R> {
-    fn make(&self, alloc: Global, rules: &RuleSet, config: Config) -> Result<Config, RoundFault> {
-        if self.count > 1 && config.equations().len() >= FEW {
-            let copy = config.copy(alloc)?;
+    fn make(
+        &self,
+        alloc: Global,
+        rules: &FlatRules,
+        workspace: &mut Workspace,
+        mut config: Flat,
+    ) -> Result<Flat, RoundFault> {
+        if self.count > 1 && config.equations_len() >= FEW {
+            let terms = config.to_config(alloc)?;
             if let Ok(after) = round_by_workers(
-                self.rt, alloc, rules, copy, self.count, &OpenGate,
+                self.rt,
+                alloc,
+                rules.rules(),
+                terms,
+                self.count,
+                &OpenGate,
             ) {
-                return Ok(after);
+                return Ok(Flat::from_config(alloc, &after)?);
             }
         }
-        round(alloc, rules, config)
+        workspace.round(alloc, rules, &mut config)?;
+        Ok(config)
     }
 }

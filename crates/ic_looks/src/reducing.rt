@@ -6,8 +6,9 @@ ghost use Rattle.ic_round.specs.Rounds.{IsQuiet, iterate};
 ghost use Rattle.ic_looks.specs.Reducing.{IsReducedBy, IsRefusedAfter};
 
 use crate::making::Maker;
-use ic_round::{RoundFault, quiet};
-use ic_rules::RuleSet;
+use ic_flat::Flat;
+use ic_flat_round::{FlatRules, Workspace, quiet};
+use ic_round::RoundFault;
 use ic_term::Config;
 use std::alloc::Global;
 
@@ -26,8 +27,8 @@ pub struct Reduced {
 pub fn reduce<M: Maker>(
     alloc: Global,
     maker: &M,
-    rules: &RuleSet,
-    mut config: Config,
+    rules: &FlatRules,
+    config: Config,
     most: u64,
 ) -> Result<Reduced, RoundFault>
     requires { IsTrue (is_over rules.now.symbols config) }
@@ -41,20 +42,38 @@ pub fn reduce<M: Maker>(
     ensures refused { IfErr result (λ fault. fault ≢ RoundFault.Memory
         → (rounds : ℕ) × IsRefusedAfter rules.now.rules config most rounds fault) }
 {
-    for rounds in 0..most {
-        if quiet(rules, &config) {
-            return Ok(Reduced {
-                config,
-                rounds,
-                is_quiet: true,
-            });
-        }
-        config = maker.make(alloc, rules, config)?;
-    }
-    let is_quiet = quiet(rules, &config);
+    let start = Flat::from_config(alloc, &config)?;
+    let (end, rounds) = make_rounds(alloc, maker, rules, start, most)?;
+    let config = end.to_config(alloc)?;
+    let is_quiet = quiet(rules.rules(), &end);
     Ok(Reduced {
         config,
-        rounds: most,
+        rounds,
         is_quiet,
     })
+}
+
+/// The configuration behind rounds that are made until no step is possible, but at most so many, and how many were made.
+fn make_rounds<M: Maker>(
+    alloc: Global,
+    maker: &M,
+    rules: &FlatRules,
+    mut config: Flat,
+    most: u64,
+) -> Result<(Flat, u64), RoundFault>
+    requires { IsTrue (is_over rules.now.symbols config) }
+    ensures reduced { IfOk result (λ made. IsReducedBy rules.now.rules config most made.1) }
+    ensures after { IfOk result (λ made. made.0 ≡ iterate rules.now.rules made.1 config) }
+    ensures over { IfOk result (λ made. IsTrue (is_over rules.now.symbols made.0)) }
+    ensures refused { IfErr result (λ fault. fault ≢ RoundFault.Memory
+        → (rounds : ℕ) × IsRefusedAfter rules.now.rules config most rounds fault) }
+{
+    let mut workspace = Workspace::new(alloc);
+    for rounds in 0..most {
+        if quiet(rules.rules(), &config) {
+            return Ok((config, rounds));
+        }
+        config = maker.make(alloc, rules, &mut workspace, config)?;
+    }
+    Ok((config, most))
 }

@@ -18,6 +18,7 @@ use crate::stuck::stuck_text;
 use crate::sums::Format;
 use crate::table::table;
 use crate::tracing::trace;
+use ic_flat_round::FlatRules;
 use ic_rules::RuleSet;
 use ic_streams::{StreamFault, config_line, read_text, write_line};
 use ic_text::read_system;
@@ -118,9 +119,10 @@ fn reduced_line<M: Maker>(
         (λ fault. (fault ≢ StreamFault.Write) × (fault ≢ StreamFault.Read)) }
 {
     let (rules, config) = read_system(alloc, text)?.into_parts();
+    let rules = FlatRules::new(alloc, rules)?;
     let reduced = reduce(alloc, maker, &rules, config, rounds)?;
-    let line = config_line(alloc, rules.symbols(), &reduced.config)?;
-    let reduction = ending(alloc, &rules, &reduced)?;
+    let line = config_line(alloc, rules.rules().symbols(), &reduced.config)?;
+    let reduction = ending(alloc, rules.rules(), &reduced)?;
     Ok((line, reduction))
 }
 
