@@ -41,13 +41,22 @@ pub fn answer<R: Threads + Wait + Clock + Sync>(
     let Ok(text) = String::from_utf8(expanded(alloc, row.text)?) else {
         return Err(Trouble("no text"));
     };
-    match row.kind {
+    answer_text(rt, alloc, row.kind, &text)
+}
+
+fn answer_text<R: Threads + Wait + Clock + Sync>(
+    rt: &R,
+    alloc: Global,
+    kind: &str,
+    text: &str,
+) -> Result<Vec<u8>, Trouble> {
+    match kind {
         "attended" => {
-            let (wanted, scripts) = wanted_of(&text);
+            let (wanted, scripts) = wanted_of(text);
             attended(rt, alloc, wanted, scripts, &OpenGate)
         }
         "meeting" => {
-            let (count, rest) = number_first(&text);
+            let (count, rest) = number_first(text);
             let (wanted, scripts) = wanted_of(rest);
             let meeting = Meeting::new(rt, count as u64);
             let line = attended(rt, alloc, wanted, scripts, &meeting)?;
@@ -55,25 +64,25 @@ pub fn answer<R: Threads + Wait + Clock + Sync>(
             Ok(line)
         }
         "pair" => {
-            let (wanted, scripts) = wanted_of(&text);
+            let (wanted, scripts) = wanted_of(text);
             let pair = Pair::new(rt);
             let line = attended(rt, alloc, wanted, scripts, &pair)?;
             pair.kept()?;
             Ok(line)
         }
-        "during" => answered_during_round(rt, alloc, &text),
+        "during" => answered_during_round(rt, alloc, text),
         "drawn" => {
-            let (seed, rest) = number_first(&text);
+            let (seed, rest) = number_first(text);
             drawn(rt, alloc, seed as u64, number_first(rest).0)
         }
         "counted" => {
-            let (disk, rest) = text.split_once(' ').unwrap_or((&text, ""));
+            let (disk, rest) = text.split_once(' ').unwrap_or((text, ""));
             let (wanted, scripts) = wanted_of(rest);
             counted(rt, alloc, changed(alloc, disk)?, wanted, scripts)
         }
-        "unopened" => unopened(rt, alloc, &text),
-        "served" => served(rt, alloc, &text),
-        "fused" => fused_of(rt, alloc, &text),
+        "unopened" => unopened(rt, alloc, text),
+        "served" => served(rt, alloc, text),
+        "fused" => fused_of(rt, alloc, text),
         _ => Err(Trouble("no such kind")),
     }
 }

@@ -6,7 +6,7 @@ use crate::scripts::scripts_of;
 use ic_attend::{AttendFault, Attended, ClientRun, RunnerEnd, attend};
 use ic_commands::print_reply;
 use ic_desk::BookFault;
-use ic_disk::MemDisk;
+use ic_disk::{Disk, MemDisk};
 use ic_jobs::{Command, Job, State, Table};
 use ic_notation::{Trouble, decimal, printed};
 use ic_pool::{Gate, OpenGate};
@@ -22,33 +22,63 @@ pub struct Wanted {
     pub workers: usize,
 }
 
-/// Scripts attended on a disk.
-pub fn attended_on<R: Threads + Wait + Sync, G: Gate>(
+/// Scripts attended on a disk. Nothing where the disk wasn't opened.
+pub fn attended_on<R: Threads + Wait + Sync, D: Disk + Send + Drop, G: Gate>(
     rt: &R,
     alloc: Global,
-    disk: MemDisk,
+    disk: D,
     wanted: Wanted,
     scripts: Vec<Vec<Command>>,
     gate: &G,
-) -> Result<Attended<MemDisk>, Trouble> {
+) -> Result<Option<Attended<D>>, Trouble> {
     let Wanted {
         runners,
         turns,
         workers,
     } = wanted;
     match attend(rt, alloc, disk, scripts, runners, turns, workers, gate) {
-        Ok(done) => Ok(done),
-        Err(fault) => Err(trouble_of(&fault)),
+        Ok(done) => Ok(Some(done)),
+        Err(fault) => no_history(&fault),
     }
 }
 
-fn trouble_of(fault: &AttendFault<MemDisk>) -> Trouble {
+/// What stands where there is no history.
+fn no_history<D: Disk, T>(fault: &AttendFault<D>) -> Result<Option<T>, Trouble> {
     match fault {
-        AttendFault::Open(_) => Trouble("not opened"),
-        AttendFault::NoThread(_) => Trouble("no thread"),
-        AttendFault::Memory(_) => Trouble("no memory"),
-        AttendFault::Torn(_) => Trouble("torn"),
+        AttendFault::Open(_) => Ok(None),
+        AttendFault::NoThread(_) => Err(Trouble("no thread")),
+        AttendFault::Memory(_) => Err(Trouble("no memory")),
+        AttendFault::Torn(_) => Err(Trouble("torn")),
     }
+}
+
+/// Scripts attended on a disk, and the history looked over.
+pub fn attended_after<R: Threads + Wait + Sync, G: Gate>(
+    rt: &R,
+    alloc: Global,
+    disk: MemDisk,
+    past: &Past,
+    scripts: Vec<Vec<Command>>,
+    gate: &G,
+) -> Result<Attended<MemDisk>, Trouble> {
+    let Some(done) = attended_on(rt, alloc, disk, past.wanted, scripts, gate)? else {
+        return Err(Trouble("not opened"));
+    };
+    check(alloc, past, &done)?;
+    Ok(done)
+}
+
+/// The same, of scripts by their text.
+pub fn attended_text<R: Threads + Wait + Sync, G: Gate>(
+    rt: &R,
+    alloc: Global,
+    disk: MemDisk,
+    past: &Past,
+    scripts: &str,
+    gate: &G,
+) -> Result<Attended<MemDisk>, Trouble> {
+    let scripts = scripts_of(alloc, scripts)?;
+    attended_after(rt, alloc, disk, past, scripts, gate)
 }
 
 /// Scripts attended on a disk that holds the empty table, and the history looked over.
@@ -57,17 +87,16 @@ pub fn looked_over<R: Threads + Wait + Sync, G: Gate>(
     alloc: Global,
     disk: MemDisk,
     wanted: Wanted,
-    scripts: &str,
+    text: &str,
     gate: &G,
 ) -> Result<Attended<MemDisk>, Trouble> {
+    let scripts = scripts_of(alloc, text)?;
     let past = Past {
         opening: Table::new(alloc),
-        scripts: scripts_of(alloc, scripts)?,
+        scripts,
         wanted,
     };
-    let done = attended_on(rt, alloc, disk, wanted, scripts_of(alloc, scripts)?, gate)?;
-    check(alloc, &past, &done)?;
-    Ok(done)
+    attended_text(rt, alloc, disk, &past, text, gate)
 }
 
 /// What each client is answered, and the jobs that are left: a job that runs without its rounds, which differ from run to

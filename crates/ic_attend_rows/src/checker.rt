@@ -1,5 +1,5 @@
-//! A checker of histories. It replays the log on the opening table, entry by entry, and takes each command of the log as the
-//! next of its client's script. It shares no code with what attends.
+//! A checker of histories. It replays the log on the opening table, by the table's own calls, and takes each command of the log
+//! as the next of its client's script. It shares no code with the comparison that `attend` makes.
 
 use crate::attending::Wanted;
 use ic_attend::{Attended, ClientRun, RunnerEnd};
@@ -8,7 +8,7 @@ use ic_desk::{Book, BookFault};
 use ic_disk::Disk;
 use ic_jobs::{Command, Entry, Event, Landed, Reply, State, Table};
 use ic_notation::{Trouble, printed};
-use ic_pool::{PoolFault, play_alone};
+use ic_pool::{Flight, PoolFault, play_alone};
 use ic_rules::{JobName, System};
 use std::alloc::Global;
 
@@ -28,21 +28,48 @@ pub fn check<D: Disk>(alloc: Global, past: &Past, done: &Attended<D>) -> Result<
     if done.answers.len() != past.scripts.len() || done.ends.len() != past.wanted.runners {
         return Err(Trouble("a thread has no end"));
     }
-    let mut table = past.opening.copy(alloc)?;
     let mut given = Vec::new(alloc);
     for _ in &past.scripts {
         given.push(0usize)?;
     }
+    check_log(alloc, past, done, &mut given)?;
+    check_clients(alloc, &past.scripts, &given, done)?;
+    check_runners(past.wanted, done)
+}
+
+/// The log leads from the opening table to the one that is left. Counts the commands that each client was answered.
+fn check_log<D: Disk>(
+    alloc: Global,
+    past: &Past,
+    done: &Attended<D>,
+    given: &mut Vec<usize>,
+) -> Result<(), Trouble> {
+    let mut table = past.opening.copy(alloc)?;
+    replay(alloc, past, done, &mut table, given)?;
+    if table != *done.book.table() {
+        return Err(Trouble("another table is left"));
+    }
+    Ok(())
+}
+
+/// The log on a table, entry by entry.
+fn replay<D: Disk>(
+    alloc: Global,
+    past: &Past,
+    done: &Attended<D>,
+    table: &mut Table,
+    given: &mut Vec<usize>,
+) -> Result<(), Trouble> {
     for (place, entry) in done.book.log().iter().enumerate() {
         let kept = place < done.book.kept();
         match &entry.event {
-            Event::Round(name) => make_round(alloc, &mut table, *name, &entry.reply)?,
+            Event::Round(name) => make_round(alloc, table, *name, &entry.reply)?,
             Event::Command(command) => {
                 check_command(
                     alloc,
-                    &mut table,
+                    table,
                     &past.scripts,
-                    &mut given,
+                    given,
                     entry,
                     command,
                     kept,
@@ -51,11 +78,7 @@ pub fn check<D: Disk>(alloc: Global, past: &Past, done: &Attended<D>) -> Result<
             }
         }
     }
-    if table != *done.book.table() {
-        return Err(Trouble("another table is left"));
-    }
-    check_clients(&past.scripts, &given, done)?;
-    check_runners(past.wanted, done)
+    Ok(())
 }
 
 /// The round of a job that runs, on the table.
@@ -73,13 +96,24 @@ pub fn make_round(
     let Some(flight) = table.due(place.unwrap_or(usize::MAX))? else {
         return Err(Trouble("a round of no job"));
     };
-    if flight.name().as_bytes() != text {
+    land_round(alloc, table, &flight, name, reply)
+}
+
+/// The round of a flight, if it is of this job, on the table.
+fn land_round(
+    alloc: Global,
+    table: &mut Table,
+    flight: &Flight,
+    name: JobName,
+    reply: &Reply,
+) -> Result<(), Trouble> {
+    if flight.name().as_bytes() != name.as_bytes() {
         return Err(Trouble("a round of a job that doesn't run"));
     }
     let (landed, is_told) = if flight.blocked() {
-        (table.halt(&flight), matches!(reply, Reply::Halted))
+        (table.halt(flight), matches!(reply, Reply::Halted))
     } else {
-        match play_alone(alloc, &flight) {
+        match play_alone(alloc, flight) {
             Ok(played) => (table.land(played), matches!(reply, Reply::Moved)),
             Err(_) => return Err(Trouble("a round is refused")),
         }
@@ -110,18 +144,30 @@ fn check_command<D: Disk>(
         return Err(Trouble("a command too many"));
     };
     same_words(alloc, command, wanted)?;
-    let told = print_reply(alloc, &entry.reply)?;
-    if print_reply(alloc, &table.apply(wanted.copy(alloc)?)?)?.as_slice() != told.as_slice() {
-        return Err(Trouble("another reply"));
-    }
     let Some(run) = done.answers.get(who) else {
         return Err(Trouble("an answer to nobody"));
     };
+    let told = print_reply(alloc, &entry.reply)?;
+    check_reply(alloc, table, wanted, &told)?;
     check_answer(alloc, run, next, wanted, &told, kept)?;
     if kept {
         if let Some(count) = given.get_mut(who) {
             *count = next.saturating_add(1);
         }
+    }
+    Ok(())
+}
+
+/// The table answers a command so.
+fn check_reply(
+    alloc: Global,
+    table: &mut Table,
+    command: &Command,
+    told: &[u8],
+) -> Result<(), Trouble> {
+    let reply = table.apply(command.copy(alloc)?)?;
+    if print_reply(alloc, &reply)?.as_slice() != told {
+        return Err(Trouble("another reply"));
     }
     Ok(())
 }
@@ -151,8 +197,9 @@ fn check_answer(
     Ok(())
 }
 
-/// Each client was answered what the log has, and its whole script where it finished.
+/// Each client was answered what the log has, and its end is so.
 fn check_clients<D: Disk>(
+    alloc: Global,
     scripts: &[Vec<Command>],
     given: &[usize],
     done: &Attended<D>,
@@ -164,15 +211,42 @@ fn check_clients<D: Disk>(
         if run.answers.len() != *count {
             return Err(Trouble("an answer too many"));
         }
-        let holds = match run.end {
-            None => *count == script.len(),
-            Some(fault) => is_so(fault, &done.book),
-        };
-        if !holds {
+        if !ends_so(alloc, script, *count, who as u64, run, &done.book)? {
             return Err(Trouble("a client's end isn't so"));
         }
     }
     Ok(())
+}
+
+/// Whether a client was answered its whole script, or was refused the next command, as the book says.
+fn ends_so<D: Disk>(
+    alloc: Global,
+    script: &[Command],
+    answered: usize,
+    who: u64,
+    run: &ClientRun,
+    book: &Book<D>,
+) -> Result<bool, Trouble> {
+    let Some(fault) = run.end else {
+        return Ok(answered == script.len() && run.refused.is_none());
+    };
+    let (Some(next), Some(refused)) = (script.get(answered), &run.refused) else {
+        return Ok(false);
+    };
+    same_words(alloc, refused, next)?;
+    Ok(is_so(fault, book) && (fault == BookFault::Device) == stands_last(book, who))
+}
+
+/// Whether a command of this client stands last, unanswered.
+fn stands_last<D: Disk>(book: &Book<D>, who: u64) -> bool {
+    match book.log().last() {
+        Some(entry) => {
+            book.kept() < book.log().len()
+                && matches!(entry.event, Event::Command(_))
+                && entry.who == who
+        }
+        None => false,
+    }
 }
 
 /// Whether a book is as a refusal says. Memory is ample.
@@ -202,6 +276,7 @@ fn check_runners<D: Disk>(wanted: Wanted, done: &Attended<D>) -> Result<(), Trou
                 .iter()
                 .all(|job| job.state() != State::Running),
             RunnerEnd::Turns => rounds >= wanted.turns,
+            RunnerEnd::Book(BookFault::Device | BookFault::Worn) => false,
             RunnerEnd::Book(fault) => is_so(*fault, &done.book),
             RunnerEnd::Pool(fault) => *fault == PoolFault::NoWorkers && wanted.workers == 0,
         };

@@ -1,7 +1,7 @@
 //! Drawn sets of scripts.
 
-use crate::attending::{Wanted, attended_on};
-use crate::checker::{Past, check};
+use crate::attending::{Wanted, attended_after};
+use crate::checker::Past;
 use crate::disks::new_disk;
 use crate::scripts::command_of;
 use ic_jobs::{Command, Table};
@@ -34,6 +34,15 @@ const LINES: &[&str] = &[
 /// The lines of a script of at most 12 commands.
 fn drawn_script(alloc: Global, draws: &mut Draws) -> Result<Vec<Command>, Trouble> {
     let mut script = Vec::new(alloc);
+    draw_commands(alloc, draws, &mut script)?;
+    Ok(script)
+}
+
+fn draw_commands(
+    alloc: Global,
+    draws: &mut Draws,
+    script: &mut Vec<Command>,
+) -> Result<(), Trouble> {
     for _ in 0..draws.below(13) {
         let line = LINES
             .get(draws.below(LINES.len()))
@@ -41,17 +50,51 @@ fn drawn_script(alloc: Global, draws: &mut Draws) -> Result<Vec<Command>, Troubl
             .unwrap_or("list");
         script.push(command_of(alloc, line)?)?;
     }
-    Ok(script)
+    Ok(())
 }
 
 /// Two to six scripts.
 fn drawn_scripts(alloc: Global, seed: u64) -> Result<Vec<Vec<Command>>, Trouble> {
-    let mut draws = Draws::new(seed);
     let mut scripts = Vec::new(alloc);
+    draw_scripts(alloc, seed, &mut scripts)?;
+    Ok(scripts)
+}
+
+fn draw_scripts(alloc: Global, seed: u64, scripts: &mut Vec<Vec<Command>>) -> Result<(), Trouble> {
+    let mut draws = Draws::new(seed);
     for _ in 0..draws.below(5).saturating_add(2) {
         scripts.push(drawn_script(alloc, &mut draws)?)?;
     }
-    Ok(scripts)
+    Ok(())
+}
+
+/// Attends the scripts of a seed with 0 to 4 runners, and looks the history over.
+fn attend_drawn<R: Threads + Wait + Sync>(rt: &R, alloc: Global, seed: u64) -> Result<(), Trouble> {
+    let mut draws = Draws::new(seed);
+    let wanted = Wanted {
+        runners: draws.below(5),
+        turns: draws.below(6),
+        workers: draws.below(3).saturating_add(1),
+    };
+    let scripts = drawn_scripts(alloc, seed)?;
+    let past = Past {
+        opening: Table::new(alloc),
+        scripts,
+        wanted,
+    };
+    attend_again(rt, alloc, &past, seed)
+}
+
+/// Attends the scripts of the past's seed.
+fn attend_again<R: Threads + Wait + Sync>(
+    rt: &R,
+    alloc: Global,
+    past: &Past,
+    seed: u64,
+) -> Result<(), Trouble> {
+    let scripts = drawn_scripts(alloc, seed)?;
+    let _done = attended_after(rt, alloc, new_disk(alloc)?, past, scripts, &OpenGate)?;
+    Ok(())
 }
 
 /// Attends so many drawn sets of scripts, with 0 to 4 runners, and looks each history over.
@@ -63,20 +106,7 @@ pub fn drawn<R: Threads + Wait + Sync>(
 ) -> Result<Vec<u8>, Trouble> {
     for turn in 0..count {
         let seed = seed.wrapping_mul(1_000_003).wrapping_add(turn as u64);
-        let mut draws = Draws::new(seed);
-        let wanted = Wanted {
-            runners: draws.below(5),
-            turns: draws.below(6),
-            workers: draws.below(3).saturating_add(1),
-        };
-        let past = Past {
-            opening: Table::new(alloc),
-            scripts: drawn_scripts(alloc, seed)?,
-            wanted,
-        };
-        let scripts = drawn_scripts(alloc, seed)?;
-        let done = attended_on(rt, alloc, new_disk(alloc)?, wanted, scripts, &OpenGate)?;
-        check(alloc, &past, &done)?;
+        attend_drawn(rt, alloc, seed)?;
     }
     let mut line = Vec::new(alloc);
     decimal(&mut line, count as u64)?;

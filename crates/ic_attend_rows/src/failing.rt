@@ -1,10 +1,10 @@
 //! Two clients on a disk of which some call fails.
 
-use crate::attending::Wanted;
+use crate::attending::{Wanted, attended_on};
 use crate::checker::{Past, check, make_round};
 use crate::disks::new_disk;
 use crate::scripts::scripts_of;
-use ic_attend::{AttendFault, Attended, attend};
+use ic_attend::Attended;
 use ic_desk::{Book, BookFault};
 use ic_disk::{Blow, Choice, FuseDisk, MemDisk, Then};
 use ic_jobs::{Entry, Event, Table};
@@ -32,26 +32,23 @@ fn attended_fused<R: Threads + Wait + Sync>(
 ) -> Result<Option<Attended<FuseDisk>>, Trouble> {
     let scripts = scripts_of(alloc, TWO)?;
     let disk = FuseDisk::new(new_disk(alloc)?, call, blow, Then::GoOn);
-    let Wanted {
-        runners,
-        turns,
-        workers,
-    } = WANTED;
-    match attend(rt, alloc, disk, scripts, runners, turns, workers, &OpenGate) {
-        Ok(done) => Ok(Some(done)),
-        Err(AttendFault::Open(_)) => Ok(None),
-        Err(_) => Err(Trouble("no history")),
-    }
+    attended_on(rt, alloc, disk, WANTED, scripts, &OpenGate)
+}
+
+/// Makes sure that what was attended is one history of the two clients.
+fn check_two(alloc: Global, done: &Attended<FuseDisk>) -> Result<(), Trouble> {
+    let scripts = scripts_of(alloc, TWO)?;
+    let past = Past {
+        opening: Table::new(alloc),
+        scripts,
+        wanted: WANTED,
+    };
+    check(alloc, &past, done)
 }
 
 /// Looks the history over. Answers whether the book is broken, which a client is told.
 fn look_over(alloc: Global, done: &Attended<FuseDisk>) -> Result<bool, Trouble> {
-    let past = Past {
-        opening: Table::new(alloc),
-        scripts: scripts_of(alloc, TWO)?,
-        wanted: WANTED,
-    };
-    check(alloc, &past, done)?;
+    check_two(alloc, done)?;
     let broken = done.book.broken();
     let told = done
         .answers
@@ -89,9 +86,19 @@ fn holds_what_was_answered(
     book: Book<FuseDisk>,
     choice: Choice,
 ) -> Result<(), Trouble> {
-    let (kept, after) = tables_of(alloc, &book)?;
-    let again = opened_again(alloc, book.close().into_inner(), choice)?;
-    if again != kept && again != after {
+    let tables = tables_of(alloc, &book)?;
+    holds_one_of(alloc, book.close().into_inner(), choice, &tables)
+}
+
+/// A crash of this disk leaves one of two tables.
+fn holds_one_of(
+    alloc: Global,
+    disk: MemDisk,
+    choice: Choice,
+    tables: &(Table, Table),
+) -> Result<(), Trouble> {
+    let again = opened_again(alloc, disk, choice)?;
+    if again != tables.0 && again != tables.1 {
         return Err(Trouble("another table is left"));
     }
     Ok(())
@@ -114,15 +121,20 @@ fn opened_again(alloc: Global, disk: MemDisk, choice: Choice) -> Result<Table, T
 /// The table that entries leave.
 fn replayed(alloc: Global, entries: &[Entry]) -> Result<Table, Trouble> {
     let mut table = Table::new(alloc);
+    replay(alloc, entries, &mut table)?;
+    Ok(table)
+}
+
+fn replay(alloc: Global, entries: &[Entry], table: &mut Table) -> Result<(), Trouble> {
     for entry in entries {
         match &entry.event {
             Event::Command(command) => {
                 table.apply(command.copy(alloc)?)?;
             }
-            Event::Round(name) => make_round(alloc, &mut table, *name, &entry.reply)?,
+            Event::Round(name) => make_round(alloc, table, *name, &entry.reply)?,
         }
     }
-    Ok(table)
+    Ok(())
 }
 
 /// Each call up to this one fails once: first the disk isn't opened, then clients are told, and at last nothing fails.

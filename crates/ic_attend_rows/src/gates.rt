@@ -1,7 +1,7 @@
 //! Gates that hold works and clients up, each for at most 10,000 turns of a millisecond.
 
-use crate::attending::{Wanted, attended_on};
-use crate::checker::{Past, check};
+use crate::attending::{Wanted, attended_text};
+use crate::checker::Past;
 use crate::disks::new_disk;
 use crate::scripts::{command_of, scripts_of};
 use ic_desk::Book;
@@ -131,15 +131,32 @@ impl<'a, R: Clock + Sync> Gate for During<'a, R> {
 
 /// A disk with a job that runs, and its table.
 fn running(alloc: Global, job: &str) -> Result<(MemDisk, Table), Trouble> {
-    let command = command_of(alloc, job)?;
     let Ok(mut book) = Book::open(alloc, new_disk(alloc)?) else {
         return Err(Trouble("not opened"));
     };
-    if book.command(alloc, 0, command).is_err() {
+    let table = submitted(alloc, job, &mut book)?;
+    Ok((book.close(), table))
+}
+
+/// The table after a job was submitted.
+fn submitted(alloc: Global, job: &str, book: &mut Book<MemDisk>) -> Result<Table, Trouble> {
+    if book.command(alloc, 0, command_of(alloc, job)?).is_err() {
         return Err(Trouble("not submitted"));
     }
-    let table = book.table().copy(alloc)?;
-    Ok((book.close(), table))
+    Ok(book.table().copy(alloc)?)
+}
+
+/// Attends a script at a gate at which no wait may run out.
+fn attend_during<R: Threads + Wait + Clock + Sync>(
+    rt: &R,
+    alloc: Global,
+    disk: MemDisk,
+    past: &Past,
+    script: &str,
+    during: &During<'_, R>,
+) -> Result<(), Trouble> {
+    let _done = attended_text(rt, alloc, disk, past, script, during)?;
+    none_missed(&during.missed)
 }
 
 /// One client gives two commands on a disk with a job that runs, and is answered the second while a round is made.
@@ -154,12 +171,11 @@ pub fn answered_during_round<R: Threads + Wait + Clock + Sync>(
         workers: 1,
     };
     let (job, script) = text.split_once(" | ").unwrap_or((text, ""));
-    let given = scripts_of(alloc, script)?;
     let scripts = scripts_of(alloc, script)?;
     let (disk, opening) = running(alloc, job)?;
     let past = Past {
         opening,
-        scripts: given,
+        scripts,
         wanted,
     };
     let during = During {
@@ -168,8 +184,6 @@ pub fn answered_during_round<R: Threads + Wait + Clock + Sync>(
         answers: AtomicU64::new(0),
         missed: AtomicBool::new(false),
     };
-    let done = attended_on(rt, alloc, disk, wanted, scripts, &during)?;
-    none_missed(&during.missed)?;
-    check(alloc, &past, &done)?;
+    attend_during(rt, alloc, disk, &past, script, &during)?;
     Ok(Vec::from_slice(alloc, b"answered")?)
 }

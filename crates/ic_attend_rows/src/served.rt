@@ -7,7 +7,7 @@ use ic_desk::Book;
 use ic_disk::MemDisk;
 use ic_jobs::Table;
 use ic_notation::Trouble;
-use ic_pool::{OpenGate, play_alone};
+use ic_pool::{Flight, OpenGate, play_alone};
 use std::alloc::Global;
 use std::sync::Wait;
 use std::thread::Threads;
@@ -27,27 +27,31 @@ pub fn served<R: Threads + Wait + Sync>(
         turns: ROUNDS,
         workers: 2,
     };
-    let table = left_by_a_book(alloc, script)?;
     let done = looked_over(rt, alloc, new_disk(alloc)?, wanted, script, &OpenGate)?;
-    if *done.book.table() != table {
-        return Err(Trouble("another table"));
-    }
+    left_by_a_book(alloc, script, done.book.table())?;
     Ok(Vec::from_slice(alloc, b"one table")?)
 }
 
-/// The table that a script leaves on a book, with all rounds behind it.
-fn left_by_a_book(alloc: Global, script: &str) -> Result<Table, Trouble> {
-    let commands = script_of(alloc, script)?;
+/// Makes sure that a script leaves this table on a book, with all rounds behind it.
+fn left_by_a_book(alloc: Global, script: &str, table: &Table) -> Result<(), Trouble> {
     let Ok(mut book) = Book::open(alloc, new_disk(alloc)?) else {
         return Err(Trouble("not opened"));
     };
-    for command in commands {
+    give(alloc, script, &mut book)?;
+    if book.table() != table {
+        return Err(Trouble("another table"));
+    }
+    Ok(())
+}
+
+/// Gives a script to a book, and makes all rounds behind it.
+fn give(alloc: Global, script: &str, book: &mut Book<MemDisk>) -> Result<(), Trouble> {
+    for command in script_of(alloc, script)? {
         if book.command(alloc, 0, command).is_err() {
             return Err(Trouble("a command is refused"));
         }
     }
-    make_rounds(alloc, &mut book)?;
-    Ok(book.table().copy(alloc)?)
+    make_rounds(alloc, book)
 }
 
 /// Makes the rounds that are due, until none is.
@@ -59,12 +63,17 @@ fn make_rounds(alloc: Global, book: &mut Book<MemDisk>) -> Result<(), Trouble> {
         let Some(flight) = due else {
             return Ok(());
         };
-        let Ok(played) = play_alone(alloc, &flight) else {
-            return Err(Trouble("a round is refused"));
-        };
-        if book.land(played).is_err() {
-            return Err(Trouble("a round isn't landed"));
-        }
+        make_round(alloc, book, &flight)?;
     }
     Err(Trouble("too many rounds"))
+}
+
+fn make_round(alloc: Global, book: &mut Book<MemDisk>, flight: &Flight) -> Result<(), Trouble> {
+    let Ok(played) = play_alone(alloc, flight) else {
+        return Err(Trouble("a round is refused"));
+    };
+    if book.land(played).is_err() {
+        return Err(Trouble("a round isn't landed"));
+    }
+    Ok(())
 }
