@@ -1,13 +1,12 @@
 -- Terms are built of the equations of their agents and of what is joined.
 use Rattle.std.proofs.Common.{◌≡◌, ℕ, suc, ◌+◌, ◌≤◌, List, [], ◌∷◌, ◌++◌, true, length, map, refl, sym, ap, ◌∙◌, arith, append_assoc, append-nil}
-use Rattle.std.specs.List.{flat_map}
 use Rattle.std.proofs.lemmas.List.{map-append}
-use Rattle.ic_term.specs.Tree.{Tree, name, agent, Trees, no_trees, more_trees, list_of, trees_of, names, names_of, Pair}
+use Rattle.ic_term.specs.Tree.{Tree, name, agent, Trees, no_trees, more_trees, list_of, trees_of, names_of, Pair}
 use Rattle.ic_term.specs.Configuration.{Configuration, occurrences}
 use Rattle.ic_term.specs.lemmas.TreeLaws.{list_of-trees_of}
 use Rattle.ic_settle.specs.Settling.{occurs, subst, subst_all}
 use Rattle.ic_rules.specs.Rule.{Rule}
-use Rattle.ic_confluence.specs.Sameness.{Rearranged, kept, itself, swapped, one_by_one}
+use Rattle.ic_confluence.specs.Sameness.{Rearranged, kept, itself, one_by_one}
 use Rattle.ic_nets.specs.Links.{agents_among, agents_in, agents_of, end_of, equation_link, hanging, hung, inside, joined, links_of, pair_agents, pair_links, pairs_agents}
 use Rattle.ic_nets.specs.ReadBack.{agent_equation, agent_equations, equated, names_at}
 use Rattle.ic_nets.specs.declared.net.Agent.{Agent}

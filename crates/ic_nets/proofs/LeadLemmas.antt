@@ -1,15 +1,15 @@
 -- Configurations that settle to one net: rearranging equations and putting terms for names leads from one to the other.
-use Rattle.std.proofs.Common.{◌≡◌, ℕ, suc, ◌+◌, ◌≤◌, ◌==◌, List, [], ◌∷◌, ◌++◌, Bool, true, cond, map, refl, sym, ap, ◌∙◌, arith, eq-eqb, inl, append_assoc, subst as transport}
+use Rattle.std.proofs.Common.{◌≡◌, ℕ, ◌+◌, ◌≤◌, ◌==◌, List, [], ◌∷◌, ◌++◌, true, map, refl, sym, arith, eq-eqb, inl, subst as transport}
 use Rattle.std.specs.List.{flat_map}
-use Rattle.ic_term.specs.Tree.{Tree, name, agent, Trees, no_trees, more_trees, trees_of, names, Pair, pair_names}
+use Rattle.ic_term.specs.Tree.{Tree, name, names, Pair, pair_names}
 use Rattle.ic_term.specs.Configuration.{Configuration, names_in, occurrences}
-use Rattle.ic_settle.specs.Settling.{occurs, subst, subst_all, subst_in, subst_pair, settled}
+use Rattle.ic_settle.specs.Settling.{occurs, subst, subst_in, subst_pair, settled}
 use Rattle.ic_settle.specs.NameSteps.{NameStep, NameSteps, no_step, one_more}
 use Rattle.ic_settle.specs.lemmas.SubstitutionLaws.{occurrences-append, occurrences_some, subst-absent}
 use Rattle.ic_round.specs.Naming.{HasNames}
 use Rattle.ic_round.specs.lemmas.NamesLemmas.{name_step-names}
 use Rattle.ic_round.specs.lemmas.NameStepLemmas.{in_either, in_first}
-use Rattle.ic_confluence.specs.Sameness.{turned, Alike, itself, exchanged, Rearranged, nothing, kept, swapped, one_by_one, Same, rearranging, through}
+use Rattle.ic_confluence.specs.Sameness.{itself, exchanged, Rearranged, nothing, kept, swapped, one_by_one, Same, rearranging, through}
 use Rattle.ic_nets.specs.ReadBack.{equated}
 use Rattle.ic_nets.proofs.SettledLemmas.{settled_ends, settles_on}
 

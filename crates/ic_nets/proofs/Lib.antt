@@ -17,3 +17,5 @@ pub mod BuiltLemmas
 pub mod ReadLemmas
 pub mod NamingLemmas
 pub mod PortNames
+pub mod LikeLemmas
+pub mod CircleLemmas

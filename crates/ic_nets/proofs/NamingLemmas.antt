@@ -1,12 +1,12 @@
 -- By names for its ports, a net is a configuration that settles to the net of the configuration that it is of.
-use Rattle.std.proofs.Common.{◌≡◌, ℕ, zero, suc, ◌+◌, ◌≤◌, ◌<◌, ◌==◌, ◌⊎◌, inl, inr, List, [], ◌∷◌, ◌++◌, Bool, true, false, ◌&&◌, cond, length, map, refl, sym, ap, ◌∙◌, arith, eq-eqb, append-nil, subst as transport}
+use Rattle.std.proofs.Common.{◌≡◌, ℕ, zero, suc, ◌+◌, ◌≤◌, ◌<◌, ◌==◌, ◌⊎◌, inl, inr, List, [], ◌∷◌, ◌++◌, Bool, true, false, cond, length, map, refl, sym, ap, ◌∙◌, arith, eq-eqb, append-nil, subst as transport}
 use Rattle.std.specs.Cmp.{unsigned_Decides}
 use Rattle.std.specs.List.{AllByRecursion, flat_map}
 use Rattle.std.proofs.lemmas.Bool.{cases_lt}
 use Rattle.std.proofs.lemmas.List.{map-append}
 use Rattle.std.proofs.lemmas.List.Concat.{flat_map-append}
 use Rattle.ic_term.specs.Tree.{Tree, name, names, Pair, pair_names}
-use Rattle.ic_term.specs.Configuration.{Configuration, IsConfiguration, configuration_names, names_in, occurrences}
+use Rattle.ic_term.specs.Configuration.{Configuration, IsConfiguration, configuration_names, occurrences}
 use Rattle.ic_settle.specs.Settling.{settled}
 use Rattle.ic_settle.specs.lemmas.SubstitutionLaws.{occurrences-append, occurrences-cons}
 use Rattle.ic_rules.specs.Rule.{Rule}
@@ -308,3 +308,6 @@ module _ (rs : List Rule) (c : Configuration) (net : Net) (f : Port → ℕ) (ne
 
     pub found_again : Same (settled (read_back f next net)) (settled (record c { next = next }))
     found_again = through _ _ _ (to_net names_kept).1 (laws.back _ _ (to_configuration names_kept).1)
+
+    pub read_names : HasNames (read_back f next net)
+    read_names = (to_net names_kept).0

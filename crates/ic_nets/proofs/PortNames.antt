@@ -1,5 +1,5 @@
 -- Each net has names for its ports.
-use Rattle.std.proofs.Common.{◌≡◌, ℕ, zero, suc, ◌+◌, ◌≤◌, ◌<◌, ◌==◌, List, [], ◌∷◌, ◌++◌, Bool, true, false, ◌&&◌, cond, refl, sym, ap, ◌∙◌, arith}
+use Rattle.std.proofs.Common.{◌≡◌, ℕ, zero, suc, ◌+◌, ◌≤◌, ◌<◌, ◌==◌, List, [], ◌∷◌, ◌++◌, Bool, true, false, ◌&&◌, cond, refl, sym, ap, arith}
 use Rattle.std.specs.Cmp.{unsigned_Decides}
 use Rattle.std.proofs.lemmas.Bool.{true≢false}
 use Rattle.ic_term.specs.Configuration.{Configuration, IsConfiguration}
@@ -47,7 +47,7 @@ place_of (Right j) = j
 place_of (Auxiliary k i) = i
 place_of (Free n) = n
 
-abbrev port_number : Port → ℕ
+abbrev pub port_number : Port → ℕ
 port_number p = paired (kind_of p) (place_of p)
 
 same_port : (p q : Port) → is_bound p ≡ true → is_bound q ≡ true → kind_of p ≡ kind_of q → place_of p ≡ place_of q → p ≡ q
@@ -60,33 +60,33 @@ same_port (Right i) (Right j) b d kinds places = ap Right places
 same_port (Auxiliary k i) (Auxiliary l j) b d kinds places = let agents : k ≡ l = omega (arith, kinds) in λ h. Auxiliary (agents h) (places h)
 same_port p q b d kinds places = absurd (omega (arith, kinds))
 
-equal_ports : (p q : Port) → port_eq p q ≡ true → port_number p ≡ port_number q
-equal_ports (Interface i) (Interface j) e = ap (paired 0) ((unsigned_Decides i j).0 e)
-equal_ports (Principal i) (Principal j) e = ap (paired 1) ((unsigned_Decides i j).0 e)
-equal_ports (Left i) (Left j) e = ap (paired 2) ((unsigned_Decides i j).0 e)
-equal_ports (Right i) (Right j) e = ap (paired 3) ((unsigned_Decides i j).0 e)
-equal_ports (Free i) (Free j) e = ap (paired 0) ((unsigned_Decides i j).0 e)
+pub equal_ports : (p q : Port) → port_eq p q ≡ true → p ≡ q
+equal_ports (Interface i) (Interface j) e = ap Interface ((unsigned_Decides i j).0 e)
+equal_ports (Principal i) (Principal j) e = ap Principal ((unsigned_Decides i j).0 e)
+equal_ports (Left i) (Left j) e = ap Left ((unsigned_Decides i j).0 e)
+equal_ports (Right i) (Right j) e = ap Right ((unsigned_Decides i j).0 e)
+equal_ports (Free i) (Free j) e = ap Free ((unsigned_Decides i j).0 e)
 equal_ports (Auxiliary k i) (Auxiliary l j) e = by (k == l) refl e
   where
-    by : (b : Bool) → (k == l) ≡ b → (b && (i == j)) ≡ true → paired (k + 4) i ≡ paired (l + 4) j
-    by true is same = λ h. paired ((unsigned_Decides k l).0 is h + 4) ((unsigned_Decides i j).0 same h)
+    by : (b : Bool) → (k == l) ≡ b → (b && (i == j)) ≡ true → Auxiliary k i ≡ Auxiliary l j
+    by true is same = λ h. Auxiliary ((unsigned_Decides k l).0 is h) ((unsigned_Decides i j).0 same h)
     by false is same = absurd (true≢false (sym same))
 equal_ports p q e = absurd (true≢false (sym e))
 
--- above the number of each of these ports
-abbrev above : List Port → ℕ
-above [] = 0
-above (p ∷ ps) = port_number p + 1 + above ps
+-- above the numbers that these ports have
+abbrev pub reach : (Port → ℕ) → List Port → ℕ
+reach number [] = 0
+reach number (p ∷ ps) = number p + 1 + reach number ps
 
-listed_below : (p : Port) (ps : List Port) → 1 ≤ times p ps → port_number p < above ps
-listed_below p [] some = absurd (omega (arith, some))
-listed_below p (q ∷ qs) some = by (port_eq p q) refl some (listed_below p qs)
+pub reached : (number : Port → ℕ) (p : Port) (ps : List Port) → 1 ≤ times p ps → number p < reach number ps
+reached number p [] some = absurd (omega (arith, some))
+reached number p (q ∷ qs) some = by (port_eq p q) refl some (reached number p qs)
   where
-    by : (b : Bool) → port_eq p q ≡ b → 1 ≤ cond b 1 0 + times p qs → (1 ≤ times p qs → port_number p < above qs) → port_number p < port_number q + 1 + above qs
-    by true is here rest = let same = equal_ports p q is in omega (arith, same)
+    by : (b : Bool) → port_eq p q ≡ b → 1 ≤ cond b 1 0 + times p qs → (1 ≤ times p qs → number p < reach number qs) → number p < number q + 1 + reach number qs
+    by true is here rest = let same = ap number (equal_ports p q is) in omega (arith, same)
     by false is here rest = let less = rest (omega (arith, here)) in omega (arith, less)
 
-abbrev numbered : ℕ → Port → ℕ
+abbrev pub numbered : ℕ → Port → ℕ
 numbered first (Interface i) = first + port_number (Interface i)
 numbered first (Principal k) = first + port_number (Principal k)
 numbered first (Left j) = first + port_number (Left j)
@@ -114,11 +114,11 @@ none_free net n =
     sums : (all rest a b d : ℕ) → all ≡ a + rest → rest ≡ b + d → a ≡ 0 → b ≡ 0 → d ≡ 0 → all ≡ 0
     sums all rest a b d e1 e2 e3 e4 e5 = omega arith
 
-numbered_below : (net : Net) (first : ℕ) (p : Port) → times p (ports_of net) ≡ 1 → numbered first p < first + above (ports_of net)
+numbered_below : (net : Net) (first : ℕ) (p : Port) → times p (ports_of net) ≡ 1 → numbered first p < first + reach port_number (ports_of net)
 numbered_below net first (Free n) once = let none = none_free net n in absurd (omega (arith, none, once))
-numbered_below net first p once = let less = listed_below p (ports_of net) (omega (arith, once)) in omega (arith, less)
+numbered_below net first p once = let less = reached port_number p (ports_of net) (omega (arith, once)) in omega (arith, less)
 
-pub numbering : (net : Net) (first : ℕ) → IsNaming (numbered first) first (first + above (ports_of net)) net
+pub numbering : (net : Net) (first : ℕ) → IsNaming (numbered first) first (first + reach port_number (ports_of net)) net
 numbering net first = record {
   free = λ n. refl;
   apart = λ p q b d same.
@@ -133,7 +133,7 @@ numbering net first = record {
 }
 
 pub ports_named : (net : Net) (first : ℕ) → (name_of : Port → ℕ) × (next : ℕ) × IsNaming name_of first next net
-ports_named net first = (numbered first, first + above (ports_of net), numbering net first)
+ports_named net first = (numbered first, first + reach port_number (ports_of net), numbering net first)
 
 -- a smaller first number
 from_lower : (name_of : Port → ℕ) (first lower next : ℕ) (net : Net) → lower ≤ first → IsNaming name_of first next net → IsNaming name_of lower next net
@@ -149,7 +149,7 @@ pub one_net : (laws : Laws) (rs : List Rule) (c d : Configuration) (net : Net) �
     → (next : ℕ) × Same (settled (record c { next = next })) (settled (record d { next = next }))
 one_net laws rs c d net sound_c sound_d of_c of_d =
     let first = c.next + d.next in
-    let next = first + above (ports_of net) in
+    let next = first + reach port_number (ports_of net) in
     let naming = numbering net first in
     let low_c : c.next ≤ first = omega arith in
     let low_d : d.next ≤ first = omega arith in

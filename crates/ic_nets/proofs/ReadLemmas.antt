@@ -16,8 +16,8 @@ use Rattle.ic_nets.specs.declared.links.Standing.{Standing}
 use Rattle.ic_nets.specs.declared.port.Port.{Port}
 use Rattle.ic_nets.specs.declared.port.Port.TheVariants.{Left, Right, Free}
 use Rattle.ic_nets.proofs.NameLemmas.{AreBound, AreFew, AreOwn, few, first_low, next_few, own_added, own_wires, stands}
-use Rattle.ic_nets.proofs.LeadLemmas.{Laws, Leads, after_these, as_they_are, before, behind, exchange, itself_equal, leads-itself, leads-rearranged, leads-through, parts, put_alone, put_right, turn}
-use Rattle.ic_nets.proofs.BuiltLemmas.{end_tree, link_equation, link_equations}
+use Rattle.ic_nets.proofs.LeadLemmas.{Laws, Leads, after_these, before, behind, exchange, itself_equal, leads-itself, leads-rearranged, leads-through, parts, put_alone, put_right, turn}
+use Rattle.ic_nets.proofs.BuiltLemmas.{end_tree, link_equations}
 
 -- an equation goes behind two lists, or three
 pub behind_two : (p : Pair) (xs ys es : List Pair) → Rearranged (p ∷ (xs ++ (ys ++ es))) (xs ++ (ys ++ (p ∷ es)))

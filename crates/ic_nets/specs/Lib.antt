@@ -5,4 +5,5 @@ pub mod Ports
 pub mod Dot
 pub mod Draws
 pub mod ReadBack
+pub mod Likeness
 pub mod inner

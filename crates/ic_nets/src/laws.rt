@@ -5,7 +5,9 @@ ghost use Rattle.ic_term.specs.Configuration.{Configuration, IsConfiguration, co
 ghost use Rattle.ic_rules.specs.Rule.{Rule};
 ghost use Rattle.ic_settle.specs.Settling.{settled};
 ghost use Rattle.ic_round.specs.Firing.{rule_of_sides};
+ghost use Rattle.ic_confluence.specs.Circle.{cut_at_y, of_equations, uncut};
 ghost use Rattle.ic_confluence.specs.Sameness.{Renames, Same};
+ghost use Rattle.ic_nets.specs.Likeness.{AreAlike};
 ghost use Rattle.ic_nets.specs.Links.{agents_of, links_of};
 ghost use Rattle.ic_nets.specs.Nets.{IsNet};
 ghost use Rattle.ic_nets.specs.Ports.{ends, is_bound, ports_at, ports_of, times, wire_named};
@@ -75,6 +77,21 @@ pub fn a_configuration_is_found_again()
     ensures one { (rs : List Rule) (c d : Configuration) (net : Net)
         → IsConfiguration c → IsConfiguration d → IsNet rs c net → IsNet rs d net
         → (next : ℕ) × Same (settled (record c { next = next })) (settled (record d { next = next })) }
+{
+    ic_confluence::laws::same_is_an_equivalence();
+    ic_confluence::laws::same_nets_take_the_same_name_steps();
+    ic_confluence::laws::same_nets_have_the_same_rounds();
+    ic_confluence::laws::every_order_settles_to_the_same_net();
+}
+
+/// Nets that are one graph are of configurations that settle to one net: which number an agent has, and which wire and which of
+/// its ends is named first, says nothing. The nets of `<|x=A(y),y=B(x)>` and `<|y=B(A(y))>` are one graph.
+pub fn alike_nets_settle_to_one()
+    ensures settled { (rs : List Rule) (c d : Configuration) (m n : Net) → IsConfiguration c
+        → IsConfiguration d → IsNet rs c m → IsNet rs d n → AreAlike m n
+        → (next : ℕ) × Same (settled (record c { next = next })) (settled (record d { next = next })) }
+    ensures circle { (rs : List Rule) (a b : ℕ) (m n : Net) → IsNet rs (uncut a b) m
+        → IsNet rs (of_equations (cut_at_y a b ∷ [])) n → AreAlike m n }
 {
     ic_confluence::laws::same_is_an_equivalence();
     ic_confluence::laws::same_nets_take_the_same_name_steps();
