@@ -6,7 +6,7 @@ from against_model import ModelTrial
 from worked_rows import short_texts
 
 SYSTEMS = short_texts("ic_rows", "system", "once")
-CONFIGS = short_texts("ic_rows", "config", "settle", "both_bodies")
+CONFIGS = [*short_texts("ic_rows", "config", "settle"), *short_texts("ic_round_rows", "both_bodies")]
 LINES = short_texts("ic_job_rows", "line")
 
 

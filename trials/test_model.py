@@ -91,7 +91,8 @@ class TheModelAnswersTheRows(Trial):
             ran = model_disk.settle(expanded(text))
             return (ran.out or b"%d " % ran.status + ran.err).decode()[:-1].replace("1 icserve: ", "")
 
-        self.answers(answer, "ic_rows", "settle", "both_bodies")
+        self.answers(answer, "ic_rows", "settle")
+        self.answers(answer, "ic_round_rows", "both_bodies")
 
     def test_of_one_round(self):
         def answer(_, text):
@@ -109,7 +110,7 @@ class TheModelAnswersTheRows(Trial):
             most, _, system = text.partition(" ")
             return rounds(expanded(system), int(most), kind)
 
-        self.answers(answer, "ic_rows", "rounds", "ends")
+        self.answers(answer, "ic_round_rows", "rounds", "ends")
 
     def test_of_lines(self):
         self.answers(lambda _, text: line_told(expanded(text)), "ic_job_rows", "line")

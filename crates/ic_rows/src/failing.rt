@@ -129,6 +129,27 @@ fn ends(
     }
 }
 
+/// Whether a stream has written just this front of its line where a write fails behind it, whether the writer goes on
+/// or not.
+fn stops_behind(
+    alloc: Global,
+    is_once: bool,
+    text: &[u8],
+    front: &[u8],
+    goes_on: bool,
+) -> Result<(), Trouble> {
+    let reader = SlowReader::new(text, None);
+    let writer = SlowWriter::new(alloc, front.len(), goes_on);
+    ends(
+        alloc,
+        is_once,
+        reader,
+        writer,
+        Err(StreamFault::Write),
+        front,
+    )
+}
+
 /// Whether a stream has this line for a text, byte by byte; answers `Read` and writes nothing where a read fails, at
 /// whatever place; and `Write` with a front of the line written where a write fails, whether the writer goes on or not.
 pub fn failing(alloc: Global, is_once: bool, text: &[u8], line: &[u8]) -> Result<Vec<u8>, Trouble> {
@@ -141,26 +162,8 @@ pub fn failing(alloc: Global, is_once: bool, text: &[u8], line: &[u8]) -> Result
         ends(alloc, is_once, reader, writer, Err(StreamFault::Read), b"")?;
     }
     for room in 0..line.len() {
-        let goes_on = SlowWriter::new(alloc, room, true);
-        let full = SlowWriter::new(alloc, room, false);
-        let reader = SlowReader::new(text, None);
-        ends(
-            alloc,
-            is_once,
-            reader,
-            goes_on,
-            Err(StreamFault::Write),
-            &line[..room],
-        )?;
-        let reader = SlowReader::new(text, None);
-        ends(
-            alloc,
-            is_once,
-            reader,
-            full,
-            Err(StreamFault::Write),
-            &line[..room],
-        )?;
+        stops_behind(alloc, is_once, text, &line[..room], true)?;
+        stops_behind(alloc, is_once, text, &line[..room], false)?;
     }
     Ok(Vec::from_slice(alloc, b"as it should")?)
 }

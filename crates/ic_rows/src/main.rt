@@ -1,15 +1,10 @@
-//! The worked rows of texts, values, steps, rounds and streams: `answers` says what a row may ask.
+//! The worked rows of texts, values, words, streams and places: `answers` says what a row may ask.
 #![tactic(auto)]
 
 mod answers;
-mod deep;
-mod drawn;
 mod failing;
 mod faults;
-mod gathering;
-mod rounds;
-mod settling;
-mod steps;
+mod places;
 mod streams;
 mod systems;
 mod texts;
@@ -21,5 +16,5 @@ use ic_notation::check_rows;
 use std::io;
 
 fn main(rt: HostRuntime) -> io::Result<()> {
-    check_rows(&rt, rt.alloc(), &Kinds { rt: &rt })
+    check_rows(&rt, rt.alloc(), &Kinds)
 }

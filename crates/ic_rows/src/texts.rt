@@ -31,20 +31,43 @@ pub fn config(alloc: Global, text: &[u8]) -> Result<Vec<u8>, Trouble> {
     Ok(line)
 }
 
+/// What becomes of a byte of a text.
+#[derive(Clone, Copy)]
+enum Fate {
+    /// It is dropped, as a blank is.
+    Dropped,
+    /// It stands in the text that is printed again.
+    Kept,
+    /// With it the text is refused as no phrase.
+    Refused,
+}
+
+/// What becomes of this byte in the place of `?` in a text, whose line without it is this.
+fn fate_of(alloc: Global, text: &[u8], byte: u8, without: &[u8]) -> Result<Fate, Trouble> {
+    let with = replaced(alloc, text, &[byte])?;
+    let line = config(alloc, &with)?;
+    if line.as_slice() == with.as_slice() {
+        Ok(Fate::Kept)
+    } else if line.as_slice() == without {
+        Ok(Fate::Dropped)
+    } else if line.as_slice() == b"bad syntax".as_slice() {
+        Ok(Fate::Refused)
+    } else {
+        Err(Trouble("another refusal"))
+    }
+}
+
 /// What becomes of each byte in the place of `?` in a text: those that are dropped, as blanks are, a space, and those
 /// that are kept. With all others the text is refused as no phrase.
 pub fn fates(alloc: Global, text: &[u8]) -> Result<Vec<u8>, Trouble> {
+    let without = config(alloc, &replaced(alloc, text, b"")?)?;
     let mut dropped = Vec::new(alloc);
     let mut kept = Vec::new(alloc);
     for byte in 0..=u8::MAX {
-        let with = replaced(alloc, text, &[byte])?;
-        let line = config(alloc, &with)?;
-        if line.as_slice() == with.as_slice() {
-            kept.push(byte)?;
-        } else if line.as_slice() == config(alloc, &replaced(alloc, text, b"")?)?.as_slice() {
-            dropped.push(byte)?;
-        } else if line.as_slice() != b"bad syntax".as_slice() {
-            return Err(Trouble("another refusal"));
+        match fate_of(alloc, text, byte, &without)? {
+            Fate::Dropped => dropped.push(byte)?,
+            Fate::Kept => kept.push(byte)?,
+            Fate::Refused => {}
         }
     }
     dropped.push(b' ')?;

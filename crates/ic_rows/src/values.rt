@@ -2,9 +2,18 @@
 
 use ic_notation::{Trouble, decimal, system_of};
 use ic_rules::{Rule, RuleFault, RuleSet, System};
-use ic_term::{Cell, Config, ConfigFault, SymbolFault, Symbols, Term, copy_terms, is_symbol};
+use ic_term::{
+    Cell, Config, ConfigFault, Equation, SymbolFault, Symbols, Term, copy_terms, is_symbol,
+};
 use ic_text::read_config;
-use std::alloc::Global;
+use std::alloc::{AllocError, Global};
+
+/// A word, and a number behind it.
+fn with_number(alloc: Global, word: &[u8], number: u64) -> Result<Vec<u8>, AllocError> {
+    let mut line = word.to_vec(alloc)?;
+    decimal(&mut line, number)?;
+    Ok(line)
+}
 
 /// The configuration of a text, restored with another `next`.
 pub fn restored(alloc: Global, next: u64, text: &[u8]) -> Result<Vec<u8>, Trouble> {
@@ -15,28 +24,38 @@ pub fn restored(alloc: Global, next: u64, text: &[u8]) -> Result<Vec<u8>, Troubl
 
 /// The interfaces and equations of two texts as one configuration.
 pub fn joined(alloc: Global, text: &[u8], other: &[u8]) -> Result<Vec<u8>, Trouble> {
+    let mut interface = Vec::new(alloc);
+    let mut equations = Vec::new(alloc);
+    add_parts(alloc, text, &mut interface, &mut equations)?;
+    add_parts(alloc, other, &mut interface, &mut equations)?;
+    answer_of(alloc, Config::new(alloc, interface, equations))
+}
+
+/// Adds the terms and equations of a text.
+fn add_parts(
+    alloc: Global,
+    text: &[u8],
+    interface: &mut Vec<Term>,
+    equations: &mut Vec<Equation>,
+) -> Result<(), Trouble> {
     let (_, config) = system_of(alloc, text)?.into_parts();
-    let (mut interface, mut equations, _) = config.into_parts();
-    let (_, config) = system_of(alloc, other)?.into_parts();
     let (mut more_terms, mut more_equations, _) = config.into_parts();
     interface.append(&mut more_terms)?;
     equations.append(&mut more_equations)?;
-    answer_of(alloc, Config::new(alloc, interface, equations))
+    Ok(())
 }
 
 /// `next` of a configuration, or why there is none.
 fn answer_of(alloc: Global, answer: Result<Config, ConfigFault>) -> Result<Vec<u8>, Trouble> {
-    let mut line = Vec::new(alloc);
-    match answer {
-        Ok(config) => decimal(&mut line, config.next())?,
-        Err(ConfigFault::Limit) => line.extend_from_slice(b"limit")?,
-        Err(ConfigFault::Name(name)) => {
-            line.extend_from_slice(b"name ")?;
-            decimal(&mut line, name)?;
-        }
-        Err(ConfigFault::Memory) => return Err(Trouble("no memory")),
+    let fault = match answer {
+        Ok(config) => return Ok(with_number(alloc, b"", config.next())?),
+        Err(fault) => fault,
+    };
+    match fault {
+        ConfigFault::Limit => Ok(b"limit".to_vec(alloc)?),
+        ConfigFault::Name(name) => Ok(with_number(alloc, b"name ", name)?),
+        ConfigFault::Memory => Err(Trouble("no memory")),
     }
-    Ok(line)
 }
 
 /// A side of a rule.
@@ -45,14 +64,24 @@ fn side(alloc: Global, sym: u32, args: &[Term]) -> Result<Cell, Trouble> {
     Ok(Cell { sym, args })
 }
 
+/// The sides of a rule.
+fn sides(alloc: Global, rule: &Rule) -> Result<(Cell, Cell), Trouble> {
+    let left = side(alloc, rule.left(), rule.left_args())?;
+    let right = side(alloc, rule.right(), rule.right_args())?;
+    Ok((left, right))
+}
+
 /// Adds the sides of rules.
 fn add_rules(alloc: Global, pairs: &mut Vec<(Cell, Cell)>, rules: &[Rule]) -> Result<(), Trouble> {
     for rule in rules {
-        let left = side(alloc, rule.left(), rule.left_args())?;
-        let right = side(alloc, rule.right(), rule.right_args())?;
-        pairs.push((left, right))?;
+        pairs.push(sides(alloc, rule)?)?;
     }
     Ok(())
+}
+
+/// Adds the sides of the rules of a text.
+fn add_rules_of(alloc: Global, pairs: &mut Vec<(Cell, Cell)>, text: &[u8]) -> Result<(), Trouble> {
+    add_rules(alloc, pairs, system_of(alloc, text)?.rules().rules())
 }
 
 /// The symbols of a configuration's text.
@@ -66,31 +95,40 @@ fn symbols_of(alloc: Global, text: &[u8]) -> Result<Symbols, Trouble> {
 /// The rules of two texts as one rule set over the symbols of a configuration's text.
 pub fn built(alloc: Global, symbols: &[u8], text: &[u8], other: &[u8]) -> Result<Vec<u8>, Trouble> {
     let mut pairs = Vec::new(alloc);
-    add_rules(alloc, &mut pairs, system_of(alloc, text)?.rules().rules())?;
-    add_rules(alloc, &mut pairs, system_of(alloc, other)?.rules().rules())?;
+    add_rules_of(alloc, &mut pairs, text)?;
+    add_rules_of(alloc, &mut pairs, other)?;
     let symbols = symbols_of(alloc, symbols)?;
-    let mut line = Vec::new(alloc);
-    let (word, number) = match RuleSet::build(alloc, symbols, pairs) {
-        Ok(rules) => (b"rules ".as_slice(), rules.rules().len() as u64),
-        Err(RuleFault::Limit) => (b"limit ".as_slice(), 1),
-        Err(RuleFault::Arity(sym)) => (b"arity ".as_slice(), u64::from(sym)),
-        Err(RuleFault::NameCount(place)) => (b"name count ".as_slice(), u64::from(place)),
-        Err(RuleFault::Twice(place)) => (b"twice ".as_slice(), u64::from(place)),
-        Err(RuleFault::Lopsided(place)) => (b"lopsided ".as_slice(), u64::from(place)),
-        Err(RuleFault::Memory) => return Err(Trouble("no memory")),
+    match RuleSet::build(alloc, symbols, pairs) {
+        Ok(rules) => Ok(with_number(alloc, b"rules ", rules.rules().len() as u64)?),
+        Err(fault) => line_of_rules(alloc, fault),
+    }
+}
+
+/// Why there is no rule set, with the number of a symbol or rule.
+fn line_of_rules(alloc: Global, fault: RuleFault) -> Result<Vec<u8>, Trouble> {
+    let (word, number) = match fault {
+        RuleFault::Limit => (b"limit ".as_slice(), 1),
+        RuleFault::Arity(sym) => (b"arity ".as_slice(), sym),
+        RuleFault::NameCount(place) => (b"name count ".as_slice(), place),
+        RuleFault::Twice(place) => (b"twice ".as_slice(), place),
+        RuleFault::Lopsided(place) => (b"lopsided ".as_slice(), place),
+        RuleFault::Memory => return Err(Trouble("no memory")),
     };
-    line.extend_from_slice(word)?;
-    decimal(&mut line, number)?;
-    Ok(line)
+    Ok(with_number(alloc, word, u64::from(number))?)
 }
 
 /// The rules of a text with the configuration of another, where that is over their symbols.
 pub fn paired(alloc: Global, text: &[u8], other: &[u8]) -> Result<Vec<u8>, Trouble> {
-    let (rules, _) = system_of(alloc, text)?.into_parts();
     let (_, config) = system_of(alloc, other)?.into_parts();
-    let Some(system) = System::new(rules, config) else {
-        return Ok(Vec::from_slice(alloc, b"none")?);
-    };
+    let (rules, _) = system_of(alloc, text)?.into_parts();
+    match System::new(rules, config) {
+        Some(system) => line_of_copy(alloc, &system),
+        None => Ok(Vec::from_slice(alloc, b"none")?),
+    }
+}
+
+/// Whether a copy of a system is the same.
+fn line_of_copy(alloc: Global, system: &System) -> Result<Vec<u8>, Trouble> {
     let copy = system.copy(alloc)?;
     let same = **copy.rules() == **system.rules() && copy.config() == system.config();
     let line = if same { "a system" } else { "another copy" };
@@ -101,19 +139,20 @@ pub fn paired(alloc: Global, text: &[u8], other: &[u8]) -> Result<Vec<u8>, Troub
 pub fn numbered(alloc: Global, arity: usize, texts: &[u8]) -> Result<Vec<u8>, Trouble> {
     let mut parts = texts.split(|byte| *byte == b' ');
     let symbol = parts.next().unwrap_or(b"");
-    let mut symbols = symbols_of(alloc, parts.next().unwrap_or(b""))?;
-    let mut line = Vec::new(alloc);
     if !is_symbol(symbol) {
         return Ok(Vec::from_slice(alloc, b"no symbol")?);
     }
-    match symbols.number(symbol, arity) {
-        Ok(number) => decimal(&mut line, u64::from(number))?,
-        Err(SymbolFault::Limit) => line.extend_from_slice(b"limit")?,
+    let mut symbols = symbols_of(alloc, parts.next().unwrap_or(b""))?;
+    line_of_number(alloc, symbols.number(symbol, arity))
+}
+
+fn line_of_number(alloc: Global, number: Result<u32, SymbolFault>) -> Result<Vec<u8>, Trouble> {
+    match number {
+        Ok(number) => Ok(with_number(alloc, b"", u64::from(number))?),
+        Err(SymbolFault::Limit) => Ok(b"limit".to_vec(alloc)?),
         Err(SymbolFault::Arity(number)) => {
-            line.extend_from_slice(b"arity of ")?;
-            decimal(&mut line, u64::from(number))?;
+            Ok(with_number(alloc, b"arity of ", u64::from(number))?)
         }
-        Err(SymbolFault::Memory) => return Err(Trouble("no memory")),
+        Err(SymbolFault::Memory) => Err(Trouble("no memory")),
     }
-    Ok(line)
 }

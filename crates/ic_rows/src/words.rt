@@ -8,52 +8,76 @@ use std::alloc::{AllocError, Global};
 /// that stands behind ` ~ `, which isn't one of the words.
 pub fn words(alloc: Global, line: &str) -> Result<Vec<u8>, Trouble> {
     let (line, part) = line.rsplit_once(" ~ ").unwrap_or((line, ""));
+    let words = words_of(alloc, line)?;
+    let answer = match read_words(alloc, &words) {
+        Ok(task) => asked(alloc, &task, part)?,
+        Err(fault) => refused(alloc, &fault, part)?,
+    };
+    Ok(answer.into_bytes())
+}
+
+/// The words of a line.
+fn words_of(alloc: Global, line: &str) -> Result<Vec<String>, AllocError> {
     let mut words = Vec::new(alloc);
     for word in line.split_whitespace() {
         words.push(String::from_str(alloc, word)?)?;
     }
-    let answer = match read_words(alloc, &words) {
-        Ok(Task::Settle) => String::from_str(alloc, "settle")?,
-        Ok(Task::Once) => String::from_str(alloc, "once")?,
-        Ok(Task::Create { disk }) => format!(in alloc; "create {disk}")?,
-        Ok(
-            Task::Serve {
-                disk,
-                workers,
-                every,
-            },
-        ) => format!(in alloc; "serve {disk} {workers} {every}")?,
-        Ok(
-            Task::Attend {
-                disk,
-                runners,
-                turns,
-                workers,
-                scripts,
-            },
-        ) => {
-            let mut asked = format!(in alloc; "attend {disk} {runners} {turns} {workers}")?;
-            for script in &scripts {
-                asked.push(' ')?;
-                asked.push_str(script.as_str())?;
-            }
-            asked
+    Ok(words)
+}
+
+/// What a task asks for.
+fn asked(alloc: Global, task: &Task, part: &str) -> Result<String, AllocError> {
+    match task {
+        Task::Settle => String::from_str(alloc, "settle"),
+        Task::Once => String::from_str(alloc, "once"),
+        Task::Create { disk } => format!(in alloc; "create {disk}"),
+        Task::Serve {
+            disk,
+            workers,
+            every,
+        } => format!(in alloc; "serve {disk} {workers} {every}"),
+        Task::Attend {
+            disk,
+            runners,
+            turns,
+            workers,
+            scripts,
+        } => {
+            let asked = format!(in alloc; "attend {disk} {runners} {turns} {workers}")?;
+            with_scripts(asked, scripts)
         }
-        Ok(Task::Reduce { rounds, workers }) => format!(in alloc; "reduce {rounds} {workers}")?,
-        Ok(Task::Trace { rounds, format }) => {
-            let format = match format {
-                TraceFormat::Tsv => "tsv",
-                TraceFormat::Svg => "svg",
-            };
-            format!(in alloc; "trace {rounds} {format}")?
-        }
-        Ok(Task::Draw) => String::from_str(alloc, "draw")?,
-        Ok(Task::Help(text)) => of_part(alloc, "help", &text, part)?,
-        Ok(Task::Version(text)) => format!(in alloc; "version {text}")?,
-        Err(WordsFault::Words(text)) => of_part(alloc, "refused", &text, part)?,
-        Err(WordsFault::Memory) => return Err(Trouble("no memory")),
+        Task::Reduce { rounds, workers } => format!(in alloc; "reduce {rounds} {workers}"),
+        Task::Trace { rounds, format } => traced(alloc, *rounds, *format),
+        Task::Draw => String::from_str(alloc, "draw"),
+        Task::Help(text) => of_part(alloc, "help", text, part),
+        Task::Version(text) => format!(in alloc; "version {text}"),
+    }
+}
+
+/// What is asked for, and the scripts behind it.
+fn with_scripts(mut asked: String, scripts: &[String]) -> Result<String, AllocError> {
+    for script in scripts {
+        asked.push(' ')?;
+        asked.push_str(script.as_str())?;
+    }
+    Ok(asked)
+}
+
+/// What a trace asks for.
+fn traced(alloc: Global, rounds: u64, format: TraceFormat) -> Result<String, AllocError> {
+    let format = match format {
+        TraceFormat::Tsv => "tsv",
+        TraceFormat::Svg => "svg",
     };
-    Ok(answer.into_bytes())
+    format!(in alloc; "trace {rounds} {format}")
+}
+
+/// Why words are refused.
+fn refused(alloc: Global, fault: &WordsFault, part: &str) -> Result<String, Trouble> {
+    match fault {
+        WordsFault::Words(text) => Ok(of_part(alloc, "refused", text, part)?),
+        WordsFault::Memory => Err(Trouble("no memory")),
+    }
 }
 
 /// A word, and whether a text has a part.

@@ -2,7 +2,8 @@
 
 use ic_notation::Trouble;
 use ic_round::round;
-use ic_term::over;
+use ic_rules::RuleSet;
+use ic_term::{Config, over};
 use ic_text::{print_config, read_system};
 use std::alloc::{AllocError, Global};
 use std::thread::{self, Threads};
@@ -21,28 +22,44 @@ fn nested(alloc: Global, front: &[u8], back: &[u8]) -> Result<Vec<u8>, AllocErro
     Ok(text)
 }
 
+/// Whether a copy of a configuration has the same equations.
+fn is_copied(alloc: Global, config: &Config) -> Result<bool, AllocError> {
+    let copy = config.copy(alloc)?;
+    Ok(copy.equations() == config.equations())
+}
+
+/// The text after a round, where there is one over the symbols.
+fn after_round(
+    alloc: Global,
+    rules: &RuleSet,
+    config: Config,
+) -> Result<Option<Vec<u8>>, AllocError> {
+    if !over(rules.symbols(), &config) {
+        return Ok(None);
+    }
+    let Ok(after) = round(alloc, rules, config) else {
+        return Ok(None);
+    };
+    if !over(rules.symbols(), &after) {
+        return Ok(None);
+    }
+    Ok(Some(print_config(alloc, rules.symbols(), &after)?))
+}
+
 /// Whether `A(T)`, 8,190 nested agents, is read, copied, compared, fired, settled and printed as it should be: the round
 /// of `{A(x)><B(x)} <|A(T)=B(P)>` is `<|P=T>`.
 fn goes_deep(alloc: Global) -> Result<bool, AllocError> {
     let text = nested(alloc, b"{A(x)><B(x)}<|A(", b")=B(P)>")?;
+    let expected = nested(alloc, b"<|P=", b">")?;
     let Ok(system) = read_system(alloc, &text) else {
         return Ok(false);
     };
     let (rules, config) = system.into_parts();
-    let copy = config.copy(alloc)?;
-    let same = copy.equations() == config.equations();
-    if !over(rules.symbols(), &config) {
-        return Ok(false);
+    let same = is_copied(alloc, &config)?;
+    match after_round(alloc, &rules, config)? {
+        Some(line) => Ok(same && line.as_slice() == expected.as_slice()),
+        None => Ok(false),
     }
-    let Ok(after) = round(alloc, &rules, config) else {
-        return Ok(false);
-    };
-    if !over(rules.symbols(), &after) {
-        return Ok(false);
-    }
-    let line = print_config(alloc, rules.symbols(), &after)?;
-    let expected = nested(alloc, b"<|P=", b">")?;
-    Ok(same && line.as_slice() == expected.as_slice())
 }
 
 /// Whether it does so in a thread of its own.

@@ -64,11 +64,11 @@ pub fn gathered(alloc: Global, results: &str) -> Result<Vec<u8>, Trouble> {
         "1 0 1" => with_one_again(alloc)?,
         _ => with_one_for_no_gap(alloc)?,
     };
-    let line = match answer {
-        Ok(_) => "filled",
-        Err(GatherFault::Lost) => "lost",
-        Err(GatherFault::Stranger) => "stranger",
-        Err(GatherFault::Memory) => return Err(Trouble("no memory")),
+    let line = match answer.err() {
+        None => "filled",
+        Some(GatherFault::Lost) => "lost",
+        Some(GatherFault::Stranger) => "stranger",
+        Some(GatherFault::Memory) => return Err(Trouble("no memory")),
     };
     Ok(Vec::from_slice(alloc, line.as_bytes())?)
 }

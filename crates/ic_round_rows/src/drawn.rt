@@ -1,8 +1,8 @@
 //! Configurations that look drawn by chance, on which both bodies of settling agree.
 
+use crate::settling::both_settled;
 use ic_notation::{Draws, Trouble};
-use ic_round::laws::settle_slowly;
-use ic_round::{bind, settle};
+use ic_round::bind;
 use ic_term::{Cell, Config, Equation, Term};
 use std::alloc::{AllocError, Global};
 
@@ -20,6 +20,14 @@ fn constant(alloc: Global, sym: u32) -> Result<Term, AllocError> {
 fn around(alloc: Global, sym: u32, term: Term) -> Result<Term, AllocError> {
     let mut args = Vec::new(alloc);
     args.push(term)?;
+    agent(alloc, sym, args)
+}
+
+/// An agent with two arguments.
+fn around_two(alloc: Global, sym: u32, first: Term, second: Term) -> Result<Term, AllocError> {
+    let mut args = Vec::new(alloc);
+    args.push(first)?;
+    args.push(second)?;
     agent(alloc, sym, args)
 }
 
@@ -41,14 +49,12 @@ fn drawn_term(alloc: Global, draws: &mut Draws, pool: &mut Vec<u64>) -> Result<T
     for _ in 0..draws.below(3) {
         term = around(alloc, 1, term)?;
     }
-    let mut args = Vec::new(alloc);
-    args.push(drawn_name(alloc, draws, pool)?)?;
-    args.push(term)?;
-    agent(alloc, 2, args)
+    let name = drawn_name(alloc, draws, pool)?;
+    around_two(alloc, 2, name, term)
 }
 
-/// A configuration with chains, cycles, equations between names and of a name with itself, and free names.
-fn drawn_config(alloc: Global, draws: &mut Draws) -> Result<Config, Trouble> {
+/// Names, most of them twice, and the others once.
+fn drawn_pool(alloc: Global, draws: &mut Draws) -> Result<Vec<u64>, AllocError> {
     let mut pool = Vec::new(alloc);
     for name in 0..draws.below(14) as u64 {
         pool.push(name)?;
@@ -56,15 +62,38 @@ fn drawn_config(alloc: Global, draws: &mut Draws) -> Result<Config, Trouble> {
             pool.push(name)?;
         }
     }
+    Ok(pool)
+}
+
+fn drawn_interface(
+    alloc: Global,
+    draws: &mut Draws,
+    pool: &mut Vec<u64>,
+) -> Result<Vec<Term>, AllocError> {
     let mut interface = Vec::new(alloc);
     for _ in 0..draws.below(3) {
-        interface.push(drawn_term(alloc, draws, &mut pool)?)?;
+        interface.push(drawn_term(alloc, draws, pool)?)?;
     }
+    Ok(interface)
+}
+
+fn drawn_equation(
+    alloc: Global,
+    draws: &mut Draws,
+    pool: &mut Vec<u64>,
+) -> Result<Equation, AllocError> {
+    let left = drawn_term(alloc, draws, pool)?;
+    let right = drawn_term(alloc, draws, pool)?;
+    Ok(Equation { left, right })
+}
+
+/// A configuration with chains, cycles, equations between names and of a name with itself, and free names.
+fn drawn_config(alloc: Global, draws: &mut Draws) -> Result<Config, Trouble> {
+    let mut pool = drawn_pool(alloc, draws)?;
+    let interface = drawn_interface(alloc, draws, &mut pool)?;
     let mut equations = Vec::new(alloc);
     for _ in 0..draws.below(12) {
-        let left = drawn_term(alloc, draws, &mut pool)?;
-        let right = drawn_term(alloc, draws, &mut pool)?;
-        equations.push(Equation { left, right })?;
+        equations.push(drawn_equation(alloc, draws, &mut pool)?)?;
     }
     Ok(Config::new(alloc, interface, equations)?)
 }
@@ -73,11 +102,9 @@ fn drawn_config(alloc: Global, draws: &mut Draws) -> Result<Config, Trouble> {
 fn agreed(alloc: Global, config: Config) -> Result<usize, Trouble> {
     let bindings = bind(alloc, &config)?.len();
     let equations = config.equations().len();
-    let slow = settle_slowly(config.copy(alloc)?);
-    let fast = settle(alloc, config)?;
-    let removed = equations.checked_sub(slow.equations().len());
-    if fast != slow || removed != Some(bindings) {
-        return Err(Trouble("the bodies differ"));
+    let settled = both_settled(alloc, config)?;
+    if equations.checked_sub(settled.equations().len()) != Some(bindings) {
+        return Err(Trouble("the bindings aren't the equations that went"));
     }
     Ok(bindings)
 }
