@@ -6,7 +6,8 @@ from program import TOP
 
 SECOND = 4_194_304
 HEAD = 13
-EMPTY = b"ICT1\0"
+EMPTY = b"ICT2\0"
+OLD_EMPTY = b"ICT1\0"
 
 
 def slot(number, body, gate=1):
@@ -32,6 +33,12 @@ def table_by_hand():
     rows = (TOP / "docs/byte-form.md").read_text().split("## A table by hand")[1].split("\n## ")[0]
     cells = [line.split("|")[1] for line in rows.split("\n") if line.startswith("| `")]
     return bytes.fromhex("".join(re.findall(r"[0-9a-f]{2}", " ".join(cells))))
+
+
+def old_form(table):
+    """The old form of a table of one job without a budget, from the form that is written."""
+    behind_rounds = 4 + 1 + 1 + table[5] + 1 + 8
+    return b"ICT1" + table[4:behind_rounds] + table[behind_rounds + 8 :]
 
 
 def newest(data):

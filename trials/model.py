@@ -19,7 +19,8 @@ MAX_NODES, MAX_INTERFACE = 8_192, 64
 MAX_NAME = 2**32
 MAX_NEXT = MAX_ROUNDS = 2**62
 MAX_JOBS, MAX_JOB_NAME, MAX_RUN = 32, 16, 1_000
-STATES = ["running", "paused", "done", "halted"]
+MAX_BUDGET = 2**32 - 1
+STATES = ["running", "paused", "done", "halted", "spent"]
 
 Rule = namedtuple("Rule", "left right left_args right_args names")
 Config = namedtuple("Config", "interface equations next")
@@ -265,9 +266,14 @@ def passes_limits(rules, interface, equations):
     )
 
 
-def meaning(rules, interface, equations, job_name=""):
+def fits_budget(digits):
+    """Whether the digits of a budget, or none, are a budget's."""
+    return not digits or (len(digits) <= 10 and 1 <= int(digits) <= MAX_BUDGET)
+
+
+def meaning(rules, interface, equations, job_name="", budget=""):
     """The rule set and the configuration that phrases mean, or their first fault."""
-    if passes_limits(rules, interface, equations) or len(job_name) > MAX_JOB_NAME:
+    if passes_limits(rules, interface, equations) or len(job_name) > MAX_JOB_NAME or not fits_budget(budget):
         raise Fault("bad limit")
     symbols = {}
     sides = flat(rules) + interface + flat(equations)
@@ -319,17 +325,19 @@ def read_line(text, in_script=False):
     if reader.passes(""):
         return ("blank",)
     word = reader.take(JOB_NAME)
-    name = number = ""
+    name = number = budget = ""
     if word in ("submit", "pause", "resume", "cancel", "fetch"):
         name = reader.take(JOB_NAME)
     elif word == "run" and not in_script:
         number = reader.take(NUMBER)
     elif word != "list":
         raise Fault("bad syntax")
+    if word == "submit" and reader.next() != "{":
+        budget = reader.take(NUMBER)
     phrases = reader.system() if word == "submit" else None
     reader.end()
     if phrases:
-        return word, name, *meaning(*phrases, name)
+        return word, name, *meaning(*phrases, name, budget), int(budget) if budget else None
     if len(name) > MAX_JOB_NAME or len(number) > 4 or int(number or 0) > MAX_RUN:
         raise Fault("bad limit")
     return (word, int(number)) if number else (word, name)
@@ -497,8 +505,8 @@ def round_of(rules, config):
 
 
 class Job:
-    def __init__(self, name, rules, config, rounds=0, state=None):
-        self.name, self.rules, self.config, self.rounds = name, rules, config, rounds
+    def __init__(self, name, rules, config, rounds=0, state=None, budget=None):
+        self.name, self.rules, self.config, self.rounds, self.budget = name, rules, config, rounds, budget
         self.state = state or ("done" if is_quiet(rules, config) else "running")
 
     def move(self):
@@ -513,6 +521,8 @@ class Job:
         self.rounds += 1
         if is_quiet(self.rules, self.config):
             self.state = "done"
+        elif self.rounds == self.budget:
+            self.state = "spent"
 
     def shown(self):
         return f"{self.name} {self.state} {self.rounds} {printed(self.rules, self.config)}"
@@ -527,13 +537,13 @@ class Table:
     def named(self, name):
         return next((job for job in self.jobs if job.name == name), None)
 
-    def apply(self, word, name=None, rules=None, config=None):
+    def apply(self, word, name=None, rules=None, config=None, budget=None):
         """Does a command and answers it."""
         job = self.named(name)
         if word == "list":
             return "".join(["jobs", *(f" {it.name}:{it.state}:{it.rounds}" for it in self.jobs)])
         if word == "submit":
-            return self.submit(name, rules, config)
+            return self.submit(name, rules, config, budget)
         if job is None:
             return "refused nojob"
         if word == "fetch":
@@ -547,12 +557,12 @@ class Table:
         job.state = after
         return "ok"
 
-    def submit(self, name, rules, config):
+    def submit(self, name, rules, config, budget=None):
         if self.named(name):
             return "refused taken"
         if len(self.jobs) == MAX_JOBS:
             return "refused full"
-        self.jobs.append(Job(name, rules, config))
+        self.jobs.append(Job(name, rules, config, budget=budget))
         return "accepted"
 
     def due(self, after):

@@ -18,7 +18,7 @@ from model import (
 
 MAX_LINES = 1_000_000
 MAX_ENTRIES = 65_536
-MAX_BODY = 3_036_421
+MAX_BODY = 3_036_677
 SECOND_SLOT, HEAD = 4_194_304, 13
 MAX_NUMBER = 2**64 - 1
 SYMBOL_BYTES = [bytes([symbol]) for symbol in range(256)]
@@ -38,7 +38,7 @@ class Ended(Exception):
 
 # The byte form.
 
-FORM = b"ICT1"
+FORM, OLD_FORM = b"ICT2", b"ICT1"
 
 
 def number_bytes(number, length):
@@ -49,10 +49,12 @@ def term_bytes(term):
     return b"".join([b"\xff" + node.to_bytes(8, "big") if node >= 0 else SYMBOL_BYTES[~node] for node in term])
 
 
-def job_bytes(job):
+def job_bytes(job, form=FORM):
     rules, config = job.rules, job.config
     parts = [bytes([len(job.name)]), job.name.encode(), bytes([model.STATES.index(job.state)])]
-    parts += [number_bytes(job.rounds, 8), number_bytes(config.next, 8), bytes([len(rules.symbols)])]
+    parts += [number_bytes(job.rounds, 8)]
+    parts += [number_bytes(job.budget or 0, 8)] if form == FORM else []
+    parts += [number_bytes(config.next, 8), bytes([len(rules.symbols)])]
     parts += [bytes([len(text)]) + text.encode() + bytes([arity]) for text, arity in rules.symbols]
     parts.append(number_bytes(len(rules.rules), 2))
     for rule in rules.rules:
@@ -63,8 +65,8 @@ def job_bytes(job):
     return b"".join(parts)
 
 
-def encode(table):
-    return b"".join([FORM, bytes([len(table.jobs)]), *map(job_bytes, table.jobs)])
+def encode(table, form=FORM):
+    return b"".join([form, bytes([len(table.jobs)]), *(job_bytes(job, form) for job in table.jobs)])
 
 
 class NotATable(Exception):
@@ -136,26 +138,32 @@ class FormReader:
         need(max(names, default=-1) < next_name and model.third_occurrence(names) is None)
         return config
 
-    def job(self):
+    def job(self, form):
         name = self.word(JOB_NAME, model.MAX_JOB_NAME)
-        state, rounds, next_name = self.number(1), self.number(8), self.number(8)
+        state, rounds = self.number(1), self.number(8)
+        budget = self.number(8) if form == FORM else 0
+        next_name = self.number(8)
         rules = self.rules()
         config = self.configuration(rules.arities, next_name)
         need(state < len(model.STATES) and rounds <= model.MAX_ROUNDS)
-        need((model.STATES[state] == "done") == model.is_quiet(rules, config))
-        return Job(name, rules, config, rounds, model.STATES[state])
+        need(budget <= model.MAX_BUDGET and (not budget or rounds <= budget))
+        quiet, used_up = model.is_quiet(rules, config), budget > 0 and rounds == budget
+        need((model.STATES[state] == "done") == quiet)
+        need((model.STATES[state] == "spent") == (used_up and not quiet))
+        return Job(name, rules, config, rounds, model.STATES[state], budget or None)
 
 
 def decode(form):
     """The table that has this form, or nothing."""
     reader = FormReader(form)
     try:
-        need(reader.bytes(4) == FORM)
-        table = Table(reader.job() for _ in range(reader.number(1)))
+        kind = reader.bytes(4)
+        need(kind in (FORM, OLD_FORM))
+        table = Table(reader.job(kind) for _ in range(reader.number(1)))
         need(len(table.jobs) <= model.MAX_JOBS and len({job.name for job in table.jobs}) == len(table.jobs))
     except NotATable:
         return None
-    return table if encode(table) == form else None
+    return table if encode(table, kind) == form else None
 
 
 # The disk.

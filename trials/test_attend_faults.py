@@ -104,14 +104,14 @@ class AttendFaults(Attending):
         self.two_is_done(ran.command)
 
     def test_stopped_device_where_a_file_may_grow_no_further(self):
-        """The table with the job `two` ends at 4,194,443."""
-        for most in (0, SECOND, SECOND + 1, SECOND + 13, SECOND + 138):
+        """The table with the job `two` ends at 4,194,451."""
+        for most in (0, SECOND, SECOND + 1, SECOND + 13, SECOND + 146):
             put(self.jobs, slot(1, EMPTY))
             words = self.attends(self.paths[0], runners=0)
             told = ["client 0", "stopped device"]
             self.refuses(*words, out=told, line="device", status=4, **grows_to(most))
             self.serves(self.jobs, "list", ["jobs"])
-        self.runs(*words, out=TOLD[:3], **grows_to(SECOND + 139))
+        self.runs(*words, out=TOLD[:3], **grows_to(SECOND + 147))
         self.leaves(words, two=0)
 
     def test_stopped_broken_where_a_keep_has_failed_before(self):

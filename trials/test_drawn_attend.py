@@ -7,7 +7,7 @@ import model_disk
 from against_model import ModelTrial
 from model_disk import HEAD, MAX_NUMBER, SECOND_SLOT, Disk
 from program import run
-from test_drawn_serving import job_names, small_systems
+from test_drawn_serving import BUDGETS, job_names, small_systems
 
 WORDS = ["submit"] * 4 + ["fetch"] * 5 + ["pause", "resume"] * 2 + ["cancel"]
 
@@ -18,11 +18,16 @@ LONGEST = 400_000
 ENDLESS = 10_000
 
 
+def submit(drawn, name, systems):
+    """The submit of a job, with a budget or without one."""
+    return f"submit {name} {drawn.choice(BUDGETS)}{drawn.choice(systems)}"
+
+
 class Course:
     """A job's rounds from its submit on, up to its end or up to a bound."""
 
-    def __init__(self, name, rules, config):
-        self.job = model.Job(name, rules, config)
+    def __init__(self, name, rules, config, budget=None):
+        self.job = model.Job(name, rules, config, budget=budget)
         self.shown = [self.job.shown()]
         self.paused, self.least, self.most = False, 0, None
 
@@ -34,7 +39,7 @@ class Course:
         return self.shown[rounds] if rounds < len(self.shown) else None
 
     def ends_after(self, rounds):
-        """Whether it is done or halted at some number of rounds from this one on."""
+        """Whether it is done, spent or halted at some number of rounds from this one on."""
         self.at(rounds + ENDLESS)
         return self.job.state != "running" and rounds < len(self.shown)
 
@@ -101,7 +106,7 @@ class DrawnAttend(ModelTrial):
             systems, lines = [it for it in small_systems(drawn, 3) if "A(x,r)" not in it], []
             for _ in range(drawn.randint(0, length)):
                 word, name = drawn.choice(WORDS), drawn.choice(names[place::count])
-                lines.append(f"submit {name} {drawn.choice(systems)}" if word == "submit" else f"{word} {name}")
+                lines.append(submit(drawn, name, systems) if word == "submit" else f"{word} {name}")
                 lines += [""] * (drawn.random() < 0.05)
             texts.append("\n".join(lines) + drawn.choice(["", "\n"] if lines else [""]))
         return texts
@@ -118,8 +123,8 @@ class DrawnAttend(ModelTrial):
             disk = self.new_disk()
             for _ in range(drawn.randint(1, 3)):
                 names, systems = job_names(drawn, 3), small_systems(drawn, 3)
-                lines = [f"{drawn.choice(WORDS)} {drawn.choice(names)}" for _ in range(drawn.randrange(30))]
-                lines = [f"{it} {drawn.choice(systems)}" if it.startswith("submit ") else it for it in lines] + ["list"]
+                asked = [(drawn.choice(WORDS), drawn.choice(names)) for _ in range(drawn.randrange(30))]
+                lines = [submit(drawn, name, systems) if word == "submit" else f"{word} {name}" for word, name in asked] + ["list"]
                 wanted = model_disk.serve(disk, "\n".join(lines).encode())
                 ran = self.attend(["\n".join(lines)], "--runners", 0, "--workers", drawn.randint(1, 64))
                 self.ended(ran, b"client 0\n" + wanted.out)

@@ -4,8 +4,8 @@ import draws
 import model
 import model_disk
 from against_model import ModelTrial
-from model import MAX_NEXT, MAX_ROUNDS, Config, Job, Rules, Table
-from model_disk import HEAD, MAX_BODY, MAX_NUMBER, SECOND_SLOT, Disk
+from model import MAX_BUDGET, MAX_NEXT, MAX_ROUNDS, Config, Job, Rules, Table
+from model_disk import FORM, HEAD, MAX_BODY, MAX_NUMBER, OLD_FORM, SECOND_SLOT, Disk
 from program import run
 from test_drawn_rounds import ADDITION, LOOP
 from test_drawn_serving import job_names, session, small_systems
@@ -54,10 +54,19 @@ def table(drawn, most=6, least=0, sizes=(1, 1, 2, 4)):
             face = [tuple(fresh.get(node, node) for node in term) for term in config.interface]
             config = Config(face, [tuple(it) for it in moved], drawn.choice([greatest, MAX_NEXT]))
         job = Job(name, rule_set, config, drawn.choice([0, 1, 255, 256, 2**32, MAX_ROUNDS - 2, MAX_ROUNDS]))
+        if job.rounds < MAX_BUDGET and drawn.random() < 0.3:
+            job.budget = drawn.choice([max(1, job.rounds), job.rounds + 1, job.rounds + 3, MAX_BUDGET])
         if job.state == "running":
             job.state = drawn.choice(["running", "running", "paused", "halted"])
+            job.state = "spent" if job.rounds == job.budget else job.state
         jobs.append(job)
     return Table(jobs)
+
+
+def form_of(drawn, jobs):
+    """A form of a table: the one that is written, or the old one where no job has a budget."""
+    unbudgeted = all(job.budget is None for job in jobs.jobs)
+    return model_disk.encode(jobs, drawn.choice([FORM, OLD_FORM]) if unbudgeted else FORM)
 
 
 def sized_table(drawn, count, least, most):
@@ -76,11 +85,13 @@ def unsound(drawn, jobs):
     job = drawn.choice(jobs.jobs)
     how = drawn.randrange(4)
     if how == 0:
-        change = drawn.choice(["state", "rounds", "name", "jobs"])
+        change = drawn.choice(["state", "rounds", "budget", "name", "jobs"])
         if change == "state":
             job.state = drawn.choice(model.STATES)
         elif change == "rounds":
             job.rounds = drawn.choice([MAX_ROUNDS, MAX_ROUNDS + 1, 2**63, 2**64 - 1])
+        elif change == "budget":
+            job.budget = drawn.choice([1, job.rounds, job.rounds + 1, max(0, job.rounds - 1), MAX_BUDGET, MAX_BUDGET + 1, 2**63])
         elif change == "name":
             job.name = drawn.choice([drawn.choice(jobs.jobs).name, "", "A", "-a", "a_", "9", "a" * 16, "a" * 17])
         else:
@@ -202,13 +213,14 @@ class DrawnDisks(ModelTrial):
         drawn = self.draws()
         for lines in ([TWO], [TWO, "run 10"]):
             table = self.kept(*lines).open()
-            whole = Disk()
-            whole.put_slot(0, 1, model_disk.encode(table))
-            self.changed(bytes(whole.content), range(len(whole.content)), drawn, 9, ["list", "fetch two"])
+            for form, count in ((FORM, 9), (OLD_FORM, 4)):
+                whole = Disk()
+                whole.put_slot(0, 1, model_disk.encode(table, form))
+                self.changed(bytes(whole.content), range(len(whole.content)), drawn, count, ["list", "fetch two"])
 
     def test_one_byte_of_a_done_table_changed(self):
         disk = self.kept(TWO, "run 10")
-        self.changed(bytes(disk.content), range(119), self.draws(), 3)
+        self.changed(bytes(disk.content), range(HEAD + 114), self.draws(), 3)
 
     def test_each_value_of_some_bytes(self):
         drawn = self.draws()
@@ -220,11 +232,11 @@ class DrawnDisks(ModelTrial):
     def test_each_front_of_a_table(self):
         for lines in ([TWO], [TWO, "run 10"], [TWO, "pause two", f"submit loop {LOOP}<|A(x)=B(x)>"]):
             disk = self.kept(*lines)
-            form = model_disk.encode(disk.open())
-            for length in range(len(form) + 1):
-                disk = Disk()
-                disk.put_slot(0, 1, form[:length])
-                self.opened(disk.content)
+            for form in (model_disk.encode(disk.open(), it) for it in (FORM, OLD_FORM)):
+                for length in range(len(form) + 1):
+                    disk = Disk()
+                    disk.put_slot(0, 1, form[:length])
+                    self.opened(disk.content)
 
     def test_a_new_disk_cut_to_each_length(self):
         content = bytes(self.kept().content)
@@ -235,14 +247,14 @@ class DrawnDisks(ModelTrial):
         drawn = self.draws()
         for lines in ([], [TWO], [TWO, "run 10"], [TWO, "run 1", "run 1"]):
             content = bytes(self.kept(*lines).content)
-            ends = [0, 1, 12, 13, 14, 17, 18, 19, 118, 119, 120, SECOND_SLOT - 1, *range(SECOND_SLOT, len(content))]
+            ends = [0, 1, 12, 13, 14, 17, 18, 19, 126, 127, 128, SECOND_SLOT - 1, *range(SECOND_SLOT, len(content))]
             for end in drawn.sample(ends, min(len(ends), 50)):
                 self.opened(content[:end])
                 self.opened(content[:end] + bytes(drawn.choice([1, 9])))
 
     def test_both_slots_in_all_states(self):
         drawn = self.draws()
-        tables = [model_disk.encode(it) for it in (Table(), table(drawn), table(drawn), Table())]
+        tables = [form_of(drawn, it) for it in (Table(), table(drawn), table(drawn), Table())]
         for _ in range(400):
             disk = Disk(bytes(drawn.choice([0, SECOND_SLOT + HEAD, SECOND_SLOT + 5_000])))
             number = drawn.choice([0, 1, 2, 255, 2**32, MAX_NUMBER - 1, MAX_NUMBER])
@@ -259,7 +271,7 @@ class DrawnDisks(ModelTrial):
 
     def test_lengths_of_bodies_up_to_the_bound(self):
         near = [MAX_BODY - 1, MAX_BODY, MAX_BODY + 1]
-        for length in (0, 4, 5, 6, 126, *near, SECOND_SLOT - HEAD, SECOND_SLOT, 2**31, 2**32 - 1):
+        for length in (0, 4, 5, 6, 126, 134, *near, SECOND_SLOT - HEAD, SECOND_SLOT, 2**31, 2**32 - 1):
             for end in (SECOND_SLOT + HEAD, SECOND_SLOT + HEAD + MAX_BODY + 9, 2 * SECOND_SLOT + HEAD):
                 content = bytearray(self.kept(TWO).content)
                 content.extend(bytes(max(0, end - len(content))))
@@ -272,7 +284,7 @@ class DrawnDisks(ModelTrial):
             for number in {max(0, 2**power - 2), 2**power - 1, min(MAX_NUMBER, 2**power)}:
                 disk = Disk(bytes(SECOND_SLOT + HEAD))
                 slot = drawn.randrange(2)
-                disk.put_slot(slot, number, model_disk.encode(table(drawn, 2)))
+                disk.put_slot(slot, number, form_of(drawn, table(drawn, 2)))
                 if drawn.random() < 0.5 and number:
                     disk.put_slot(1 - slot, drawn.randrange(number), b"anything")
                 self.opened(disk.content, session(drawn, ["two", "b"], small_systems(drawn, 1), 6, 9))
@@ -288,7 +300,7 @@ class DrawnDisks(ModelTrial):
 
     def goes_on_with(self, drawn, jobs, most_rounds=40):
         """A table that is opened, shown, run, changed and shown."""
-        disk, form = Disk(bytes(SECOND_SLOT + HEAD)), model_disk.encode(jobs)
+        disk, form = Disk(bytes(SECOND_SLOT + HEAD)), form_of(drawn, jobs)
         disk.put_slot(drawn.randrange(2), drawn.randrange(2**64 - 99), form)
         names = [job.name for job in jobs.jobs]
         look = ["list", *(f"fetch {name}" for name in names)]
@@ -313,7 +325,7 @@ class DrawnDisks(ModelTrial):
     def test_spoilt_tables(self):
         drawn = self.draws()
         for _ in range(1_000):
-            form = bytearray(model_disk.encode(table(drawn, drawn.choice([1, 1, 2, 4]))))
+            form = bytearray(form_of(drawn, table(drawn, drawn.choice([1, 1, 2, 4]))))
             how, at = drawn.randrange(6), drawn.randrange(len(form))
             if how < 3:
                 form[at] = drawn.choice([0, 1, 255, form[at] ^ 1, (form[at] + 1) % 256, drawn.randrange(256)])
@@ -335,7 +347,7 @@ class DrawnDisks(ModelTrial):
             for _ in range(drawn.choice([1, 1, 2])):
                 unsound(drawn, jobs)
             disk = Disk(drawn.choice([b"", b"", b"", bytes(SECOND_SLOT + HEAD)]))
-            disk.put_slot(0, 1, model_disk.encode(jobs))
+            disk.put_slot(0, 1, form_of(drawn, jobs))
             self.opened(disk.content, ["list", "run 1", "list"])
 
     def test_tables_at_each_limit(self):

@@ -44,7 +44,8 @@ def line_told(text):
 def asked_told(asked):
     word, *rest = asked
     if word == "submit":
-        rest = [rest[0], model.printed(*rest[1:])]
+        name, rules, config, budget = rest
+        rest = [name, *([budget] if budget else []), model.printed(rules, config)]
     return " ".join(map(str, [word, *rest])).strip()
 
 

@@ -4,7 +4,7 @@ Want of memory and of threads is tried in test_faults.py; the lines of docs/clie
 import os
 import subprocess
 
-from disks import EMPTY, HEAD, SECOND, disk_of, slot, table_by_hand
+from disks import EMPTY, HEAD, OLD_EMPTY, SECOND, disk_of, old_form, slot, table_by_hand
 from program import PROGRAM, Server, Trial, grows_to, run
 
 ADD = "{Add(x,x)><Z;Add(S(x),y)><S(Add(x,y))}"
@@ -181,12 +181,27 @@ class Disks(Trial):
 
     def test_what_is_kept_is_the_table_that_the_page_writes_by_hand(self):
         table = table_by_hand()
-        self.equals("docs/byte-form.md", "bytes of the table by hand", 126, len(table))
+        self.equals("docs/byte-form.md", "bytes of the table by hand", 134, len(table))
         disk = self.disk()
         self.serves(disk, [TWO], ["accepted"])
         self.holds(disk, disk_of(slot(1, EMPTY), slot(2, table)))
         made = self.file("made", disk_of(slot(1, EMPTY), slot(2, table)))
         self.serves(made, ["list", "fetch two"], ["jobs two:running:0", "two running 0 <r|Add(r,S(Z))=S(Z)>"])
+
+    def test_a_disk_of_the_old_form_opens_and_its_newest_slot_stays_as_it_was(self):
+        table = table_by_hand()
+        old = old_form(table)
+        self.equals("docs/byte-form.md", "bytes of the old form", 126, len(old))
+        before = disk_of(slot(1, OLD_EMPTY), slot(2, old))
+        disk = self.file("old", before)
+        self.serves(disk, ["list", "fetch two"], ["jobs two:running:0", "two running 0 <r|Add(r,S(Z))=S(Z)>"])
+        self.holds(disk, before)
+        self.serves(disk, ["pause two"], ["ok"])
+        paused = table.replace(b"two\0", b"two\1", 1)
+        first = slot(3, paused)
+        self.holds(disk, first + before[len(first) :])
+        self.serves(disk, ["resume two"], ["ok"])
+        self.holds(disk, disk_of(first, slot(4, table)))
 
     def test_device_where_the_file_is_missing_and_then_it_isnt_made(self):
         missing = self.room / "missing"
@@ -230,8 +245,8 @@ class Disks(Trial):
         whole = disk_of(slot(1, EMPTY), slot(2, table))
         bodies = [table[:-1], table + b"\0", b"ICT0" + table[4:], b""]
         cases = [whole[:-1], whole[: SECOND + HEAD], *(disk_of(slot(1, EMPTY), slot(2, it)) for it in bodies)]
-        long = slot(2, b"")[:9] + (3_036_422).to_bytes(4, "big")
-        cases += [disk_of(slot(1, EMPTY), long + table.ljust(3_036_422, b"\0")), disk_of(slot(3, b"x"), slot(2, table))]
+        long = slot(2, b"")[:9] + (3_036_678).to_bytes(4, "big")
+        cases += [disk_of(slot(1, EMPTY), long + table.ljust(3_036_678, b"\0")), disk_of(slot(3, b"x"), slot(2, table))]
         for i, data in enumerate(cases):
             with self.subTest(case=i):
                 self.leaves(self.file("disk", data), "damaged")
@@ -304,14 +319,14 @@ class Servings(Trial):
         self.agrees(disk, "the head of the second slot", b"\1" + b"\xff" * 8, disk.read_bytes()[SECOND : SECOND + 9])
 
     def test_device_where_a_file_may_grow_no_further(self):
-        """The table of 126 bytes ends at 4,194,443."""
+        """The table of 134 bytes ends at 4,194,451."""
         for most in (0, 1, 18, SECOND, SECOND + 1, SECOND + 12):
             self.refuses("create", "--disk", self.room / "new", line="device", status=3, **grows_to(most))
         self.runs("create", "--disk", self.room / "new", **grows_to(SECOND + 13))
-        for most in (0, SECOND, SECOND + 1, SECOND + 13, SECOND + 138):
+        for most in (0, SECOND, SECOND + 1, SECOND + 13, SECOND + 146):
             disk = self.disk()
             how = grows_to(most)
             self.refuses("serve", "--disk", disk, given=["list", TWO, "list"], out=["jobs"], line="device", status=4, **how)
             self.serves(disk, "list", ["jobs"])
-        self.serves(disk, [TWO], ["accepted"], **grows_to(SECOND + 139))
+        self.serves(disk, [TWO], ["accepted"], **grows_to(SECOND + 147))
         self.serves(disk, "list", ["jobs two:running:0"])

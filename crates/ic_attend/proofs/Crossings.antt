@@ -7,6 +7,7 @@ use Rattle.ic_term.proofs.term.Term.TheLaws.TheKnot.{crosses as terms}
 use Rattle.ic_term.proofs.symbols.Symbols.TheSendSync as symbols
 use Rattle.ic_rules.proofs.rule_set.SymbolPair.TheSendSync as pair
 use Rattle.ic_rules.proofs.job_name.JobName.TheSendSync as name
+use Rattle.ic_jobs.proofs.budget.Budget.TheSendSync as budget
 use Rattle.ic_jobs.proofs.shown.JobList.TheSendSync as list
 use Rattle.ic_jobs.proofs.state.State.TheSendSync as state
 use Rattle.ic_jobs.proofs.reply.Refusal.TheSendSync as refusal
@@ -50,7 +51,7 @@ System_send : IsSend System.the_field.row
 System_send = search (Config_send, RuleSet_send, RuleSet_sync, sendable, crosses) depth 40
 
 pub Command_send : IsSend Command.the_field.row
-Command_send = search (System_send, name.the_send, sendable, crosses) depth 40
+Command_send = search (System_send, name.the_send, budget.the_send, sendable, crosses) depth 40
 
 ShownJob_send : IsSend ShownJob.the_field.row
 ShownJob_send = search (Config_send, Config_sync, RuleSet_send, RuleSet_sync, name.the_send, state.the_field_send, sendable, crosses) depth 40
@@ -65,7 +66,7 @@ pub Entry_send : IsSend Entry.the_field.row
 Entry_send = search (Event_send, Reply_send, sendable, crosses) depth 40
 
 Job_send : IsSend Job.the_field.row
-Job_send = search (Config_send, Config_sync, RuleSet_send, RuleSet_sync, name.the_send, state.the_field_send, sendable, crosses) depth 40
+Job_send = search (Config_send, Config_sync, RuleSet_send, RuleSet_sync, name.the_send, state.the_field_send, budget.the_send, sendable, crosses) depth 40
 
 pub Table_send : IsSend Table.the_field.row
 Table_send = search (Job_send, sendable, crosses) depth 40
@@ -80,7 +81,7 @@ Book_send : (D : RattleType) (g : Ghosts D.Denot) → IsSend D → IsSend (Book.
 Book_send D g s = let k = keeper.the_field_send D g s in search (Table_send, Entry_send, sendable, crosses) depth 40
 
 pub Command_row_send : IsSend Command.the_row
-Command_row_send = search (System_send, name.the_send, sendable, crosses) depth 40
+Command_row_send = search (System_send, name.the_send, budget.the_send, sendable, crosses) depth 40
 
 pub Desk_row_sync : (D : RattleType) (g : Ghosts D.Denot) → IsSend D → IsSync (Desk.the_row D g)
 Desk_row_sync D g s = let b = Book_send D g s in search (sendable, crosses) depth 40

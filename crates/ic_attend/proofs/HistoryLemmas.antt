@@ -237,17 +237,17 @@ stays others t name [] none = refl
 stays others t name (e ∷ es) none = stays others (table_after t e.event) name es none.1 ∙ others t e.event name none.0
 
 -- an accepted submit leaves its job as it begins
-pub accepted_begins : (t : List JobParts) (name : List ℕ) (system : SystemParts) → (after_command t (Submit name system)).reply ≡ Accepted
-    → job_named name (after_command t (Submit name system)).table ≡ Some (begun name system)
-accepted_begins t name system is = at (job_named name t) (nat_lt (length t) MAX_JOBS) refl is
+pub accepted_begins : (t : List JobParts) (name : List ℕ) (system : SystemParts) (budget : Option ℕ) → (after_command t (Submit name system budget)).reply ≡ Accepted
+    → job_named name (after_command t (Submit name system budget)).table ≡ Some (begun name system budget)
+accepted_begins t name system budget is = at (job_named name t) (nat_lt (length t) MAX_JOBS) refl is
   where
     at : (o : Option JobParts) (room : Bool) → job_named name t ≡ o
-        → (if is_some o then outcome t (Refused Taken) else (if room then outcome (t ++ begun name system ∷ []) Accepted else outcome t (Refused Full))).reply ≡ Accepted
-        → job_named name (if is_some o then outcome t (Refused Taken) else (if room then outcome (t ++ begun name system ∷ []) Accepted else outcome t (Refused Full))).table ≡ Some (begun name system)
+        → (if is_some o then outcome t (Refused Taken) else (if room then outcome (t ++ begun name system budget ∷ []) Accepted else outcome t (Refused Full))).reply ≡ Accepted
+        → job_named name (if is_some o then outcome t (Refused Taken) else (if room then outcome (t ++ begun name system budget ∷ []) Accepted else outcome t (Refused Full))).table ≡ Some (begun name system budget)
     at (Some j) room none told = absurd (let bad : Refused Taken ≡ Accepted = told in cc)
     at None false none told = absurd (let bad : Refused Full ≡ Accepted = told in cc)
     at None true none told =
         let own : bytes_eq name name ≡ true = (bytes_eq-Decides name name).1 refl in
-        find-append (is_named name) t (begun name system ∷ [])
-        ∙ ap (λ (o : Option JobParts). option_or o (find (is_named name) (begun name system ∷ []))) none
-        ∙ ap (λ (b : Bool). if b then Some (begun name system) else None) own
+        find-append (is_named name) t (begun name system budget ∷ [])
+        ∙ ap (λ (o : Option JobParts). option_or o (find (is_named name) (begun name system budget ∷ []))) none
+        ∙ ap (λ (b : Bool). if b then Some (begun name system budget) else None) own

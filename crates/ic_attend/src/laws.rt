@@ -1,6 +1,6 @@
 //! Laws of the definitions that the contracts of this crate cite.
 
-ghost use Rattle.std.specs.Prelude.{◌≡◌, ◌≢◌, ◌↔◌, ◌≤◌, ℕ, List, [], ◌∷◌, ◌++◌, None, Some, Result, IsTrue, false, length, take, slice_get};
+ghost use Rattle.std.specs.Prelude.{◌≡◌, ◌≢◌, ◌↔◌, ◌≤◌, ℕ, List, [], ◌∷◌, ◌++◌, None, Option, Some, Result, IsTrue, false, length, take, slice_get};
 ghost use Rattle.std.specs.List.{AllByRecursion};
 ghost use Rattle.ic_term.specs.Configuration.{Configuration};
 ghost use Rattle.ic_rules.specs.RuleSet.{Rules};
@@ -101,10 +101,11 @@ pub fn a_client_reads_back_its_own()
         → AllByRecursion (λ e. mentions name e.event ≡ false) mid
         → r ≡ fetch_reply (job_named name (replay start front)) }
     ensures submitted { (start : List JobParts) (front : List Entry) (who : ℕ)
-        (name : List ℕ) (system : SystemParts)
-        → IsLegal start (front ++ command_entry who (Submit name system) Accepted ∷ [])
+        (name : List ℕ) (system : SystemParts) (budget : Option ℕ)
+        → IsLegal start (front ++ command_entry who (Submit name system budget) Accepted ∷ [])
         → job_named name (replay start
-        (front ++ command_entry who (Submit name system) Accepted ∷ [])) ≡ Some (begun name system) }
+        (front ++ command_entry who (Submit name system budget) Accepted ∷ []))
+        ≡ Some (begun name system budget) }
 {
     a_client_reads_what_came_before();
     ic_jobs::laws::histories_split_and_join();

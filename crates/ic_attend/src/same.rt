@@ -3,7 +3,7 @@
 ghost use Rattle.std.specs.Prelude.{◌≡◌, ◌↔◌, IsTrue};
 ghost use Rattle.ic_jobs.specs.declared.state.State.{State as JobState};
 
-use ic_jobs::{Command, Reply, ShownJob, State};
+use ic_jobs::{Budget, Command, Reply, ShownJob, State};
 use ic_rules::{JobName, System};
 
 fn same_name(left: &JobName, right: &JobName) -> bool
@@ -20,12 +20,24 @@ fn same_system(left: &System, right: &System) -> bool
     *left.config() == *right.config() && **left.rules() == **right.rules()
 }
 
+fn same_budget(left: &Option<Budget>, right: &Option<Budget>) -> bool
+    ensures { IsTrue result ↔ (left.now ≡ right.now) }
+{
+    match (left, right) {
+        (Some(left), Some(right)) => left.rounds() == right.rounds(),
+        (None, None) => true,
+        _ => false,
+    }
+}
+
 pub(crate) fn same_command(left: &Command, right: &Command) -> bool
     ensures { IsTrue result ↔ (left.now ≡ right.now) }
 {
     match left {
-        Command::Submit(name, system) => match right {
-            Command::Submit(other, twin) => same_name(name, other) && same_system(system, twin),
+        Command::Submit(name, system, budget) => match right {
+            Command::Submit(other, twin, most) => {
+                same_name(name, other) && same_system(system, twin) && same_budget(budget, most)
+            }
             _ => false,
         },
         Command::Pause(name) => match right {

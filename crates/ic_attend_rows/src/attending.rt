@@ -205,6 +205,7 @@ fn tell_job(alloc: Global, line: &mut Vec<u8>, job: &Job) -> Result<(), Trouble>
         State::Paused => b" paused ",
         State::Done => b" done ",
         State::Halted => b" halted ",
+        State::Spent => b" spent ",
     };
     line.extend_from_slice(state)?;
     if job.state() != State::Running {

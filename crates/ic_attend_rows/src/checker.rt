@@ -6,8 +6,8 @@ use ic_attend::{Attended, ClientRun, RunnerEnd};
 use ic_commands::print_reply;
 use ic_desk::{Book, BookFault};
 use ic_disk::Disk;
-use ic_jobs::{Command, Entry, Event, Landed, Reply, State, Table};
-use ic_notation::{Trouble, printed};
+use ic_jobs::{Budget, Command, Entry, Event, Landed, Reply, State, Table};
+use ic_notation::{Trouble, decimal, printed};
 use ic_pool::{Flight, PoolFault, play_alone};
 use ic_rules::{JobName, System};
 use std::alloc::Global;
@@ -295,10 +295,10 @@ fn same_words(alloc: Global, left: &Command, right: &Command) -> Result<(), Trou
     Ok(())
 }
 
-/// The words of a command: what it is, its job, and the configuration of a submit.
+/// The words of a command: what it is, its job, and the budget and configuration of a submit.
 fn words_of(alloc: Global, command: &Command) -> Result<Vec<u8>, Trouble> {
     match command {
-        Command::Submit(name, system) => submit_words(alloc, name, system),
+        Command::Submit(name, system, budget) => submit_words(alloc, name, system, budget),
         Command::Pause(name) => about(alloc, b"pause ", name),
         Command::Resume(name) => about(alloc, b"resume ", name),
         Command::Cancel(name) => about(alloc, b"cancel ", name),
@@ -313,8 +313,17 @@ fn about(alloc: Global, verb: &[u8], name: &JobName) -> Result<Vec<u8>, Trouble>
     Ok(words)
 }
 
-fn submit_words(alloc: Global, name: &JobName, system: &System) -> Result<Vec<u8>, Trouble> {
+fn submit_words(
+    alloc: Global,
+    name: &JobName,
+    system: &System,
+    budget: &Option<Budget>,
+) -> Result<Vec<u8>, Trouble> {
     let mut words = about(alloc, b"submit ", name)?;
+    if let Some(budget) = budget {
+        words.push(b' ')?;
+        decimal(&mut words, budget.rounds())?;
+    }
     words.append(&mut printed(alloc, system.rules(), system.config())?)?;
     Ok(words)
 }

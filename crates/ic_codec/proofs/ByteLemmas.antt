@@ -1,5 +1,5 @@
 -- Each number of a byte form is a byte.
-use Rattle.std.proofs.Common.{◌≡◌, ℕ, zero, suc, ◌^◌, ◌<◌, ◌≤◌, ◌/◌, Bool, true, false, ◌&&◌, ◌||◌, ◌==◌, List, [], ◌∷◌, ◌++◌, length, refl, arith}
+use Rattle.std.proofs.Common.{◌≡◌, ℕ, zero, suc, ◌^◌, ◌<◌, ◌≤◌, ◌/◌, Bool, true, false, ◌&&◌, ◌||◌, ◌==◌, Option, List, [], ◌∷◌, ◌++◌, length, refl, arith}
 use Rattle.std.specs.Prelude.{IsTrue, nat_le, slice_get}
 use Rattle.std.specs.Int.{byte_at, bytes_high_first, is_in_range}
 use Rattle.std.specs.List.{flat_map, list_all, AllByRecursion}
@@ -13,8 +13,10 @@ use Rattle.ic_rules.specs.Rule.{Rule}
 use Rattle.ic_rules.specs.RuleSet.{IsRuleOver}
 use Rattle.ic_rules.specs.lemmas.FitLaws.{first_unfit-None}
 use Rattle.ic_jobs.specs.declared.state.State.{State}
-use Rattle.ic_jobs.specs.declared.state.State.TheVariants.{Running, Paused, Done, Halted}
-use Rattle.ic_codec.specs.Form.{form_head, state_byte, heading_bytes, heading_of}
+use Rattle.ic_jobs.specs.declared.state.State.TheVariants.{Running, Paused, Done, Halted, Spent}
+use Rattle.ic_codec.specs.Form.{form_digit, form_head, state_byte, budget_bytes, budget_number, heading_bytes, heading_of}
+use Rattle.ic_codec.specs.declared.form.Form.{Form}
+use Rattle.ic_codec.specs.declared.form.Form.TheVariants.{Ict1, Ict2}
 use Rattle.ic_jobs.specs.Job.{JobParts, IsJob}
 use Rattle.ic_jobs.specs.Table.{IsTable}
 use Rattle.ic_codec.specs.declared.form.Heading.{Heading}
@@ -25,7 +27,7 @@ use Rattle.ic_codec.specs.Symbols.{symbol_bytes, symbols_bytes}
 use Rattle.ic_codec.specs.Rules.{rule_bytes, rules_bytes}
 use Rattle.ic_codec.specs.Configurations.{configuration_bytes}
 use Rattle.ic_codec.specs.Jobs.{job_bytes}
-use Rattle.ic_codec.specs.Tables.{table_bytes}
+use Rattle.ic_codec.specs.Tables.{table_bytes_in}
 use Rattle.ic_codec.specs.inner.Room.{AreBytes}
 use Rattle.ic_codec.proofs.Appending.{bytes_both}
 use Rattle.ic_codec.proofs.Sizes.{small_symbol, short_name}
@@ -145,15 +147,24 @@ state_small Running = omega arith
 state_small Paused = omega arith
 state_small Done = omega arith
 state_small Halted = omega arith
+state_small Spent = omega arith
 
-heading_are_bytes : (h : Heading) → is_job_name h.name ≡ true → AreBytes (heading_bytes h)
-heading_are_bytes h is =
-    bytes_both (text_bytes h.name) (state_byte h.state ∷ (eight_bytes h.rounds ++ eight_bytes h.next))
-    (omega (arith, short_name h.name is), name_bytes h.name is)
-    (state_small h.state, bytes_both (eight_bytes h.rounds) (eight_bytes h.next) (eight_are_bytes h.rounds) (eight_are_bytes h.next))
+budget_are_bytes : (form : Form) (budget : Option ℕ) → AreBytes (budget_bytes form budget)
+budget_are_bytes Ict1 budget = tt
+budget_are_bytes Ict2 budget = eight_are_bytes (budget_number budget)
 
-job_are_bytes : (j : JobParts) → IsJob j → AreBytes (job_bytes j)
-job_are_bytes j is =
+heading_are_bytes : (form : Form) (h : Heading) → is_job_name h.name ≡ true → AreBytes (heading_bytes form h)
+heading_are_bytes form h is =
+    let behind = budget_bytes form h.budget ++ eight_bytes h.next in
+    bytes_both (text_bytes h.name) (state_byte h.state ∷ (eight_bytes h.rounds ++ behind))
+    (omega (arith, short_name h.name is), name_bytes h.name is) (
+      state_small h.state,
+      bytes_both (eight_bytes h.rounds) behind (eight_are_bytes h.rounds)
+          (bytes_both (budget_bytes form h.budget) (eight_bytes h.next) (budget_are_bytes form h.budget) (eight_are_bytes h.next)),
+    )
+
+job_are_bytes : (form : Form) (j : JobParts) → IsJob j → AreBytes (job_bytes form j)
+job_are_bytes form j is =
     let ss = j.rules.symbols in
     let c = j.config in
     let over = and_parts (list_all (is_tree_over ss) c.interface) (list_all (is_pair_over ss) c.equations) is.over in
@@ -174,10 +185,14 @@ job_are_bytes j is =
       omega (arith, is.symbols.few),
       each_bytes (λ s. IsTrue (is_symbol_text s.text) × IsTrue (fits_limits s.text s.arity)) symbol_bytes symbol_are_bytes ss is.symbols.each,
     ) in
-    bytes_both (heading_bytes (heading_of j)) (symbols ++ (rules ++ config)) (heading_are_bytes (heading_of j) is.name)
+    bytes_both (heading_bytes form (heading_of j)) (symbols ++ (rules ++ config)) (heading_are_bytes form (heading_of j) is.name)
     (bytes_both symbols (rules ++ config) symbols_are (bytes_both rules config rules_are config_are))
 
-pub table_are_bytes : (t : List JobParts) → IsTable t → AreBytes (table_bytes t)
-table_are_bytes t is =
-    bytes_both form_head (length t ∷ flat_map job_bytes t) (omega arith, (omega arith, (omega arith, (omega arith, tt))))
-    (omega (arith, is.few), each_bytes IsJob job_bytes job_are_bytes t is.each)
+digit_small : (form : Form) → form_digit form < 256
+digit_small Ict1 = omega arith
+digit_small Ict2 = omega arith
+
+pub table_are_bytes : (form : Form) (t : List JobParts) → IsTable t → AreBytes (table_bytes_in form t)
+table_are_bytes form t is =
+    bytes_both (form_head form) (length t ∷ flat_map (job_bytes form) t) (omega arith, (omega arith, (omega arith, (digit_small form, tt))))
+    (omega (arith, is.few), each_bytes IsJob (job_bytes form) (job_are_bytes form) t is.each)

@@ -1,17 +1,20 @@
 -- Which headings bytes begin with, and when they begin with none.
-use Rattle.std.proofs.Common.{◌≡◌, ◌≢◌, ℕ, ◌<◌, ◌≤◌, true, List, ◌∷◌, ◌++◌, length, sym, ap, ◌∙◌, arith}
+use Rattle.std.proofs.Common.{◌≡◌, ◌≢◌, ℕ, ◌^◌, ◌<◌, ◌≤◌, true, Option, None, Some, IfSome, List, ◌∷◌, ◌++◌, length, sym, ap, subst, ◌∙◌, arith}
 use Rattle.std.proofs.lemmas.List.{length-append}
 use Rattle.ic_rules.specs.JobName.{is_job_name}
 use Rattle.ic_jobs.specs.declared.state.State.{State}
-use Rattle.ic_jobs.specs.declared.state.State.TheVariants.{Running, Paused, Done, Halted}
-use Rattle.ic_codec.specs.Form.{state_byte, heading_bytes}
+use Rattle.ic_jobs.specs.declared.state.State.TheVariants.{Running, Paused, Done, Halted, Spent}
+use Rattle.ic_codec.specs.Form.{state_byte, budget_number, budget_bytes, heading_bytes}
+use Rattle.ic_codec.specs.declared.form.Form.{Form}
+use Rattle.ic_codec.specs.declared.form.Form.TheVariants.{Ict2}
+use Rattle.ic_jobs.specs.Budget.{IsBudget}
 use Rattle.ic_codec.specs.declared.form.Heading.{Heading}
 use Rattle.ic_codec.specs.Numbers.{eight_bytes}
 use Rattle.ic_codec.specs.Texts.{text_bytes}
-use Rattle.ic_codec.specs.inner.Forms.{HasHeadingBytes}
-use Rattle.ic_codec.specs.inner.Fronts.{BeginsWithNone}
+use Rattle.ic_codec.specs.inner.Forms.{HasBudgetBytes, HasHeadingBytes}
+use Rattle.ic_codec.specs.inner.Fronts.{BeginsWith, BeginsWithNone}
 use Rattle.ic_codec.proofs.NumberLemmas.{fronts, length-eight_bytes}
-use Rattle.ic_codec.proofs.Unique.{text_front, heading_spread}
+use Rattle.ic_codec.proofs.Unique.{text_front, eight_front, budget_tells, heading_spread}
 
 -- a text's bytes are no front where the bytes end before it does
 pub no_text : (bytes rest : List ℕ) (count : ℕ) → bytes ≡ count ∷ rest → length rest < count → (text behind : List ℕ) → bytes ≢ text_bytes text ++ behind
@@ -21,59 +24,97 @@ no_text bytes rest count read short text behind e =
     let tails : rest ≡ text ++ behind = cc in
     omega (arith, ap length tails, length-append text behind)
 
-pub state_few : (s : State) → state_byte s ≤ 3
+pub state_few : (s : State) → state_byte s ≤ 4
 state_few Running = omega arith
 state_few Paused = omega arith
 state_few Done = omega arith
 state_few Halted = omega arith
+state_few Spent = omega arith
 
-pub no_state : (bytes rest : List ℕ) (byte : ℕ) → bytes ≡ byte ∷ rest → 3 < byte → (s : State) (behind : List ℕ) → bytes ≢ state_byte s ∷ behind
+pub no_state : (bytes rest : List ℕ) (byte : ℕ) → bytes ≡ byte ∷ rest → 4 < byte → (s : State) (behind : List ℕ) → bytes ≢ state_byte s ∷ behind
 no_state bytes rest byte read big s behind e =
     let same : byte ∷ rest ≡ state_byte s ∷ behind = sym read ∙ e in
     let bytes_same : byte ≡ state_byte s = cc in
     omega (arith, state_few s)
 
-abbrev pub behind_rounds : Heading → List ℕ → List ℕ
-behind_rounds h rest = eight_bytes h.next ++ rest
+-- ---- budgets
 
-abbrev pub behind_state : Heading → List ℕ → List ℕ
-behind_state h rest = eight_bytes h.rounds ++ behind_rounds h rest
+-- bytes that end too soon begin with no budget
+pub short_budget : (bytes : List ℕ) → length bytes < 8 → BeginsWithNone (HasBudgetBytes Ict2) (budget_bytes Ict2) bytes
+short_budget bytes short b rest has e =
+    omega (arith, ap length e, length-append (budget_bytes Ict2 b) rest, length-eight_bytes (budget_number b))
 
-pub none_name : (bytes : List ℕ) → ((text rest : List ℕ) → bytes ≢ text_bytes text ++ rest) → BeginsWithNone HasHeadingBytes heading_bytes bytes
-none_name bytes none h rest has e = none h.name (state_byte h.state ∷ behind_state h rest) (e ∙ heading_spread h rest)
+-- nor do those that begin with a number that is no budget's
+pub no_budget : (bytes rest : List ℕ) (n : ℕ) → bytes ≡ eight_bytes n ++ rest → n < 2 ^ 64 → (n ≡ 0 → ⊥) → (IsBudget n → ⊥)
+    → BeginsWithNone (HasBudgetBytes Ict2) (budget_bytes Ict2) bytes
+no_budget bytes rest n read small some not None behind has e = some (eight_front n 0 rest behind small (omega arith) (sym read ∙ e)).0
+no_budget bytes rest n read small some not (Some m) behind has e =
+    let same = (eight_front n m rest behind small (omega (arith, has.few)) (sym read ∙ e)).0 in
+    not (subst IsBudget (sym same) has)
 
-pub none_such_name : (bytes text b : List ℕ) → bytes ≡ text_bytes text ++ b → (is_job_name text ≡ true → ⊥) → BeginsWithNone HasHeadingBytes heading_bytes bytes
-none_such_name bytes text b read not h rest has e =
-    let same = (text_front text h.name b (state_byte h.state ∷ behind_state h rest) (sym read ∙ e ∙ heading_spread h rest)).0 in
-    not (ap is_job_name same ∙ has.name)
+-- ---- headings
 
-name_first : (bytes name b : List ℕ) (h : Heading) (rest : List ℕ) → bytes ≡ text_bytes name ++ b → bytes ≡ heading_bytes h ++ rest → b ≡ state_byte h.state ∷ behind_state h rest
-name_first bytes name b h rest read e = (text_front name h.name b (state_byte h.state ∷ behind_state h rest) (sym read ∙ e ∙ heading_spread h rest)).1
+abbrev pub behind_budget : Heading → List ℕ → List ℕ
+behind_budget h rest = eight_bytes h.next ++ rest
 
-pub none_state : (bytes name b : List ℕ) → bytes ≡ text_bytes name ++ b → ((s : State) (rest : List ℕ) → b ≢ state_byte s ∷ rest)
-    → BeginsWithNone HasHeadingBytes heading_bytes bytes
-none_state bytes name b read none h rest has e = none h.state (behind_state h rest) (name_first bytes name b h rest read e)
+abbrev pub behind_rounds : Form → Heading → List ℕ → List ℕ
+behind_rounds form h rest = budget_bytes form h.budget ++ behind_budget h rest
 
-state_next : (bytes name b : List ℕ) (s : State) (c : List ℕ) (h : Heading) (rest : List ℕ) → bytes ≡ text_bytes name ++ b → b ≡ state_byte s ∷ c
-    → bytes ≡ heading_bytes h ++ rest → c ≡ behind_state h rest
-state_next bytes name b s c h rest read behind e =
-    let same : state_byte s ∷ c ≡ state_byte h.state ∷ behind_state h rest = sym behind ∙ name_first bytes name b h rest read e in
-    cc (same)
+abbrev pub behind_state : Form → Heading → List ℕ → List ℕ
+behind_state form h rest = eight_bytes h.rounds ++ behind_rounds form h rest
 
-pub none_rounds : (bytes name b : List ℕ) (s : State) (c : List ℕ) → bytes ≡ text_bytes name ++ b → b ≡ state_byte s ∷ c → length c < 8
-    → BeginsWithNone HasHeadingBytes heading_bytes bytes
-none_rounds bytes name b s c read behind short h rest has e =
-    omega (arith, ap length (state_next bytes name b s c h rest read behind e), length-append (eight_bytes h.rounds) (behind_rounds h rest), length-eight_bytes h.rounds)
+-- bytes begin with no heading of this form
+abbrev pub NoHeading : Form → List ℕ → Type 0
+NoHeading form bytes = BeginsWithNone (HasHeadingBytes form) (heading_bytes form) bytes
 
-pub none_next : (bytes name b : List ℕ) (s : State) (c : List ℕ) (rounds : ℕ) (d : List ℕ) → bytes ≡ text_bytes name ++ b → b ≡ state_byte s ∷ c
-    → c ≡ eight_bytes rounds ++ d → length d < 8 → BeginsWithNone HasHeadingBytes heading_bytes bytes
-none_next bytes name b s c rounds d read behind further short h rest has e =
-    let same = sym further ∙ state_next bytes name b s c h rest read behind e in
-    let last = (fronts (eight_bytes rounds) (eight_bytes h.rounds) d (behind_rounds h rest) (length-eight_bytes rounds ∙ sym (length-eight_bytes h.rounds)) same).1 in
-    omega (arith, ap length last, length-append (eight_bytes h.next) rest, length-eight_bytes h.next)
+module _ (form : Form) where
+  pub none_name : (bytes : List ℕ) → ((text rest : List ℕ) → bytes ≢ text_bytes text ++ rest) → NoHeading form bytes
+  none_name bytes none h rest has e = none h.name (state_byte h.state ∷ behind_state form h rest) (e ∙ heading_spread form h rest)
 
-pub heading_parts : (h : Heading) (bytes b c d rest : List ℕ) → bytes ≡ text_bytes h.name ++ b → b ≡ state_byte h.state ∷ c → c ≡ eight_bytes h.rounds ++ d
-    → d ≡ eight_bytes h.next ++ rest → bytes ≡ heading_bytes h ++ rest
-heading_parts h bytes b c d rest e f g k =
-    e ∙ ap (λ (bs : List ℕ). text_bytes h.name ++ bs) (f ∙ ap (λ (bs : List ℕ). state_byte h.state ∷ bs) (g ∙ ap (λ (bs : List ℕ). eight_bytes h.rounds ++ bs) k))
-    ∙ sym (heading_spread h rest)
+  pub none_such_name : (bytes text b : List ℕ) → bytes ≡ text_bytes text ++ b → (is_job_name text ≡ true → ⊥) → NoHeading form bytes
+  none_such_name bytes text b read not h rest has e =
+      let same = (text_front text h.name b (state_byte h.state ∷ behind_state form h rest) (sym read ∙ e ∙ heading_spread form h rest)).0 in
+      not (ap is_job_name same ∙ has.name)
+
+  name_first : (bytes name b : List ℕ) (h : Heading) (rest : List ℕ) → bytes ≡ text_bytes name ++ b → bytes ≡ heading_bytes form h ++ rest
+      → b ≡ state_byte h.state ∷ behind_state form h rest
+  name_first bytes name b h rest read e =
+      (text_front name h.name b (state_byte h.state ∷ behind_state form h rest) (sym read ∙ e ∙ heading_spread form h rest)).1
+
+  pub none_state : (bytes name b : List ℕ) → bytes ≡ text_bytes name ++ b → ((s : State) (rest : List ℕ) → b ≢ state_byte s ∷ rest) → NoHeading form bytes
+  none_state bytes name b read none h rest has e = none h.state (behind_state form h rest) (name_first bytes name b h rest read e)
+
+  state_next : (bytes name b : List ℕ) (s : State) (c : List ℕ) (h : Heading) (rest : List ℕ) → bytes ≡ text_bytes name ++ b → b ≡ state_byte s ∷ c
+      → bytes ≡ heading_bytes form h ++ rest → c ≡ behind_state form h rest
+  state_next bytes name b s c h rest read behind e =
+      let same : state_byte s ∷ c ≡ state_byte h.state ∷ behind_state form h rest = sym behind ∙ name_first bytes name b h rest read e in
+      cc (same)
+
+  pub none_rounds : (bytes name b : List ℕ) (s : State) (c : List ℕ) → bytes ≡ text_bytes name ++ b → b ≡ state_byte s ∷ c → length c < 8 → NoHeading form bytes
+  none_rounds bytes name b s c read behind short h rest has e =
+      omega (arith, ap length (state_next bytes name b s c h rest read behind e), length-append (eight_bytes h.rounds) (behind_rounds form h rest), length-eight_bytes h.rounds)
+
+  rounds_next : (bytes name b : List ℕ) (s : State) (c : List ℕ) (rounds : ℕ) (d : List ℕ) (h : Heading) (rest : List ℕ) → bytes ≡ text_bytes name ++ b → b ≡ state_byte s ∷ c
+      → c ≡ eight_bytes rounds ++ d → bytes ≡ heading_bytes form h ++ rest → d ≡ behind_rounds form h rest
+  rounds_next bytes name b s c rounds d h rest read behind further e =
+      let same = sym further ∙ state_next bytes name b s c h rest read behind e in
+      (fronts (eight_bytes rounds) (eight_bytes h.rounds) d (behind_rounds form h rest) (length-eight_bytes rounds ∙ sym (length-eight_bytes h.rounds)) same).1
+
+  pub none_budget : (bytes name b : List ℕ) (s : State) (c : List ℕ) (rounds : ℕ) (d : List ℕ) → bytes ≡ text_bytes name ++ b → b ≡ state_byte s ∷ c
+      → c ≡ eight_bytes rounds ++ d → BeginsWithNone (HasBudgetBytes form) (budget_bytes form) d → NoHeading form bytes
+  none_budget bytes name b s c rounds d read behind further none h rest has e =
+      none h.budget (behind_budget h rest) has.budget (rounds_next bytes name b s c rounds d h rest read behind further e)
+
+  pub none_next : (bytes name b : List ℕ) (s : State) (c : List ℕ) (rounds : ℕ) (d : List ℕ) (budget : Option ℕ) (f : List ℕ) → bytes ≡ text_bytes name ++ b
+      → b ≡ state_byte s ∷ c → c ≡ eight_bytes rounds ++ d → BeginsWith (HasBudgetBytes form) (budget_bytes form) d budget f → length f < 8 → NoHeading form bytes
+  none_next bytes name b s c rounds d budget f read behind further begins short h rest has e =
+      let same = sym begins.parts ∙ rounds_next bytes name b s c rounds d h rest read behind further e in
+      let last = (budget_tells form budget h.budget f (behind_budget h rest) begins.valid has.budget same).1 in
+      omega (arith, ap length last, length-append (eight_bytes h.next) rest, length-eight_bytes h.next)
+
+  pub heading_parts : (h : Heading) (bytes b c d f rest : List ℕ) → bytes ≡ text_bytes h.name ++ b → b ≡ state_byte h.state ∷ c → c ≡ eight_bytes h.rounds ++ d
+      → d ≡ budget_bytes form h.budget ++ f → f ≡ eight_bytes h.next ++ rest → bytes ≡ heading_bytes form h ++ rest
+  heading_parts h bytes b c d f rest e g k l m =
+      e ∙ ap (λ (bs : List ℕ). text_bytes h.name ++ bs) (g ∙ ap (λ (bs : List ℕ). state_byte h.state ∷ bs) (k ∙ ap (λ (bs : List ℕ). eight_bytes h.rounds ++ bs)
+      (l ∙ ap (λ (bs : List ℕ). budget_bytes form h.budget ++ bs) m)))
+      ∙ sym (heading_spread form h rest)

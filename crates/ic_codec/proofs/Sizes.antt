@@ -1,5 +1,5 @@
 -- How long byte forms are.
-use Rattle.std.proofs.Common.{◌≡◌, ℕ, ◌+◌, ◌*◌, ◌≤◌, true, List, [], ◌∷◌, ◌++◌, length, arith, sum_by}
+use Rattle.std.proofs.Common.{◌≡◌, ℕ, ◌+◌, ◌*◌, ◌≤◌, true, Option, List, [], ◌∷◌, ◌++◌, length, arith, sum_by}
 use Rattle.std.specs.Prelude.{IsTrue, nat_le}
 use Rattle.std.specs.List.{flat_map, AllByRecursion}
 use Rattle.std.proofs.lemmas.Bool.{and_parts, leb-true}
@@ -11,7 +11,9 @@ use Rattle.ic_term.specs.Configuration.{Configuration, IsConfiguration}
 use Rattle.ic_rules.specs.JobName.{is_job_name}
 use Rattle.ic_rules.specs.Rule.{Rule, rule_nodes}
 use Rattle.ic_rules.specs.RuleSet.{are_few}
-use Rattle.ic_codec.specs.Form.{state_byte, heading_bytes, heading_of}
+use Rattle.ic_codec.specs.Form.{state_byte, budget_bytes, budget_number, heading_bytes, heading_of}
+use Rattle.ic_codec.specs.declared.form.Form.{Form}
+use Rattle.ic_codec.specs.declared.form.Form.TheVariants.{Ict1, Ict2}
 use Rattle.ic_jobs.specs.Job.{JobParts, IsJob}
 use Rattle.ic_jobs.specs.Table.{IsTable}
 use Rattle.ic_codec.specs.declared.form.Heading.{Heading}
@@ -22,7 +24,7 @@ use Rattle.ic_codec.specs.Symbols.{symbol_bytes, symbols_bytes}
 use Rattle.ic_codec.specs.Rules.{rule_bytes, rules_bytes}
 use Rattle.ic_codec.specs.Configurations.{configuration_bytes}
 use Rattle.ic_codec.specs.Jobs.{job_bytes}
-use Rattle.ic_codec.specs.Tables.{table_bytes}
+use Rattle.ic_codec.specs.Tables.{table_bytes_in}
 use Rattle.ic_codec.proofs.NumberLemmas.{length-two_bytes, length-eight_bytes}
 
 mutual
@@ -78,15 +80,22 @@ pub short_name : (text : List ℕ) → is_job_name text ≡ true → length text
 short_name [] is = cc
 short_name (b ∷ bs) is = leb-true (length (b ∷ bs)) 16 (and_parts _ (nat_le (length (b ∷ bs)) 16) is).1
 
-heading_length : (h : Heading) → is_job_name h.name ≡ true → length (heading_bytes h) ≤ 34
-heading_length h is =
-    let numbers = eight_bytes h.rounds ++ eight_bytes h.next in
+budget_length : (form : Form) (budget : Option ℕ) → length (budget_bytes form budget) ≤ 8
+budget_length Ict1 budget = omega arith
+budget_length Ict2 budget = omega (arith, length-eight_bytes (budget_number budget))
+
+heading_length : (form : Form) (h : Heading) → is_job_name h.name ≡ true → length (heading_bytes form h) ≤ 42
+heading_length form h is =
+    let behind = budget_bytes form h.budget ++ eight_bytes h.next in
+    let numbers = eight_bytes h.rounds ++ behind in
     omega (
       arith,
       short_name h.name is,
       length-eight_bytes h.rounds,
+      budget_length form h.budget,
       length-eight_bytes h.next,
-      length-append (eight_bytes h.rounds) (eight_bytes h.next),
+      length-append (budget_bytes form h.budget) (eight_bytes h.next),
+      length-append (eight_bytes h.rounds) behind,
       length-append (text_bytes h.name) (state_byte h.state ∷ numbers),
     )
 
@@ -111,10 +120,10 @@ configuration_length c is =
       length-append (two_bytes (length c.equations)) (flat_map tree_bytes c.interface ++ flat_map pair_bytes c.equations),
     )
 
-job_length : (j : JobParts) → IsJob j → length (job_bytes j) ≤ 94888
-job_length j is =
+job_length : (form : Form) (j : JobParts) → IsJob j → length (job_bytes form j) ≤ 94896
+job_length form j is =
     let few = few_rules j.rules.rules is.rules.few in
-    let heading = heading_bytes (heading_of j) in
+    let heading = heading_bytes form (heading_of j) in
     let symbols = symbols_bytes j.rules.symbols in
     let rules = rules_bytes j.rules.rules in
     let config = configuration_bytes j.config in
@@ -123,7 +132,7 @@ job_length j is =
       few.0,
       few.1,
       is.symbols.few,
-      heading_length (heading_of j) is.name,
+      heading_length form (heading_of j) is.name,
       symbols_length j.rules.symbols is.symbols.each,
       rules_length j.rules.rules,
       length-two_bytes (length j.rules.rules),
@@ -134,9 +143,9 @@ job_length j is =
       length-append rules config,
     )
 
-jobs_length : (js : List JobParts) → AllByRecursion IsJob js → length (flat_map job_bytes js) ≤ 94888 * length js
-jobs_length [] all = omega arith
-jobs_length (j ∷ js) all = omega (arith, job_length j all.0, jobs_length js all.1, length-append (job_bytes j) (flat_map job_bytes js))
+jobs_length : (form : Form) (js : List JobParts) → AllByRecursion IsJob js → length (flat_map (job_bytes form) js) ≤ 94896 * length js
+jobs_length form [] all = omega arith
+jobs_length form (j ∷ js) all = omega (arith, job_length form j all.0, jobs_length form js all.1, length-append (job_bytes form j) (flat_map (job_bytes form) js))
 
-pub table_length : (t : List JobParts) → IsTable t → length (table_bytes t) ≤ 3036421
-table_length t is = omega (arith, is.few, jobs_length t is.each)
+pub table_length : (form : Form) (t : List JobParts) → IsTable t → length (table_bytes_in form t) ≤ 3036677
+table_length form t is = omega (arith, is.few, jobs_length form t is.each)

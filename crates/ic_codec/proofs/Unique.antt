@@ -1,5 +1,5 @@
 -- Bytes that begin with those of two values begin with those of one, part by part.
-use Rattle.std.proofs.Common.{◌≡◌, ℕ, zero, suc, ◌+◌, ◌^◌, ◌<◌, ◌≤◌, Bool, true, false, ◌||◌, ◌==◌, List, [], ◌∷◌, ◌++◌, length, cond, refl, sym, ap, subst, ◌∙◌, append_assoc, arith, sum_by}
+use Rattle.std.proofs.Common.{◌≡◌, ℕ, zero, suc, ◌+◌, ◌^◌, ◌<◌, ◌≤◌, Bool, true, false, ◌||◌, ◌==◌, Option, None, Some, IfSome, List, [], ◌∷◌, ◌++◌, length, cond, refl, sym, ap, subst, ◌∙◌, append_assoc, arith, sum_by}
 use Rattle.std.specs.Prelude.{slice_get}
 use Rattle.std.specs.List.{flat_map, list_any, list_all, range_with_len, AllByRecursion}
 use Rattle.std.specs.Cmp.{unsigned_Decides}
@@ -15,14 +15,17 @@ use Rattle.ic_rules.specs.RuleSet.{Rules, IsRuleSet, IsRuleOver}
 use Rattle.ic_rules.specs.lemmas.FitLaws.{first_unfit-None}
 use Rattle.ic_rules.specs.lemmas.NumberingLaws.{Among, each_among, length-range}
 use Rattle.ic_jobs.specs.declared.state.State.{State}
-use Rattle.ic_jobs.specs.declared.state.State.TheVariants.{Running, Paused, Done, Halted}
+use Rattle.ic_jobs.specs.declared.state.State.TheVariants.{Running, Paused, Done, Halted, Spent}
 use Rattle.ic_jobs.specs.State.{state_numbered}
-use Rattle.ic_codec.specs.Form.{state_byte, heading_bytes}
+use Rattle.ic_jobs.specs.Budget.{IsBudget}
+use Rattle.ic_codec.specs.Form.{state_byte, budget_number, budget_bytes, heading_bytes}
+use Rattle.ic_codec.specs.declared.form.Form.{Form}
+use Rattle.ic_codec.specs.declared.form.Form.TheVariants.{Ict1, Ict2}
 use Rattle.ic_codec.specs.declared.form.Heading.{Heading}
 use Rattle.ic_codec.specs.Numbers.{two_bytes, eight_bytes}
 use Rattle.ic_codec.specs.Texts.{text_bytes}
 use Rattle.ic_codec.specs.Terms.{tree_bytes, pair_bytes}
-use Rattle.ic_codec.specs.inner.Forms.{HasBytes, HasPairBytes, HasRuleBytes, HasHeadingBytes}
+use Rattle.ic_codec.specs.inner.Forms.{HasBytes, HasPairBytes, HasRuleBytes, HasBudgetBytes, HasHeadingBytes}
 use Rattle.ic_codec.specs.Symbols.{symbol_bytes, symbols_bytes}
 use Rattle.ic_codec.specs.Rules.{rule_bytes, rules_bytes}
 use Rattle.ic_codec.specs.Configurations.{configuration_bytes}
@@ -55,6 +58,7 @@ byte_numbered Running = refl
 byte_numbered Paused = refl
 byte_numbered Done = refl
 byte_numbered Halted = refl
+byte_numbered Spent = refl
 
 pub state_same : (s r : State) → state_byte s ≡ state_byte r → s ≡ r
 state_same s r e = sym (byte_numbered s) ∙ ap state_numbered e ∙ byte_numbered r
@@ -83,21 +87,44 @@ symbols_front ss ts a b e =
 
 -- ---- headings
 
-pub heading_spread : (h : Heading) (rest : List ℕ)
-    → heading_bytes h ++ rest ≡ text_bytes h.name ++ (state_byte h.state ∷ (eight_bytes h.rounds ++ (eight_bytes h.next ++ rest)))
-heading_spread h rest =
-    append_assoc (text_bytes h.name) (state_byte h.state ∷ (eight_bytes h.rounds ++ eight_bytes h.next)) rest
-    ∙ ap (λ (bs : List ℕ). text_bytes h.name ++ (state_byte h.state ∷ bs)) (append_assoc (eight_bytes h.rounds) (eight_bytes h.next) rest)
+-- a budget's number fits in eight bytes
+number_small : (b : Option ℕ) → IfSome b IsBudget → budget_number b < 2 ^ 64
+number_small None is = omega arith
+number_small (Some n) is = omega (arith, is.few)
 
-pub heading_tells : Tells HasHeadingBytes heading_bytes
-heading_tells g h a b v w e =
-    let first = text_front g.name h.name _ _ (sym (heading_spread g a) ∙ e ∙ heading_spread h b) in
+number_same : (b c : Option ℕ) → IfSome b IsBudget → IfSome c IsBudget → budget_number b ≡ budget_number c → b ≡ c
+number_same None None is also e = refl
+number_same None (Some n) is also e = absurd (omega (arith, also.some, e))
+number_same (Some n) None is also e = absurd (omega (arith, is.some, e))
+number_same (Some n) (Some m) is also e = ap (λ (k : ℕ). Some k) e
+
+pub budget_tells : (form : Form) → Tells (HasBudgetBytes form) (budget_bytes form)
+budget_tells Ict1 b c x y v w e = (v ∙ sym w, e)
+budget_tells Ict2 b c x y v w e =
+    let parts = eight_front (budget_number b) (budget_number c) x y (number_small b v) (number_small c w) e in
+    (number_same b c v w parts.0, parts.1)
+
+pub heading_spread : (form : Form) (h : Heading) (rest : List ℕ)
+    → heading_bytes form h ++ rest
+    ≡ text_bytes h.name ++ (state_byte h.state ∷ (eight_bytes h.rounds ++ (budget_bytes form h.budget ++ (eight_bytes h.next ++ rest))))
+heading_spread form h rest =
+    let budget = budget_bytes form h.budget in
+    append_assoc (text_bytes h.name) (state_byte h.state ∷ (eight_bytes h.rounds ++ (budget ++ eight_bytes h.next))) rest
+    ∙ ap (λ (bs : List ℕ). text_bytes h.name ++ (state_byte h.state ∷ bs))
+    (append_assoc (eight_bytes h.rounds) (budget ++ eight_bytes h.next) rest
+    ∙ ap (λ (bs : List ℕ). eight_bytes h.rounds ++ bs) (append_assoc budget (eight_bytes h.next) rest))
+
+pub heading_tells : (form : Form) → Tells (HasHeadingBytes form) (heading_bytes form)
+heading_tells form g h a b v w e =
+    let first = text_front g.name h.name _ _ (sym (heading_spread form g a) ∙ e ∙ heading_spread form h b) in
     let states : state_byte g.state ≡ state_byte h.state = cc (first.1) in
-    let behind : eight_bytes g.rounds ++ (eight_bytes g.next ++ a) ≡ eight_bytes h.rounds ++ (eight_bytes h.next ++ b) = cc (first.1) in
-    let rounds = eight_front g.rounds h.rounds (eight_bytes g.next ++ a) (eight_bytes h.next ++ b) v.rounds w.rounds behind in
-    let nexts = eight_front g.next h.next a b v.next w.next rounds.1 in
+    let behind : eight_bytes g.rounds ++ (budget_bytes form g.budget ++ (eight_bytes g.next ++ a))
+    ≡ eight_bytes h.rounds ++ (budget_bytes form h.budget ++ (eight_bytes h.next ++ b)) = cc (first.1) in
+    let rounds = eight_front g.rounds h.rounds _ _ v.rounds w.rounds behind in
+    let budgets = budget_tells form g.budget h.budget (eight_bytes g.next ++ a) (eight_bytes h.next ++ b) v.budget w.budget rounds.1 in
+    let nexts = eight_front g.next h.next a b v.next w.next budgets.1 in
     let state = state_same g.state h.state states in
-    ((λ i. record { name = first.0 i; state = state i; rounds = rounds.0 i; next = nexts.0 i }), nexts.1)
+    ((λ i. record { name = first.0 i; state = state i; rounds = rounds.0 i; budget = budgets.0 i; next = nexts.0 i }), nexts.1)
 
 -- ---- terms
 

@@ -9,4 +9,5 @@ pub mod Jobs
 pub mod Tables
 pub mod CodecFault
 pub mod Worked
+pub mod lemmas
 pub mod inner

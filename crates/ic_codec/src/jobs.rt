@@ -4,13 +4,14 @@ ghost use Rattle.std.specs.Prelude.{◌≡◌, ◌≤◌, IfOk, IfErr};
 ghost use Rattle.std.specs.List.{flat_map};
 ghost use Rattle.ic_codec.specs.inner.Room.{Fits, Appended};
 ghost use Rattle.ic_codec.specs.Jobs.{job_bytes};
-ghost use Rattle.ic_jobs.specs.Job.{IsJob};
+ghost use Rattle.ic_codec.specs.inner.Forms.{HasJobBytes};
+ghost use Rattle.ic_codec.specs.declared.form.Form.TheVariants.{Ict2};
 ghost use Rattle.ic_codec.specs.inner.Fronts.{BeginsWith, BeginsWithNone, BeginsWithMany, BeginsWithNoMany, uncounted};
 ghost use Rattle.ic_codec.specs.declared.fault.CodecFault.TheVariants.{NotATable};
 
 use crate::configs::{config_at, put_config};
 use crate::fault::CodecFault;
-use crate::form::{Heading, heading_at, put_heading};
+use crate::form::{Form, Heading, heading_at, put_heading};
 use crate::rules::{put_rules, rule_set_at};
 use crate::symbols::{put_symbols, symbols_at};
 use ic_jobs::Job;
@@ -19,8 +20,8 @@ use std::sync::Arc;
 
 /// Appends jobs in order.
 pub(crate) fn put_jobs(jobs: &[Job], out: &mut Vec<u8>)
-    requires { Fits out.old (flat_map job_bytes jobs.now) }
-    ensures { Appended out.old out.new (flat_map job_bytes jobs.now) }
+    requires { Fits out.old (flat_map (job_bytes Ict2) jobs.now) }
+    ensures { Appended out.old out.new (flat_map (job_bytes Ict2) jobs.now) }
 {
     for job in jobs {
         put_job(job, out);
@@ -28,8 +29,8 @@ pub(crate) fn put_jobs(jobs: &[Job], out: &mut Vec<u8>)
 }
 
 fn put_job(job: &Job, out: &mut Vec<u8>)
-    requires { Fits out.old (job_bytes job.now) }
-    ensures { Appended out.old out.new (job_bytes job.now) }
+    requires { Fits out.old (job_bytes Ict2 job.now) }
+    ensures { Appended out.old out.new (job_bytes Ict2 job.now) }
 {
     let rules = job.rules();
     put_heading(Heading::of(job), out);
@@ -41,18 +42,19 @@ fn put_job(job: &Job, out: &mut Vec<u8>)
 /// So many jobs, and the bytes behind them.
 pub(crate) fn jobs_at(
     alloc: Global,
+    form: Form,
     count: usize,
     bytes: &[u8],
 ) -> Result<(Vec<Job>, &[u8]), CodecFault>
-    ensures read { IfOk result (λ r.
-        BeginsWithMany IsJob job_bytes uncounted count 0 bytes.now r.0.items 0 r.1.now) }
+    ensures read { IfOk result (λ r. BeginsWithMany (HasJobBytes form) (job_bytes form)
+        uncounted count 0 bytes.now r.0.items 0 r.1.now) }
     ensures refused { IfErr result (λ fault. fault ≡ NotATable
-        → BeginsWithNoMany IsJob job_bytes uncounted count 0 bytes.now) }
+        → BeginsWithNoMany (HasJobBytes form) (job_bytes form) uncounted count 0 bytes.now) }
 {
     let mut jobs = Vec::new(alloc);
     let mut rest = bytes;
     for _ in 0..count {
-        let (job, now_rest) = match job_at(alloc, rest) {
+        let (job, now_rest) = match job_at(alloc, form, rest) {
             Ok((job, rest)) => (job, rest),
             Err(fault) => return Err(fault),
         };
@@ -62,12 +64,13 @@ pub(crate) fn jobs_at(
     Ok((jobs, rest))
 }
 
-fn job_at(alloc: Global, bytes: &[u8]) -> Result<(Job, &[u8]), CodecFault>
-    ensures read { IfOk result (λ r. BeginsWith IsJob job_bytes bytes.now r.0 r.1.now) }
+fn job_at(alloc: Global, form: Form, bytes: &[u8]) -> Result<(Job, &[u8]), CodecFault>
+    ensures read { IfOk result (λ r.
+        BeginsWith (HasJobBytes form) (job_bytes form) bytes.now r.0 r.1.now) }
     ensures refused { IfErr result (λ fault. fault ≡ NotATable
-        → BeginsWithNone IsJob job_bytes bytes.now) }
+        → BeginsWithNone (HasJobBytes form) (job_bytes form) bytes.now) }
 {
-    let (heading, rest) = match heading_at(bytes) {
+    let (heading, rest) = match heading_at(form, bytes) {
         Ok((heading, rest)) => (heading, rest),
         Err(fault) => return Err(fault),
     };
@@ -85,7 +88,14 @@ fn job_at(alloc: Global, bytes: &[u8]) -> Result<(Job, &[u8]), CodecFault>
     };
     let rules = Arc::new(alloc, rules)?;
     let config = Arc::new(alloc, config)?;
-    match Job::restore(heading.name, rules, config, heading.rounds, heading.state) {
+    match Job::restore(
+        heading.name,
+        rules,
+        config,
+        heading.rounds,
+        heading.state,
+        heading.budget,
+    ) {
         Some(job) => Ok((job, rest)),
         None => Err(CodecFault::NotATable),
     }

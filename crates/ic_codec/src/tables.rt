@@ -1,15 +1,15 @@
 //! A table of jobs as bytes, and back.
 
-ghost use Rattle.std.specs.Prelude.{◌≡◌, ◌≢◌, ◌+◌, ◌≤◌, ◌++◌, List, Err, length, vec_len, vec_capacity, IfOk, IfErr};
+ghost use Rattle.std.specs.Prelude.{◌≡◌, ◌+◌, ◌≤◌, ◌++◌, List, Err, length, vec_len, vec_capacity, IfOk, IfErr};
 ghost use Rattle.ic_jobs.specs.Job.{JobParts};
 ghost use Rattle.ic_jobs.specs.Table.{IsTable};
 ghost use Rattle.ic_codec.specs.declared.form.TheConstants.{MAX_BYTES};
 ghost use Rattle.ic_codec.specs.declared.fault.CodecFault.TheVariants.{NotATable};
-ghost use Rattle.ic_codec.specs.Tables.{table_bytes};
+ghost use Rattle.ic_codec.specs.Tables.{table_bytes, IsFormOf};
 
 use crate::fault::CodecFault;
 use crate::fields::{byte_at, put_byte};
-use crate::form::{behind_head, put_head};
+use crate::form::{form_at, put_head};
 use crate::jobs::{jobs_at, put_jobs};
 use ic_jobs::{Job, Table};
 use std::alloc::Global;
@@ -29,17 +29,18 @@ pub fn encode_into(table: &Table, out: &mut Vec<u8>)
     put_jobs(jobs, out);
 }
 
-/// The table of which these bytes are the byte form. As it is written it takes linear time, and n log n
-/// where names or pairs of symbols are looked up.
+/// The table of which these bytes are a form: the one that is written, or the old one, in which no job
+/// has a budget. As it is written it takes linear time, and n log n where names or pairs of symbols are
+/// looked up.
 pub fn decode(alloc: Global, bytes: &[u8]) -> Result<Table, CodecFault>
-    ensures table { IfOk result (λ table. bytes.now ≡ table_bytes table) }
+    ensures table { IfOk result (λ table. IsFormOf table bytes.now) }
     ensures sound { IfOk result IsTable }
     ensures refused { result ≡ Err NotATable
-        → (t : List JobParts) → IsTable t → bytes.now ≢ table_bytes t }
+        → (t : List JobParts) → IsTable t → ¬ IsFormOf t bytes.now }
 {
-    let rest = behind_head(bytes)?;
+    let (form, rest) = form_at(bytes)?;
     let (count, rest) = byte_at(rest)?;
-    let (jobs, rest) = jobs_at(alloc, count as usize, rest)?;
+    let (jobs, rest) = jobs_at(alloc, form, count as usize, rest)?;
     let table = restore(jobs)?;
     if rest.is_empty() {
         return Ok(table);

@@ -1,6 +1,7 @@
 -- Laws of lines: numbers and their texts, and a submit with its system.
-use Rattle.std.proofs.Common.{◌≡◌, ℕ, zero, suc, ◌+◌, ◌*◌, ◌<◌, ◌≤◌, ◌^◌, ◌||◌, ◌==◌, not, true, false, List, [], ◌∷◌, ◌++◌, Some, Result, Ok, Err, length, IsTrue, refl, sym, ap, ◌∙◌, subst, arith, ⊎_elim, length-append}
-use Rattle.std.specs.Prelude.{codes, nat_le}
+use Rattle.std.proofs.Common.{◌≡◌, ℕ, zero, suc, ◌+◌, ◌*◌, ◌<◌, ◌≤◌, ◌^◌, ◌&&◌, ◌||◌, ◌==◌, not, true, false, List, [], ◌∷◌, ◌++◌, Option, None, Some, Result, Ok, Err, length, IsTrue, refl, sym, ap, ◌∙◌, subst, arith, ⊎_elim, length-append}
+use Rattle.std.specs.Prelude.{codes, nat_le, nat_lt}
+use Rattle.std.specs.Option.{option_map}
 use Rattle.std.specs.Str.{bytes_eq}
 use Rattle.std.specs.Fmt.{decimal}
 use Rattle.std.proofs.lemmas.Fmt.{decimal_digit, length-decimal-le}
@@ -9,7 +10,7 @@ use Rattle.std.specs.Char.{is_ascii_lowercase, is_ascii_digit}
 use Rattle.std.specs.Cmp.{unsigned_Decides}
 use Rattle.std.specs.Cmp.Lexicographic.{bytes_decides}
 use Rattle.std.proofs.lemmas.Bool.Decides.{nat_tests}
-use Rattle.std.proofs.lemmas.Bool.{false≢true, and_parts, or_cases, or_right}
+use Rattle.std.proofs.lemmas.Bool.{false≢true, and_parts, or_cases, or_right, lt-ltb, le-leb}
 use Rattle.ic_rules.specs.JobName.{is_job_name, is_job_word}
 use Rattle.ic_rules.specs.System.{SystemParts}
 use Rattle.ic_rules.specs.declared.job_name.TheConstants.{MAX_JOB_NAME}
@@ -20,21 +21,24 @@ use Rattle.ic_text.specs.declared.fault.TextFault.TheVariants.{Syntax, Limit}
 use Rattle.ic_text.specs.Name.{is_name, is_numeral, name_text, name_number, number_in}
 use Rattle.ic_text.specs.Token.{word, is_blank, is_word_byte, word_of, before, followed, tokens}
 use Rattle.ic_text.specs.SystemText.{ReadsSystem}
+use Rattle.ic_jobs.specs.Budget.{IsBudget}
+use Rattle.ic_jobs.specs.declared.limits.TheConstants.{MAX_BUDGET}
 use Rattle.ic_jobs.specs.declared.command.Command.TheVariants as command
+use Rattle.ic_commands.specs.declared.line.Line.{Line}
 use Rattle.ic_commands.specs.declared.line.Line.TheVariants.{Blank, Command as Asks, Run}
 use Rattle.ic_commands.specs.declared.line.Opening.TheVariants as opening
 use Rattle.ic_commands.specs.declared.line.Verb.{Verb}
 use Rattle.ic_commands.specs.declared.line.Verb.TheVariants.{Pause, Resume, Cancel, Fetch}
 use Rattle.ic_commands.specs.LineSource.{nothing, about, list, run, is_number, verb_text}
-use Rattle.ic_commands.specs.LineSense.{submitted, asked, unless_long, line_sense}
+use Rattle.ic_commands.specs.LineSense.{submitted, asked, fits_budget, unless_long, line_sense}
 use Rattle.ic_commands.specs.LineText.{ReadsLine}
-use Rattle.ic_commands.specs.inner.Line.{IsLineOf}
+use Rattle.ic_commands.specs.inner.Line.{HasNoWord, number_word, is_number_or_none, IsLineOf, ReadsBehind}
 use Rattle.ic_text.specs.lemmas.NameLemmas.{is_name-name_text, name_number-name_text, name_text-name_number}
 use Rattle.ic_text.specs.lemmas.NameTexts.{name_text-digits}
 use Rattle.ic_text.specs.lemmas.WordRuns.{tokens-parted, tokens-run}
 use Rattle.ic_commands.proofs.WordSplits.{before-none}
 use Rattle.ic_commands.proofs.LineReading.{is_sense, is_sense_behind, reads_line}
-use Rattle.ic_commands.proofs.LineParts.{job_name-parts, short_name, word_of-named, submit_read, submit_too_long}
+use Rattle.ic_commands.proofs.LineParts.{job_name-parts, short_name, word_of-named, are_within, submit_read, submit_past_read, submit_alone, submit_too_long}
 
 -- a number's text behind the letter a is the text of a name
 named : (n : ℕ) → 0 < n → n < 2 ^ 64 → name_text (26 * n + 0) ≡ 97 ∷ decimal n
@@ -112,24 +116,29 @@ behind_space : (w rest : List ℕ) → tokens w ≡ Some (word_of w) → tokens 
 behind_space w rest alone =
     tokens-parted w rest 32 refl ∙ ap (λ o. followed o (followed (Some []) (tokens rest))) alone ∙ ap (before (word_of w)) (before-none (tokens rest))
 
-pub submit_whole : (name text : List ℕ) (a : Result SystemParts TextFault) → IsTrue (is_job_name name) → length (codes "submit " ++ name ++ 32 ∷ text) ≤ MAX_TEXT
-    → ReadsSystem text a → ReadsLine (codes "submit " ++ name ++ 32 ∷ text) (submitted name a)
-submit_whole name text a is short reads =
-    let parts = and_parts (is_job_word name) _ (sym (job_name-parts name) ∙ is) in
+-- a line whose words behind `submit` are read so is
+submit_reads : (name text : List ℕ) (a : Result Line TextFault) → length (codes "submit " ++ name ++ 32 ∷ text) ≤ MAX_TEXT
+    → ReadsBehind opening.Submit (name ++ 32 ∷ text) a → ReadsLine (codes "submit " ++ name ++ 32 ∷ text) a
+submit_reads name text a short reads =
     let rest = name ++ 32 ∷ text in
-    let split = behind_space name text (tokens-name name parts.0) in
     let whole : tokens (codes "submit" ++ 32 ∷ rest) ≡ before (word_of (codes "submit")) (tokens rest) = behind_space (codes "submit") rest refl in
+    reads_line (codes "submit" ++ 32 ∷ rest) a short (subst (λ o. IsLineOf o a) (sym whole) reads)
+
+pub submit_without : (name text : List ℕ) (a : Result SystemParts TextFault) → IsTrue (is_job_name name) → length (codes "submit " ++ name ++ 32 ∷ text) ≤ MAX_TEXT
+    → ReadsSystem text a → ¬ (a ≡ Err Syntax) → ReadsLine (codes "submit " ++ name ++ 32 ∷ text) (submitted name None a)
+submit_without name text a is short reads apart =
+    let parts = and_parts (is_job_word name) _ (sym (job_name-parts name) ∙ is) in
+    let split = behind_space name text (tokens-name name parts.0) in
     let inside : length text ≤ MAX_TEXT = omega (arith, short, length-append name (32 ∷ text)) in
-    reads_line (codes "submit" ++ 32 ∷ rest) (submitted name a) short
-    (subst (λ o. IsLineOf o (submitted name a)) (sym whole) (submit_read rest name text split parts.0 a inside is reads))
+    submit_reads name text (submitted name None a) short (submit_alone (name ++ 32 ∷ text) name text split parts.0 a inside reads apart is)
 
 pub submit_text : (name text : List ℕ) (a : Result SystemParts TextFault) → IsTrue (is_job_name name) → length text + 24 ≤ MAX_TEXT
-    → ReadsSystem text a → ReadsLine (codes "submit " ++ name ++ 32 ∷ text) (submitted name a)
-submit_text name text a is room reads =
+    → ReadsSystem text a → ¬ (a ≡ Err Syntax) → ReadsLine (codes "submit " ++ name ++ 32 ∷ text) (submitted name None a)
+submit_text name text a is room reads apart =
     let parts = and_parts (is_job_word name) _ (sym (job_name-parts name) ∙ is) in
     let few : length name ≤ MAX_JOB_NAME = grind (arith, nat_tests, parts.1) in
     let short : length (codes "submit" ++ 32 ∷ (name ++ 32 ∷ text)) ≤ MAX_TEXT = omega (arith, few, room, length-append name (32 ∷ text)) in
-    submit_whole name text a is short reads
+    submit_without name text a is short reads apart
 
 -- a verb and a job's name
 pub about_text : (verb : Verb) (name : List ℕ) → tokens (verb_text verb) ≡ Some (word_of (verb_text verb)) → length (verb_text verb) ≤ 6 → IsTrue (is_job_name name)
@@ -173,14 +182,11 @@ about_long verb name named many room =
 pub submit_long_name : (name text : List ℕ) (a : Result SystemParts TextFault) → IsTrue (is_job_word name) → MAX_JOB_NAME < length name
     → length name + length text + 8 ≤ MAX_TEXT → ReadsSystem text a → ¬ (a ≡ Err Syntax) → ReadsLine (codes "submit " ++ name ++ 32 ∷ text) (Err Limit)
 submit_long_name name text a named many room reads apart =
-    let rest = name ++ 32 ∷ text in
     let split = behind_space name text (tokens-name name named) in
-    let whole : tokens (codes "submit" ++ 32 ∷ rest) ≡ before (word_of (codes "submit")) (tokens rest) = behind_space (codes "submit") rest refl in
-    let short : length (codes "submit" ++ 32 ∷ rest) ≤ MAX_TEXT = omega (arith, room, length-append name (32 ∷ text)) in
+    let short : length (codes "submit" ++ 32 ∷ (name ++ 32 ∷ text)) ≤ MAX_TEXT = omega (arith, room, length-append name (32 ∷ text)) in
     let isnt : IsTrue (is_job_name name) → ⊥ =
     (λ is. false≢true (sym (too_long name many) ∙ (and_parts (is_job_word name) (nat_le (length name) MAX_JOB_NAME) (sym (job_name-parts name) ∙ is)).1)) in
-    reads_line (codes "submit" ++ 32 ∷ rest) (Err Limit) short
-    (subst (λ o. IsLineOf o (Err Limit)) (sym whole) (submit_too_long rest name text split named a (omega (arith, room)) isnt reads apart))
+    submit_reads name text (Err Limit) short (submit_too_long (name ++ 32 ∷ text) name text split named a (omega (arith, room)) reads apart isnt)
 
 -- the digits of a number are one word
 digit_byte : (c : ℕ) → is_ascii_digit c ≡ true → is_word_byte c ≡ true
@@ -199,6 +205,87 @@ tokens-number (d ∷ ds) is = ⊎_elim zero_text digits (or_cases (bytes_eq (d �
 
     digits : is_numeral (d ∷ ds) ≡ true → tokens (d ∷ ds) ≡ Some (word (d ∷ ds) ∷ [])
     digits e = tokens-run d ds (digit_bytes (d ∷ ds) (and_parts (not (d == 48)) (list_all is_ascii_digit (d ∷ ds)) e).1)
+
+-- ---- submits with a number
+
+word_of-number : (w : List ℕ) → is_number w ≡ true → word_of w ≡ word w ∷ []
+word_of-number [] is = absurd (false≢true is)
+word_of-number (d ∷ ds) is = refl
+
+number_word-of : (w : List ℕ) → is_number w ≡ true → number_word w ≡ Some w
+number_word-of [] is = absurd (false≢true is)
+number_word-of (d ∷ ds) is = refl
+
+number_or_none : (w : List ℕ) → is_number w ≡ true → is_number_or_none w ≡ true
+number_or_none [] is = absurd (false≢true is)
+number_or_none (d ∷ ds) is = is
+
+some_number : (w source : List ℕ) → is_number w ≡ true → w ≡ [] → HasNoWord source (tokens source)
+some_number w source is none = absurd (false≢true (sym (ap is_number none) ∙ is))
+
+some_name : (w text : List ℕ) → is_job_word w ≡ true → w ≡ [] → HasNoWord text (tokens text)
+some_name w text is none = absurd (false≢true (sym (ap is_job_word none) ∙ is))
+
+behind_digits : (digits text : List ℕ) → is_number digits ≡ true → tokens (digits ++ 32 ∷ text) ≡ before (word_of digits) (tokens text)
+behind_digits digits text is = behind_space digits text (tokens-number digits is ∙ ap Some (sym (word_of-number digits is)))
+
+budget_fits : (n : ℕ) → IsBudget n → fits_budget (Some (decimal n)) ≡ true
+budget_fits n is =
+    let most : n ≤ MAX_BUDGET = is.few in
+    let small : n < 2 ^ 64 = omega (arith, most) in
+    let value = value-of-decimal n small in
+    let low : nat_lt 0 n ≡ true = lt-ltb 0 n (omega (arith, is.some)) in
+    let high : nat_le n MAX_BUDGET ≡ true = le-leb n MAX_BUDGET most in
+    ap (λ (m : ℕ). nat_lt 0 m && nat_le m MAX_BUDGET) value ∙ (λ i. low i && high i)
+
+pub submit_with : (name text : List ℕ) (n : ℕ) (a : Result SystemParts TextFault) → IsTrue (is_job_name name) → IsBudget n
+    → length (codes "submit " ++ name ++ 32 ∷ (decimal n ++ 32 ∷ text)) ≤ MAX_TEXT → ReadsSystem text a
+    → ReadsLine (codes "submit " ++ name ++ 32 ∷ (decimal n ++ 32 ∷ text)) (submitted name (Some n) a)
+submit_with name text n a is budget short reads =
+    let parts = and_parts (is_job_word name) _ (sym (job_name-parts name) ∙ is) in
+    let digits = decimal n in
+    let most : n ≤ MAX_BUDGET = budget.few in
+    let small : n < 2 ^ 64 = omega (arith, most) in
+    let number = number-decimal n small in
+    let behind = digits ++ 32 ∷ text in
+    let split = behind_space name behind (tokens-name name parts.0) in
+    let inside : length text ≤ MAX_TEXT = omega (arith, short, length-append name (32 ∷ behind), length-append digits (32 ∷ text)) in
+    let named : is_job_name name ≡ true = is in let word = number_word-of digits number in
+    let fits : are_within name digits ≡ true = (λ i. named i && fits_budget (word i)) ∙ budget_fits n budget in
+    let value : option_map number_in (number_word digits) ≡ Some n =
+    ap (option_map number_in) (number_word-of digits number) ∙ ap (λ (m : ℕ). Some m) (value-of-decimal n small) in
+    submit_reads name behind (submitted name (Some n) a) short
+    (subst (λ (b : Option ℕ). ReadsBehind opening.Submit (name ++ 32 ∷ behind) (submitted name b a)) value
+    (submit_read (name ++ 32 ∷ behind) name behind digits text split (some_name name behind parts.0) (behind_digits digits text number) (some_number digits text number)
+    parts.0 (number_or_none digits number) a inside fits reads))
+
+pub submit_number : (name text : List ℕ) (n : ℕ) (a : Result SystemParts TextFault) → IsTrue (is_job_name name) → IsBudget n → length text + 35 ≤ MAX_TEXT → ReadsSystem text a
+    → ReadsLine (codes "submit " ++ name ++ 32 ∷ (decimal n ++ 32 ∷ text)) (submitted name (Some n) a)
+submit_number name text n a is budget room reads =
+    let parts = and_parts (is_job_word name) _ (sym (job_name-parts name) ∙ is) in
+    let few : length name ≤ MAX_JOB_NAME = grind (arith, nat_tests, parts.1) in
+    let most : n ≤ MAX_BUDGET = budget.few in
+    let small : n < 2 ^ 64 = omega (arith, most) in
+    let digits : length (decimal n) ≤ 10 = length-decimal-le 10 n (omega (arith, most)) (omega arith) small in
+    let short : length (codes "submit" ++ 32 ∷ (name ++ 32 ∷ (decimal n ++ 32 ∷ text))) ≤ MAX_TEXT =
+    omega (arith, few, room, digits, length-append name (32 ∷ (decimal n ++ 32 ∷ text)), length-append (decimal n) (32 ∷ text)) in
+    submit_with name text n a is budget short reads
+
+pub submit_unfit : (name digits text : List ℕ) (a : Result SystemParts TextFault) → IsTrue (is_job_name name) → IsTrue (is_number digits) → fits_budget (Some digits) ≡ false
+    → length digits + length text + 25 ≤ MAX_TEXT → ReadsSystem text a → ¬ (a ≡ Err Syntax)
+    → ReadsLine (codes "submit " ++ name ++ 32 ∷ (digits ++ 32 ∷ text)) (Err Limit)
+submit_unfit name digits text a is number unfit room reads apart =
+    let parts = and_parts (is_job_word name) _ (sym (job_name-parts name) ∙ is) in
+    let few : length name ≤ MAX_JOB_NAME = grind (arith, nat_tests, parts.1) in
+    let behind = digits ++ 32 ∷ text in
+    let split = behind_space name behind (tokens-name name parts.0) in
+    let short : length (codes "submit" ++ 32 ∷ (name ++ 32 ∷ behind)) ≤ MAX_TEXT =
+    omega (arith, few, room, length-append name (32 ∷ behind), length-append digits (32 ∷ text)) in
+    let isnt : are_within name digits ≡ true → ⊥ =
+    (λ within. false≢true (sym (ap fits_budget (number_word-of digits number) ∙ unfit) ∙ (and_parts (is_job_name name) (fits_budget (number_word digits)) within).1)) in
+    submit_reads name behind (Err Limit) short
+    (submit_past_read (name ++ 32 ∷ behind) name behind digits text split (some_name name behind parts.0) (behind_digits digits text number) (some_number digits text number)
+    parts.0 (number_or_none digits number) a (omega (arith, room)) isnt reads apart)
 
 pub run_text : (n : ℕ) → n ≤ MAX_RUN → ReadsLine (codes "run " ++ decimal n) (Ok (Run n))
 run_text n within =

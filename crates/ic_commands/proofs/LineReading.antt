@@ -10,7 +10,7 @@ use Rattle.ic_commands.specs.declared.line.Opening.{Opening}
 use Rattle.ic_commands.specs.declared.line.Opening.TheVariants as opening
 use Rattle.ic_commands.specs.declared.line.Verb.TheVariants.{Pause, Resume, Cancel, Fetch}
 use Rattle.ic_text.specs.Token.{Token, word, mark, word_of, before, tokens}
-use Rattle.ic_commands.specs.LineSource.{LinePhrase, nothing, submit, about, list, run, IsLine, line_words}
+use Rattle.ic_commands.specs.LineSource.{LinePhrase, nothing, submit, about, list, run, IsLine, number_words, line_words}
 use Rattle.ic_commands.specs.LineSense.{line_sense}
 use Rattle.ic_commands.specs.LineText.{ReadsLine}
 use Rattle.ic_commands.specs.inner.Line.{opening_text, openings, opening_of, IsLineOf}
@@ -55,19 +55,19 @@ opening_in (word w ∷ ts) = opening_of w
 
 abbrev pub opens : LinePhrase → Option Opening
 opens nothing = None
-opens (submit name s) = Some opening.Submit
+opens (submit name most s) = Some opening.Submit
 opens (about verb name) = Some (opening.About verb)
 opens list = Some opening.List
 opens (run digits) = Some opening.Run
 
 pub opening_in-line : (p : LinePhrase) → opening_in (line_words p) ≡ opens p
 opening_in-line nothing = refl
-opening_in-line (submit name s) = refl
+opening_in-line (submit name most s) = refl
 opening_in-line (about verb name) = opening_of-text (opening.About verb)
 opening_in-line list = refl
 opening_in-line (run digits) = refl
 
--- the tokens behind the first word, and behind the second
+-- the tokens behind the first word
 abbrev pub behind_one : List Token → List Token
 behind_one [] = []
 behind_one (t ∷ ts) = ts
@@ -76,10 +76,27 @@ abbrev pub second_word : List Token → List ℕ
 second_word (t ∷ word w ∷ ts) = w
 second_word ts = []
 
+-- the number's word that tokens begin with, and the tokens behind it
+abbrev pub number_first : List Token → Option (List ℕ)
+number_first (word w ∷ ts) = Some w
+number_first ts = None
+
+abbrev pub behind_number : List Token → List Token
+behind_number (word w ∷ ts) = ts
+behind_number ts = ts
+
+pub number_first-of : (most : Option (List ℕ)) (s : SystemPhrase) → number_first (number_words most ++ system_words s) ≡ most
+number_first-of None s = refl
+number_first-of (Some digits) s = refl
+
+pub behind_number-of : (most : Option (List ℕ)) (s : SystemPhrase) → behind_number (number_words most ++ system_words s) ≡ system_words s
+behind_number-of None s = refl
+behind_number-of (Some digits) s = refl
+
 -- no other system has the tokens of the one that a line has
 abbrev pub OneSystem : LinePhrase → Type 0
 OneSystem nothing = Unit {0}
-OneSystem (submit name s) = (t : SystemPhrase) → IsSystemPhrase t → system_words s ≡ system_words t → s ≡ t
+OneSystem (submit name most s) = (t : SystemPhrase) → IsSystemPhrase t → system_words s ≡ system_words t → s ≡ t
 OneSystem (about verb name) = Unit {0}
 OneSystem list = Unit {0}
 OneSystem (run digits) = Unit {0}
@@ -87,29 +104,30 @@ OneSystem (run digits) = Unit {0}
 same_line : (p q : LinePhrase) → OneSystem p → IsLine q → opens p ≡ opens q → second_word (line_words p) ≡ second_word (line_words q)
     → behind_one (behind_one (line_words p)) ≡ behind_one (behind_one (line_words q)) → p ≡ q
 same_line nothing nothing one is_q first second rest = refl
-same_line nothing (submit m t) one is_q first second rest = cc
+same_line nothing (submit m k t) one is_q first second rest = cc
 same_line nothing (about w m) one is_q first second rest = cc
 same_line nothing list one is_q first second rest = cc
 same_line nothing (run m) one is_q first second rest = cc
-same_line (submit n s) nothing one is_q first second rest = cc
-same_line (submit n s) (submit m t) one is_q first second rest =
-    let system = one t is_q.1 rest in
-    λ i. submit (second i) (system i)
-same_line (submit n s) (about w m) one is_q first second rest = cc
-same_line (submit n s) list one is_q first second rest = cc
-same_line (submit n s) (run m) one is_q first second rest = cc
+same_line (submit n j s) nothing one is_q first second rest = cc
+same_line (submit n j s) (submit m k t) one is_q first second rest =
+    let numbers = sym (number_first-of j s) ∙ ap number_first rest ∙ number_first-of k t in
+    let system = one t is_q.2 (sym (behind_number-of j s) ∙ ap behind_number rest ∙ behind_number-of k t) in
+    λ i. submit (second i) (numbers i) (system i)
+same_line (submit n j s) (about w m) one is_q first second rest = cc
+same_line (submit n j s) list one is_q first second rest = cc
+same_line (submit n j s) (run m) one is_q first second rest = cc
 same_line (about v n) nothing one is_q first second rest = cc
-same_line (about v n) (submit m t) one is_q first second rest = cc
+same_line (about v n) (submit m k t) one is_q first second rest = cc
 same_line (about v n) (about w m) one is_q first second rest = cc
 same_line (about v n) list one is_q first second rest = cc
 same_line (about v n) (run m) one is_q first second rest = cc
 same_line list nothing one is_q first second rest = cc
-same_line list (submit m t) one is_q first second rest = cc
+same_line list (submit m k t) one is_q first second rest = cc
 same_line list (about w m) one is_q first second rest = cc
 same_line list list one is_q first second rest = refl
 same_line list (run m) one is_q first second rest = cc
 same_line (run n) nothing one is_q first second rest = cc
-same_line (run n) (submit m t) one is_q first second rest = cc
+same_line (run n) (submit m k t) one is_q first second rest = cc
 same_line (run n) (about w m) one is_q first second rest = cc
 same_line (run n) list one is_q first second rest = cc
 same_line (run n) (run m) one is_q first second rest = ap run second

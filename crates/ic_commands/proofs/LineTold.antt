@@ -1,23 +1,29 @@
 -- A text spells at most one line, and whether it spells one can be told, where both hold of systems.
-use Rattle.std.proofs.Common.{◌≡◌, ◌&&◌, Bool, true, false, List, [], ◌∷◌, Option, None, Some, refl, ap, ◌∙◌}
+use Rattle.std.proofs.Common.{◌≡◌, ◌&&◌, ℕ, Bool, true, false, List, [], ◌∷◌, ◌++◌, Option, None, Some, refl, ap, ◌∙◌}
 use Rattle.std.proofs.lemmas.Bool.{false≢true, and_parts}
 use Rattle.ic_text.specs.Token.{Token, word, mark}
-use Rattle.ic_text.specs.SystemSource.{IsSystemPhrase, system_words}
+use Rattle.ic_text.specs.SystemSource.{SystemPhrase, IsSystemPhrase, system_words}
 use Rattle.ic_text.specs.lemmas.ReadOnce.{IsTold}
 use Rattle.ic_commands.specs.declared.line.Opening.{Opening}
 use Rattle.ic_commands.specs.declared.line.Opening.TheVariants as opening
 use Rattle.ic_commands.specs.declared.line.Verb.TheVariants.{Pause, Resume, Cancel, Fetch}
-use Rattle.ic_commands.specs.LineSource.{LinePhrase, nothing, submit, about, list, run, IsLine, is_number, line_words}
+use Rattle.ic_commands.specs.LineSource.{LinePhrase, nothing, submit, about, list, run, IsLine, is_number, number_words, line_words}
 use Rattle.ic_rules.specs.JobName.{is_job_word}
 use Rattle.ic_commands.specs.inner.Line.{opening_text, opening_of}
 use Rattle.ic_commands.proofs.LineReading.{text-opening_of, OneSystem, line_words-injective}
 
 module _ (told_systems : IsTold IsSystemPhrase system_words) where
+  -- whether tokens stand behind the name of a submit
+  abbrev named_stands : List Token → Bool
+  named_stands [] = told_systems.test []
+  named_stands (mark m ∷ ts) = told_systems.test (mark m ∷ ts)
+  named_stands (word digits ∷ ts) = is_number digits && told_systems.test ts
+
   -- whether tokens stand behind the word that opens a line
   abbrev stands_behind : Opening → List Token → Bool
   stands_behind opening.Submit [] = false
   stands_behind opening.Submit (mark m ∷ ts) = false
-  stands_behind opening.Submit (word name ∷ ts) = is_job_word name && told_systems.test ts
+  stands_behind opening.Submit (word name ∷ ts) = is_job_word name && named_stands ts
   stands_behind (opening.About verb) [] = false
   stands_behind (opening.About verb) (mark m ∷ ts) = false
   stands_behind (opening.About verb) (word name ∷ []) = is_job_word name
@@ -43,13 +49,25 @@ module _ (told_systems : IsTold IsSystemPhrase system_words) where
   abbrev LineBy : List Token → Type 0
   LineBy ts = (p : LinePhrase) × IsLine p × (ts ≡ line_words p)
 
+  -- some submit of this name has these tokens behind the name
+  abbrev NamedBy : List ℕ → List Token → Type 0
+  NamedBy name ts = (most : Option (List ℕ)) × (s : SystemPhrase) × IsLine (submit name most s) × (ts ≡ number_words most ++ system_words s)
+
+  found-named : (name : List ℕ) (ts : List Token) → is_job_word name ≡ true → named_stands ts ≡ true → NamedBy name ts
+  found-named name [] named e = let s = told_systems.found [] e in (None, s.0, (named, tt, s.1), s.2)
+  found-named name (mark m ∷ ts) named e = let s = told_systems.found (mark m ∷ ts) e in (None, s.0, (named, tt, s.1), s.2)
+  found-named name (word digits ∷ ts) named e =
+      let parts = and_parts (is_number digits) (told_systems.test ts) e in
+      let s = told_systems.found ts parts.1 in
+      (Some digits, s.0, (named, parts.0, s.1), ap (λ us. word digits ∷ us) s.2)
+
   found-behind : (o : Opening) (ts : List Token) → stands_behind o ts ≡ true → LineBy (word (opening_text o) ∷ ts)
   found-behind opening.Submit [] e = absurd (false≢true e)
   found-behind opening.Submit (mark m ∷ ts) e = absurd (false≢true e)
   found-behind opening.Submit (word name ∷ ts) e =
-      let parts = and_parts (is_job_word name) (told_systems.test ts) e in
-      let s = told_systems.found ts parts.1 in
-      (submit name s.0, (parts.0, s.1), ap (λ us. word (opening_text opening.Submit) ∷ word name ∷ us) s.2)
+      let parts = and_parts (is_job_word name) (named_stands ts) e in
+      let by = found-named name ts parts.0 parts.1 in
+      (submit name by.0 by.1, by.2, ap (λ us. word (opening_text opening.Submit) ∷ word name ∷ us) by.3)
   found-behind (opening.About verb) [] e = absurd (false≢true e)
   found-behind (opening.About verb) (mark m ∷ ts) e = absurd (false≢true e)
   found-behind (opening.About verb) (word name ∷ []) e = (about verb name, e, refl)
@@ -74,7 +92,9 @@ module _ (told_systems : IsTold IsSystemPhrase system_words) where
 
   line_words-test : (p : LinePhrase) → IsLine p → is_line (line_words p) ≡ true
   line_words-test nothing is = refl
-  line_words-test (submit name s) is = rw is.0 (told_systems.only _ (s, is.1, refl))
+  line_words-test (submit name None s) is = rw is.0 (told_systems.only _ (s, is.2, refl))
+  line_words-test (submit name (Some digits) s) is =
+      let number : is_number digits ≡ true = is.1 in rw (is.0, number) (told_systems.only _ (s, is.2, refl))
   line_words-test (about Pause name) is = is
   line_words-test (about Resume name) is = is
   line_words-test (about Cancel name) is = is
@@ -87,7 +107,7 @@ module _ (told_systems : IsTold IsSystemPhrase system_words) where
 
   one_system : (p : LinePhrase) → IsLine p → OneSystem p
   one_system nothing is = tt
-  one_system (submit name s) is = λ t is_t same. told_systems.injective s t is.1 is_t same
+  one_system (submit name most s) is = λ t is_t same. told_systems.injective s t is.2 is_t same
   one_system (about verb name) is = tt
   one_system list is = tt
   one_system (run digits) is = tt

@@ -3,6 +3,7 @@ use Rattle.std.proofs.Common.{◌≡◌, ℕ, ◌≤◌, Bool, true, false, cond
 use Rattle.std.specs.Prelude.{nat_le}
 use Rattle.std.proofs.lemmas.Bool.{false≢true, cases_lt}
 use Rattle.std.specs.List.{list_all}
+use Rattle.std.specs.Option.{option_map}
 use Rattle.ic_term.specs.Configuration.{third_occurrence}
 use Rattle.ic_rules.specs.RuleSet.{first_uncounted, first_repeated, first_lopsided}
 use Rattle.ic_rules.specs.System.{SystemParts}
@@ -18,7 +19,7 @@ use Rattle.ic_text.specs.Sense.{has_its_arity}
 use Rattle.ic_text.specs.SystemSource.{system_symbols}
 use Rattle.ic_text.specs.SystemSense.{is_system_in_limits, system_table, rules_over, system_parts, unless_found, system_sense}
 use Rattle.ic_commands.specs.LineSource.{LinePhrase, nothing, submit, about, list, run}
-use Rattle.ic_commands.specs.LineSense.{submitted, line_sense}
+use Rattle.ic_commands.specs.LineSense.{fits_budget, submitted, line_sense}
 use Rattle.ic_commands.specs.LineText.{ReadsLine}
 
 abbrev is_want : TextFault → Bool
@@ -45,10 +46,12 @@ system_wants true true None None (Some n) l parts = refl
 system_wants true true None None None (Some n) parts = refl
 system_wants true true None None None None parts = refl
 
-submit_wants : (short : Bool) (name : List ℕ) (a : Result SystemParts TextFault) → wants a ≡ false → wants (cond short (submitted name a) (Err Limit)) ≡ false
-submit_wants true name (Ok system) e = refl
-submit_wants true name (Err fault) e = e
-submit_wants false name a e = refl
+submit_wants : (short fits : Bool) (name : List ℕ) (most : Option ℕ) (a : Result SystemParts TextFault) → wants a ≡ false
+    → wants (cond short (cond fits (submitted name most a) (Err Limit)) (Err Limit)) ≡ false
+submit_wants true true name most (Ok system) e = refl
+submit_wants true true name most (Err fault) e = e
+submit_wants true false name most a e = refl
+submit_wants false fits name most a e = refl
 
 unless_wants : (within : Bool) (line : Line) → wants {T = Line} (cond within (Ok line) (Err Limit)) ≡ false
 unless_wants true line = refl
@@ -56,7 +59,7 @@ unless_wants false line = refl
 
 line_wants : (p : LinePhrase) → wants (line_sense p) ≡ false
 line_wants nothing = refl
-line_wants (submit name s) = submit_wants (nat_le (length name) MAX_JOB_NAME) name (system_sense s)
+line_wants (submit name most s) = submit_wants (nat_le (length name) MAX_JOB_NAME) (fits_budget most) name (option_map number_in most) (system_sense s)
     (system_wants (is_system_in_limits s) (list_all (has_its_arity (system_table s)) (system_symbols s)) (first_uncounted (rules_over s)) (third_occurrence (phrase_names s.config))
     (first_repeated (rules_over s)) (first_lopsided (rules_over s)) (system_parts s))
 line_wants (about verb name) = unless_wants (nat_le (length name) MAX_JOB_NAME) _

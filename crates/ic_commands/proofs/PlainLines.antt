@@ -1,14 +1,15 @@
 -- Lines in their plainest form.
-use Rattle.std.proofs.Common.{◌≡◌, ℕ, List, [], ◌∷◌, ◌++◌, ◌≤◌, Ok, length, refl, sym, ap, subst, arith, append-nil, append_assoc}
+use Rattle.std.proofs.Common.{◌≡◌, ℕ, List, [], ◌∷◌, ◌++◌, ◌≤◌, Option, None, Some, Ok, length, refl, sym, ap, subst, arith, append-nil, append_assoc, ◌∙◌}
 use Rattle.std.specs.Prelude.{codes, map, Bool, false, Contains, IsTrue}
 use Rattle.std.specs.List.{flat_map, join_with_byte}
+use Rattle.std.specs.Fmt.{decimal}
 use Rattle.ic_jobs.specs.declared.command.Command.{Command}
 use Rattle.ic_jobs.specs.declared.command.Command.TheVariants as command
 use Rattle.ic_jobs.specs.Memory.{is_submit}
 use Rattle.ic_jobs.specs.Names.{command_names}
 use Rattle.ic_rules.specs.JobName.{is_job_name}
 use Rattle.ic_jobs.specs.declared.state.State.{State}
-use Rattle.ic_jobs.specs.declared.state.State.TheVariants.{Running, Paused, Done, Halted as halted_state}
+use Rattle.ic_jobs.specs.declared.state.State.TheVariants.{Running, Paused, Done, Halted as halted_state, Spent}
 use Rattle.ic_jobs.specs.declared.reply.Refusal.{Refusal}
 use Rattle.ic_jobs.specs.declared.reply.Refusal.TheVariants.{Taken, Full, NoJob, NotRunning, NotPaused}
 use Rattle.ic_jobs.specs.declared.reply.Reply.{Reply}
@@ -23,12 +24,19 @@ use Rattle.ic_commands.specs.LineSource.{LinePhrase, nothing, submit, about, lis
 use Rattle.ic_commands.specs.LineText.{ReadsLine}
 use Rattle.ic_commands.specs.LinePlain.{IsOfJob, AsksPlainly, IsPlainly, phrase_texts}
 use Rattle.ic_commands.specs.ReplyText.{listed_text, listed_word, reply_text, reply_words}
-use Rattle.ic_commands.proofs.LineLaws.{about_text, submit_whole, list_text, run_text, blank_text}
+use Rattle.ic_commands.proofs.LineLaws.{about_text, submit_without, submit_with, list_text, run_text, blank_text}
 
 plain_command : (c : Command) (text : List ℕ) → AsksPlainly c text → ReadsLine text (Ok (Asks c))
-plain_command (command.Submit name system) text is =
+plain_command (command.Submit name system None) text is =
     let short = subst (λ t. length t ≤ MAX_TEXT) is.written is.short in
-    subst (λ t. ReadsLine t (Ok (Asks (command.Submit name system)))) (sym is.written) (submit_whole name is.system_text (Ok system) is.named short is.reads)
+    subst (λ t. ReadsLine t (Ok (Asks (command.Submit name system None)))) (sym is.written)
+    (submit_without name is.system_text (Ok system) is.named short is.reads (λ e. cc))
+plain_command (command.Submit name system (Some n)) text is =
+    let same : text ≡ codes "submit " ++ name ++ 32 ∷ (decimal n ++ 32 ∷ is.system_text) =
+    is.written ∙ ap (λ t. codes "submit " ++ name ++ 32 ∷ t) (append_assoc (decimal n) (32 ∷ []) is.system_text) in
+    let short = subst (λ t. length t ≤ MAX_TEXT) same is.short in
+    subst (λ t. ReadsLine t (Ok (Asks (command.Submit name system (Some n))))) (sym same)
+    (submit_with name is.system_text n (Ok system) is.named is.budget short is.reads)
 plain_command (command.Pause name) text is =
     subst (λ t. ReadsLine t (Ok (Asks (command.Pause name)))) (sym is.written) (about_text Pause name refl (omega arith) is.named)
 plain_command (command.Resume name) text is =
@@ -47,7 +55,7 @@ of_job : (c : Command) (word name : List ℕ) → (IsOfJob word name (word ++ na
 of_job c word name asks named = (word ++ name, plain_command c (word ++ name) (asks (record { named = named; written = refl })))
 
 pub has_line : (c : Command) → is_submit c ≡ false → ((name : List ℕ) → Contains (command_names c) name → IsTrue (is_job_name name)) → HasLine c
-has_line (command.Submit name system) other named = cc
+has_line (command.Submit name system most) other named = cc
 has_line (command.Pause name) other named = of_job (command.Pause name) (codes "pause ") name (λ is. is) (named name (0, omega arith, refl))
 has_line (command.Resume name) other named = of_job (command.Resume name) (codes "resume ") name (λ is. is) (named name (0, omega arith, refl))
 has_line (command.Cancel name) other named = of_job (command.Cancel name) (codes "cancel ") name (λ is. is) (named name (0, omega arith, refl))
@@ -61,7 +69,8 @@ plain_line (Run n) text is = subst (λ t. ReadsLine t (Ok (Run n))) (sym is.1) (
 
 pub phrase_texts_are : (p : LinePhrase) → words_among (line_words p) ≡ phrase_texts p
 phrase_texts_are nothing = refl
-phrase_texts_are (submit name s) = refl
+phrase_texts_are (submit name None s) = refl
+phrase_texts_are (submit name (Some digits) s) = refl
 phrase_texts_are (about verb name) = refl
 phrase_texts_are list = refl
 phrase_texts_are (run digits) = refl
@@ -74,11 +83,12 @@ all_verbs Fetch = (3, omega arith, refl)
 
 -- ---- answers
 
-pub all_states : (s : State) → Contains (Running ∷ Paused ∷ Done ∷ halted_state ∷ []) s
+pub all_states : (s : State) → Contains (Running ∷ Paused ∷ Done ∷ halted_state ∷ Spent ∷ []) s
 all_states Running = (0, omega arith, refl)
 all_states Paused = (1, omega arith, refl)
 all_states Done = (2, omega arith, refl)
 all_states halted_state = (3, omega arith, refl)
+all_states Spent = (4, omega arith, refl)
 
 pub all_refusals : (r : Refusal) → Contains (Taken ∷ Full ∷ NoJob ∷ NotRunning ∷ NotPaused ∷ []) r
 all_refusals Taken = (0, omega arith, refl)

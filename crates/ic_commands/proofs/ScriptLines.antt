@@ -21,33 +21,17 @@ use Rattle.ic_commands.specs.inner.Line.{HasNoWord}
 use Rattle.ic_commands.specs.inner.ScriptLine.{is_run}
 use Rattle.ic_text.specs.lemmas.ReadOnce.{some-injective, none_is_some}
 use Rattle.ic_text.specs.lemmas.WordRuns.{tokens-parted}
-use Rattle.ic_commands.proofs.WordSplits.{before-none}
-
--- the first word among tokens, or none
-abbrev front_word : List Token → List ℕ
-front_word [] = []
-front_word (word w ∷ ts) = w
-front_word (mark m ∷ ts) = []
+use Rattle.ic_commands.proofs.WordSplits.{before-none, front_word, front_is}
 
 opens_run : (p : LinePhrase) → bytes_eq (front_word (line_words p)) (codes "run") ≡ is_run p
 opens_run nothing = refl
-opens_run (submit name s) = refl
+opens_run (submit name most s) = refl
 opens_run (about Pause name) = refl
 opens_run (about Resume name) = refl
 opens_run (about Cancel name) = refl
 opens_run (about Fetch name) = refl
 opens_run list = refl
 opens_run (run digits) = refl
-
-unworded : (rest : List ℕ) (ts : List Token) → HasNoWord rest (Some ts) → front_word ts ≡ []
-unworded rest [] apart = refl
-unworded rest (word w ∷ ts) apart = absurd apart
-unworded rest (mark m ∷ ts) apart = refl
-
-front_is : (w rest : List ℕ) (o : Option (List Token)) (ts : List Token) → (w ≡ [] → HasNoWord rest o) → before (word_of w) o ≡ Some ts → front_word ts ≡ w
-front_is w rest None ts apart e = absurd (none_is_some ts e)
-front_is [] rest (Some us) ts apart e = ap front_word (sym (some-injective us ts e)) ∙ unworded rest us (apart refl)
-front_is (b ∷ bs) rest (Some us) ts apart e = ap front_word (sym (some-injective (word (b ∷ bs) ∷ us) ts e))
 
 -- the first word tells whether a line is a run
 pub tells_run : (text w rest : List ℕ) → tokens text ≡ before (word_of w) (tokens rest) → (w ≡ [] → HasNoWord rest (tokens rest))
@@ -59,14 +43,14 @@ tells_run text w rest split apart p spells =
 
 run_sense : (p : LinePhrase) → is_run p ≡ true → Err Syntax ≡ script_sense p
 run_sense nothing e = absurd (false≢true e)
-run_sense (submit name s) e = absurd (false≢true e)
+run_sense (submit name most s) e = absurd (false≢true e)
 run_sense (about verb name) e = absurd (false≢true e)
 run_sense list e = absurd (false≢true e)
 run_sense (run digits) e = refl
 
 other_sense : (p : LinePhrase) → is_run p ≡ false → without_run (line_sense p) ≡ script_sense p
 other_sense nothing e = refl
-other_sense (submit name s) e = refl
+other_sense (submit name most s) e = refl
 other_sense (about verb name) e = refl
 other_sense list e = refl
 other_sense (run digits) e = absurd (false≢true (sym e))
@@ -90,7 +74,7 @@ reads_other text a others reads = record {
 
 not_run : (p : LinePhrase) → ((digits : List ℕ) → p ≡ run digits → ⊥) → is_run p ≡ false
 not_run nothing none = refl
-not_run (submit name s) none = refl
+not_run (submit name most s) none = refl
 not_run (about verb name) none = refl
 not_run list none = refl
 not_run (run digits) none = absurd (none digits refl)
@@ -106,7 +90,7 @@ reads_unless_run text a none reads =
 -- what is read as so much is no run with another number
 same_sense : (p : LinePhrase) (a : Result Line TextFault) → a ≡ line_sense p → ((k : ℕ) → a ≡ Ok (Run k) → ⊥) → (a ≡ Err Limit → ⊥) → without_run a ≡ script_sense p
 same_sense nothing a e run_apart limit_apart = ap without_run e
-same_sense (submit name s) a e run_apart limit_apart = ap without_run e
+same_sense (submit name most s) a e run_apart limit_apart = ap without_run e
 same_sense (about verb name) a e run_apart limit_apart = ap without_run e
 same_sense list a e run_apart limit_apart = ap without_run e
 same_sense (run digits) a e run_apart limit_apart = by_number (nat_le (number_in digits) MAX_RUN) e
@@ -130,7 +114,7 @@ reads_blank text reads = reads_same text (Ok Blank) (λ k e. cc) (λ e. cc) read
 
 run_or_same : (p : LinePhrase) (k : ℕ) → Ok (Run k) ≡ line_sense p → Err Syntax ≡ script_sense p
 run_or_same nothing k e = ap without_run e
-run_or_same (submit name s) k e = ap without_run e
+run_or_same (submit name most s) k e = ap without_run e
 run_or_same (about verb name) k e = ap without_run e
 run_or_same list k e = ap without_run e
 run_or_same (run digits) k e = refl
@@ -164,7 +148,7 @@ memory_of (Err fault) e = cc
 
 memory_sense : (p : LinePhrase) → Err Memory ≡ script_sense p → Err Memory ≡ line_sense p
 memory_sense nothing e = memory_of (line_sense nothing) e
-memory_sense (submit name s) e = memory_of (line_sense (submit name s)) e
+memory_sense (submit name most s) e = memory_of (line_sense (submit name most s)) e
 memory_sense (about verb name) e = memory_of (line_sense (about verb name)) e
 memory_sense list e = memory_of (line_sense list) e
 memory_sense (run digits) e = cc

@@ -1,7 +1,8 @@
 -- A text that is taken apart at its first word.
-use Rattle.std.proofs.Common.{◌≡◌, ℕ, zero, suc, ◌+◌, ◌<◌, false, List, [], ◌∷◌, Option, None, Some, length, get_or, take, drop, refl, sym, ap, ◌∙◌, subst, arith, length-drop, ◌-◌}
+use Rattle.std.proofs.Common.{◌≡◌, ℕ, zero, suc, ◌+◌, ◌<◌, false, List, [], ◌∷◌, Option, None, Some, ◌++◌, length, get_or, take, drop, refl, sym, ap, ◌∙◌, subst, arith, length-drop, ◌-◌}
 use Rattle.std.proofs.lemmas.List.{drop_more, take_all}
-use Rattle.ic_text.specs.Token.{Token, mark, is_blank, is_word_byte, mark_of, word_of, before, tokens_at, followed, tokens_behind, tokens}
+use Rattle.ic_text.specs.lemmas.ReadOnce.{some-injective, none_is_some}
+use Rattle.ic_text.specs.Token.{Token, word, mark, is_blank, is_word_byte, mark_of, word_of, before, tokens_at, followed, tokens_behind, tokens}
 use Rattle.ic_commands.specs.inner.Line.{HasNoWord, BeginsApart}
 
 pub before-none : (o : Option (List Token)) → before [] o ≡ o
@@ -47,3 +48,22 @@ no_word_here (b ∷ bs) (suc place) inside filled apart empty = cc
 -- a slice to the end of a text
 pub to_end : (text : List ℕ) (place : ℕ) → take (length text - place) (drop place text) ≡ drop place text
 to_end text place = take_all (length text - place) (drop place text) (omega (arith, length-drop place text))
+
+-- ---- the first word
+
+-- the first word among tokens, or none
+abbrev pub front_word : List Token → List ℕ
+front_word [] = []
+front_word (word w ∷ ts) = w
+front_word (mark m ∷ ts) = []
+
+unworded : (rest : List ℕ) (ts : List Token) → HasNoWord rest (Some ts) → front_word ts ≡ []
+unworded rest [] apart = refl
+unworded rest (word w ∷ ts) apart = absurd apart
+unworded rest (mark m ∷ ts) apart = refl
+
+-- it is the one that stands in front
+pub front_is : (w rest : List ℕ) (o : Option (List Token)) (ts : List Token) → (w ≡ [] → HasNoWord rest o) → before (word_of w) o ≡ Some ts → front_word ts ≡ w
+front_is w rest None ts apart e = absurd (none_is_some ts e)
+front_is [] rest (Some us) ts apart e = ap front_word (sym (some-injective us ts e)) ∙ unworded rest us (apart refl)
+front_is (b ∷ bs) rest (Some us) ts apart e = ap front_word (sym (some-injective (word (b ∷ bs) ∷ us) ts e))

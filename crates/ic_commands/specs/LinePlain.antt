@@ -1,10 +1,11 @@
 -- To be believed: how each line is written in its plainest form, with one space behind its word, and the words of each
 -- line in order (this project's choice).
-use Rattle.std.specs.Prelude.{◌≡◌, ℕ, ◌≤◌, List, [], ◌∷◌, ◌++◌, Ok, true, length, IsTrue, codes}
+use Rattle.std.specs.Prelude.{◌≡◌, ℕ, ◌≤◌, List, [], ◌∷◌, ◌++◌, Ok, true, Option, None, Some, length, IsTrue, IfSome, codes}
 use Rattle.std.specs.List.{list_all}
 use Rattle.std.specs.Fmt.{decimal}
 use Rattle.ic_rules.specs.JobName.{is_job_name}
 use Rattle.ic_rules.specs.System.{SystemParts}
+use Rattle.ic_jobs.specs.Budget.{IsBudget}
 use Rattle.ic_jobs.specs.declared.command.Command.{Command}
 use Rattle.ic_jobs.specs.declared.command.Command.TheVariants as command
 use Rattle.ic_text.specs.Token.{is_blank, words_among}
@@ -21,17 +22,24 @@ pub record IsOfJob (word name text : List ℕ) : Type 0 where
   pub named : IsTrue (is_job_name name)
   pub written : text ≡ word ++ name
 
--- `submit`, a job's name, and a text that is read as this system
-pub record IsSubmitOf (name : List ℕ) (system : SystemParts) (text : List ℕ) : Type 0 where
+-- a budget with its space, or nothing
+abbrev pub budget_text : Option ℕ → List ℕ
+budget_text None = []
+budget_text (Some n) = decimal n ++ 32 ∷ []
+
+-- `submit`, a job's name, its budget or none, and a text that is read as this system
+pub record IsSubmitOf (name : List ℕ) (system : SystemParts) (most : Option ℕ)
+    (text : List ℕ) : Type 0 where
   pub system_text : List ℕ
   pub named : IsTrue (is_job_name name)
-  pub written : text ≡ codes "submit " ++ name ++ 32 ∷ system_text
+  pub budget : IfSome most IsBudget
+  pub written : text ≡ codes "submit " ++ name ++ 32 ∷ (budget_text most ++ system_text)
   pub short : length text ≤ MAX_TEXT
   pub reads : ReadsSystem system_text (Ok system)
 
 -- a text asks for a command in its plainest form
 abbrev pub AsksPlainly : Command → List ℕ → Type 0
-AsksPlainly (command.Submit name system) text = IsSubmitOf name system text
+AsksPlainly (command.Submit name system budget) text = IsSubmitOf name system budget text
 AsksPlainly (command.Pause name) text = IsOfJob (codes "pause ") name text
 AsksPlainly (command.Resume name) text = IsOfJob (codes "resume ") name text
 AsksPlainly (command.Cancel name) text = IsOfJob (codes "cancel ") name text
@@ -44,10 +52,16 @@ IsPlainly Blank text = (length text ≤ MAX_TEXT) × (list_all is_blank text ≡
 IsPlainly (Asks c) text = AsksPlainly c text
 IsPlainly (Run n) text = (n ≤ MAX_RUN) × (text ≡ codes "run " ++ decimal n)
 
+-- the word of a number, or of none
+abbrev pub number_texts : Option (List ℕ) → List (List ℕ)
+number_texts None = []
+number_texts (Some digits) = digits ∷ []
+
 -- the words of a line
 abbrev pub phrase_texts : LinePhrase → List (List ℕ)
 phrase_texts nothing = []
-phrase_texts (submit name s) = codes "submit" ∷ name ∷ words_among (system_words s)
+phrase_texts (submit name most s) =
+    codes "submit" ∷ name ∷ (number_texts most ++ words_among (system_words s))
 phrase_texts (about verb name) = verb_text verb ∷ name ∷ []
 phrase_texts list = codes "list" ∷ []
 phrase_texts (run digits) = codes "run" ∷ digits ∷ []

@@ -1,7 +1,9 @@
 -- To be believed: what a command line that is written means.
-use Rattle.std.specs.Prelude.{ℕ, List, Result, Ok, Err, length, nat_le, if◌then◌else◌}
+use Rattle.std.specs.Prelude.{ℕ, List, Bool, true, ◌&&◌, Option, None, Some, Result, Ok, Err, length, nat_lt, nat_le, if◌then◌else◌}
+use Rattle.std.specs.Option.{option_map}
 use Rattle.ic_rules.specs.System.{SystemParts}
 use Rattle.ic_rules.specs.declared.job_name.TheConstants.{MAX_JOB_NAME}
+use Rattle.ic_jobs.specs.declared.limits.TheConstants.{MAX_BUDGET}
 use Rattle.ic_jobs.specs.declared.command.Command.{Command}
 use Rattle.ic_jobs.specs.declared.command.Command.TheVariants as command
 use Rattle.ic_commands.specs.declared.limits.TheConstants.{MAX_RUN}
@@ -26,15 +28,25 @@ asked Fetch name = command.Fetch name
 abbrev pub unless_long : List ℕ → Result Line TextFault → Result Line TextFault
 unless_long name answer = if nat_le (length name) MAX_JOB_NAME then answer else Err Limit
 
+-- a number is that of a budget, or there is none
+abbrev pub fits_budget : Option (List ℕ) → Bool
+fits_budget None = true
+fits_budget (Some digits) = nat_lt 0 (number_in digits) && nat_le (number_in digits) MAX_BUDGET
+
+-- A number of no budget passes a limit, so it comes before all but Syntax.
+abbrev pub unless_unfit : Option (List ℕ) → Result Line TextFault → Result Line TextFault
+unless_unfit most answer = if fits_budget most then answer else Err Limit
+
 -- the submit of what a system means, or the refusal of the system
-abbrev pub submitted : List ℕ → Result SystemParts TextFault → Result Line TextFault
-submitted name (Ok system) = Ok (Asks (command.Submit name system))
-submitted name (Err fault) = Err fault
+abbrev pub submitted : List ℕ → Option ℕ → Result SystemParts TextFault → Result Line TextFault
+submitted name budget (Ok system) = Ok (Asks (command.Submit name system budget))
+submitted name budget (Err fault) = Err fault
 
 -- what a line means, or its first refusal
 abbrev pub line_sense : LinePhrase → Result Line TextFault
 line_sense nothing = Ok Blank
-line_sense (submit name s) = unless_long name (submitted name (system_sense s))
+line_sense (submit name most s) = unless_long name
+    (unless_unfit most (submitted name (option_map number_in most) (system_sense s)))
 line_sense (about verb name) = unless_long name (Ok (Asks (asked verb name)))
 line_sense list = Ok (Asks command.List)
 line_sense (run digits) =

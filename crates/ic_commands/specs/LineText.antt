@@ -1,5 +1,5 @@
 -- To be believed: what a text of a command line is read as.
-use Rattle.std.specs.Prelude.{ℕ, List, Result}
+use Rattle.std.specs.Prelude.{ℕ, List, Option, Result}
 use Rattle.ic_commands.specs.declared.line.Line.{Line}
 use Rattle.ic_text.specs.declared.fault.TextFault.{TextFault}
 use Rattle.ic_text.specs.SystemSource.{SystemPhrase}
@@ -13,7 +13,9 @@ SpellsLine text p = IsSpelling IsLine line_words text p
 
 -- a text spells the submit of some job
 abbrev pub SpellsSubmit : List ℕ → Type 0
-SpellsSubmit text = (name : List ℕ) × (s : SystemPhrase) × SpellsLine text (submit name s)
+SpellsSubmit text =
+    (name : List ℕ) × (most : Option (List ℕ)) × (s : SystemPhrase)
+    × SpellsLine text (submit name most s)
 
 -- what a text of a line is read as
 abbrev pub ReadsLine : List ℕ → Result Line TextFault → Type 0

@@ -3,7 +3,7 @@ use Rattle.std.specs.Prelude.{ℕ, List, [], ◌∷◌, ◌++◌, map, codes}
 use Rattle.std.specs.List.{flat_map, join_with_byte}
 use Rattle.std.specs.Fmt.{decimal}
 use Rattle.ic_jobs.specs.declared.state.State.{State}
-use Rattle.ic_jobs.specs.declared.state.State.TheVariants.{Running, Paused, Done, Halted as halted_state}
+use Rattle.ic_jobs.specs.declared.state.State.TheVariants.{Running, Paused, Done, Halted as halted_state, Spent}
 use Rattle.ic_jobs.specs.declared.reply.Refusal.{Refusal}
 use Rattle.ic_jobs.specs.declared.reply.Refusal.TheVariants.{Taken, Full, NoJob, NotRunning, NotPaused}
 use Rattle.ic_jobs.specs.declared.reply.Reply.{Reply}
@@ -16,6 +16,7 @@ state_text Running = codes "running"
 state_text Paused = codes "paused"
 state_text Done = codes "done"
 state_text halted_state = codes "halted"
+state_text Spent = codes "spent"
 
 abbrev pub refusal_text : Refusal → List ℕ
 refusal_text Taken = codes "taken"

@@ -22,7 +22,7 @@ without_run (Err fault) = Err fault
 abbrev pub script_sense : LinePhrase → Result (Option Command) TextFault
 script_sense (run digits) = Err Syntax
 script_sense nothing = without_run (line_sense nothing)
-script_sense (submit name s) = without_run (line_sense (submit name s))
+script_sense (submit name most s) = without_run (line_sense (submit name most s))
 script_sense (about verb name) = without_run (line_sense (about verb name))
 script_sense list = without_run (line_sense list)
 

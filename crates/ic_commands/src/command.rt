@@ -1,17 +1,20 @@
 //! Reading a command line, word by word; the system of a submit is read as any system.
 
-ghost use Rattle.std.specs.Prelude.{◌≡◌, ◌≢◌, ◌≤◌, IfOk, IfErr, IsTrue, Ok, Err, length};
+ghost use Rattle.std.specs.Prelude.{◌≡◌, ◌≢◌, ◌≤◌, ◌↔◌, ◌&&◌, IfOk, IfErr, IfSome, IsSome, IsTrue, Some, Ok, Err, length};
+ghost use Rattle.std.specs.Option.{option_map};
+ghost use Rattle.ic_rules.specs.JobName.{is_job_name};
 ghost use Rattle.ic_commands.specs.LineSource.{is_number, run};
-ghost use Rattle.ic_commands.specs.LineSense.{asked, line_sense};
+ghost use Rattle.ic_commands.specs.LineSense.{asked, fits_budget, line_sense};
 ghost use Rattle.ic_commands.specs.LineText.{ReadsLine, SpellsSubmit};
 ghost use Rattle.ic_text.specs.Token.{word_of, before, tokens};
 ghost use Rattle.ic_commands.specs.declared.line.Opening.TheVariants as opening;
-ghost use Rattle.ic_commands.specs.inner.Line.{opening_of, opening_text, IsLineOf, IsSubmitLine, ReadsBehind};
+ghost use Rattle.ic_commands.specs.inner.Line.{opening_of, opening_text, number_word, is_number_or_none, IsLineOf, IsSubmitLine, ReadsBehind};
+ghost use Rattle.ic_text.specs.Name.{number_in};
 
 use crate::limits::MAX_RUN;
 use crate::line::{Line, Opening, Verb};
 use crate::word::{is_nothing, only_word, split_word};
-use ic_jobs::Command;
+use ic_jobs::{Budget, Command};
 use ic_rules::{JobName, is_job_word};
 use ic_text::{MAX_TEXT, TextFault, is_numeral, is_system, number_in, read_system};
 use std::alloc::Global;
@@ -21,6 +24,13 @@ fn is_number(text: &[u8]) -> bool
     ensures { result ≡ is_number text.now }
 {
     text == b"0".as_slice() || (!text.is_empty() && is_numeral(text))
+}
+
+/// Whether a word is a number, or no word.
+fn is_number_or_none(text: &[u8]) -> bool
+    ensures { result ≡ is_number_or_none text.now }
+{
+    text.is_empty() || is_number(text)
 }
 
 /// What the first word of a line asks for.
@@ -58,8 +68,40 @@ fn ask(verb: Verb, name: JobName) -> Command
     }
 }
 
-/// The line of a `submit` with this behind it. A name that is too long is tested where the text behind it is a system:
-/// such a line makes no value.
+/// The budget of a number, if it is one's.
+fn budget_of(digits: &[u8]) -> Option<Budget>
+    requires { IsTrue (is_number digits.now) }
+    ensures fits { IsSome result ↔ IsTrue (fits_budget (Some digits.now)) }
+    ensures budget { IfSome result (λ budget. budget ≡ number_in digits.now) }
+{
+    match number_in(digits) {
+        Some(rounds) => Budget::new(rounds),
+        None => None,
+    }
+}
+
+/// A job's name and budget by their words, if they are within the limits. No word is no budget.
+fn within_limits(word: &[u8], digits: &[u8]) -> Option<(JobName, Option<Budget>)>
+    requires { IsTrue (is_number_or_none digits.now) }
+    ensures fits { IsSome result
+        ↔ IsTrue (is_job_name word.now && fits_budget (number_word digits.now)) }
+    ensures name { IfSome result (λ r. r.0 ≡ word.now) }
+    ensures budget { IfSome result (λ r. r.1 ≡ option_map number_in (number_word digits.now)) }
+{
+    let Some(name) = JobName::new(word) else {
+        return None;
+    };
+    if digits.is_empty() {
+        return Some((name, None));
+    }
+    match budget_of(digits) {
+        Some(budget) => Some((name, Some(budget))),
+        None => None,
+    }
+}
+
+/// The line of a `submit` with this behind it. A name that is too long, and a number of no budget, are tested where the
+/// text behind them is a system: such a line makes no value.
 fn read_submit(alloc: Global, rest: &[u8]) -> Result<Line, TextFault>
     requires { length rest.now ≤ MAX_TEXT }
     ensures line { result ≢ Err TextFault.Memory → ReadsBehind opening.Submit rest.now result }
@@ -67,17 +109,18 @@ fn read_submit(alloc: Global, rest: &[u8]) -> Result<Line, TextFault>
         → IsSubmitLine (before (word_of (opening_text opening.Submit)) (tokens rest.now)) }
 {
     let (word, text) = split_word(rest);
-    if !is_job_word(word) {
+    let (digits, source) = split_word(text);
+    if !is_job_word(word) || !is_number_or_none(digits) {
         return Err(TextFault::Syntax);
     }
-    let Some(name) = JobName::new(word) else {
-        if !is_system(text) {
+    let Some((name, budget)) = within_limits(word, digits) else {
+        if !is_system(source) {
             return Err(TextFault::Syntax);
         }
         return Err(TextFault::Limit);
     };
-    let system = read_system(alloc, text)?;
-    Ok(Line::Command(Command::Submit(name, system)))
+    let system = read_system(alloc, source)?;
+    Ok(Line::Command(Command::Submit(name, system, budget)))
 }
 
 /// The line of a verb with this behind it.

@@ -1,7 +1,7 @@
 //! What is proved of the definitions alone: each law is the contract of a function that does nothing, or calls the laws
 //! that it comes of.
 
-ghost use Rattle.std.specs.Prelude.{◌≡◌, ◌≢◌, ◌<◌, ◌≤◌, ◌+◌, ◌^◌, ◌&&◌, ◌||◌, ◌==◌, ℕ, List, [], ◌∷◌, ◌++◌, Option, None, Some, Result, Ok, Err, true, false, length, map, codes, not, nat_le, Contains, IsTrue};
+ghost use Rattle.std.specs.Prelude.{◌≡◌, ◌≢◌, ◌<◌, ◌≤◌, ◌+◌, ◌^◌, ◌&&◌, ◌||◌, ◌==◌, ℕ, List, [], ◌∷◌, ◌++◌, Option, None, Some, IfSome, Result, Ok, Err, true, false, length, map, codes, not, nat_le, Contains, IsTrue};
 ghost use Rattle.std.specs.List.{list_all, join_with_byte};
 ghost use Rattle.std.specs.Str.{bytes_eq};
 ghost use Rattle.std.specs.Char.{is_ascii_lowercase, is_ascii_digit};
@@ -10,7 +10,7 @@ ghost use Rattle.ic_rules.specs.System.{SystemParts};
 ghost use Rattle.ic_rules.specs.JobName.{is_job_name, is_job_word};
 ghost use Rattle.ic_rules.specs.declared.job_name.TheConstants.{MAX_JOB_NAME};
 ghost use Rattle.ic_jobs.specs.declared.state.State.{State};
-ghost use Rattle.ic_jobs.specs.declared.state.State.TheVariants.{Running, Paused, Done, Halted};
+ghost use Rattle.ic_jobs.specs.declared.state.State.TheVariants.{Running, Paused, Done, Halted, Spent};
 ghost use Rattle.ic_jobs.specs.declared.reply.Refusal.{Refusal};
 ghost use Rattle.ic_jobs.specs.declared.reply.Refusal.TheVariants.{Taken, Full, NoJob, NotRunning, NotPaused};
 ghost use Rattle.ic_jobs.specs.declared.reply.Reply.{Reply};
@@ -30,9 +30,10 @@ ghost use Rattle.ic_commands.specs.declared.line.Line.TheVariants.{Blank, Comman
 ghost use Rattle.ic_commands.specs.declared.line.Verb.{Verb};
 ghost use Rattle.ic_commands.specs.declared.line.Verb.TheVariants.{Pause, Resume, Cancel, Fetch};
 ghost use Rattle.ic_commands.specs.LineSource.{LinePhrase, run, is_number, verb_text, line_words};
-ghost use Rattle.ic_commands.specs.LineSense.{submitted};
+ghost use Rattle.ic_commands.specs.LineSense.{fits_budget, submitted};
 ghost use Rattle.ic_commands.specs.LineText.{SpellsLine, ReadsLine};
 ghost use Rattle.ic_jobs.specs.declared.command.Command.{Command};
+ghost use Rattle.ic_jobs.specs.Budget.{IsBudget};
 ghost use Rattle.ic_jobs.specs.Memory.{is_submit};
 ghost use Rattle.ic_jobs.specs.Names.{command_names};
 ghost use Rattle.ic_commands.specs.ScriptSense.{without_run, ReadsScriptLine};
@@ -66,7 +67,8 @@ pub fn command_words_are()
 
 /// What each line asks that is written in its plainest form: each command with one space behind its word, a run, a line
 /// of blanks. A job's name of more than 16 bytes passes a limit, in a submit where the text behind it is a system. So
-/// does a number of more than 1,000, however long it is.
+/// does a number of more than 1,000, however long it is, and in front of a system a number that is no budget's: 0, or 2^32
+/// and more.
 pub fn commands_ask()
     ensures plain { (line : Line) (text : List ℕ) → IsPlainly line text → ReadsLine text (Ok line) }
     ensures too_long { (verb : Verb) (name : List ℕ) → IsTrue (is_job_word name) →
@@ -76,6 +78,10 @@ pub fn commands_ask()
         IsTrue (is_job_word name) → MAX_JOB_NAME < length name →
         length name + length text + 8 ≤ MAX_TEXT → ReadsSystem text a → a ≢ Err Syntax →
         ReadsLine (codes "submit " ++ name ++ 32 ∷ text) (Err Limit) }
+    ensures no_budget { (name digits text : List ℕ) (a : Result SystemParts TextFault) →
+        IsTrue (is_job_name name) → IsTrue (is_number digits) → fits_budget (Some digits) ≡ false →
+        length digits + length text + 25 ≤ MAX_TEXT → ReadsSystem text a → a ≢ Err Syntax →
+        ReadsLine (codes "submit " ++ name ++ 32 ∷ (digits ++ 32 ∷ text)) (Err Limit) }
     ensures too_many { (digits : List ℕ) → IsTrue (is_number digits) →
         MAX_RUN < number_in digits → length digits + 4 ≤ MAX_TEXT →
         ReadsLine (codes "run " ++ digits) (Err Limit) }
@@ -90,11 +96,18 @@ pub fn each_command_has_a_line()
 {}
 
 /// A submit's system is read as a system by itself, where its name is a job's name: then the line is a submit of what
-/// the system means, or refused as the system is.
+/// the system means, or refused as the system is. So it is behind a budget. Where the text is no system, it may begin with
+/// a number, and then the line is another submit.
 pub fn a_submit_is_read_as_its_system()
-    ensures { (name text : List ℕ) (a : Result SystemParts TextFault) → IsTrue (is_job_name name) →
-        length text + 24 ≤ MAX_TEXT → ReadsSystem text a →
-        ReadsLine (codes "submit " ++ name ++ 32 ∷ text) (submitted name a) }
+    ensures without { (name text : List ℕ) (a : Result SystemParts TextFault) →
+        IsTrue (is_job_name name) → length text + 24 ≤ MAX_TEXT → ReadsSystem text a →
+        a ≢ Err Syntax →
+        ReadsLine (codes "submit " ++ name ++ 32 ∷ text) (submitted name None a) }
+    ensures with_budget { (name text : List ℕ) (n : ℕ) (a : Result SystemParts TextFault) →
+        IsTrue (is_job_name name) → IsBudget n → length text + 35 ≤ MAX_TEXT →
+        ReadsSystem text a →
+        ReadsLine (codes "submit " ++ name ++ 32 ∷ (decimal n ++ 32 ∷ text))
+        (submitted name (Some n) a) }
 {}
 
 /// A job's name is a word of its bytes that has at most 16 of them, a letter first. A number is `0`, or digits without a
@@ -115,11 +128,11 @@ pub fn names_of_jobs_and_numbers_are()
 /// The words and the forms of answers: each is its words with a space between. These are all states and refusals.
 pub fn answers_are()
     ensures answers { (r : Reply) → reply_text r ≡ join_with_byte 32 (reply_words r) }
-    ensures all_states { (s : State) → Contains (Running ∷ Paused ∷ Done ∷ Halted ∷ []) s }
+    ensures all_states { (s : State) → Contains (Running ∷ Paused ∷ Done ∷ Halted ∷ Spent ∷ []) s }
     ensures all_refusals { (r : Refusal) →
         Contains (Taken ∷ Full ∷ NoJob ∷ NotRunning ∷ NotPaused ∷ []) r }
-    ensures states { map state_text (Running ∷ Paused ∷ Done ∷ Halted ∷ [])
-        ≡ codes "running" ∷ codes "paused" ∷ codes "done" ∷ codes "halted" ∷ [] }
+    ensures states { map state_text (Running ∷ Paused ∷ Done ∷ Halted ∷ Spent ∷ [])
+        ≡ codes "running" ∷ codes "paused" ∷ codes "done" ∷ codes "halted" ∷ codes "spent" ∷ [] }
     ensures refusals { map refusal_text (Taken ∷ Full ∷ NoJob ∷ NotRunning ∷ NotPaused ∷ [])
         ≡ codes "taken" ∷ codes "full" ∷ codes "nojob" ∷ codes "notrunning"
         ∷ codes "notpaused" ∷ [] }

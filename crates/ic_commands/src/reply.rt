@@ -18,6 +18,7 @@ fn state_word(state: State) -> &'static [u8]
         State::Paused => b"paused",
         State::Done => b"done",
         State::Halted => b"halted",
+        State::Spent => b"spent",
     }
 }
 

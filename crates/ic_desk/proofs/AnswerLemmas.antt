@@ -39,10 +39,10 @@ told_unless t what None each = told_refusal t NoJob
 told_unless t what (Some k) each = each k
 
 told_command : (t : List JobParts) (c : Command) → Told t (after_command t c)
-told_command t (Submit name system) =
-    told_if t (is_some (job_named name t)) (refused t Taken) (if nat_lt (length t) MAX_JOBS then outcome (t ++ begun name system ∷ []) Accepted else refused t Full)
+told_command t (Submit name system budget) =
+    told_if t (is_some (job_named name t)) (refused t Taken) (if nat_lt (length t) MAX_JOBS then outcome (t ++ begun name system budget ∷ []) Accepted else refused t Full)
     (told_refusal t Taken)
-    (told_if t (nat_lt (length t) MAX_JOBS) (outcome (t ++ begun name system ∷ []) Accepted) (refused t Full) (told_submit t (t ++ begun name system ∷ [])) (told_refusal t Full))
+    (told_if t (nat_lt (length t) MAX_JOBS) (outcome (t ++ begun name system budget ∷ []) Accepted) (refused t Full) (told_submit t (t ++ begun name system budget ∷ [])) (told_refusal t Full))
 told_command t (Pause name) = told_unless t (paused t name) (job_named name t)
     (λ j. told_if t (is_running j.state) (outcome (with_changed name (in_state state.Paused) t) Okay) (refused t NotRunning)
     (told_change t (with_changed name (in_state state.Paused) t)) (told_refusal t NotRunning))

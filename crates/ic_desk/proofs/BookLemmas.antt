@@ -1,5 +1,6 @@
 -- What a book's calls leave, over the book as one value.
-use Rattle.std.proofs.Common.{◌≡◌, ◌∙◌, true, false, ℕ, ◌+◌, ◌<◌, ◌≤◌, Bool, List, Result, length, refl, sym, ap, subst}
+use Rattle.std.proofs.Common.{◌≡◌, ◌∙◌, true, false, ℕ, ◌+◌, ◌<◌, ◌≤◌, Bool, List, Result, take, length, refl, sym, ap, subst, arith}
+use Rattle.std.proofs.lemmas.List.{take_all}
 use Rattle.std.specs.Prelude.{IsTrue}
 use Rattle.ic_disk.specs.declared.disk.Disk.{Ghosts}
 use Rattle.ic_disk.specs.Images.{Within}
@@ -60,6 +61,14 @@ module _ {D : Type 0} {ghosts : Ghosts D} where
       → IsTrue (ghosts.keeps (disk_of book)) → IsOnDisk (ghosts.content (disk_of book)) (ghosts.image (disk_of book)) (start_of book) log n (is_broken book)
   on_disk_still book log n ready same keeps = DiskLemmas.same_kept (ghosts.content (disk_of book)) (ghosts.image (disk_of book)) (start_of book) (log_of book) (kept_of book) (is_broken book)
       (book.on_disk keeps) ready (start_of book) log n same
+
+  -- where all is kept the table begins a new history
+  pub begun_on_disk : (book : Book D ghosts) (start : List JobParts) (log : List Entry) → is_broken book ≡ false → kept_of book ≡ length (log_of book) → start ≡ table_of book
+      → IsTrue (ghosts.keeps (disk_of book)) → IsOnDisk (ghosts.content (disk_of book)) (ghosts.image (disk_of book)) start log 0 (is_broken book)
+  begun_on_disk book start log ready all is keeps =
+      let kept : last_kept book ≡ table_of book =
+      ap (λ (n : ℕ). replay (start_of book) (take n (log_of book))) all ∙ ap (λ (es : List Entry). replay (start_of book) es) (take_all (length (log_of book)) (log_of book) (omega arith)) ∙ book.history.replayed in
+      DiskLemmas.same_kept (ghosts.content (disk_of book)) (ghosts.image (disk_of book)) (start_of book) (log_of book) (kept_of book) (is_broken book) (book.on_disk keeps) ready start log 0 (is ∙ sym kept)
 
   -- ---- a round that comes: one entry more, or nothing
 

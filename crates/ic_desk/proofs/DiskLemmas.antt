@@ -1,48 +1,32 @@
 -- What a book keeps on its disk, as its calls change it, and what a crash in them leaves.
-use Rattle.std.proofs.Common.{◌≡◌, ◌≢◌, ◌⊎◌, inl, inr, ⊎_elim, ℕ, ◌≤◌, List, Bool, true, false, refl, sym, ◌∙◌, ap, subst}
+use Rattle.std.proofs.Common.{◌≡◌, ◌⊎◌, inl, inr, ⊎_elim, ℕ, ◌≤◌, List, Bool, true, false, refl, sym, ◌∙◌, ap, subst}
 use Rattle.std.specs.Coded.{le_prop}
-use Rattle.std.specs.Str.{bytes_eq}
-use Rattle.std.specs.Cmp.Lexicographic.{bytes_decides}
 use mathlib.Core.Logic.{∥∥₁_elim}
-use Rattle.ic_disk.specs.Images.{Within}
+use Rattle.ic_disk.specs.Images.{Only, Within}
 use Rattle.ic_disk.specs.Time.{LeavesOnly, LeftSince}
 use Rattle.ic_disk.specs.lemmas.Moments.{started}
 use Rattle.ic_jobs.specs.declared.event.Entry.{Entry}
 use Rattle.ic_jobs.specs.Job.{JobParts}
 use Rattle.ic_jobs.specs.Table.{IsTable}
 use Rattle.ic_jobs.specs.History.{replay}
-use Rattle.ic_codec.specs.Tables.{table_bytes}
 use Rattle.ic_frames.specs.Fields.{IsMade}
-use Rattle.ic_frames.specs.Held.{Held, the_body, no_slot, two_alike, damaged, body_held}
 use Rattle.ic_slots.specs.Held.{HoldsTable, HoldsEitherTable, IsHeld, the_table}
+use Rattle.ic_slots.specs.lemmas.OneTable.{table_or_not}
 use Rattle.ic_desk.specs.Kept.{IsOnDisk, HoldsKeptOrAll, table_kept}
 use Rattle.ic_desk.specs.lemmas.OneProof.{HoldsTable-prop}
 
 -- ---- which of two tables a file holds
-
-same_or_not : (b : Bool) (xs ys : List ℕ) → bytes_eq xs ys ≡ b → (xs ≡ ys) ⊎ (xs ≢ ys)
-same_or_not true xs ys e = inl ((bytes_decides xs ys).0 e)
-same_or_not false xs ys e = inr (λ same. let never : true ≡ false = sym ((bytes_decides xs ys).1 same) ∙ e in cc)
-
-held_or_not : (held : Held) (bytes : List ℕ) → (held ≡ the_body bytes) ⊎ (held ≢ the_body bytes)
-held_or_not (the_body xs) bytes = ⊎_elim
-    (λ same. inl (ap the_body same))
-    (λ other. inr (λ e. other (let same : xs ≡ bytes = cc in same)))
-    (same_or_not (bytes_eq xs bytes) xs bytes refl)
-held_or_not no_slot bytes = inr (λ e. cc)
-held_or_not two_alike bytes = inr (λ e. cc)
-held_or_not damaged bytes = inr (λ e. cc)
 
 -- where it holds one of the two, it can be told which
 pub either_told : (a b : List JobParts) (file : List ℕ) → IsTable a → ∥ HoldsEitherTable a b file ∥₁ → HoldsEitherTable a b file
 either_told a b file sound either = ⊎_elim
     (λ here. inl (record {
       made = ∥∥₁_elim either le_prop (⊎_elim (λ (h : HoldsTable a file). h.made) (λ (h : HoldsTable b file). h.made));
-      held = (sound, here);
+      held = here;
     }))
     (λ other. inr (∥∥₁_elim either (HoldsTable-prop b file)
-    (⊎_elim (λ (h : HoldsTable a file). absurd (other h.held.1)) (λ (h : HoldsTable b file). h))))
-    (held_or_not (body_held file) (table_bytes a))
+    (⊎_elim (λ (h : HoldsTable a file). absurd (other h.held)) (λ (h : HoldsTable b file). h))))
+    (table_or_not a file sound)
 
 -- ---- what is on the disk
 
@@ -67,6 +51,18 @@ module _ (content : List ℕ) (image : List ℕ → Type 0) (start : List JobPar
   -- each image is one of the two tables
   pub either_now : IsTable (table_kept start log kept) → Within image IsMade → Within image (HoldsKeptOrAll start log kept)
   either_now sound all file there = either_told (table_kept start log kept) (replay start log) file sound (is.either all file there)
+
+-- a table was found, which a history begins with
+pub found_now : (before content : List ℕ) (image : List ℕ → Type 0) (start : List JobParts) (log : List Entry) (broken : Bool) (table : List JobParts)
+    → start ≡ table → content ≡ before → IsHeld (the_table table) before → Only before image → IsOnDisk content image start log 0 broken
+found_now before content image start log broken table is same held only =
+    let begun : IsHeld (the_table start) before = subst (λ (t : List JobParts). IsHeld (the_table t) before) (sym is) held in
+    let all : Within image (IsHeld (the_table start)) = λ file there. subst (λ (f : List ℕ). IsHeld (the_table start) f) (sym (only.no_other file there)) begun in
+    record {
+      held = λ _. subst (λ (f : List ℕ). IsHeld (the_table start) f) (sym same) begun;
+      holds = λ _. all;
+      either = λ made file there. ∣ inl (record { made = made file there; held = all file there }) ∣₁;
+    }
 
 -- a table was kept
 pub kept_now : (content : List ℕ) (image : List ℕ → Type 0) (start : List JobParts) (log : List Entry) (kept : ℕ) (broken : Bool) (table : List JobParts)

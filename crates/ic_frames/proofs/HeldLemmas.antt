@@ -6,7 +6,7 @@ use Rattle.ic_frames.specs.declared.slot.Slot.{Slot}
 use Rattle.ic_frames.specs.declared.slot.Slot.TheVariants.{First, Second}
 use Rattle.ic_frames.specs.Places.{place}
 use Rattle.ic_frames.specs.Fields.{number, body, is_open, is_whole, IsMade}
-use Rattle.ic_frames.specs.Held.{Held, the_body, damaged, body_of, body_held, IsNewest, Holds}
+use Rattle.ic_frames.specs.Held.{Held, the_body, damaged, body_of, body_held, IsNewest, HasBody, Holds}
 use Rattle.ic_frames.specs.inner.Standing.{Stands}
 
 -- which of four bodies two tests choose
@@ -62,8 +62,8 @@ pub stands_newest : (slot : Slot) (n : ℕ) (closed : Bool) (kept file : List �
 stands_newest slot n true kept file stands = record { opened = stands.opened; newer = λ is. absurd (false≢true (sym (stands.shut refl) ∙ is)) }
 stands_newest slot n false kept file stands = record { opened = stands.opened; newer = λ is. omega (arith, stands.older refl, stands.number_is) }
 
+pub stands_has : (slot : Slot) (n : ℕ) (closed : Bool) (kept file : List ℕ) → Stands slot n closed kept file → HasBody kept file
+stands_has slot n closed kept file stands = whole_held slot file (stands_newest slot n closed kept file stands) stands.whole ∙ ap the_body stands.body_is
+
 pub stands_holds : (slot : Slot) (n : ℕ) (closed : Bool) (kept file : List ℕ) → Stands slot n closed kept file → IsMade file → Holds kept file
-stands_holds slot n closed kept file stands made = record {
-  made = made;
-  held = whole_held slot file (stands_newest slot n closed kept file stands) stands.whole ∙ ap the_body stands.body_is;
-}
+stands_holds slot n closed kept file stands made = record { made = made; held = stands_has slot n closed kept file stands }

@@ -7,8 +7,8 @@ use Rattle.ic_frames.specs.declared.faults.OpenFault.{OpenFault}
 use Rattle.ic_frames.specs.declared.frames.Frames.{Frames}
 use Rattle.ic_frames.specs.Places.{place, other}
 use Rattle.ic_frames.specs.Fields.{number, is_open}
-use Rattle.ic_frames.specs.Held.{IsNewest}
-use Rattle.ic_frames.specs.Frames.{disk_of, target_of, number_of, is_closed}
+use Rattle.ic_frames.specs.Held.{HasBody, IsNewest}
+use Rattle.ic_frames.specs.Frames.{disk_of, content_of, target_of, number_of, is_closed, EachImage}
 
 -- the disk that is handed out, or back
 abbrev pub disk_after : {D : Type 0} {ghosts : Ghosts D}
@@ -21,6 +21,12 @@ abbrev pub outcome_of : {D : Type 0} {ghosts : Ghosts D}
     → Result (Opened D ghosts) (OpenFault D) → Result (Opened D ghosts) OpenCause
 outcome_of (Ok opened) = Ok opened
 outcome_of (Err fault) = Err fault.cause
+
+-- Reads give this body, and each image has it, made or not.
+pub record KeepsOneBody {D : Type 0} {ghosts : Ghosts D} (frames : Frames D ghosts) : Type 0 where
+  pub kept : List ℕ
+  pub held : HasBody kept (content_of frames)
+  pub images : EachImage frames (HasBody kept)
 
 -- The slot beside the one that is written next is the newest of this file, with this number, and
 -- the other is held for closed exactly where it is.

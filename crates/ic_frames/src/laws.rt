@@ -11,8 +11,8 @@ ghost use Rattle.ic_frames.specs.declared.slot.Slot.{Slot};
 ghost use Rattle.ic_frames.specs.declared.slot.Slot.TheVariants.{First, Second};
 ghost use Rattle.ic_frames.specs.declared.slot.TheConstants.{SECOND_AT};
 ghost use Rattle.ic_frames.specs.Places.{place, other};
-ghost use Rattle.ic_frames.specs.Frames.{target_of, number_of, is_closed};
-ghost use Rattle.ic_frames.specs.Opened.{IsOnNewest};
+ghost use Rattle.ic_frames.specs.Frames.{target_of, number_of, is_broken, is_closed, KeepsModel};
+ghost use Rattle.ic_frames.specs.Opened.{IsOnNewest, KeepsOneBody};
 ghost use Rattle.ic_frames.specs.Faults.{CountsKeep, CountsOpen};
 ghost use Rattle.ic_frames.specs.Fields.{number, size, is_open, is_whole, body, IsMade};
 ghost use Rattle.ic_frames.specs.Layout.{slot_bytes, AreBytes};
@@ -60,12 +60,14 @@ pub fn a_slot_is_its_bytes()
         ≡ 1 ∷ 0 ∷ 0 ∷ 0 ∷ 0 ∷ 0 ∷ 0 ∷ 0 ∷ 1 ∷ 0 ∷ 0 ∷ 0 ∷ 5 ∷ 0x49 ∷ 0x43 ∷ 0x54 ∷ 0x31 ∷ 0 ∷ [] }
 {}
 
-/// When a slot is open, and when its body is whole.
+/// When a slot is open, and when its body is whole. A whole body is as long as its slot says.
 pub fn a_slot_is_open_or_whole()
     ensures opened { (at : ℕ) (file : List ℕ) → (is_open at file ≡ true)
         ↔ ((at + HEAD ≤ length file) × (slice_index file at ≡ 1)) }
     ensures whole { (at : ℕ) (file : List ℕ) → (is_whole at file ≡ true)
         ↔ ((size at file ≤ MAX_BODY) × (at + HEAD + size at file ≤ length file)) }
+    ensures long { (at : ℕ) (file : List ℕ) → is_whole at file ≡ true
+        → length (body at file) ≡ size at file }
 {}
 
 /// Where the disk is told to have failed one failure more is counted, up to the end of the count.
@@ -108,10 +110,19 @@ pub fn frames_tell_the_newest<D: Disk>(frames: &Frames<D>)
     let _ = frames;
 }
 
-/// The places and limits by their names.
+/// Until a call has failed reads give one body, and each image has it. So where several bodies mean
+/// one thing, what is said of each body is said of that thing.
+pub fn one_body_is_kept<D: Disk>(frames: &Frames<D>)
+    ensures { KeepsModel frames.now → is_broken frames.now ≡ false → KeepsOneBody frames.now }
+{
+    let _ = frames;
+}
+
+/// The places and limits by their names. A head and the longest body fill the room of a slot.
 pub fn limits_are()
     ensures head { HEAD ≡ 13 }
-    ensures body { MAX_BODY ≡ 3036421 }
+    ensures body { MAX_BODY ≡ 4194291 }
+    ensures room { place First + HEAD + MAX_BODY ≡ place Second }
     ensures first { place First ≡ 0 }
     ensures second { SECOND_AT ≡ place Second }
     ensures second_at { SECOND_AT ≡ 4194304 }

@@ -13,8 +13,26 @@ pub fn encoded(alloc: Global, table: &Table) -> Result<Vec<u8>, Trouble> {
     Ok(bytes)
 }
 
-/// The jobs and configurations of the table of which these are the bytes, which are then its byte form; or that they are
-/// of none.
+/// Whether a table is written as these bytes. Bytes of the old form it isn't written as: then what is written is read as
+/// the same table, and no job has a budget.
+fn are_of(alloc: Global, bytes: &[u8], table: &Table) -> Result<bool, Trouble> {
+    let written = encoded(alloc, table)?;
+    if let [b'I', b'C', b'T', b'2', ..] = bytes {
+        return Ok(written.as_slice() == bytes);
+    }
+    for job in table.jobs() {
+        if job.budget().is_some() {
+            return Ok(false);
+        }
+    }
+    match decode(alloc, &written) {
+        Ok(again) => Ok(again == *table),
+        Err(_) => Err(Trouble("what is written isn't read")),
+    }
+}
+
+/// The jobs of the table of which these are the bytes, in the form that is written or in the old one; or that they are of
+/// none.
 pub fn table_of(alloc: Global, text: &[u8]) -> Result<Vec<u8>, Trouble> {
     let bytes = bytes_of(alloc, text)?;
     let mut table = match decode(alloc, &bytes) {
@@ -22,7 +40,7 @@ pub fn table_of(alloc: Global, text: &[u8]) -> Result<Vec<u8>, Trouble> {
         Err(CodecFault::NotATable) => return Ok(Vec::from_slice(alloc, b"not a table")?),
         Err(CodecFault::Memory) => return Err(Trouble("no memory")),
     };
-    if encoded(alloc, &table)?.as_slice() != bytes.as_slice() {
+    if !are_of(alloc, &bytes, &table)? {
         return Err(Trouble("another byte form"));
     }
     let reply = table.apply(Command::List)?;
@@ -41,7 +59,7 @@ pub fn is_table(alloc: Global, text: &[u8]) -> Result<Vec<u8>, Trouble> {
 /// Whether bytes are refused, or are a table's own.
 fn is_exact(alloc: Global, bytes: &[u8]) -> Result<bool, Trouble> {
     match decode(alloc, bytes) {
-        Ok(table) => Ok(encoded(alloc, &table)?.as_slice() == bytes),
+        Ok(table) => are_of(alloc, bytes, &table),
         Err(CodecFault::NotATable) => Ok(true),
         Err(CodecFault::Memory) => Err(Trouble("no memory")),
     }

@@ -134,7 +134,7 @@ impl Session {
         };
         let mut jobs = Vec::new(alloc);
         let config = Arc::new(alloc, config)?;
-        match Job::restore(name, rules, config, rounds, State::Running) {
+        match Job::restore(name, rules, config, rounds, State::Running, None) {
             Some(job) => jobs.push(job)?,
             None => return Ok(Vec::from_slice(alloc, b"no job")?),
         }

@@ -1,7 +1,7 @@
 //! Command lines, as they are read.
 
 use ic_commands::{Line, print_reply, read_command};
-use ic_jobs::{Command, Reply};
+use ic_jobs::{Budget, Command, Reply};
 use ic_notation::{Trouble, decimal, printed};
 use ic_rules::{JobName, System};
 use ic_text::print_fault;
@@ -24,7 +24,7 @@ pub fn asked(alloc: Global, text: &[u8]) -> Result<Vec<u8>, Trouble> {
 /// A command in one spelling.
 pub fn commanded(alloc: Global, command: Command) -> Result<Vec<u8>, Trouble> {
     match command {
-        Command::Submit(name, system) => submitted(alloc, name, system),
+        Command::Submit(name, system, budget) => submitted(alloc, name, system, budget),
         Command::Pause(name) => about(alloc, b"pause ", name),
         Command::Resume(name) => about(alloc, b"resume ", name),
         Command::Cancel(name) => about(alloc, b"cancel ", name),
@@ -39,9 +39,18 @@ fn about(alloc: Global, verb: &[u8], name: JobName) -> Result<Vec<u8>, Trouble> 
     Ok(line)
 }
 
-fn submitted(alloc: Global, name: JobName, system: System) -> Result<Vec<u8>, Trouble> {
+fn submitted(
+    alloc: Global,
+    name: JobName,
+    system: System,
+    budget: Option<Budget>,
+) -> Result<Vec<u8>, Trouble> {
     let mut line = about(alloc, b"submit ", name)?;
     line.push(b' ')?;
+    if let Some(budget) = budget {
+        decimal(&mut line, budget.rounds())?;
+        line.push(b' ')?;
+    }
     line.append(&mut printed(alloc, system.rules(), system.config())?)?;
     Ok(line)
 }

@@ -13,7 +13,8 @@ use Rattle.ic_jobs.specs.declared.reply.Reply.TheVariants.{Accepted, Okay, Refus
 use Rattle.ic_jobs.specs.declared.reply.Refusal.TheVariants.{Taken, Full, NotRunning, NotPaused}
 use Rattle.ic_jobs.specs.declared.event.Event.{Event}
 use Rattle.ic_jobs.specs.declared.event.Event.TheVariants.{Command as by_command, Round}
-use Rattle.ic_jobs.specs.State.{is_running, is_paused, is_done}
+use Rattle.ic_jobs.specs.State.{is_running, is_paused}
+use Rattle.ic_jobs.specs.inner.States.{is_finished}
 use Rattle.ic_jobs.specs.Job.{JobParts, IsJob, begun, can_move, moved, in_state}
 use Rattle.ic_jobs.specs.Table.{IsTable, is_named, job_named, with_changed, without}
 use Rattle.ic_jobs.specs.Events.{Outcome, outcome, submitted, unless_missing, paused, resumed, after_command, after_round, where_running, apply}
@@ -31,32 +32,34 @@ job_there name t i j s is =
     (All-split IsJob s.before (j ∷ s.after) (subst (λ (l : List JobParts). IsTable l) s.parts is).each).1.0
 
 pub IsTable-in_state : (name : List ℕ) (t : List JobParts) (i : ℕ) (j : JobParts) (s : StandsAlone name t i j) (to : State) → IsTable t
-    → is_done j.state ≡ false → is_done to ≡ false → IsTable (with_changed name (in_state to) t)
+    → is_finished j.state ≡ false → is_finished to ≡ false → IsTable (with_changed name (in_state to) t)
 IsTable-in_state name t i j s to is old new =
     subst (λ (l : List JobParts). IsTable l) (sym (changed_alone name (in_state to) t i j s))
     (IsTable-with name t i j (in_state to j) s is refl (IsJob-in_state to j (job_there name t i j s is) old new))
 
 pub IsTable-moved : (name : List ℕ) (t : List JobParts) (i : ℕ) (j : JobParts) (s : StandsAlone name t i j) → IsTable t
-    → can_move j ≡ true → IsTable (with_changed name moved t)
-IsTable-moved name t i j s is can =
+    → is_finished j.state ≡ false → can_move j ≡ true → IsTable (with_changed name moved t)
+IsTable-moved name t i j s is unended can =
     subst (λ (l : List JobParts). IsTable l) (sym (changed_alone name moved t i j s))
-    (IsTable-with name t i j (moved j) s is refl (IsJob-moved j (job_there name t i j s is) can))
+    (IsTable-with name t i j (moved j) s is refl (IsJob-moved j (job_there name t i j s is) unended can))
 
 pub IsTable-cancelled : (name : List ℕ) (t : List JobParts) (i : ℕ) (j : JobParts) (s : StandsAlone name t i j) → IsTable t → IsTable (without name t)
 IsTable-cancelled name t i j s is =
     subst (λ (l : List JobParts). IsTable l) (sym (without_alone name t i j s)) (IsTable-without name t i j s is)
 
-pub running_open : (s : State) → is_running s ≡ true → is_done s ≡ false
+pub running_open : (s : State) → is_running s ≡ true → is_finished s ≡ false
 running_open state.Running e = refl
 running_open state.Paused e = refl
 running_open state.Done e = cc
 running_open state.Halted e = refl
+running_open state.Spent e = cc
 
-pub paused_open : (s : State) → is_paused s ≡ true → is_done s ≡ false
+pub paused_open : (s : State) → is_paused s ≡ true → is_finished s ≡ false
 paused_open state.Running e = refl
 paused_open state.Paused e = refl
 paused_open state.Done e = cc
 paused_open state.Halted e = refl
+paused_open state.Spent e = cc
 
 room_left : (n : ℕ) → nat_lt n MAX_JOBS ≡ true → n < MAX_JOBS
 room_left n e = ltb-true n MAX_JOBS e
@@ -65,12 +68,12 @@ none_there : (o : Option JobParts) → is_some o ≡ false → o ≡ None
 none_there None e = refl
 none_there (Some j) e = cc
 
-submit_keeps : (name : List ℕ) (s : SystemParts) (t : List JobParts) (taken room : Bool) → is_some (job_named name t) ≡ taken → nat_lt (length t) MAX_JOBS ≡ room
-    → IsTable t → IsJob (begun name s)
-    → IsTable (cond taken (outcome t (Refused Taken)) (cond room (outcome (t ++ begun name s ∷ []) Accepted) (outcome t (Refused Full)))).table
-submit_keeps name s t true room there left is job = is
-submit_keeps name s t false true there left is job = IsTable-push t (begun name s) is job (room_left (length t) left) (none_there (job_named name t) there)
-submit_keeps name s t false false there left is job = is
+submit_keeps : (name : List ℕ) (s : SystemParts) (most : Option ℕ) (t : List JobParts) (taken room : Bool) → is_some (job_named name t) ≡ taken → nat_lt (length t) MAX_JOBS ≡ room
+    → IsTable t → IsJob (begun name s most)
+    → IsTable (cond taken (outcome t (Refused Taken)) (cond room (outcome (t ++ begun name s most ∷ []) Accepted) (outcome t (Refused Full)))).table
+submit_keeps name s most t true room there left is job = is
+submit_keeps name s most t false true there left is job = IsTable-push t (begun name s most) is job (room_left (length t) left) (none_there (job_named name t) there)
+submit_keeps name s most t false false there left is job = is
 
 pause_keeps : (name : List ℕ) (t : List JobParts) (o : Option JobParts) → job_named name t ≡ o → IsTable t → IsTable (unless_missing t (paused t name) o).table
 pause_keeps name t None there is = is
@@ -97,8 +100,8 @@ fetch_keeps t what None same is = is
 fetch_keeps t what (Some j) same is = subst (λ (l : List JobParts). IsTable l) (sym (same j)) is
 
 pub command_keeps : (t : List JobParts) (c : Command) → IsTable t → IsCommand c → IsTable (after_command t c).table
-command_keeps t (Submit name s) is ok =
-    submit_keeps name s t (is_some (job_named name t)) (nat_lt (length t) MAX_JOBS) refl refl is (IsJob-begun name s ok.name ok.symbols ok.rules ok.config ok.over)
+command_keeps t (Submit name s most) is ok =
+    submit_keeps name s most t (is_some (job_named name t)) (nat_lt (length t) MAX_JOBS) refl refl is (IsJob-begun name s most ok.name ok.symbols ok.rules ok.config ok.over ok.budget)
 command_keeps t (Pause name) is ok = pause_keeps name t (job_named name t) refl is
 command_keeps t (Resume name) is ok = resume_keeps name t (job_named name t) refl is
 command_keeps t (Cancel name) is ok = cancel_keeps name t (job_named name t) refl is
@@ -112,7 +115,7 @@ round_keeps name t (Some j) there is = at (is_running j.state) (can_move j) refl
   where
     at : (running can : Bool) → is_running j.state ≡ running → can_move j ≡ can
         → IfSome (cond running (Some (cond can (outcome (with_changed name moved t) Moved) (outcome (with_changed name (in_state state.Halted) t) Halted))) None) (λ p. IsTable p.table)
-    at true true e f = let s = named_stands name t j is.distinct there in IsTable-moved name t s.0 j s.1 is f
+    at true true e f = let s = named_stands name t j is.distinct there in IsTable-moved name t s.0 j s.1 is (running_open j.state e) f
     at true false e f = let s = named_stands name t j is.distinct there in IsTable-in_state name t s.0 j s.1 state.Halted is (running_open j.state e) refl
     at false can e f = tt
 
@@ -130,11 +133,11 @@ pushed_other : (other : List ℕ) (t : List JobParts) (j : JobParts) → bytes_e
 pushed_other other t j apart =
     job_named-append other t j ∙ ap (λ (b : Bool). option_or (job_named other t) (cond b (Some j) None)) apart ∙ last_option (job_named other t)
 
-submit_others : (name other : List ℕ) (s : SystemParts) (t : List JobParts) (taken room : Bool) → bytes_eq other name ≡ false
-    → job_named other (cond taken (outcome t (Refused Taken)) (cond room (outcome (t ++ begun name s ∷ []) Accepted) (outcome t (Refused Full)))).table ≡ job_named other t
-submit_others name other s t true room apart = refl
-submit_others name other s t false true apart = pushed_other other t (begun name s) apart
-submit_others name other s t false false apart = refl
+submit_others : (name other : List ℕ) (s : SystemParts) (most : Option ℕ) (t : List JobParts) (taken room : Bool) → bytes_eq other name ≡ false
+    → job_named other (cond taken (outcome t (Refused Taken)) (cond room (outcome (t ++ begun name s most ∷ []) Accepted) (outcome t (Refused Full)))).table ≡ job_named other t
+submit_others name other s most t true room apart = refl
+submit_others name other s most t false true apart = pushed_other other t (begun name s most) apart
+submit_others name other s most t false false apart = refl
 
 missing_others : (other : List ℕ) (t : List JobParts) (what : JobParts → Outcome) (o : Option JobParts) → ((j : JobParts) → job_named other (what j).table ≡ job_named other t)
     → job_named other (unless_missing t what o).table ≡ job_named other t
@@ -156,7 +159,7 @@ running_others other t what (Some j) same = at (is_running j.state)
     at false = refl
 
 pub others_stay : (t : List JobParts) (e : Event) (other : List ℕ) → mentions other e ≡ false → job_named other (table_after t e) ≡ job_named other t
-others_stay t (by_command (Submit name s)) other apart = submit_others name other s t (is_some (job_named name t)) (nat_lt (length t) MAX_JOBS) apart
+others_stay t (by_command (Submit name s most)) other apart = submit_others name other s most t (is_some (job_named name t)) (nat_lt (length t) MAX_JOBS) apart
 others_stay t (by_command (Pause name)) other apart =
     missing_others other t (paused t name) (job_named name t)
     (λ j. where_others other t _ _ (is_running j.state) (job_named-changed_other name other (in_state state.Paused) t apart (λ k. refl)) refl)

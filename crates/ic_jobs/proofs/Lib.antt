@@ -11,3 +11,4 @@ pub mod TransitionLemmas
 pub mod NameOrder
 pub mod MemoryLemmas
 pub mod MentionLemmas
+pub mod BudgetLemmas

@@ -167,21 +167,21 @@ none_there : (o : Option JobParts) → is_some o ≡ false → o ≡ None
 none_there None e = refl
 none_there (Some j) e = cc
 
-accepted : (name n : List ℕ) (s : SystemParts) (t : List JobParts) (l : Option Life) (b : Bool) → bytes_eq name n ≡ b → is_some (job_named n t) ≡ false
-    → IsAsLived (job_named name t) l → IsAsLived (job_named name (t ++ begun n s ∷ [])) (next_life (cond b (Some s) None) false false l)
-accepted name n s t l true same absent h =
+accepted : (name n : List ℕ) (s : SystemParts) (most : Option ℕ) (t : List JobParts) (l : Option Life) (b : Bool) → bytes_eq name n ≡ b → is_some (job_named n t) ≡ false
+    → IsAsLived (job_named name t) l → IsAsLived (job_named name (t ++ begun n s most ∷ [])) (next_life (cond b (Some s) None) false false l)
+accepted name n s most t l true same absent h =
     let none = none_there (job_named name t) (ap (λ (m : List ℕ). is_some (job_named m t)) (names_equal name n same) ∙ absent) in
-    along _ _ _ (job_named-append name t (begun n s) ∙ (λ i. option_or (none i) (cond (same i) (Some (begun n s)) None))) (record { rules = refl; rounds = refl; config = refl })
-accepted name n s t l false apart absent h =
-    along _ _ _ (job_named-append name t (begun n s) ∙ ap (λ (b : Bool). option_or (job_named name t) (cond b (Some (begun n s)) None)) apart ∙ last_option (job_named name t)) h
+    along _ _ _ (job_named-append name t (begun n s most) ∙ (λ i. option_or (none i) (cond (same i) (Some (begun n s most)) None))) (record { rules = refl; rounds = refl; config = refl })
+accepted name n s most t l false apart absent h =
+    along _ _ _ (job_named-append name t (begun n s most) ∙ ap (λ (b : Bool). option_or (job_named name t) (cond b (Some (begun n s most)) None)) apart ∙ last_option (job_named name t)) h
 
-submit_follows : (name n : List ℕ) (s : SystemParts) (t : List JobParts) (l : Option Life) (taken room : Bool) → is_some (job_named n t) ≡ taken
+submit_follows : (name n : List ℕ) (s : SystemParts) (most : Option ℕ) (t : List JobParts) (l : Option Life) (taken room : Bool) → is_some (job_named n t) ≡ taken
     → IsAsLived (job_named name t) l
-    → let o = cond taken (outcome t (Refused Taken)) (cond room (outcome (t ++ begun n s ∷ []) Accepted) (outcome t (Refused Full))) in
-    Follows name (by_command (Submit n s)) l (job_named name o.table) o.reply
-submit_follows name n s t l true room is h = h
-submit_follows name n s t l false true is h = accepted name n s t l (bytes_eq name n) refl is h
-submit_follows name n s t l false false is h = h
+    → let o = cond taken (outcome t (Refused Taken)) (cond room (outcome (t ++ begun n s most ∷ []) Accepted) (outcome t (Refused Full))) in
+    Follows name (by_command (Submit n s most)) l (job_named name o.table) o.reply
+submit_follows name n s most t l true room is h = h
+submit_follows name n s most t l false true is h = accepted name n s most t l (bytes_eq name n) refl is h
+submit_follows name n s most t l false false is h = h
 
 pause_follows : (name n : List ℕ) (t : List JobParts) (l : Option Life) (o : Option JobParts) → IsAsLived (job_named name t) l
     → let p = unless_missing t (paused t n) o in Follows name (by_command (Pause n)) l (job_named name p.table) p.reply
@@ -217,7 +217,7 @@ fetch_follows name n t l (Some j) h = h
 
 command_follows : (name : List ℕ) (t : List JobParts) (c : Command) (l : Option Life) → IsAsLived (job_named name t) l
     → Follows name (by_command c) l (job_named name (after_command t c).table) (after_command t c).reply
-command_follows name t (Submit n s) l h = submit_follows name n s t l (is_some (job_named n t)) (nat_lt (length t) MAX_JOBS) refl h
+command_follows name t (Submit n s most) l h = submit_follows name n s most t l (is_some (job_named n t)) (nat_lt (length t) MAX_JOBS) refl h
 command_follows name t (Pause n) l h = pause_follows name n t l (job_named n t) h
 command_follows name t (Resume n) l h = resume_follows name n t l (job_named n t) h
 command_follows name t (Cancel n) l h = cancel_follows name n t l (job_named n t) h

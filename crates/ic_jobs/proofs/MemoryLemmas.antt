@@ -31,7 +31,7 @@ spares_unless t what None each = (refl, refl)
 spares_unless t what (Some j) each = each j
 
 spared : (t : List JobParts) (c : Command) → takes_memory c ≡ false → Spares (after_command t c).reply
-spared t (Submit n s) e = cc
+spared t (Submit n s most) e = cc
 spared t (Pause n) e = spares_unless t (paused t n) (job_named n t) (λ j. spares_changed t (with_changed n (in_state state.Paused) t) NotRunning (is_running j.state))
 spared t (Resume n) e = spares_unless t (resumed t n) (job_named n t) (λ j. spares_changed t (with_changed n (in_state state.Running) t) NotPaused (is_paused j.state))
 spared t (Cancel n) e = spares_unless t (λ j. outcome (without n t) Okay) (job_named n t) (λ j. (refl, refl))
@@ -63,7 +63,7 @@ fetch_apart t None = refl
 fetch_apart t (Some j) = refl
 
 pub changing : (t : List JobParts) (c : Command) → is_okay (after_command t c).reply ≡ true → takes_memory c ≡ false
-changing t (Submit n s) e = sym e ∙ submit_apart t (t ++ begun n s ∷ []) (is_some (job_named n t)) (nat_lt (length t) MAX_JOBS)
+changing t (Submit n s most) e = sym e ∙ submit_apart t (t ++ begun n s most ∷ []) (is_some (job_named n t)) (nat_lt (length t) MAX_JOBS)
 changing t (Pause n) e = refl
 changing t (Resume n) e = refl
 changing t (Cancel n) e = refl
@@ -72,18 +72,18 @@ changing t list_jobs e = cc
 
 -- what a copy takes memory of
 abbrev IsOfSubmit : Command → Type 0
-IsOfSubmit c = (n : List ℕ) × (s : SystemParts) × (c ≡ Submit n s)
+IsOfSubmit c = (n : List ℕ) × (s : SystemParts) × (most : Option ℕ) × (c ≡ Submit n s most)
 
-other : (c : Command) → ((n : List ℕ) (s : SystemParts) → c ≡ Submit n s → ⊥) → is_submit c ≡ false → IsTrue (is_submit c) ↔ IsOfSubmit c
-other c apart none = (λ is. let both : false ≡ true = sym none ∙ is in cc, λ h. absurd (apart h.0 h.1 h.2))
+other : (c : Command) → ((n : List ℕ) (s : SystemParts) (most : Option ℕ) → c ≡ Submit n s most → ⊥) → is_submit c ≡ false → IsTrue (is_submit c) ↔ IsOfSubmit c
+other c apart none = (λ is. let both : false ≡ true = sym none ∙ is in cc, λ h. absurd (apart h.0 h.1 h.2 h.3))
 
-pub is_submit_exact : (c : Command) → IsTrue (is_submit c) ↔ ((n : List ℕ) × (s : SystemParts) × (c ≡ Submit n s))
-is_submit_exact (Submit n s) = (λ is. (n, s, refl), λ h. refl)
-is_submit_exact (Pause n) = other (Pause n) (λ m s e. cc) refl
-is_submit_exact (Resume n) = other (Resume n) (λ m s e. cc) refl
-is_submit_exact (Cancel n) = other (Cancel n) (λ m s e. cc) refl
-is_submit_exact (Fetch n) = other (Fetch n) (λ m s e. cc) refl
-is_submit_exact list_jobs = other list_jobs (λ m s e. cc) refl
+pub is_submit_exact : (c : Command) → IsTrue (is_submit c) ↔ ((n : List ℕ) × (s : SystemParts) × (most : Option ℕ) × (c ≡ Submit n s most))
+is_submit_exact (Submit n s most) = (λ is. (n, s, most, refl), λ h. refl)
+is_submit_exact (Pause n) = other (Pause n) (λ m s b e. cc) refl
+is_submit_exact (Resume n) = other (Resume n) (λ m s b e. cc) refl
+is_submit_exact (Cancel n) = other (Cancel n) (λ m s b e. cc) refl
+is_submit_exact (Fetch n) = other (Fetch n) (λ m s b e. cc) refl
+is_submit_exact list_jobs = other list_jobs (λ m s b e. cc) refl
 
 abbrev IsOfJobs : Reply → Type 0
 IsOfJobs r = ((s : ShownParts) × (r ≡ Shown s)) ⊎ ((l : List (List ℕ × State × ℕ)) × (r ≡ Listed l))

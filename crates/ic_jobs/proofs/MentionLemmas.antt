@@ -24,7 +24,7 @@ no_name : (x : List ℕ) → IsTrue false ↔ Contains [] x
 no_name x = (λ is. cc, λ h. absurd (let low : h.0 < 0 = h.1 in omega arith))
 
 of_command : (x : List ℕ) (c : Command) → IsTrue (command_mentions x c) ↔ Contains (command_names c) x
-of_command x (Submit n s) = one_name x n
+of_command x (Submit n s most) = one_name x n
 of_command x (Pause n) = one_name x n
 of_command x (Resume n) = one_name x n
 of_command x (Cancel n) = one_name x n

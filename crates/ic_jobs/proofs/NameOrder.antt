@@ -41,11 +41,11 @@ names_without n (j ∷ js) = left_at n j (without n js) (but n (job_names js)) (
 abbrev NamesSo : List JobParts → Event → Outcome → Type 0
 NamesSo t e o = job_names o.table ≡ names_after (job_names t) e o.reply
 
-submit_names : (t : List JobParts) (n : List ℕ) (s : SystemParts) (taken room : Bool)
-    → NamesSo t (by_command (Submit n s)) (cond taken (refused t Taken) (cond room (outcome (t ++ begun n s ∷ []) Accepted) (refused t Full)))
-submit_names t n s true room = refl
-submit_names t n s false true = names-append t (begun n s ∷ [])
-submit_names t n s false false = refl
+submit_names : (t : List JobParts) (n : List ℕ) (s : SystemParts) (most : Option ℕ) (taken room : Bool)
+    → NamesSo t (by_command (Submit n s most)) (cond taken (refused t Taken) (cond room (outcome (t ++ begun n s most ∷ []) Accepted) (refused t Full)))
+submit_names t n s most true room = refl
+submit_names t n s most false true = names-append t (begun n s most ∷ [])
+submit_names t n s most false false = refl
 
 pause_names : (t : List JobParts) (n : List ℕ) (o : Option JobParts) → NamesSo t (by_command (Pause n)) (unless_missing t (paused t n) o)
 pause_names t n None = refl
@@ -72,7 +72,7 @@ fetch_names t n None = refl
 fetch_names t n (Some j) = refl
 
 command_names : (t : List JobParts) (c : Command) → NamesSo t (by_command c) (after_command t c)
-command_names t (Submit n s) = submit_names t n s (is_some (job_named n t)) (nat_lt (length t) MAX_JOBS)
+command_names t (Submit n s most) = submit_names t n s most (is_some (job_named n t)) (nat_lt (length t) MAX_JOBS)
 command_names t (Pause n) = pause_names t n (job_named n t)
 command_names t (Resume n) = resume_names t n (job_named n t)
 command_names t (Cancel n) = cancel_names t n (job_named n t)
@@ -104,11 +104,11 @@ event_names_so t (Round n) o is = round_names t n o (job_named n t) is
 abbrev Stays : List JobParts → Refusal → Outcome → Type 0
 Stays t r o = o.reply ≡ Refused r → o.table ≡ t
 
-submit_stays : (t : List JobParts) (n : List ℕ) (s : SystemParts) (r : Refusal) (taken room : Bool)
-    → Stays t r (cond taken (refused t Taken) (cond room (outcome (t ++ begun n s ∷ []) Accepted) (refused t Full)))
-submit_stays t n s r true room e = refl
-submit_stays t n s r false true e = cc
-submit_stays t n s r false false e = refl
+submit_stays : (t : List JobParts) (n : List ℕ) (s : SystemParts) (most : Option ℕ) (r : Refusal) (taken room : Bool)
+    → Stays t r (cond taken (refused t Taken) (cond room (outcome (t ++ begun n s most ∷ []) Accepted) (refused t Full)))
+submit_stays t n s most r true room e = refl
+submit_stays t n s most r false true e = cc
+submit_stays t n s most r false false e = refl
 
 changed_stays : (t u : List JobParts) (q r : Refusal) (b : Bool) → Stays t r (cond b (outcome u Okay) (refused t q))
 changed_stays t u q r true e = cc
@@ -120,7 +120,7 @@ missing_stays t r what None stays e = refl
 missing_stays t r what (Some j) stays e = stays j e
 
 command_stays : (t : List JobParts) (c : Command) (r : Refusal) → Stays t r (after_command t c)
-command_stays t (Submit n s) r = submit_stays t n s r (is_some (job_named n t)) (nat_lt (length t) MAX_JOBS)
+command_stays t (Submit n s most) r = submit_stays t n s most r (is_some (job_named n t)) (nat_lt (length t) MAX_JOBS)
 command_stays t (Pause n) r = missing_stays t r (paused t n) (job_named n t) (λ j. changed_stays t _ NotRunning r (is_running j.state))
 command_stays t (Resume n) r = missing_stays t r (resumed t n) (job_named n t) (λ j. changed_stays t _ NotPaused r (is_paused j.state))
 command_stays t (Cancel n) r = missing_stays t r (λ j. outcome (without n t) Okay) (job_named n t) (λ j e. cc)

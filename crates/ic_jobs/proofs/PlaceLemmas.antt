@@ -26,7 +26,8 @@ use Rattle.ic_jobs.specs.Events.{Outcome, outcome, refused, submitted, unless_mi
 use Rattle.ic_jobs.specs.Landing.{flight_of, flight_at, due_place, due, Agrees, agrees, Awaits}
 use Rattle.ic_jobs.specs.Shown.{ShownParts, shown}
 use Rattle.ic_jobs.proofs.TableLemmas.{IsTable-push}
-use Rattle.ic_jobs.specs.State.{is_running, is_paused, is_done}
+use Rattle.ic_jobs.specs.State.{is_running, is_paused}
+use Rattle.ic_jobs.specs.inner.States.{is_finished}
 use Rattle.ic_jobs.specs.Job.{JobParts, IsJob, begun, can_move, moved, in_state}
 use Rattle.ic_jobs.specs.Table.{IsTable, job_names, is_named, job_named, with_changed, without}
 use Rattle.ic_jobs.proofs.TableLemmas.{StandsAlone, place_stands, found_alone, changed_alone, without_alone}
@@ -90,14 +91,14 @@ pub no_place : (name : List ℕ) (t : List JobParts) → position_from (is_named
 no_place name t e = none_is (job_named name t) (sym (place_there name t) ∙ ap (λ (o : Option ℕ). is_some o) e)
 
 pub IsTable-put_state : (name : List ℕ) (t : List JobParts) (i : ℕ) (d : JobParts) (f : FoundAt name t i d) (to : State) → IsTable t
-    → is_done f.job.state ≡ false → is_done to ≡ false → IsTable (set t i (in_state to f.job))
+    → is_finished f.job.state ≡ false → is_finished to ≡ false → IsTable (set t i (in_state to f.job))
 IsTable-put_state name t i d f to is old new =
     subst (λ (l : List JobParts). IsTable l) (f.changed (in_state to)) (IsTable-in_state name t i f.job f.alone to is old new)
 
 pub IsTable-advanced : (name : List ℕ) (t : List JobParts) (i : ℕ) (d : JobParts) (f : FoundAt name t i d) → IsTable t
-    → can_move f.job ≡ true → IsTable (set t i (moved f.job))
-IsTable-advanced name t i d f is can =
-    subst (λ (l : List JobParts). IsTable l) (f.changed moved) (IsTable-moved name t i f.job f.alone is can)
+    → is_finished f.job.state ≡ false → can_move f.job ≡ true → IsTable (set t i (moved f.job))
+IsTable-advanced name t i d f is unended can =
+    subst (λ (l : List JobParts). IsTable l) (f.changed moved) (IsTable-moved name t i f.job f.alone is unended can)
 
 pub IsTable-removed : (name : List ℕ) (t : List JobParts) (i : ℕ) (d : JobParts) (f : FoundAt name t i d) → IsTable t → IsTable (remove t i)
 IsTable-removed name t i d f is =
@@ -188,32 +189,32 @@ fetch_done name t i d s f same e =
 free_name : (name : List ℕ) (t : List JobParts) (b : Bool) → is_some (position_from (is_named name) 0 t) ≡ b → is_some (job_named name t) ≡ b
 free_name name t b e = sym (place_there name t) ∙ e
 
-abbrev accepted_or_full : List ℕ → SystemParts → List JobParts → Bool → Outcome
-accepted_or_full name s t room = cond room (outcome (t ++ begun name s ∷ []) Accepted) (refused t Full)
+abbrev accepted_or_full : List ℕ → SystemParts → Option ℕ → List JobParts → Bool → Outcome
+accepted_or_full name s most t room = cond room (outcome (t ++ begun name s most ∷ []) Accepted) (refused t Full)
 
-submit_at : (name : List ℕ) (s : SystemParts) (t : List JobParts) (taken room : Bool) → is_some (position_from (is_named name) 0 t) ≡ taken → nat_lt (length t) MAX_JOBS ≡ room
-    → submitted t name s ≡ cond taken (refused t Taken) (accepted_or_full name s t room)
-submit_at name s t taken room e r =
+submit_at : (name : List ℕ) (s : SystemParts) (most : Option ℕ) (t : List JobParts) (taken room : Bool) → is_some (position_from (is_named name) 0 t) ≡ taken → nat_lt (length t) MAX_JOBS ≡ room
+    → submitted t name s most ≡ cond taken (refused t Taken) (accepted_or_full name s most t room)
+submit_at name s most t taken room e r =
     let there = free_name name t taken e in
-    λ i. cond (there i) (refused t Taken) (accepted_or_full name s t (r i))
+    λ i. cond (there i) (refused t Taken) (accepted_or_full name s most t (r i))
 
-pub submit_taken : (name : List ℕ) (s : SystemParts) (t : List JobParts) → is_some (position_from (is_named name) 0 t) ≡ true
-    → refused t Taken ≡ after_command t (Submit name s)
-submit_taken name s t e = sym (submit_at name s t true (nat_lt (length t) MAX_JOBS) e refl)
+pub submit_taken : (name : List ℕ) (s : SystemParts) (most : Option ℕ) (t : List JobParts) → is_some (position_from (is_named name) 0 t) ≡ true
+    → refused t Taken ≡ after_command t (Submit name s most)
+submit_taken name s most t e = sym (submit_at name s most t true (nat_lt (length t) MAX_JOBS) e refl)
 
-pub submit_full : (name : List ℕ) (s : SystemParts) (t : List JobParts) → is_some (position_from (is_named name) 0 t) ≡ false → MAX_JOBS ≤ length t
-    → refused t Full ≡ after_command t (Submit name s)
-submit_full name s t e h = sym (submit_at name s t false false e (le-ltb (length t) MAX_JOBS h))
+pub submit_full : (name : List ℕ) (s : SystemParts) (most : Option ℕ) (t : List JobParts) → is_some (position_from (is_named name) 0 t) ≡ false → MAX_JOBS ≤ length t
+    → refused t Full ≡ after_command t (Submit name s most)
+submit_full name s most t e h = sym (submit_at name s most t false false e (le-ltb (length t) MAX_JOBS h))
 
-pub submit_done : (name : List ℕ) (s : SystemParts) (t u : List JobParts) → is_some (position_from (is_named name) 0 t) ≡ false → length t < MAX_JOBS
-    → u ≡ t ++ begun name s ∷ [] → outcome u Accepted ≡ after_command t (Submit name s)
-submit_done name s t u e h is =
-    ap (λ (l : List JobParts). outcome l Accepted) is ∙ sym (submit_at name s t false true e (lt-ltb (length t) MAX_JOBS h))
+pub submit_done : (name : List ℕ) (s : SystemParts) (most : Option ℕ) (t u : List JobParts) → is_some (position_from (is_named name) 0 t) ≡ false → length t < MAX_JOBS
+    → u ≡ t ++ begun name s most ∷ [] → outcome u Accepted ≡ after_command t (Submit name s most)
+submit_done name s most t u e h is =
+    ap (λ (l : List JobParts). outcome l Accepted) is ∙ sym (submit_at name s most t false true e (lt-ltb (length t) MAX_JOBS h))
 
-pub IsTable-submitted : (name : List ℕ) (s : SystemParts) (t u : List JobParts) → IsTable t → IsJob (begun name s) → is_some (position_from (is_named name) 0 t) ≡ false
-    → length t < MAX_JOBS → u ≡ t ++ begun name s ∷ [] → IsTable u
-IsTable-submitted name s t u is job e h to =
-    subst (λ (l : List JobParts). IsTable l) (sym to) (IsTable-push t (begun name s) is job h (none_is (job_named name t) (free_name name t false e)))
+pub IsTable-submitted : (name : List ℕ) (s : SystemParts) (most : Option ℕ) (t u : List JobParts) → IsTable t → IsJob (begun name s most) → is_some (position_from (is_named name) 0 t) ≡ false
+    → length t < MAX_JOBS → u ≡ t ++ begun name s most ∷ [] → IsTable u
+IsTable-submitted name s most t u is job e h to =
+    subst (λ (l : List JobParts). IsTable l) (sym to) (IsTable-push t (begun name s most) is job h (none_is (job_named name t) (free_name name t false e)))
 
 pub IsTable-none : (t : List JobParts) → t ≡ [] → IsTable t
 unfolding IsDistinct
@@ -259,6 +260,7 @@ running_is state.Running e = refl
 running_is state.Paused e = cc
 running_is state.Done e = cc
 running_is state.Halted e = cc
+running_is state.Spent e = cc
 
 -- a job that was found and looked at is awaited exactly where it runs and agrees
 pub awaited_here : (name : List ℕ) (t : List JobParts) (i : ℕ) (d : JobParts) (f : FoundAt name t i d) (rules : Rules) (config : Configuration) (rounds : ℕ) → d ≡ f.job

@@ -1,5 +1,5 @@
 -- What events make of the state of a job.
-use Rattle.std.proofs.Common.{◌≡◌, ℕ, List, [], ◌∷◌, ◌++◌, map, Bool, true, false, cond, Option, None, Some, is_some, nat_lt, length, refl, ap, ◌∙◌}
+use Rattle.std.proofs.Common.{◌≡◌, ℕ, ◌+◌, List, [], ◌∷◌, ◌++◌, map, Bool, true, false, cond, Option, None, Some, is_some, nat_lt, length, refl, ap, ◌∙◌}
 use Rattle.std.specs.Option.{option_map, option_or}
 use Rattle.std.specs.Str.{bytes_eq}
 use Rattle.std.specs.Cmp.Lexicographic.{bytes_decides}
@@ -20,12 +20,14 @@ use Rattle.ic_jobs.specs.declared.reply.Refusal.TheVariants.{Taken, Full, NoJob,
 use Rattle.ic_jobs.specs.declared.event.Event.{Event}
 use Rattle.ic_jobs.specs.declared.event.Event.TheVariants.{Command as by_command, Round}
 use Rattle.ic_jobs.specs.State.{is_running, is_paused}
-use Rattle.ic_jobs.specs.Job.{JobParts, begun, open_state, can_move, moved, in_state}
+use Rattle.ic_jobs.specs.Budget.{is_used_up}
+use Rattle.ic_jobs.specs.Job.{JobParts, begun, open_state, state_after, can_move, moved, in_state}
 use Rattle.ic_jobs.specs.Table.{job_named, with_changed, without}
 use Rattle.ic_jobs.specs.Shown.{shown}
 use Rattle.ic_jobs.specs.Events.{Outcome, outcome, refused, unless_missing, paused, resumed, after_command, after_round, where_running, apply}
 use Rattle.ic_jobs.specs.Names.{command_names}
 use Rattle.ic_jobs.specs.Transitions.{state_of, Leads, Row, row, submit_row, pause_row, resume_row, cancel_row, fetch_reply, round_row_in, round_row, LeadsBy, LeadsWhere, leaves_one, CommandLeadsBy, CommandLeads, EventLeads}
+use Rattle.ic_jobs.proofs.JobLemmas.{is_budget, used_up_where}
 use Rattle.ic_jobs.proofs.TableLookups.{KeepsName, job_named-changed, job_named-without, job_named-append}
 
 abbrev state_in : Option JobParts → Option State
@@ -60,34 +62,34 @@ changed_state n change t j keeps there = ap state_in (job_named-changed n change
 
 -- ---- submits
 
-submits : (t : List JobParts) (n : List ℕ) (s : SystemParts) (taken room : Bool) → is_some (job_named n t) ≡ taken → nat_lt (length t) MAX_JOBS ≡ room
-    → after_command t (Submit n s) ≡ cond taken (refused t Taken) (cond room (outcome (t ++ begun n s ∷ []) Accepted) (refused t Full))
-submits t n s taken room there left i =
-    cond (there i) (refused t Taken) (cond (left i) (outcome (t ++ begun n s ∷ []) Accepted) (refused t Full))
+submits : (t : List JobParts) (n : List ℕ) (s : SystemParts) (most : Option ℕ) (taken room : Bool) → is_some (job_named n t) ≡ taken → nat_lt (length t) MAX_JOBS ≡ room
+    → after_command t (Submit n s most) ≡ cond taken (refused t Taken) (cond room (outcome (t ++ begun n s most ∷ []) Accepted) (refused t Full))
+submits t n s most taken room there left i =
+    cond (there i) (refused t Taken) (cond (left i) (outcome (t ++ begun n s most ∷ []) Accepted) (refused t Full))
 
-begun_last : (t : List JobParts) (n : List ℕ) (s : SystemParts) → job_named n t ≡ None → job_named n (t ++ begun n s ∷ []) ≡ Some (begun n s)
-begun_last t n s none =
+begun_last : (t : List JobParts) (n : List ℕ) (s : SystemParts) (most : Option ℕ) → job_named n t ≡ None → job_named n (t ++ begun n s most ∷ []) ≡ Some (begun n s most)
+begun_last t n s most none =
     let same : bytes_eq n n ≡ true = (bytes_decides n n).1 refl in
-    job_named-append n t (begun n s) ∙ (λ i. option_or (none i) (cond (same i) (Some (begun n s)) None))
+    job_named-append n t (begun n s most) ∙ (λ i. option_or (none i) (cond (same i) (Some (begun n s most)) None))
 
-submit_leads : (t : List JobParts) (n : List ℕ) (s : SystemParts) → state_of n t ≡ None → nat_lt (length t) MAX_JOBS ≡ true
-    → Leads t (by_command (Submit n s)) Accepted n (Some (open_state s.rules s.config))
-submit_leads t n s e few =
+submit_leads : (t : List JobParts) (n : List ℕ) (s : SystemParts) (most : Option ℕ) → state_of n t ≡ None → nat_lt (length t) MAX_JOBS ≡ true
+    → Leads t (by_command (Submit n s most)) Accepted n (Some (open_state s.rules s.config))
+submit_leads t n s most e few =
     let none = none_with (job_named n t) e in
-    commanded t (Submit n s) (t ++ begun n s ∷ []) Accepted n _
-    (submits t n s false true (ap is_some none) few) (ap state_in (begun_last t n s none))
+    commanded t (Submit n s most) (t ++ begun n s most ∷ []) Accepted n _
+    (submits t n s most false true (ap is_some none) few) (ap state_in (begun_last t n s most none))
 
-taken_leads : (t : List JobParts) (n : List ℕ) (s : SystemParts) (was : State) → state_of n t ≡ Some was
-    → Leads t (by_command (Submit n s)) (Refused Taken) n (Some was)
-taken_leads t n s was e =
+taken_leads : (t : List JobParts) (n : List ℕ) (s : SystemParts) (most : Option ℕ) (was : State) → state_of n t ≡ Some was
+    → Leads t (by_command (Submit n s most)) (Refused Taken) n (Some was)
+taken_leads t n s most was e =
     let f = found_with (job_named n t) was e in
-    commanded t (Submit n s) t (Refused Taken) n (Some was) (submits t n s true (nat_lt (length t) MAX_JOBS) (ap is_some f.there) refl) e
+    commanded t (Submit n s most) t (Refused Taken) n (Some was) (submits t n s most true (nat_lt (length t) MAX_JOBS) (ap is_some f.there) refl) e
 
-full_leads : (t : List JobParts) (n : List ℕ) (s : SystemParts) → state_of n t ≡ None → nat_lt (length t) MAX_JOBS ≡ false
-    → Leads t (by_command (Submit n s)) (Refused Full) n None
-full_leads t n s e many =
+full_leads : (t : List JobParts) (n : List ℕ) (s : SystemParts) (most : Option ℕ) → state_of n t ≡ None → nat_lt (length t) MAX_JOBS ≡ false
+    → Leads t (by_command (Submit n s most)) (Refused Full) n None
+full_leads t n s most e many =
     let none = none_with (job_named n t) e in
-    commanded t (Submit n s) t (Refused Full) n None (submits t n s false false (ap is_some none) many) e
+    commanded t (Submit n s most) t (Refused Full) n None (submits t n s most false false (ap is_some none) many) e
 
 -- ---- pause and resume
 
@@ -156,7 +158,7 @@ rounds t n j can there running able =
     ∙ ap (λ (b : Bool). Some (cond b (outcome (with_changed n moved t) Moved) (outcome (with_changed n (in_state state.Halted) t) Halted))) able
 
 round_leads : (t : List JobParts) (n : List ℕ) (j : JobParts) → job_named n t ≡ Some j → j.state ≡ state.Running → can_move j ≡ true
-    → Leads t (Round n) Moved n (Some (open_state j.rules (round j.rules.rules j.config)))
+    → Leads t (Round n) Moved n (Some (state_after j.rules (round j.rules.rules j.config) (j.rounds + 1) j.budget))
 round_leads t n j there running able =
     leads t (Round n) (outcome (with_changed n moved t) Moved) Moved n _ (rounds t n j true there running able) refl
     (changed_state n moved t j (λ k. refl) there)
@@ -175,11 +177,11 @@ idle t n j s there is apart =
 
 -- ---- the tables, row by row
 
-submit_rows : (t : List JobParts) (n : List ℕ) (s : SystemParts) (was : Option State) (room : Bool) → state_of n t ≡ was → nat_lt (length t) MAX_JOBS ≡ room
-    → LeadsBy t (by_command (Submit n s)) n (submit_row (open_state s.rules s.config) was room)
-submit_rows t n s (Some was) room e left = taken_leads t n s was e
-submit_rows t n s None true e left = submit_leads t n s e left
-submit_rows t n s None false e left = full_leads t n s e left
+submit_rows : (t : List JobParts) (n : List ℕ) (s : SystemParts) (most : Option ℕ) (was : Option State) (room : Bool) → state_of n t ≡ was → nat_lt (length t) MAX_JOBS ≡ room
+    → LeadsBy t (by_command (Submit n s most)) n (submit_row (open_state s.rules s.config) was room)
+submit_rows t n s most (Some was) room e left = taken_leads t n s most was e
+submit_rows t n s most None true e left = submit_leads t n s most e left
+submit_rows t n s most None false e left = full_leads t n s most e left
 
 pause_rows : (t : List JobParts) (n : List ℕ) (was : Option State) → state_of n t ≡ was → LeadsBy t (by_command (Pause n)) n (pause_row was)
 pause_rows t n None e = none_to_pause t n e
@@ -187,6 +189,7 @@ pause_rows t n (Some state.Running) e = pause_leads t n e
 pause_rows t n (Some state.Paused) e = no_pause_leads t n state.Paused e refl
 pause_rows t n (Some state.Done) e = no_pause_leads t n state.Done e refl
 pause_rows t n (Some state.Halted) e = no_pause_leads t n state.Halted e refl
+pause_rows t n (Some state.Spent) e = no_pause_leads t n state.Spent e refl
 
 resume_rows : (t : List JobParts) (n : List ℕ) (was : Option State) → state_of n t ≡ was → LeadsBy t (by_command (Resume n)) n (resume_row was)
 resume_rows t n None e = none_to_resume t n e
@@ -194,6 +197,7 @@ resume_rows t n (Some state.Running) e = no_resume_leads t n state.Running e ref
 resume_rows t n (Some state.Paused) e = resume_leads t n e
 resume_rows t n (Some state.Done) e = no_resume_leads t n state.Done e refl
 resume_rows t n (Some state.Halted) e = no_resume_leads t n state.Halted e refl
+resume_rows t n (Some state.Spent) e = no_resume_leads t n state.Spent e refl
 
 cancel_rows : (t : List JobParts) (n : List ℕ) (was : Option State) → state_of n t ≡ was → LeadsBy t (by_command (Cancel n)) n (cancel_row was)
 cancel_rows t n None e = none_to_cancel t n e
@@ -214,7 +218,7 @@ of_one t c n w names l =
     }
 
 command_leads : (t : List JobParts) (c : Command) → CommandLeads t c
-command_leads t (Submit n s) = of_one t (Submit n s) n _ refl (submit_rows t n s (state_of n t) (nat_lt (length t) MAX_JOBS) refl refl)
+command_leads t (Submit n s most) = of_one t (Submit n s most) n _ refl (submit_rows t n s most (state_of n t) (nat_lt (length t) MAX_JOBS) refl refl)
 command_leads t (Pause n) = of_one t (Pause n) n _ refl (pause_rows t n (state_of n t) refl)
 command_leads t (Resume n) = of_one t (Resume n) n _ refl (resume_rows t n (state_of n t) refl)
 command_leads t (Cancel n) = of_one t (Cancel n) n _ refl (cancel_rows t n (state_of n t) refl)
@@ -222,7 +226,7 @@ command_leads t (Fetch n) = ap (λ (o : Outcome). Some o) (fetches t (job_named 
 command_leads t list_jobs = refl
 
 running_rows : (t : List JobParts) (n : List ℕ) (j : JobParts) (can : Bool) → job_named n t ≡ Some j → j.state ≡ state.Running → can_move j ≡ can
-    → LeadsWhere t (Round n) n (cond can (Some (row Moved (Some (open_state j.rules (round j.rules.rules j.config))))) (Some (row Halted (Some state.Halted))))
+    → LeadsWhere t (Round n) n (cond can (Some (row Moved (Some (state_after j.rules (round j.rules.rules j.config) (j.rounds + 1) j.budget)))) (Some (row Halted (Some state.Halted))))
 running_rows t n j true there running able = round_leads t n j there running able
 running_rows t n j false there running able = halt_leads t n j there running able
 
@@ -231,6 +235,7 @@ round_rows_in t n j state.Running there is = running_rows t n j (can_move j) the
 round_rows_in t n j state.Paused there is = idle t n j state.Paused there is refl
 round_rows_in t n j state.Done there is = idle t n j state.Done there is refl
 round_rows_in t n j state.Halted there is = idle t n j state.Halted there is refl
+round_rows_in t n j state.Spent there is = idle t n j state.Spent there is refl
 
 round_rows : (t : List JobParts) (n : List ℕ) (o : Option JobParts) → job_named n t ≡ o → LeadsWhere t (Round n) n (round_row o)
 round_rows t n None e = ap (where_running (after_round t n)) e
@@ -240,7 +245,7 @@ pub event_leads : (t : List JobParts) (e : Event) → EventLeads t e
 event_leads t (by_command c) = command_leads t c
 event_leads t (Round n) = round_rows t n (job_named n t) refl
 
--- ---- the state of a job that isn't kept from running
+-- ---- the state in which a job begins, and that after a round
 
 false_unless_true : (b : Bool) → ¬ (b ≡ true) → b ≡ false
 false_unless_true true apart = absurd (apart refl)
@@ -252,3 +257,24 @@ open_where_quiet rules c quiet = ap (λ (b : Bool). cond b state.Done state.Runn
 pub open_where_not : (rules : Rules) (c : Configuration) → ¬ IsQuiet rules.rules c → open_state rules c ≡ state.Running
 open_where_not rules c apart =
     ap (λ (b : Bool). cond b state.Done state.Running) (false_unless_true (is_quiet rules.rules c) (λ e. apart (no_step rules.rules c e)))
+
+pub done_after : (rules : Rules) (c : Configuration) (rounds : ℕ) (budget : Option ℕ) → IsQuiet rules.rules c → state_after rules c rounds budget ≡ state.Done
+done_after rules c rounds budget quiet =
+    ap (λ (b : Bool). cond b state.Done (cond (is_used_up budget rounds) state.Spent state.Running)) (is_quiet_where rules.rules c quiet)
+
+after_not : (rules : Rules) (c : Configuration) (rounds : ℕ) (budget : Option ℕ) → ¬ IsQuiet rules.rules c
+    → state_after rules c rounds budget ≡ cond (is_used_up budget rounds) state.Spent state.Running
+after_not rules c rounds budget apart =
+    ap (λ (b : Bool). cond b state.Done (cond (is_used_up budget rounds) state.Spent state.Running))
+    (false_unless_true (is_quiet rules.rules c) (λ e. apart (no_step rules.rules c e)))
+
+pub spent_after : (rules : Rules) (c : Configuration) (rounds : ℕ) (budget : Option ℕ) → ¬ IsQuiet rules.rules c → budget ≡ Some rounds
+    → state_after rules c rounds budget ≡ state.Spent
+spent_after rules c rounds budget apart used =
+    after_not rules c rounds budget apart ∙ ap (λ (b : Bool). cond b state.Spent state.Running) (used_up_where budget rounds used)
+
+pub running_after : (rules : Rules) (c : Configuration) (rounds : ℕ) (budget : Option ℕ) → ¬ IsQuiet rules.rules c → ¬ (budget ≡ Some rounds)
+    → state_after rules c rounds budget ≡ state.Running
+running_after rules c rounds budget apart left =
+    after_not rules c rounds budget apart
+    ∙ ap (λ (b : Bool). cond b state.Spent state.Running) (false_unless_true (is_used_up budget rounds) (λ e. left (is_budget budget rounds e)))

@@ -8,7 +8,7 @@ use Rattle.ic_term.specs.Configuration.{Configuration}
 use Rattle.ic_rules.specs.RuleSet.{Rules}
 use Rattle.ic_pool.specs.Flight.{FlightParts}
 use Rattle.ic_jobs.specs.declared.state.State.{State}
-use Rattle.ic_jobs.specs.declared.state.State.TheVariants.{Running, Paused, Done, Halted}
+use Rattle.ic_jobs.specs.declared.state.State.TheVariants.{Running, Paused, Done, Halted, Spent}
 use Rattle.ic_jobs.specs.State.{is_running}
 use Rattle.ic_jobs.specs.Job.{JobParts}
 use Rattle.ic_jobs.specs.Landing.{flight_of, running_from, due_place, flight_at, due, Awaits}
@@ -23,6 +23,7 @@ is_state Running e = refl
 is_state Paused e = cc
 is_state Done e = cc
 is_state Halted e = cc
+is_state Spent e = cc
 
 -- ---- a list of jobs from its front
 

@@ -29,10 +29,10 @@ abbrev pub refused : List JobParts → Refusal → Outcome
 refused t r = outcome t (Refused r)
 
 -- A new job goes last, unless its name is taken or the table is full.
-abbrev pub submitted : List JobParts → List ℕ → SystemParts → Outcome
-submitted t name system =
+abbrev pub submitted : List JobParts → List ℕ → SystemParts → Option ℕ → Outcome
+submitted t name system budget =
     if is_some (job_named name t) then refused t Taken else
-    (if nat_lt (length t) MAX_JOBS then outcome (t ++ begun name system ∷ []) Accepted
+    (if nat_lt (length t) MAX_JOBS then outcome (t ++ begun name system budget ∷ []) Accepted
     else refused t Full)
 
 -- what comes of a job, where it is there
@@ -54,7 +54,7 @@ resumed t name j =
 
 -- A command, and what it leaves. Cancel removes a job in any state.
 abbrev pub after_command : List JobParts → Command → Outcome
-after_command t (Submit name system) = submitted t name system
+after_command t (Submit name system budget) = submitted t name system budget
 after_command t (Pause name) = unless_missing t (paused t name) (job_named name t)
 after_command t (Resume name) = unless_missing t (resumed t name) (job_named name t)
 after_command t (Cancel name) =

@@ -1,8 +1,8 @@
 -- A job of the table.
-use Rattle.std.specs.Prelude.{◌≡◌, ℕ, ◌+◌, ◌≤◌, ◌==◌, ◌↔◌, ◌&&◌, List, Bool, IsTrue, nat_lt, if◌then◌else◌, refl}
+use Rattle.std.specs.Prelude.{◌≡◌, ℕ, ◌+◌, ◌≤◌, ◌==◌, ◌↔◌, ◌&&◌, List, Bool, Option, Some, IsTrue, IfSome, nat_lt, if◌then◌else◌, refl}
 use Rattle.std.specs.Str.{bytes_eq}
 use Rattle.std.specs.Cmp.Lexicographic.{pointwise}
-use Rattle.std.specs.Coded.{Coded, code_by, coded×, coded_ℕ, coded_list}
+use Rattle.std.specs.Coded.{Coded, code_by, coded×, coded_ℕ, coded_list, coded_option}
 use Rattle.ic_term.specs.Symbol.{AreSymbols, is_over}
 use Rattle.ic_term.specs.Configuration.{Configuration, IsConfiguration, configuration_eq, coded_configuration}
 use Rattle.ic_rules.specs.JobName.{is_job_name}
@@ -11,20 +11,24 @@ use Rattle.ic_rules.specs.System.{SystemParts}
 use Rattle.ic_round.specs.Rounds.{fits, round, IsQuiet}
 use Rattle.ic_pool.specs.declared.limits.TheConstants.{MAX_ROUNDS}
 use Rattle.ic_jobs.specs.declared.state.State.{State}
-use Rattle.ic_jobs.specs.declared.state.State.TheVariants.{Running, Paused, Done, Halted}
+use Rattle.ic_jobs.specs.declared.state.State.TheVariants.{Running, Done, Spent}
 use Rattle.ic_jobs.specs.State.{state_eq}
+use Rattle.ic_jobs.specs.Budget.{IsBudget, is_used_up, budget_eq}
 use Rattle.ic_jobs.specs.lemmas.StateLaws.{coded_state}
 use Rattle.ic_round.specs.Quiet.{is_quiet}
 
--- A job: its name, its rules and configuration, how many rounds it has made, and its state.
+-- A job: its name, its rules and configuration, how many rounds it has made, its state, and how many
+-- rounds it makes at most, where that is set.
 pub record JobParts : Type 0 where
   pub name : List ℕ
   pub rules : Rules
   pub config : Configuration
   pub rounds : ℕ
   pub state : State
+  pub budget : Option ℕ
 
--- What each job keeps. It is done exactly where its configuration is quiet.
+-- What each job keeps. It is done exactly where its configuration is quiet, and spent exactly where
+-- it isn't quiet and its rounds are its budget.
 pub record IsJob (j : JobParts) : Type 0 where
   pub name : IsTrue (is_job_name j.name)
   pub symbols : AreSymbols j.rules.symbols
@@ -32,20 +36,30 @@ pub record IsJob (j : JobParts) : Type 0 where
   pub config : IsConfiguration j.config
   pub over : IsTrue (is_over j.rules.symbols j.config)
   pub counted : j.rounds ≤ MAX_ROUNDS
+  pub budget : IfSome j.budget IsBudget
+  pub within : IfSome j.budget (λ most. j.rounds ≤ most)
   pub done : (j.state ≡ Done) ↔ IsQuiet j.rules.rules j.config
+  pub spent : (j.state ≡ Spent) ↔ ((¬ IsQuiet j.rules.rules j.config) × (j.budget ≡ Some j.rounds))
 
--- the state of a job that isn't kept from running: done where its configuration is quiet
+-- the state of a job as it begins: done where its configuration is quiet
 abbrev pub open_state : Rules → Configuration → State
 open_state rules c = if is_quiet rules.rules c then Done else Running
 
--- a job as it begins: with a system, and no rounds made
-abbrev pub begun : List ℕ → SystemParts → JobParts
-begun name system = record {
+-- the state of a job after a round: done where its configuration is quiet, else spent where its
+-- budget is used up
+abbrev pub state_after : Rules → Configuration → ℕ → Option ℕ → State
+state_after rules c rounds budget =
+    if is_quiet rules.rules c then Done else (if is_used_up budget rounds then Spent else Running)
+
+-- a job as it begins: with a system and a budget or none, and no rounds made
+abbrev pub begun : List ℕ → SystemParts → Option ℕ → JobParts
+begun name system budget = record {
   name = name;
   rules = system.rules;
   config = system.config;
   rounds = 0;
   state = open_state system.rules system.config;
+  budget = budget;
 }
 
 -- a further round can be made: the configuration fits, and rounds are left
@@ -57,7 +71,7 @@ abbrev pub moved : JobParts → JobParts
 moved j = record j {
   config = round j.rules.rules j.config;
   rounds = j.rounds + 1;
-  state = open_state j.rules (round j.rules.rules j.config);
+  state = state_after j.rules (round j.rules.rules j.config) (j.rounds + 1) j.budget;
 }
 
 -- a job in another state
@@ -68,7 +82,7 @@ in_state s j = record j { state = s }
 abbrev pub job_eq : JobParts → JobParts → Bool
 job_eq j k =
     bytes_eq j.name k.name && j.rounds == k.rounds && state_eq j.state k.state
-    && configuration_eq j.config k.config && rules_eq j.rules k.rules
+    && budget_eq j.budget k.budget && configuration_eq j.config k.config && rules_eq j.rules k.rules
 
 -- whether two tables have the same jobs in the same order
 abbrev pub table_eq : List JobParts → List JobParts → Bool
@@ -77,15 +91,16 @@ table_eq = pointwise job_eq
 -- a job is stored as the tuple of its fields
 abbrev pub coded_job : Coded JobParts
 coded_job =
-    code_by (List ℕ × (Rules × (Configuration × (ℕ × State))))
-    (coded× (coded_list coded_ℕ)
-    (coded× coded_rules (coded× coded_configuration (coded× coded_ℕ coded_state))))
-    (λ j. (j.name, (j.rules, (j.config, (j.rounds, j.state)))))
+    code_by (List ℕ × (Rules × (Configuration × (ℕ × (State × Option ℕ)))))
+    (coded× (coded_list coded_ℕ) (coded× coded_rules (coded× coded_configuration
+    (coded× coded_ℕ (coded× coded_state (coded_option coded_ℕ))))))
+    (λ j. (j.name, (j.rules, (j.config, (j.rounds, (j.state, j.budget))))))
     (λ p. record {
       name = p.0;
       rules = p.1.0;
       config = p.1.1.0;
       rounds = p.1.1.1.0;
-      state = p.1.1.1.1;
+      state = p.1.1.1.1.0;
+      budget = p.1.1.1.1.1;
     })
     (λ _. refl)

@@ -1,4 +1,5 @@
 pub mod State
+pub mod Budget
 pub mod Job
 pub mod Table
 pub mod Shown
@@ -14,3 +15,4 @@ pub mod Turns
 pub mod History
 pub mod Life
 pub mod lemmas
+pub mod inner

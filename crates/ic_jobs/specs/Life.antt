@@ -24,7 +24,7 @@ pub record Life : Type 0 where
 
 -- the system that a command submits under a name
 abbrev pub command_begins : List ℕ → Command → Option SystemParts
-command_begins name (Submit n system) = if bytes_eq name n then Some system else None
+command_begins name (Submit n system budget) = if bytes_eq name n then Some system else None
 command_begins name (Pause n) = None
 command_begins name (Resume n) = None
 command_begins name (Cancel n) = None
@@ -41,7 +41,7 @@ begins name e r = if is_accepted r then event_begins name e else None
 
 -- a command takes out the job of a name
 abbrev pub command_ends : List ℕ → Command → Bool
-command_ends name (Submit n system) = false
+command_ends name (Submit n system budget) = false
 command_ends name (Pause n) = false
 command_ends name (Resume n) = false
 command_ends name (Cancel n) = bytes_eq name n

@@ -7,7 +7,7 @@ use Rattle.ic_jobs.specs.declared.reply.Reply.TheVariants.{Accepted, Okay, Shown
 
 -- pause, resume and cancel take no memory
 abbrev pub takes_memory : Command → Bool
-takes_memory (Submit name system) = true
+takes_memory (Submit name system budget) = true
 takes_memory (Pause name) = false
 takes_memory (Resume name) = false
 takes_memory (Cancel name) = false
@@ -16,7 +16,7 @@ takes_memory list_jobs = true
 
 -- a copy of a command takes memory of a submit alone
 abbrev pub is_submit : Command → Bool
-is_submit (Submit name system) = true
+is_submit (Submit name system budget) = true
 is_submit (Pause name) = false
 is_submit (Resume name) = false
 is_submit (Cancel name) = false

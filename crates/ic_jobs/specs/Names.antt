@@ -10,7 +10,7 @@ use Rattle.ic_jobs.specs.Replies.{is_accepted, is_okay}
 
 -- a command is about the job of a name
 abbrev pub command_mentions : List ℕ → Command → Bool
-command_mentions name (Submit n system) = bytes_eq name n
+command_mentions name (Submit n system budget) = bytes_eq name n
 command_mentions name (Pause n) = bytes_eq name n
 command_mentions name (Resume n) = bytes_eq name n
 command_mentions name (Cancel n) = bytes_eq name n
@@ -24,7 +24,7 @@ mentions name (Round n) = bytes_eq name n
 
 -- the names of a command
 abbrev pub command_names : Command → List (List ℕ)
-command_names (Submit n system) = n ∷ []
+command_names (Submit n system budget) = n ∷ []
 command_names (Pause n) = n ∷ []
 command_names (Resume n) = n ∷ []
 command_names (Cancel n) = n ∷ []
@@ -46,7 +46,7 @@ but n names = filter (λ m. not (bytes_eq n m)) names
 
 -- the names of a table after a command that was answered so
 abbrev pub names_after_command : List (List ℕ) → Command → Reply → List (List ℕ)
-names_after_command names (Submit n s) r = if is_accepted r then with_name n names else names
+names_after_command names (Submit n s budget) r = if is_accepted r then with_name n names else names
 names_after_command names (Pause n) r = names
 names_after_command names (Resume n) r = names
 names_after_command names (Cancel n) r = if is_okay r then but n names else names

@@ -1,5 +1,5 @@
 -- What an event answers, and the state of the job of its name before and after it.
-use Rattle.std.specs.Prelude.{◌≡◌, ℕ, List, [], ◌∷◌, map, Bool, true, false, Option, None, Some, length, nat_lt, if◌then◌else◌}
+use Rattle.std.specs.Prelude.{◌≡◌, ℕ, ◌+◌, List, [], ◌∷◌, map, Bool, true, false, Option, None, Some, length, nat_lt, if◌then◌else◌}
 use Rattle.std.specs.Option.{option_map}
 use Rattle.ic_round.specs.Rounds.{round}
 use Rattle.ic_jobs.specs.declared.limits.TheConstants.{MAX_JOBS}
@@ -12,7 +12,7 @@ use Rattle.ic_jobs.specs.declared.event.Event.TheVariants.{Command as by_command
 use Rattle.ic_jobs.specs.declared.reply.Reply.{Reply}
 use Rattle.ic_jobs.specs.declared.reply.Reply.TheVariants.{Accepted, Okay, Shown, Listed, Refused, Moved, Halted}
 use Rattle.ic_jobs.specs.declared.reply.Refusal.TheVariants.{Taken, Full, NoJob, NotRunning, NotPaused}
-use Rattle.ic_jobs.specs.Job.{JobParts, open_state, can_move}
+use Rattle.ic_jobs.specs.Job.{JobParts, state_after, open_state, can_move}
 use Rattle.ic_jobs.specs.Table.{job_named}
 use Rattle.ic_jobs.specs.Shown.{shown, listed}
 use Rattle.ic_jobs.specs.Events.{Outcome, outcome, apply}
@@ -52,6 +52,7 @@ pause_row (Some state.Running) = row Okay (Some state.Paused)
 pause_row (Some state.Paused) = row (Refused NotRunning) (Some state.Paused)
 pause_row (Some state.Done) = row (Refused NotRunning) (Some state.Done)
 pause_row (Some state.Halted) = row (Refused NotRunning) (Some state.Halted)
+pause_row (Some state.Spent) = row (Refused NotRunning) (Some state.Spent)
 
 -- a resume, by the state before
 abbrev pub resume_row : Option State → Row
@@ -60,6 +61,7 @@ resume_row (Some state.Running) = row (Refused NotPaused) (Some state.Running)
 resume_row (Some state.Paused) = row Okay (Some state.Running)
 resume_row (Some state.Done) = row (Refused NotPaused) (Some state.Done)
 resume_row (Some state.Halted) = row (Refused NotPaused) (Some state.Halted)
+resume_row (Some state.Spent) = row (Refused NotPaused) (Some state.Spent)
 
 -- a cancel, by the state before
 abbrev pub cancel_row : Option State → Row
@@ -75,11 +77,13 @@ fetch_reply (Some j) = Shown (shown j)
 abbrev pub round_row_in : State → JobParts → Option Row
 round_row_in state.Running j =
     if can_move j
-    then Some (row Moved (Some (open_state j.rules (round j.rules.rules j.config))))
+    then Some (row Moved
+    (Some (state_after j.rules (round j.rules.rules j.config) (j.rounds + 1) j.budget)))
     else Some (row Halted (Some state.Halted))
 round_row_in state.Paused j = None
 round_row_in state.Done j = None
 round_row_in state.Halted j = None
+round_row_in state.Spent j = None
 
 -- a round, by its job
 abbrev pub round_row : Option JobParts → Option Row
@@ -107,7 +111,7 @@ leaves_one w = leaves w.reply (w.after ∷ [])
 
 -- the table of the commands
 abbrev pub command_row : List JobParts → Command → CommandRow
-command_row t (Submit n s) = leaves_one
+command_row t (Submit n s budget) = leaves_one
     (submit_row (open_state s.rules s.config) (state_of n t) (nat_lt (length t) MAX_JOBS))
 command_row t (Pause n) = leaves_one (pause_row (state_of n t))
 command_row t (Resume n) = leaves_one (resume_row (state_of n t))

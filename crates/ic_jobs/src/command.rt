@@ -3,14 +3,16 @@
 ghost use Rattle.std.specs.Prelude.{◌≡◌, IfOk, OnErr, IsTrue};
 ghost use Rattle.ic_jobs.specs.Commands.{IsSubmit};
 
+use crate::budget::{Budget, is_within};
 use ic_rules::{JobName, System};
 use std::alloc::{AllocError, Global};
 
 /// What a client asks of a job table.
 #[derive(Debug, Drop)]
 pub enum Command {
-    /// A new job of this name, with this system.
-    Submit(JobName, System),
+    /// A new job of this name, with this system, which makes at most as many rounds as its budget
+    /// says.
+    Submit(JobName, System, Option<Budget>),
     Pause(JobName),
     Resume(JobName),
     /// Removes a job in any state.
@@ -31,9 +33,9 @@ impl Command {
         ensures sound { IsEvent (by_command self.now) }
     {
         match self {
-            Command::Submit(name, system) => {
-                keeps_submit(name, system);
-                Ok(Command::Submit(*name, system.copy(alloc)?))
+            Command::Submit(name, system, budget) => {
+                keeps_submit(name, system, budget);
+                Ok(Command::Submit(*name, system.copy(alloc)?, *budget))
             }
             Command::Pause(name) => Ok(Command::Pause(*name)),
             Command::Resume(name) => Ok(Command::Resume(*name)),
@@ -45,10 +47,11 @@ impl Command {
 }
 
 /// A submit keeps what the types of its parts keep.
-fn keeps_submit(name: &JobName, system: &System)
-    ensures { IsSubmit name.now system.now }
+fn keeps_submit(name: &JobName, system: &System, budget: &Option<Budget>)
+    ensures { IsSubmit name.now system.now budget.now }
 {
     // Read for the proof: what each type keeps is known once a part of it was read.
     let (rules, config) = (system.rules(), system.config());
     let (_text, _count, _next) = (name.as_bytes(), rules.symbols().len(), config.next());
+    let _none = is_within(budget, 0);
 }

@@ -2,8 +2,9 @@
 
 ghost use Rattle.std.specs.Prelude.{◌≡◌, IfOk};
 ghost use Rattle.std.specs.Arc.{arc_value};
-ghost use Rattle.ic_jobs.specs.Job.{open_state};
+ghost use Rattle.ic_jobs.specs.Job.{open_state, state_after};
 
+use crate::budget::{Budget, is_used_up, is_within};
 use crate::shown::ShownJob;
 use crate::state::State;
 use ic_pool::{Flight, MAX_ROUNDS};
@@ -14,9 +15,10 @@ use std::alloc::{AllocError, Global};
 use std::marker::Model;
 use std::sync::Arc;
 
-/// A job: its name, its rules and configuration, how many rounds it has made, and its state. It is
-/// done exactly where its configuration is quiet. Rules and configuration are shared, never changed:
-/// a round puts another configuration in place.
+/// A job: its name, its rules and configuration, how many rounds it has made, its state, and its
+/// budget or none. It is done exactly where its configuration is quiet, and spent exactly where it
+/// isn't quiet and its rounds are its budget. Rules and configuration are shared, never changed: a
+/// round puts another configuration in place.
 #[derive(Debug, Drop)]
 pub struct Job {
     name: JobName,
@@ -24,6 +26,7 @@ pub struct Job {
     config: Arc<Config>,
     rounds: u64,
     state: State,
+    budget: Option<Budget>,
 }
 
 impl Model for Job {
@@ -40,6 +43,7 @@ impl Model for Job {
       config = arc_value j.config;
       rounds = j.rounds;
       state = j.state;
+      budget = j.budget;
     } };
 
     ghost invariant = { λ j. IsJob (record {
@@ -48,26 +52,29 @@ impl Model for Job {
       config = arc_value j.config;
       rounds = j.rounds;
       state = j.state;
+      budget = j.budget;
     }) };
 }
 
 impl Job {
     ghost use Rattle.std.specs.Prelude.{◌↔◌, ◌<◌, IsTrue, IsSome, IfSome, false, length};
     ghost use Rattle.ic_round.specs.Rounds.{round};
-    ghost use Rattle.ic_jobs.specs.State.{is_done};
+    ghost use Rattle.ic_jobs.specs.inner.States.{is_finished};
     ghost use Rattle.ic_jobs.specs.Job.{IsJob, begun, can_move, moved, in_state};
     ghost use Rattle.ic_jobs.specs.Table.{is_named};
     ghost use Rattle.ic_jobs.specs.Landing.{flight_of, agrees};
     ghost use Rattle.ic_jobs.specs.Shown.{shown};
 
     /// The job of these parts, if the configuration is over the symbols of the rules, the rounds
-    /// are at most 2^62, and the state is `Done` exactly where the configuration is quiet.
+    /// are at most 2^62 and at most the budget, and the state is `Done` exactly where the
+    /// configuration is quiet, and `Spent` exactly where it isn't and the rounds are the budget.
     pub fn restore(
         name: JobName,
         rules: Arc<RuleSet>,
         config: Arc<Config>,
         rounds: u64,
         state: State,
+        budget: Option<Budget>,
     ) -> Option<Job>
         ensures job { IsSome result ↔ IsJob (record {
           name = name;
@@ -75,6 +82,7 @@ impl Job {
           config = arc_value config;
           rounds = rounds;
           state = state;
+          budget = budget;
         }) }
         ensures parts { IfSome result (λ job. job ≡ record {
           name = name;
@@ -82,14 +90,15 @@ impl Job {
           config = arc_value config;
           rounds = rounds;
           state = state;
+          budget = budget;
         }) }
     {
         // Read for the proof: what the types of the parts keep, the job keeps too.
         let (_text, _count, _next) = (name.as_bytes(), rules.symbols().len(), config.next());
-        if rounds > MAX_ROUNDS || !over(rules.symbols(), &config) {
+        if rounds > MAX_ROUNDS || !is_within(&budget, rounds) || !over(rules.symbols(), &config) {
             return None;
         }
-        if quiet(&rules, &config) != state.is_done() {
+        if !state.may_be(quiet(&rules, &config), is_used_up(&budget, rounds)) {
             return None;
         }
         Some(Job {
@@ -98,18 +107,25 @@ impl Job {
             config,
             rounds,
             state,
+            budget,
         })
     }
 
     /// A job as it begins. The system is moved into it.
-    pub(crate) fn begin(alloc: Global, name: JobName, system: System) -> Result<Job, AllocError>
-        ensures job { IfOk result (λ job. job ≡ begun name system) }
+    pub(crate) fn begin(
+        alloc: Global,
+        name: JobName,
+        system: System,
+        budget: Option<Budget>,
+    ) -> Result<Job, AllocError>
+        ensures job { IfOk result (λ job. job ≡ begun name system budget) }
         ensures sound { IfOk result (λ job. IsJob job) }
     {
         let (rules, config) = system.into_parts();
         let symbols = rules.symbols();
         // Read for the proof: what the types of the parts keep, the job keeps too.
         let (_text, _count, _next) = (name.as_bytes(), symbols.len(), config.next());
+        let _none = is_within(&budget, 0);
         let state = open_state(&rules, &config);
         let config = Arc::new(alloc, config)?;
         Ok(Job {
@@ -118,6 +134,7 @@ impl Job {
             config,
             rounds: 0,
             state,
+            budget,
         })
     }
 
@@ -157,6 +174,14 @@ impl Job {
         self.state
     }
 
+    /// How many rounds the job makes at most, where that is set.
+    pub fn budget(&self) -> Option<Budget>
+        ensures budget { result ≡ self.now.budget }
+        ensures sound { IsJob self.now }
+    {
+        self.budget
+    }
+
     pub(crate) fn is_named(&self, name: &JobName) -> bool
         ensures named { result ≡ is_named name.now self.now }
         ensures sound { IsJob self.now }
@@ -171,24 +196,25 @@ impl Job {
         self.rounds == rounds && *self.config == *config && *self.rules == *rules
     }
 
-    /// Puts a job that isn't done into another such state.
+    /// Puts a job that is neither done nor spent into another such state.
     pub(crate) fn put_state(&mut self, state: State)
-        requires old { is_done self.old.state ≡ false }
-        requires new { is_done state ≡ false }
+        requires old { is_finished self.old.state ≡ false }
+        requires new { is_finished state ≡ false }
         ensures { self.new ≡ in_state state self.old }
     {
         self.state = state;
     }
 
-    /// Puts the configuration after a round.
+    /// Puts the configuration after a round of a job that is neither done nor spent.
     pub(crate) fn advance(&mut self, after: Arc<Config>)
+        requires unfinished { is_finished self.old.state ≡ false }
         requires can { IsTrue (can_move self.old) }
         requires round { arc_value after ≡ round self.old.rules.rules self.old.config }
         ensures { self.new ≡ moved self.old }
     {
-        self.state = open_state(&self.rules, &after);
-        self.config = after;
         self.rounds += 1;
+        self.state = state_after(&self.rules, &after, self.rounds, &self.budget);
+        self.config = after;
     }
 
     /// The job as a round that is to be made, the job being at this place. It shares the rules and
@@ -228,6 +254,7 @@ impl Job {
             config: self.config.clone()?,
             rounds: self.rounds,
             state: self.state,
+            budget: self.budget,
         })
     }
 }
@@ -245,6 +272,7 @@ impl PartialEq for Job {
         self.name.as_bytes() == other.name.as_bytes()
             && self.rounds == other.rounds
             && self.state == other.state
+            && self.budget == other.budget
             && *self.config == *other.config
             && *self.rules == *other.rules
     }
@@ -256,12 +284,25 @@ impl Eq for Job {
     ghost laws = { job_eq-equivalence };
 }
 
-/// The state of a job that isn't kept from running.
+/// The state of a job as it begins.
 fn open_state(rules: &RuleSet, config: &Config) -> State
     ensures { result ≡ open_state rules.now config.now }
 {
     if quiet(rules, config) {
         State::Done
+    } else {
+        State::Running
+    }
+}
+
+/// The state of a job after a round: quiet comes before the budget.
+fn state_after(rules: &RuleSet, config: &Config, rounds: u64, budget: &Option<Budget>) -> State
+    ensures { result ≡ state_after rules.now config.now rounds budget.now }
+{
+    if quiet(rules, config) {
+        State::Done
+    } else if is_used_up(budget, rounds) {
+        State::Spent
     } else {
         State::Running
     }

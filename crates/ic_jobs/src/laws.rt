@@ -1,6 +1,6 @@
 //! Laws of the definitions that the contracts of this crate cite.
 
-ghost use Rattle.std.specs.Prelude.{◌≡◌, ◌↔◌, ◌⊎◌, ◌<◌, ◌≤◌, ℕ, List, [], ◌∷◌, ◌++◌, None, Some, IfSome, IsTrue, true, false, length, map, slice_get};
+ghost use Rattle.std.specs.Prelude.{◌≡◌, ◌↔◌, ◌⊎◌, ◌<◌, ◌≤◌, ℕ, List, [], ◌∷◌, ◌++◌, None, Some, IfSome, IsTrue, true, false, length, map, Option, slice_get, ◌^◌, ◌+◌};
 ghost use Rattle.std.specs.List.{Contains};
 ghost use Rattle.ic_term.specs.Configuration.{Configuration};
 ghost use Rattle.ic_rules.specs.RuleSet.{Rules};
@@ -8,7 +8,7 @@ ghost use Rattle.ic_rules.specs.System.{SystemParts};
 ghost use Rattle.ic_round.specs.Rounds.{IsQuiet};
 ghost use Rattle.ic_pool.specs.Flight.{FlightParts};
 ghost use Rattle.ic_jobs.specs.declared.state.State.{State};
-ghost use Rattle.ic_jobs.specs.declared.state.State.TheVariants.{Running, Done};
+ghost use Rattle.ic_jobs.specs.declared.state.State.TheVariants.{Running, Done, Spent};
 ghost use Rattle.ic_jobs.specs.declared.command.Command.{Command};
 ghost use Rattle.ic_jobs.specs.declared.command.Command.TheVariants.{Submit};
 ghost use Rattle.ic_jobs.specs.declared.reply.Reply.{Reply};
@@ -17,8 +17,8 @@ ghost use Rattle.ic_jobs.specs.declared.reply.Refusal.{Refusal};
 ghost use Rattle.ic_jobs.specs.declared.event.Event.{Event};
 ghost use Rattle.ic_jobs.specs.declared.event.Event.TheVariants.{Round};
 ghost use Rattle.ic_jobs.specs.declared.event.Entry.{Entry};
-ghost use Rattle.ic_jobs.specs.declared.limits.TheConstants.{MAX_JOBS};
-ghost use Rattle.ic_jobs.specs.Job.{JobParts, open_state, job_eq, table_eq};
+ghost use Rattle.ic_jobs.specs.declared.limits.TheConstants.{MAX_JOBS, MAX_BUDGET};
+ghost use Rattle.ic_jobs.specs.Job.{JobParts, open_state, state_after, begun, moved, in_state, job_eq, table_eq};
 ghost use Rattle.ic_jobs.specs.Refusal.{refusal_number, all_refusals};
 ghost use Rattle.ic_jobs.specs.Table.{IsTable, job_names, job_named};
 ghost use Rattle.ic_jobs.specs.Shown.{ShownParts, shown, listed};
@@ -33,9 +33,10 @@ ghost use Rattle.ic_jobs.specs.Landing.{due, Awaits};
 ghost use Rattle.ic_jobs.specs.Turns.{RunsAt, IsFlightOf, HasFlight};
 ghost use Rattle.ic_jobs.specs.Life.{life, IsAsLived};
 
-/// The limit of a job table.
+/// The limits of a job table.
 pub fn limits_are()
-    ensures { MAX_JOBS ≡ 32 }
+    ensures jobs { MAX_JOBS ≡ 32 }
+    ensures budget { MAX_BUDGET + 1 ≡ 2 ^ 32 }
 {}
 
 /// A history that is legal from the empty table leaves a job of a name exactly where the name's
@@ -92,14 +93,23 @@ pub fn events_mention_their_names()
 
 /// What each event answers, and the state in which it leaves the job of its name, go by the tables
 /// of specs/Transitions: row by row for each command, and for a round, which is an event of a
-/// running job alone. A job that isn't kept from running is done where its configuration is quiet,
-/// and else runs.
+/// running job alone. A job begins done where its configuration is quiet, and else it runs. After a
+/// round it is done where its configuration is quiet; else it is spent where its rounds are its
+/// budget, and else it runs.
 pub fn events_change_states_so()
     ensures events { (t : List JobParts) (e : Event) → EventLeads t e }
     ensures done { (rules : Rules) (c : Configuration)
         → IsQuiet rules.rules c → open_state rules c ≡ Done }
     ensures running { (rules : Rules) (c : Configuration)
         → ¬ IsQuiet rules.rules c → open_state rules c ≡ Running }
+    ensures done_after { (rules : Rules) (c : Configuration) (rounds : ℕ) (budget : Option ℕ)
+        → IsQuiet rules.rules c → state_after rules c rounds budget ≡ Done }
+    ensures spent_after { (rules : Rules) (c : Configuration) (rounds : ℕ) (budget : Option ℕ)
+        → ¬ IsQuiet rules.rules c → budget ≡ Some rounds
+        → state_after rules c rounds budget ≡ Spent }
+    ensures running_after { (rules : Rules) (c : Configuration) (rounds : ℕ) (budget : Option ℕ)
+        → ¬ IsQuiet rules.rules c → ¬ (budget ≡ Some rounds)
+        → state_after rules c rounds budget ≡ Running }
 {}
 
 /// A command that is answered with a new job, or with what it tells of jobs, is one that takes
@@ -113,10 +123,23 @@ pub fn memory_is_taken_by()
     ensures changing { (t : List JobParts) (c : Command)
         → is_okay (after_command t c).reply ≡ true → takes_memory c ≡ false }
     ensures copies { (c : Command)
-        → IsTrue (is_submit c) ↔ ((n : List ℕ) × (s : SystemParts) × (c ≡ Submit n s)) }
+        → IsTrue (is_submit c)
+        ↔ ((n : List ℕ) × (s : SystemParts) × (b : Option ℕ) × (c ≡ Submit n s b)) }
     ensures replies { (r : Reply) → IsTrue (tells_jobs r)
         ↔ (((s : ShownParts) × (r ≡ Shown s))
         ⊎ ((l : List (List ℕ × State × ℕ)) × (r ≡ Listed l))) }
+{}
+
+/// A job has the budget that it was submitted with: while a job of a name is there, no event changes
+/// its budget, nor does a round or a change of its state.
+pub fn budgets_are_kept()
+    ensures events { (t : List JobParts) (e : Event) (name : List ℕ) (j k : JobParts)
+        → job_named name t ≡ Some j → job_named name (table_after t e) ≡ Some k
+        → k.budget ≡ j.budget }
+    ensures begun { (name : List ℕ) (s : SystemParts) (budget : Option ℕ)
+        → (begun name s budget).budget ≡ budget }
+    ensures moved { (j : JobParts) → (moved j).budget ≡ j.budget }
+    ensures in_state { (s : State) (j : JobParts) → (in_state s j).budget ≡ j.budget }
 {}
 
 /// The names of a table stand in the order of submission: an accepted submit puts its name last, a

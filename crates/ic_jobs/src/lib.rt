@@ -6,6 +6,7 @@
 //! events, histories and lives stand in specs/, and `laws` holds what is proved of them alone.
 #![tactic(auto)]
 
+mod budget;
 mod command;
 mod event;
 mod job;
@@ -17,11 +18,12 @@ mod shown;
 mod state;
 mod table;
 
+pub use budget::Budget;
 pub use command::Command;
 pub use event::{Entry, Event};
 pub use job::Job;
 pub use landed::Landed;
-pub use limits::MAX_JOBS;
+pub use limits::{MAX_BUDGET, MAX_JOBS};
 pub use reply::{Refusal, Reply};
 pub use shown::{JobList, ShownJob};
 pub use state::State;

@@ -106,7 +106,7 @@ impl Origin {
     /// The command that asks this of its job.
     pub fn command(&self, alloc: Global, verb: Verb) -> Result<Command, Trouble> {
         Ok(match verb {
-            Verb::Submit => Command::Submit(self.name, self.system.copy(alloc)?),
+            Verb::Submit => Command::Submit(self.name, self.system.copy(alloc)?, None),
             Verb::Pause => Command::Pause(self.name),
             Verb::Resume => Command::Resume(self.name),
             Verb::Cancel => Command::Cancel(self.name),

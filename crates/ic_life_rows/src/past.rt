@@ -161,6 +161,7 @@ impl<'a> Past<'a> {
             State::Paused => b"paused",
             State::Done => b"done",
             State::Halted => b"halted",
+            State::Spent => b"spent",
         };
         line.extend_from_slice(self.origin(job.origin)?.name())?;
         line.push(between)?;

@@ -1,13 +1,13 @@
 -- What a file holds is one thing.
-use Rattle.std.proofs.Common.{◌≡◌, ◌∙◌, ⊎_elim, ap, sym, refl, List, ℕ}
+use Rattle.std.proofs.Common.{◌≡◌, ◌∙◌, ⊎_elim, ap, sym, refl, subst, List, ℕ}
 use Rattle.ic_jobs.specs.Job.{JobParts}
 use Rattle.ic_jobs.specs.Table.{IsTable}
-use Rattle.ic_codec.specs.Tables.{table_bytes}
+use Rattle.ic_codec.specs.Tables.{IsFormOf}
 use Rattle.ic_frames.specs.Held.{the_body}
 use Rattle.ic_frames.specs.Held.{no_slot as no_open_slot, two_alike as two_alike_slots, damaged as damaged_slot}
 use Rattle.ic_slots.specs.Held.{Held, IsHeld, the_table, no_slot, two_alike, damaged}
 
-same_body : (xs ys : List ℕ) → the_body xs ≡ the_body ys → xs ≡ ys
+pub same_body : (xs ys : List ℕ) → the_body xs ≡ the_body ys → xs ≡ ys
 same_body xs ys e = cc
 
 body_not_none : (xs : List ℕ) → the_body xs ≡ no_open_slot → ⊥
@@ -28,11 +28,14 @@ none_not_damaged e = cc
 two_not_damaged : two_alike_slots ≡ damaged_slot → ⊥
 two_not_damaged e = cc
 
-module _ (own : (t u : List JobParts) → IsTable t → IsTable u → table_bytes t ≡ table_bytes u → t ≡ u) (file : List ℕ) where
+module _ (own : (t u : List JobParts) (bytes : List ℕ) → IsTable t → IsTable u → IsFormOf t bytes → IsFormOf u bytes → t ≡ u) (file : List ℕ) where
+  one_table : (t u : List JobParts) → IsHeld (the_table t) file → IsHeld (the_table u) file → t ≡ u
+  one_table t u this that = own t u that.1.body this.0 that.0 (subst (λ (b : List ℕ). IsFormOf t b) (same_body this.1.body that.1.body (sym this.1.held ∙ that.1.held)) this.1.form) that.1.form
+
   table_or_damaged : (t : List JobParts) → IsHeld (the_table t) file → IsHeld damaged file → ⊥
   table_or_damaged t is not = ⊎_elim
-      (λ spoiled. body_not_damaged (table_bytes t) (sym is.1 ∙ spoiled))
-      (λ none. none.2 t is.0 (same_body none.0 (table_bytes t) (sym none.1 ∙ is.1)))
+      (λ spoiled. body_not_damaged is.1.body (sym is.1.held ∙ spoiled))
+      (λ none. none.2 t is.0 (subst (λ (b : List ℕ). IsFormOf t b) (same_body is.1.body none.0 (sym is.1.held ∙ none.1)) is.1.form))
       not
 
   none_or_damaged : IsHeld no_slot file → IsHeld damaged file → ⊥
@@ -48,15 +51,15 @@ module _ (own : (t u : List JobParts) → IsTable t → IsTable u → table_byte
       not
 
   pub only_one : (one other : Held) → IsHeld one file → IsHeld other file → one ≡ other
-  only_one (the_table t) (the_table u) this that = ap the_table (own t u this.0 that.0 (same_body (table_bytes t) (table_bytes u) (sym this.1 ∙ that.1)))
-  only_one (the_table t) no_slot this that = absurd (body_not_none (table_bytes t) (sym this.1 ∙ that))
-  only_one (the_table t) two_alike this that = absurd (body_not_two (table_bytes t) (sym this.1 ∙ that))
+  only_one (the_table t) (the_table u) this that = ap the_table (one_table t u this that)
+  only_one (the_table t) no_slot this that = absurd (body_not_none this.1.body (sym this.1.held ∙ that))
+  only_one (the_table t) two_alike this that = absurd (body_not_two this.1.body (sym this.1.held ∙ that))
   only_one (the_table t) damaged this that = absurd (table_or_damaged t this that)
-  only_one no_slot (the_table u) this that = absurd (body_not_none (table_bytes u) (sym that.1 ∙ this))
+  only_one no_slot (the_table u) this that = absurd (body_not_none that.1.body (sym that.1.held ∙ this))
   only_one no_slot no_slot this that = refl
   only_one no_slot two_alike this that = absurd (none_not_two (sym this ∙ that))
   only_one no_slot damaged this that = absurd (none_or_damaged this that)
-  only_one two_alike (the_table u) this that = absurd (body_not_two (table_bytes u) (sym that.1 ∙ this))
+  only_one two_alike (the_table u) this that = absurd (body_not_two that.1.body (sym that.1.held ∙ this))
   only_one two_alike no_slot this that = absurd (none_not_two (sym that ∙ this))
   only_one two_alike two_alike this that = refl
   only_one two_alike damaged this that = absurd (two_or_damaged this that)

@@ -1,2 +1,3 @@
-pub mod TableLemmas
 pub mod HeldLemmas
+pub mod TableLemmas
+pub mod FormLemmas

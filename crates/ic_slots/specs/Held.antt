@@ -1,8 +1,8 @@
 -- What a file with two slots holds, as a table. This project's choice.
-use Rattle.std.specs.Prelude.{◌≡◌, ◌≢◌, ◌⊎◌, ℕ, List}
+use Rattle.std.specs.Prelude.{◌≡◌, ◌⊎◌, ℕ, List}
 use Rattle.ic_jobs.specs.Job.{JobParts}
 use Rattle.ic_jobs.specs.Table.{IsTable}
-use Rattle.ic_codec.specs.Tables.{table_bytes}
+use Rattle.ic_codec.specs.Tables.{table_bytes, IsFormOf}
 use Rattle.ic_frames.specs.declared.slot.Slot.{Slot}
 use Rattle.ic_frames.specs.Fields.{IsMade}
 use Rattle.ic_frames.specs.Staged.{IsStaged}
@@ -16,15 +16,21 @@ pub data Held : Type 0 where
   two_alike : Held
   damaged : Held
 
--- the body of the newest slot is whole, and the byte form of no table
+-- the body of the newest slot is whole, and a byte form of this table
+pub record HoldsFormOf (t : List JobParts) (file : List ℕ) : Type 0 where
+  pub body : List ℕ
+  pub held : body_held file ≡ the_body body
+  pub form : IsFormOf t body
+
+-- it is whole, and the byte form of no table
 abbrev pub HoldsNoTable : List ℕ → Type 0
 HoldsNoTable file =
     (body : List ℕ) × (body_held file ≡ the_body body)
-    × ((t : List JobParts) → IsTable t → body ≢ table_bytes t)
+    × ((t : List JobParts) → IsTable t → ¬ IsFormOf t body)
 
--- what the file holds: the table of which the body of its newest slot is the byte form
+-- what the file holds: the table of which the body of its newest slot is a byte form
 abbrev pub IsHeld : Held → List ℕ → Type 0
-IsHeld (the_table t) file = IsTable t × (body_held file ≡ the_body (table_bytes t))
+IsHeld (the_table t) file = IsTable t × HoldsFormOf t file
 IsHeld no_slot file = body_held file ≡ no_open_slot
 IsHeld two_alike file = body_held file ≡ two_alike_slots
 IsHeld damaged file = (body_held file ≡ damaged_slot) ⊎ HoldsNoTable file
@@ -42,6 +48,6 @@ pub record HoldsTable (t : List JobParts) (file : List ℕ) : Type 0 where
 abbrev pub HoldsEitherTable : (old new : List JobParts) (file : List ℕ) → Type 0
 HoldsEitherTable old new file = HoldsTable old file ⊎ HoldsTable new file
 
--- the slot has this number and the byte form of this table, whole, whatever its gate is
+-- the slot has this number and the written form of this table, whole, whatever its gate is
 abbrev pub IsStagedTable : Slot → ℕ → List JobParts → List ℕ → Type 0
 IsStagedTable slot n t file = IsTable t × IsStaged slot n (table_bytes t) file

@@ -4,3 +4,4 @@ pub mod Faults
 pub mod Numbers
 pub mod Keeper
 pub mod Opened
+pub mod lemmas

@@ -5,15 +5,18 @@ ghost use Rattle.ic_jobs.specs.Table.{IsTable};
 ghost use Rattle.ic_codec.specs.Tables.{table_bytes};
 ghost use Rattle.ic_frames.specs.Crashes.{CrashInClosing, CrashInKeeping, CrashInOpening, CrashInWriting};
 ghost use Rattle.ic_frames.specs.Faults.{CountsOpen};
+ghost use Rattle.ic_frames.specs.Held.{HasBody, Holds};
 ghost use Rattle.ic_frames.specs.Keeping.{ClosesGate, FaultLeaves, OpensGate, TakesTurns, WritesBody, WritesSlot};
 ghost use Rattle.ic_frames.specs.Opened.{IsOnNewest};
 ghost use Rattle.ic_frames.specs.Opening.{LeavesAsFound};
+ghost use Rattle.ic_frames.specs.Staged.{IsStaged};
 ghost use Rattle.ic_frames.specs.declared.frame.TheConstants.{MAX_BODY};
 ghost use Rattle.ic_slots.specs.Held.{HasTable, HoldsTable, IsStagedTable, IsHeld, the_table};
 ghost use Rattle.ic_slots.specs.Opening.{Says};
 
 use ic_codec::{CodecFault, decode, encode_into};
 use ic_disk::Disk;
+use ic_frames::laws::one_body_is_kept;
 use ic_frames::{Frames, HEAD, KeepFault, OpenCause, OpenFault, Opened};
 use ic_jobs::Table;
 use std::alloc::Global;
@@ -72,7 +75,11 @@ impl<D: Disk> Keeper<D> {
         ensures closes { ClosesGate result (frames_of self.old) (frames_of self.new) }
         ensures crash { CrashInClosing HoldsTable HasTable
             result (frames_of self.old) (frames_of self.new) }
+        // To the byte: a crash leaves the form that was kept.
+        ensures bodies { CrashInClosing Holds HasBody
+            result (frames_of self.old) (frames_of self.new) }
     {
+        one_body_is_kept(&self.frames);
         self.frames.close_gate()
     }
 
@@ -86,7 +93,11 @@ impl<D: Disk> Keeper<D> {
             result (frames_of self.old) (frames_of self.new) }
         ensures crash { CrashInWriting HoldsTable HasTable IsStagedTable table.now
             result (frames_of self.old) (frames_of self.new) }
+        // To the byte: a crash leaves the form that was kept.
+        ensures bodies { CrashInWriting Holds HasBody IsStaged (table_bytes table.now)
+            result (frames_of self.old) (frames_of self.new) }
     {
+        one_body_is_kept(&self.frames);
         lay(&mut self.frame, table);
         self.frames.write_body(&mut self.frame)
     }
@@ -100,7 +111,11 @@ impl<D: Disk> Keeper<D> {
         ensures opens { OpensGate result (frames_of self.old) (frames_of self.new) }
         ensures crash { CrashInOpening HoldsTable IsStagedTable
             result (frames_of self.old) (frames_of self.new) }
+        // To the byte: a crash leaves the form that was kept or the one that was written.
+        ensures bodies { CrashInOpening Holds IsStaged
+            result (frames_of self.old) (frames_of self.new) }
     {
+        one_body_is_kept(&self.frames);
         self.frames.open_gate()
     }
 
@@ -112,7 +127,11 @@ impl<D: Disk> Keeper<D> {
             result (frames_of self.old) (frames_of self.new) }
         ensures crash { CrashInKeeping HoldsTable HasTable table.now
             result (frames_of self.old) (frames_of self.new) }
+        // To the byte: a crash leaves the form that was kept or the one that is written.
+        ensures bodies { CrashInKeeping Holds HasBody (table_bytes table.now)
+            result (frames_of self.old) (frames_of self.new) }
     {
+        one_body_is_kept(&self.frames);
         lay(&mut self.frame, table);
         self.frames.keep(&mut self.frame)
     }

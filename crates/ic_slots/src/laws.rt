@@ -1,25 +1,25 @@
 //! Laws of the definitions that the contracts of this crate cite.
 
-ghost use Rattle.std.specs.Prelude.{◌≡◌, ◌⊎◌, ◌+◌, ◌-◌, ◌^◌, true, List, [], ◌∷◌, ℕ, map, Contains, IsErrOf, Result, Err};
+ghost use Rattle.std.specs.Prelude.{◌≡◌, ◌⊎◌, ◌+◌, ◌-◌, ◌^◌, ◌<◌, ◌≤◌, true, List, [], ◌∷◌, ℕ, map, Contains, IsErrOf, Result, Err};
 ghost use Rattle.ic_jobs.specs.Job.{JobParts};
 ghost use Rattle.ic_jobs.specs.Table.{IsTable};
-ghost use Rattle.ic_codec.specs.Tables.{table_bytes};
+ghost use Rattle.ic_codec.specs.Tables.{table_bytes, old_table_bytes, HasNoBudgets, IsFormOf};
 ghost use Rattle.ic_codec.specs.declared.form.TheConstants.{MAX_BYTES};
 ghost use Rattle.ic_frames.specs.declared.frame.TheConstants.{MAX_BODY};
 ghost use Rattle.ic_frames.specs.declared.slot.Slot.{Slot};
 ghost use Rattle.ic_frames.specs.Places.{place};
-ghost use Rattle.ic_frames.specs.Fields.{is_whole, body};
-ghost use Rattle.ic_frames.specs.Held.{IsNewest};
+ghost use Rattle.ic_frames.specs.Fields.{is_whole, size, body};
+ghost use Rattle.ic_frames.specs.Held.{IsNewest, HasBody, HoldsEither};
 ghost use Rattle.ic_frames.specs.declared.faults.OpenCause.TheVariants.{NoSlot, TwoAlike, Damaged};
 ghost use Rattle.ic_slots.specs.declared.fault.CreateFault.{CreateFault};
 ghost use Rattle.ic_slots.specs.declared.fault.CreateFault.TheVariants.{Device as CreateDevice};
 ghost use Rattle.ic_slots.specs.Faults.{CountsCreate};
-ghost use Rattle.ic_slots.specs.Held.{Held, IsHeld, the_table, no_slot, two_alike, damaged};
+ghost use Rattle.ic_slots.specs.Held.{Held, HoldsEitherTable, IsHeld, the_table, no_slot, two_alike, damaged};
 ghost use Rattle.ic_slots.specs.Numbers.{all_create_faults, create_fault_number};
 ghost use Rattle.ic_slots.specs.Opening.{Says};
 
-use ic_codec::laws::each_table_has_its_own_bytes;
-use ic_frames::laws::the_newest_slot_is_held;
+use ic_codec::laws::{each_table_has_its_own_bytes, forms_are_short};
+use ic_frames::laws::{a_slot_is_open_or_whole, the_newest_slot_is_held};
 
 /// A file holds one table at most, or is refused for one reason.
 pub fn one_is_held()
@@ -29,18 +29,55 @@ pub fn one_is_held()
     each_table_has_its_own_bytes();
 }
 
-/// Where the newest slot is whole and its body the byte form of a table, that table is held,
-/// whatever the other slot has.
+/// Where the newest slot is whole and its body a byte form of a table, that table is held, whatever
+/// the other slot has, and in whatever form. Where its body is the form of no table, or longer than
+/// the longest form, the disk is damaged.
 pub fn the_newest_table_is_held()
     ensures held { (slot : Slot) (file : List ℕ) (t : List JobParts) → IsNewest slot file
         → is_whole (place slot) file ≡ true → IsTable t
-        → body (place slot) file ≡ table_bytes t → IsHeld (the_table t) file }
+        → IsFormOf t (body (place slot) file) → IsHeld (the_table t) file }
     ensures spoiled { (slot : Slot) (file : List ℕ) → IsNewest slot file
-        → ((t : List JobParts) → IsTable t → ¬ (body (place slot) file ≡ table_bytes t))
+        → ((t : List JobParts) → IsTable t → ¬ IsFormOf t (body (place slot) file))
         → IsHeld damaged file }
+    ensures long { (slot : Slot) (file : List ℕ) → IsNewest slot file
+        → MAX_BYTES < size (place slot) file → IsHeld damaged file }
 {
     the_newest_slot_is_held();
+    a_slot_is_open_or_whole();
+    forms_are_short();
 }
+
+/// A table is held in the form that is written, or, where it has no budgets, in the old one. What
+/// holds a body of the old form holds its table, and nothing else.
+pub fn the_old_form_is_held()
+    ensures new { (t : List JobParts) (file : List ℕ) → IsTable t
+        → HasBody (table_bytes t) file → IsHeld (the_table t) file }
+    ensures old { (t : List JobParts) (file : List ℕ) → IsTable t → HasNoBudgets t
+        → HasBody (old_table_bytes t) file → IsHeld (the_table t) file }
+    ensures alone { (t : List JobParts) (held : Held) (file : List ℕ) → IsTable t
+        → HasNoBudgets t → HasBody (old_table_bytes t) file → IsHeld held file
+        → held ≡ the_table t }
+    ensures only { (t : List JobParts) (file : List ℕ) → IsHeld (the_table t) file
+        → HasBody (table_bytes t) file
+        ⊎ (HasNoBudgets t × HasBody (old_table_bytes t) file) }
+{
+    each_table_has_its_own_bytes();
+}
+
+/// What a stop in a keep leaves, of a program that writes the old form or the new one: where a made
+/// file has one of two bodies, each a form of a table, it holds one of the two tables. So a keep of
+/// either form over either form leaves the old table or the new one.
+pub fn one_of_two_forms_is_one_of_two_tables()
+    ensures either { (t u : List JobParts) (one other file : List ℕ) → IsTable t → IsTable u
+        → IsFormOf t one → IsFormOf u other → HoldsEither one other file
+        → HoldsEitherTable t u file }
+    ensures old { (t u : List JobParts) (file : List ℕ) → IsTable t → IsTable u
+        → HasNoBudgets t → HasNoBudgets u
+        → HoldsEither (old_table_bytes t) (old_table_bytes u) file → HoldsEitherTable t u file }
+    ensures mixed { (t u : List JobParts) (file : List ℕ) → IsTable t → IsTable u
+        → HasNoBudgets t
+        → HoldsEither (old_table_bytes t) (table_bytes u) file → HoldsEitherTable t u file }
+{}
 
 /// A refusal to open says what the file holds.
 pub fn a_refusal_says_what_is_held()
@@ -64,7 +101,7 @@ pub fn numbers_are_lasting()
     ensures numbers { map create_fault_number all_create_faults ≡ 1 ∷ 2 ∷ [] }
 {}
 
-/// The longest byte form of a table is the longest body of a slot.
-pub fn limits_agree()
-    ensures { MAX_BYTES ≡ MAX_BODY }
+/// The longest byte form of a table fits in a slot.
+pub fn a_table_fits_in_a_slot()
+    ensures { MAX_BYTES ≤ MAX_BODY }
 {}

@@ -3,8 +3,8 @@
 //!
 //! `create` keeps the empty table. `Keeper::open` finds the table that a disk holds, and
 //! `Keeper::keep` puts the next one in its place, in three phases that may be called by themselves.
-//! The slots are those of `ic_frames`, and the bodies in them the byte form of `ic_codec`. `laws`
-//! holds what is proved of the definitions alone.
+//! The slots are those of `ic_frames`, and the bodies in them byte forms of `ic_codec`: either form is
+//! opened, and the new one is written. `laws` holds what is proved of the definitions alone.
 #![tactic(auto)]
 
 mod creation;

@@ -9,7 +9,7 @@ use Rattle.ic_text.specs.declared.fault.TextFault.{TextFault}
 use Rattle.ic_text.specs.declared.fault.TextFault.TheVariants.{Syntax}
 use Rattle.ic_text.specs.Token.{Token, word, mark, word_of, before, tokens}
 use Rattle.ic_text.specs.SystemSource.{SystemPhrase}
-use Rattle.ic_commands.specs.LineSource.{LinePhrase, submit, IsLine, verb_text, line_words}
+use Rattle.ic_commands.specs.LineSource.{LinePhrase, submit, is_number, IsLine, verb_text, line_words}
 use Rattle.ic_commands.specs.LineSense.{line_sense}
 
 -- no word stands at the front of a text with these tokens, and it has none only where it is empty
@@ -23,6 +23,16 @@ HasNoWord text (Some (mark m ∷ ts)) = Unit {0}
 abbrev pub BeginsApart : (ℕ → Bool) → List ℕ → Type 0
 BeginsApart is [] = Unit {0}
 BeginsApart is (b ∷ bs) = is b ≡ false
+
+-- the number's word that may stand in front of a system: none where no word stands there
+abbrev pub number_word : List ℕ → Option (List ℕ)
+number_word [] = None
+number_word (b ∷ bs) = Some (b ∷ bs)
+
+-- no word, or a number
+abbrev pub is_number_or_none : List ℕ → Bool
+is_number_or_none [] = true
+is_number_or_none (b ∷ bs) = is_number (b ∷ bs)
 
 -- there are no tokens, and nothing spoils the text
 abbrev pub is_nothing : Option (List Token) → Bool
@@ -54,8 +64,8 @@ pub record IsLineOf (o : Option (List Token)) (answer : Result Line TextFault) :
 -- these tokens are those of the submit of some job
 abbrev pub IsSubmitLine : Option (List Token) → Type 0
 IsSubmitLine o =
-    (name : List ℕ) × (s : SystemPhrase) × IsLine (submit name s)
-    × (o ≡ Some (line_words (submit name s)))
+    (name : List ℕ) × (most : Option (List ℕ)) × (s : SystemPhrase)
+    × IsLine (submit name most s) × (o ≡ Some (line_words (submit name most s)))
 
 -- what the text behind the first word makes of a line
 abbrev pub ReadsBehind : Opening → List ℕ → Result Line TextFault → Type 0

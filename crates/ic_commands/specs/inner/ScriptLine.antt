@@ -4,7 +4,7 @@ use Rattle.ic_commands.specs.LineSource.{LinePhrase, nothing, submit, about, lis
 
 abbrev pub is_run : LinePhrase → Bool
 is_run nothing = false
-is_run (submit name s) = false
+is_run (submit name most s) = false
 is_run (about verb name) = false
 is_run list = false
 is_run (run digits) = true

@@ -9,6 +9,7 @@ ghost use Rattle.ic_jobs.specs.Shown.{listed};
 
 use super::Table;
 use super::places::place_of;
+use crate::budget::Budget;
 use crate::command::Command;
 use crate::job::Job;
 use crate::limits::MAX_JOBS;
@@ -28,7 +29,7 @@ impl Table {
         ensures memory { OnErr result (IsTrue (takes_memory command)) }
     {
         match command {
-            Command::Submit(name, system) => self.submit(name, system),
+            Command::Submit(name, system, budget) => self.submit(name, system, budget),
             Command::Pause(name) => Ok(self.pause(name)),
             Command::Resume(name) => Ok(self.resume(name)),
             Command::Cancel(name) => Ok(self.cancel(name)),
@@ -37,9 +38,14 @@ impl Table {
         }
     }
 
-    fn submit(&mut self, name: JobName, system: System) -> Result<Reply, AllocError>
+    fn submit(
+        &mut self,
+        name: JobName,
+        system: System,
+        budget: Option<Budget>,
+    ) -> Result<Reply, AllocError>
         ensures event { IfOk result (λ reply.
-            outcome self.new reply ≡ after_command self.old (Submit name system)) }
+            outcome self.new reply ≡ after_command self.old (Submit name system budget)) }
         ensures unchanged { OnErr result (self.new ≡ self.old) }
     {
         if place_of(&self.jobs, name).is_some() {
@@ -48,7 +54,7 @@ impl Table {
         if self.jobs.len() >= MAX_JOBS {
             return Ok(Reply::Refused(Refusal::Full));
         }
-        let job = Job::begin(*self.jobs.allocator(), name, system)?;
+        let job = Job::begin(*self.jobs.allocator(), name, system, budget)?;
         self.kept_list = None;
         self.jobs.push(job)?;
         Ok(Reply::Accepted)

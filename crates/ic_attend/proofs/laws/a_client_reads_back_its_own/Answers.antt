@@ -18,11 +18,11 @@ returns-clause-left c = λ start front mid back who name r legal none.
     ∙ ap fetch_reply (stays c.other_jobs_stay.ensures (replay start front) name mid none)
 
 pub returns-clause-submitted : goal.returns-clause-submitted
-returns-clause-submitted c = λ start front who name system legal.
+returns-clause-submitted c = λ start front who name system budget legal.
     let t = replay start front in
-    let e = command_entry who (Submit name system) Accepted in
+    let e = command_entry who (Submit name system budget) Accepted in
     let answered = c.a_client_reads_what_came_before.ensures.answered start front [] e legal in
-    let same : after_command t (Submit name system) ≡ answered.outcome = ap (λ o. option_map_or (λ (x : Outcome). x) o answered.outcome) answered.defined in
-    let told : (after_command t (Submit name system)).reply ≡ Accepted = ap (λ (o : Outcome). o.reply) same ∙ answered.replied in
+    let same : after_command t (Submit name system budget) ≡ answered.outcome = ap (λ o. option_map_or (λ (x : Outcome). x) o answered.outcome) answered.defined in
+    let told : (after_command t (Submit name system budget)).reply ≡ Accepted = ap (λ (o : Outcome). o.reply) same ∙ answered.replied in
     ap (job_named name) (c.histories_split_and_join.ensures.table start front (e ∷ []))
-    ∙ accepted_begins t name system told
+    ∙ accepted_begins t name system budget told

@@ -6,6 +6,7 @@ use Rattle.ic_codec.specs.Symbols.{symbols_bytes}
 use Rattle.ic_codec.specs.Rules.{rules_bytes}
 use Rattle.ic_codec.specs.Configurations.{configuration_bytes}
 use Rattle.ic_codec.specs.Form.{heading_bytes, heading_of}
+use Rattle.ic_codec.specs.declared.form.Form.TheVariants.{Ict2}
 use Rattle.ic_codec.specs.inner.Room.{Fits}
 use Rattle.ic_codec.proofs.Appending.{first_fits, rest_fits}
 use Rattle.ic_codec.proofs.jobs.put_job.Goals as goal
@@ -21,7 +22,7 @@ behind_heading j = symbols_bytes j.rules.symbols ++ behind_symbols j
 fits_behind_heading : (c : After-put_heading) → Fits c.put_heading.new.out (behind_heading c.args.job.now)
 fits_behind_heading c =
     let j = c.args.job.now in
-    rest_fits (heading_bytes (heading_of j)) (behind_heading j) _ (ap heading_bytes c.of.ensures) c.requires c.put_heading.ensures
+    rest_fits (heading_bytes Ict2 (heading_of j)) (behind_heading j) _ (ap (heading_bytes Ict2) c.of.ensures) c.requires c.put_heading.ensures
 
 -- what fits once the symbols are there
 fits_behind_symbols : (c : After-put_symbols) → Fits c.put_heading.new.out (behind_heading c.args.job.now)
@@ -34,7 +35,7 @@ fits_behind_symbols c behind =
 pub put_heading-requires : goal.put_heading-requires
 put_heading-requires c =
     let j = c.args.job.now in
-    first_fits (heading_bytes (heading_of j)) (behind_heading j) _ (ap heading_bytes c.of.ensures) c.requires
+    first_fits (heading_bytes Ict2 (heading_of j)) (behind_heading j) _ (ap (heading_bytes Ict2) c.of.ensures) c.requires
 
 pub put_symbols-requires : goal.put_symbols-requires
 put_symbols-requires c =

@@ -1,4 +1,4 @@
-use Rattle.ic_commands.proofs.LineLaws.{about_long, submit_long_name, run_long}
+use Rattle.ic_commands.proofs.LineLaws.{about_long, submit_long_name, submit_unfit, run_long}
 use Rattle.ic_commands.proofs.PlainLines.{plain_line}
 use Rattle.ic_commands.proofs.laws.commands_ask.Goals as goal
 
@@ -7,5 +7,6 @@ returns c = record {
   plain = plain_line;
   too_long = about_long;
   too_long_submit = submit_long_name;
+  no_budget = submit_unfit;
   too_many = run_long;
 }

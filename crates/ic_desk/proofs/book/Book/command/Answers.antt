@@ -1,5 +1,6 @@
-use Rattle.std.proofs.Common.{◌≡◌, ◌∙◌, ◌+◌, length, refl, sym, arith, true, false}
+use Rattle.std.proofs.Common.{◌≡◌, ◌∙◌, ◌+◌, Err, length, refl, sym, arith, true, false}
 use Rattle.std.proofs.lemmas.Result.{err_from_is_err_and}
+use Rattle.ic_desk.specs.declared.fault.BookFault.TheVariants.{Worn, Device}
 use Rattle.ic_desk.proofs.AnswerLemmas.{told_stays}
 use Rattle.ic_desk.proofs.BookLemmas.{failed_on_disk, idle_history, idle_on_disk, kept_on_disk, one_longer, stands_added, unchanged, written}
 use Rattle.ic_desk.proofs.StepLemmas.{command_answered, command_failed, command_refused, full_or_broken, idles}
@@ -7,6 +8,14 @@ use Rattle.ic_desk.proofs.book.Book.command.Goals as goal
 
 pub returns-in_err-check_room-clause-crash : goal.returns-in_err-check_room-clause-crash
 returns-in_err-check_room-clause-crash g c = unchanged g.met.D.Disk.left_is_image c.args.self.now
+
+pub returns-then-worn-clause-crash : goal.returns-then-worn-clause-crash
+returns-then-worn-clause-crash g c = unchanged g.met.D.Disk.left_is_image c.args.self.now
+
+pub returns-then-worn-clause-step : goal.returns-then-worn-clause-step
+returns-then-worn-clause-step g c =
+    command_refused c.args.who c.args.command c.args.self.now c.args.self.now (Err Worn) Worn refl
+    (λ device. let never : Worn ≡ Device = device in cc) (idles g.met.D.Disk.left_is_image c.args.self.now)
 
 pub invariant_of-self-then-leaves_table : goal.invariant_of-self-then-leaves_table
 invariant_of-self-then-leaves_table g c =

@@ -3,7 +3,7 @@ use Rattle.std.proofs.lemmas.Result.{err_from_is_err_and}
 use Rattle.ic_jobs.specs.declared.reply.Reply.TheVariants.{Halted}
 use Rattle.ic_desk.specs.declared.fault.BookFault.{BookFault}
 use Rattle.ic_desk.proofs.BookLemmas.{round_comes, still, unchanged}
-use Rattle.ic_desk.proofs.StepLemmas.{idles, round_made, round_refused}
+use Rattle.ic_desk.proofs.StepLemmas.{idles, round_made, round_refused, round_unmade}
 use Rattle.ic_desk.proofs.book.Book.halt.Goals as goal
 
 pub returns-in_err-check_room-clause-crash : goal.returns-in_err-check_room-clause-crash
@@ -26,6 +26,12 @@ pub returns-in_err-check_room-clause-step : goal.returns-in_err-check_room-claus
 returns-in_err-check_room-clause-step g c =
     let e = err_from_is_err_and c.from_residual.result c.from_residual.ensures.1 in
     round_refused c.args.flight.now.name Halted c.from_residual.result e.0 c.args.self.now c.args.self.now e.1 (idles g.met.D.Disk.left_is_image c.args.self.now)
+
+pub returns-in_err-enter_halted-clause-step : goal.returns-in_err-enter_halted-clause-step
+returns-in_err-enter_halted-clause-step g c =
+    let e = err_from_is_err_and c.from_residual-in_err-enter_halted.result c.from_residual-in_err-enter_halted.ensures.1 in
+    round_refused c.args.flight.now.name Halted c.from_residual-in_err-enter_halted.result e.0 c.args.self.now _ e.1
+    (round_unmade c.args.flight.now.name Halted c.in_err-enter_halted.field-0.0 c.args.self.now _ refl refl c.in_err-enter_halted.ensures (returns-in_err-enter_halted-clause-crash g c) (λ is. is))
 
 pub returns-clause-step : goal.returns-clause-step
 returns-clause-step g c =

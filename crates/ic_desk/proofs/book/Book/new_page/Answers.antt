@@ -1,5 +1,6 @@
+use Rattle.std.proofs.Common.{sym, ◌∙◌}
 use Rattle.std.proofs.lemmas.Result.{err_from_is_err_and}
-use Rattle.ic_desk.proofs.BookLemmas.{unchanged}
+use Rattle.ic_desk.proofs.BookLemmas.{begun_on_disk, unchanged}
 use Rattle.ic_desk.proofs.StepLemmas.{idles, keep_refused}
 use Rattle.ic_desk.proofs.book.Book.new_page.Goals as goal
 
@@ -10,3 +11,13 @@ pub returns-in_err-check_keepable-clause-step : goal.returns-in_err-check_keepab
 returns-in_err-check_keepable-clause-step g c =
     let e = err_from_is_err_and c.from_residual.result c.from_residual.ensures.1 in
     keep_refused c.from_residual.result e.0 c.args.self.now c.args.self.now e.1 (idles g.met.D.Disk.left_is_image c.args.self.now)
+
+pub returns-in_err-start-clause-step : goal.returns-in_err-start-clause-step
+returns-in_err-start-clause-step g c =
+    let e = err_from_is_err_and c.from_residual-in_err-start.result c.from_residual-in_err-start.ensures.1 in
+    keep_refused c.from_residual-in_err-start.result e.0 c.args.self.now c.args.self.now e.1 (idles g.met.D.Disk.left_is_image c.args.self.now)
+
+pub invariant_of-self-clause-on_disk : goal.invariant_of-self-clause-on_disk
+invariant_of-self-clause-on_disk g c =
+    begun_on_disk c.keep.new.self c.in_ok-start.start c.clear.new.self.items c.in_ok-keep.ensures.all.ready c.in_ok-keep.ensures.kept
+    (c.in_ok-start.ensures ∙ sym c.keep.ensures.all.table)

@@ -15,9 +15,9 @@ invariant_of-result c =
     let symbols = subst (λ (r : Rules). AreSymbols r.symbols) c.deref.ensures (subst (λ (ss : List Symbol). AreSymbols ss) c.symbols-symbols.ensures.symbols c.len-count.ensures.sound) in
     let over : IsTrue (is_over (arc_value c.into_parts-rules.result.0).symbols c.into_parts-rules.result.1) =
     (λ i. is_over (rules i).symbols (config i)) ∙ c.into_parts-rules.ensures.sound in
-    let is = IsJob-of_parts c.args.name _ _ _ c.as_bytes-text.ensures.name symbols sound c.next-next.ensures.sound over
+    let is = IsJob-of_parts c.args.name _ _ _ c.args.budget c.as_bytes-text.ensures.name symbols sound c.next-next.ensures.sound over c.is_within-none.ensures.sound
     (c.open_state-state.ensures ∙ ap (λ (r : Rules). open_state r c.into_parts-rules.result.1) c.deref-2.ensures) in
-    subst (λ (k : Configuration). IsJob (record { name = c.args.name; rules = arc_value c.into_parts-rules.result.0; config = k; rounds = 0; state = c.open_state-state.result }))
+    subst (λ (k : Configuration). IsJob (record { name = c.args.name; rules = arc_value c.into_parts-rules.result.0; config = k; rounds = 0; state = c.open_state-state.result; budget = c.args.budget }))
     (sym c.in_ok-config.ensures.ok) is
 
 pub returns-clause-sound : goal.returns-clause-sound
@@ -28,7 +28,7 @@ returns-clause-sound c =
     let symbols = subst (λ (r : Rules). AreSymbols r.symbols) c.deref.ensures (subst (λ (ss : List Symbol). AreSymbols ss) c.symbols-symbols.ensures.symbols c.len-count.ensures.sound) in
     let over : IsTrue (is_over (arc_value c.into_parts-rules.result.0).symbols c.into_parts-rules.result.1) =
     (λ i. is_over (rules i).symbols (config i)) ∙ c.into_parts-rules.ensures.sound in
-    let is = IsJob-of_parts c.args.name _ _ _ c.as_bytes-text.ensures.name symbols sound c.next-next.ensures.sound over
+    let is = IsJob-of_parts c.args.name _ _ _ c.args.budget c.as_bytes-text.ensures.name symbols sound c.next-next.ensures.sound over c.is_within-none.ensures.sound
     (c.open_state-state.ensures ∙ ap (λ (r : Rules). open_state r c.into_parts-rules.result.1) c.deref-2.ensures) in
-    subst (λ (k : Configuration). IsJob (record { name = c.args.name; rules = arc_value c.into_parts-rules.result.0; config = k; rounds = 0; state = c.open_state-state.result }))
+    subst (λ (k : Configuration). IsJob (record { name = c.args.name; rules = arc_value c.into_parts-rules.result.0; config = k; rounds = 0; state = c.open_state-state.result; budget = c.args.budget }))
     (sym c.in_ok-config.ensures.ok) is

@@ -1,7 +1,7 @@
 use Rattle.std.proofs.Common.{◌≡◌, List, ap, sym, subst, refl, set, ◌∙◌}
 use Rattle.ic_jobs.specs.declared.state.State.TheVariants as state
 use Rattle.ic_jobs.specs.declared.event.Event.TheVariants.{Round}
-use Rattle.ic_jobs.specs.State.{is_done}
+use Rattle.ic_jobs.specs.inner.States.{is_finished}
 use Rattle.ic_jobs.specs.Job.{JobParts, in_state}
 use Rattle.ic_jobs.specs.Table.{IsTable}
 use Rattle.ic_jobs.specs.Events.{apply}
@@ -13,7 +13,7 @@ pub put_state-requires-clause-old : goal.put_state-requires-clause-old
 put_state-requires-clause-old c =
     let a = awaited_at c.deref.ensures.value c.name.ensures.name (c.deref-2.ensures ∙ c.rules.ensures.rules) c.config.ensures.config c.rounds.ensures.rounds
     c.self.invariant.0 c.in-Some.ensures.place (c.in-Some.ensures.awaited.0 refl) c.index_mut.ensures.value in
-    ap (λ (j : JobParts). is_done j.state) a.same ∙ running_open a.found.job.state a.runs
+    ap (λ (j : JobParts). is_finished j.state) a.same ∙ running_open a.found.job.state a.runs
 
 pub invariant_of-self : goal.invariant_of-self
 invariant_of-self c =

@@ -13,8 +13,8 @@ pub returns-then-is_some-clause-event : goal.returns-then-is_some-clause-event
 returns-then-is_some-clause-event c =
     let free : is_some (position_from (is_named c.args.name) 0 c.self.inside.jobs.items) ≡ true =
     ap (λ (l : List JobParts). is_some (position_from (is_named c.args.name) 0 l)) (sym c.deref.ensures.value) ∙ ap is_some (sym c.place_of.ensures.place) ∙ sym c.is_some.ensures ∙ c.if-is_some.true in
-    subst (λ (t : List JobParts). refused t Taken ≡ after_command t (Submit c.args.name c.args.system)) c.self.view_is
-    (submit_taken c.args.name c.args.system c.self.inside.jobs.items free)
+    subst (λ (t : List JobParts). refused t Taken ≡ after_command t (Submit c.args.name c.args.system c.args.budget)) c.self.view_is
+    (submit_taken c.args.name c.args.system c.args.budget c.self.inside.jobs.items free)
 
 pub returns-then-len-ge-MAX_JOBS-clause-event : goal.returns-then-len-ge-MAX_JOBS-clause-event
 returns-then-len-ge-MAX_JOBS-clause-event c =
@@ -22,8 +22,8 @@ returns-then-len-ge-MAX_JOBS-clause-event c =
     ap (λ (l : List JobParts). is_some (position_from (is_named c.args.name) 0 l)) (sym c.deref.ensures.value) ∙ ap is_some (sym c.place_of.ensures.place) ∙ sym c.is_some.ensures ∙ c.if-is_some.false in
     let many : MAX_JOBS ≤ length c.self.inside.jobs.items =
     omega (arith, c.if-len-ge-MAX_JOBS.true, c.len.ensures, c.deref.ensures.len, ap length c.deref.ensures.value) in
-    subst (λ (t : List JobParts). refused t Full ≡ after_command t (Submit c.args.name c.args.system)) c.self.view_is
-    (submit_full c.args.name c.args.system c.self.inside.jobs.items free many)
+    subst (λ (t : List JobParts). refused t Full ≡ after_command t (Submit c.args.name c.args.system c.args.budget)) c.self.view_is
+    (submit_full c.args.name c.args.system c.args.budget c.self.inside.jobs.items free many)
 
 pub invariant_of-self-2 : goal.invariant_of-self-2
 invariant_of-self-2 c =
@@ -31,7 +31,7 @@ invariant_of-self-2 c =
     ap (λ (l : List JobParts). is_some (position_from (is_named c.args.name) 0 l)) (sym c.deref.ensures.value) ∙ ap is_some (sym c.place_of.ensures.place) ∙ sym c.is_some.ensures ∙ c.if-is_some.false in
     let few : length c.self.inside.jobs.items < MAX_JOBS =
     omega (arith, c.if-len-ge-MAX_JOBS.false, c.len.ensures, c.deref.ensures.len, ap length c.deref.ensures.value) in (
-      IsTable-submitted c.args.name c.args.system c.self.inside.jobs.items _ c.self.invariant.0
+      IsTable-submitted c.args.name c.args.system c.args.budget c.self.inside.jobs.items _ c.self.invariant.0
           (subst (λ (j : JobParts). IsJob j) c.in_ok-job.ensures.job c.in_ok-job.ensures.sound) free few
           (c.in_ok-push.ensures.items ∙ ap (λ (j : JobParts). c.self.inside.jobs.items ++ j ∷ []) c.in_ok-job.ensures.job),
       tt,
@@ -43,6 +43,6 @@ returns-clause-event c =
     ap (λ (l : List JobParts). is_some (position_from (is_named c.args.name) 0 l)) (sym c.deref.ensures.value) ∙ ap is_some (sym c.place_of.ensures.place) ∙ sym c.is_some.ensures ∙ c.if-is_some.false in
     let few : length c.self.inside.jobs.items < MAX_JOBS =
     omega (arith, c.if-len-ge-MAX_JOBS.false, c.len.ensures, c.deref.ensures.len, ap length c.deref.ensures.value) in
-    submit_done c.args.name c.args.system c.self.inside.jobs.items _ free few
+    submit_done c.args.name c.args.system c.args.budget c.self.inside.jobs.items _ free few
     (c.in_ok-push.ensures.items ∙ ap (λ (j : JobParts). c.self.inside.jobs.items ++ j ∷ []) c.in_ok-job.ensures.job)
-    ∙ ap (λ (t : List JobParts). after_command t (Submit c.args.name c.args.system)) c.self.view_is
+    ∙ ap (λ (t : List JobParts). after_command t (Submit c.args.name c.args.system c.args.budget)) c.self.view_is
