@@ -11,10 +11,16 @@
 //!   terms and equations it has to be told the same.
 //! - `fires SYSTEM`, `fires_from NEXT SYSTEM`: `next` and the text once all active equations have fired, which settles to
 //!   what a round of terms and equations gives.
+//! - `settle CONFIGURATION`, `once SYSTEM`, `once_from NEXT SYSTEM`, `rounds COUNT SYSTEM`, `rounds_end COUNT SYSTEM`,
+//!   `lasts COUNT SYSTEM`: what settling and rounds make, if all bodies make the same: the text, or why there is none; `next`
+//!   and the text after each of so many rounds; after how many the configuration is quiet; how many there are.
+//! - `drawn`: whether all bodies agree on 2,000 systems that look drawn by chance.
 
 use crate::configurations::{are_over, are_same, read_back, words};
+use crate::drawn::bodies_agree;
+use crate::rounds::{Question, settles, told};
 use crate::systems::{fires, tests};
-use crate::words::{ends, made, number};
+use crate::words::{count, ends, made, number};
 use ic_notation::{Answers, Row, Trouble, expanded};
 use std::alloc::Global;
 
@@ -50,6 +56,13 @@ impl Answers for Kinds {
             "ends" => ends(alloc, &expanded(alloc, row.text)?),
             "fires" => fires(alloc, None, row.text),
             "fires_from" => fires(alloc, Some(number(first)?), rest),
+            "drawn" => bodies_agree(alloc),
+            "settle" => settles(alloc, row.text),
+            "once" => told(alloc, Question::One, None, row.text),
+            "once_from" => told(alloc, Question::One, Some(number(first)?), rest),
+            "rounds" => told(alloc, Question::Each(count(first)?), None, rest),
+            "rounds_end" => told(alloc, Question::End(count(first)?), None, rest),
+            "lasts" => told(alloc, Question::Last(count(first)?), None, rest),
             "tests" => tests(alloc, None, row.text),
             "tests_from" => tests(alloc, Some(number(first)?), rest),
             _ => Err(Trouble("no such kind")),

@@ -3,6 +3,8 @@
 
 mod answers;
 mod configurations;
+mod drawn;
+mod rounds;
 mod systems;
 mod words;
 

@@ -9,8 +9,12 @@ use ic_settle::settle;
 use ic_term::Config;
 use std::alloc::Global;
 
-/// The same configuration with another `next`.
-fn begun_at(alloc: Global, flat: Flat, next: u64) -> Result<Flat, Trouble> {
+/// A configuration in flat form, with this `next` or its own.
+pub fn begun(alloc: Global, config: &Config, next: Option<u64>) -> Result<Flat, Trouble> {
+    let flat = Flat::from_config(alloc, config)?;
+    let Some(next) = next else {
+        return Ok(flat);
+    };
     let (words, terms, equations, _) = flat.into_parts();
     match Flat::restore(alloc, words, terms, equations, next) {
         Ok(flat) => Ok(flat),
@@ -35,11 +39,7 @@ fn tested(alloc: Global, rules: &RuleSet, flat: &Flat) -> Result<(bool, bool), T
 /// Whether the configuration of a system, with this `next` or its own, fits and is quiet.
 pub fn tests(alloc: Global, next: Option<u64>, text: &str) -> Result<Vec<u8>, Trouble> {
     let (rules, config) = system_of(alloc, &expanded(alloc, text)?)?.into_parts();
-    let own = Flat::from_config(alloc, &config)?;
-    let flat = match next {
-        Some(next) => begun_at(alloc, own, next)?,
-        None => own,
-    };
+    let flat = begun(alloc, &config, next)?;
     let line = match tested(alloc, &rules, &flat)? {
         (true, true) => "fits, quiet",
         (true, false) => "fits, goes on",
@@ -85,11 +85,7 @@ fn is_round(
 /// equations comes to the same.
 pub fn fires(alloc: Global, next: Option<u64>, text: &str) -> Result<Vec<u8>, Trouble> {
     let (rules, config) = system_of(alloc, &expanded(alloc, text)?)?.into_parts();
-    let own = Flat::from_config(alloc, &config)?;
-    let flat = match next {
-        Some(next) => begun_at(alloc, own, next)?,
-        None => own,
-    };
+    let flat = begun(alloc, &config, next)?;
     let rules = FlatRules::new(alloc, rules)?;
     let answer = fired_of(alloc, &rules, &flat)?;
     if !is_round(alloc, rules.rules(), flat.to_config(alloc)?, &answer)? {

@@ -13,6 +13,14 @@ pub fn number(text: &str) -> Result<u64, Trouble> {
     }
 }
 
+/// A number of rounds.
+pub fn count(text: &str) -> Result<u32, Trouble> {
+    match u32::from_str_radix(text, 10) {
+        Ok(count) => Ok(count),
+        Err(_) => Err(Trouble("no number")),
+    }
+}
+
 fn word_of(text: &str) -> Result<Word, Trouble> {
     match text.split_once('/') {
         None => Ok(Word::Name(number(text)?)),
