@@ -5,10 +5,10 @@ ghost use Rattle.std.specs.List.{flat_map};
 ghost use Rattle.indexmap.specs.IndexMap.{get};
 ghost use Rattle.ic_settle.specs.lemmas.Containers.{IsLinked, IsRoot, AreUnlinkedFrom, AreKnown, IsChosen, noted, noted_in, noted_equations, noted_from, elsewhere};
 ghost use Rattle.ic_flat.specs.Words.{IsWhole, word_names};
-ghost use Rattle.ic_flat_round.specs.inner.Standing.{pairs_at, AreInTwos};
+ghost use Rattle.ic_flat_round.specs.inner.Standing.{pairs_at, AreInTwos, IsEquationsPlace};
 ghost use Rattle.ic_flat_round.specs.inner.Heads.{head, heads, told_at, told, IsTarget};
 
-use crate::places::{equations_place, sides_at};
+use crate::places::sides_at;
 use ic_flat::{Flat, Word};
 use ic_settle::{Applicable, Side};
 use indexmap::IndexMap;
@@ -174,8 +174,10 @@ impl Containers {
         }
     }
 
-    /// Makes each equation and the interface a container of its own. Keeps the memory of those before.
-    pub fn refill(&mut self, flat: &Flat) -> Result<(), AllocError>
+    /// Makes each equation and the interface a container of its own, where the equations begin at this place. Keeps the
+    /// memory of those before.
+    pub fn refill(&mut self, flat: &Flat, from: usize) -> Result<(), AllocError>
+        requires { IsEquationsPlace flat.now from }
         ensures length { OnOk result (length self.new.links.items ≡ length flat.now.equations + 1) }
         ensures own { OnOk result ((e : ℕ) → e < length flat.now.equations + 1
             → slice_index self.new.links.items e ≡ e) }
@@ -184,7 +186,6 @@ impl Containers {
     {
         let words = flat.words();
         let count = flat.equations_len();
-        let from = equations_place(flat);
         self.places.clear();
         self.places.reserve(count)?;
         note_equations(&mut self.places, words, from)?;

@@ -11,7 +11,7 @@ ghost use Rattle.ic_round.specs.Rounds.{unless_unfit};
 ghost use Rattle.ic_round.specs.RoundAnswers.{Answers};
 ghost use Rattle.ic_flat_round.specs.inner.Room.{HasRoom, Appended};
 ghost use Rattle.ic_flat_round.specs.inner.RuleWords.{pairs_words};
-ghost use Rattle.ic_flat_round.specs.inner.Standing.{pair_at, pairs_at, AreSides, AreInTwos};
+ghost use Rattle.ic_flat_round.specs.inner.Standing.{pair_at, pairs_at, AreSides, AreInTwos, IsEquationsPlace};
 
 use crate::firing::{put_copied, put_interaction};
 use crate::flat_rules::FlatRules;
@@ -81,16 +81,16 @@ fn put_equations(
     next
 }
 
-/// Appends a configuration with all its active equations fired, and tells its `next`.
-fn put_configuration(rules: &FlatRules, flat: &Flat, out: &mut Vec<Word>) -> u64
+/// Appends a configuration, whose equations begin at this place, with all the active ones fired, and tells its `next`.
+fn put_configuration(rules: &FlatRules, flat: &Flat, place: usize, out: &mut Vec<Word>) -> u64
     requires over { IsTrue (is_over rules.now.symbols flat.now) }
+    requires place { IsEquationsPlace flat.now place }
     requires low { (fired rules.now.rules flat.now).next ≤ MAX_NEXT }
     requires room { HasRoom out.old (configuration_words (fired rules.now.rules flat.now)) }
     ensures next { result ≡ (fired rules.now.rules flat.now).next }
     ensures put { Appended out.old out.new (configuration_words (fired rules.now.rules flat.now)) }
 {
     let words = flat.words();
-    let place = equations_place(flat);
     put_copied(&words[..place], out);
     put_equations(rules, words, place, flat.next(), out)
 }
@@ -107,7 +107,8 @@ pub(crate) fn fire_onto(
         (unless_unfit rules.now.rules flat.now (fired rules.now.rules flat.now)) }
     ensures over { IfOk result (λ after. IsTrue (is_over rules.now.symbols after)) }
 {
-    let size = fired_size(rules.rules(), flat);
+    let place = equations_place(flat);
+    let size = fired_size(rules.rules(), flat, place);
     if size.nodes > MAX_NODES {
         return Err(RoundFault::Overgrown);
     }
@@ -116,7 +117,7 @@ pub(crate) fn fire_onto(
     }
     words.clear();
     words.reserve(size.nodes as usize)?;
-    let next = put_configuration(rules, flat, &mut words);
+    let next = put_configuration(rules, flat, place, &mut words);
     let terms = flat.interface_len();
     let equations = equations_in(&words, terms);
     Ok(Flat::from_parts(words, terms, equations, next))

@@ -8,9 +8,9 @@ ghost use Rattle.ic_term.specs.Configuration.{configuration_nodes};
 ghost use Rattle.ic_rules.specs.RuleSet.{IsRuleSet};
 ghost use Rattle.ic_round.specs.Firing.{rule_of_sides, names_taken, fired};
 ghost use Rattle.ic_round.specs.lemmas.Sizes.{fired_nodes};
-ghost use Rattle.ic_flat_round.specs.inner.Standing.{tree_at, pair_at, AreSides};
+ghost use Rattle.ic_flat_round.specs.inner.Standing.{tree_at, pair_at, AreSides, IsEquationsPlace};
 
-use crate::places::{Sides, equations_place, sides_at};
+use crate::places::{Sides, sides_at};
 use ic_flat::{Flat, Word};
 use ic_rules::RuleSet;
 use ic_term::nodes_of_terms;
@@ -63,16 +63,17 @@ fn fired_size_of(rules: &RuleSet, words: &[Word], sides: Sides) -> Size
     }
 }
 
-/// The nodes of a configuration once its active equations have fired, and its `next` then. Takes
-/// time linear in the nodes and in those of the rules that fire.
-pub(crate) fn fired_size(rules: &RuleSet, flat: &Flat) -> Size
-    requires { IsTrue (is_over rules.now.symbols flat.now) }
+/// The nodes of a configuration once its active equations have fired, and its `next` then, where the equations begin at
+/// this place. Takes time linear in the nodes and in those of the rules that fire.
+pub(crate) fn fired_size(rules: &RuleSet, flat: &Flat, place: usize) -> Size
+    requires over { IsTrue (is_over rules.now.symbols flat.now) }
+    requires place { IsEquationsPlace flat.now place }
     ensures nodes { result.nodes
         ≡ min (configuration_nodes (fired rules.now.rules flat.now)) u64.MAX }
     ensures names { result.names ≡ min (fired rules.now.rules flat.now).next u64.MAX }
 {
     let words = flat.words();
-    let mut place = equations_place(flat);
+    let mut place = place;
     let mut nodes = place as u64;
     let mut names = flat.next();
     while place < words.len() {

@@ -38,12 +38,12 @@ pub(crate) fn pass(
 {
     let words = flat.words();
     let count = flat.equations_len();
-    containers.refill(flat)?;
+    let mut place = equations_place(flat);
+    containers.refill(flat, place)?;
     bound.clear();
     bound.reserve(count)?;
     kept.clear();
     kept.reserve(count)?;
-    let mut place = equations_place(flat);
     let mut number = 0;
     while place < words.len() {
         let sides = sides_at(words, place);

@@ -1,10 +1,8 @@
 //! Where equations and their sides stand among words.
 
-ghost use Rattle.std.specs.Prelude.{◌≡◌, ◌∷◌, ◌<◌, ◌≤◌, length, drop, sum_by};
-ghost use Rattle.ic_term.specs.Tree.{nodes};
+ghost use Rattle.std.specs.Prelude.{◌≡◌, ◌∷◌, ◌<◌, ◌≤◌, length, drop};
 ghost use Rattle.ic_flat.specs.Words.{forest, IsWhole};
-ghost use Rattle.ic_flat.specs.Flat.{configuration_words, sides};
-ghost use Rattle.ic_flat_round.specs.inner.Standing.{pair_at, pairs_at, AreSides, AreInTwos};
+ghost use Rattle.ic_flat_round.specs.inner.Standing.{pair_at, pairs_at, AreSides, AreInTwos, IsEquationsPlace};
 
 use ic_flat::{Flat, Word, end_of_term};
 
@@ -18,10 +16,7 @@ pub(crate) struct Sides {
 
 /// The place behind the interface, where the equations begin.
 pub(crate) fn equations_place(flat: &Flat) -> usize
-    ensures within { result ≤ length (configuration_words flat.now) }
-    ensures equations { forest (drop result (configuration_words flat.now))
-        ≡ sides flat.now.equations }
-    ensures nodes { result ≡ sum_by nodes flat.now.interface }
+    ensures { IsEquationsPlace flat.now result }
 {
     end_of_terms(flat.words(), flat.interface_len())
 }

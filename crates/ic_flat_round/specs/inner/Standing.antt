@@ -1,9 +1,10 @@
 -- For private functions: terms and equations that stand at places among words.
-use Rattle.std.specs.Prelude.{◌≡◌, ℕ, ◌<◌, ◌≤◌, ◌*◌, List, [], ◌∷◌, length, drop}
-use Rattle.ic_term.specs.Tree.{Tree, name, Pair}
+use Rattle.std.specs.Prelude.{◌≡◌, ℕ, ◌<◌, ◌≤◌, ◌*◌, List, [], ◌∷◌, length, drop, sum_by}
+use Rattle.ic_term.specs.Tree.{Tree, name, Pair, nodes}
+use Rattle.ic_term.specs.Configuration.{Configuration}
 use Rattle.ic_flat.specs.declared.word.Word.{Word}
 use Rattle.ic_flat.specs.Words.{forest}
-use Rattle.ic_flat.specs.Flat.{pairs_of}
+use Rattle.ic_flat.specs.Flat.{pairs_of, configuration_words, sides}
 use Rattle.ic_flat_round.specs.declared.places.Sides.{Sides}
 
 -- the first of terms, and the name 0 where there is none
@@ -32,6 +33,12 @@ pub record IsTermAt (ws : List Word) (place end : ℕ) : Type 0 where
   pub before : place < end
   pub within : end ≤ length ws
   pub terms : forest (drop place ws) ≡ tree_at ws place ∷ forest (drop end ws)
+
+-- the place behind the interface of a configuration, where its equations begin
+pub record IsEquationsPlace (c : Configuration) (place : ℕ) : Type 0 where
+  pub within : place ≤ length (configuration_words c)
+  pub equations : forest (drop place (configuration_words c)) ≡ sides c.equations
+  pub nodes : place ≡ sum_by nodes c.interface
 
 -- two sides stand one behind the other
 pub record AreSides (ws : List Word) (s : Sides) : Type 0 where

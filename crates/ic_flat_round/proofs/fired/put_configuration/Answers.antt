@@ -17,14 +17,14 @@ pub put_copied-requires : goal.put_copied-requires
 put_copied-requires c =
     let flat = c.args.flat.now in
     let rs = c.args.rules.now.rules in
-    let start = c.equations_place-place.ensures in
+    let start = c.requires.place in
     let front = flat_map tree_words flat.interface in
     let back = pairs_words (fired_from rs flat.next flat.equations) in
     let room = c.requires.room in
     omega (
       arith,
       room,
-      ap length (interface_words flat c.words-words.result.now c.equations_place-place.result c.words-words.ensures.words start.within start.equations),
+      ap length (interface_words flat c.words-words.result.now c.args.place c.words-words.ensures.words start.within start.equations),
       ap length (fired_configuration rs flat),
       length-append front back,
     )
@@ -33,11 +33,11 @@ pub put_equations-requires-clause-whole : goal.put_equations-requires-clause-who
 put_equations-requires-clause-whole c = whole_words c.args.flat.now c.words-words.result.now c.words-words.ensures.words
 
 pub put_equations-requires-clause-twos : goal.put_equations-requires-clause-twos
-put_equations-requires-clause-twos c = twos_start c.args.flat.now c.words-words.result.now c.equations_place-place.result c.words-words.ensures.words c.equations_place-place.ensures.equations
+put_equations-requires-clause-twos c = twos_start c.args.flat.now c.words-words.result.now c.args.place c.words-words.ensures.words c.requires.place.equations
 
 pub put_equations-requires-clause-over : goal.put_equations-requires-clause-over
 put_equations-requires-clause-over c =
-    let same_equations = pairs_start c.args.flat.now c.words-words.result.now c.equations_place-place.result c.words-words.ensures.words c.equations_place-place.ensures.equations in
+    let same_equations = pairs_start c.args.flat.now c.words-words.result.now c.args.place c.words-words.ensures.words c.requires.place.equations in
     let ss = c.args.rules.now.symbols in
     let flat = c.args.flat.now in
     ap (list_all (is_pair_over ss)) same_equations
@@ -45,19 +45,19 @@ put_equations-requires-clause-over c =
 
 pub put_equations-requires-clause-low : goal.put_equations-requires-clause-low
 put_equations-requires-clause-low c =
-    let same_equations = pairs_start c.args.flat.now c.words-words.result.now c.equations_place-place.result c.words-words.ensures.words c.equations_place-place.ensures.equations in
+    let same_equations = pairs_start c.args.flat.now c.words-words.result.now c.args.place c.words-words.ensures.words c.requires.place.equations in
     let rs = c.args.rules.now.rules in
-    let same : next_behind rs c.next.result (pairs_at c.words-words.result.now c.equations_place-place.result) ≡ next_behind rs c.args.flat.now.next c.args.flat.now.equations =
+    let same : next_behind rs c.next.result (pairs_at c.words-words.result.now c.args.place) ≡ next_behind rs c.args.flat.now.next c.args.flat.now.equations =
     λ i. next_behind rs (c.next.ensures.next i) (same_equations i) in
     let low = c.requires.low in
     omega (arith, low, same)
 
 pub put_equations-requires-clause-room : goal.put_equations-requires-clause-room
 put_equations-requires-clause-room c =
-    let same_equations = pairs_start c.args.flat.now c.words-words.result.now c.equations_place-place.result c.words-words.ensures.words c.equations_place-place.ensures.equations in
+    let same_equations = pairs_start c.args.flat.now c.words-words.result.now c.args.place c.words-words.ensures.words c.requires.place.equations in
     let flat = c.args.flat.now in
     let rs = c.args.rules.now.rules in
-    let start = c.equations_place-place.ensures in
+    let start = c.requires.place in
     let front = flat_map tree_words flat.interface in
     let back = pairs_words (fired_from rs flat.next flat.equations) in
     let room = c.requires.room in
@@ -68,7 +68,7 @@ put_equations-requires-clause-room c =
       room,
       len,
       capacity,
-      ap length (interface_words flat c.words-words.result.now c.equations_place-place.result c.words-words.ensures.words start.within start.equations),
+      ap length (interface_words flat c.words-words.result.now c.args.place c.words-words.ensures.words start.within start.equations),
       ap length (fired_configuration rs flat),
       length-append front back,
       ap length (λ i. pairs_words (fired_from c.args.rules.now.rules (c.next.ensures.next i) (same_equations i))),
@@ -76,22 +76,22 @@ put_equations-requires-clause-room c =
 
 pub returns-clause-next : goal.returns-clause-next
 returns-clause-next c =
-    let same_equations = pairs_start c.args.flat.now c.words-words.result.now c.equations_place-place.result c.words-words.ensures.words c.equations_place-place.ensures.equations in
+    let same_equations = pairs_start c.args.flat.now c.words-words.result.now c.args.place c.words-words.ensures.words c.requires.place.equations in
     let rs = c.args.rules.now.rules in
     c.put_equations.ensures.next ∙ (λ i. next_behind rs (c.next.ensures.next i) (same_equations i))
 
 pub returns-clause-put : goal.returns-clause-put
 returns-clause-put c =
-    let same_equations = pairs_start c.args.flat.now c.words-words.result.now c.equations_place-place.result c.words-words.ensures.words c.equations_place-place.ensures.equations in
+    let same_equations = pairs_start c.args.flat.now c.words-words.result.now c.args.place c.words-words.ensures.words c.requires.place.equations in
     let flat = c.args.flat.now in
     let rs = c.args.rules.now.rules in
-    let start = c.equations_place-place.ensures in
+    let start = c.requires.place in
     let front = flat_map tree_words flat.interface in
     let back = pairs_words (fired_from rs flat.next flat.equations) in
     let out = c.args.out.now in
     let half = c.put_copied.new.out in
     let new = c.put_equations.new.out in
     let a = subst (λ (l : List Word). Appended out half l)
-    (interface_words flat c.words-words.result.now c.equations_place-place.result c.words-words.ensures.words start.within start.equations) c.put_copied.ensures in
+    (interface_words flat c.words-words.result.now c.args.place c.words-words.ensures.words start.within start.equations) c.put_copied.ensures in
     let b = subst (λ (l : List Word). Appended half new l) (λ i. pairs_words (fired_from c.args.rules.now.rules (c.next.ensures.next i) (same_equations i))) c.put_equations.ensures.put in
     subst (λ (l : List Word). Appended out new l) (sym (fired_configuration rs flat)) (appended-both out half new front back a b)

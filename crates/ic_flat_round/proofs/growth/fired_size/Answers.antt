@@ -8,15 +8,15 @@ pub loop-place-init : goal.loop-place-init
 loop-place-init c =
     let flat = c.args.flat.now in
     let ws = c.words-words.result.now in
-    let place = c.equations_place-place.result in
-    let start = c.equations_place-place.ensures in
+    let place = c.args.place in
+    let start = c.requires.place in
     let is = c.words-words.ensures.words in
     let sound = c.words-words.ensures.sound in
     let few = sound.nodes in
     let count = start.nodes in
     record {
       size =
-          size-start c.args.rules.now flat flat.interface (pairs_at ws place) _ _ refl (pairs_start flat ws place is start.equations) sound c.requires
+          size-start c.args.rules.now flat flat.interface (pairs_at ws place) _ _ refl (pairs_start flat ws place is start.equations) sound c.requires.over
           (omega (arith, few, count)) c.next-names.ensures.next;
       twos = twos_start flat ws place is start.equations;
       within = within_start flat ws place is start.within;

@@ -7,11 +7,11 @@ end_of_terms-requires-clause-whole c = whole_words c.args.flat.now c.words.resul
 pub end_of_terms-requires-clause-there : goal.end_of_terms-requires-clause-there
 end_of_terms-requires-clause-there c = interface_there c.args.flat.now c.words.result.now c.interface_len.result c.words.ensures.words c.interface_len.ensures.terms
 
-pub returns-clause-equations : goal.returns-clause-equations
-returns-clause-equations c =
-    equations_behind c.args.flat.now c.words.result.now c.interface_len.result c.end_of_terms.result c.words.ensures.words c.interface_len.ensures.terms c.end_of_terms.ensures.rest
-
-pub returns-clause-nodes : goal.returns-clause-nodes
-returns-clause-nodes c =
-    interface_nodes c.args.flat.now c.end_of_terms.result (rw (← c.words.ensures.words) c.end_of_terms.ensures.within)
-    (equations_behind c.args.flat.now c.words.result.now c.interface_len.result c.end_of_terms.result c.words.ensures.words c.interface_len.ensures.terms c.end_of_terms.ensures.rest)
+pub returns : goal.returns
+returns c =
+    let behind = equations_behind c.args.flat.now c.words.result.now c.interface_len.result c.end_of_terms.result c.words.ensures.words c.interface_len.ensures.terms c.end_of_terms.ensures.rest in
+    record {
+      within = rw (← c.words.ensures.words) c.end_of_terms.ensures.within;
+      equations = behind;
+      nodes = interface_nodes c.args.flat.now c.end_of_terms.result (rw (← c.words.ensures.words) c.end_of_terms.ensures.within) behind;
+    }

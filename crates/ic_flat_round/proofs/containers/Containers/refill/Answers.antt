@@ -13,10 +13,10 @@ pub note_equations-requires-clause-whole : goal.note_equations-requires-clause-w
 note_equations-requires-clause-whole c = whole_words c.args.flat.now c.words-words.result.now c.words-words.ensures.words
 
 pub note_equations-requires-clause-within : goal.note_equations-requires-clause-within
-note_equations-requires-clause-within c = within_start c.args.flat.now c.words-words.result.now c.equations_place-from.result c.words-words.ensures.words c.equations_place-from.ensures.within
+note_equations-requires-clause-within c = within_start c.args.flat.now c.words-words.result.now c.args.from c.words-words.ensures.words c.requires.within
 
 pub note_equations-requires-clause-twos : goal.note_equations-requires-clause-twos
-note_equations-requires-clause-twos c = twos_start c.args.flat.now c.words-words.result.now c.equations_place-from.result c.words-words.ensures.words c.equations_place-from.ensures.equations
+note_equations-requires-clause-twos c = twos_start c.args.flat.now c.words-words.result.now c.args.from c.words-words.ensures.words c.requires.equations
 
 pub overflow_add-count : goal.overflow_add-count
 overflow_add-count c =
@@ -27,11 +27,11 @@ pub returns-clause-places : goal.returns-clause-places
 returns-clause-places c = λ y.
     let flat = c.args.flat.now in
     let ws = c.words-words.result.now in
-    let start = c.equations_place-from.ensures in
+    let start = c.requires in
     let n = c.equations_len-count.result in
     let count : n ≡ 0 + length flat.equations = omega (arith, c.equations_len-count.ensures.equations) in
-    let pairs = pairs_start flat ws c.equations_place-from.result c.words-words.ensures.words start.equations in
-    let names_is = names-interface flat ws c.equations_place-from.result c.words-words.ensures.words start.within start.equations in
+    let pairs = pairs_start flat ws c.args.from c.words-words.ensures.words start.equations in
+    let names_is = names-interface flat ws c.args.from c.words-words.ensures.words start.within start.equations in
     c.in_ok-note_words.ensures y
     ∙ ap (λ l. noted_in y n l (lookup (nat_eq y) c.note_equations.new.places.entries)) names_is
     ∙ ap (noted_in y n (flat_map names flat.interface))
