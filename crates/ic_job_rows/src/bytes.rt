@@ -35,12 +35,16 @@ fn are_of(alloc: Global, bytes: &[u8], table: &Table) -> Result<bool, Trouble> {
 /// none.
 pub fn table_of(alloc: Global, text: &[u8]) -> Result<Vec<u8>, Trouble> {
     let bytes = bytes_of(alloc, text)?;
-    let mut table = match decode(alloc, &bytes) {
-        Ok(table) => table,
-        Err(CodecFault::NotATable) => return Ok(Vec::from_slice(alloc, b"not a table")?),
-        Err(CodecFault::Memory) => return Err(Trouble("no memory")),
-    };
-    if !are_of(alloc, &bytes, &table)? {
+    match decode(alloc, &bytes) {
+        Ok(mut table) => listed(alloc, &bytes, &mut table),
+        Err(CodecFault::NotATable) => Ok(Vec::from_slice(alloc, b"not a table")?),
+        Err(CodecFault::Memory) => Err(Trouble("no memory")),
+    }
+}
+
+/// The jobs of a table of which these are to be the bytes.
+fn listed(alloc: Global, bytes: &[u8], table: &mut Table) -> Result<Vec<u8>, Trouble> {
+    if !are_of(alloc, bytes, table)? {
         return Err(Trouble("another byte form"));
     }
     let reply = table.apply(Command::List)?;

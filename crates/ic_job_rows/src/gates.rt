@@ -1,11 +1,11 @@
 //! Gates that see which places pass them, and how many works are in them at once.
 
-use crate::pool::{WORKERS, flight_of};
-use ic_notation::{Trouble, decimal, expanded, printed, system_of};
-use ic_pool::{Flight, Gate, play};
+use crate::pool::{WORKERS, first_flight};
+use ic_notation::{Trouble, decimal, expanded, printed};
+use ic_pool::{Flight, Gate, Played, play};
 use std::alloc::{AllocError, Global};
+use std::sync::Wait;
 use std::sync::atomic::{AtomicBool, AtomicU64, Ordering};
-use std::sync::{Arc, Wait};
 use std::thread::{self, Threads};
 use std::time::{Clock, Duration};
 
@@ -91,11 +91,19 @@ fn passed_by<R: Threads + Wait>(
 
 /// Which places pass in the round of a system, each once: the same by each number of workers.
 pub fn passed<R: Threads + Wait>(rt: &R, alloc: Global, text: &[u8]) -> Result<Vec<u8>, Trouble> {
-    let (rules, config) = system_of(alloc, text)?.into_parts();
-    let flight = flight_of(rules, Arc::new(alloc, config)?, 0)?;
-    let line = passed_by(rt, alloc, &flight, 1)?;
+    let flight = first_flight(alloc, text)?;
+    passed_by_any(rt, alloc, &flight)
+}
+
+/// Which places pass in a flight's round, the same by each number of workers.
+fn passed_by_any<R: Threads + Wait>(
+    rt: &R,
+    alloc: Global,
+    flight: &Flight,
+) -> Result<Vec<u8>, Trouble> {
+    let line = passed_by(rt, alloc, flight, 1)?;
     for workers in WORKERS {
-        if passed_by(rt, alloc, &flight, *workers)?.as_slice() != line.as_slice() {
+        if passed_by(rt, alloc, flight, *workers)?.as_slice() != line.as_slice() {
             return Err(Trouble("other places pass by other workers"));
         }
     }
@@ -126,6 +134,18 @@ impl<'a, R> Meeting<'a, R> {
             begun: AtomicU64::new(0),
             missed: AtomicBool::new(false),
         }
+    }
+
+    /// Which places have passed, and how many were in the gate at once.
+    fn told(&self, alloc: Global) -> Result<Vec<u8>, Trouble> {
+        if self.missed.load(Ordering::SeqCst) {
+            return Err(Trouble("a wait ran out"));
+        }
+        let mut line = ranges(alloc, &self.counters.passed(alloc)?)?;
+        line.extend_from_slice(b"; ")?;
+        decimal(&mut line, self.most.load(Ordering::SeqCst))?;
+        line.extend_from_slice(b" at once")?;
+        Ok(line)
     }
 }
 
@@ -166,20 +186,40 @@ pub fn played_at_once<R: Threads + Wait + Clock + Sync>(
 ) -> Result<Vec<u8>, Trouble> {
     let (wanted, text) = text.split_once(' ').unwrap_or(("", text));
     let wanted = u64::from_str_radix(wanted, 10).unwrap_or(0);
-    let (rules, config) = system_of(alloc, &expanded(alloc, text)?)?.into_parts();
-    let counters = Counters::new(alloc, config.equations().len())?;
+    let flight = first_flight(alloc, &expanded(alloc, text)?)?;
+    at_once(rt, alloc, workers as usize, wanted, &flight)
+}
+
+/// What `played_at_once` answers of a flight.
+fn at_once<R: Threads + Wait + Clock + Sync>(
+    rt: &R,
+    alloc: Global,
+    workers: usize,
+    wanted: u64,
+    flight: &Flight,
+) -> Result<Vec<u8>, Trouble> {
+    let counters = Counters::new(alloc, flight.config().equations().len())?;
     let meeting = Meeting::new(rt, counters, wanted);
-    let flight = flight_of(rules, Arc::new(alloc, config)?, 0)?;
-    let Ok(played) = play(rt, alloc, &flight, workers as usize, &meeting) else {
-        return Err(Trouble("a round by workers is refused"));
-    };
-    if meeting.missed.load(Ordering::SeqCst) {
-        return Err(Trouble("a wait ran out"));
+    meet(rt, alloc, workers, flight, &meeting)
+}
+
+/// Plays a flight's round at a meeting, and tells what came of both.
+fn meet<R: Threads + Wait + Clock + Sync>(
+    rt: &R,
+    alloc: Global,
+    workers: usize,
+    flight: &Flight,
+    meeting: &Meeting<'_, R>,
+) -> Result<Vec<u8>, Trouble> {
+    match play(rt, alloc, flight, workers, meeting) {
+        Ok(played) => met(alloc, meeting, &played),
+        Err(_) => Err(Trouble("a round by workers is refused")),
     }
-    let mut line = ranges(alloc, &meeting.counters.passed(alloc)?)?;
+}
+
+fn met<R>(alloc: Global, meeting: &Meeting<'_, R>, played: &Played) -> Result<Vec<u8>, Trouble> {
+    let mut line = meeting.told(alloc)?;
     line.extend_from_slice(b"; ")?;
-    decimal(&mut line, meeting.most.load(Ordering::SeqCst))?;
-    line.extend_from_slice(b" at once; ")?;
     line.append(&mut printed(alloc, played.rules(), played.after())?)?;
     Ok(line)
 }

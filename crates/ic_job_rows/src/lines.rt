@@ -16,13 +16,13 @@ pub fn asked(alloc: Global, text: &[u8]) -> Result<Vec<u8>, Trouble> {
             decimal(&mut line, count)?;
             Ok(line)
         }
-        Ok(Line::Command(command)) => commanded(alloc, command),
+        Ok(Line::Command(command)) => commanded(alloc, &command),
         Err(fault) => Ok(print_fault(alloc, &fault)?),
     }
 }
 
 /// A command in one spelling.
-pub fn commanded(alloc: Global, command: Command) -> Result<Vec<u8>, Trouble> {
+pub fn commanded(alloc: Global, command: &Command) -> Result<Vec<u8>, Trouble> {
     match command {
         Command::Submit(name, system, budget) => submitted(alloc, name, system, budget),
         Command::Pause(name) => about(alloc, b"pause ", name),
@@ -33,7 +33,7 @@ pub fn commanded(alloc: Global, command: Command) -> Result<Vec<u8>, Trouble> {
     }
 }
 
-fn about(alloc: Global, verb: &[u8], name: JobName) -> Result<Vec<u8>, Trouble> {
+fn about(alloc: Global, verb: &[u8], name: &JobName) -> Result<Vec<u8>, Trouble> {
     let mut line = Vec::from_slice(alloc, verb)?;
     line.extend_from_slice(name.as_bytes())?;
     Ok(line)
@@ -41,9 +41,9 @@ fn about(alloc: Global, verb: &[u8], name: JobName) -> Result<Vec<u8>, Trouble> 
 
 fn submitted(
     alloc: Global,
-    name: JobName,
-    system: System,
-    budget: Option<Budget>,
+    name: &JobName,
+    system: &System,
+    budget: &Option<Budget>,
 ) -> Result<Vec<u8>, Trouble> {
     let mut line = about(alloc, b"submit ", name)?;
     line.push(b' ')?;

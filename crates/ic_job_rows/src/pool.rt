@@ -12,14 +12,26 @@ use std::thread::{self, Threads};
 pub const WORKERS: &[usize] = &[1, 2, 3, 7, 64, 200];
 
 /// A flight of a job, where these are the parts of one.
-pub fn flight_of(rules: Arc<RuleSet>, config: Arc<Config>, rounds: u64) -> Result<Flight, Trouble> {
-    let Some(name) = JobName::new(b"p") else {
-        return Err(Trouble("no name"));
-    };
-    if !over(rules.symbols(), &config) || rounds > MAX_ROUNDS {
-        return Err(Trouble("no flight"));
+fn flight_of(rules: Arc<RuleSet>, config: Arc<Config>, rounds: u64) -> Result<Flight, Trouble> {
+    match JobName::new(b"p") {
+        Some(name) if over(rules.symbols(), &config) && rounds <= MAX_ROUNDS => {
+            Ok(Flight::new(0, name, rules, config, rounds))
+        }
+        _ => Err(Trouble("no flight")),
     }
-    Ok(Flight::new(0, name, rules, config, rounds))
+}
+
+/// The flight of a system, with no round behind it.
+pub fn first_flight(alloc: Global, text: &[u8]) -> Result<Flight, Trouble> {
+    let (rules, config) = system_of(alloc, text)?.into_parts();
+    flight_of(rules, Arc::new(alloc, config)?, 0)
+}
+
+/// A configuration with another `next`, in an `Arc`.
+pub fn with_next(alloc: Global, config: Config, next: u64) -> Result<Arc<Config>, Trouble> {
+    let (interface, equations, _) = config.into_parts();
+    let config = Config::restore(alloc, interface, equations, next)?;
+    Ok(Arc::new(alloc, config)?)
 }
 
 /// Whether a round is of this flight: its name, rules, configuration and rounds.
@@ -40,15 +52,40 @@ fn agreed<R: Threads + Wait, G: Gate>(
     let Ok(alone) = play_alone(alloc, flight) else {
         return Err(Trouble("a round is refused"));
     };
+    agree(rt, alloc, flight, gate, alone.after())?;
+    Ok(alone.into_after())
+}
+
+/// Makes sure that this is the configuration after a flight's round by each number of workers.
+fn agree<R: Threads + Wait, G: Gate>(
+    rt: &R,
+    alloc: Global,
+    flight: &Flight,
+    gate: &G,
+    after: &Config,
+) -> Result<(), Trouble> {
     for workers in WORKERS {
         let Ok(played) = play(rt, alloc, flight, *workers, gate) else {
             return Err(Trouble("a round by workers is refused"));
         };
-        if !is_of(&played, flight) || played.after() != alone.after() {
+        if !is_of(&played, flight) || played.after() != after {
             return Err(Trouble("a round by workers is another"));
         }
     }
-    Ok(alone.into_after())
+    Ok(())
+}
+
+/// The configuration after a round of these parts, by any number of workers.
+fn next_of<R: Threads + Wait, G: Gate>(
+    rt: &R,
+    alloc: Global,
+    rules: &Arc<RuleSet>,
+    config: Arc<Config>,
+    rounds: u64,
+    gate: &G,
+) -> Result<Arc<Config>, Trouble> {
+    let flight = flight_of(rules.clone()?, config, rounds)?;
+    agreed(rt, alloc, &flight, gate)
 }
 
 /// The text and `next` after each of so many rounds of a system, by any number of workers.
@@ -59,17 +96,39 @@ pub fn rounds_by_any<R: Threads + Wait>(
     text: &[u8],
 ) -> Result<Vec<u8>, Trouble> {
     let (rules, config) = system_of(alloc, text)?.into_parts();
-    let mut config = Arc::new(alloc, config)?;
+    let start = Arc::new(alloc, config)?;
+    rounds_told(rt, alloc, count, &rules, start)
+}
+
+/// The text and `next` after each of so many rounds of a configuration.
+fn rounds_told<R: Threads + Wait>(
+    rt: &R,
+    alloc: Global,
+    count: u32,
+    rules: &Arc<RuleSet>,
+    start: Arc<Config>,
+) -> Result<Vec<u8>, Trouble> {
     let mut line = Vec::new(alloc);
+    let mut config = start;
     for round in 0..count {
-        let flight = flight_of(rules.clone()?, config, u64::from(round))?;
-        config = agreed(rt, alloc, &flight, &OpenGate)?;
-        line.append(&mut printed(alloc, &rules, &config)?)?;
-        line.push(b' ')?;
-        decimal(&mut line, config.next())?;
-        line.push(b' ')?;
+        config = next_of(rt, alloc, rules, config, u64::from(round), &OpenGate)?;
+        tell(alloc, rules, &config, &mut line)?;
     }
     Ok(line)
+}
+
+/// Adds the text and `next` of a configuration.
+fn tell(
+    alloc: Global,
+    rules: &RuleSet,
+    config: &Config,
+    line: &mut Vec<u8>,
+) -> Result<(), Trouble> {
+    line.append(&mut printed(alloc, rules, config)?)?;
+    line.push(b' ')?;
+    decimal(line, config.next())?;
+    line.push(b' ')?;
+    Ok(())
 }
 
 /// A gate at which workers yield at some places, by a seed.
@@ -101,9 +160,8 @@ pub fn rounds_by_yielding<R: Threads + Wait>(
     let (rules, config) = system_of(alloc, text)?.into_parts();
     let mut config = Arc::new(alloc, config)?;
     for round in 0..count {
-        let flight = flight_of(rules.clone()?, config, u64::from(round))?;
         let seed = u64::from(round);
-        config = agreed(rt, alloc, &flight, &Yielding { seed })?;
+        config = next_of(rt, alloc, &rules, config, seed, &Yielding { seed })?;
     }
     Ok(Vec::from_slice(alloc, b"the same")?)
 }
@@ -113,18 +171,35 @@ pub fn refused<R: Threads + Wait>(rt: &R, alloc: Global, text: &str) -> Result<V
     let (workers, rest) = text.split_once(' ').unwrap_or(("", text));
     let (next, rest) = rest.split_once(' ').unwrap_or(("", rest));
     let (rounds, text) = rest.split_once(' ').unwrap_or(("", rest));
-    let (rules, config) = system_of(alloc, &expanded(alloc, text)?)?.into_parts();
-    let (interface, equations, read) = config.into_parts();
-    let next = u64::from_str_radix(next, 10).unwrap_or(read);
-    let config = Config::restore(alloc, interface, equations, next)?;
-    let flight = flight_of(
-        rules,
-        Arc::new(alloc, config)?,
-        u64::from_str_radix(rounds, 10).unwrap_or(0),
-    )?;
+    let next = u64::from_str_radix(next, 10).ok();
+    let rounds = u64::from_str_radix(rounds, 10).unwrap_or(0);
+    let flight = flight_behind(alloc, &expanded(alloc, text)?, next, rounds)?;
     let workers = usize::from_str_radix(workers, 10).unwrap_or(0);
-    let by_workers = play(rt, alloc, &flight, workers, &OpenGate).err();
-    let alone = play_alone(alloc, &flight).err();
+    refusal(rt, alloc, &flight, workers)
+}
+
+/// The flight of a system with so many rounds behind it, and with this `next`, or with that of the text.
+fn flight_behind(
+    alloc: Global,
+    text: &[u8],
+    next: Option<u64>,
+    rounds: u64,
+) -> Result<Flight, Trouble> {
+    let (rules, config) = system_of(alloc, text)?.into_parts();
+    let next = next.unwrap_or(config.next());
+    let config = with_next(alloc, config, next)?;
+    flight_of(rules, config, rounds)
+}
+
+/// Why there is no round of a flight by so many workers: alone it is refused for the same.
+fn refusal<R: Threads + Wait>(
+    rt: &R,
+    alloc: Global,
+    flight: &Flight,
+    workers: usize,
+) -> Result<Vec<u8>, Trouble> {
+    let by_workers = play(rt, alloc, flight, workers, &OpenGate).err();
+    let alone = play_alone(alloc, flight).err();
     if workers > 0 && by_workers != alone {
         return Err(Trouble("alone another fault comes"));
     }

@@ -11,7 +11,7 @@ use std::alloc::{AllocError, Global};
 pub fn read(alloc: Global, text: &[u8]) -> Result<Vec<u8>, Trouble> {
     let script = with_feeds(alloc, text)?;
     match read_script(alloc, &script) {
-        Ok(commands) => listed(alloc, commands),
+        Ok(commands) => listed(alloc, &commands),
         Err(refusal) => refused(alloc, &refusal),
     }
 }
@@ -26,12 +26,12 @@ fn with_feeds(alloc: Global, text: &[u8]) -> Result<Vec<u8>, AllocError> {
 }
 
 /// The commands in order, with ` ; ` between them.
-fn listed(alloc: Global, commands: Vec<Command>) -> Result<Vec<u8>, Trouble> {
+fn listed(alloc: Global, commands: &[Command]) -> Result<Vec<u8>, Trouble> {
     if commands.is_empty() {
         return Ok(Vec::from_slice(alloc, b"nothing")?);
     }
     let mut line = Vec::new(alloc);
-    for (place, command) in commands.into_iter().enumerate() {
+    for (place, command) in commands.iter().enumerate() {
         if place > 0 {
             line.extend_from_slice(b" ; ")?;
         }
