@@ -12,15 +12,15 @@
 //! - `fused WHEN CALLS`: two clients on a disk that fails at a call, once for each call up to this one, `before` the call
 //!   is made or `after`.
 
-use crate::attending::{Wanted, attended, counted};
-use crate::disks::{changed, unopened};
+use crate::attending::{Asked, Wanted, attended};
+use crate::disks::{changed, new_disk, unopened};
 use crate::drawn::drawn;
 use crate::failing::each_fused;
 use crate::gates::{Meeting, Pair, answered_during_round};
 use crate::served::served;
 use ic_disk::Blow;
 use ic_notation::{Row, Trouble, expanded};
-use ic_pool::OpenGate;
+use ic_pool::{Gate, OpenGate};
 use std::alloc::Global;
 use std::sync::Wait;
 use std::thread::Threads;
@@ -51,40 +51,69 @@ fn answer_text<R: Threads + Wait + Clock + Sync>(
     text: &str,
 ) -> Result<Vec<u8>, Trouble> {
     match kind {
-        "attended" => {
-            let (wanted, scripts) = wanted_of(text);
-            attended(rt, alloc, wanted, scripts, &OpenGate)
-        }
+        "attended" => attended_by(rt, alloc, text, &OpenGate),
         "meeting" => {
             let (count, rest) = number_first(text);
-            let (wanted, scripts) = wanted_of(rest);
-            let meeting = Meeting::new(rt, count as u64);
-            let line = attended(rt, alloc, wanted, scripts, &meeting)?;
-            meeting.kept()?;
-            Ok(line)
+            attended_meeting(rt, alloc, count, rest)
         }
-        "pair" => {
-            let (wanted, scripts) = wanted_of(text);
-            let pair = Pair::new(rt);
-            let line = attended(rt, alloc, wanted, scripts, &pair)?;
-            pair.kept()?;
-            Ok(line)
-        }
+        "pair" => attended_pair(rt, alloc, text),
         "during" => answered_during_round(rt, alloc, text),
         "drawn" => {
             let (seed, rest) = number_first(text);
             drawn(rt, alloc, seed as u64, number_first(rest).0)
         }
-        "counted" => {
-            let (disk, rest) = text.split_once(' ').unwrap_or((text, ""));
-            let (wanted, scripts) = wanted_of(rest);
-            counted(rt, alloc, changed(alloc, disk)?, wanted, scripts)
-        }
+        "counted" => counted(rt, alloc, text),
         "unopened" => unopened(rt, alloc, text),
         "served" => served(rt, alloc, text),
         "fused" => fused_of(rt, alloc, text),
         _ => Err(Trouble("no such kind")),
     }
+}
+
+/// What each client is answered behind a gate, and the jobs that are left.
+fn attended_by<R: Threads + Wait + Sync, G: Gate>(
+    rt: &R,
+    alloc: Global,
+    text: &str,
+    gate: &G,
+) -> Result<Vec<u8>, Trouble> {
+    let (wanted, scripts) = wanted_of(text);
+    let disk = new_disk(alloc)?;
+    attended(rt, alloc, disk, wanted, scripts, gate, Asked::Answers)
+}
+
+fn attended_meeting<R: Threads + Wait + Clock + Sync>(
+    rt: &R,
+    alloc: Global,
+    count: usize,
+    text: &str,
+) -> Result<Vec<u8>, Trouble> {
+    let meeting = Meeting::new(rt, count as u64);
+    let line = attended_by(rt, alloc, text, &meeting)?;
+    meeting.kept()?;
+    Ok(line)
+}
+
+fn attended_pair<R: Threads + Wait + Clock + Sync>(
+    rt: &R,
+    alloc: Global,
+    text: &str,
+) -> Result<Vec<u8>, Trouble> {
+    let pair = Pair::new(rt);
+    let line = attended_by(rt, alloc, text, &pair)?;
+    pair.kept()?;
+    Ok(line)
+}
+
+fn counted<R: Threads + Wait + Sync>(
+    rt: &R,
+    alloc: Global,
+    text: &str,
+) -> Result<Vec<u8>, Trouble> {
+    let (disk, rest) = text.split_once(' ').unwrap_or((text, ""));
+    let (wanted, scripts) = wanted_of(rest);
+    let disk = changed(alloc, disk)?;
+    attended(rt, alloc, disk, wanted, scripts, &OpenGate, Asked::Counts)
 }
 
 /// How a row wants its scripts attended: runners, turns and workers, and then the scripts.

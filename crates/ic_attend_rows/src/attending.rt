@@ -1,15 +1,15 @@
 //! Scripts that are attended, and what is told of it.
 
 use crate::checker::{Past, check};
-use crate::disks::new_disk;
 use crate::scripts::scripts_of;
+use crate::served::left_by_a_book;
 use ic_attend::{AttendFault, Attended, ClientRun, RunnerEnd, attend};
 use ic_commands::print_reply;
 use ic_desk::BookFault;
 use ic_disk::{Disk, MemDisk};
 use ic_jobs::{Command, Job, State, Table};
 use ic_notation::{Trouble, decimal, printed};
-use ic_pool::{Gate, OpenGate};
+use ic_pool::Gate;
 use std::alloc::Global;
 use std::sync::Wait;
 use std::thread::Threads;
@@ -20,6 +20,20 @@ pub struct Wanted {
     pub runners: usize,
     pub turns: usize,
     pub workers: usize,
+}
+
+/// What is asked of a history.
+#[derive(Clone, Copy)]
+pub enum Asked<'a> {
+    /// Nothing but that it is one.
+    Nothing,
+    /// What each client is answered, and the jobs that are left: a job that runs without its rounds, which differ from run
+    /// to run.
+    Answers,
+    /// How many answers each client has, and why it ended.
+    Counts,
+    /// That this script, given to a book, leaves the same table.
+    ByABook(&'a str),
 }
 
 /// Scripts attended on a disk. Nothing where the disk wasn't opened.
@@ -52,7 +66,7 @@ fn no_history<D: Disk, T>(fault: &AttendFault<D>) -> Result<Option<T>, Trouble> 
     }
 }
 
-/// Scripts attended on a disk, and the history looked over.
+/// Scripts attended on a disk, the history looked over, and what is asked of it.
 pub fn attended_after<R: Threads + Wait + Sync, G: Gate>(
     rt: &R,
     alloc: Global,
@@ -60,12 +74,12 @@ pub fn attended_after<R: Threads + Wait + Sync, G: Gate>(
     past: &Past,
     scripts: Vec<Vec<Command>>,
     gate: &G,
-) -> Result<Attended<MemDisk>, Trouble> {
+    asked: Asked<'_>,
+) -> Result<Vec<u8>, Trouble> {
     let Some(done) = attended_on(rt, alloc, disk, past.wanted, scripts, gate)? else {
         return Err(Trouble("not opened"));
     };
-    check(alloc, past, &done)?;
-    Ok(done)
+    looked_over(alloc, past, &done, asked)
 }
 
 /// The same, of scripts by their text.
@@ -74,77 +88,81 @@ pub fn attended_text<R: Threads + Wait + Sync, G: Gate>(
     alloc: Global,
     disk: MemDisk,
     past: &Past,
-    scripts: &str,
+    text: &str,
     gate: &G,
-) -> Result<Attended<MemDisk>, Trouble> {
-    let scripts = scripts_of(alloc, scripts)?;
-    attended_after(rt, alloc, disk, past, scripts, gate)
+    asked: Asked<'_>,
+) -> Result<Vec<u8>, Trouble> {
+    let scripts = scripts_of(alloc, text)?;
+    attended_after(rt, alloc, disk, past, scripts, gate, asked)
 }
 
-/// Scripts attended on a disk that holds the empty table, and the history looked over.
-pub fn looked_over<R: Threads + Wait + Sync, G: Gate>(
+/// The same, on a disk that holds the empty table.
+pub fn attended<R: Threads + Wait + Sync, G: Gate>(
     rt: &R,
     alloc: Global,
     disk: MemDisk,
     wanted: Wanted,
     text: &str,
     gate: &G,
-) -> Result<Attended<MemDisk>, Trouble> {
+    asked: Asked<'_>,
+) -> Result<Vec<u8>, Trouble> {
     let scripts = scripts_of(alloc, text)?;
     let past = Past {
         opening: Table::new(alloc),
         scripts,
         wanted,
     };
-    attended_text(rt, alloc, disk, &past, text, gate)
+    attended_text(rt, alloc, disk, &past, text, gate, asked)
 }
 
-/// What each client is answered, and the jobs that are left: a job that runs without its rounds, which differ from run to
-/// run.
-pub fn attended<R: Threads + Wait + Sync, G: Gate>(
-    rt: &R,
+/// Makes sure that what was attended is one history, and tells what is asked of it.
+fn looked_over(
     alloc: Global,
-    wanted: Wanted,
-    scripts: &str,
-    gate: &G,
+    past: &Past,
+    done: &Attended<MemDisk>,
+    asked: Asked<'_>,
 ) -> Result<Vec<u8>, Trouble> {
-    let done = looked_over(rt, alloc, new_disk(alloc)?, wanted, scripts, gate)?;
-    told(alloc, &done)
+    check(alloc, past, done)?;
+    match asked {
+        Asked::Nothing => Ok(Vec::new(alloc)),
+        Asked::Answers => told(alloc, done),
+        Asked::Counts => tell_counts(alloc, &done.answers),
+        Asked::ByABook(script) => left_by_a_book(alloc, script, done.book.table()),
+    }
 }
 
 fn told(alloc: Global, done: &Attended<MemDisk>) -> Result<Vec<u8>, Trouble> {
     let mut line = Vec::new(alloc);
-    for run in &done.answers {
-        tell_run(alloc, &mut line, run)?;
-    }
-    for end in &done.ends {
-        match end {
-            RunnerEnd::Idle | RunnerEnd::Turns => {}
-            RunnerEnd::Book(_) => line.extend_from_slice(b"refused ; ")?,
-            RunnerEnd::Pool(_) => line.extend_from_slice(b"not played ; ")?,
-        }
-    }
-    tell_jobs(alloc, &mut line, done.book.table().jobs())?;
-    if done.ends.is_empty() {
-        decimal(&mut line, done.book.log().len() as u64)?;
-        line.extend_from_slice(b" entries")?;
-    }
+    tell(alloc, &mut line, done)?;
     if line.last() == Some(&b' ') {
         line.pop();
     }
     Ok(line)
 }
 
-/// How many answers each client has, and why it ended.
-pub fn counted<R: Threads + Wait + Sync>(
-    rt: &R,
-    alloc: Global,
-    disk: MemDisk,
-    wanted: Wanted,
-    scripts: &str,
-) -> Result<Vec<u8>, Trouble> {
-    let done = looked_over(rt, alloc, disk, wanted, scripts, &OpenGate)?;
-    tell_counts(alloc, &done.answers)
+fn tell(alloc: Global, line: &mut Vec<u8>, done: &Attended<MemDisk>) -> Result<(), Trouble> {
+    for run in &done.answers {
+        tell_run(alloc, line, run)?;
+    }
+    tell_ends(line, &done.ends)?;
+    tell_jobs(alloc, line, done.book.table().jobs())?;
+    if done.ends.is_empty() {
+        decimal(line, done.book.log().len() as u64)?;
+        line.extend_from_slice(b" entries")?;
+    }
+    Ok(())
+}
+
+fn tell_ends(line: &mut Vec<u8>, ends: &[RunnerEnd]) -> Result<(), Trouble> {
+    for end in ends {
+        let words: &[u8] = match end {
+            RunnerEnd::Idle | RunnerEnd::Turns => b"",
+            RunnerEnd::Book(_) => b"refused ; ",
+            RunnerEnd::Pool(_) => b"not played ; ",
+        };
+        line.extend_from_slice(words)?;
+    }
+    Ok(())
 }
 
 fn tell_counts(alloc: Global, runs: &[ClientRun]) -> Result<Vec<u8>, Trouble> {
@@ -200,14 +218,7 @@ fn tell_jobs(alloc: Global, line: &mut Vec<u8>, jobs: &[Job]) -> Result<(), Trou
 /// A job's name, and where it doesn't run its state, rounds and configuration.
 fn tell_job(alloc: Global, line: &mut Vec<u8>, job: &Job) -> Result<(), Trouble> {
     line.extend_from_slice(job.name().as_bytes())?;
-    let state: &[u8] = match job.state() {
-        State::Running => b" running ; ",
-        State::Paused => b" paused ",
-        State::Done => b" done ",
-        State::Halted => b" halted ",
-        State::Spent => b" spent ",
-    };
-    line.extend_from_slice(state)?;
+    line.extend_from_slice(state_words(job.state()))?;
     if job.state() != State::Running {
         decimal(line, job.rounds())?;
         line.push(b' ')?;
@@ -215,4 +226,14 @@ fn tell_job(alloc: Global, line: &mut Vec<u8>, job: &Job) -> Result<(), Trouble>
         line.extend_from_slice(b" ; ")?;
     }
     Ok(())
+}
+
+fn state_words(state: State) -> &'static [u8] {
+    match state {
+        State::Running => b" running ; ",
+        State::Paused => b" paused ",
+        State::Done => b" done ",
+        State::Halted => b" halted ",
+        State::Spent => b" spent ",
+    }
 }

@@ -147,15 +147,28 @@ fn check_command<D: Disk>(
     let Some(run) = done.answers.get(who) else {
         return Err(Trouble("an answer to nobody"));
     };
-    let told = print_reply(alloc, &entry.reply)?;
-    check_reply(alloc, table, wanted, &told)?;
-    check_answer(alloc, run, next, wanted, &told, kept)?;
+    check_told(alloc, table, run, next, wanted, &entry.reply, kept)?;
     if kept {
         if let Some(count) = given.get_mut(who) {
             *count = next.saturating_add(1);
         }
     }
     Ok(())
+}
+
+/// A command is answered so by the table, and to its client.
+fn check_told(
+    alloc: Global,
+    table: &mut Table,
+    run: &ClientRun,
+    next: usize,
+    wanted: &Command,
+    reply: &Reply,
+    kept: bool,
+) -> Result<(), Trouble> {
+    let told = print_reply(alloc, reply)?;
+    check_reply(alloc, table, wanted, &told)?;
+    check_answer(alloc, run, next, wanted, &told, kept)
 }
 
 /// The table answers a command so.

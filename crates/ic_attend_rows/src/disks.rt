@@ -1,8 +1,8 @@
 //! Disks in memory: new ones, and ones changed so that they can't be opened or are worn.
 
 use crate::scripts::scripts_of;
-use ic_attend::{AttendFault, attend};
-use ic_desk::{OpenCause, OpenFault};
+use ic_attend::{AttendFault, Attended, attend};
+use ic_desk::{Book, OpenCause};
 use ic_disk::MemDisk;
 use ic_notation::Trouble;
 use ic_pool::OpenGate;
@@ -26,9 +26,22 @@ pub fn new_disk(alloc: Global) -> Result<MemDisk, Trouble> {
     }
 }
 
+/// The book on a disk.
+pub fn opened(alloc: Global, disk: MemDisk) -> Result<Book<MemDisk>, Trouble> {
+    match Book::open(alloc, disk) {
+        Ok(book) => Ok(book),
+        Err(_fault) => Err(Trouble("not opened")),
+    }
+}
+
 /// A new disk whose slot stands `twice`, is `worn` by its number, or is `cut` to so many bytes.
 pub fn changed(alloc: Global, change: &str) -> Result<MemDisk, Trouble> {
     let mut bytes = new_disk(alloc)?.bytes().to_vec(alloc)?;
+    change_bytes(alloc, change, &mut bytes)?;
+    Ok(MemDisk::from_bytes(bytes))
+}
+
+fn change_bytes(alloc: Global, change: &str, bytes: &mut Vec<u8>) -> Result<(), Trouble> {
     match change {
         "twice" => {
             let slot = bytes.get(..SLOT).unwrap_or(&[]).to_vec(alloc)?;
@@ -42,20 +55,7 @@ pub fn changed(alloc: Global, change: &str) -> Result<MemDisk, Trouble> {
         }
         length => bytes.truncate(usize::from_str_radix(length, 10).unwrap_or(usize::MAX)),
     }
-    Ok(MemDisk::from_bytes(bytes))
-}
-
-/// The refusal of a disk, which is handed back.
-fn refusal<R: Threads + Wait + Sync>(
-    rt: &R,
-    alloc: Global,
-    disk: MemDisk,
-) -> Result<OpenFault<MemDisk>, Trouble> {
-    let scripts = scripts_of(alloc, "list | list")?;
-    match attend(rt, alloc, disk, scripts, 1, 1, 1, &OpenGate) {
-        Err(AttendFault::Open(fault)) => Ok(fault),
-        _ => Err(Trouble("opened")),
-    }
+    Ok(())
 }
 
 /// Why a changed disk isn't attended. It is handed back with its bytes.
@@ -64,10 +64,22 @@ pub fn unopened<R: Threads + Wait + Sync>(
     alloc: Global,
     change: &str,
 ) -> Result<Vec<u8>, Trouble> {
+    let scripts = scripts_of(alloc, "list | list")?;
     let disk = changed(alloc, change)?;
-    let bytes = disk.bytes().to_vec(alloc)?;
-    let fault = refusal(rt, alloc, disk)?;
-    if fault.disk.bytes() != bytes.as_slice() {
+    let outcome = attend(rt, alloc, disk, scripts, 1, 1, 1, &OpenGate);
+    refusal(alloc, change, &outcome)
+}
+
+/// The refusal of a changed disk, which is handed back.
+fn refusal(
+    alloc: Global,
+    change: &str,
+    outcome: &Result<Attended<MemDisk>, AttendFault<MemDisk>>,
+) -> Result<Vec<u8>, Trouble> {
+    let Err(AttendFault::Open(fault)) = outcome else {
+        return Err(Trouble("opened"));
+    };
+    if fault.disk.bytes() != changed(alloc, change)?.bytes() {
         return Err(Trouble("another disk is handed back"));
     }
     let told: &[u8] = match fault.cause {

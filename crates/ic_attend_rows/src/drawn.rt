@@ -1,6 +1,6 @@
 //! Drawn sets of scripts.
 
-use crate::attending::{Wanted, attended_after};
+use crate::attending::{Asked, Wanted, attended_after};
 use crate::checker::Past;
 use crate::disks::new_disk;
 use crate::scripts::command_of;
@@ -69,7 +69,11 @@ fn draw_scripts(alloc: Global, seed: u64, scripts: &mut Vec<Vec<Command>>) -> Re
 }
 
 /// Attends the scripts of a seed with 0 to 4 runners, and looks the history over.
-fn attend_drawn<R: Threads + Wait + Sync>(rt: &R, alloc: Global, seed: u64) -> Result<(), Trouble> {
+fn attend_drawn<R: Threads + Wait + Sync>(
+    rt: &R,
+    alloc: Global,
+    seed: u64,
+) -> Result<Vec<u8>, Trouble> {
     let mut draws = Draws::new(seed);
     let wanted = Wanted {
         runners: draws.below(5),
@@ -91,10 +95,10 @@ fn attend_again<R: Threads + Wait + Sync>(
     alloc: Global,
     past: &Past,
     seed: u64,
-) -> Result<(), Trouble> {
+) -> Result<Vec<u8>, Trouble> {
     let scripts = drawn_scripts(alloc, seed)?;
-    let _done = attended_after(rt, alloc, new_disk(alloc)?, past, scripts, &OpenGate)?;
-    Ok(())
+    let disk = new_disk(alloc)?;
+    attended_after(rt, alloc, disk, past, scripts, &OpenGate, Asked::Nothing)
 }
 
 /// Attends so many drawn sets of scripts, with 0 to 4 runners, and looks each history over.

@@ -2,7 +2,7 @@
 
 use crate::attending::{Wanted, attended_on};
 use crate::checker::{Past, check, make_round};
-use crate::disks::new_disk;
+use crate::disks::{new_disk, opened};
 use crate::scripts::scripts_of;
 use ic_attend::Attended;
 use ic_desk::{Book, BookFault};
@@ -112,10 +112,8 @@ fn tables_of(alloc: Global, book: &Book<FuseDisk>) -> Result<(Table, Table), Tro
 
 /// The table that is found behind a crash.
 fn opened_again(alloc: Global, disk: MemDisk, choice: Choice) -> Result<Table, Trouble> {
-    match Book::open(alloc, disk.crash(choice)?) {
-        Ok(book) => Ok(book.table().copy(alloc)?),
-        Err(_fault) => Err(Trouble("not opened again")),
-    }
+    let book = opened(alloc, disk.crash(choice)?)?;
+    Ok(book.table().copy(alloc)?)
 }
 
 /// The table that entries leave.

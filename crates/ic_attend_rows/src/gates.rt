@@ -1,8 +1,8 @@
 //! Gates that hold works and clients up, each for at most 10,000 turns of a millisecond.
 
-use crate::attending::{Wanted, attended_text};
+use crate::attending::{Asked, Wanted, attended_text};
 use crate::checker::Past;
-use crate::disks::new_disk;
+use crate::disks::{new_disk, opened};
 use crate::scripts::{command_of, scripts_of};
 use ic_desk::Book;
 use ic_disk::MemDisk;
@@ -131,9 +131,7 @@ impl<'a, R: Clock + Sync> Gate for During<'a, R> {
 
 /// A disk with a job that runs, and its table.
 fn running(alloc: Global, job: &str) -> Result<(MemDisk, Table), Trouble> {
-    let Ok(mut book) = Book::open(alloc, new_disk(alloc)?) else {
-        return Err(Trouble("not opened"));
-    };
+    let mut book = opened(alloc, new_disk(alloc)?)?;
     let table = submitted(alloc, job, &mut book)?;
     Ok((book.close(), table))
 }
@@ -153,10 +151,16 @@ fn attend_during<R: Threads + Wait + Clock + Sync>(
     disk: MemDisk,
     past: &Past,
     script: &str,
-    during: &During<'_, R>,
-) -> Result<(), Trouble> {
-    let _done = attended_text(rt, alloc, disk, past, script, during)?;
-    none_missed(&during.missed)
+) -> Result<Vec<u8>, Trouble> {
+    let during = During {
+        rt,
+        begun: AtomicU64::new(0),
+        answers: AtomicU64::new(0),
+        missed: AtomicBool::new(false),
+    };
+    attended_text(rt, alloc, disk, past, script, &during, Asked::Nothing)?;
+    none_missed(&during.missed)?;
+    Ok(Vec::from_slice(alloc, b"answered")?)
 }
 
 /// One client gives two commands on a disk with a job that runs, and is answered the second while a round is made.
@@ -178,12 +182,5 @@ pub fn answered_during_round<R: Threads + Wait + Clock + Sync>(
         scripts,
         wanted,
     };
-    let during = During {
-        rt,
-        begun: AtomicU64::new(0),
-        answers: AtomicU64::new(0),
-        missed: AtomicBool::new(false),
-    };
-    attend_during(rt, alloc, disk, &past, script, &during)?;
-    Ok(Vec::from_slice(alloc, b"answered")?)
+    attend_during(rt, alloc, disk, &past, script)
 }

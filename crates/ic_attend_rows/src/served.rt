@@ -1,7 +1,7 @@
 //! A script attended, and given to a book by one client.
 
-use crate::attending::{Wanted, looked_over};
-use crate::disks::new_disk;
+use crate::attending::{Asked, Wanted, attended};
+use crate::disks::{new_disk, opened};
 use crate::scripts::script_of;
 use ic_desk::Book;
 use ic_disk::MemDisk;
@@ -27,21 +27,28 @@ pub fn served<R: Threads + Wait + Sync>(
         turns: ROUNDS,
         workers: 2,
     };
-    let done = looked_over(rt, alloc, new_disk(alloc)?, wanted, script, &OpenGate)?;
-    left_by_a_book(alloc, script, done.book.table())?;
-    Ok(Vec::from_slice(alloc, b"one table")?)
+    let disk = new_disk(alloc)?;
+    let asked = Asked::ByABook(script);
+    attended(rt, alloc, disk, wanted, script, &OpenGate, asked)
 }
 
 /// Makes sure that a script leaves this table on a book, with all rounds behind it.
-fn left_by_a_book(alloc: Global, script: &str, table: &Table) -> Result<(), Trouble> {
-    let Ok(mut book) = Book::open(alloc, new_disk(alloc)?) else {
-        return Err(Trouble("not opened"));
-    };
-    give(alloc, script, &mut book)?;
+pub fn left_by_a_book(alloc: Global, script: &str, table: &Table) -> Result<Vec<u8>, Trouble> {
+    let mut book = opened(alloc, new_disk(alloc)?)?;
+    leaves(alloc, script, &mut book, table)
+}
+
+fn leaves(
+    alloc: Global,
+    script: &str,
+    book: &mut Book<MemDisk>,
+    table: &Table,
+) -> Result<Vec<u8>, Trouble> {
+    give(alloc, script, book)?;
     if book.table() != table {
         return Err(Trouble("another table"));
     }
-    Ok(())
+    Ok(Vec::from_slice(alloc, b"one table")?)
 }
 
 /// Gives a script to a book, and makes all rounds behind it.
