@@ -21,7 +21,7 @@ use crate::drawn::bodies_agree;
 use crate::rounds::{Question, settles, told};
 use crate::systems::{fires, tests};
 use crate::words::{count, ends, made, number};
-use ic_notation::{Answers, Row, Trouble, expanded};
+use ic_notation::{Answers, Row, Trouble};
 use std::alloc::Global;
 
 /// The kinds of these rows.
@@ -37,23 +37,13 @@ impl Answers for Kinds {
             "back" => read_back(alloc, row.text),
             "same" => are_same(alloc, one, other),
             "over" => are_over(alloc, one, other),
-            "new" => made(
-                alloc,
-                number(first)? as usize,
-                None,
-                &expanded(alloc, rest)?,
-            ),
+            "new" => made(alloc, number(first)? as usize, None, rest),
             "restore" => {
                 let (next, rest) = rest.split_once(' ').unwrap_or((rest, ""));
                 let next = number(next)?;
-                made(
-                    alloc,
-                    number(first)? as usize,
-                    Some(next),
-                    &expanded(alloc, rest)?,
-                )
+                made(alloc, number(first)? as usize, Some(next), rest)
             }
-            "ends" => ends(alloc, &expanded(alloc, row.text)?),
+            "ends" => ends(alloc, row.text),
             "fires" => fires(alloc, None, row.text),
             "fires_from" => fires(alloc, Some(number(first)?), rest),
             "drawn" => bodies_agree(alloc),

@@ -105,8 +105,8 @@ fn rounds_alike(alloc: Global, draws: &mut Draws, rounds: &mut Rounds) -> Result
     rounds.settle_and_run(alloc, &mut flat, 8)
 }
 
-/// How many rounds are made of one of 2,000 drawn systems at most.
-fn most_rounds(alloc: Global, rounds: &mut Rounds) -> Result<u32, Trouble> {
+/// How many rounds are made of one of 2,000 drawn systems at most, in these lists.
+fn most_rounds_in(alloc: Global, rounds: &mut Rounds) -> Result<u32, Trouble> {
     let mut draws = Draws::new(20_261_124);
     let mut most = 0;
     for _ in 0..2000 {
@@ -115,11 +115,16 @@ fn most_rounds(alloc: Global, rounds: &mut Rounds) -> Result<u32, Trouble> {
     Ok(most)
 }
 
+/// How many rounds are made of one of 2,000 drawn systems at most, all in one workspace.
+fn most_rounds(alloc: Global) -> Result<u32, Trouble> {
+    let (rules, _) = system_of(alloc, RULES)?.into_parts();
+    let mut rounds = Rounds::new(alloc, FlatRules::new(alloc, rules)?);
+    most_rounds_in(alloc, &mut rounds)
+}
+
 /// Whether all bodies agree on the rounds of 2,000 systems, of which one has more than four.
 pub fn bodies_agree(alloc: Global) -> Result<Vec<u8>, Trouble> {
-    let (rules, _config) = system_of(alloc, RULES)?.into_parts();
-    let mut rounds = Rounds::new(alloc, FlatRules::new(alloc, rules)?);
-    let line = if most_rounds(alloc, &mut rounds)? > 4 {
+    let line = if most_rounds(alloc)? > 4 {
         "the same"
     } else {
         "too few rounds"

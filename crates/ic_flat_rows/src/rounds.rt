@@ -1,19 +1,25 @@
 //! Rounds and settling by all bodies: terms and equations, new lists, and the lists of a workspace.
 
-use crate::systems::begun;
+use crate::configurations::{config_of, text_over};
+use crate::systems::{put_text, read};
 use ic_flat::{Flat, over};
 use ic_flat_round::{FlatRules, Workspace, fits, quiet};
-use ic_notation::{Trouble, decimal, expanded, printed, system_of};
+use ic_notation::{Trouble, decimal};
 use ic_round::RoundFault;
 use ic_rules::RuleSet;
-use ic_term::Config;
-use ic_text::{print_config, read_config};
+use ic_term::{Config, Symbols};
 use std::alloc::Global;
+
+/// What settling makes of a configuration as terms and equations.
+fn settled_as_terms(alloc: Global, flat: &Flat) -> Result<Flat, Trouble> {
+    let config = flat.to_config(alloc)?;
+    let after = ic_settle::settle(alloc, config)?;
+    Ok(Flat::from_config(alloc, &after)?)
+}
 
 /// What settling makes of a configuration, if all bodies make the same of it.
 fn settled_by_all(alloc: Global, workspace: &mut Workspace, flat: &Flat) -> Result<Flat, Trouble> {
-    let other = ic_settle::settle(alloc, flat.to_config(alloc)?)?;
-    let other = Flat::from_config(alloc, &other)?;
+    let other = settled_as_terms(alloc, flat)?;
     let kept = workspace.settle(alloc, flat)?;
     let after = ic_flat_round::settle(alloc, flat)?;
     if after == other && kept == other {
@@ -24,22 +30,23 @@ fn settled_by_all(alloc: Global, workspace: &mut Workspace, flat: &Flat) -> Resu
 }
 
 /// A configuration that all bodies have settled.
-fn settled(alloc: Global, config: &Config) -> Result<Config, Trouble> {
-    let flat = Flat::from_config(alloc, config)?;
-    let after = settled_by_all(alloc, &mut Workspace::new(alloc), &flat)?;
+fn settled(alloc: Global, flat: &Flat) -> Result<Config, Trouble> {
+    let mut workspace = Workspace::new(alloc);
+    let after = settled_by_all(alloc, &mut workspace, flat)?;
     Ok(after.to_config(alloc)?)
+}
+
+/// The text of a configuration that all bodies have settled.
+fn settled_text(alloc: Global, symbols: &Symbols, config: &Config) -> Result<Vec<u8>, Trouble> {
+    let flat = Flat::from_config(alloc, config)?;
+    let after = settled(alloc, &flat)?;
+    text_over(alloc, symbols, &after)
 }
 
 /// The settled text of a configuration.
 pub fn settles(alloc: Global, text: &str) -> Result<Vec<u8>, Trouble> {
-    let Ok((symbols, config)) = read_config(alloc, &expanded(alloc, text)?) else {
-        return Err(Trouble("a text is refused"));
-    };
-    let after = settled(alloc, &config)?;
-    if !ic_term::over(&symbols, &after) {
-        return Err(Trouble("not over the symbols"));
-    }
-    Ok(print_config(alloc, &symbols, &after)?)
+    let (symbols, config) = config_of(alloc, text)?;
+    settled_text(alloc, &symbols, &config)
 }
 
 /// What a round of terms and equations makes of a configuration.
@@ -147,9 +154,7 @@ impl Rounds {
 
     /// Appends the text of a configuration.
     fn put_text(&self, alloc: Global, flat: &Flat, line: &mut Vec<u8>) -> Result<(), Trouble> {
-        let text = printed(alloc, self.rules.rules(), &flat.to_config(alloc)?)?;
-        line.extend_from_slice(&text)?;
-        Ok(())
+        put_text(alloc, self.rules.rules(), flat, line)
     }
 
     /// Appends whether a configuration is quiet.
@@ -253,9 +258,8 @@ pub fn told(
     next: Option<u64>,
     text: &str,
 ) -> Result<Vec<u8>, Trouble> {
-    let (rules, config) = system_of(alloc, &expanded(alloc, text)?)?.into_parts();
-    let mut flat = begun(alloc, &config, next)?;
-    let mut rounds = Rounds::new(alloc, FlatRules::new(alloc, rules)?);
+    let (rules, mut flat) = read(alloc, next, text)?;
+    let mut rounds = Rounds::new(alloc, rules);
     let mut line = Vec::new(alloc);
     rounds.put_answer(alloc, question, &mut flat, &mut line)?;
     Ok(line)

@@ -10,7 +10,7 @@ use ic_term::Config;
 use std::alloc::Global;
 
 /// A configuration in flat form, with this `next` or its own.
-pub fn begun(alloc: Global, config: &Config, next: Option<u64>) -> Result<Flat, Trouble> {
+fn begun(alloc: Global, config: &Config, next: Option<u64>) -> Result<Flat, Trouble> {
     let flat = Flat::from_config(alloc, config)?;
     let Some(next) = next else {
         return Ok(flat);
@@ -20,6 +20,14 @@ pub fn begun(alloc: Global, config: &Config, next: Option<u64>) -> Result<Flat, 
         Ok(flat) => Ok(flat),
         Err(_) => Err(Trouble("no such configuration")),
     }
+}
+
+/// The rules and the configuration of a system in flat form, with this `next` or its own.
+pub fn read(alloc: Global, next: Option<u64>, text: &str) -> Result<(FlatRules, Flat), Trouble> {
+    let text = expanded(alloc, text)?;
+    let (rules, config) = system_of(alloc, &text)?.into_parts();
+    let flat = begun(alloc, &config, next)?;
+    Ok((FlatRules::new(alloc, rules)?, flat))
 }
 
 /// Whether a configuration fits and whether it is quiet, if it is over the symbols and both forms answer the same.
@@ -38,9 +46,8 @@ fn tested(alloc: Global, rules: &RuleSet, flat: &Flat) -> Result<(bool, bool), T
 
 /// Whether the configuration of a system, with this `next` or its own, fits and is quiet.
 pub fn tests(alloc: Global, next: Option<u64>, text: &str) -> Result<Vec<u8>, Trouble> {
-    let (rules, config) = system_of(alloc, &expanded(alloc, text)?)?.into_parts();
-    let flat = begun(alloc, &config, next)?;
-    let line = match tested(alloc, &rules, &flat)? {
+    let (rules, flat) = read(alloc, next, text)?;
+    let line = match tested(alloc, rules.rules(), &flat)? {
         (true, true) => "fits, quiet",
         (true, false) => "fits, goes on",
         (false, true) => "outgrows, quiet",
@@ -81,25 +88,56 @@ fn is_round(
     }
 }
 
-/// `next` and the text of a system's configuration with all its active equations fired, if a round of it as terms and
-/// equations comes to the same.
-pub fn fires(alloc: Global, next: Option<u64>, text: &str) -> Result<Vec<u8>, Trouble> {
-    let (rules, config) = system_of(alloc, &expanded(alloc, text)?)?.into_parts();
-    let flat = begun(alloc, &config, next)?;
-    let rules = FlatRules::new(alloc, rules)?;
-    let answer = fired_of(alloc, &rules, &flat)?;
+/// Appends the text of a configuration.
+pub fn put_text(
+    alloc: Global,
+    rules: &RuleSet,
+    flat: &Flat,
+    line: &mut Vec<u8>,
+) -> Result<(), Trouble> {
+    let config = flat.to_config(alloc)?;
+    let text = printed(alloc, rules, &config)?;
+    line.extend_from_slice(&text)?;
+    Ok(())
+}
+
+/// Appends what firing answers: `next` and the text, or the refusal.
+fn put_fired(
+    alloc: Global,
+    rules: &RuleSet,
+    answer: &Result<Flat, RoundFault>,
+    line: &mut Vec<u8>,
+) -> Result<(), Trouble> {
+    match answer {
+        Ok(fired) => {
+            decimal(line, fired.next())?;
+            line.push(b' ')?;
+            put_text(alloc, rules, fired, line)
+        }
+        Err(RoundFault::Overgrown) => Ok(line.extend_from_slice(b"outgrows")?),
+        Err(_) => Ok(line.extend_from_slice(b"names out")?),
+    }
+}
+
+/// Appends what firing answers, if a round of terms and equations comes to the same.
+fn put_alike(
+    alloc: Global,
+    rules: &FlatRules,
+    flat: &Flat,
+    line: &mut Vec<u8>,
+) -> Result<(), Trouble> {
+    let answer = fired_of(alloc, rules, flat)?;
     if !is_round(alloc, rules.rules(), flat.to_config(alloc)?, &answer)? {
         return Err(Trouble("the two forms differ"));
     }
-    match answer {
-        Ok(fired) => {
-            let mut line = Vec::new(alloc);
-            decimal(&mut line, fired.next())?;
-            line.push(b' ')?;
-            line.extend_from_slice(&printed(alloc, rules.rules(), &fired.to_config(alloc)?)?)?;
-            Ok(line)
-        }
-        Err(RoundFault::Overgrown) => Ok(Vec::from_slice(alloc, b"outgrows")?),
-        Err(_) => Ok(Vec::from_slice(alloc, b"names out")?),
-    }
+    put_fired(alloc, rules.rules(), &answer, line)
+}
+
+/// `next` and the text of a system's configuration with all its active equations fired, if a round of it as terms and
+/// equations comes to the same.
+pub fn fires(alloc: Global, next: Option<u64>, text: &str) -> Result<Vec<u8>, Trouble> {
+    let (rules, flat) = read(alloc, next, text)?;
+    let mut line = Vec::new(alloc);
+    put_alike(alloc, &rules, &flat, &mut line)?;
+    Ok(line)
 }

@@ -1,7 +1,7 @@
 //! Words of rows.
 
 use ic_flat::{Flat, Word, end_of_term, terms_in};
-use ic_notation::{Trouble, decimal};
+use ic_notation::{Trouble, decimal, expanded};
 use ic_term::ConfigFault;
 use std::alloc::{AllocError, Global};
 
@@ -32,8 +32,9 @@ fn word_of(text: &str) -> Result<Word, Trouble> {
 }
 
 /// The words of a text, with blanks between them.
-fn words_of(alloc: Global, text: &[u8]) -> Result<Vec<Word>, Trouble> {
-    let Ok(text) = str::from_utf8(text) else {
+fn words_of(alloc: Global, text: &str) -> Result<Vec<Word>, Trouble> {
+    let text = expanded(alloc, text)?;
+    let Ok(text) = str::from_utf8(&text) else {
         return Err(Trouble("no text"));
     };
     let mut words = Vec::new(alloc);
@@ -80,7 +81,7 @@ pub fn made(
     alloc: Global,
     terms: usize,
     next: Option<u64>,
-    text: &[u8],
+    text: &str,
 ) -> Result<Vec<u8>, Trouble> {
     let words = words_of(alloc, text)?;
     let Some(count) = terms_in(&words) else {
@@ -107,7 +108,7 @@ pub fn made(
 }
 
 /// How many terms words write, and the place behind each.
-pub fn ends(alloc: Global, text: &[u8]) -> Result<Vec<u8>, Trouble> {
+pub fn ends(alloc: Global, text: &str) -> Result<Vec<u8>, Trouble> {
     let words = words_of(alloc, text)?;
     let Some(count) = terms_in(&words) else {
         return Ok(Vec::from_slice(alloc, b"not whole")?);
