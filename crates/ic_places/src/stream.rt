@@ -1,7 +1,10 @@
 //! Answering what a reader gives, and telling of a text that is refused.
 
-ghost use Rattle.std.specs.Prelude.{◌≡◌, ◌≢◌, ◌≤◌, ◌++◌, ◌⊎◌, Ok, IfOk, IfErr, IfSome, OnOk, length};
+ghost use Rattle.std.specs.Prelude.{◌≡◌, ◌≢◌, ◌≤◌, ◌++◌, ◌⊎◌, Ok, IfOk, IfErr, IfSome, IsTrue, OnOk, length};
 ghost use Rattle.std.specs.Io.KnownBytes.{Keeps};
+ghost use Rattle.ic_term.specs.Symbol.{is_over};
+ghost use Rattle.ic_round.specs.Rounds.{round, unless_unfit};
+ghost use Rattle.ic_round.specs.RoundAnswers.{Answers};
 ghost use Rattle.ic_text.specs.Source.{IsPhrase, phrase_words};
 ghost use Rattle.ic_text.specs.SystemSource.{IsSystemPhrase, system_words};
 ghost use Rattle.ic_streams.specs.Streams.{OfText, IsAnswered, FaultOf, Rounds, Settles, TakesAt, TakesText};
@@ -9,8 +12,11 @@ ghost use Rattle.ic_places.specs.Telling.{Appended, AppendedAt, told_lines};
 ghost use Rattle.ic_streams.specs.Faults.{fault_of_text};
 
 use crate::telling::{Kind, told_lines};
-use ic_round::{round, settle};
+use ic_flat::Flat;
+use ic_flat_round::{FlatRules, round};
+use ic_round::{RoundFault, settle};
 use ic_streams::{StreamFault, config_line, read_text, write_line};
+use ic_term::Config;
 use ic_text::{Misread, find_config, find_system};
 use std::alloc::Global;
 use std::io::{Read, Write};
@@ -120,6 +126,19 @@ fn once_line(alloc: Global, text: &[u8], told: &mut Vec<u8>) -> Result<Vec<u8>, 
         Err(misread) => return Err(refused(alloc, Kind::System, text, misread, told)),
     };
     let (rules, config) = system.into_parts();
-    let after = round(alloc, &rules, config)?;
-    Ok(config_line(alloc, rules.symbols(), &after)?)
+    let rules = FlatRules::new(alloc, rules)?;
+    let after = round_of(alloc, &rules, &config)?;
+    Ok(config_line(alloc, rules.rules().symbols(), &after)?)
+}
+
+/// The configuration after one round, which is made in flat form.
+fn round_of(alloc: Global, rules: &FlatRules, config: &Config) -> Result<Config, RoundFault>
+    requires { IsTrue (is_over rules.now.symbols config.now) }
+    ensures round { Answers result
+        (unless_unfit rules.now.rules config.now (round rules.now.rules config.now)) }
+    ensures over { IfOk result (λ after. IsTrue (is_over rules.now.symbols after)) }
+{
+    let before = Flat::from_config(alloc, config)?;
+    let after = round(alloc, rules, &before)?;
+    Ok(after.to_config(alloc)?)
 }
