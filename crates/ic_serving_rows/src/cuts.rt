@@ -1,6 +1,6 @@
 //! Servings that are cut short: each call of a kind fails in turn, and then a crash comes.
 
-use crate::disks::{new_disk, opened, reopened};
+use crate::disks::{new_disk, opened};
 use crate::lines::{last_line, on_one_line};
 use crate::serving::Server;
 use crate::streams::{FailingReader, FailingWriter, Pace};
@@ -118,10 +118,9 @@ impl Failing {
             Failing::Flush => (Pace::Lines, 0, 0, call),
             Failing::Device(blow, then) => return fused(server, text, call, blow, then),
         };
-        let mut book = opened(server.alloc, new_disk(server.alloc)?)?;
         let mut reader = FailingReader::new(text, pace, read);
         let mut writer = FailingWriter::new(server.alloc, pace, write, flush);
-        let fault = server.serve(&mut book, &mut reader, &mut writer)?;
+        let (fault, disk) = server.left_by(&mut reader, &mut writer)?;
         let written = match self {
             Failing::Read(_) => writer.into_flushed(),
             _ => writer.into_written(),
@@ -129,7 +128,7 @@ impl Failing {
         Ok(Cut {
             written,
             fault,
-            disk: book.close(),
+            disk,
         })
     }
 }
@@ -165,9 +164,7 @@ fn fused<R: Threads + Wait>(
     then: Then,
 ) -> Result<Cut, Trouble> {
     let mut book = on_fused_disk(server.alloc, call, blow, then)?;
-    let mut reader = text;
-    let mut written = Vec::new(server.alloc);
-    let fault = server.serve(&mut book, &mut reader, &mut written)?;
+    let (written, fault) = server.written_and_fault(&mut book, text)?;
     Ok(Cut {
         written,
         fault,
@@ -184,9 +181,7 @@ pub fn broken<R: Threads + Wait>(
     more: &[u8],
 ) -> Result<Vec<u8>, Trouble> {
     let mut book = on_fused_disk(server.alloc, call, Blow::Before, Then::GoOn)?;
-    let mut output = server.written(&mut book, text)?;
-    output.append(&mut server.written(&mut book, more)?)?;
-    Ok(output)
+    server.written_twice(&mut book, text, more)
 }
 
 /// What comes of a text where each call of a kind fails in turn, until none is left that fails. Behind each of these servings
@@ -199,17 +194,40 @@ pub fn cut_everywhere<R: Threads + Wait>(
     more: &[u8],
 ) -> Result<Vec<u8>, Trouble> {
     let mut story = Story::new(server.alloc);
+    tell_cuts(server, failing, choice, text, more, &mut story)?;
+    story.finish()
+}
+
+/// Tells what comes of a text where each call of a kind fails in turn, until none fails.
+fn tell_cuts<R: Threads + Wait>(
+    server: &Server<'_, R>,
+    failing: Failing,
+    choice: Choice,
+    text: &[u8],
+    more: &[u8],
+    story: &mut Story,
+) -> Result<(), Trouble> {
     for call in 1..CALLS {
         let cut = failing.cut(server, text, call)?;
         if cut.fault.is_empty() {
-            return story.finish();
+            return Ok(());
         }
         if cut.fault.as_slice() != failing.line() {
             return Err(Trouble("another fault"));
         }
-        let mut book = reopened(server.alloc, cut.disk, choice)?;
-        let shown = server.written(&mut book, more)?;
-        story.add(server.alloc, cut.written, &shown)?;
+        tell_cut(server, choice, cut, more, story)?;
     }
     Err(Trouble("each serving fails"))
+}
+
+/// Tells what comes of a serving that was cut short, and of another text behind a crash.
+fn tell_cut<R: Threads + Wait>(
+    server: &Server<'_, R>,
+    choice: Choice,
+    cut: Cut,
+    more: &[u8],
+    story: &mut Story,
+) -> Result<(), Trouble> {
+    let shown = server.behind_crash(cut.disk, choice, more)?;
+    story.add(server.alloc, cut.written, &shown)
 }

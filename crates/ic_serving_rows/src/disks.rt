@@ -4,7 +4,7 @@ use ic_desk::Book;
 use ic_disk::{Choice, Disk, MemDisk};
 use ic_jobs::Landed;
 use ic_notation::Trouble;
-use ic_pool::play_alone;
+use ic_pool::{Flight, play_alone};
 use ic_slots::create;
 use std::alloc::Global;
 
@@ -28,6 +28,11 @@ pub fn opened<D: Disk + Drop>(alloc: Global, disk: D) -> Result<Book<D>, Trouble
     }
 }
 
+/// The book on a new disk.
+pub fn new_book(alloc: Global) -> Result<Book<MemDisk>, Trouble> {
+    opened(alloc, new_disk(alloc)?)
+}
+
 /// The book on what a crash leaves of a disk.
 pub fn reopened(alloc: Global, disk: MemDisk, choice: Choice) -> Result<Book<MemDisk>, Trouble> {
     opened(alloc, disk.crash(choice)?)
@@ -35,10 +40,14 @@ pub fn reopened(alloc: Global, disk: MemDisk, choice: Choice) -> Result<Book<Mem
 
 /// Lands the round that is due, and keeps nothing.
 pub fn land_due(alloc: Global, book: &mut Book<MemDisk>) -> Result<(), Trouble> {
-    let Ok(Some(flight)) = book.due(0) else {
-        return Err(Trouble("no round is due"));
-    };
-    let Ok(played) = play_alone(alloc, &flight) else {
+    match book.due(0) {
+        Ok(Some(flight)) => land(alloc, book, &flight),
+        _ => Err(Trouble("no round is due")),
+    }
+}
+
+fn land(alloc: Global, book: &mut Book<MemDisk>, flight: &Flight) -> Result<(), Trouble> {
+    let Ok(played) = play_alone(alloc, flight) else {
         return Err(Trouble("a round is refused"));
     };
     match book.land(played) {
