@@ -1,9 +1,10 @@
 //! Disks in memory: new ones, and ones changed so that they can't be opened or are worn.
 
 use crate::scripts::scripts_of;
-use ic_attend::{AttendFault, Attended, attend};
-use ic_desk::{Book, OpenCause};
-use ic_disk::MemDisk;
+use ic_attend::{AttendFault, attend};
+use ic_desk::{Book, OpenCause, OpenFault};
+use ic_disk::{Disk, MemDisk};
+use ic_jobs::Command;
 use ic_notation::Trouble;
 use ic_pool::OpenGate;
 use ic_slots::create;
@@ -43,19 +44,26 @@ pub fn changed(alloc: Global, change: &str) -> Result<MemDisk, Trouble> {
 
 fn change_bytes(alloc: Global, change: &str, bytes: &mut Vec<u8>) -> Result<(), Trouble> {
     match change {
-        "twice" => {
-            let slot = bytes.get(..SLOT).unwrap_or(&[]).to_vec(alloc)?;
-            bytes.truncate(SECOND_SLOT);
-            bytes.extend_from_slice(&slot)?;
-        }
-        "worn" => {
-            for byte in bytes.iter_mut().skip(1).take(8) {
-                *byte = 255;
-            }
-        }
+        "twice" => repeat_slot(alloc, bytes)?,
+        "worn" => wear(bytes),
         length => bytes.truncate(usize::from_str_radix(length, 10).unwrap_or(usize::MAX)),
     }
     Ok(())
+}
+
+/// Puts the bytes of the first slot into the second one, too.
+fn repeat_slot(alloc: Global, bytes: &mut Vec<u8>) -> Result<(), Trouble> {
+    let slot = bytes.get(..SLOT).unwrap_or(&[]).to_vec(alloc)?;
+    bytes.truncate(SECOND_SLOT);
+    bytes.extend_from_slice(&slot)?;
+    Ok(())
+}
+
+/// Gives the first slot the greatest number.
+fn wear(bytes: &mut [u8]) {
+    for byte in bytes.iter_mut().skip(1).take(8) {
+        *byte = 255;
+    }
 }
 
 /// Why a changed disk isn't attended. It is handed back with its bytes.
@@ -65,20 +73,25 @@ pub fn unopened<R: Threads + Wait + Sync>(
     change: &str,
 ) -> Result<Vec<u8>, Trouble> {
     let scripts = scripts_of(alloc, "list | list")?;
-    let disk = changed(alloc, change)?;
-    let outcome = attend(rt, alloc, disk, scripts, 1, 1, 1, &OpenGate);
-    refusal(alloc, change, &outcome)
+    let fault = refused(rt, alloc, changed(alloc, change)?, scripts)?;
+    cause_of(alloc, change, &fault)
 }
 
-/// The refusal of a changed disk, which is handed back.
-fn refusal(
+/// The refusal of a disk that isn't opened.
+fn refused<R: Threads + Wait + Sync, D: Disk + Send + Drop>(
+    rt: &R,
     alloc: Global,
-    change: &str,
-    outcome: &Result<Attended<MemDisk>, AttendFault<MemDisk>>,
-) -> Result<Vec<u8>, Trouble> {
-    let Err(AttendFault::Open(fault)) = outcome else {
-        return Err(Trouble("opened"));
-    };
+    disk: D,
+    scripts: Vec<Vec<Command>>,
+) -> Result<OpenFault<D>, Trouble> {
+    match attend(rt, alloc, disk, scripts, 1, 1, 1, &OpenGate) {
+        Err(AttendFault::Open(fault)) => Ok(fault),
+        _ => Err(Trouble("opened")),
+    }
+}
+
+/// Why a changed disk is refused, which is handed back.
+fn cause_of(alloc: Global, change: &str, fault: &OpenFault<MemDisk>) -> Result<Vec<u8>, Trouble> {
     if fault.disk.bytes() != changed(alloc, change)?.bytes() {
         return Err(Trouble("another disk is handed back"));
     }
