@@ -86,7 +86,7 @@ class Attend(Attending):
         for sign in (signal.SIGTERM, signal.SIGINT, signal.SIGHUP):
             # On a machine that is busy all may be done before the signal comes, or nothing begun.
             for seconds in (0.1, 0.05, 0.02, 0.3, 1, 5, 20):
-                self.disk()
+                self.runs("create", "--disk", self.jobs, "--overwrite")
                 ran = self.signalled(words, sign, seconds)
                 is_begun = "loop" in self.rounds()
                 if is_begun and ran.status == -sign:
@@ -106,7 +106,7 @@ class Attend(Attending):
     def test_kills_at_drawn_moments_leave_jobs_at_some_round(self):
         draw = self.draws()
         for _ in range(60):
-            self.runs("create", "--disk", self.jobs)
+            self.runs("create", "--disk", self.jobs, "--overwrite")
             words = self.attends(*self.paths, turns=draw.choice((0, 10, 100_000)))
             self.holds_what_was_answered(self.signalled(words, signal.SIGKILL, draw.random() * 0.02))
 

@@ -190,7 +190,7 @@ class DrawnDisks(ModelTrial):
                 disk.content = bytearray((drawn.getrandbits(8 * length + 1) >> 1).to_bytes(length, "big"))
                 self.lay(disk)
             disk.create()
-            ran = run("create", "--disk", self.path)
+            ran = run("create", "--disk", self.path, "--overwrite")
             self.ended(ran)
             self.same_file(ran.command, disk)
             self.serve(disk, QUESTIONS)
@@ -200,7 +200,7 @@ class DrawnDisks(ModelTrial):
         for lines in ([TWO], [TWO, "run 1"], [TWO, "run 1", "cancel two"]):
             disk = self.kept(*lines)
             disk.create()
-            ran = run("create", "--disk", self.path)
+            ran = run("create", "--disk", self.path, "--overwrite")
             self.ended(ran)
             self.same_file(ran.command, disk)
             self.serve(disk, ["list", TWO, "run 2", "fetch two"])

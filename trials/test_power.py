@@ -3,7 +3,7 @@ docs/disk.md allows at each moment: what was synced stands, and the ranges writt
 
 from typing import NamedTuple
 
-from disks import EMPTY, SECOND, put, slot
+from disks import EMPTY, HEAD, SECOND, put, slot
 from histories import answers_but_rounds, drawn_scripts, kept_next, next_change, table_of
 from known import LOOP, TWO, answered, drawn_line, listed
 from program import Server, run
@@ -97,6 +97,13 @@ def image_of(draw, moment):
             image = image.laid(end, torn(draw, bytes(length - end), b"\1" * (length - end)))
         image = Content(image.low[:length], image.high[: max(0, length - SECOND)], length)
     return image
+
+
+def is_begun(image):
+    """Whether there are only zeros, and bytes of an empty disk in their places, with its gate shut."""
+    first = slot(1, EMPTY, 0).ljust(len(image.low), b"\0")
+    fits = all(byte in (0, its) for byte, its in zip(image.low, first))
+    return fits and not any(image.high) and image.length <= SECOND + HEAD
 
 
 class Power(Stops):
@@ -231,15 +238,20 @@ class Power(Stops):
             self.equals(ran.command, f"whether writes and syncs are among {kinds}", True, {"W", "S"} <= kinds)
 
     def test_a_create_that_was_cut_short_is_done_again(self):
-        """Nothing is promised of what it leaves, but that the next one makes an empty disk of it."""
+        """Nothing is promised of what it leaves, but that the next one makes an empty disk of it: unasked where it has left only
+        zeros and bytes of its own."""
         draw, disk, log = self.draws(), self.room / "new.disk", self.room / "log"
+        unasked = 0
         for before in (Content(b"", b"", 0), Content(slot(5, EMPTY), slot(6, b"torn"), SECOND + 17)):
             before.write(disk)
-            self.runs("create", "--disk", disk, **recording(log))
+            self.runs("create", "--disk", disk, "--overwrite", **recording(log))
             for moment in moments_of(Moment(before, []), noted(log)):
                 for _ in range(4):
-                    image_of(draw, moment).write(self.file)
-                    self.runs("create", "--disk", self.file)
+                    image = image_of(draw, moment)
+                    image.write(self.file)
+                    unasked += is_begun(image)
+                    self.runs("create", "--disk", self.file, *([] if is_begun(image) else ["--overwrite"]))
                     self.serves(self.file, "list", ["jobs"])
             moment.synced.write(self.file)
             self.serves(self.file, "list", ["jobs"])
+        self.equals("create", f"that some of {unasked} images are begun ones", True, unasked >= 5)

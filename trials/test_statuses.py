@@ -7,6 +7,8 @@ import subprocess
 from disks import EMPTY, HEAD, OLD_EMPTY, SECOND, disk_of, old_form, slot, table_by_hand
 from program import PROGRAM, Server, Trial, grows_to, run
 
+NOT_EMPTY = "the file holds something; `--overwrite` makes it an empty disk all the same"
+
 ADD = "{Add(x,x)><Z;Add(S(x),y)><S(Add(x,y))}"
 TWO = f"submit two {ADD} <r|Add(r,S(Z))=S(Z)>"
 
@@ -103,6 +105,10 @@ class Words(Trial):
         ("serve", "--disk", "F", "--every", ""),
         ("serve", "--disk", "F", "--sometimes", "1"),
         ("create", "--disk", "F", "--workers", "2"),
+        ("create", "--overwrite"),
+        ("create", "--disk", "F", "--overwrite", "--overwrite"),
+        ("create", "--disk", "F", "--overwrite=yes"),
+        ("serve", "--disk", "F", "--overwrite"),
         ("attend",),
         ("attend", "F"),
         ("attend", "--disk"),
@@ -168,7 +174,7 @@ class Disks(Trial):
                 path = self.room / name
                 if before is not None:
                     path.write_bytes(before)
-                self.runs("create", "--disk", path)
+                self.runs("create", "--disk", path, "--overwrite")
                 rest = before[len(empty) :] if before else b""
                 between = (before or b"")[18:SECOND].ljust(SECOND - 18, b"\0")
                 self.holds(path, empty[:18] + between + empty[SECOND:] + rest)
@@ -176,8 +182,37 @@ class Disks(Trial):
         disk = self.disk()
         self.holds(disk, empty)
         self.serves(disk, [TWO], ["accepted"])
-        self.runs("create", "--disk", disk)
+        self.runs("create", "--overwrite", "--disk", disk)
         self.serves(disk, "list", ["jobs"])
+
+    def test_create_makes_an_empty_disk_of_what_is_unused(self):
+        """An empty file, an empty disk, and what a `create` of an empty file leaves where it is stopped: of both forms."""
+        cases = [disk_of(slot(1, OLD_EMPTY), slot(2, EMPTY))]
+        for form in (EMPTY, OLD_EMPTY):
+            begun = slot(1, form, 0)
+            cases += [disk_of(slot(1, form)), disk_of(slot(7, form)), disk_of(slot(1, form), slot(2, form))]
+            cases += [begun[:length] for length in range(len(begun) + 1)]
+            cases += [begun[:length].ljust(SECOND + more, b"\0") for length in (0, 1, 9, 13, 18) for more in (1, HEAD)]
+        for i, data in enumerate(cases):
+            with self.subTest(case=i):
+                path = self.file("disk", data)
+                self.runs("create", "--disk", path)
+                self.serves(path, "list", ["jobs"])
+
+    def test_create_overwrites_nothing_else_unasked(self):
+        table = table_by_hand()
+        cases = [b"a text\n", b"x" * 100, bytes(SECOND + HEAD + 1), slot(1, EMPTY)[:12], slot(1, EMPTY)[:17]]
+        cases += [slot(1, EMPTY, 0) + b"x", disk_of(slot(3, b"x")), disk_of(slot(1, EMPTY), slot(1, EMPTY))]
+        cases += [disk_of(slot(1, table)), disk_of(slot(1, EMPTY), slot(2, table)), disk_of(slot(1, table, 0))]
+        cases += [disk_of(slot(1, old_form(table))), slot(1, b"ICT3\0", 0), slot(2, EMPTY, 0)]
+        for i, data in enumerate(cases):
+            with self.subTest(case=i):
+                path = self.file("disk", data)
+                ran = self.refuses("create", "--disk", path, line="not empty", status=3)
+                self.agrees(ran.command, "what is told behind", f"{path}: {NOT_EMPTY}\n", ran.behind)
+                self.holds(path, data)
+                self.runs("create", "--disk", path, "--overwrite")
+                self.serves(path, "list", ["jobs"])
 
     def test_what_is_kept_is_the_table_that_the_page_writes_by_hand(self):
         table = table_by_hand()

@@ -102,7 +102,7 @@ class Closed(Trial):
         """Whatever is closed: the disk is a disk behind it, and holds what it held and what was asked."""
         for streams in ([0], [1], [2], [0, 1], [0, 2], [1, 2], [0, 1, 2]):
             disk = self.room / "closed.disk"
-            self.closed(streams, "create", "--disk", disk)
+            self.closed(streams, "create", "--disk", disk, "--overwrite")
             self.serves(disk, [f"submit two {TWO.text}"], ["accepted"])
             before = disk.read_bytes()
             fault = "read" if 0 in streams else "write" if 1 in streams else None

@@ -13,11 +13,15 @@ use Rattle.ic_serving.specs.declared.fault.ServeFault.TheVariants as serve
 use Rattle.ic_scripts.specs.declared.fault.ScriptsFault.{ScriptsFault}
 use Rattle.ic_scripts.specs.declared.fault.ScriptsFault.TheVariants as scripts
 use Rattle.ic_endings.specs.declared.failure.Failure.{Failure}
-use Rattle.ic_endings.specs.declared.failure.Failure.TheVariants.{Words, Stream, Disk, Create, Open, Serve, Attend, NotDone}
+use Rattle.ic_endings.specs.declared.failure.Failure.TheVariants.{Words, Stream, Disk, Create, NotEmpty, Open, Serve, Attend, NotDone}
 
 -- of a file that is no disk
 abbrev pub no_disk : List ℕ
 no_disk = codes "the file is no disk; `icserve create --disk F` makes a new file F one"
+
+-- of a file that isn't empty
+abbrev pub not_empty : List ℕ
+not_empty = codes "the file holds something; `--overwrite` makes it an empty disk all the same"
 
 -- of a file that no server has left so
 abbrev pub not_as_left : List ℕ
@@ -75,6 +79,7 @@ scripts_lines scripts.Write path cause = []
 abbrev pub lines_behind : Failure → List ℕ → Option Cause → List ℕ
 lines_behind (Disk fault) path cause = cause_line path cause
 lines_behind (Create fault) path cause = create_lines fault path cause
+lines_behind NotEmpty path cause = shown_of path not_empty
 lines_behind (Open fault) path cause = open_lines fault path cause
 lines_behind (Serve fault) path cause = serve_lines fault path cause
 lines_behind (Attend fault) path cause = scripts_lines fault path cause

@@ -18,7 +18,7 @@ use Rattle.ic_scripts.specs.declared.fault.ScriptsFault.{ScriptsFault}
 use Rattle.ic_scripts.specs.declared.fault.ScriptsFault.TheVariants as scripts
 use Rattle.ic_words.specs.declared.words.WordsFault.TheVariants as words
 use Rattle.ic_endings.specs.declared.failure.Failure.{Failure}
-use Rattle.ic_endings.specs.declared.failure.Failure.TheVariants.{Words, Stream, Disk, Create, Open, Serve, Attend, NotDone}
+use Rattle.ic_endings.specs.declared.failure.Failure.TheVariants.{Words, Stream, Disk, Create, NotEmpty, Open, Serve, Attend, NotDone}
 
 -- the exit status of `attend`: 1 for a refused script, 3 for a disk that isn't opened, 4 for all
 -- else
@@ -45,6 +45,7 @@ status_of (Stream stream.Memory) = 4
 status_of (Stream stream.Write) = 4
 status_of (Disk fault) = 3
 status_of (Create fault) = 3
+status_of NotEmpty = 3
 status_of (Open cause) = 3
 status_of (Serve fault) = 4
 status_of (Attend fault) = scripts_status fault
@@ -116,6 +117,7 @@ failure_line (Words words.Memory) = told (codes "memory")
 failure_line (Stream fault) = told (stream_word fault)
 failure_line (Disk fault) = told (codes "device")
 failure_line (Create fault) = told (create_word fault)
+failure_line NotEmpty = told (codes "not empty")
 failure_line (Open cause) = told (open_word cause)
 failure_line (Serve fault) = told (serve_word fault)
 failure_line (Attend fault) = told (scripts_word fault)

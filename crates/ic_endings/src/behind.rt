@@ -15,6 +15,10 @@ use std::alloc::{AllocError, Global};
 /// What is said of a file that is no disk.
 const NO_DISK: &[u8] = b"the file is no disk; `icserve create --disk F` makes a new file F one";
 
+/// What is said of a file that isn't empty.
+const NOT_EMPTY: &[u8] =
+    b"the file holds something; `--overwrite` makes it an empty disk all the same";
+
 /// What is said of a file that no server has left so.
 const NOT_AS_LEFT: &[u8] = b"something else has changed the file, or it was copied in part";
 
@@ -32,6 +36,7 @@ impl Failure {
         match self {
             Failure::Disk(_) => cause_line(alloc, path, cause),
             Failure::Create(fault) => create_lines(alloc, *fault, path, cause),
+            Failure::NotEmpty => said_of(alloc, path, NOT_EMPTY),
             Failure::Open(fault) => open_lines(alloc, *fault, path, cause),
             Failure::Serve(fault) => serve_lines(alloc, *fault, path, cause),
             Failure::Attend(fault) => scripts_lines(alloc, *fault, path, cause),

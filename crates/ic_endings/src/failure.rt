@@ -27,6 +27,8 @@ pub enum Failure {
     Disk(DiskFault),
     /// No empty disk is made.
     Create(CreateFault),
+    /// No empty disk is made, since the file holds something that would be lost.
+    NotEmpty,
     /// The disk isn't opened.
     Open(OpenCause),
     /// A serving ended before the end of its lines.
@@ -48,7 +50,7 @@ impl Failure {
             Failure::Words(WordsFault::Memory) => 4,
             Failure::Stream(StreamFault::Text(_) | StreamFault::Round(_)) => 1,
             Failure::Stream(StreamFault::Read | StreamFault::Memory | StreamFault::Write) => 4,
-            Failure::Disk(_) | Failure::Create(_) | Failure::Open(_) => 3,
+            Failure::Disk(_) | Failure::Create(_) | Failure::NotEmpty | Failure::Open(_) => 3,
             Failure::Serve(_) => 4,
             Failure::Attend(fault) => scripts_status(*fault),
             Failure::NotDone => 5,
@@ -66,6 +68,7 @@ impl Failure {
             Failure::Stream(fault) => stream_line(alloc, *fault),
             Failure::Disk(_) => told(alloc, b"device"),
             Failure::Create(fault) => told(alloc, create_word(*fault)),
+            Failure::NotEmpty => told(alloc, b"not empty"),
             Failure::Open(cause) => told(alloc, open_word(*cause)),
             Failure::Serve(fault) => told(alloc, serve_word(*fault)),
             Failure::Attend(fault) => scripts_line(alloc, *fault),

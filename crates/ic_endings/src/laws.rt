@@ -20,7 +20,7 @@ ghost use Rattle.ic_serving.specs.declared.fault.ServeFault.TheVariants as serve
 ghost use Rattle.ic_words.specs.declared.words.WordsFault.TheVariants as words;
 ghost use Rattle.ic_lines.specs.declared.script.ScriptFault.{ScriptFault};
 ghost use Rattle.ic_scripts.specs.declared.fault.ScriptsFault.TheVariants as scripts;
-ghost use Rattle.ic_endings.specs.declared.failure.Failure.TheVariants.{Words, Stream, Disk, Create, Open, Serve, Attend, NotDone};
+ghost use Rattle.ic_endings.specs.declared.failure.Failure.TheVariants.{Words, Stream, Disk, Create, NotEmpty, Open, Serve, Attend, NotDone};
 ghost use Rattle.ic_endings.specs.Endings.{status_of, failure_line, stuck_line};
 ghost use Rattle.ic_endings.specs.Behind.{lines_behind};
 ghost use Rattle.ic_causes.specs.declared.cause.Cause.{Cause};
@@ -34,6 +34,7 @@ pub fn statuses_are(text: &String)
     ensures round { (fault : RoundFault) → status_of (Stream (stream.Round fault)) ≡ 1 }
     ensures file { (fault : DiskFault) → status_of (Disk fault) ≡ 3 }
     ensures create { (fault : CreateFault) → status_of (Create fault) ≡ 3 }
+    ensures not_empty { status_of NotEmpty ≡ 3 }
     ensures open { (cause : OpenCause) → status_of (Open cause) ≡ 3 }
     ensures serve { (fault : ServeFault) → status_of (Serve fault) ≡ 4 }
     ensures script { (place : ℕ) (refusal : ScriptFault)
@@ -72,6 +73,7 @@ pub fn lines_of_disks_are()
     ensures created { failure_line (Create creating.Device) ≡ codes "icserve: device" ++ 10 ∷ [] }
     ensures no_memory { failure_line (Create creating.Memory)
         ≡ codes "icserve: memory" ++ 10 ∷ [] }
+    ensures not_empty { failure_line NotEmpty ≡ codes "icserve: not empty" ++ 10 ∷ [] }
     ensures device { failure_line (Open opening.Device) ≡ codes "icserve: device" ++ 10 ∷ [] }
     ensures no_slot { failure_line (Open opening.NoSlot) ≡ codes "icserve: no slot" ++ 10 ∷ [] }
     ensures two_alike { failure_line (Open opening.TwoAlike)
@@ -148,6 +150,10 @@ pub fn lines_behind_are(text: &String)
     ensures no_disk { (path : List ℕ) (cause : Option Cause)
         → lines_behind (Open opening.NoSlot) path cause ≡ shown_path path ++ codes ": "
         ++ codes "the file is no disk; `icserve create --disk F` makes a new file F one" ++ 10 ∷ [] }
+    ensures not_empty { (path : List ℕ) (cause : Option Cause)
+        → lines_behind NotEmpty path cause ≡ shown_path path ++ codes ": "
+        ++ (codes "the file holds something; `--overwrite` makes it an empty disk"
+        ++ codes " all the same") ++ 10 ∷ [] }
     ensures damaged { (path : List ℕ) (cause : Option Cause)
         → lines_behind (Open opening.Damaged) path cause ≡ shown_path path ++ codes ": "
         ++ codes "something else has changed the file, or it was copied in part" ++ 10 ∷ [] }

@@ -30,7 +30,10 @@ fn asked(alloc: Global, task: &Task, part: &str) -> Result<String, AllocError> {
     match task {
         Task::Settle => String::from_str(alloc, "settle"),
         Task::Once => String::from_str(alloc, "once"),
-        Task::Create { disk } => format!(in alloc; "create {disk}"),
+        Task::Create { disk, overwrite } => {
+            let word = if *overwrite { "overwrite" } else { "create" };
+            format!(in alloc; "{word} {disk}")
+        }
         Task::Serve {
             disk,
             workers,

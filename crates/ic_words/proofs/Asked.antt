@@ -43,9 +43,9 @@ asked words none called (Ok Once) asks = record {
   settle = λ is. absurd (no_other_alone (codes "once") (codes "settle") words asks settle_met refl is);
   once = λ is. refl;
 }
-asked words none called (Ok (Create disk)) asks = record {
+asked words none called (Ok (Create disk overwrite)) asks = record {
   answers = ap₂ or_else none (no_format (codes "create") _ asks.0 refl);
-  named = (called_as called.0 (codes "create") words called.1 asks.0, asks.1);
+  named = (called_as called.0 (codes "create") words called.1 asks.0, asks.1, asks.2);
   settle = λ is. absurd (no_other_alone (codes "create") (codes "settle") words asks.0 settle_met refl is);
   once = λ is. absurd (no_other_alone (codes "create") (codes "once") words asks.0 once_met refl is);
 }

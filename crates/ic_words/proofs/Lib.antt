@@ -14,5 +14,6 @@ pub mod LookLines
 pub mod Steps
 pub mod LineRows
 pub mod TakenLines
+pub mod CreateLines
 mod HelpLemmas
 pub mod AttendLines

@@ -1,4 +1,4 @@
--- Each well-formed line of `create` and of `serve` is taken, with its values.
+-- Each well-formed line of `serve` is taken, with its values.
 use Rattle.std.proofs.Common.{◌≡◌, inl, inr, ℕ, ◌≤◌, List, [], ◌∷◌, ◌++◌, Bool, true, false, not, ◌||◌, cond, Option, None, Some, codes, fold, is_some, refl, sym, ◌∙◌, ap, ap₂, subst, append-nil, arith, unwrap_or, option_map, true≢false}
 use Rattle.std.specs.Prelude.{pos}
 use Rattle.std.proofs.lemmas.Bool.{eqb-true}
@@ -188,60 +188,3 @@ serve_taken words path threads rounds line =
       every = ap (value_met (codes "every")) met ∙ ap (λ (o : Option Text). unwrap_or o []) (every_value line.given read.rows rounds read.of line.once line.every);
       met = ap (λ (o : Option (Text × List Row)). option_map (λ (p : Text × List Row). p.0) o) met;
     }
-
--- ---- a line of `create`
-
-abbrev create_options : List Rule
-create_options = disk ∷ help ∷ []
-
-create_first : (rest : List Text) → walk_fault top (names_below false) (walk_from nothing_held) (codes "create" ∷ rest) ≡ []
-unfolding walk_fault walked
-create_first rest = no_fault_behind (codes "create") [] rest
-
-create_free : (rest : List Text) → level_fault (below 2) [] nothing_held rest false [] ≡ [] → fault_of command_line (codes "create" ∷ rest) ≡ []
-unfolding defaults_fault
-create_free rest free = ap (top_fault (codes "create" ∷ rest)) (create_stands rest)
-    ∙ ap₂ (λ (a b : Kinds). or_else a (or_else b [])) (create_first rest) free
-
-create_defaults : (rows : List Row) → defaults_fault rows create_options ≡ []
-unfolding defaults_fault
-create_defaults rows =
-    let first = with_default rows disk in
-    ap₂ or_else (either_none (has_row (codes "disk") rows) _) (ap₂ or_else (either_none (has_row (codes "help") first) _) refl)
-
-create_checked : (rows : List Row) → is_given (codes "disk") rows ≡ true → check_fault (below 2) rows false ≡ []
-create_checked rows given = ap checks given
-
-abbrev create_end : Held → Kinds
-create_end h = or_else (settle_fault create_options false h)
-    (or_else (defaults_fault (settled create_options h).rows create_options) (check_fault (below 2) (finished create_options h) false))
-
-pub record IsCreated (words : List Text) (path : Text) : Type 0 where
-  pub free : fault_of command_line words ≡ []
-  pub disk : value_met (codes "disk") (subcommand_of command_line words) ≡ path
-  pub met : IsMet (codes "create") (subcommand_of command_line words)
-
-create_left : (h : Held) → walk_fault (below 2) [] (at (below 2) create_options h) [] ≡ []
-unfolding walk_fault
-create_left h = refl
-
-pub create_taken : (words : List Text) (path : Text) → IsCreateLine path words → IsCreated words path
-create_taken words path line =
-    let rest = line.0 in
-    let one = reads_one (below 2) create_options (codes "disk") None vp.String true refl refl refl (λ v. (refl, refl)) (refl, refl) rest path nothing_held line.2 refl refl refl in
-    let ends = one.leads [] in
-    let same : rest ++ [] ≡ rest = append-nil rest in
-    let walks : walk_fault (below 2) [] (walk_from nothing_held) rest ≡ [] = ap (walk_fault (below 2) [] (walk_from nothing_held)) (sym same) ∙ ends.0 ∙ create_left one.behind in
-    let end : (walk create_options [] nothing_held rest).held ≡ one.behind =
-    ap (λ (w : Walk). w.held) (ap (fold (walked create_options []) (walk_from nothing_held)) (sym same) ∙ ends.1) in
-    let row : Row = row_with (codes "disk") path vp.String in
-    let rows : (settled create_options one.behind).rows ≡ row ∷ [] = one.read.rows in
-    let finish : finished create_options one.behind ≡ row ∷ [] = ap (λ (rs : List Row). with_default (with_default rs disk) help) rows in
-    let checks_none : check_fault (below 2) (finished create_options one.behind) false ≡ [] =
-    ap (λ (rs : List Row). check_fault (below 2) rs false) finish ∙ create_checked (row ∷ []) refl in
-    let end_none : create_end one.behind ≡ [] = ap₂ or_else one.read.settles (ap₂ or_else (create_defaults (settled create_options one.behind).rows) checks_none) in
-    let free : level_fault (below 2) [] nothing_held rest false [] ≡ [] = ap₂ or_else walks (ap create_end end ∙ end_none) in
-    let met : subcommand_of command_line words ≡ Some (codes "create", row ∷ []) =
-    ap (subcommand_of command_line) line.1 ∙ ap (λ (w : Walk). entered (built command_line) w.stopped) (create_stands rest)
-    ∙ ap (λ (h : Held). Some (codes "create", finished create_options h)) end ∙ ap (λ (rs : List Row). Some (codes "create", rs)) finish in
-    record { free = ap (fault_of command_line) line.1 ∙ create_free rest free; disk = ap (value_met (codes "disk")) met; met = ap (λ (o : Option (Text × List Row)). option_map (λ (p : Text × List Row). p.0) o) met }

@@ -21,7 +21,7 @@ program_help = text_of (codes "A job server for the interaction calculus"
     ∷ codes "  settle  Settles a configuration that has no rules, and prints it"
     ∷ []
     ∷ codes "To run jobs, which outlive a crash:"
-    ∷ codes "  create  Makes the file F an empty disk, whatever it held"
+    ∷ codes "  create  Makes the file F an empty disk"
     ∷ codes "  serve   Serves the lines of standard input over the disk in the file F"
     ∷ (codes "  attend  Gives the commands of scripts to the disk in the file F, one"
     ++ codes " client to a script")
@@ -50,13 +50,14 @@ once_help = text_of (codes "Makes one round of the system on standard input and 
     ∷ [])
 
 abbrev pub create_help : Text
-create_help = text_of (codes "Makes the file F an empty disk, whatever it held"
+create_help = text_of (codes "Makes the file F an empty disk"
     ∷ []
-    ∷ codes "Usage: icserve create --disk <F>"
+    ∷ codes "Usage: icserve create [OPTIONS] --disk <F>"
     ∷ []
     ∷ codes "Options:"
-    ∷ codes "      --disk <F>  The path of the file, which is made where it is missing"
-    ∷ codes "  -h, --help      Print help"
+    ∷ codes "      --disk <F>   The path of the file, which is made where it is missing"
+    ∷ codes "      --overwrite  Whatever the file holds, jobs too"
+    ∷ codes "  -h, --help       Print help"
     ∷ [])
 
 abbrev pub serve_help : Text

@@ -1,5 +1,5 @@
 -- To be believed: the lines of words that are well formed, in words of their own.
-use Rattle.std.specs.Prelude.{◌≡◌, ◌≢◌, ◌⊎◌, ◌<◌, ◌≤◌, ◌^◌, ℕ, List, [], ◌∷◌, ◌++◌, codes, length}
+use Rattle.std.specs.Prelude.{◌≡◌, ◌≢◌, ◌⊎◌, ◌<◌, ◌≤◌, ◌^◌, ℕ, Bool, true, false, List, [], ◌∷◌, ◌++◌, codes, length}
 use Rattle.std.specs.List.{AllByRecursion}
 use Rattle.clap.specs.Words.{Text}
 use Rattle.ic_words.specs.Words.{IsDecimal, most_rounds}
@@ -60,10 +60,17 @@ abbrev pub IsTraceOption : Given → Type 0
 IsTraceOption given = IsRoundsOption given
     ⊎ ((given.name ≡ codes "format") × IsFormatText given.value)
 
--- `create --disk F`
-abbrev pub IsCreateLine : Text → List Text → Type 0
-IsCreateLine disk words = (rest : List Text) × (words ≡ codes "create" ∷ rest)
-    × IsWritten (record { name = codes "disk"; value = disk }) rest
+-- `--overwrite` stands before these words or behind them, or isn't there
+abbrev pub IsOverwriting : Bool → List Text → List Text → Type 0
+IsOverwriting false words line = line ≡ words
+IsOverwriting true words line =
+    (line ≡ codes "--overwrite" ∷ words) ⊎ (line ≡ words ++ codes "--overwrite" ∷ [])
+
+-- `create --disk F`, with `--overwrite` or without
+abbrev pub IsCreateLine : Text → Bool → List Text → Type 0
+IsCreateLine disk overwrite words = (option rest : List Text) × (words ≡ codes "create" ∷ rest)
+    × IsOverwriting overwrite option rest
+    × IsWritten (record { name = codes "disk"; value = disk }) option
 
 -- no option has the name of one behind it
 abbrev pub AreOnce : List Given → Type 0

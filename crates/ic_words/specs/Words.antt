@@ -9,6 +9,7 @@ use Rattle.clap.specs.Words.{fault_of, new_rule, one_of, subcommand_of, with_rul
 use Rattle.clap.specs.Kinds.{or_else}
 use Rattle.clap.specs.Lexer.{usize_max}
 use Rattle.clap.specs.Simple.{on_top}
+use Rattle.clap.specs.declared.builder.action.ArgAction.TheVariants.{SetTrue}
 use Rattle.clap.specs.declared.builder.value_parser.ValueParser.TheVariants as parser
 use Rattle.clap.specs.declared.error.ErrorKind.{ErrorKind}
 use Rattle.clap.specs.declared.error.ErrorKind.TheVariants.{DisplayHelp, DisplayVersion, InvalidValue}
@@ -43,8 +44,15 @@ disk_option = record (new_rule (codes "disk")) {
   required = true;
 }
 
+-- the flag `--overwrite`
+abbrev pub overwrite_flag : Rule
+overwrite_flag = record (new_rule (codes "overwrite")) {
+  long = Some (codes "overwrite");
+  action = Some SetTrue;
+}
+
 abbrev pub create_command : App
-create_command = with_rule (new_app (codes "create")) disk_option
+create_command = with_rule (with_rule (new_app (codes "create")) disk_option) overwrite_flag
 
 -- the option `--workers N`, from 1 to 64, of which the default is 2
 abbrev pub workers_option : Rule
@@ -152,6 +160,10 @@ words_fault_number Memory = 2
 abbrev pub value_met : Text → Option (Text × List Row) → Text
 value_met option met = unwrap_or (option_and_then (λ p. first_of option p.1) met) []
 
+-- the flag of this name is met: the parser has given it the value `true`
+abbrev pub is_flag_met : Text → Option (Text × List Row) → Bool
+is_flag_met flag met = bytes_eq (value_met flag met) (codes "true")
+
 -- the text of a format
 abbrev pub format_word : TraceFormat → Text
 format_word Tsv = codes "tsv"
@@ -178,7 +190,7 @@ mistakes_of words = or_else (fault_of command_line words) (format_mistakes (subc
 abbrev pub AnswersWords : Kinds → Result Task WordsFault → Type 0
 AnswersWords mistakes (Ok Settle) = mistakes ≡ []
 AnswersWords mistakes (Ok Once) = mistakes ≡ []
-AnswersWords mistakes (Ok (Create disk)) = mistakes ≡ []
+AnswersWords mistakes (Ok (Create disk overwrite)) = mistakes ≡ []
 AnswersWords mistakes (Ok (Serve disk workers every)) = mistakes ≡ []
 AnswersWords mistakes (Ok (Attend disk runners turns workers scripts)) = mistakes ≡ []
 AnswersWords mistakes (Ok (Reduce rounds workers)) = mistakes ≡ []
@@ -203,7 +215,7 @@ GivesHelp (Ok (Help text)) = string_bytes text ≡ program_help
 GivesHelp (Err Memory) = Unit {0}
 GivesHelp (Ok Settle) = ⊥
 GivesHelp (Ok Once) = ⊥
-GivesHelp (Ok (Create disk)) = ⊥
+GivesHelp (Ok (Create disk overwrite)) = ⊥
 GivesHelp (Ok (Serve disk workers every)) = ⊥
 GivesHelp (Ok (Attend disk runners turns workers scripts)) = ⊥
 GivesHelp (Ok (Reduce rounds workers)) = ⊥
@@ -218,7 +230,7 @@ GivesVersion (Ok (Version text)) = string_bytes text ≡ version_line
 GivesVersion (Err Memory) = Unit {0}
 GivesVersion (Ok Settle) = ⊥
 GivesVersion (Ok Once) = ⊥
-GivesVersion (Ok (Create disk)) = ⊥
+GivesVersion (Ok (Create disk overwrite)) = ⊥
 GivesVersion (Ok (Serve disk workers every)) = ⊥
 GivesVersion (Ok (Attend disk runners turns workers scripts)) = ⊥
 GivesVersion (Ok (Reduce rounds workers)) = ⊥
@@ -269,8 +281,9 @@ pub record NamesAttend (words : List Text) (path : Text) (r t n : ℕ) (paths : 
 abbrev pub Names : List (List ℕ) → Task → Type 0
 Names words Settle = NamesCommand (codes "settle") words
 Names words Once = NamesCommand (codes "once") words
-Names words (Create disk) = BeginsWith (codes "create") words
+Names words (Create disk overwrite) = BeginsWith (codes "create") words
     × (string_bytes disk ≡ value_met (codes "disk") (subcommand_of command_line words))
+    × (overwrite ≡ is_flag_met (codes "overwrite") (subcommand_of command_line words))
 Names words (Serve disk workers every) = BeginsWith (codes "serve") words
     × (string_bytes disk ≡ value_met (codes "disk") (subcommand_of command_line words))
     × IsNumberOf (codes "workers") 1 64 words workers

@@ -17,7 +17,7 @@ To look at a system, which is read from standard input:
   settle  Settles a configuration that has no rules, and prints it
 
 To run jobs, which outlive a crash:
-  create  Makes the file F an empty disk, whatever it held
+  create  Makes the file F an empty disk
   serve   Serves the lines of standard input over the disk in the file F
   attend  Gives the commands of scripts to the disk in the file F, one client to a script
 
@@ -48,13 +48,14 @@ Options:
 
 /// The help of `create`.
 const CREATE: &str = "\
-Makes the file F an empty disk, whatever it held
+Makes the file F an empty disk
 
-Usage: icserve create --disk <F>
+Usage: icserve create [OPTIONS] --disk <F>
 
 Options:
-      --disk <F>  The path of the file, which is made where it is missing
-  -h, --help      Print help
+      --disk <F>   The path of the file, which is made where it is missing
+      --overwrite  Whatever the file holds, jobs too
+  -h, --help       Print help
 ";
 
 /// The help of `serve`.

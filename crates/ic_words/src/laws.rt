@@ -1,6 +1,6 @@
 //! Laws of the words after the program's name, in words of their own.
 
-ghost use Rattle.std.specs.Prelude.{◌≡◌, ◌≢◌, ◌↔◌, ◌⊎◌, ◌<◌, ◌≤◌, ◌^◌, ℕ, List, [], ◌∷◌, ◌++◌, Ok, Err, codes, map, string_bytes};
+ghost use Rattle.std.specs.Prelude.{◌≡◌, ◌≢◌, ◌↔◌, ◌⊎◌, ◌<◌, ◌≤◌, ◌^◌, ℕ, Bool, List, [], ◌∷◌, ◌++◌, Ok, Err, codes, map, string_bytes};
 ghost use Rattle.std.specs.List.{AllByRecursion};
 ghost use Rattle.std.specs.Fmt.{decimal};
 ghost use Rattle.clap.specs.Words.{Text};
@@ -117,7 +117,7 @@ pub fn each_command_has_its_help()
         ∷ codes "from 0 to 4611686018427387904 [default: 1000000]" ∷ codes "--format <FORMAT>"
         ∷ codes "(tsv)" ∷ codes "(svg)" ∷ codes "[default: tsv]" ∷ []) }
     ensures disk { AllByRecursion (Says create_help)
-        (codes "icserve create" ∷ codes "--disk <F>" ∷ []) }
+        (codes "icserve create" ∷ codes "--disk <F>" ∷ codes "--overwrite" ∷ []) }
     ensures numbers { AllByRecursion (Says serve_help) (codes "icserve serve" ∷ codes "--disk <F>"
         ∷ codes "--workers <N>" ∷ codes "from 1 to 64 [default: 2]"
         ∷ codes "--every <K>" ∷ codes "from 1 to 1000000 [default: 100]" ∷ []) }
@@ -127,12 +127,14 @@ pub fn each_command_has_its_help()
         ∷ codes "--workers <N>" ∷ codes "from 1 to 64 [default: 2]" ∷ []) }
 {}
 
-/// A well-formed line of `create` is taken, and names the file that it is given.
+/// A well-formed line of `create` is taken, and names the file that it is given, and whether it has
+/// the flag.
 pub fn create_lines_are_taken(disk: &String)
-    ensures taken { (words : List Text) (path : Text) → IsCreateLine path words
-        → mistakes_of words ≡ [] }
-    ensures named { (words : List Text) (path : Text) → IsCreateLine path words
-        → Names words (Create disk.now) → string_bytes disk.now ≡ path }
+    ensures taken { (words : List Text) (path : Text) (overwrite : Bool)
+        → IsCreateLine path overwrite words → mistakes_of words ≡ [] }
+    ensures named { (words : List Text) (path : Text) (overwrite named : Bool)
+        → IsCreateLine path overwrite words → Names words (Create disk.now named)
+        → (string_bytes disk.now ≡ path) × (named ≡ overwrite) }
 {}
 
 /// A well-formed line of `serve` is taken, in whatever order its options stand, and names the file

@@ -6,14 +6,14 @@ ghost use Rattle.clap.specs.declared.builder.command.Command.TheViews.{out-Comma
 ghost use Rattle.ic_words.specs.Words.{AnswersWords, GivesHelp, GivesTask, GivesVersion, Names};
 ghost use Rattle.ic_words.specs.Words.{attend_command, command_line, create_command, program, reduce_command};
 ghost use Rattle.ic_words.specs.Words.{serve_command, trace_command, with_disks, with_streams};
-ghost use Rattle.ic_words.specs.Words.{disk_option, every_option, format_option, rounds_option, runners_option};
-ghost use Rattle.ic_words.specs.Words.{script_argument, turns_option, workers_option};
+ghost use Rattle.ic_words.specs.Words.{disk_option, every_option, format_option, overwrite_flag, rounds_option};
+ghost use Rattle.ic_words.specs.Words.{runners_option, script_argument, turns_option, workers_option};
 ghost use Rattle.ic_words.specs.Words.{mistakes_of, value_met, values_met};
 ghost use Rattle.ic_words.specs.inner.Asking.{Asks, IsCommandMet, IsMet, IsReadFrom};
 
 use crate::help::help_of;
 use clap::error::ErrorKind;
-use clap::{Arg, ArgMatches, Command, value_parser};
+use clap::{Arg, ArgAction, ArgMatches, Command, value_parser};
 use std::alloc::{AllocError, AllocFailed, Global};
 
 /// The version of the program.
@@ -45,6 +45,8 @@ pub enum Task {
     Create {
         /// The path of the file.
         disk: String,
+        /// Whether what the file holds is overwritten, whatever it is.
+        overwrite: bool,
     },
     /// Serve the lines of standard input over a disk.
     Serve {
@@ -180,7 +182,8 @@ fn create_task(alloc: Global, matches: &ArgMatches) -> Result<Task, WordsFault>
     ensures { Asks (subcommand_rows_of matches.now) result }
 {
     let disk = String::from_str(alloc, value_of(matches, "disk"))?;
-    Ok(Task::Create { disk })
+    let overwrite = value_of(matches, "overwrite") == "true";
+    Ok(Task::Create { disk, overwrite })
 }
 
 /// The task of `serve`.
@@ -322,6 +325,16 @@ fn disk_option<'a>(alloc: Global) -> Arg<'a>
         .required(true)
 }
 
+/// The flag that overwrites whatever the file holds.
+fn overwrite_flag<'a>(alloc: Global) -> Arg<'a>
+    ensures rule { rule_of result ≡ overwrite_flag }
+    ensures local { result.global ≡ false }
+{
+    Arg::new(alloc, "overwrite")
+        .long("overwrite")
+        .action(ArgAction::SetTrue)
+}
+
 /// The option that says how many threads make a round.
 fn workers_option<'a>(alloc: Global) -> Arg<'a>
     ensures rule { rule_of result ≡ workers_option }
@@ -407,7 +420,8 @@ fn create_command<'a>(alloc: Global) -> Result<Command<'a>, AllocError>
     ensures local { IfOk result (λ command. (out-Command command).has_globals ≡ false) }
 {
     let disk = disk_option(alloc);
-    Command::new(alloc, "create").arg(disk)
+    let overwrite = overwrite_flag(alloc);
+    Command::new(alloc, "create").arg(disk)?.arg(overwrite)
 }
 
 /// The command that serves lines.

@@ -9,6 +9,7 @@ use ic_causes::{NotedFile, NotedFiles, Notes};
 use ic_desk::Book;
 use ic_disk::{DiskFault, FileDisk};
 use ic_endings::Failure;
+use ic_inspect::is_unused;
 use ic_jobs::Command;
 use ic_places::{once_telling, settle_telling};
 use ic_scripts::{ScriptsFault, add_script, attend_scripts};
@@ -57,7 +58,7 @@ fn begin<T: Threads + Wait + Sync>(
 /// The path of the disk's file that a task names, or no path.
 fn path_of(task: &Task) -> &str {
     match task {
-        Task::Create { disk } => disk.as_str(),
+        Task::Create { disk, .. } => disk.as_str(),
         Task::Serve { disk, .. } => disk.as_str(),
         Task::Attend { disk, .. } => disk.as_str(),
         _ => "",
@@ -82,7 +83,7 @@ fn run<T: Threads + Wait + Sync>(
         Task::Once => {
             once_telling(rt.alloc(), &mut input, &mut output, told).map_err(Failure::Stream)
         }
-        Task::Create { disk } => create(rt, disk.as_str(), notes),
+        Task::Create { disk, overwrite } => create(rt, disk.as_str(), overwrite, notes),
         Task::Serve {
             disk,
             workers,
@@ -149,10 +150,22 @@ fn open_disk<'a>(
     FileDisk::open(&files, path, create).map_err(Failure::Disk)
 }
 
-/// Puts the empty table on the disk in the file of this path.
-fn create(rt: &HostRuntime, path: &str, notes: &Notes) -> Result<(), Failure> {
-    let mut disk = open_disk(rt, path, true, notes)?;
+/// Puts the empty table on the disk in the file of this path. What stands there and would be lost is
+/// overwritten only where that is asked for.
+fn create(rt: &HostRuntime, path: &str, overwrite: bool, notes: &Notes) -> Result<(), Failure> {
+    let disk = open_disk(rt, path, true, notes)?;
+    let mut disk = if overwrite { disk } else { unused(rt, disk)? };
     ic_slots::create(rt.alloc(), &mut disk).map_err(Failure::Create)
+}
+
+/// The disk, where nothing is lost if it is made anew.
+fn unused<'a>(rt: &HostRuntime, disk: NotedDisk<'a>) -> Result<NotedDisk<'a>, Failure> {
+    let (disk, unused) = is_unused(rt.alloc(), disk);
+    if unused.map_err(Failure::Create)? {
+        Ok(disk)
+    } else {
+        Err(Failure::NotEmpty)
+    }
 }
 
 /// Opens the book on the disk in the file of this path.

@@ -1,7 +1,7 @@
 -- What a task is read from: the command that the parser met, with its rows.
 use Rattle.std.specs.Prelude.{◌≡◌, ◌≤◌, ◌⊎◌, ℕ, List, [], ◌∷◌, Option, Some, Result, Ok, Err, codes, map, option_map, string_bytes, false}
 use Rattle.clap.specs.Words.{Row, Text}
-use Rattle.ic_words.specs.Words.{IsDecimal, format_word, is_format, most_rounds, number_met, value_met, values_met}
+use Rattle.ic_words.specs.Words.{IsDecimal, format_word, is_flag_met, is_format, most_rounds, number_met, value_met, values_met}
 use Rattle.ic_words.specs.declared.words.Task.{Task}
 use Rattle.ic_words.specs.declared.words.Task.TheVariants.{Settle, Once, Create, Serve, Attend, Reduce, Trace, Draw, Help, Version}
 use Rattle.ic_words.specs.declared.words.WordsFault.{WordsFault}
@@ -34,8 +34,9 @@ IsCommandMet met = (name : Text) × IsIn name commands × IsMet name met
 abbrev pub Asks : Option (Text × List Row) → Result Task WordsFault → Type 0
 Asks met (Ok Settle) = IsMet (codes "settle") met
 Asks met (Ok Once) = IsMet (codes "once") met
-Asks met (Ok (Create disk)) = IsMet (codes "create") met
+Asks met (Ok (Create disk overwrite)) = IsMet (codes "create") met
     × (string_bytes disk ≡ value_met (codes "disk") met)
+    × (overwrite ≡ is_flag_met (codes "overwrite") met)
 Asks met (Ok (Serve disk workers every)) = IsMet (codes "serve") met
     × (string_bytes disk ≡ value_met (codes "disk") met)
     × IsReadFrom (codes "workers") 1 64 met workers × IsReadFrom (codes "every") 1 1000000 met every

@@ -21,7 +21,7 @@ pub returns-clause-program : goal.returns-clause-program
 returns-clause-program c = λ word words other. other_help word words other.0 other.1.0 other.1.1.0 other.1.1.1.0 other.1.1.1.1.0 other.1.1.1.1.1.0 other.1.1.1.1.1.1.0 other.1.1.1.1.1.1.1.0
 
 pub returns-clause-commands : goal.returns-clause-commands
-returns-clause-commands c = ((413, refl), ((357, refl), ((517, refl), ((576, refl), ((649, refl), ((125, refl), ((204, refl), ((276, refl), ((751, refl), ((779, refl), tt))))))))))
+returns-clause-commands c = ((413, refl), ((357, refl), ((517, refl), ((558, refl), ((631, refl), ((125, refl), ((204, refl), ((276, refl), ((733, refl), ((761, refl), tt))))))))))
 
 pub returns-clause-reduce : goal.returns-clause-reduce
 returns-clause-reduce c = λ words. refl
@@ -42,7 +42,7 @@ pub returns-clause-streams : goal.returns-clause-streams
 returns-clause-streams c = ((66, refl), (85, refl), (90, refl))
 
 pub returns-clause-disk : goal.returns-clause-disk
-returns-clause-disk c = ((57, refl), ((72, refl), tt))
+returns-clause-disk c = ((39, refl), ((64, refl), ((166, refl), tt)))
 
 pub returns-clause-numbers : goal.returns-clause-numbers
 returns-clause-numbers c = ((71, refl), ((95, refl), ((188, refl), ((250, refl), ((282, refl), ((343, refl), tt))))))

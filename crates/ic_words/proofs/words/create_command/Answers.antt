@@ -6,8 +6,10 @@ use Rattle.ic_words.proofs.words.create_command.Goals as goal
 pub returns : goal.returns
 returns c =
     let bare : app_of c.new.result ≡ new_app (codes "create") = c.new.ensures.app in
-    let option = c.disk_option-disk.ensures in
+    let disk = c.disk_option-disk.ensures in
+    let overwrite = c.overwrite_flag-overwrite.ensures in
+    let first = c.in_ok-arg.ensures.shape disk.local ∙ ap₂ with_rule bare disk.rule in
     record {
-      shape = IfOk-weaker c.arg.result _ _ (λ command h. h.shape option.local ∙ ap₂ with_rule bare option.rule) c.arg.ensures;
-      local = IfOk-weaker c.arg.result _ _ (λ command h. h.globals ∙ search rules) c.arg.ensures;
+      shape = IfOk-weaker c.arg-2.result _ _ (λ command h. h.shape overwrite.local ∙ ap₂ with_rule first overwrite.rule) c.arg-2.ensures;
+      local = IfOk-weaker c.arg-2.result _ _ (λ command h. h.globals ∙ search rules) c.arg-2.ensures;
     }

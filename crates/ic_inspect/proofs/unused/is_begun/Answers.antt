@@ -1,0 +1,18 @@
+use Rattle.std.proofs.Common.{◌≡◌, ◌∙◌, ℕ, ◌≤◌, List, length, sym, subst, arith}
+use Rattle.ic_inspect.specs.Unused.{IsFirst}
+use Rattle.ic_inspect.proofs.UnusedLemmas.{whole_bytes}
+use Rattle.ic_inspect.proofs.unused.is_begun.Goals as goal
+
+pub returns-clause-begun : goal.returns-clause-begun
+returns-clause-begun g c keeps =
+    let file = g.D.Disk.content c.args.disk.now in
+    let now = g.D.Disk.content c.len.new.self in
+    let stays : now ≡ file = (c.len.ensures.unchanged keeps).same in
+    let long : c.in_ok-len.len ≡ length file = c.in_ok-len.ensures.length keeps in
+    let long_now : c.in_ok-len.len ≡ length now = subst (λ (f : List ℕ). c.in_ok-len.len ≡ length f) (sym stays) long in
+    let short : length file ≤ 4194317 = omega (arith, long) in
+    let same : c.deref.result.now ≡ file =
+    c.deref.ensures.value ∙ c.in_ok-bytes.ensures.bytes (c.len.ensures.keeps ∙ keeps) ∙ whole_bytes c.in_ok-len.len now long_now ∙ stays in (
+      λ is. (short, subst (λ (l : List ℕ). IsFirst l) same (c.is_first.ensures.0 is)),
+      λ begun. c.is_first.ensures.1 (subst (λ (l : List ℕ). IsFirst l) (sym same) begun.1),
+    )
