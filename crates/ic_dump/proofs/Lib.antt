@@ -1,0 +1,17 @@
+pub mod Places
+pub mod PrintLemmas
+pub mod RuleLemmas
+pub mod Numbered
+pub mod Dumps
+pub mod Lists
+pub mod Tokens
+pub mod Known
+pub mod Table
+pub mod Turned
+pub mod Rules
+pub mod Sense
+pub mod Told
+pub mod Submitting
+pub mod Filling
+pub mod Feeds
+pub mod Served

@@ -1,0 +1,180 @@
+-- A configuration with its names numbered by first occurrence is one, and keeps its symbols.
+use Rattle.std.proofs.Common.{◌≡◌, ℕ, suc, ◌+◌, ◌<◌, ◌≤◌, ◌==◌, ◌||◌, ◌&&◌, Bool, true, false, cond, List, [], ◌∷◌, ◌++◌, length, map, slice_get, refl, sym, ap, ◌∙◌, subst, arith, length-append, one-add}
+use Rattle.std.specs.Prelude.{sum_by}
+use Rattle.std.specs.Cmp.{unsigned_Decides}
+use Rattle.std.specs.List.{flat_map, list_all, list_any, AllByRecursion}
+use Rattle.std.proofs.lemmas.Bool.{false≢true}
+use Rattle.std.proofs.lemmas.List.{length-map, map-append}
+use Rattle.std.proofs.lemmas.List.Sums.{sum_by-append, sum_by-cons}
+use Rattle.ic_term.specs.Symbol.{Symbol, has_arity, is_tree_over, are_trees_over, is_pair_over, is_over}
+use Rattle.ic_term.specs.Tree.{Tree, name, agent, Trees, no_trees, more_trees, Pair, list_of, names, names_of, nodes, nodes_of, pair_names, pair_nodes}
+use Rattle.ic_term.specs.Configuration.{Configuration, IsConfiguration, configuration_names, configuration_nodes, occurrences}
+use Rattle.ic_rules.specs.Renaming.{renamed, renamed_trees, first_behind, first_occurrences, number_among}
+use Rattle.ic_rules.specs.lemmas.RenamingLaws.{names-renamed, flat_names-renamed}
+use Rattle.ic_rules.specs.lemmas.NumberingLaws.{Undone, Among, each_among, each_undone, name_at}
+use Rattle.ic_dump.specs.Naming.{renamed_pair, renumbered}
+
+module _ (f : ℕ → ℕ) where
+  -- ---- a term keeps its nodes and its symbols
+  mutual
+    nodes-renamed : (t : Tree) → nodes (renamed f t) ≡ nodes t
+    nodes-renamed (name n) = refl
+    nodes-renamed (agent s ts) = ap (λ n. 1 + n) (nodes_of-renamed ts)
+
+    nodes_of-renamed : (ts : Trees) → nodes_of (renamed_trees f ts) ≡ nodes_of ts
+    nodes_of-renamed no_trees = refl
+    nodes_of-renamed (more_trees t ts) = λ i. nodes-renamed t i + nodes_of-renamed ts i
+
+  interface_nodes : (ts : List Tree) → sum_by nodes (map (renamed f) ts) ≡ sum_by nodes ts
+  interface_nodes [] = refl
+  interface_nodes (t ∷ ts) =
+      sum_by-cons nodes (renamed f t) (map (renamed f) ts) ∙ (λ i. nodes-renamed t i + interface_nodes ts i) ∙ sym (sum_by-cons nodes t ts)
+
+  equations_nodes : (es : List Pair) → sum_by pair_nodes (map (renamed_pair f) es) ≡ sum_by pair_nodes es
+  equations_nodes [] = refl
+  equations_nodes (e ∷ es) =
+      sum_by-cons pair_nodes (renamed_pair f e) (map (renamed_pair f) es)
+      ∙ (λ i. (nodes-renamed e.left i + nodes-renamed e.right i) + equations_nodes es i)
+      ∙ sym (sum_by-cons pair_nodes e es)
+
+  length-renamed : (ts : Trees) → length (list_of (renamed_trees f ts)) ≡ length (list_of ts)
+  length-renamed no_trees = refl
+  length-renamed (more_trees t ts) = ap suc (length-renamed ts)
+
+  module _ (ss : List Symbol) where
+    mutual
+      over-renamed : (t : Tree) → is_tree_over ss (renamed f t) ≡ is_tree_over ss t
+      over-renamed (name n) = refl
+      over-renamed (agent s ts) = λ i. has_arity (length-renamed ts i) (slice_get ss s) && over_of-renamed ts i
+
+      over_of-renamed : (ts : Trees) → are_trees_over ss (renamed_trees f ts) ≡ are_trees_over ss ts
+      over_of-renamed no_trees = refl
+      over_of-renamed (more_trees t ts) = λ i. over-renamed t i && over_of-renamed ts i
+
+    interface_over : (ts : List Tree) → list_all (is_tree_over ss) (map (renamed f) ts) ≡ list_all (is_tree_over ss) ts
+    interface_over [] = refl
+    interface_over (t ∷ ts) = λ i. over-renamed t i && interface_over ts i
+
+    equations_over : (es : List Pair) → list_all (is_pair_over ss) (map (renamed_pair f) es) ≡ list_all (is_pair_over ss) es
+    equations_over [] = refl
+    equations_over (e ∷ es) = λ i. (over-renamed e.left i && over-renamed e.right i) && equations_over es i
+
+  pair_names-renamed : (es : List Pair) → flat_map pair_names (map (renamed_pair f) es) ≡ map f (flat_map pair_names es)
+  pair_names-renamed [] = refl
+  pair_names-renamed (e ∷ es) =
+      (λ i. (names-renamed f e.left i ++ names-renamed f e.right i) ++ pair_names-renamed es i)
+      ∙ ap (λ l. l ++ map f (flat_map pair_names es)) (sym (map-append f (names e.left) (names e.right)))
+      ∙ sym (map-append f (pair_names e) (flat_map pair_names es))
+
+  pub all_names-renamed : (ts : List Tree) (es : List Pair) → flat_map names (map (renamed f) ts) ++ flat_map pair_names (map (renamed_pair f) es) ≡ map f (flat_map names ts ++ flat_map pair_names es)
+  all_names-renamed ts es =
+      (λ i. flat_names-renamed f ts i ++ pair_names-renamed es i) ∙ sym (map-append f (flat_map names ts) (flat_map pair_names es))
+
+-- ---- numbers
+
+place_below : (n : ℕ) (firsts : List ℕ) → list_any (λ m. n == m) firsts ≡ true → number_among firsts n < length firsts
+place_below n [] there = absurd (false≢true there)
+place_below n (m ∷ ms) there = by_test (n == m) refl there (place_below n ms)
+  where
+    by_test : (b : Bool) → (n == m) ≡ b → (b || list_any (λ k. n == k) ms) ≡ true → (list_any (λ k. n == k) ms ≡ true → number_among ms n < length ms) → number_among (m ∷ ms) n < suc (length ms)
+    by_test true is e below = rw is (omega arith)
+    by_test false is e below = let rest : number_among ms n < length ms = below e in rw (is, one-add) (omega (arith, rest))
+
+pub numbers_below : (firsts ns : List ℕ) → Among firsts ns → AllByRecursion (λ n. n < length firsts) (map (number_among firsts) ns)
+numbers_below firsts [] all = tt
+numbers_below firsts (n ∷ ns) all = (place_below n firsts all.0, numbers_below firsts ns all.1)
+
+few_firsts : (ns seen : List ℕ) → length (first_behind seen ns) ≤ length seen + length ns
+few_firsts [] seen = omega arith
+few_firsts (n ∷ ns) seen = by_test (list_any (λ m. n == m) seen) (few_firsts ns seen) (few_firsts ns (seen ++ n ∷ []))
+  where
+    by_test : (b : Bool) → length (first_behind seen ns) ≤ length seen + length ns → length (first_behind (seen ++ n ∷ []) ns) ≤ length (seen ++ n ∷ []) + length ns
+        → length (cond b (first_behind seen ns) (first_behind (seen ++ n ∷ []) ns)) ≤ length seen + suc (length ns)
+    by_test true known new = omega (arith, known)
+    by_test false known new = omega (arith, new, length-append seen (n ∷ []))
+
+-- there are no more first occurrences than names
+pub firsts_within : (ns : List ℕ) → length (first_occurrences ns) ≤ length ns
+firsts_within ns = omega (arith, few_firsts ns [])
+
+-- ---- names are nodes
+mutual
+  names_within : (t : Tree) → length (names t) ≤ nodes t
+  names_within (name n) = omega arith
+  names_within (agent s ts) = omega (arith, names_of_within ts)
+
+  names_of_within : (ts : Trees) → length (names_of ts) ≤ nodes_of ts
+  names_of_within no_trees = omega arith
+  names_of_within (more_trees t ts) = omega (arith, length-append (names t) (names_of ts), names_within t, names_of_within ts)
+
+pub list_names_within : (ts : List Tree) → length (flat_map names ts) ≤ sum_by nodes ts
+list_names_within [] = omega arith
+list_names_within (t ∷ ts) = omega (arith, length-append (names t) (flat_map names ts), names_within t, list_names_within ts, sum_by-cons nodes t ts)
+
+pairs_within : (es : List Pair) → length (flat_map pair_names es) ≤ sum_by pair_nodes es
+pairs_within [] = omega arith
+pairs_within (e ∷ es) =
+    omega (arith, length-append (pair_names e) (flat_map pair_names es), length-append (names e.left) (names e.right), names_within e.left, names_within e.right, pairs_within es, sum_by-cons pair_nodes e es)
+
+pub all_names_within : (c : Configuration) → length (configuration_names c) ≤ configuration_nodes c
+all_names_within c =
+    omega (arith, length-append (flat_map names c.interface) (flat_map pair_names c.equations), list_names_within c.interface, pairs_within c.equations)
+
+-- ---- no name stands more often than before
+
+occurrences-cons : (q n : ℕ) (ns : List ℕ) → occurrences q (n ∷ ns) ≡ cond (n == q) 1 0 + occurrences q ns
+occurrences-cons q n ns = sum_by-append (λ m. cond (m == q) 1 0) (n ∷ []) ns ∙ ap (λ k. k + occurrences q ns) (omega arith)
+
+no_more : (f back : ℕ → ℕ) (q : ℕ) (ns : List ℕ) → Undone f back ns → occurrences q (map f ns) ≤ occurrences (back q) ns
+no_more f back q [] undone = omega arith
+no_more f back q (n ∷ ns) undone =
+    omega (arith, occurrences-cons q (f n) (map f ns), occurrences-cons (back q) n ns, one_more (f n == q) (n == back q) same, no_more f back q ns undone.1)
+  where
+    same : (f n == q) ≡ true → (n == back q) ≡ true
+    same e = (unsigned_Decides n (back q)).1 (sym undone.0 ∙ ap back ((unsigned_Decides (f n) q).0 e))
+
+    one_more : (a b : Bool) → (a ≡ true → b ≡ true) → cond a 1 0 ≤ cond b 1 0
+    one_more true b to = rw (to refl) (omega arith)
+    one_more false true to = omega arith
+    one_more false false to = omega arith
+
+pub renumbered-names : (c : Configuration) → configuration_names (renumbered c) ≡ map (number_among (first_occurrences (configuration_names c))) (configuration_names c)
+renumbered-names c = all_names-renamed (number_among (first_occurrences (configuration_names c))) c.interface c.equations
+
+pub renumbered-is : (c : Configuration) → IsConfiguration c → IsConfiguration (renumbered c)
+renumbered-is c is =
+    let ns = configuration_names c in
+    let firsts = first_occurrences ns in
+    let f : ℕ → ℕ = number_among firsts in
+    let same : configuration_names (renumbered c) ≡ map f ns = renumbered-names c in
+    let count : configuration_nodes (renumbered c) ≡ configuration_nodes c = (λ i. interface_nodes f c.interface i + equations_nodes f c.equations i) in
+    let few : length firsts ≤ 8192 = omega (arith, firsts_within ns, all_names_within c, is.nodes) in
+    record {
+      nodes = omega (arith, count, is.nodes);
+      interface = omega (arith, length-map c.interface (renamed f), is.interface);
+      next = omega (arith, few);
+      below = subst (λ l. AllByRecursion (λ n. n < length firsts) l) (sym same) (numbers_below firsts ns (each_among [] ns));
+      twice = λ n. let more : occurrences n (map f ns) ≤ occurrences (name_at firsts n) ns = no_more f (name_at firsts) n ns (each_undone ns) in
+          let two : occurrences (name_at firsts n) ns ≤ 2 = is.twice (name_at firsts n) in
+          let moved : occurrences n (configuration_names (renumbered c)) ≡ occurrences n (map f ns) = ap (occurrences n) same in
+          omega (arith, more, two, moved);
+    }
+
+pub renumbered-over : (ss : List Symbol) (c : Configuration) → is_over ss (renumbered c) ≡ is_over ss c
+renumbered-over ss c =
+    let f : ℕ → ℕ = number_among (first_occurrences (configuration_names c)) in
+    λ i. interface_over f ss c.interface i && equations_over f ss c.equations i
+
+-- the renumbered configuration, by its parts
+pub renumbered_parts : (c : Configuration) (ns keys : List ℕ) (ts us : List Tree) (es gs : List Pair) (next : ℕ)
+    → ns ≡ configuration_names c → keys ≡ first_occurrences ns → ts ≡ c.interface → es ≡ c.equations
+    → us ≡ map (renamed (number_among keys)) ts → gs ≡ map (renamed_pair (number_among keys)) es → next ≡ length keys
+    → renumbered c ≡ record { interface = us; equations = gs; next = next }
+renumbered_parts c ns keys ts us es gs next names firsts terms equations numbered paired count =
+    let same : keys ≡ first_occurrences (configuration_names c) = firsts ∙ ap first_occurrences names in
+    let interface : us ≡ map (renamed (number_among (first_occurrences (configuration_names c)))) c.interface =
+    numbered ∙ (λ i. map (renamed (number_among (same i))) (terms i)) in
+    let pairs : gs ≡ map (renamed_pair (number_among (first_occurrences (configuration_names c)))) c.equations =
+    paired ∙ (λ i. map (renamed_pair (number_among (same i))) (equations i)) in
+    let number : next ≡ length (first_occurrences (configuration_names c)) = count ∙ ap length same in
+    λ i. record { interface = sym interface i; equations = sym pairs i; next = sym number i }

@@ -1,0 +1,98 @@
+-- A configuration as it is told is the job's but for the names of its wires.
+use Rattle.std.proofs.Common.{◌≡◌, ℕ, ◌<◌, ◌≤◌, Bool, true, false, cond, List, [], ◌∷◌, map, length, refl, sym, ap, ◌∙◌, arith}
+use Rattle.std.specs.Prelude.{nat_le}
+use Rattle.std.specs.List.{list_all, AllByRecursion}
+use Rattle.std.proofs.lemmas.Bool.{and_from, le-leb}
+use Rattle.ic_term.specs.Tree.{Tree, name, agent, Trees, no_trees, more_trees, Pair}
+use Rattle.ic_term.specs.Configuration.{Configuration, configuration_names}
+use Rattle.ic_rules.specs.Renaming.{renamed, renamed_trees, first_occurrences, number_among}
+use Rattle.ic_rules.specs.lemmas.NumberingLaws.{Undone, name_at, each_undone, each_among}
+use Rattle.ic_jobs.specs.Job.{JobParts, IsJob}
+use Rattle.ic_text.specs.declared.limits.TheConstants.{MAX_NAME}
+use Rattle.ic_dump.specs.Naming.{renamed_pair, renumbered, has_names_of_texts, told}
+use Rattle.ic_dump.specs.Telling.{told_system}
+use Rattle.ic_dump.specs.Alike.{IsOneToOne, IsRenaming}
+use Rattle.ic_dump.proofs.Numbered.{renumbered-is, renumbered-over, renumbered-names, numbers_below, firsts_within, all_names_within}
+use Rattle.ic_dump.proofs.Sense.{IsWhole}
+
+-- ---- names that stay
+mutual
+  kept_tree : (t : Tree) → renamed (λ n. n) t ≡ t
+  kept_tree (name n) = refl
+  kept_tree (agent s ts) = ap (agent s) (kept_trees ts)
+
+  kept_trees : (ts : Trees) → renamed_trees (λ n. n) ts ≡ ts
+  kept_trees no_trees = refl
+  kept_trees (more_trees t ts) = λ i. more_trees (kept_tree t i) (kept_trees ts i)
+
+kept_interface : (ts : List Tree) → map (renamed (λ n. n)) ts ≡ ts
+kept_interface [] = refl
+kept_interface (t ∷ ts) = λ i. kept_tree t i ∷ kept_interface ts i
+
+kept_equations : (es : List Pair) → map (renamed_pair (λ n. n)) es ≡ es
+kept_equations [] = refl
+kept_equations (e ∷ es) = λ i. record { left = kept_tree e.left i; right = kept_tree e.right i } ∷ kept_equations es i
+
+one_to_one : (f back : ℕ → ℕ) (ns : List ℕ) → Undone f back ns → IsOneToOne f ns
+one_to_one f back ns undone = each ns undone
+  where
+    inner : (m : ℕ) → back (f m) ≡ m → (ks : List ℕ) → Undone f back ks → AllByRecursion (λ n. f m ≡ f n → m ≡ n) ks
+    inner m um [] uk = tt
+    inner m um (k ∷ ks) uk = ((λ e. sym um ∙ ap back e ∙ uk.0), inner m um ks uk.1)
+
+    each : (ms : List ℕ) → Undone f back ms → AllByRecursion (λ m. AllByRecursion (λ n. f m ≡ f n → m ≡ n) ns) ms
+    each [] um = tt
+    each (m ∷ ms) um = (inner m um.0 ns undone, each ms um.1)
+
+same_undone : (ns : List ℕ) → Undone (λ n. n) (λ n. n) ns
+same_undone [] = tt
+same_undone (n ∷ ns) = (refl, same_undone ns)
+
+-- a renaming, and what it is called by
+pub record Renamed (c d : Configuration) : Type 0 where
+  pub rename : ℕ → ℕ
+  pub is : IsRenaming rename c d
+
+renamed_by : (c : Configuration) (b : Bool) → Renamed c (cond b c (renumbered c))
+renamed_by c true = record {
+  rename = λ n. n;
+  is = record {
+    one_to_one = one_to_one (λ n. n) (λ n. n) (configuration_names c) (same_undone (configuration_names c));
+    interface = sym (kept_interface c.interface);
+    equations = sym (kept_equations c.equations);
+  };
+}
+renamed_by c false = record {
+  rename = number_among (first_occurrences (configuration_names c));
+  is = record {
+    one_to_one = one_to_one (number_among (first_occurrences (configuration_names c))) (name_at (first_occurrences (configuration_names c))) (configuration_names c) (each_undone (configuration_names c));
+    interface = refl;
+    equations = refl;
+  };
+}
+
+pub told_renamed : (c : Configuration) → Renamed c (told c)
+told_renamed c = renamed_by c (has_names_of_texts c)
+
+-- ---- the told configuration is one, with names of texts
+
+low : (k : ℕ) (ns : List ℕ) → k ≤ 8192 → AllByRecursion (λ n. n < k) ns → list_all (λ n. nat_le n MAX_NAME) ns ≡ true
+low k [] few all = refl
+low k (n ∷ ns) few all = let here : n ≤ MAX_NAME = omega (arith, all.0) in and_from _ _ (le-leb n MAX_NAME here) (low k ns few all.1)
+
+whole_by : (j : JobParts) → IsJob j → (b : Bool) → has_names_of_texts j.config ≡ b → IsWhole (record { rules = j.rules; config = cond b j.config (renumbered j.config) })
+whole_by j is true e = record { symbols = is.symbols; rules = is.rules; config = is.config; over = is.over; names = e }
+whole_by j is false e =
+    let ns = configuration_names j.config in
+    let firsts = first_occurrences ns in
+    let few : length firsts ≤ 8192 = omega (arith, firsts_within ns, all_names_within j.config, is.config.nodes) in
+    record {
+      symbols = is.symbols;
+      rules = is.rules;
+      config = renumbered-is j.config is.config;
+      over = renumbered-over j.rules.symbols j.config ∙ is.over;
+      names = ap (list_all (λ n. nat_le n MAX_NAME)) (renumbered-names j.config) ∙ low (length firsts) (map (number_among firsts) ns) few (numbers_below firsts ns (each_among [] ns));
+    }
+
+pub told_whole : (j : JobParts) → IsJob j → IsWhole (told_system j)
+told_whole j is = whole_by j is (has_names_of_texts j.config) refl

@@ -1,0 +1,33 @@
+-- To be believed: when a line submits a job.
+use Rattle.std.specs.Prelude.{◌≡◌, ℕ, List, Ok, map}
+use Rattle.std.specs.List.{AllByRecursion}
+use Rattle.ic_term.specs.Configuration.{Configuration, configuration_names}
+use Rattle.ic_rules.specs.Renaming.{renamed}
+use Rattle.ic_rules.specs.System.{SystemParts}
+use Rattle.ic_jobs.specs.Job.{JobParts}
+use Rattle.ic_jobs.specs.declared.command.Command.TheVariants as command
+use Rattle.ic_commands.specs.declared.line.Line.TheVariants.{Command as Asks}
+use Rattle.ic_commands.specs.LineText.{ReadsLine}
+use Rattle.ic_dump.specs.Naming.{renamed_pair}
+use Rattle.ic_dump.specs.Writing.{system_of}
+
+-- different names stay different
+abbrev pub IsOneToOne : (ℕ → ℕ) → List ℕ → Type 0
+IsOneToOne f ns = AllByRecursion (λ m. AllByRecursion (λ n. f m ≡ f n → m ≡ n) ns) ns
+
+-- A configuration is another one but for the names of its wires.
+pub record IsRenaming (f : ℕ → ℕ) (c d : Configuration) : Type 0 where
+  pub one_to_one : IsOneToOne f (configuration_names c)
+  pub interface : d.interface ≡ map (renamed f) c.interface
+  pub equations : d.equations ≡ map (renamed_pair f) c.equations
+
+-- A line submits a job: it is read as the submit of the job's name and budget, with a system that is
+-- written as the job's rules and configuration are, but for the names of wires. Symbols may have other
+-- numbers.
+pub record Submits (line : List ℕ) (j : JobParts) : Type 0 where
+  pub system : SystemParts
+  pub reads : ReadsLine line (Ok (Asks (command.Submit j.name system j.budget)))
+  pub rename : ℕ → ℕ
+  pub config : Configuration
+  pub renaming : IsRenaming rename j.config config
+  pub alike : system_of system ≡ system_of (record { rules = j.rules; config = config })

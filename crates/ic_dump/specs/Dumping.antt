@@ -1,0 +1,67 @@
+-- To be believed: what a dump of a table writes (this project's choice).
+use Rattle.std.specs.Prelude.{◌≡◌, ℕ, List, [], ◌∷◌, ◌++◌, Bool, true, not, is_some, Option, None, Some, Result, Ok, Err, filter, find}
+use Rattle.std.specs.List.{flat_map, list_any}
+use Rattle.std.specs.Io.KnownBytes.{Appends}
+use Rattle.ic_jobs.specs.Job.{JobParts}
+use Rattle.ic_jobs.specs.Table.{is_named, job_named}
+use Rattle.ic_dump.specs.declared.fault.DumpFault.{DumpFault}
+use Rattle.ic_dump.specs.declared.fault.DumpFault.TheVariants.{NoJob, TooLong, Memory, Write}
+use Rattle.ic_dump.specs.Telling.{job_line, is_too_long}
+
+-- a job is asked for: it has one of the names, or no name is given
+abbrev pub is_chosen : List (List ℕ) → JobParts → Bool
+is_chosen [] j = true
+is_chosen (name ∷ names) j = list_any (λ n. is_named n j) (name ∷ names)
+
+-- the jobs that are asked for, in the order of the table
+abbrev pub chosen : List (List ℕ) → List JobParts → List JobParts
+chosen names t = filter (is_chosen names) t
+
+-- the first name that no job has
+abbrev pub first_missing : List (List ℕ) → List JobParts → Option (List ℕ)
+first_missing names t = find (λ name. not (is_some (job_named name t))) names
+
+-- the lines of jobs in order, each with its line feed
+abbrev pub lines_of : List JobParts → List ℕ
+lines_of js = flat_map (λ j. job_line j ++ 10 ∷ []) js
+
+-- an answer, or the refusal of the job whose line is too long
+abbrev pub unless_long : Option JobParts → Result (List ℕ) DumpFault → Result (List ℕ) DumpFault
+unless_long None answer = answer
+unless_long (Some j) answer = Err (TooLong j.name)
+
+-- an answer, or the refusal of the name that no job has
+abbrev pub unless_missing : Option (List ℕ) → Result (List ℕ) DumpFault
+    → Result (List ℕ) DumpFault
+unless_missing None answer = answer
+unless_missing (Some name) answer = Err (NoJob name)
+
+-- The lines of the jobs that are asked for, or the first refusal: a name that no job has, a job whose
+-- line is too long.
+abbrev pub dumped : List (List ℕ) → List JobParts → Result (List ℕ) DumpFault
+dumped names t =
+    unless_missing (first_missing names t)
+    (unless_long (find is_too_long (chosen names t)) (Ok (lines_of (chosen names t))))
+
+-- the lines of a dump are appended to what was written
+abbrev pub WritesDump : List (List ℕ) → List JobParts → Option (List ℕ) → Option (List ℕ) → Type 0
+WritesDump names t old new =
+    (lines : List ℕ) × (dumped names t ≡ Ok lines) × Appends old new lines
+
+-- what a fault says of a dump: its refusal, or that there are lines, or nothing
+abbrev pub FaultOf : List (List ℕ) → List JobParts → DumpFault → Type 0
+FaultOf names t (NoJob name) = dumped names t ≡ Err (NoJob name)
+FaultOf names t (TooLong name) = dumped names t ≡ Err (TooLong name)
+FaultOf names t Memory = Unit {0}
+FaultOf names t Write = (lines : List ℕ) × (dumped names t ≡ Ok lines)
+
+-- the lasting numbers of the faults
+abbrev pub dump_fault_number : DumpFault → ℕ
+dump_fault_number (NoJob name) = 1
+dump_fault_number (TooLong name) = 2
+dump_fault_number Memory = 3
+dump_fault_number Write = 4
+
+-- all faults, in the order of their lasting numbers
+abbrev pub all_dump_faults : List ℕ → List DumpFault
+all_dump_faults name = NoJob name ∷ TooLong name ∷ Memory ∷ Write ∷ []

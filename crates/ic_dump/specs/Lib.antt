@@ -1,0 +1,8 @@
+-- What a reader of the public contracts must believe, and `inner`, which is for private functions.
+pub mod Naming
+pub mod Writing
+pub mod Telling
+pub mod Alike
+pub mod Filling
+pub mod Dumping
+pub mod inner

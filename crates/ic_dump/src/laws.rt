@@ -1,0 +1,88 @@
+//! What is proved of the definitions alone: each law is the contract of a function that does nothing, or calls the laws
+//! that it comes of.
+
+ghost use Rattle.std.specs.Prelude.{◌≡◌, ◌≤◌, ℕ, List, [], ◌∷◌, Contains, Ok, length, map, true};
+ghost use Rattle.std.specs.List.{flat_map, fold};
+ghost use Rattle.ic_term.specs.Configuration.{Configuration};
+ghost use Rattle.ic_jobs.specs.Job.{JobParts, IsJob};
+ghost use Rattle.ic_jobs.specs.Table.{IsTable};
+ghost use Rattle.ic_commands.specs.declared.line.Line.TheVariants.{Command as Asks};
+ghost use Rattle.ic_commands.specs.LineText.{ReadsLine};
+ghost use Rattle.ic_text.specs.declared.limits.TheConstants.{MAX_TEXT};
+ghost use Rattle.ic_dump.specs.declared.fault.DumpFault.{DumpFault};
+ghost use Rattle.ic_dump.specs.Alike.{Submits};
+ghost use Rattle.ic_lines.specs.Lines.{lines};
+ghost use Rattle.ic_lines.specs.Serving.{IsServed};
+ghost use Rattle.ic_dump.specs.Dumping.{all_dump_faults, chosen, dump_fault_number, dumped};
+ghost use Rattle.ic_dump.specs.Filling.{accepted, begun_again, read_again, submit_of, table_after};
+ghost use Rattle.ic_dump.specs.Naming.{has_names_of_texts, told};
+ghost use Rattle.ic_dump.specs.Telling.{job_line, told_system};
+ghost use Rattle.ic_dump.specs.Writing.{system_of};
+
+/// The line of a job is read as the submit of a job of its name and budget, with rules that are written as its rules are
+/// and a configuration that is written as its own is, but for the names of wires; where it isn't longer than a line may be.
+pub fn a_line_submits_its_job()
+    ensures { (j : JobParts) → IsJob j → length (job_line j) ≤ MAX_TEXT → Submits (job_line j) j }
+{
+    ic_term::laws::third_occurrence_is_the_first();
+    ic_rules::laws::level_rules_are_their_own_mirrors();
+    ic_text::laws::printed_spells();
+    ic_text::laws::one_system_reading();
+    ic_commands::laws::commands_ask();
+}
+
+/// The lines of a table's jobs, taken in its order by a table without jobs, leave the jobs as they begin: the same names in
+/// the same order with the same budgets, systems that are written as the told ones are, and no rounds made.
+pub fn the_lines_of_a_table_fill_an_empty_one()
+    ensures read { (j : JobParts) → IsJob j → length (job_line j) ≤ MAX_TEXT →
+        ReadsLine (job_line j) (Ok (Asks (submit_of j))) }
+    ensures alike { (j : JobParts) → IsJob j →
+        system_of (read_again j) ≡ system_of (told_system j) }
+    ensures filled { (t : List JobParts) → IsTable t →
+        fold table_after [] (map submit_of t) ≡ map begun_again t }
+    ensures name { (j : JobParts) → (begun_again j).name ≡ j.name }
+    ensures budget { (j : JobParts) → (begun_again j).budget ≡ j.budget }
+    ensures rounds { (j : JobParts) → (begun_again j).rounds ≡ 0 }
+{
+    ic_term::laws::third_occurrence_is_the_first();
+    ic_rules::laws::level_rules_are_their_own_mirrors();
+    ic_text::laws::printed_spells();
+    ic_text::laws::one_system_reading();
+    ic_commands::laws::commands_ask();
+}
+
+/// What a server makes of a dump: its lines are those of the jobs that were asked for, one each. Served from a table without
+/// jobs on, each is answered `accepted`, and they leave these jobs as they begin, in their order.
+pub fn a_dump_is_served_as_its_jobs()
+    ensures lines { (names : List (List ℕ)) (t : List JobParts) (bytes : List ℕ) →
+        IsTable t → dumped names t ≡ Ok bytes → lines bytes ≡ map job_line (chosen names t) }
+    ensures served { (names : List (List ℕ)) (t : List JobParts) (bytes : List ℕ) →
+        IsTable t → dumped names t ≡ Ok bytes →
+        IsServed [] (lines bytes) (flat_map accepted (chosen names t))
+        (map begun_again (chosen names t)) }
+{
+    ic_term::laws::third_occurrence_is_the_first();
+    ic_rules::laws::level_rules_are_their_own_mirrors();
+    ic_text::laws::printed_spells();
+    ic_text::laws::one_system_reading();
+    ic_text::laws::tokens_keep_bytes();
+    ic_commands::laws::commands_ask();
+    ic_lines::laws::lines_are_parted_by_line_feeds();
+}
+
+/// A configuration whose names may all stand in a text is told with them.
+pub fn names_of_texts_are_kept()
+    ensures { (c : Configuration) → has_names_of_texts c ≡ true → told c ≡ c }
+{}
+
+/// Where no name is given, all jobs are asked for.
+pub fn all_jobs_are_asked_for_without_names()
+    ensures { (t : List JobParts) → chosen [] t ≡ t }
+{}
+
+/// The lasting numbers of the faults, which are all that there are.
+pub fn numbers_are_lasting()
+    ensures all { (fault : DumpFault) → (name : List ℕ) × Contains (all_dump_faults name) fault }
+    ensures numbers { (name : List ℕ) → map dump_fault_number (all_dump_faults name)
+        ≡ 1 ∷ 2 ∷ 3 ∷ 4 ∷ [] }
+{}

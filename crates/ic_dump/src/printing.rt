@@ -1,0 +1,134 @@
+//! Rules as text.
+
+ghost use Rattle.std.specs.Prelude.{◌≡◌, ◌++◌, map, IfOk, OnOk, IsTrue};
+ghost use Rattle.std.specs.Fmt.{decimal};
+ghost use Rattle.std.specs.List.{AllByRecursion};
+ghost use Rattle.ic_term.specs.Symbol.{is_tree_over};
+ghost use Rattle.ic_term.specs.Term.{tree, cell_tree};
+ghost use Rattle.ic_term.specs.Tree.{agent, trees_of};
+ghost use Rattle.ic_rules.specs.RuleSet.{IsRuleOver};
+ghost use Rattle.ic_text.specs.Name.{name_text};
+ghost use Rattle.ic_dump.specs.Writing.{rules_text};
+ghost use Rattle.ic_dump.specs.inner.Printing.{term_text, rule_text, rules_list_text};
+
+use ic_rules::{Rule, RuleSet};
+use ic_term::{Cell, Symbols, Term, copy_terms};
+use std::alloc::{AllocError, Global};
+
+/// Appends the rules, in braces and with `;` between them.
+pub(crate) fn put_rules(alloc: Global, rules: &RuleSet, out: &mut Vec<u8>) -> Result<(), AllocError>
+    ensures { OnOk result (out.new.items ≡ out.old.items ++ rules_text rules.now) }
+{
+    out.push(b'{')?;
+    put_rule_list(alloc, rules.symbols(), rules.rules(), out)?;
+    out.push(b'}')?;
+    Ok(())
+}
+
+/// Appends rules with `;` between them.
+fn put_rule_list(
+    alloc: Global,
+    symbols: &Symbols,
+    rules: &[Rule],
+    out: &mut Vec<u8>,
+) -> Result<(), AllocError>
+    requires { AllByRecursion (IsRuleOver symbols.now) rules.now }
+    ensures { OnOk result (out.new.items ≡ out.old.items ++ rules_list_text symbols.now rules.now) }
+{
+    for (place, rule) in rules.iter().enumerate() {
+        if place > 0 {
+            out.push(b';')?;
+        }
+        put_rule(alloc, symbols, rule, out)?;
+    }
+    Ok(())
+}
+
+/// Appends a rule.
+fn put_rule(
+    alloc: Global,
+    symbols: &Symbols,
+    rule: &Rule,
+    out: &mut Vec<u8>,
+) -> Result<(), AllocError>
+    requires { IsRuleOver symbols.now rule.now }
+    ensures { OnOk result (out.new.items ≡ out.old.items ++ rule_text symbols.now rule.now) }
+{
+    let left = cell_of(alloc, rule.left(), rule.left_args())?;
+    put_cell(alloc, symbols, &left, out)?;
+    out.extend_from_slice(b"><")?;
+    let right = cell_of(alloc, rule.right(), rule.right_args())?;
+    put_cell(alloc, symbols, &right, out)
+}
+
+/// An agent of this symbol with copies of these arguments.
+fn cell_of(alloc: Global, sym: u32, args: &[Term]) -> Result<Cell, AllocError>
+    ensures { IfOk result (λ cell. cell_tree cell ≡ agent sym (trees_of (map tree args.now))) }
+{
+    Ok(Cell {
+        sym,
+        args: copy_terms(alloc, args)?,
+    })
+}
+
+/// Appends a number in digits.
+pub(crate) fn put_decimal(alloc: Global, number: u64, out: &mut Vec<u8>) -> Result<(), AllocError>
+    ensures { OnOk result (out.new.items ≡ out.old.items ++ decimal number) }
+{
+    let digits = number.to_string(alloc)?;
+    out.extend_from_slice(digits.as_bytes())?;
+    Ok(())
+}
+
+/// Appends the text of a name.
+fn put_name(alloc: Global, name: u64, out: &mut Vec<u8>) -> Result<(), AllocError>
+    ensures { OnOk result (out.new.items ≡ out.old.items ++ name_text name) }
+{
+    out.push(b'a' + (name % 26) as u8)?;
+    if name >= 26 {
+        put_decimal(alloc, name / 26, out)?;
+    }
+    Ok(())
+}
+
+/// Appends a term.
+#[cycle(put)]
+fn put_term(
+    alloc: Global,
+    symbols: &Symbols,
+    term: &Term,
+    out: &mut Vec<u8>,
+) -> Result<(), AllocError>
+    requires { IsTrue (is_tree_over symbols.now (tree term.now)) }
+    ensures { OnOk result (out.new.items ≡ out.old.items ++ term_text symbols.now (tree term.now)) }
+{
+    match term {
+        Term::Name(name) => put_name(alloc, *name, out),
+        Term::Agent(cell) => put_cell(alloc, symbols, cell, out),
+    }
+}
+
+/// Appends an agent.
+#[cycle(put)]
+fn put_cell(
+    alloc: Global,
+    symbols: &Symbols,
+    cell: &Cell,
+    out: &mut Vec<u8>,
+) -> Result<(), AllocError>
+    requires { IsTrue (is_tree_over symbols.now (cell_tree cell.now)) }
+    ensures { OnOk result
+        (out.new.items ≡ out.old.items ++ term_text symbols.now (cell_tree cell.now)) }
+{
+    out.extend_from_slice(symbols.text(cell.sym))?;
+    let mut sign = b'(';
+    for term in &cell.args {
+        out.push(sign)?;
+        put_term(alloc, symbols, term, out)?;
+        sign = b',';
+    }
+    if !cell.args.is_empty() {
+        out.push(b')')?;
+    }
+    Ok(())
+}
