@@ -13,7 +13,7 @@ use Rattle.ic_serving.specs.declared.fault.ServeFault.TheVariants as serve
 use Rattle.ic_scripts.specs.declared.fault.ScriptsFault.{ScriptsFault}
 use Rattle.ic_scripts.specs.declared.fault.ScriptsFault.TheVariants as scripts
 use Rattle.ic_endings.specs.declared.failure.Failure.{Failure}
-use Rattle.ic_endings.specs.declared.failure.Failure.TheVariants.{Words, Stream, Disk, Create, NotEmpty, Open, Serve, Attend, NotDone}
+use Rattle.ic_endings.specs.declared.failure.Failure.TheVariants.{Words, Stream, Disk, Create, NotEmpty, Open, Serve, Attend, Dump, NotDone}
 
 -- of a file that is no disk
 abbrev pub no_disk : List ℕ
@@ -83,6 +83,7 @@ lines_behind NotEmpty path cause = shown_of path not_empty
 lines_behind (Open fault) path cause = open_lines fault path cause
 lines_behind (Serve fault) path cause = serve_lines fault path cause
 lines_behind (Attend fault) path cause = scripts_lines fault path cause
+lines_behind (Dump fault) path cause = []
 lines_behind (Words fault) path cause = []
 lines_behind (Stream fault) path cause = []
 lines_behind NotDone path cause = []

@@ -16,9 +16,11 @@ use Rattle.ic_lines.specs.declared.script.ScriptFault.{ScriptFault}
 use Rattle.ic_scripts.specs.Telling.{book_word}
 use Rattle.ic_scripts.specs.declared.fault.ScriptsFault.{ScriptsFault}
 use Rattle.ic_scripts.specs.declared.fault.ScriptsFault.TheVariants as scripts
+use Rattle.ic_dump.specs.declared.fault.DumpFault.{DumpFault}
+use Rattle.ic_dump.specs.declared.fault.DumpFault.TheVariants as dump
 use Rattle.ic_words.specs.declared.words.WordsFault.TheVariants as words
 use Rattle.ic_endings.specs.declared.failure.Failure.{Failure}
-use Rattle.ic_endings.specs.declared.failure.Failure.TheVariants.{Words, Stream, Disk, Create, NotEmpty, Open, Serve, Attend, NotDone}
+use Rattle.ic_endings.specs.declared.failure.Failure.TheVariants.{Words, Stream, Disk, Create, NotEmpty, Open, Serve, Attend, Dump, NotDone}
 
 -- the exit status of `attend`: 1 for a refused script, 3 for a disk that isn't opened, 4 for all
 -- else
@@ -33,8 +35,15 @@ scripts_status (scripts.Pool fault) = 4
 scripts_status scripts.Memory = 4
 scripts_status scripts.Write = 4
 
--- the exit status: 1 for a refused text or round, 2 for refused words, 3 for a disk, 5 for rounds
--- that didn't suffice, 4 for all else
+-- the exit status of `dump`: 1 for a job that isn't there or whose line is too long, 4 for all else
+abbrev pub dump_status : DumpFault → ℕ
+dump_status (dump.NoJob name) = 1
+dump_status (dump.TooLong name) = 1
+dump_status dump.Memory = 4
+dump_status dump.Write = 4
+
+-- the exit status: 1 for a refused text, round or job, 2 for refused words, 3 for a disk, 5 for
+-- rounds that didn't suffice, 4 for all else
 abbrev pub status_of : Failure → ℕ
 status_of (Words (words.Words text)) = 2
 status_of (Words words.Memory) = 4
@@ -49,6 +58,7 @@ status_of NotEmpty = 3
 status_of (Open cause) = 3
 status_of (Serve fault) = 4
 status_of (Attend fault) = scripts_status fault
+status_of (Dump fault) = dump_status fault
 status_of NotDone = 5
 
 -- why a round isn't made
@@ -106,6 +116,13 @@ scripts_word (scripts.Pool fault) = codes "pool"
 scripts_word scripts.Memory = codes "memory"
 scripts_word scripts.Write = codes "write"
 
+-- why jobs aren't dumped, with the name of the job
+abbrev pub dump_word : DumpFault → List ℕ
+dump_word (dump.NoJob name) = codes "no job " ++ name
+dump_word (dump.TooLong name) = codes "too long " ++ name
+dump_word dump.Memory = codes "memory"
+dump_word dump.Write = codes "write"
+
 -- a word as a line
 abbrev pub told : List ℕ → List ℕ
 told word = codes "icserve: " ++ word ++ 10 ∷ []
@@ -121,6 +138,7 @@ failure_line NotEmpty = told (codes "not empty")
 failure_line (Open cause) = told (open_word cause)
 failure_line (Serve fault) = told (serve_word fault)
 failure_line (Attend fault) = told (scripts_word fault)
+failure_line (Dump fault) = told (dump_word fault)
 failure_line NotDone = told (codes "not done")
 
 -- the line that tells a stuck pair

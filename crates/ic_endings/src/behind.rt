@@ -41,6 +41,7 @@ impl Failure {
             Failure::Serve(fault) => serve_lines(alloc, *fault, path, cause),
             Failure::Attend(fault) => scripts_lines(alloc, *fault, path, cause),
             Failure::Words(_) | Failure::Stream(_) | Failure::NotDone => Ok(Vec::new(alloc)),
+            Failure::Dump(_) => Ok(Vec::new(alloc)),
         }
     }
 }

@@ -1,13 +1,15 @@
 //! Why the program doesn't do what it is asked, and what it makes of it.
 
-ghost use Rattle.std.specs.Prelude.{◌≡◌, IfOk};
+ghost use Rattle.std.specs.Prelude.{◌≡◌, ◌++◌, IfOk};
 ghost use Rattle.ic_endings.specs.Endings.{status_of, scripts_status, failure_line, told};
 ghost use Rattle.ic_endings.specs.Endings.{stream_word, round_word, create_word, open_word, serve_word, stuck_line};
-ghost use Rattle.ic_endings.specs.Endings.{scripts_word, script_words};
+ghost use Rattle.ic_endings.specs.Endings.{dump_status, dump_word, scripts_word, script_words};
 
 use ic_disk::DiskFault;
+use ic_dump::DumpFault;
 use ic_lines::ScriptFault;
 use ic_round::RoundFault;
+use ic_rules::JobName;
 use ic_scripts::{ScriptsFault, book_word};
 use ic_serving::ServeFault;
 use ic_slots::{CreateFault, OpenCause};
@@ -35,13 +37,15 @@ pub enum Failure {
     Serve(ServeFault),
     /// Scripts aren't attended to, or not in full.
     Attend(ScriptsFault),
+    /// Jobs aren't printed.
+    Dump(DumpFault),
     /// All rounds were made of what was to be reduced, and a step is still possible.
     NotDone,
 }
 
 impl Failure {
-    /// The exit status of the program: 1 for a refused text, round or script, 2 for refused words,
-    /// 3 for a disk, 5 for rounds that didn't suffice, and 4 for all else.
+    /// The exit status of the program: 1 for a refused text, round, script or job, 2 for refused
+    /// words, 3 for a disk, 5 for rounds that didn't suffice, and 4 for all else.
     pub fn status(&self) -> u8
         ensures { result ≡ status_of self.now }
     {
@@ -53,6 +57,7 @@ impl Failure {
             Failure::Disk(_) | Failure::Create(_) | Failure::NotEmpty | Failure::Open(_) => 3,
             Failure::Serve(_) => 4,
             Failure::Attend(fault) => scripts_status(*fault),
+            Failure::Dump(fault) => dump_status(*fault),
             Failure::NotDone => 5,
         }
     }
@@ -72,6 +77,7 @@ impl Failure {
             Failure::Open(cause) => told(alloc, open_word(*cause)),
             Failure::Serve(fault) => told(alloc, serve_word(*fault)),
             Failure::Attend(fault) => scripts_line(alloc, *fault),
+            Failure::Dump(fault) => dump_line(alloc, *fault),
             Failure::NotDone => told(alloc, b"not done"),
         }
     }
@@ -186,6 +192,37 @@ fn scripts_line(alloc: Global, fault: ScriptsFault) -> Result<Vec<u8>, AllocErro
         ScriptsFault::Memory => told(alloc, b"memory"),
         ScriptsFault::Write => told(alloc, b"write"),
     }
+}
+
+/// The exit status of `dump`.
+fn dump_status(fault: DumpFault) -> u8
+    ensures { result ≡ dump_status fault }
+{
+    match fault {
+        DumpFault::NoJob(_) | DumpFault::TooLong(_) => 1,
+        DumpFault::Memory | DumpFault::Write => 4,
+    }
+}
+
+/// The line that tells why jobs aren't dumped.
+fn dump_line(alloc: Global, fault: DumpFault) -> Result<Vec<u8>, AllocError>
+    ensures { IfOk result (λ line. line.items ≡ told (dump_word fault)) }
+{
+    match fault {
+        DumpFault::NoJob(name) => told(alloc, &job_words(alloc, b"no job ", name)?),
+        DumpFault::TooLong(name) => told(alloc, &job_words(alloc, b"too long ", name)?),
+        DumpFault::Memory => told(alloc, b"memory"),
+        DumpFault::Write => told(alloc, b"write"),
+    }
+}
+
+/// Words, and a job's name behind them.
+fn job_words(alloc: Global, words: &[u8], name: JobName) -> Result<Vec<u8>, AllocError>
+    ensures { IfOk result (λ all. all.items ≡ words.now ++ name) }
+{
+    let mut all = words.to_vec(alloc)?;
+    all.extend_from_slice(name.as_bytes())?;
+    Ok(all)
 }
 
 /// The words that tell at which line the script of a place is refused, and for what.

@@ -18,16 +18,17 @@ ghost use Rattle.ic_streams.specs.declared.fault.StreamFault.TheVariants as stre
 ghost use Rattle.ic_serving.specs.declared.fault.ServeFault.{ServeFault};
 ghost use Rattle.ic_serving.specs.declared.fault.ServeFault.TheVariants as serve;
 ghost use Rattle.ic_words.specs.declared.words.WordsFault.TheVariants as words;
+ghost use Rattle.ic_dump.specs.declared.fault.DumpFault.TheVariants as dump;
 ghost use Rattle.ic_lines.specs.declared.script.ScriptFault.{ScriptFault};
 ghost use Rattle.ic_scripts.specs.declared.fault.ScriptsFault.TheVariants as scripts;
-ghost use Rattle.ic_endings.specs.declared.failure.Failure.TheVariants.{Words, Stream, Disk, Create, NotEmpty, Open, Serve, Attend, NotDone};
+ghost use Rattle.ic_endings.specs.declared.failure.Failure.TheVariants.{Words, Stream, Disk, Create, NotEmpty, Open, Serve, Attend, Dump, NotDone};
 ghost use Rattle.ic_endings.specs.Endings.{status_of, failure_line, stuck_line};
 ghost use Rattle.ic_endings.specs.Behind.{lines_behind};
 ghost use Rattle.ic_causes.specs.declared.cause.Cause.{Cause};
 ghost use Rattle.ic_causes.specs.Causes.{cause_line, shown_path};
 
-/// The exit status is 2 for refused words, 1 for a refused text, round or script, 3 for a disk that
-/// isn't made or opened, 5 for rounds that didn't suffice, and 4 for all else.
+/// The exit status is 2 for refused words, 1 for a refused text, round, script or job, 3 for a disk
+/// that isn't made or opened, 5 for rounds that didn't suffice, and 4 for all else.
 pub fn statuses_are(text: &String)
     ensures words { status_of (Words (words.Words text.now)) ≡ 2 }
     ensures text { (fault : TextFault) → status_of (Stream (stream.Text fault)) ≡ 1 }
@@ -42,6 +43,9 @@ pub fn statuses_are(text: &String)
     ensures attended { (cause : OpenCause) → status_of (Attend (scripts.Open cause)) ≡ 3 }
     ensures stopped { (fault : BookFault) → status_of (Attend (scripts.Book fault)) ≡ 4 }
     ensures pool { (fault : PoolFault) → status_of (Attend (scripts.Pool fault)) ≡ 4 }
+    ensures no_job { (name : List ℕ) → status_of (Dump (dump.NoJob name)) ≡ 1 }
+    ensures long_job { (name : List ℕ) → status_of (Dump (dump.TooLong name)) ≡ 1 }
+    ensures dumped { map status_of (Dump dump.Memory ∷ Dump dump.Write ∷ []) ≡ 4 ∷ 4 ∷ [] }
     ensures not_done { status_of NotDone ≡ 5 }
     ensures others { map status_of (Words words.Memory ∷ Stream stream.Read ∷ Stream stream.Memory
         ∷ Stream stream.Write ∷ []) ≡ 4 ∷ 4 ∷ 4 ∷ 4 ∷ [] }
@@ -125,6 +129,16 @@ pub fn lines_of_attendances_are()
         ≡ codes "icserve: pool" ++ 10 ∷ [] }
     ensures memory { failure_line (Attend scripts.Memory) ≡ codes "icserve: memory" ++ 10 ∷ [] }
     ensures write { failure_line (Attend scripts.Write) ≡ codes "icserve: write" ++ 10 ∷ [] }
+{}
+
+/// The line on standard error of each fault of `dump`. That of a job has its name.
+pub fn lines_of_dumps_are()
+    ensures no_job { (name : List ℕ) → failure_line (Dump (dump.NoJob name))
+        ≡ codes "icserve: no job " ++ name ++ 10 ∷ [] }
+    ensures too_long { (name : List ℕ) → failure_line (Dump (dump.TooLong name))
+        ≡ codes "icserve: too long " ++ name ++ 10 ∷ [] }
+    ensures memory { failure_line (Dump dump.Memory) ≡ codes "icserve: memory" ++ 10 ∷ [] }
+    ensures write { failure_line (Dump dump.Write) ≡ codes "icserve: write" ++ 10 ∷ [] }
 {}
 
 /// The line on standard error where rounds didn't suffice, and that of a stuck pair.

@@ -47,21 +47,25 @@ fn asked(alloc: Global, task: &Task, part: &str) -> Result<String, AllocError> {
             scripts,
         } => {
             let asked = format!(in alloc; "attend {disk} {runners} {turns} {workers}")?;
-            with_scripts(asked, scripts)
+            with_texts(asked, scripts)
         }
         Task::Reduce { rounds, workers } => format!(in alloc; "reduce {rounds} {workers}"),
         Task::Trace { rounds, format } => traced(alloc, *rounds, *format),
         Task::Draw => String::from_str(alloc, "draw"),
+        Task::Dump { disk, names } => {
+            let asked = format!(in alloc; "dump {disk}")?;
+            with_texts(asked, names)
+        }
         Task::Help(text) => of_part(alloc, "help", text, part),
         Task::Version(text) => format!(in alloc; "version {text}"),
     }
 }
 
-/// What is asked for, and the scripts behind it.
-fn with_scripts(mut asked: String, scripts: &[String]) -> Result<String, AllocError> {
-    for script in scripts {
+/// What is asked for, and texts behind it.
+fn with_texts(mut asked: String, texts: &[String]) -> Result<String, AllocError> {
+    for text in texts {
         asked.push(' ')?;
-        asked.push_str(script.as_str())?;
+        asked.push_str(text.as_str())?;
     }
     Ok(asked)
 }

@@ -200,10 +200,10 @@ taken_by words rest path r t n scripts rows end begins leads settles are ends =
 
 -- ---- a line with scripts, and one with none
 
-range_none : (count : ℕ) → count < 2 ^ 64 → range_kinds 0 usize_max count ≡ []
+pub range_none : (count : ℕ) → count < 2 ^ 64 → range_kinds 0 usize_max count ≡ []
 range_none count few = rw (le-ltb count 0 (omega arith), le-ltb usize_max count (omega (arith, few))) refl
 
-strings_none : (vs : List Text) → values_kinds false vp.String vs ≡ []
+pub strings_none : (vs : List Text) → values_kinds false vp.String vs ≡ []
 strings_none [] = refl
 strings_none (v ∷ vs) = strings_none vs
 

@@ -15,5 +15,6 @@ pub mod Steps
 pub mod LineRows
 pub mod TakenLines
 pub mod CreateLines
+pub mod DumpLines
 mod HelpLemmas
 pub mod AttendLines

@@ -25,6 +25,7 @@ program_help = text_of (codes "A job server for the interaction calculus"
     ∷ codes "  serve   Serves the lines of standard input over the disk in the file F"
     ∷ (codes "  attend  Gives the commands of scripts to the disk in the file F, one"
     ++ codes " client to a script")
+    ∷ codes "  dump    Prints jobs of the disk in the file F, as lines that submit them"
     ∷ []
     ∷ codes "Options:"
     ∷ codes "  -h, --help     Print help"
@@ -132,6 +133,19 @@ draw_help = text_of (codes "Draws the net of the configuration on standard input
     ∷ codes "Rules may stand before the configuration: active pairs stand out then."
     ∷ [])
 
+abbrev pub dump_help : Text
+dump_help = text_of (codes "Prints jobs of the disk in the file F, as lines that submit them"
+    ∷ []
+    ∷ codes "Usage: icserve dump --disk <F> [NAME]..."
+    ∷ []
+    ∷ codes "Arguments:"
+    ∷ codes "  [NAME]...  The names of the jobs; all jobs, where none is given"
+    ∷ []
+    ∷ codes "Options:"
+    ∷ codes "      --disk <F>  The path of the file, which has to be a disk"
+    ∷ codes "  -h, --help      Print help"
+    ∷ [])
+
 -- the help that words ask for: that of the command that the first one names, or the program's
 abbrev pub help_of : List Text → Text
 help_of [] = program_help
@@ -142,7 +156,8 @@ help_of (word ∷ words) = if bytes_eq word (codes "settle") then settle_help
     else if bytes_eq word (codes "attend") then attend_help
     else if bytes_eq word (codes "reduce") then reduce_help
     else if bytes_eq word (codes "trace") then trace_help
-    else if bytes_eq word (codes "draw") then draw_help else program_help
+    else if bytes_eq word (codes "draw") then draw_help
+    else if bytes_eq word (codes "dump") then dump_help else program_help
 
 -- this part stands in a text
 abbrev pub Says : Text → Text → Type 0

@@ -72,6 +72,14 @@ IsCreateLine disk overwrite words = (option rest : List Text) × (words ≡ code
     × IsOverwriting overwrite option rest
     × IsWritten (record { name = codes "disk"; value = disk }) option
 
+-- `dump --disk F`, and behind it the names of jobs, none of which begins with a hyphen
+pub record IsDumpLine (words : List Text) (path : Text) (names : List Text) : Type 0 where
+  pub front : List Text
+  pub begins : words ≡ codes "dump" ∷ (front ++ names)
+  pub written : IsWritten (record { name = codes "disk"; value = path }) front
+  pub plain : AllByRecursion HasNoHyphen names
+  pub few : length names < 2 ^ 64
+
 -- no option has the name of one behind it
 abbrev pub AreOnce : List Given → Type 0
 AreOnce [] = Unit {0}

@@ -15,7 +15,7 @@ use Rattle.clap.specs.declared.error.ErrorKind.{ErrorKind}
 use Rattle.clap.specs.declared.error.ErrorKind.TheVariants.{DisplayHelp, DisplayVersion, InvalidValue}
 use Rattle.ic_words.specs.declared.words.Task.{Task}
 use Rattle.ic_words.specs.declared.words.Task.TheVariants.{Settle, Once, Create, Serve, Attend}
-use Rattle.ic_words.specs.declared.words.Task.TheVariants.{Reduce, Trace, Draw, Help, Version}
+use Rattle.ic_words.specs.declared.words.Task.TheVariants.{Reduce, Trace, Draw, Dump, Help, Version}
 use Rattle.ic_words.specs.declared.words.TraceFormat.{TraceFormat}
 use Rattle.ic_words.specs.declared.words.TraceFormat.TheVariants.{Tsv, Svg}
 use Rattle.ic_words.specs.Help.{help_of, program_help}
@@ -132,6 +132,16 @@ reduce_command = with_rule (with_rule (new_app (codes "reduce")) rounds_option) 
 abbrev pub trace_command : App
 trace_command = with_rule (with_rule (new_app (codes "trace")) rounds_option) format_option
 
+-- the argument of `dump` that names jobs, of which there may be any number
+abbrev pub name_argument : Rule
+name_argument = record (new_rule (codes "name")) {
+  range = Some (record { start_inclusive = 0; end_inclusive = usize_max });
+  value_names = 1;
+}
+
+abbrev pub dump_command : App
+dump_command = with_rule (with_rule (new_app (codes "dump")) disk_option) name_argument
+
 -- the program with its commands `settle` and `once`
 abbrev pub with_streams : App
 with_streams = with_subcommand (with_subcommand program
@@ -142,10 +152,14 @@ abbrev pub with_disks : App
 with_disks = with_subcommand (with_subcommand (with_subcommand with_streams create_command.top)
     serve_command.top) attend_command.top
 
--- the command line of the program, which has `reduce`, `trace` and `draw`, too
-abbrev pub command_line : App
-command_line = with_subcommand (with_subcommand (with_subcommand with_disks reduce_command.top)
+-- the same with `reduce`, `trace` and `draw`
+abbrev pub with_looks : App
+with_looks = with_subcommand (with_subcommand (with_subcommand with_disks reduce_command.top)
     trace_command.top) (new_app (codes "draw")).top
+
+-- the command line of the program, which has `dump`, too
+abbrev pub command_line : App
+command_line = with_subcommand with_looks dump_command.top
 
 -- the line that tells the version
 abbrev pub version_line : List ℕ
@@ -196,6 +210,7 @@ AnswersWords mistakes (Ok (Attend disk runners turns workers scripts)) = mistake
 AnswersWords mistakes (Ok (Reduce rounds workers)) = mistakes ≡ []
 AnswersWords mistakes (Ok (Trace rounds format)) = mistakes ≡ []
 AnswersWords mistakes (Ok Draw) = mistakes ≡ []
+AnswersWords mistakes (Ok (Dump disk names)) = mistakes ≡ []
 AnswersWords mistakes (Ok (Help text)) = IsAmong DisplayHelp mistakes
 AnswersWords mistakes (Ok (Version text)) =
     IsAmong DisplayVersion mistakes × (string_bytes text ≡ version_line)
@@ -221,6 +236,7 @@ GivesHelp (Ok (Attend disk runners turns workers scripts)) = ⊥
 GivesHelp (Ok (Reduce rounds workers)) = ⊥
 GivesHelp (Ok (Trace rounds format)) = ⊥
 GivesHelp (Ok Draw) = ⊥
+GivesHelp (Ok (Dump disk names)) = ⊥
 GivesHelp (Ok (Version text)) = ⊥
 GivesHelp (Err (Words text)) = ⊥
 
@@ -236,6 +252,7 @@ GivesVersion (Ok (Attend disk runners turns workers scripts)) = ⊥
 GivesVersion (Ok (Reduce rounds workers)) = ⊥
 GivesVersion (Ok (Trace rounds format)) = ⊥
 GivesVersion (Ok Draw) = ⊥
+GivesVersion (Ok (Dump disk names)) = ⊥
 GivesVersion (Ok (Help text)) = ⊥
 GivesVersion (Err (Words text)) = ⊥
 
@@ -297,5 +314,8 @@ Names words (Trace rounds format) = BeginsWith (codes "trace") words
     × IsNumberOf (codes "rounds") 0 most_rounds words rounds
     × (value_met (codes "format") (subcommand_of command_line words) ≡ format_word format)
 Names words Draw = NamesCommand (codes "draw") words
+Names words (Dump disk names) = BeginsWith (codes "dump") words
+    × (string_bytes disk ≡ value_met (codes "disk") (subcommand_of command_line words))
+    × (map string_bytes names.items ≡ values_met (codes "name") (subcommand_of command_line words))
 Names words (Help text) = string_bytes text ≡ help_of words
 Names words (Version text) = string_bytes text ≡ version_line

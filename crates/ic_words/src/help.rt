@@ -20,6 +20,7 @@ To run jobs, which outlive a crash:
   create  Makes the file F an empty disk
   serve   Serves the lines of standard input over the disk in the file F
   attend  Gives the commands of scripts to the disk in the file F, one client to a script
+  dump    Prints jobs of the disk in the file F, as lines that submit them
 
 Options:
   -h, --help     Print help
@@ -126,6 +127,20 @@ Options:
 Rules may stand before the configuration: active pairs stand out then.
 ";
 
+/// The help of `dump`.
+const DUMP: &str = "\
+Prints jobs of the disk in the file F, as lines that submit them
+
+Usage: icserve dump --disk <F> [NAME]...
+
+Arguments:
+  [NAME]...  The names of the jobs; all jobs, where none is given
+
+Options:
+      --disk <F>  The path of the file, which has to be a disk
+  -h, --help      Print help
+";
+
 /// The help that words ask for: that of the command that the first one names, or the program's.
 pub(crate) fn help_of(words: &[String]) -> &'static str
     ensures { result.now ≡ help_of (map string_bytes words.now) }
@@ -142,6 +157,7 @@ pub(crate) fn help_of(words: &[String]) -> &'static str
         "reduce" => REDUCE,
         "trace" => TRACE,
         "draw" => DRAW,
+        "dump" => DUMP,
         _ => PROGRAM,
     }
 }

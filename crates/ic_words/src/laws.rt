@@ -6,13 +6,13 @@ ghost use Rattle.std.specs.Fmt.{decimal};
 ghost use Rattle.clap.specs.Words.{Text};
 ghost use Rattle.clap.specs.declared.error.ErrorKind.{ErrorKind};
 ghost use Rattle.clap.specs.declared.error.ErrorKind.TheVariants.{DisplayHelp, DisplayVersion, InvalidValue};
-ghost use Rattle.ic_words.specs.declared.words.Task.TheVariants.{Settle, Once, Create, Serve, Attend, Reduce, Trace, Draw, Help, Version};
+ghost use Rattle.ic_words.specs.declared.words.Task.TheVariants.{Settle, Once, Create, Serve, Attend, Reduce, Trace, Draw, Dump, Help, Version};
 ghost use Rattle.ic_words.specs.declared.words.TraceFormat.{TraceFormat};
 ghost use Rattle.ic_words.specs.declared.words.WordsFault.TheVariants.{Words, Memory};
 ghost use Rattle.ic_words.specs.Words.{AnswersWords, format_word, mistakes_of, words_fault_number, IsDecimal, Names};
 ghost use Rattle.ic_words.specs.Help.{help_of, Says, program_help, settle_help, once_help, create_help, serve_help, attend_help};
-ghost use Rattle.ic_words.specs.Help.{draw_help, reduce_help, trace_help};
-ghost use Rattle.ic_words.specs.Lines.{IsAttendLine, IsCreateLine, IsReduceLine, IsServeLine, IsTraceLine};
+ghost use Rattle.ic_words.specs.Help.{draw_help, dump_help, reduce_help, trace_help};
+ghost use Rattle.ic_words.specs.Lines.{IsAttendLine, IsCreateLine, IsDumpLine, IsReduceLine, IsServeLine, IsTraceLine};
 
 /// A number's text is the number in decimal digits, before which a plus may stand, and no other
 /// number's; the empty text is none's.
@@ -84,6 +84,7 @@ pub fn help_and_version_are_asked()
         ≡ DisplayHelp ∷ [] }
     ensures trace { mistakes_of (codes "trace" ∷ codes "--help" ∷ []) ≡ DisplayHelp ∷ [] }
     ensures draw { mistakes_of (codes "draw" ∷ codes "--help" ∷ []) ≡ DisplayHelp ∷ [] }
+    ensures dump { mistakes_of (codes "dump" ∷ codes "--help" ∷ []) ≡ DisplayHelp ∷ [] }
     ensures version { mistakes_of (codes "--version" ∷ []) ≡ DisplayVersion ∷ [] }
     ensures short_version { mistakes_of (codes "-V" ∷ []) ≡ DisplayVersion ∷ [] }
 {}
@@ -100,13 +101,14 @@ pub fn each_command_has_its_help()
     ensures reduce { (words : List Text) → help_of (codes "reduce" ∷ words) ≡ reduce_help }
     ensures trace { (words : List Text) → help_of (codes "trace" ∷ words) ≡ trace_help }
     ensures draw { (words : List Text) → help_of (codes "draw" ∷ words) ≡ draw_help }
+    ensures dump { (words : List Text) → help_of (codes "dump" ∷ words) ≡ dump_help }
     ensures program { (word : Text) (words : List Text) → AllByRecursion (λ name. word ≢ name)
         (codes "settle" ∷ codes "once" ∷ codes "create" ∷ codes "serve" ∷ codes "attend"
-        ∷ codes "reduce" ∷ codes "trace" ∷ codes "draw" ∷ [])
+        ∷ codes "reduce" ∷ codes "trace" ∷ codes "draw" ∷ codes "dump" ∷ [])
         → help_of (word ∷ words) ≡ program_help }
     ensures commands { AllByRecursion (Says program_help) (codes "  settle  " ∷ codes "  once  "
         ∷ codes "  create  " ∷ codes "  serve  " ∷ codes "  attend  "
-        ∷ codes "  reduce  " ∷ codes "  trace  " ∷ codes "  draw  "
+        ∷ codes "  reduce  " ∷ codes "  trace  " ∷ codes "  draw  " ∷ codes "  dump  "
         ∷ codes "-h, --help" ∷ codes "-V, --version" ∷ []) }
     ensures streams { Says settle_help (codes "icserve settle")
         × Says once_help (codes "icserve once") × Says draw_help (codes "icserve draw") }
@@ -125,6 +127,8 @@ pub fn each_command_has_its_help()
         ∷ codes "[SCRIPT]..." ∷ codes "--runners <R>" ∷ codes "from 0 to 64 [default: 2]"
         ∷ codes "--turns <T>" ∷ codes "from 0 to 1000000 [default: 0]"
         ∷ codes "--workers <N>" ∷ codes "from 1 to 64 [default: 2]" ∷ []) }
+    ensures jobs { AllByRecursion (Says dump_help)
+        (codes "icserve dump" ∷ codes "--disk <F>" ∷ codes "[NAME]..." ∷ []) }
 {}
 
 /// A well-formed line of `create` is taken, and names the file that it is given, and whether it has
@@ -182,4 +186,14 @@ pub fn trace_lines_are_taken()
         → IsTraceLine words most shown → Names words (Trace rounds format)
         → IsDecimal most rounds × (rounds ≤ 2 ^ 62) × (format_word format ≡ shown) }
     ensures other { mistakes_of (codes "trace" ∷ codes "--format=png" ∷ []) ≡ InvalidValue ∷ [] }
+{}
+
+/// A well-formed line of `dump` is taken, and names the file and the jobs that it is given, in their
+/// order.
+pub fn dump_lines_are_taken(disk: &String, jobs: &Vec<String>)
+    ensures taken { (words : List Text) (path : Text) (names : List Text)
+        → IsDumpLine words path names → mistakes_of words ≡ [] }
+    ensures named { (words : List Text) (path : Text) (names : List Text)
+        → IsDumpLine words path names → Names words (Dump disk.now jobs.now)
+        → (string_bytes disk.now ≡ path) × (map string_bytes jobs.now.items ≡ names) }
 {}

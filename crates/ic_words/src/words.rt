@@ -4,9 +4,9 @@ ghost use Rattle.std.specs.Prelude.{◌≡◌, ◌≤◌, ℕ, false, map, Ok, I
 ghost use Rattle.clap.specs.Words.{app_of, rule_of, subcommand_rows_of};
 ghost use Rattle.clap.specs.declared.builder.command.Command.TheViews.{out-Command};
 ghost use Rattle.ic_words.specs.Words.{AnswersWords, GivesHelp, GivesTask, GivesVersion, Names};
-ghost use Rattle.ic_words.specs.Words.{attend_command, command_line, create_command, program, reduce_command};
-ghost use Rattle.ic_words.specs.Words.{serve_command, trace_command, with_disks, with_streams};
-ghost use Rattle.ic_words.specs.Words.{disk_option, every_option, format_option, overwrite_flag, rounds_option};
+ghost use Rattle.ic_words.specs.Words.{attend_command, command_line, create_command, dump_command, program};
+ghost use Rattle.ic_words.specs.Words.{reduce_command, serve_command, trace_command, with_disks, with_looks, with_streams};
+ghost use Rattle.ic_words.specs.Words.{disk_option, every_option, format_option, name_argument, overwrite_flag, rounds_option};
 ghost use Rattle.ic_words.specs.Words.{runners_option, script_argument, turns_option, workers_option};
 ghost use Rattle.ic_words.specs.Words.{mistakes_of, value_met, values_met};
 ghost use Rattle.ic_words.specs.inner.Asking.{Asks, IsCommandMet, IsMet, IsReadFrom};
@@ -86,6 +86,13 @@ pub enum Task {
     },
     /// Draw the net of the configuration on standard input.
     Draw,
+    /// Print jobs of a disk as lines that submit them.
+    Dump {
+        /// The path of the disk's file.
+        disk: String,
+        /// The names of the jobs: all jobs, where there are none.
+        names: Vec<String>,
+    },
     /// Show this help.
     Help(String),
     /// Show this line, which tells the version.
@@ -172,6 +179,7 @@ fn task_of(alloc: Global, matches: &ArgMatches) -> Result<Task, WordsFault>
         Some("reduce") => Ok(reduce_task(matches)),
         Some("trace") => trace_task(alloc, matches),
         Some("draw") => Ok(Task::Draw),
+        Some("dump") => dump_task(alloc, matches),
         _ => unreachable!(),
     }
 }
@@ -250,6 +258,16 @@ fn trace_task(alloc: Global, matches: &ArgMatches) -> Result<Task, WordsFault>
              For more information, try '--help'.\n"
         )?)),
     }
+}
+
+/// The task of `dump`.
+fn dump_task(alloc: Global, matches: &ArgMatches) -> Result<Task, WordsFault>
+    requires { IsMet (codes "dump") (subcommand_rows_of matches.now) }
+    ensures { Asks (subcommand_rows_of matches.now) result }
+{
+    let disk = String::from_str(alloc, value_of(matches, "disk"))?;
+    let names = values_of(alloc, matches, "name")?;
+    Ok(Task::Dump { disk, names })
 }
 
 /// Texts that own their bytes.
@@ -391,6 +409,14 @@ fn script_argument<'a>(alloc: Global) -> Arg<'a>
     Arg::new(alloc, "script").value_name("SCRIPT").num_args(0..)
 }
 
+/// The argument that names jobs.
+fn name_argument<'a>(alloc: Global) -> Arg<'a>
+    ensures rule { rule_of result ≡ name_argument }
+    ensures local { result.global ≡ false }
+{
+    Arg::new(alloc, "name").value_name("NAME").num_args(0..)
+}
+
 /// The option that says how many rounds are made at most.
 fn rounds_option<'a>(alloc: Global) -> Arg<'a>
     ensures rule { rule_of result ≡ rounds_option }
@@ -476,6 +502,16 @@ fn trace_command<'a>(alloc: Global) -> Result<Command<'a>, AllocError>
     Command::new(alloc, "trace").arg(rounds)?.arg(format)
 }
 
+/// The command that prints jobs of a disk.
+fn dump_command<'a>(alloc: Global) -> Result<Command<'a>, AllocError>
+    ensures shape { IfOk result (λ command. app_of command ≡ dump_command) }
+    ensures local { IfOk result (λ command. (out-Command command).has_globals ≡ false) }
+{
+    let disk = disk_option(alloc);
+    let name = name_argument(alloc);
+    Command::new(alloc, "dump").arg(disk)?.arg(name)
+}
+
 /// The program without its commands.
 fn program<'a>(alloc: Global) -> Result<Command<'a>, AllocError>
     ensures { IfOk result (λ command. app_of command ≡ program) }
@@ -513,9 +549,9 @@ fn with_disks<'a>(alloc: Global) -> Result<Command<'a>, AllocError>
     program.subcommand(attend)
 }
 
-/// The program's command line: with the commands for whoever looks at nets, too.
-fn command<'a>(alloc: Global) -> Result<Command<'a>, AllocError>
-    ensures { IfOk result (λ command. app_of command ≡ command_line) }
+/// The program with the commands for whoever looks at nets, too.
+fn with_looks<'a>(alloc: Global) -> Result<Command<'a>, AllocError>
+    ensures { IfOk result (λ command. app_of command ≡ with_looks) }
 {
     let reduce = reduce_command(alloc)?;
     let program = with_disks(alloc)?.subcommand(reduce)?;
@@ -523,4 +559,12 @@ fn command<'a>(alloc: Global) -> Result<Command<'a>, AllocError>
     let program = program.subcommand(trace)?;
     let draw = Command::new(alloc, "draw");
     program.subcommand(draw)
+}
+
+/// The program's command line.
+fn command<'a>(alloc: Global) -> Result<Command<'a>, AllocError>
+    ensures { IfOk result (λ command. app_of command ≡ command_line) }
+{
+    let dump = dump_command(alloc)?;
+    with_looks(alloc)?.subcommand(dump)
 }

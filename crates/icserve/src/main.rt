@@ -1,6 +1,7 @@
 //! The program `icserve`: a job server for the interaction calculus.
 #![tactic(auto)]
 
+mod dumping;
 mod looking;
 mod progress;
 
@@ -61,6 +62,7 @@ fn path_of(task: &Task) -> &str {
         Task::Create { disk, .. } => disk.as_str(),
         Task::Serve { disk, .. } => disk.as_str(),
         Task::Attend { disk, .. } => disk.as_str(),
+        Task::Dump { disk, .. } => disk.as_str(),
         _ => "",
     }
 }
@@ -107,6 +109,7 @@ fn run<T: Threads + Wait + Sync>(
         Task::Reduce { rounds, workers } => looking::reduce(rt, threads, rounds, workers),
         Task::Trace { rounds, format } => looking::trace(rt, rounds, format),
         Task::Draw => looking::draw(rt),
+        Task::Dump { disk, names } => dumping::dump(rt, disk.as_str(), &names, notes),
         Task::Help(text) | Task::Version(text) => {
             show(&mut output, text.as_str()).map_err(Failure::Stream)
         }
@@ -139,7 +142,7 @@ fn stand_ins(rt: &HostRuntime) -> io::Result<[File; 3]> {
 }
 
 /// Opens the disk in the file of this path, which with `create` is made where it is missing.
-fn open_disk<'a>(
+pub(crate) fn open_disk<'a>(
     rt: &HostRuntime,
     path: &str,
     create: bool,

@@ -18,10 +18,10 @@ pub returns-clause-attend : goal.returns-clause-attend
 returns-clause-attend c = λ words. refl
 
 pub returns-clause-program : goal.returns-clause-program
-returns-clause-program c = λ word words other. other_help word words other.0 other.1.0 other.1.1.0 other.1.1.1.0 other.1.1.1.1.0 other.1.1.1.1.1.0 other.1.1.1.1.1.1.0 other.1.1.1.1.1.1.1.0
+returns-clause-program c = λ word words other. other_help word words other.0 other.1.0 other.1.1.0 other.1.1.1.0 other.1.1.1.1.0 other.1.1.1.1.1.0 other.1.1.1.1.1.1.0 other.1.1.1.1.1.1.1.0 other.1.1.1.1.1.1.1.1.0
 
 pub returns-clause-commands : goal.returns-clause-commands
-returns-clause-commands c = ((413, refl), ((357, refl), ((517, refl), ((558, refl), ((631, refl), ((125, refl), ((204, refl), ((276, refl), ((733, refl), ((761, refl), tt))))))))))
+returns-clause-commands c = ((413, refl), ((357, refl), ((517, refl), ((558, refl), ((631, refl), ((125, refl), ((204, refl), ((276, refl), ((721, refl), ((808, refl), ((836, refl), tt)))))))))))
 
 pub returns-clause-reduce : goal.returns-clause-reduce
 returns-clause-reduce c = λ words. refl
@@ -49,3 +49,9 @@ returns-clause-numbers c = ((71, refl), ((95, refl), ((188, refl), ((250, refl),
 
 pub returns-clause-scripts : goal.returns-clause-scripts
 returns-clause-scripts c = ((88, refl), ((113, refl), ((124, refl), ((291, refl), ((348, refl), ((380, refl), ((445, refl), ((482, refl), ((521, refl), tt)))))))))
+
+pub returns-clause-dump : goal.returns-clause-dump
+returns-clause-dump c = λ words. refl
+
+pub returns-clause-jobs : goal.returns-clause-jobs
+returns-clause-jobs c = ((73, refl), ((86, refl), ((97, refl), tt)))

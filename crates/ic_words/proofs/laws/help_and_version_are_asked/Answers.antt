@@ -53,3 +53,7 @@ returns-clause-trace c = refl
 pub returns-clause-draw : goal.returns-clause-draw
 unfolding clap_on_literals
 returns-clause-draw c = refl
+
+pub returns-clause-dump : goal.returns-clause-dump
+unfolding clap_on_literals
+returns-clause-dump c = refl

@@ -1,0 +1,60 @@
+//! The program's word `dump`: jobs of a disk as lines that submit them, on standard output.
+
+use crate::open_disk;
+use ic_causes::Notes;
+use ic_dump::dump_jobs;
+use ic_endings::Failure;
+use ic_jobs::Table;
+use ic_rules::JobName;
+use ic_slots::Keeper;
+use ic_words::WordsFault;
+use std::alloc::{AllocError, Global};
+use std::io;
+
+/// Prints the line of each job of these names, or of each job where there are none, that the disk in
+/// the file of this path holds. The disk stays as it is.
+pub(crate) fn dump(
+    rt: &HostRuntime,
+    path: &str,
+    words: &[String],
+    notes: &Notes,
+) -> Result<(), Failure> {
+    let names = names_of(rt.alloc(), words).map_err(Failure::Words)?;
+    let table = table_of(rt, path, notes)?;
+    let mut output = io::writer(rt);
+    dump_jobs(rt.alloc(), &table, &names, &mut output).map_err(Failure::Dump)
+}
+
+/// The table that the disk in the file of this path holds.
+fn table_of(rt: &HostRuntime, path: &str, notes: &Notes) -> Result<Table, Failure> {
+    let disk = open_disk(rt, path, false, notes)?;
+    match Keeper::open(rt.alloc(), disk) {
+        Ok((keeper, table)) => {
+            keeper.close();
+            Ok(table)
+        }
+        Err(fault) => Err(Failure::Open(fault.cause)),
+    }
+}
+
+/// The names that words are, or the refusal of the first that is none.
+fn names_of(alloc: Global, words: &[String]) -> Result<Vec<JobName>, WordsFault> {
+    let mut names = Vec::new(alloc);
+    for word in words {
+        let Some(name) = JobName::new(word.as_bytes()) else {
+            return Err(no_name(alloc, word.as_str())?);
+        };
+        if names.push(name).is_err() {
+            return Err(WordsFault::Memory);
+        }
+    }
+    Ok(names)
+}
+
+/// The refusal of a word that is no job's name.
+fn no_name(alloc: Global, word: &str) -> Result<WordsFault, AllocError> {
+    Ok(WordsFault::Words(format!(in alloc;
+        "error: invalid value '{word}' for '[NAME]...': no job has such a name\n\n\
+         For more information, try '--help'.\n"
+    )?))
+}
