@@ -1,0 +1,7 @@
+pub mod Counting
+pub mod FieldLemmas
+pub mod LineLemmas
+pub mod HeldLemmas
+pub mod FrontLemmas
+pub mod ReadLemmas
+pub mod MomentLemmas

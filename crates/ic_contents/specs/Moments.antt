@@ -1,0 +1,66 @@
+-- To be believed: a file that a server writes while it is read, as it stands at each moment (this
+-- project's choice).
+use Rattle.std.specs.Prelude.{◌≡◌, ◌⊎◌, ◌+◌, ◌<◌, ◌≤◌, ℕ, List, false, length, slice_index}
+use Rattle.ic_frames.specs.declared.frame.TheConstants.{HEAD}
+use Rattle.ic_frames.specs.declared.slot.Slot.{Slot}
+use Rattle.ic_frames.specs.declared.slot.Slot.TheVariants.{First, Second}
+use Rattle.ic_frames.specs.Fields.{number, size, body, is_open, is_whole}
+use Rattle.ic_frames.specs.Held.{IsNewest}
+use Rattle.ic_frames.specs.Places.{place, other}
+
+-- two files have the same slot
+pub record IsSameSlot (slot : Slot) (old new : List ℕ) : Type 0 where
+  pub opened : is_open (place slot) new ≡ is_open (place slot) old
+  pub number_is : number (place slot) new ≡ number (place slot) old
+  pub size_is : size (place slot) new ≡ size (place slot) old
+  pub whole_is : is_whole (place slot) new ≡ is_whole (place slot) old
+  pub body_is : body (place slot) new ≡ body (place slot) old
+
+-- a slot that was closed is open, with a number above that of the newest one
+pub record OpensAbove (slot : Slot) (old new : List ℕ) : Type 0 where
+  pub shut : is_open (place slot) old ≡ false
+  pub above : number (place (other slot)) old < number (place slot) new
+
+-- One step of a server: its newest slot stays the same, and the one beside it is closed then,
+-- whatever else it has, or is the same, or was closed and is opened with a greater number.
+pub record IsServerStep (old new : List ℕ) : Type 0 where
+  pub newest : Slot
+  pub is_newest : IsNewest newest old
+  pub stays : IsSameSlot newest old new
+  pub beside : (is_open (place (other newest)) new ≡ false)
+      ⊎ (IsSameSlot (other newest) old new ⊎ OpensAbove (other newest) old new)
+
+-- a file over time, as a server writes it
+abbrev pub IsServed : (ℕ → List ℕ) → Type 0
+IsServed at = (i : ℕ) → IsServerStep (at i) (at (i + 1))
+
+-- what was read of the head of a slot is that of the file
+pub record IsHeadOf (slot : Slot) (read file : List ℕ) : Type 0 where
+  pub opened : is_open (place slot) file ≡ is_open (place slot) read
+  pub number_is : number (place slot) file ≡ number (place slot) read
+  pub size_is : size (place slot) file ≡ size (place slot) read
+
+-- a byte was read of the file
+pub record IsByteOf (i : ℕ) (read file : List ℕ) : Type 0 where
+  pub within : i < length file
+  pub same : slice_index file i ≡ slice_index read i
+
+-- each byte of a slot's body was read of the file at some moment between these
+abbrev pub IsBodyAmid : Slot → (ℕ → List ℕ) → (from until : ℕ) → List ℕ → Type 0
+IsBodyAmid slot at from until read = (k : ℕ) → k < size (place slot) read
+    → (m : ℕ) × (from ≤ m) × (m ≤ until) × IsByteOf (place slot + HEAD + k) read (at m)
+
+-- These bytes were read twice, one reading behind the other: the head of each slot at one moment each
+-- time, and each body of the first reading byte by byte behind its head.
+pub record IsReadTwice (at : ℕ → List ℕ) (read : List ℕ) : Type 0 where
+  pub first : ℕ
+  pub second : ℕ
+  pub first_again : ℕ
+  pub second_again : ℕ
+  pub in_order : (first ≤ second) × (second ≤ first_again) × (first_again ≤ second_again)
+  pub first_head : IsHeadOf First read (at first)
+  pub second_head : IsHeadOf Second read (at second)
+  pub first_head_again : IsHeadOf First read (at first_again)
+  pub second_head_again : IsHeadOf Second read (at second_again)
+  pub first_body : IsBodyAmid First at first first_again read
+  pub second_body : IsBodyAmid Second at second second_again read

@@ -1,0 +1,18 @@
+//! What a disk's file holds, told in lines, with nothing changed and no lock taken.
+//!
+//! `inspect` reads a file twice by two readers and writes what both saw: each slot, and the jobs of the table that is
+//! held. `told` makes these lines of bytes. `laws` says that what is told as held is what an opening of the disk finds.
+#![tactic(auto)]
+
+mod choosing;
+mod fault;
+mod inspecting;
+pub mod laws;
+mod looking;
+mod seen;
+mod telling;
+
+pub use choosing::Newest;
+pub use fault::InspectFault;
+pub use inspecting::{LIMIT, inspect, told};
+pub use seen::{Body, Seen};
