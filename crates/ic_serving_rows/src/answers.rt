@@ -98,20 +98,44 @@ fn served<R: Threads + Wait>(
     kind: &str,
     text: &str,
 ) -> Result<Vec<u8>, Trouble> {
-    let alloc = server.alloc;
-    let written = match kind {
-        "stream" => {
-            let written = server.on_new_disk(&expanded(alloc, text)?)?;
-            return or_nothing(alloc, written);
-        }
-        "serve" => server.on_new_disk(&lines_of(alloc, text)?)?,
-        "slow" => server.slowly(&lines_of(alloc, text)?)?,
-        "newest" => server.newest_slot(&lines_of(alloc, text)?)?,
-        "history" => server.history(&lines_of(alloc, text)?)?,
-        "again" | "worn" => twice(server, kind, text)?,
-        _ => return Err(Trouble("no such kind")),
-    };
-    Ok(on_one_line(alloc, &written)?)
+    if kind == "stream" {
+        return streamed(server, text);
+    }
+    let written = written(server, kind, text)?;
+    Ok(on_one_line(server.alloc, &written)?)
+}
+
+/// What is written for a text as it stands.
+fn streamed<R: Threads + Wait>(server: &Server<'_, R>, text: &str) -> Result<Vec<u8>, Trouble> {
+    let written = server.on_new_disk(&expanded(server.alloc, text)?)?;
+    or_nothing(server.alloc, written)
+}
+
+/// What is written for lines, or for several parts of them.
+fn written<R: Threads + Wait>(
+    server: &Server<'_, R>,
+    kind: &str,
+    text: &str,
+) -> Result<Vec<u8>, Trouble> {
+    match kind {
+        "again" | "worn" => twice(server, kind, text),
+        _ => served_once(server, kind, &lines_of(server.alloc, text)?),
+    }
+}
+
+/// What is written for lines that are served once.
+fn served_once<R: Threads + Wait>(
+    server: &Server<'_, R>,
+    kind: &str,
+    lines: &[u8],
+) -> Result<Vec<u8>, Trouble> {
+    match kind {
+        "serve" => server.on_new_disk(lines),
+        "slow" => server.slowly(lines),
+        "newest" => server.newest_slot(lines),
+        "history" => server.history(lines),
+        _ => Err(Trouble("no such kind")),
+    }
 }
 
 /// What is answered to lines before ` + `, and to those behind it.
@@ -199,10 +223,15 @@ fn times<R: Threads + Wait>(server: &Server<'_, R>, text: &str) -> Result<Vec<u8
     let count = number(count);
     let text = repeated(alloc, &lines_of(alloc, line)?, count)?;
     let written = server.on_new_disk(&text)?;
+    repeated_answer(alloc, &written, count)
+}
+
+/// The answer that stands so many times.
+fn repeated_answer(alloc: Global, written: &[u8], count: usize) -> Result<Vec<u8>, Trouble> {
     let first = written.split(|byte| *byte == b'\n').next().unwrap_or(b"");
     let mut once = Vec::from_slice(alloc, first)?;
     once.push(b'\n')?;
-    if written.as_slice() != repeated(alloc, &once, count)?.as_slice() {
+    if written != repeated(alloc, &once, count)?.as_slice() {
         return Err(Trouble("another answer comes between"));
     }
     Ok(Vec::from_slice(alloc, first)?)
