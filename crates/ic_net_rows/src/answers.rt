@@ -5,9 +5,10 @@ use crate::drawn::drawn;
 use crate::ends::ends;
 use crate::limits::limits;
 use crate::net::Net;
-use crate::orders::agreed;
+use crate::orders::{Outcome, agreed};
 use crate::spoiled::spoiled;
 use ic_notation::{Answers, Row, Trouble, decimal, expanded, system_of};
+use ic_rules::System;
 use std::alloc::Global;
 
 /// The kinds of these rows.
@@ -16,19 +17,24 @@ pub struct Kinds;
 
 impl Answers for Kinds {
     fn answer(&self, alloc: Global, row: &Row<'_>) -> Result<Vec<u8>, Trouble> {
-        let (first, rest) = row.text.split_once(' ').unwrap_or((row.text, ""));
         match row.kind {
-            "net" => {
-                let (one, other) = row.text.split_once(" + ").unwrap_or((row.text, ""));
-                compared(alloc, one, other)
-            }
-            "orders" => orders(alloc, number(first)?, &expanded(alloc, rest)?),
+            "net" => compared(alloc, row.text),
             "ends" => ends(alloc, &expanded(alloc, row.text)?),
             "limits" => limits(alloc, &expanded(alloc, row.text)?),
-            "drawn" => drawn(alloc, number(first)?, number(rest)?),
-            "spoiled" => spoiled(alloc, number(first)?, rest),
-            _ => Err(Trouble("no such kind")),
+            _ => counted(alloc, row.kind, row.text),
         }
+    }
+}
+
+/// What is answered to a row that begins with a number.
+fn counted(alloc: Global, kind: &str, text: &str) -> Result<Vec<u8>, Trouble> {
+    let (first, rest) = text.split_once(' ').unwrap_or((text, ""));
+    let count = number(first)?;
+    match kind {
+        "orders" => orders(alloc, count, &expanded(alloc, rest)?),
+        "drawn" => drawn(alloc, count, number(rest)?),
+        "spoiled" => spoiled(alloc, count, rest),
+        _ => Err(Trouble("no such kind")),
     }
 }
 
@@ -39,14 +45,21 @@ fn number(text: &str) -> Result<u64, Trouble> {
     }
 }
 
-/// Whether two configurations are one net.
-fn compared(alloc: Global, one: &str, other: &str) -> Result<Vec<u8>, Trouble> {
-    let line = if are_one(alloc, &drawn_net(alloc, one)?, &drawn_net(alloc, other)?)? {
+/// Whether two configurations, with ` + ` between them, are one net.
+fn compared(alloc: Global, text: &str) -> Result<Vec<u8>, Trouble> {
+    let (one, other) = text.split_once(" + ").unwrap_or((text, ""));
+    let line = if are_one_drawn(alloc, one, other)? {
         "the same"
     } else {
         "differ"
     };
     Ok(Vec::from_slice(alloc, line.as_bytes())?)
+}
+
+fn are_one_drawn(alloc: Global, one: &str, other: &str) -> Result<bool, Trouble> {
+    let one = drawn_net(alloc, one)?;
+    let other = drawn_net(alloc, other)?;
+    Ok(are_one(alloc, &one, &other)?)
 }
 
 /// The net of a configuration's text.
@@ -60,13 +73,20 @@ fn drawn_net(alloc: Global, text: &str) -> Result<Net, Trouble> {
 /// How often each rule fires, how many names are replaced, and `next` at the end, where rounds end and so many drawn
 /// orders end as they do.
 fn orders(alloc: Global, count: u64, text: &[u8]) -> Result<Vec<u8>, Trouble> {
-    let Ok(system) = system_of(alloc, text) else {
-        return Ok(Vec::from_slice(alloc, b"refused")?);
-    };
-    let (rules, config) = system.into_parts();
-    let Some(whole) = agreed(alloc, &rules, &config, 0, count)? else {
-        return Ok(Vec::from_slice(alloc, b"goes on")?);
-    };
+    match system_of(alloc, text) {
+        Ok(system) => orders_of(alloc, count, &system),
+        Err(_) => Ok(Vec::from_slice(alloc, b"refused")?),
+    }
+}
+
+fn orders_of(alloc: Global, count: u64, system: &System) -> Result<Vec<u8>, Trouble> {
+    match agreed(alloc, system.rules(), system.config(), 0, count)? {
+        Some(whole) => told(alloc, &whole),
+        None => Ok(Vec::from_slice(alloc, b"goes on")?),
+    }
+}
+
+fn told(alloc: Global, whole: &Outcome) -> Result<Vec<u8>, Trouble> {
     let mut line = Vec::new(alloc);
     for firings in &whole.counts.firings {
         decimal(&mut line, *firings)?;

@@ -1,7 +1,7 @@
 //! Systems that look drawn by chance, each reduced in several orders.
 
 use crate::drawn_text::Writer;
-use crate::orders::agreed;
+use crate::orders::{Outcome, agreed};
 use ic_notation::{Trouble, decimal, system_of};
 use ic_round::settle;
 use ic_term::{Config, Term, names_of_terms};
@@ -36,37 +36,47 @@ pub fn drawn(alloc: Global, systems: u64, orders: u64) -> Result<Vec<u8>, Troubl
         let text = writer.system(alloc)?;
         sums.count(alloc, &text, seed, orders)?;
     }
-    let mut line = Vec::new(alloc);
-    decimal(&mut line, sums.ended)?;
-    for sum in [
-        sums.interactions,
-        sums.names,
-        sums.at_start,
-        sums.at_end,
-        sums.made,
-    ] {
-        line.push(b' ')?;
-        decimal(&mut line, sum)?;
-    }
-    Ok(line)
+    sums.told(alloc)
 }
 
 impl Sums {
+    fn told(&self, alloc: Global) -> Result<Vec<u8>, Trouble> {
+        let mut line = Vec::new(alloc);
+        decimal(&mut line, self.ended)?;
+        for sum in [
+            self.interactions,
+            self.names,
+            self.at_start,
+            self.at_end,
+            self.made,
+        ] {
+            line.push(b' ')?;
+            decimal(&mut line, sum)?;
+        }
+        Ok(line)
+    }
+
     /// Counts a drawn system, where it ends.
     fn count(&mut self, alloc: Global, text: &[u8], seed: u64, orders: u64) -> Result<(), Trouble> {
         let (rules, config) = system_of(alloc, text)?.into_parts();
-        if let Some(whole) = agreed(alloc, &rules, &config, seed, orders)? {
-            let first = circles(alloc, &settle(alloc, config)?)?;
-            let last = circles(alloc, &whole.end)?;
-            self.ended = self.ended.saturating_add(1);
-            self.interactions = self
-                .interactions
-                .saturating_add(whole.counts.interactions());
-            self.names = self.names.saturating_add(whole.counts.names);
-            self.at_start = self.at_start.saturating_add(u64::from(first > 0));
-            self.at_end = self.at_end.saturating_add(u64::from(last > 0));
-            self.made = self.made.saturating_add(u64::from(last > first));
+        match agreed(alloc, &rules, &config, seed, orders)? {
+            Some(whole) => self.add(alloc, config, &whole),
+            None => Ok(()),
         }
+    }
+
+    /// Adds a system that starts so and ends so.
+    fn add(&mut self, alloc: Global, start: Config, whole: &Outcome) -> Result<(), Trouble> {
+        let first = circles(alloc, &settle(alloc, start)?)?;
+        let last = circles(alloc, &whole.end)?;
+        self.ended = self.ended.saturating_add(1);
+        self.interactions = self
+            .interactions
+            .saturating_add(whole.counts.interactions());
+        self.names = self.names.saturating_add(whole.counts.names);
+        self.at_start = self.at_start.saturating_add(u64::from(first > 0));
+        self.at_end = self.at_end.saturating_add(u64::from(last > 0));
+        self.made = self.made.saturating_add(u64::from(last > first));
         Ok(())
     }
 }

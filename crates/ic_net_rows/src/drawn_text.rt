@@ -138,24 +138,29 @@ impl Writer {
 
     /// Writes a configuration of up to two interface terms and six equations.
     fn configuration(&mut self) -> Result<(), AllocError> {
-        self.text.push(b'<')?;
+        self.text.extend_from_slice(b"<")?;
         for place in 0..self.draws.below(3) {
-            if place > 0 {
-                self.text.push(b',')?;
-            }
+            self.comma(place)?;
             self.term()?;
         }
-        self.text.push(b'|')?;
+        self.text.extend_from_slice(b"|")?;
         for place in 0..self.draws.below(7) {
-            if place > 0 {
-                self.text.push(b',')?;
-            }
-            self.term()?;
-            self.text.push(b'=')?;
-            self.term()?;
+            self.comma(place)?;
+            self.equation()?;
         }
-        self.text.push(b'>')?;
-        Ok(())
+        self.text.extend_from_slice(b">")
+    }
+
+    /// Writes a comma before what doesn't stand first.
+    fn comma(&mut self, place: usize) -> Result<(), AllocError> {
+        self.text
+            .extend_from_slice(if place > 0 { b"," } else { b"" })
+    }
+
+    fn equation(&mut self) -> Result<(), AllocError> {
+        self.term()?;
+        self.text.extend_from_slice(b"=")?;
+        self.term()
     }
 }
 

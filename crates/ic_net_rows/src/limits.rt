@@ -15,12 +15,16 @@ const MOST_STEPS: u32 = 50_000;
 /// that there are behind a round or a step, and the end, or that it is too large on the way.
 pub fn limits(alloc: Global, text: &[u8]) -> Result<Vec<u8>, Trouble> {
     let (rules, config) = system_of(alloc, text)?.into_parts();
+    limits_of(alloc, &rules, &config)
+}
+
+fn limits_of(alloc: Global, rules: &RuleSet, config: &Config) -> Result<Vec<u8>, Trouble> {
     let mut line = Vec::from_slice(alloc, b"rounds ")?;
-    line.extend_from_slice(&rounds(alloc, &rules, &config)?)?;
+    line.append(&mut rounds(alloc, rules, config)?)?;
     line.extend_from_slice(b", first steps ")?;
-    line.extend_from_slice(&steps(alloc, &rules, &config, false)?)?;
+    line.append(&mut steps(alloc, rules, config, false)?)?;
     line.extend_from_slice(b", last steps ")?;
-    line.extend_from_slice(&steps(alloc, &rules, &config, true)?)?;
+    line.append(&mut steps(alloc, rules, config, true)?)?;
     Ok(line)
 }
 
@@ -31,17 +35,25 @@ fn rounds(alloc: Global, rules: &RuleSet, start: &Config) -> Result<Vec<u8>, Tro
         if quiet(rules, &config) {
             break;
         }
-        if !over(rules.symbols(), &config) {
-            return Err(Trouble("not over the symbols"));
-        }
-        match round(alloc, rules, config) {
-            Ok(after) => config = after,
-            Err(RoundFault::Overgrown) => return Ok(Vec::from_slice(alloc, b"too large")?),
-            Err(_) => return Err(Trouble("a round is refused")),
+        match next_round(alloc, rules, config)? {
+            Some(after) => config = after,
+            None => return Ok(Vec::from_slice(alloc, b"too large")?),
         }
         most = most.max(config.nodes());
     }
     told(alloc, rules, &config, most)
+}
+
+/// The configuration after a round, if that isn't too large.
+fn next_round(alloc: Global, rules: &RuleSet, config: Config) -> Result<Option<Config>, Trouble> {
+    if !over(rules.symbols(), &config) {
+        return Err(Trouble("not over the symbols"));
+    }
+    match round(alloc, rules, config) {
+        Ok(after) => Ok(Some(after)),
+        Err(RoundFault::Overgrown) => Ok(None),
+        Err(_) => Err(Trouble("a round is refused")),
+    }
 }
 
 fn steps(
@@ -89,6 +101,6 @@ fn told(alloc: Global, rules: &RuleSet, end: &Config, most: u64) -> Result<Vec<u
     let mut line = Vec::new(alloc);
     decimal(&mut line, most)?;
     line.push(b' ')?;
-    line.extend_from_slice(&printed(alloc, rules, end)?)?;
+    line.append(&mut printed(alloc, rules, end)?)?;
     Ok(line)
 }

@@ -1,6 +1,6 @@
 //! A configuration as the net that it draws: nodes with ports, and what each port is wired to.
 
-use ic_term::{Config, Symbols, Term};
+use ic_term::{Cell, Config, Equation, Symbols, Term};
 use std::alloc::{AllocError, Global};
 
 /// What a node is. A joint stands for an equation while the net is drawn, and is taken out at its end.
@@ -47,6 +47,15 @@ fn letters(symbols: &Symbols, sym: u32) -> u64 {
     number
 }
 
+/// The ends of a node's own ports.
+fn own_ends(alloc: Global, node: usize, ports: usize) -> Result<Vec<End>, AllocError> {
+    let mut ends = Vec::new(alloc);
+    for port in 0..ports {
+        ends.push(End { node, port })?;
+    }
+    Ok(ends)
+}
+
 impl Net {
     /// The net of a configuration over these symbols.
     pub fn of(alloc: Global, symbols: &Symbols, config: &Config) -> Result<Net, AllocError> {
@@ -55,18 +64,38 @@ impl Net {
             loops: 0,
             open: Vec::new(alloc),
         };
-        for (place, term) in config.interface().iter().enumerate() {
-            let node = net.add(alloc, Label::Interface(place), 1)?;
-            net.put(alloc, symbols, term, End { node, port: 0 })?;
-        }
-        for equation in config.equations() {
-            let node = net.add(alloc, Label::Joint, 2)?;
-            net.put(alloc, symbols, &equation.left, End { node, port: 0 })?;
-            net.put(alloc, symbols, &equation.right, End { node, port: 1 })?;
-        }
-        net.end_names(alloc)?;
-        net.take_joints_out();
+        net.draw(alloc, symbols, config)?;
         Ok(net)
+    }
+
+    fn draw(
+        &mut self,
+        alloc: Global,
+        symbols: &Symbols,
+        config: &Config,
+    ) -> Result<(), AllocError> {
+        for (place, term) in config.interface().iter().enumerate() {
+            let node = self.add(alloc, Label::Interface(place), 1)?;
+            self.put(alloc, symbols, term, End { node, port: 0 })?;
+        }
+        self.put_equations(alloc, symbols, config.equations())?;
+        self.end_names(alloc)?;
+        self.take_joints_out();
+        Ok(())
+    }
+
+    fn put_equations(
+        &mut self,
+        alloc: Global,
+        symbols: &Symbols,
+        equations: &[Equation],
+    ) -> Result<(), AllocError> {
+        for equation in equations {
+            let node = self.add(alloc, Label::Joint, 2)?;
+            self.put(alloc, symbols, &equation.left, End { node, port: 0 })?;
+            self.put(alloc, symbols, &equation.right, End { node, port: 1 })?;
+        }
+        Ok(())
     }
 
     /// How many nodes there are but joints.
@@ -88,10 +117,7 @@ impl Net {
     /// Adds a node with so many ports, each wired to itself.
     fn add(&mut self, alloc: Global, label: Label, ports: usize) -> Result<usize, AllocError> {
         let node = self.nodes.len();
-        let mut wires = Vec::new(alloc);
-        for port in 0..ports {
-            wires.push(End { node, port })?;
-        }
+        let wires = own_ends(alloc, node, ports)?;
         self.nodes.push(Node { label, wires })?;
         Ok(node)
     }
@@ -126,9 +152,7 @@ impl Net {
             match term {
                 Term::Name(name) => self.put_name(*name, end)?,
                 Term::Agent(cell) => {
-                    let label = Label::Agent(letters(symbols, cell.sym));
-                    let node = self.add(alloc, label, cell.args.len().saturating_add(1))?;
-                    self.wire(end, End { node, port: 0 });
+                    let node = self.add_agent(alloc, symbols, cell, end)?;
                     for (place, arg) in cell.args.iter().enumerate() {
                         let port = place.saturating_add(1);
                         left.push((arg, End { node, port }))?;
@@ -137,6 +161,20 @@ impl Net {
             }
         }
         Ok(())
+    }
+
+    /// Adds the node of an agent, its principal port wired to an end.
+    fn add_agent(
+        &mut self,
+        alloc: Global,
+        symbols: &Symbols,
+        cell: &Cell,
+        end: End,
+    ) -> Result<usize, AllocError> {
+        let label = Label::Agent(letters(symbols, cell.sym));
+        let node = self.add(alloc, label, cell.args.len().saturating_add(1))?;
+        self.wire(end, End { node, port: 0 });
+        Ok(node)
     }
 
     /// Wires a name to where it occurred before, or leaves it open.

@@ -59,12 +59,24 @@ fn counted_round(
     config: Config,
     counts: &mut Counts,
 ) -> Result<Config, Trouble> {
-    let copy = config.copy(alloc)?;
-    if !over(rules.symbols(), &config) || !over(rules.symbols(), &copy) {
+    let equations = count_works(alloc, rules, config.copy(alloc)?, counts)?;
+    let after = next_round(alloc, rules, config)?;
+    counts.replace(equations.saturating_sub(after.equations().len()));
+    Ok(after)
+}
+
+/// Counts the interactions of a round, and answers how many equations they leave.
+fn count_works(
+    alloc: Global,
+    rules: &RuleSet,
+    config: Config,
+    counts: &mut Counts,
+) -> Result<usize, Trouble> {
+    if !over(rules.symbols(), &config) {
         return Err(Trouble("not over the symbols"));
     }
     let mut equations = config.equations().len();
-    let Ok(plan) = plan(alloc, rules, copy) else {
+    let Ok(plan) = plan(alloc, rules, config) else {
         return Err(Trouble("no plan"));
     };
     for work in &plan.works {
@@ -72,11 +84,17 @@ fn counted_round(
         let products = work.left.args.len().saturating_add(work.right.args.len());
         equations = equations.saturating_add(products).saturating_sub(1);
     }
-    let Ok(after) = round(alloc, rules, config) else {
-        return Err(Trouble("a round is refused"));
-    };
-    counts.replace(equations.saturating_sub(after.equations().len()));
-    Ok(after)
+    Ok(equations)
+}
+
+fn next_round(alloc: Global, rules: &RuleSet, config: Config) -> Result<Config, Trouble> {
+    if !over(rules.symbols(), &config) {
+        return Err(Trouble("not over the symbols"));
+    }
+    match round(alloc, rules, config) {
+        Ok(after) => Ok(after),
+        Err(_) => Err(Trouble("a round is refused")),
+    }
 }
 
 /// The end by single steps in a drawn order, at most so many of them.
@@ -163,6 +181,19 @@ pub fn agreed(
     let Some(whole) = by_rounds(alloc, rules, config)? else {
         return Ok(None);
     };
+    each_agrees(alloc, rules, config, &whole, seed, orders)?;
+    Ok(Some(whole))
+}
+
+/// Makes sure that so many drawn orders end as rounds do.
+fn each_agrees(
+    alloc: Global,
+    rules: &RuleSet,
+    config: &Config,
+    whole: &Outcome,
+    seed: u64,
+    orders: u64,
+) -> Result<(), Trouble> {
     let most = whole
         .counts
         .interactions()
@@ -170,15 +201,21 @@ pub fn agreed(
     for order in 0..orders {
         let seed = seed.wrapping_mul(1000).wrapping_add(order);
         let found = by_order(alloc, rules, config, most, seed)?;
-        if !quiet(rules, &found.end) {
-            return Err(Trouble("an order takes longer"));
-        }
-        if !found.counts.is(&whole.counts) || found.end.next() != whole.end.next() {
-            return Err(Trouble("another count"));
-        }
-        if !are_one_net(alloc, rules, &found.end, &whole.end)? {
-            return Err(Trouble("another net"));
-        }
+        agrees(alloc, rules, &found, whole)?;
     }
-    Ok(Some(whole))
+    Ok(())
+}
+
+/// Makes sure that an order ends as rounds do.
+fn agrees(alloc: Global, rules: &RuleSet, found: &Outcome, whole: &Outcome) -> Result<(), Trouble> {
+    if !quiet(rules, &found.end) {
+        return Err(Trouble("an order takes longer"));
+    }
+    if !found.counts.is(&whole.counts) || found.end.next() != whole.end.next() {
+        return Err(Trouble("another count"));
+    }
+    if !are_one_net(alloc, rules, &found.end, &whole.end)? {
+        return Err(Trouble("another net"));
+    }
+    Ok(())
 }

@@ -4,6 +4,7 @@ use crate::drawn::SEED;
 use crate::drawn_text::Writer;
 use crate::orders::{are_one_net, by_rounds};
 use ic_notation::{Trouble, decimal, system_of};
+use ic_rules::RuleSet;
 use ic_term::{Config, Equation, Term};
 use std::alloc::Global;
 
@@ -13,15 +14,16 @@ pub fn spoiled(alloc: Global, systems: u64, way: &str) -> Result<Vec<u8>, Troubl
     let mut changed = 0u64;
     let mut apart = 0u64;
     for _ in 0..systems {
-        let (rules, config) = system_of(alloc, &writer.system(alloc)?)?.into_parts();
-        if let Some(whole) = by_rounds(alloc, &rules, &config)? {
-            if let Some(other) = changed_end(alloc, &whole.end, way)? {
-                changed = changed.saturating_add(1);
-                let differs = !are_one_net(alloc, &rules, &whole.end, &other)?;
-                apart = apart.saturating_add(u64::from(differs));
-            }
+        let text = writer.system(alloc)?;
+        if let Some(differs) = is_told_apart(alloc, &text, way)? {
+            changed = changed.saturating_add(1);
+            apart = apart.saturating_add(u64::from(differs));
         }
     }
+    told(alloc, changed, apart)
+}
+
+fn told(alloc: Global, changed: u64, apart: u64) -> Result<Vec<u8>, Trouble> {
     let mut line = Vec::new(alloc);
     decimal(&mut line, changed)?;
     line.push(b' ')?;
@@ -29,22 +31,46 @@ pub fn spoiled(alloc: Global, systems: u64, way: &str) -> Result<Vec<u8>, Troubl
     Ok(line)
 }
 
+/// Whether the end of a system is another net once it is changed in a way. Nothing where it has no end, or that can't be.
+fn is_told_apart(alloc: Global, text: &[u8], way: &str) -> Result<Option<bool>, Trouble> {
+    let (rules, config) = system_of(alloc, text)?.into_parts();
+    match by_rounds(alloc, &rules, &config)? {
+        Some(whole) => end_differs(alloc, &rules, &whole.end, way),
+        None => Ok(None),
+    }
+}
+
+fn end_differs(
+    alloc: Global,
+    rules: &RuleSet,
+    end: &Config,
+    way: &str,
+) -> Result<Option<bool>, Trouble> {
+    match changed_end(alloc, end, way)? {
+        Some(other) => Ok(Some(!are_one_net(alloc, rules, end, &other)?)),
+        None => Ok(None),
+    }
+}
+
 /// The configuration changed in a way at its last equation, where that can be.
 fn changed_end(alloc: Global, end: &Config, way: &str) -> Result<Option<Config>, Trouble> {
     let (interface, mut equations, next) = end.copy(alloc)?.into_parts();
-    let Some(last) = equations.pop() else {
-        return Ok(None);
-    };
-    let is_changed = match way {
-        "lost" => true,
-        "crossed" => cross(&mut equations, last)?,
-        "symbol" => with_other_symbol(&mut equations, last)?,
-        _ => with_arguments_exchanged(&mut equations, last)?,
-    };
-    if !is_changed {
+    if !change_last(&mut equations, way)? {
         return Ok(None);
     }
     Ok(Some(Config::restore(alloc, interface, equations, next)?))
+}
+
+fn change_last(equations: &mut Vec<Equation>, way: &str) -> Result<bool, Trouble> {
+    let Some(last) = equations.pop() else {
+        return Ok(false);
+    };
+    match way {
+        "lost" => Ok(true),
+        "crossed" => cross(equations, last),
+        "symbol" => with_other_symbol(equations, last),
+        _ => with_arguments_exchanged(equations, last),
+    }
 }
 
 /// Adds the equation with its right side and that of the one before exchanged, if there is one.
