@@ -325,8 +325,8 @@ def read_line(text, in_script=False):
     if reader.passes(""):
         return ("blank",)
     word = reader.take(JOB_NAME)
-    name = number = budget = ""
-    if word in ("submit", "pause", "resume", "cancel", "fetch"):
+    name = new = number = budget = ""
+    if word in ("submit", "copy", "pause", "resume", "cancel", "fetch"):
         name = reader.take(JOB_NAME)
     elif word == "run" and not in_script:
         number = reader.take(NUMBER)
@@ -334,12 +334,16 @@ def read_line(text, in_script=False):
         raise Fault("bad syntax")
     if word == "submit" and reader.next() != "{":
         budget = reader.take(NUMBER)
+    if word == "copy":
+        new = reader.take(JOB_NAME)
     phrases = reader.system() if word == "submit" else None
     reader.end()
     if phrases:
         return word, name, *meaning(*phrases, name, budget), int(budget) if budget else None
-    if len(name) > MAX_JOB_NAME or len(number) > 4 or int(number or 0) > MAX_RUN:
+    if max(len(name), len(new)) > MAX_JOB_NAME or len(number) > 4 or int(number or 0) > MAX_RUN:
         raise Fault("bad limit")
+    if new:
+        return word, name, new
     return (word, int(number)) if number else (word, name)
 
 
@@ -529,7 +533,7 @@ class Job:
 
 
 class Table:
-    """Jobs in the order in which they were submitted."""
+    """Jobs in the order in which they began."""
 
     def __init__(self, jobs=()):
         self.jobs = list(jobs)
@@ -537,15 +541,17 @@ class Table:
     def named(self, name):
         return next((job for job in self.jobs if job.name == name), None)
 
-    def apply(self, word, name=None, rules=None, config=None, budget=None):
+    def apply(self, word, name=None, *parts):
         """Does a command and answers it."""
         job = self.named(name)
         if word == "list":
             return "".join(["jobs", *(f" {it.name}:{it.state}:{it.rounds}" for it in self.jobs)])
         if word == "submit":
-            return self.submit(name, rules, config, budget)
+            return self.submit(name, *parts)
         if job is None:
             return "refused nojob"
+        if word == "copy":
+            return self.submit(*parts, job.rules, job.config)
         if word == "fetch":
             return job.shown()
         if word == "cancel":

@@ -8,8 +8,10 @@ from program import Server, as_lines
 from test_drawn_rounds import ADDITION, GROWING, LOOP, loops, numeral
 
 EVERY = [1, 2, 99, 100, 101, 1_000_000]
-WORDS = ["submit"] * 5 + ["fetch"] * 4 + ["run"] * 4 + ["list"] * 3 + ["pause", "resume"] * 3 + ["cancel"] * 2 + ["other"]
-OTHERS = ["", " ", "\t\r", "lists", "run 1001", "run 00", "fetch", "pause A", "submit a", "submit a {} <|", "list list"]
+WORDS = ["submit"] * 5 + ["fetch"] * 4 + ["run"] * 4 + ["list"] * 3 + ["pause", "resume"] * 3
+WORDS += ["cancel", "copy"] * 2 + ["other"]
+OTHERS = ["", " ", "\t\r", "lists", "run 1001", "run 00", "fetch", "pause A", "submit a", "submit a {} <|", "list list",
+          "copy a", "copy a A", "copy a b c", "copy a bbbbbbbbbbbbbbbbb"]
 OTHERS += ["\0", "é", "submit a 0 {} <|>", "submit a 01 {} <|>", "submit a 4294967296 {} <|>", "submit a 1 1 {} <|>"]
 
 # What may stand in front of a system: no budget, mostly.
@@ -42,6 +44,8 @@ def session(drawn, names, texts, length, longest_run=60):
         word, name = drawn.choice(WORDS), drawn.choice(names)
         if word == "submit":
             lines.append(f"submit {name} {drawn.choice(BUDGETS)}{drawn.choice(texts)}")
+        elif word == "copy":
+            lines.append(f"copy {name} {drawn.choice(names)}")
         elif word == "run":
             lines.append(f"run {drawn.choice([0, 1, 2, 3, 5, drawn.randint(0, longest_run)])}")
         elif word == "other":

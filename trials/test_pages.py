@@ -104,7 +104,7 @@ class Pages(Trial):
 
     def test_each_session_in_examples_has_its_answers_by_any_number_of_workers(self):
         sessions = sorted(TOP.glob("examples/*.session"))
-        self.equals("examples/", "how many sessions there are", 6, len(sessions))
+        self.equals("examples/", "how many sessions there are", 7, len(sessions))
         for session in sessions:
             answers = session.with_suffix(".answers").read_bytes()
             for workers, every in ((1, 1), (2, 100), (7, 3), (64, 1_000_000)):

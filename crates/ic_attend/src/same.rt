@@ -40,6 +40,10 @@ pub(crate) fn same_command(left: &Command, right: &Command) -> bool
             }
             _ => false,
         },
+        Command::CopyJob(old, new) => match right {
+            Command::CopyJob(other, twin) => same_name(old, other) && same_name(new, twin),
+            _ => false,
+        },
         Command::Pause(name) => match right {
             Command::Pause(other) => same_name(name, other),
             _ => false,

@@ -27,8 +27,8 @@ pub struct Wanted {
 pub enum Asked<'a> {
     /// Nothing but that it is one.
     Nothing,
-    /// What each client is answered, and the jobs that are left: a job that runs without its rounds, which differ from run
-    /// to run.
+    /// What each client is answered, and the jobs that are left. Those that run and those that were copied are told without
+    /// their rounds, which differ from run to run.
     Answers,
     /// How many answers each client has, and why it ended.
     Counts,
@@ -145,7 +145,7 @@ fn tell(alloc: Global, line: &mut Vec<u8>, done: &Attended<MemDisk>) -> Result<(
         tell_run(alloc, line, run)?;
     }
     tell_ends(line, &done.ends)?;
-    tell_jobs(alloc, line, done.book.table().jobs())?;
+    tell_jobs(alloc, line, done.book.table().jobs(), &done.answers)?;
     if done.ends.is_empty() {
         decimal(line, done.book.log().len() as u64)?;
         line.extend_from_slice(b" entries")?;
@@ -201,11 +201,16 @@ fn tell_run(alloc: Global, line: &mut Vec<u8>, run: &ClientRun) -> Result<(), Tr
 }
 
 /// The jobs in the order of their names, since that of the table differs from run to run.
-fn tell_jobs(alloc: Global, line: &mut Vec<u8>, jobs: &[Job]) -> Result<(), Trouble> {
+fn tell_jobs(
+    alloc: Global,
+    line: &mut Vec<u8>,
+    jobs: &[Job],
+    runs: &[ClientRun],
+) -> Result<(), Trouble> {
     let mut told = Vec::new(alloc);
     for job in jobs {
         let mut text = Vec::new(alloc);
-        tell_job(alloc, &mut text, job)?;
+        tell_job(alloc, &mut text, job, is_copy(runs, job))?;
         told.push(text)?;
     }
     told.sort()?;
@@ -215,13 +220,27 @@ fn tell_jobs(alloc: Global, line: &mut Vec<u8>, jobs: &[Job]) -> Result<(), Trou
     Ok(())
 }
 
-/// A job's name, and where it doesn't run its state, rounds and configuration.
-fn tell_job(alloc: Global, line: &mut Vec<u8>, job: &Job) -> Result<(), Trouble> {
+/// Whether a client has made a copy of this job's name.
+fn is_copy(runs: &[ClientRun], job: &Job) -> bool {
+    runs.iter().any(|run| has_copied(run, job))
+}
+
+fn has_copied(run: &ClientRun, job: &Job) -> bool {
+    run.answers.iter().any(|(command, _)| match command {
+        Command::CopyJob(_, new) => new.as_bytes() == job.name().as_bytes(),
+        _ => false,
+    })
+}
+
+/// A job's name, and where it doesn't run its state, rounds and configuration; of a copy no rounds.
+fn tell_job(alloc: Global, line: &mut Vec<u8>, job: &Job, copy: bool) -> Result<(), Trouble> {
     line.extend_from_slice(job.name().as_bytes())?;
     line.extend_from_slice(state_words(job.state()))?;
     if job.state() != State::Running {
-        decimal(line, job.rounds())?;
-        line.push(b' ')?;
+        if !copy {
+            decimal(line, job.rounds())?;
+            line.push(b' ')?;
+        }
         line.append(&mut printed(alloc, job.rules(), job.config())?)?;
         line.extend_from_slice(b" ; ")?;
     }

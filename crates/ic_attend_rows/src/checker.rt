@@ -308,10 +308,11 @@ fn same_words(alloc: Global, left: &Command, right: &Command) -> Result<(), Trou
     Ok(())
 }
 
-/// The words of a command: what it is, its job, and the budget and configuration of a submit.
+/// The words of a command: what it is, its job or jobs, and the budget and configuration of a submit.
 fn words_of(alloc: Global, command: &Command) -> Result<Vec<u8>, Trouble> {
     match command {
         Command::Submit(name, system, budget) => submit_words(alloc, name, system, budget),
+        Command::CopyJob(old, new) => copy_words(alloc, old, new),
         Command::Pause(name) => about(alloc, b"pause ", name),
         Command::Resume(name) => about(alloc, b"resume ", name),
         Command::Cancel(name) => about(alloc, b"cancel ", name),
@@ -323,6 +324,13 @@ fn words_of(alloc: Global, command: &Command) -> Result<Vec<u8>, Trouble> {
 fn about(alloc: Global, verb: &[u8], name: &JobName) -> Result<Vec<u8>, Trouble> {
     let mut words = Vec::from_slice(alloc, verb)?;
     words.extend_from_slice(name.as_bytes())?;
+    Ok(words)
+}
+
+fn copy_words(alloc: Global, old: &JobName, new: &JobName) -> Result<Vec<u8>, Trouble> {
+    let mut words = about(alloc, b"copy ", old)?;
+    words.push(b' ')?;
+    words.extend_from_slice(new.as_bytes())?;
     Ok(words)
 }
 

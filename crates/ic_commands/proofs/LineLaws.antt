@@ -1,5 +1,5 @@
 -- Laws of lines: numbers and their texts, and a submit with its system.
-use Rattle.std.proofs.Common.{◌≡◌, ℕ, zero, suc, ◌+◌, ◌*◌, ◌<◌, ◌≤◌, ◌^◌, ◌&&◌, ◌||◌, ◌==◌, not, true, false, List, [], ◌∷◌, ◌++◌, Option, None, Some, Result, Ok, Err, length, IsTrue, refl, sym, ap, ◌∙◌, subst, arith, ⊎_elim, length-append}
+use Rattle.std.proofs.Common.{◌≡◌, ℕ, zero, suc, ◌+◌, ◌*◌, ◌<◌, ◌≤◌, ◌^◌, ◌&&◌, ◌||◌, ◌==◌, not, Bool, true, false, cond, inl, inr, ◌⊎◌, List, [], ◌∷◌, ◌++◌, Option, None, Some, Result, Ok, Err, length, IsTrue, refl, sym, ap, ◌∙◌, subst, arith, ⊎_elim, length-append}
 use Rattle.std.specs.Prelude.{codes, nat_le, nat_lt}
 use Rattle.std.specs.Option.{option_map}
 use Rattle.std.specs.Str.{bytes_eq}
@@ -29,7 +29,7 @@ use Rattle.ic_commands.specs.declared.line.Line.TheVariants.{Blank, Command as A
 use Rattle.ic_commands.specs.declared.line.Opening.TheVariants as opening
 use Rattle.ic_commands.specs.declared.line.Verb.{Verb}
 use Rattle.ic_commands.specs.declared.line.Verb.TheVariants.{Pause, Resume, Cancel, Fetch}
-use Rattle.ic_commands.specs.LineSource.{nothing, about, list, run, is_number, verb_text}
+use Rattle.ic_commands.specs.LineSource.{nothing, copy, about, list, run, is_number, verb_text}
 use Rattle.ic_commands.specs.LineSense.{submitted, asked, fits_budget, unless_long, line_sense}
 use Rattle.ic_commands.specs.LineText.{ReadsLine}
 use Rattle.ic_commands.specs.inner.Line.{HasNoWord, number_word, is_number_or_none, IsLineOf, ReadsBehind}
@@ -38,7 +38,7 @@ use Rattle.ic_text.specs.lemmas.NameTexts.{name_text-digits}
 use Rattle.ic_text.specs.lemmas.WordRuns.{tokens-parted, tokens-run}
 use Rattle.ic_commands.proofs.WordSplits.{before-none}
 use Rattle.ic_commands.proofs.LineReading.{is_sense, is_sense_behind, reads_line}
-use Rattle.ic_commands.proofs.LineParts.{job_name-parts, short_name, word_of-named, are_within, submit_read, submit_past_read, submit_alone, submit_too_long}
+use Rattle.ic_commands.proofs.LineParts.{job_name-parts, copy_sense, copy_short, short_name, word_of-named, are_within, submit_read, submit_past_read, submit_alone, submit_too_long}
 
 -- a number's text behind the letter a is the text of a name
 named : (n : ℕ) → 0 < n → n < 2 ^ 64 → name_text (26 * n + 0) ≡ 97 ∷ decimal n
@@ -153,6 +153,29 @@ about_text verb name alone small is =
     (subst (λ o. IsLineOf o (Ok (Asks (asked verb name)))) (sym whole)
     (subst (IsLineOf (before (word_of (verb_text verb)) (tokens name))) (short_name name (Ok (Asks (asked verb name))) is) read))
 
+some_name : (w text : List ℕ) → is_job_word w ≡ true → w ≡ [] → HasNoWord text (tokens text)
+some_name w text is none = absurd (false≢true (sym (ap is_job_word none) ∙ is))
+
+-- a copy and two names
+copy_reads : (old new : List ℕ) (a : Result Line TextFault) → is_job_word old ≡ true → is_job_word new ≡ true → length old + length new + 6 ≤ MAX_TEXT
+    → line_sense (copy old new) ≡ a → ReadsLine (codes "copy " ++ old ++ 32 ∷ new) a
+copy_reads old new a first second room means =
+    let rest = old ++ 32 ∷ new in
+    let split = behind_space old new (tokens-name old first) in
+    let one : tokens new ≡ Some (word new ∷ []) = tokens-name new second ∙ ap Some (word_of-named new second) in
+    let whole : tokens (codes "copy" ++ 32 ∷ rest) ≡ before (word_of (codes "copy")) (tokens rest) = behind_space (codes "copy") rest refl in
+    let short : length (codes "copy" ++ 32 ∷ rest) ≤ MAX_TEXT = omega (arith, room, length-append old (32 ∷ new)) in
+    reads_line (codes "copy" ++ 32 ∷ rest) a short
+    (subst (λ o. IsLineOf o a) (sym whole) (subst (ReadsBehind opening.Copy rest) means (copy_sense rest old new split (some_name old new first) new one first second)))
+
+pub copy_text : (old new : List ℕ) → IsTrue (is_job_name old) → IsTrue (is_job_name new) → ReadsLine (codes "copy " ++ old ++ 32 ∷ new) (Ok (Asks (command.CopyJob old new)))
+copy_text old new first second =
+    let old_parts = and_parts (is_job_word old) _ (sym (job_name-parts old) ∙ first) in
+    let new_parts = and_parts (is_job_word new) _ (sym (job_name-parts new) ∙ second) in
+    let old_few : length old ≤ MAX_JOB_NAME = grind (arith, nat_tests, old_parts.1) in
+    let new_few : length new ≤ MAX_JOB_NAME = grind (arith, nat_tests, new_parts.1) in
+    copy_reads old new _ old_parts.0 new_parts.0 (omega (arith, old_few, new_few)) (copy_short old new first second)
+
 -- names that are too long
 too_long : (name : List ℕ) → MAX_JOB_NAME < length name → nat_le (length name) MAX_JOB_NAME ≡ false
 too_long name many = grind (arith, nat_tests)
@@ -188,6 +211,26 @@ submit_long_name name text a named many room reads apart =
     (λ is. false≢true (sym (too_long name many) ∙ (and_parts (is_job_word name) (nat_le (length name) MAX_JOB_NAME) (sym (job_name-parts name) ∙ is)).1)) in
     submit_reads name text (Err Limit) short (submit_too_long (name ++ 32 ∷ text) name text split named a (omega (arith, room)) reads apart isnt)
 
+unless_either_long : (first second : Bool) (a : Result Line TextFault) → (first && second) ≡ false → cond first (cond second a (Err Limit)) (Err Limit) ≡ Err Limit
+unless_either_long true true a e = cc
+unless_either_long true false a e = refl
+unless_either_long false second a e = refl
+
+not_both : (a b : Bool) → (a ≡ false) ⊎ (b ≡ false) → (a && b) ≡ false
+not_both true b either = elim either [
+  | inl e ↦ absurd (false≢true (sym e))
+  | inr e ↦ e
+]
+not_both false b either = refl
+
+pub copy_long : (old new : List ℕ) → IsTrue (is_job_word old) → IsTrue (is_job_word new) → (MAX_JOB_NAME < length old) ⊎ (MAX_JOB_NAME < length new)
+    → length old + length new + 6 ≤ MAX_TEXT → ReadsLine (codes "copy " ++ old ++ 32 ∷ new) (Err Limit)
+copy_long old new first second many room =
+    let either : (nat_le (length old) MAX_JOB_NAME ≡ false) ⊎ (nat_le (length new) MAX_JOB_NAME ≡ false) =
+    ⊎_elim (λ m. inl (too_long old m)) (λ m. inr (too_long new m)) many in
+    copy_reads old new (Err Limit) first second room
+    (unless_either_long (nat_le (length old) MAX_JOB_NAME) (nat_le (length new) MAX_JOB_NAME) (Ok (Asks (command.CopyJob old new))) (not_both _ _ either))
+
 -- the digits of a number are one word
 digit_byte : (c : ℕ) → is_ascii_digit c ≡ true → is_word_byte c ≡ true
 digit_byte c is = grind (arith, nat_tests)
@@ -222,9 +265,6 @@ number_or_none (d ∷ ds) is = is
 
 some_number : (w source : List ℕ) → is_number w ≡ true → w ≡ [] → HasNoWord source (tokens source)
 some_number w source is none = absurd (false≢true (sym (ap is_number none) ∙ is))
-
-some_name : (w text : List ℕ) → is_job_word w ≡ true → w ≡ [] → HasNoWord text (tokens text)
-some_name w text is none = absurd (false≢true (sym (ap is_job_word none) ∙ is))
 
 behind_digits : (digits text : List ℕ) → is_number digits ≡ true → tokens (digits ++ 32 ∷ text) ≡ before (word_of digits) (tokens text)
 behind_digits digits text is = behind_space digits text (tokens-number digits is ∙ ap Some (sym (word_of-number digits is)))

@@ -1,5 +1,5 @@
 -- The parts of a line behind the word that opens it.
-use Rattle.std.proofs.Common.{◌≡◌, ◌&&◌, ◌≤◌, ℕ, Bool, true, false, cond, List, [], ◌∷◌, ◌++◌, Option, None, Some, Result, Err, length, IsTrue, IfSome, refl, sym, ap, ◌∙◌, subst}
+use Rattle.std.proofs.Common.{◌≡◌, ◌&&◌, ◌≤◌, ℕ, Bool, true, false, cond, List, [], ◌∷◌, ◌++◌, Option, None, Some, Result, Ok, Err, length, IsTrue, IfSome, refl, sym, ap, ◌∙◌, subst}
 use Rattle.std.specs.Prelude.{nat_le, codes}
 use Rattle.std.specs.Option.{option_map}
 use Rattle.std.proofs.lemmas.Bool.{false≢true, and_parts, false_from_ne_true}
@@ -9,7 +9,9 @@ use Rattle.ic_rules.specs.declared.job_name.TheConstants.{MAX_JOB_NAME}
 use Rattle.ic_text.specs.declared.limits.TheConstants.{MAX_TEXT}
 use Rattle.ic_text.specs.declared.fault.TextFault.{TextFault}
 use Rattle.ic_text.specs.declared.fault.TextFault.TheVariants.{Syntax, Limit}
+use Rattle.ic_jobs.specs.declared.command.Command.TheVariants as command
 use Rattle.ic_commands.specs.declared.line.Line.{Line}
+use Rattle.ic_commands.specs.declared.line.Line.TheVariants.{Command as Asks}
 use Rattle.ic_commands.specs.declared.line.Opening.{Opening}
 use Rattle.ic_commands.specs.declared.line.Opening.TheVariants as opening
 use Rattle.ic_text.specs.Name.{number_in}
@@ -18,12 +20,12 @@ use Rattle.ic_text.specs.Reading.{IsSpelling}
 use Rattle.ic_text.specs.SystemSource.{SystemPhrase, IsSystemPhrase, system_words}
 use Rattle.ic_text.specs.SystemSense.{system_sense}
 use Rattle.ic_text.specs.SystemText.{ReadsSystem}
-use Rattle.ic_commands.specs.LineSource.{LinePhrase, nothing, submit, about, list, run, is_number, IsLine, number_words, line_words}
+use Rattle.ic_commands.specs.LineSource.{LinePhrase, nothing, submit, copy, about, list, run, is_number, IsLine, number_words, line_words}
 use Rattle.ic_commands.specs.LineSense.{unless_long, fits_budget, unless_unfit, submitted, line_sense}
 use Rattle.ic_commands.specs.LineText.{SpellsSubmit}
 use Rattle.ic_commands.specs.inner.Line.{HasNoWord, number_word, is_number_or_none, is_nothing, opening_text, opening_of, IsLineOf, IsSubmitLine, ReadsBehind}
 use Rattle.ic_text.specs.lemmas.ReadOnce.{some-injective, none_is_some}
-use Rattle.ic_commands.proofs.LineReading.{text-opening_of, opening_in, opens, opening_in-line, behind_one}
+use Rattle.ic_commands.proofs.LineReading.{is_sense_behind, text-opening_of, opening_in, opens, opening_in-line, behind_one}
 use Rattle.ic_commands.proofs.WordSplits.{before-none, front_word, front_is}
 
 -- a text of no tokens
@@ -88,6 +90,7 @@ named_some w text ts p apart is e = by_line p is (ap opening_in e ∙ opening_in
     by_line : (p : LinePhrase) → IsLine p → Some opening.Submit ≡ opens p → word_of w ++ ts ≡ behind_one (line_words p) → IsNamed w (Some ts) p
     by_line nothing is first rest = cc
     by_line (submit n most s) is first rest = named_as w n ts most s is (front_is w text (Some ts) (word n ∷ (number_words most ++ system_words s)) apart (ap Some rest)) rest
+    by_line (copy a b) is first rest = cc
     by_line (about verb n) is first rest = cc
     by_line list is first rest = cc
     by_line (run n) is first rest = cc
@@ -230,6 +233,82 @@ module _ (rest w text digits source : List ℕ) (split : tokens rest ≡ before 
               ap (submitted w most) (reads.spelled short s spells) ∙ sym (within_limits w digits (submitted w most (system_sense s)) is));
           malformed = λ none. ap (submitted w most) (reads.malformed short (no_system none));
         }
+
+-- ---- what stands behind `copy`
+
+-- Behind `copy` stand two names.
+record IsCopy (ts : List Token) : Type 0 where
+  old : List ℕ
+  new : List ℕ
+  old_named : is_job_word old ≡ true
+  new_named : is_job_word new ≡ true
+  tokens : ts ≡ word old ∷ word new ∷ []
+
+copy_by : (ts : List Token) (p : LinePhrase) → IsLine p → Some opening.Copy ≡ opens p → ts ≡ behind_one (line_words p) → IsCopy ts
+copy_by ts nothing is first rest = cc
+copy_by ts (submit n most s) is first rest = cc
+copy_by ts (copy a b) is first rest = record { old = a; new = b; old_named = is.0; new_named = is.1; tokens = rest }
+copy_by ts (about verb n) is first rest = cc
+copy_by ts list is first rest = cc
+copy_by ts (run n) is first rest = cc
+
+copy_in : (o : Option (List Token)) (p : LinePhrase) → IsLine p → before (word_of (codes "copy")) o ≡ Some (line_words p) → (ts : List Token) × (o ≡ Some ts) × IsCopy ts
+copy_in None p is e = absurd (none_is_some (line_words p) e)
+copy_in (Some ts) p is e =
+    let same : word (codes "copy") ∷ ts ≡ line_words p = some-injective _ _ e in
+    (ts, refl, copy_by ts p is (ap opening_in same ∙ opening_in-line p) (ap behind_one same))
+
+-- other tokens are those of no copy
+no_copy : (rest : List ℕ) → ((old new : List ℕ) → is_job_word old ≡ true → is_job_word new ≡ true → tokens rest ≡ Some (word old ∷ word new ∷ []) → ⊥)
+    → ReadsBehind opening.Copy rest (Err Syntax)
+no_copy rest none = record {
+  spelled = λ p is e. (let found = copy_in (tokens rest) p is e in let c = found.2 in
+      absurd (none c.old c.new c.old_named c.new_named (found.1 ∙ ap Some c.tokens)));
+  malformed = λ _. refl;
+}
+
+-- the text behind the first word of two has the second
+second_alone : (w v u : List ℕ) (o : Option (List Token)) → v ≡ w → is_job_word v ≡ true → before (word_of w) o ≡ Some (word v ∷ word u ∷ []) → o ≡ Some (word u ∷ [])
+second_alone [] v u o same named e = absurd (false≢true (sym (ap is_job_word same) ∙ named))
+second_alone (b ∷ bs) v u o same named e = behind_word (b ∷ bs) v o (word u ∷ []) e
+
+module _ (rest w text : List ℕ) (split : tokens rest ≡ before (word_of w) (tokens text)) (front : w ≡ [] → HasNoWord text (tokens text)) where
+  copy_parts : (old new : List ℕ) → is_job_word old ≡ true → tokens rest ≡ Some (word old ∷ word new ∷ []) → (old ≡ w) × (tokens text ≡ Some (word new ∷ []))
+  copy_parts old new named e =
+      let whole : before (word_of w) (tokens text) ≡ Some (word old ∷ word new ∷ []) = sym split ∙ e in
+      let same : old ≡ w = front_is w text (tokens text) (word old ∷ word new ∷ []) front whole in
+      (same, second_alone w old new (tokens text) same named whole)
+
+  pub copy_unparted : ((u : List ℕ) → ¬ (tokens text ≡ Some (word u ∷ []))) → ReadsBehind opening.Copy rest (Err Syntax)
+  copy_unparted none = no_copy rest (λ old new first second e. none new (copy_parts old new first e).1)
+
+  pub copy_unnamed : (u : List ℕ) → tokens text ≡ Some (word u ∷ []) → (is_job_word w && is_job_word u) ≡ false → ReadsBehind opening.Copy rest (Err Syntax)
+  copy_unnamed u one isnt = no_copy rest (λ old new first second e.
+      (let parts = copy_parts old new first e in
+      let same = some-injective (word new ∷ []) (word u ∷ []) (sym parts.1 ∙ one) in
+      let a : is_job_word w ≡ true = ap is_job_word (sym parts.0) ∙ first in
+      let b : is_job_word u ≡ true = ap is_job_word (sym (ap front_word same)) ∙ second in
+      let both : (is_job_word w && is_job_word u) ≡ true = (λ i. a i && b i) in
+      false≢true (sym isnt ∙ both)))
+
+  -- two names are those of a copy
+  pub copy_sense : (u : List ℕ) → tokens text ≡ Some (word u ∷ []) → is_job_word w ≡ true → is_job_word u ≡ true → ReadsBehind opening.Copy rest (line_sense (copy w u))
+  copy_sense u one first second =
+      let two : tokens rest ≡ Some (word w ∷ word u ∷ []) =
+      split ∙ ap (before (word_of w)) one ∙ ap (λ ws. Some (ws ++ word u ∷ [])) (word_of-named w first) in
+      is_sense_behind opening.Copy rest (word w ∷ word u ∷ []) (copy w u) tt (first, second) two refl
+
+pub copy_short : (v w : List ℕ) → IsTrue (is_job_name v) → IsTrue (is_job_name w) → line_sense (copy v w) ≡ Ok (Asks (command.CopyJob v w))
+copy_short v w first second = short_name v (unless_long w (Ok (Asks (command.CopyJob v w)))) first ∙ short_name w (Ok (Asks (command.CopyJob v w))) second
+
+pub copy_past : (v w : List ℕ) → is_job_word v ≡ true → is_job_word w ≡ true → ((is_job_name v && is_job_name w) ≡ true → ⊥) → line_sense (copy v w) ≡ Err Limit
+copy_past v w first second isnt = by_first (is_job_name v) refl
+  where
+    by_first : (short : Bool) → is_job_name v ≡ short → line_sense (copy v w) ≡ Err Limit
+    by_first true e =
+        short_name v (unless_long w (Ok (Asks (command.CopyJob v w)))) e
+        ∙ long_name w (Ok (Asks (command.CopyJob v w))) second (λ is. isnt (λ i. e i && is i))
+    by_first false e = long_name v (unless_long w (Ok (Asks (command.CopyJob v w)))) first (λ is. false≢true (sym e ∙ is))
 
 -- ---- a submit in front of a text that is read as a system
 

@@ -10,7 +10,7 @@ use Rattle.ic_commands.specs.declared.line.Opening.{Opening}
 use Rattle.ic_commands.specs.declared.line.Opening.TheVariants as opening
 use Rattle.ic_commands.specs.declared.line.Verb.TheVariants.{Pause, Resume, Cancel, Fetch}
 use Rattle.ic_text.specs.Token.{Token, word, mark, word_of, before, tokens}
-use Rattle.ic_commands.specs.LineSource.{LinePhrase, nothing, submit, about, list, run, IsLine, number_words, line_words}
+use Rattle.ic_commands.specs.LineSource.{LinePhrase, nothing, submit, copy, about, list, run, IsLine, number_words, line_words}
 use Rattle.ic_commands.specs.LineSense.{line_sense}
 use Rattle.ic_commands.specs.LineText.{ReadsLine}
 use Rattle.ic_commands.specs.inner.Line.{opening_text, openings, opening_of, IsLineOf}
@@ -20,6 +20,7 @@ use Rattle.ic_text.specs.lemmas.ReadOnce.{some-injective}
 -- the words that open a line, each by its text
 pub opening_of-text : (o : Opening) → opening_of (opening_text o) ≡ Some o
 opening_of-text opening.Submit = refl
+opening_of-text opening.Copy = refl
 opening_of-text (opening.About Pause) = refl
 opening_of-text (opening.About Resume) = refl
 opening_of-text (opening.About Cancel) = refl
@@ -29,6 +30,7 @@ opening_of-text opening.Run = refl
 
 pub word_of-opening : (o : Opening) → word_of (opening_text o) ≡ word (opening_text o) ∷ []
 word_of-opening opening.Submit = refl
+word_of-opening opening.Copy = refl
 word_of-opening (opening.About Pause) = refl
 word_of-opening (opening.About Resume) = refl
 word_of-opening (opening.About Cancel) = refl
@@ -56,6 +58,7 @@ opening_in (word w ∷ ts) = opening_of w
 abbrev pub opens : LinePhrase → Option Opening
 opens nothing = None
 opens (submit name most s) = Some opening.Submit
+opens (copy old new) = Some opening.Copy
 opens (about verb name) = Some (opening.About verb)
 opens list = Some opening.List
 opens (run digits) = Some opening.Run
@@ -63,6 +66,7 @@ opens (run digits) = Some opening.Run
 pub opening_in-line : (p : LinePhrase) → opening_in (line_words p) ≡ opens p
 opening_in-line nothing = refl
 opening_in-line (submit name most s) = refl
+opening_in-line (copy old new) = refl
 opening_in-line (about verb name) = opening_of-text (opening.About verb)
 opening_in-line list = refl
 opening_in-line (run digits) = refl
@@ -97,6 +101,7 @@ behind_number-of (Some digits) s = refl
 abbrev pub OneSystem : LinePhrase → Type 0
 OneSystem nothing = Unit {0}
 OneSystem (submit name most s) = (t : SystemPhrase) → IsSystemPhrase t → system_words s ≡ system_words t → s ≡ t
+OneSystem (copy old new) = Unit {0}
 OneSystem (about verb name) = Unit {0}
 OneSystem list = Unit {0}
 OneSystem (run digits) = Unit {0}
@@ -105,6 +110,7 @@ same_line : (p q : LinePhrase) → OneSystem p → IsLine q → opens p ≡ open
     → behind_one (behind_one (line_words p)) ≡ behind_one (behind_one (line_words q)) → p ≡ q
 same_line nothing nothing one is_q first second rest = refl
 same_line nothing (submit m k t) one is_q first second rest = cc
+same_line nothing (copy c d) one is_q first second rest = cc
 same_line nothing (about w m) one is_q first second rest = cc
 same_line nothing list one is_q first second rest = cc
 same_line nothing (run m) one is_q first second rest = cc
@@ -113,21 +119,34 @@ same_line (submit n j s) (submit m k t) one is_q first second rest =
     let numbers = sym (number_first-of j s) ∙ ap number_first rest ∙ number_first-of k t in
     let system = one t is_q.2 (sym (behind_number-of j s) ∙ ap behind_number rest ∙ behind_number-of k t) in
     λ i. submit (second i) (numbers i) (system i)
+same_line (submit n j s) (copy c d) one is_q first second rest = cc
 same_line (submit n j s) (about w m) one is_q first second rest = cc
 same_line (submit n j s) list one is_q first second rest = cc
 same_line (submit n j s) (run m) one is_q first second rest = cc
+same_line (copy a b) nothing one is_q first second rest = cc
+same_line (copy a b) (submit m k t) one is_q first second rest = cc
+same_line (copy a b) (copy c d) one is_q first second rest =
+    let last : Some b ≡ Some d = ap number_first rest in
+    let same : b ≡ d = cc in
+    λ i. copy (second i) (same i)
+same_line (copy a b) (about w m) one is_q first second rest = cc
+same_line (copy a b) list one is_q first second rest = cc
+same_line (copy a b) (run m) one is_q first second rest = cc
 same_line (about v n) nothing one is_q first second rest = cc
 same_line (about v n) (submit m k t) one is_q first second rest = cc
+same_line (about v n) (copy c d) one is_q first second rest = cc
 same_line (about v n) (about w m) one is_q first second rest = cc
 same_line (about v n) list one is_q first second rest = cc
 same_line (about v n) (run m) one is_q first second rest = cc
 same_line list nothing one is_q first second rest = cc
 same_line list (submit m k t) one is_q first second rest = cc
+same_line list (copy c d) one is_q first second rest = cc
 same_line list (about w m) one is_q first second rest = cc
 same_line list list one is_q first second rest = refl
 same_line list (run m) one is_q first second rest = cc
 same_line (run n) nothing one is_q first second rest = cc
 same_line (run n) (submit m k t) one is_q first second rest = cc
+same_line (run n) (copy c d) one is_q first second rest = cc
 same_line (run n) (about w m) one is_q first second rest = cc
 same_line (run n) list one is_q first second rest = cc
 same_line (run n) (run m) one is_q first second rest = ap run second

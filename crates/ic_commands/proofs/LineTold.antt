@@ -7,7 +7,7 @@ use Rattle.ic_text.specs.lemmas.ReadOnce.{IsTold}
 use Rattle.ic_commands.specs.declared.line.Opening.{Opening}
 use Rattle.ic_commands.specs.declared.line.Opening.TheVariants as opening
 use Rattle.ic_commands.specs.declared.line.Verb.TheVariants.{Pause, Resume, Cancel, Fetch}
-use Rattle.ic_commands.specs.LineSource.{LinePhrase, nothing, submit, about, list, run, IsLine, is_number, number_words, line_words}
+use Rattle.ic_commands.specs.LineSource.{LinePhrase, nothing, submit, copy, about, list, run, IsLine, is_number, number_words, line_words}
 use Rattle.ic_rules.specs.JobName.{is_job_word}
 use Rattle.ic_commands.specs.inner.Line.{opening_text, opening_of}
 use Rattle.ic_commands.proofs.LineReading.{text-opening_of, OneSystem, line_words-injective}
@@ -24,6 +24,12 @@ module _ (told_systems : IsTold IsSystemPhrase system_words) where
   stands_behind opening.Submit [] = false
   stands_behind opening.Submit (mark m ∷ ts) = false
   stands_behind opening.Submit (word name ∷ ts) = is_job_word name && named_stands ts
+  stands_behind opening.Copy [] = false
+  stands_behind opening.Copy (mark m ∷ ts) = false
+  stands_behind opening.Copy (word old ∷ []) = false
+  stands_behind opening.Copy (word old ∷ mark m ∷ ts) = false
+  stands_behind opening.Copy (word old ∷ word new ∷ []) = is_job_word old && is_job_word new
+  stands_behind opening.Copy (word old ∷ word new ∷ t ∷ ts) = false
   stands_behind (opening.About verb) [] = false
   stands_behind (opening.About verb) (mark m ∷ ts) = false
   stands_behind (opening.About verb) (word name ∷ []) = is_job_word name
@@ -68,6 +74,12 @@ module _ (told_systems : IsTold IsSystemPhrase system_words) where
       let parts = and_parts (is_job_word name) (named_stands ts) e in
       let by = found-named name ts parts.0 parts.1 in
       (submit name by.0 by.1, by.2, ap (λ us. word (opening_text opening.Submit) ∷ word name ∷ us) by.3)
+  found-behind opening.Copy [] e = absurd (false≢true e)
+  found-behind opening.Copy (mark m ∷ ts) e = absurd (false≢true e)
+  found-behind opening.Copy (word old ∷ []) e = absurd (false≢true e)
+  found-behind opening.Copy (word old ∷ mark m ∷ ts) e = absurd (false≢true e)
+  found-behind opening.Copy (word old ∷ word new ∷ []) e = (copy old new, and_parts (is_job_word old) (is_job_word new) e, refl)
+  found-behind opening.Copy (word old ∷ word new ∷ t ∷ ts) e = absurd (false≢true e)
   found-behind (opening.About verb) [] e = absurd (false≢true e)
   found-behind (opening.About verb) (mark m ∷ ts) e = absurd (false≢true e)
   found-behind (opening.About verb) (word name ∷ []) e = (about verb name, e, refl)
@@ -95,6 +107,8 @@ module _ (told_systems : IsTold IsSystemPhrase system_words) where
   line_words-test (submit name None s) is = rw is.0 (told_systems.only _ (s, is.2, refl))
   line_words-test (submit name (Some digits) s) is =
       let number : is_number digits ≡ true = is.1 in rw (is.0, number) (told_systems.only _ (s, is.2, refl))
+  line_words-test (copy old new) is =
+      let first : is_job_word old ≡ true = is.0 in let second : is_job_word new ≡ true = is.1 in λ i. first i && second i
   line_words-test (about Pause name) is = is
   line_words-test (about Resume name) is = is
   line_words-test (about Cancel name) is = is
@@ -108,6 +122,7 @@ module _ (told_systems : IsTold IsSystemPhrase system_words) where
   one_system : (p : LinePhrase) → IsLine p → OneSystem p
   one_system nothing is = tt
   one_system (submit name most s) is = λ t is_t same. told_systems.injective s t is.2 is_t same
+  one_system (copy old new) is = tt
   one_system (about verb name) is = tt
   one_system list is = tt
   one_system (run digits) is = tt

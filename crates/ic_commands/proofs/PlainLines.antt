@@ -20,11 +20,11 @@ use Rattle.ic_commands.specs.declared.line.Line.{Line}
 use Rattle.ic_commands.specs.declared.line.Line.TheVariants.{Blank, Command as Asks, Run}
 use Rattle.ic_commands.specs.declared.line.Verb.{Verb}
 use Rattle.ic_commands.specs.declared.line.Verb.TheVariants.{Pause, Resume, Cancel, Fetch}
-use Rattle.ic_commands.specs.LineSource.{LinePhrase, nothing, submit, about, list, run, line_words}
+use Rattle.ic_commands.specs.LineSource.{LinePhrase, nothing, submit, copy, about, list, run, line_words}
 use Rattle.ic_commands.specs.LineText.{ReadsLine}
-use Rattle.ic_commands.specs.LinePlain.{IsOfJob, AsksPlainly, IsPlainly, phrase_texts}
+use Rattle.ic_commands.specs.LinePlain.{IsOfJob, IsCopyOf, AsksPlainly, IsPlainly, phrase_texts}
 use Rattle.ic_commands.specs.ReplyText.{listed_text, listed_word, reply_text, reply_words}
-use Rattle.ic_commands.proofs.LineLaws.{about_text, submit_without, submit_with, list_text, run_text, blank_text}
+use Rattle.ic_commands.proofs.LineLaws.{about_text, copy_text, submit_without, submit_with, list_text, run_text, blank_text}
 
 plain_command : (c : Command) (text : List ℕ) → AsksPlainly c text → ReadsLine text (Ok (Asks c))
 plain_command (command.Submit name system None) text is =
@@ -37,6 +37,8 @@ plain_command (command.Submit name system (Some n)) text is =
     let short = subst (λ t. length t ≤ MAX_TEXT) same is.short in
     subst (λ t. ReadsLine t (Ok (Asks (command.Submit name system (Some n))))) (sym same)
     (submit_with name is.system_text n (Ok system) is.named is.budget short is.reads)
+plain_command (command.CopyJob old new) text is =
+    subst (λ t. ReadsLine t (Ok (Asks (command.CopyJob old new)))) (sym is.written) (copy_text old new is.first is.second)
 plain_command (command.Pause name) text is =
     subst (λ t. ReadsLine t (Ok (Asks (command.Pause name)))) (sym is.written) (about_text Pause name refl (omega arith) is.named)
 plain_command (command.Resume name) text is =
@@ -56,6 +58,10 @@ of_job c word name asks named = (word ++ name, plain_command c (word ++ name) (a
 
 pub has_line : (c : Command) → is_submit c ≡ false → ((name : List ℕ) → Contains (command_names c) name → IsTrue (is_job_name name)) → HasLine c
 has_line (command.Submit name system most) other named = cc
+has_line (command.CopyJob old new) other named =
+    let text = codes "copy " ++ old ++ 32 ∷ new in
+    let names : IsCopyOf old new text = record { first = named old (0, omega arith, refl); second = named new (1, omega arith, refl); written = refl } in
+    (text, plain_command (command.CopyJob old new) text names)
 has_line (command.Pause name) other named = of_job (command.Pause name) (codes "pause ") name (λ is. is) (named name (0, omega arith, refl))
 has_line (command.Resume name) other named = of_job (command.Resume name) (codes "resume ") name (λ is. is) (named name (0, omega arith, refl))
 has_line (command.Cancel name) other named = of_job (command.Cancel name) (codes "cancel ") name (λ is. is) (named name (0, omega arith, refl))
@@ -71,6 +77,7 @@ pub phrase_texts_are : (p : LinePhrase) → words_among (line_words p) ≡ phras
 phrase_texts_are nothing = refl
 phrase_texts_are (submit name None s) = refl
 phrase_texts_are (submit name (Some digits) s) = refl
+phrase_texts_are (copy old new) = refl
 phrase_texts_are (about verb name) = refl
 phrase_texts_are list = refl
 phrase_texts_are (run digits) = refl

@@ -13,7 +13,7 @@ use Rattle.ic_commands.specs.declared.line.Line.TheVariants.{Blank, Command as A
 use Rattle.ic_commands.specs.declared.line.Verb.TheVariants.{Pause, Resume, Cancel, Fetch}
 use Rattle.ic_text.specs.Name.{number_in}
 use Rattle.ic_text.specs.Token.{Token, word, mark, word_of, before, tokens}
-use Rattle.ic_commands.specs.LineSource.{LinePhrase, nothing, submit, about, list, run, line_words}
+use Rattle.ic_commands.specs.LineSource.{LinePhrase, nothing, submit, copy, about, list, run, line_words}
 use Rattle.ic_commands.specs.LineSense.{line_sense}
 use Rattle.ic_commands.specs.LineText.{SpellsLine, ReadsLine}
 use Rattle.ic_commands.specs.ScriptSense.{without_run, script_sense, ReadsScriptLine}
@@ -26,6 +26,7 @@ use Rattle.ic_commands.proofs.WordSplits.{before-none, front_word, front_is}
 opens_run : (p : LinePhrase) → bytes_eq (front_word (line_words p)) (codes "run") ≡ is_run p
 opens_run nothing = refl
 opens_run (submit name most s) = refl
+opens_run (copy old new) = refl
 opens_run (about Pause name) = refl
 opens_run (about Resume name) = refl
 opens_run (about Cancel name) = refl
@@ -44,6 +45,7 @@ tells_run text w rest split apart p spells =
 run_sense : (p : LinePhrase) → is_run p ≡ true → Err Syntax ≡ script_sense p
 run_sense nothing e = absurd (false≢true e)
 run_sense (submit name most s) e = absurd (false≢true e)
+run_sense (copy old new) e = absurd (false≢true e)
 run_sense (about verb name) e = absurd (false≢true e)
 run_sense list e = absurd (false≢true e)
 run_sense (run digits) e = refl
@@ -51,6 +53,7 @@ run_sense (run digits) e = refl
 other_sense : (p : LinePhrase) → is_run p ≡ false → without_run (line_sense p) ≡ script_sense p
 other_sense nothing e = refl
 other_sense (submit name most s) e = refl
+other_sense (copy old new) e = refl
 other_sense (about verb name) e = refl
 other_sense list e = refl
 other_sense (run digits) e = absurd (false≢true (sym e))
@@ -75,6 +78,7 @@ reads_other text a others reads = record {
 not_run : (p : LinePhrase) → ((digits : List ℕ) → p ≡ run digits → ⊥) → is_run p ≡ false
 not_run nothing none = refl
 not_run (submit name most s) none = refl
+not_run (copy old new) none = refl
 not_run (about verb name) none = refl
 not_run list none = refl
 not_run (run digits) none = absurd (none digits refl)
@@ -91,6 +95,7 @@ reads_unless_run text a none reads =
 same_sense : (p : LinePhrase) (a : Result Line TextFault) → a ≡ line_sense p → ((k : ℕ) → a ≡ Ok (Run k) → ⊥) → (a ≡ Err Limit → ⊥) → without_run a ≡ script_sense p
 same_sense nothing a e run_apart limit_apart = ap without_run e
 same_sense (submit name most s) a e run_apart limit_apart = ap without_run e
+same_sense (copy old new) a e run_apart limit_apart = ap without_run e
 same_sense (about verb name) a e run_apart limit_apart = ap without_run e
 same_sense list a e run_apart limit_apart = ap without_run e
 same_sense (run digits) a e run_apart limit_apart = by_number (nat_le (number_in digits) MAX_RUN) e
@@ -115,6 +120,7 @@ reads_blank text reads = reads_same text (Ok Blank) (λ k e. cc) (λ e. cc) read
 run_or_same : (p : LinePhrase) (k : ℕ) → Ok (Run k) ≡ line_sense p → Err Syntax ≡ script_sense p
 run_or_same nothing k e = ap without_run e
 run_or_same (submit name most s) k e = ap without_run e
+run_or_same (copy old new) k e = ap without_run e
 run_or_same (about verb name) k e = ap without_run e
 run_or_same list k e = ap without_run e
 run_or_same (run digits) k e = refl
@@ -149,6 +155,7 @@ memory_of (Err fault) e = cc
 memory_sense : (p : LinePhrase) → Err Memory ≡ script_sense p → Err Memory ≡ line_sense p
 memory_sense nothing e = memory_of (line_sense nothing) e
 memory_sense (submit name most s) e = memory_of (line_sense (submit name most s)) e
+memory_sense (copy old new) e = memory_of (line_sense (copy old new)) e
 memory_sense (about verb name) e = memory_of (line_sense (about verb name)) e
 memory_sense list e = memory_of (line_sense list) e
 memory_sense (run digits) e = cc

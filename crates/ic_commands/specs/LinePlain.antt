@@ -15,7 +15,7 @@ use Rattle.ic_text.specs.declared.limits.TheConstants.{MAX_TEXT}
 use Rattle.ic_commands.specs.declared.limits.TheConstants.{MAX_RUN}
 use Rattle.ic_commands.specs.declared.line.Line.{Line}
 use Rattle.ic_commands.specs.declared.line.Line.TheVariants.{Blank, Command as Asks, Run}
-use Rattle.ic_commands.specs.LineSource.{LinePhrase, nothing, submit, about, list, run, verb_text}
+use Rattle.ic_commands.specs.LineSource.{LinePhrase, nothing, submit, copy, about, list, run, verb_text}
 
 -- a word with its space, and a job's name
 pub record IsOfJob (word name text : List ℕ) : Type 0 where
@@ -37,9 +37,16 @@ pub record IsSubmitOf (name : List ℕ) (system : SystemParts) (most : Option �
   pub short : length text ≤ MAX_TEXT
   pub reads : ReadsSystem system_text (Ok system)
 
+-- `copy`, the name of a job, and the name of the new one
+pub record IsCopyOf (old new text : List ℕ) : Type 0 where
+  pub first : IsTrue (is_job_name old)
+  pub second : IsTrue (is_job_name new)
+  pub written : text ≡ codes "copy " ++ old ++ 32 ∷ new
+
 -- a text asks for a command in its plainest form
 abbrev pub AsksPlainly : Command → List ℕ → Type 0
 AsksPlainly (command.Submit name system budget) text = IsSubmitOf name system budget text
+AsksPlainly (command.CopyJob old new) text = IsCopyOf old new text
 AsksPlainly (command.Pause name) text = IsOfJob (codes "pause ") name text
 AsksPlainly (command.Resume name) text = IsOfJob (codes "resume ") name text
 AsksPlainly (command.Cancel name) text = IsOfJob (codes "cancel ") name text
@@ -62,6 +69,7 @@ abbrev pub phrase_texts : LinePhrase → List (List ℕ)
 phrase_texts nothing = []
 phrase_texts (submit name most s) =
     codes "submit" ∷ name ∷ (number_texts most ++ words_among (system_words s))
+phrase_texts (copy old new) = codes "copy" ∷ old ∷ new ∷ []
 phrase_texts (about verb name) = verb_text verb ∷ name ∷ []
 phrase_texts list = codes "list" ∷ []
 phrase_texts (run digits) = codes "run" ∷ digits ∷ []

@@ -15,7 +15,7 @@ use Rattle.ic_text.specs.declared.fault.TextFault.{TextFault}
 use Rattle.ic_text.specs.declared.fault.TextFault.TheVariants.{Limit}
 use Rattle.ic_text.specs.Name.{number_in}
 use Rattle.ic_text.specs.SystemSense.{system_sense}
-use Rattle.ic_commands.specs.LineSource.{LinePhrase, nothing, submit, about, list, run}
+use Rattle.ic_commands.specs.LineSource.{LinePhrase, nothing, submit, copy, about, list, run}
 
 -- what is asked of the job of a name
 abbrev pub asked : Verb → List ℕ → Command
@@ -47,6 +47,8 @@ abbrev pub line_sense : LinePhrase → Result Line TextFault
 line_sense nothing = Ok Blank
 line_sense (submit name most s) = unless_long name
     (unless_unfit most (submitted name (option_map number_in most) (system_sense s)))
+line_sense (copy old new) =
+    unless_long old (unless_long new (Ok (Asks (command.CopyJob old new))))
 line_sense (about verb name) = unless_long name (Ok (Asks (asked verb name)))
 line_sense list = Ok (Asks command.List)
 line_sense (run digits) =

@@ -8,11 +8,13 @@ use Rattle.ic_text.specs.Token.{Token, word}
 use Rattle.ic_text.specs.Name.{is_numeral}
 use Rattle.ic_text.specs.SystemSource.{SystemPhrase, IsSystemPhrase, system_words}
 
--- A line: nothing, the submit of a job's name, the number of its budget or none, and its system, what
--- is asked of a job by its name, the list of all jobs, or a run of so many (this project's choice).
+-- A line: nothing, the submit of a job's name, the number of its budget or none, and its system, the
+-- copy of a job under a new name, what is asked of a job by its name, the list of all jobs, or a run
+-- of so many (this project's choice).
 pub data LinePhrase : Type 0 where
   nothing : LinePhrase
   submit : List ℕ → Option (List ℕ) → SystemPhrase → LinePhrase
+  copy : List ℕ → List ℕ → LinePhrase
   about : Verb → List ℕ → LinePhrase
   list : LinePhrase
   run : List ℕ → LinePhrase
@@ -27,6 +29,7 @@ abbrev pub IsLine : LinePhrase → Type 0
 IsLine nothing = Unit {0}
 IsLine (submit name most s) =
     IsTrue (is_job_word name) × IfSome most (λ digits. IsTrue (is_number digits)) × IsSystemPhrase s
+IsLine (copy old new) = IsTrue (is_job_word old) × IsTrue (is_job_word new)
 IsLine (about verb name) = IsTrue (is_job_word name)
 IsLine list = Unit {0}
 IsLine (run digits) = IsTrue (is_number digits)
@@ -48,6 +51,7 @@ abbrev pub line_words : LinePhrase → List Token
 line_words nothing = []
 line_words (submit name most s) =
     word (codes "submit") ∷ word name ∷ (number_words most ++ system_words s)
+line_words (copy old new) = word (codes "copy") ∷ word old ∷ word new ∷ []
 line_words (about verb name) = word (verb_text verb) ∷ word name ∷ []
 line_words list = word (codes "list") ∷ []
 line_words (run digits) = word (codes "run") ∷ word digits ∷ []

@@ -7,7 +7,7 @@ use Rattle.ic_commands.specs.declared.line.Line.TheVariants.{Blank, Command as A
 use Rattle.ic_text.specs.declared.fault.TextFault.{TextFault}
 use Rattle.ic_text.specs.declared.fault.TextFault.TheVariants.{Syntax}
 use Rattle.ic_text.specs.Reading.{IsReading}
-use Rattle.ic_commands.specs.LineSource.{LinePhrase, nothing, submit, about, list, run}
+use Rattle.ic_commands.specs.LineSource.{LinePhrase, nothing, submit, copy, about, list, run}
 use Rattle.ic_commands.specs.LineSense.{line_sense}
 use Rattle.ic_commands.specs.LineText.{SpellsLine}
 
@@ -23,6 +23,7 @@ abbrev pub script_sense : LinePhrase → Result (Option Command) TextFault
 script_sense (run digits) = Err Syntax
 script_sense nothing = without_run (line_sense nothing)
 script_sense (submit name most s) = without_run (line_sense (submit name most s))
+script_sense (copy old new) = without_run (line_sense (copy old new))
 script_sense (about verb name) = without_run (line_sense (about verb name))
 script_sense list = without_run (line_sense list)
 

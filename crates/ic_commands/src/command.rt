@@ -2,7 +2,7 @@
 
 ghost use Rattle.std.specs.Prelude.{◌≡◌, ◌≢◌, ◌≤◌, ◌↔◌, ◌&&◌, IfOk, IfErr, IfSome, IsSome, IsTrue, Some, Ok, Err, length};
 ghost use Rattle.std.specs.Option.{option_map};
-ghost use Rattle.ic_rules.specs.JobName.{is_job_name};
+ghost use Rattle.ic_rules.specs.JobName.{is_job_name, is_job_word};
 ghost use Rattle.ic_commands.specs.LineSource.{is_number, run};
 ghost use Rattle.ic_commands.specs.LineSense.{asked, fits_budget, line_sense};
 ghost use Rattle.ic_commands.specs.LineText.{ReadsLine, SpellsSubmit};
@@ -39,6 +39,8 @@ fn opening_of(word: &[u8]) -> Option<Opening>
 {
     if word == b"submit".as_slice() {
         Some(Opening::Submit)
+    } else if word == b"copy".as_slice() {
+        Some(Opening::Copy)
     } else if word == b"pause".as_slice() {
         Some(Opening::About(Verb::Pause))
     } else if word == b"resume".as_slice() {
@@ -123,6 +125,46 @@ fn read_submit(alloc: Global, rest: &[u8]) -> Result<Line, TextFault>
     Ok(Line::Command(Command::Submit(name, system, budget)))
 }
 
+/// Whether both words are names of jobs, of any length.
+fn are_job_words(first: &[u8], second: &[u8]) -> bool
+    ensures { result ≡ (is_job_word first.now && is_job_word second.now) }
+{
+    is_job_word(first) && is_job_word(second)
+}
+
+/// The names of two jobs by their words, if they are within the limits.
+fn names_of(first: &[u8], second: &[u8]) -> Option<(JobName, JobName)>
+    ensures named { IsSome result ↔ IsTrue (is_job_name first.now && is_job_name second.now) }
+    ensures first { IfSome result (λ r. r.0 ≡ first.now) }
+    ensures second { IfSome result (λ r. r.1 ≡ second.now) }
+{
+    let Some(old) = JobName::new(first) else {
+        return None;
+    };
+    match JobName::new(second) {
+        Some(new) => Some((old, new)),
+        None => None,
+    }
+}
+
+/// The line of a `copy` with this behind it.
+fn read_copy(rest: &[u8]) -> Result<Line, TextFault>
+    ensures line { ReadsBehind opening.Copy rest.now result }
+    ensures memory { result ≢ Err TextFault.Memory }
+{
+    let (first, behind) = split_word(rest);
+    let Some(second) = only_word(behind) else {
+        return Err(TextFault::Syntax);
+    };
+    if !are_job_words(first, second) {
+        return Err(TextFault::Syntax);
+    }
+    match names_of(first, second) {
+        Some((old, new)) => Ok(Line::Command(Command::CopyJob(old, new))),
+        None => Err(TextFault::Limit),
+    }
+}
+
 /// The line of a verb with this behind it.
 fn read_about(verb: Verb, rest: &[u8]) -> Result<Line, TextFault>
     ensures line { ReadsBehind (opening.About verb) rest.now result }
@@ -190,6 +232,7 @@ fn line_of(alloc: Global, text: &[u8]) -> Result<Line, TextFault>
     let (word, rest) = split_word(text);
     match opening_of(word) {
         Some(Opening::Submit) => read_submit(alloc, rest),
+        Some(Opening::Copy) => read_copy(rest),
         Some(Opening::About(verb)) => read_about(verb, rest),
         Some(Opening::List) => read_list(rest),
         Some(Opening::Run) => read_run(rest),

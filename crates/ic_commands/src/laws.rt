@@ -1,7 +1,7 @@
 //! What is proved of the definitions alone: each law is the contract of a function that does nothing, or calls the laws
 //! that it comes of.
 
-ghost use Rattle.std.specs.Prelude.{◌≡◌, ◌≢◌, ◌<◌, ◌≤◌, ◌+◌, ◌^◌, ◌&&◌, ◌||◌, ◌==◌, ℕ, List, [], ◌∷◌, ◌++◌, Option, None, Some, IfSome, Result, Ok, Err, true, false, length, map, codes, not, nat_le, Contains, IsTrue};
+ghost use Rattle.std.specs.Prelude.{◌≡◌, ◌≢◌, ◌<◌, ◌≤◌, ◌⊎◌, ◌+◌, ◌^◌, ◌&&◌, ◌||◌, ◌==◌, ℕ, List, [], ◌∷◌, ◌++◌, Option, None, Some, IfSome, Result, Ok, Err, true, false, length, map, codes, not, nat_le, Contains, IsTrue};
 ghost use Rattle.std.specs.List.{list_all, join_with_byte};
 ghost use Rattle.std.specs.Str.{bytes_eq};
 ghost use Rattle.std.specs.Char.{is_ascii_lowercase, is_ascii_digit};
@@ -66,8 +66,8 @@ pub fn command_words_are()
 {}
 
 /// What each line asks that is written in its plainest form: each command with one space behind its word, a run, a line
-/// of blanks. A job's name of more than 16 bytes passes a limit, in a submit where the text behind it is a system. So
-/// does a number of more than 1,000, however long it is, and in front of a system a number that is no budget's: 0, or 2^32
+/// of blanks. A job's name of more than 16 bytes passes a limit, in a submit where the text behind it is a system, and
+/// in a copy whether it is the first or the second. So does a number of more than 1,000, however long it is, and in front of a system a number that is no budget's: 0, or 2^32
 /// and more.
 pub fn commands_ask()
     ensures plain { (line : Line) (text : List ℕ) → IsPlainly line text → ReadsLine text (Ok line) }
@@ -78,6 +78,11 @@ pub fn commands_ask()
         IsTrue (is_job_word name) → MAX_JOB_NAME < length name →
         length name + length text + 8 ≤ MAX_TEXT → ReadsSystem text a → a ≢ Err Syntax →
         ReadsLine (codes "submit " ++ name ++ 32 ∷ text) (Err Limit) }
+    ensures too_long_copy { (old new : List ℕ) →
+        IsTrue (is_job_word old) → IsTrue (is_job_word new) →
+        (MAX_JOB_NAME < length old) ⊎ (MAX_JOB_NAME < length new) →
+        length old + length new + 6 ≤ MAX_TEXT →
+        ReadsLine (codes "copy " ++ old ++ 32 ∷ new) (Err Limit) }
     ensures no_budget { (name digits text : List ℕ) (a : Result SystemParts TextFault) →
         IsTrue (is_job_name name) → IsTrue (is_number digits) → fits_budget (Some digits) ≡ false →
         length digits + length text + 25 ≤ MAX_TEXT → ReadsSystem text a → a ≢ Err Syntax →

@@ -26,6 +26,7 @@ pub(crate) enum Verb {
 #[derive(Clone, Copy)]
 pub(crate) enum Opening {
     Submit,
+    Copy,
     About(Verb),
     List,
     Run,

@@ -1,19 +1,20 @@
 -- Which replies to commands leave the table as it is.
-use Rattle.std.proofs.Common.{◌≡◌, List, [], ◌∷◌, ◌++◌, Bool, true, false, Option, None, Some, refl, subst, length, is_some, nat_lt, if◌then◌else◌}
+use Rattle.std.proofs.Common.{◌≡◌, ℕ, List, [], ◌∷◌, ◌++◌, Bool, true, false, Option, None, Some, refl, subst, length, is_some, nat_lt, if◌then◌else◌}
+use Rattle.ic_rules.specs.System.{SystemParts}
 use Rattle.ic_jobs.specs.declared.limits.TheConstants.{MAX_JOBS}
 use Rattle.ic_jobs.specs.declared.state.State.TheVariants as state
 use Rattle.ic_jobs.specs.declared.command.Command.{Command}
-use Rattle.ic_jobs.specs.declared.command.Command.TheVariants.{Submit, Pause, Resume, Cancel, Fetch, List as list_jobs}
+use Rattle.ic_jobs.specs.declared.command.Command.TheVariants.{Submit, CopyJob, Pause, Resume, Cancel, Fetch, List as list_jobs}
 use Rattle.ic_jobs.specs.declared.event.Event.TheVariants.{Command as by_command}
 use Rattle.ic_jobs.specs.declared.reply.Reply.{Reply}
 use Rattle.ic_jobs.specs.declared.reply.Reply.TheVariants.{Accepted, Okay, Shown, Listed, Refused, Moved, Halted}
 use Rattle.ic_jobs.specs.declared.reply.Refusal.{Refusal}
 use Rattle.ic_jobs.specs.declared.reply.Refusal.TheVariants.{Taken, Full, NoJob, NotRunning, NotPaused}
-use Rattle.ic_jobs.specs.Job.{JobParts, begun, in_state}
+use Rattle.ic_jobs.specs.Job.{JobParts, begun, system_of, in_state}
 use Rattle.ic_jobs.specs.State.{is_running, is_paused}
 use Rattle.ic_jobs.specs.Table.{job_named, with_changed, without}
 use Rattle.ic_jobs.specs.Memory.{tells_jobs}
-use Rattle.ic_jobs.specs.Events.{Outcome, apply, outcome, refused, after_command, unless_missing, paused, resumed}
+use Rattle.ic_jobs.specs.Events.{Outcome, apply, outcome, refused, submitted, copied, after_command, unless_missing, paused, resumed}
 use Rattle.ic_jobs.specs.Shown.{shown}
 use Rattle.ic_desk.specs.Entries.{leaves_table}
 
@@ -38,11 +39,15 @@ told_unless : (t : List JobParts) (what : JobParts → Outcome) (j : Option JobP
 told_unless t what None each = told_refusal t NoJob
 told_unless t what (Some k) each = each k
 
-told_command : (t : List JobParts) (c : Command) → Told t (after_command t c)
-told_command t (Submit name system budget) =
+told_submitted : (t : List JobParts) (name : List ℕ) (system : SystemParts) (budget : Option ℕ) → Told t (submitted t name system budget)
+told_submitted t name system budget =
     told_if t (is_some (job_named name t)) (refused t Taken) (if nat_lt (length t) MAX_JOBS then outcome (t ++ begun name system budget ∷ []) Accepted else refused t Full)
     (told_refusal t Taken)
     (told_if t (nat_lt (length t) MAX_JOBS) (outcome (t ++ begun name system budget ∷ []) Accepted) (refused t Full) (told_submit t (t ++ begun name system budget ∷ [])) (told_refusal t Full))
+
+told_command : (t : List JobParts) (c : Command) → Told t (after_command t c)
+told_command t (Submit name system budget) = told_submitted t name system budget
+told_command t (CopyJob old new) = told_unless t (copied t new) (job_named old t) (λ j. told_submitted t new (system_of j) None)
 told_command t (Pause name) = told_unless t (paused t name) (job_named name t)
     (λ j. told_if t (is_running j.state) (outcome (with_changed name (in_state state.Paused) t) Okay) (refused t NotRunning)
     (told_change t (with_changed name (in_state state.Paused) t)) (told_refusal t NotRunning))

@@ -25,6 +25,7 @@ pub fn asked(alloc: Global, text: &[u8]) -> Result<Vec<u8>, Trouble> {
 pub fn commanded(alloc: Global, command: &Command) -> Result<Vec<u8>, Trouble> {
     match command {
         Command::Submit(name, system, budget) => submitted(alloc, name, system, budget),
+        Command::CopyJob(old, new) => copied(alloc, old, new),
         Command::Pause(name) => about(alloc, b"pause ", name),
         Command::Resume(name) => about(alloc, b"resume ", name),
         Command::Cancel(name) => about(alloc, b"cancel ", name),
@@ -36,6 +37,13 @@ pub fn commanded(alloc: Global, command: &Command) -> Result<Vec<u8>, Trouble> {
 fn about(alloc: Global, verb: &[u8], name: &JobName) -> Result<Vec<u8>, Trouble> {
     let mut line = Vec::from_slice(alloc, verb)?;
     line.extend_from_slice(name.as_bytes())?;
+    Ok(line)
+}
+
+fn copied(alloc: Global, old: &JobName, new: &JobName) -> Result<Vec<u8>, Trouble> {
+    let mut line = about(alloc, b"copy ", old)?;
+    line.push(b' ')?;
+    line.extend_from_slice(new.as_bytes())?;
     Ok(line)
 }
 

@@ -6,15 +6,15 @@ use Rattle.std.specs.Cmp.Lexicographic.{bytes_decides}
 use Rattle.ic_rules.specs.System.{SystemParts}
 use Rattle.ic_jobs.specs.declared.limits.TheConstants.{MAX_JOBS}
 use Rattle.ic_jobs.specs.declared.state.State.TheVariants as state
-use Rattle.ic_jobs.specs.declared.command.Command.TheVariants.{Submit, Pause, Resume, Cancel, Fetch, List as list_jobs}
+use Rattle.ic_jobs.specs.declared.command.Command.TheVariants.{Submit, CopyJob, Pause, Resume, Cancel, Fetch, List as list_jobs}
 use Rattle.ic_jobs.specs.declared.reply.Reply.TheVariants.{Accepted, Okay, Refused, Moved, Halted}
 use Rattle.ic_jobs.specs.declared.reply.Refusal.TheVariants.{Taken, Full}
 use Rattle.ic_jobs.specs.declared.event.Event.{Event}
 use Rattle.ic_jobs.specs.declared.event.Event.TheVariants.{Command as by_command, Round}
 use Rattle.ic_jobs.specs.State.{is_running, is_paused}
-use Rattle.ic_jobs.specs.Job.{JobParts, begun, can_move, moved, in_state}
+use Rattle.ic_jobs.specs.Job.{JobParts, begun, system_of, can_move, moved, in_state}
 use Rattle.ic_jobs.specs.Table.{is_named, job_named, with_changed, without}
-use Rattle.ic_jobs.specs.Events.{Outcome, outcome, unless_missing, paused, resumed, after_round, where_running}
+use Rattle.ic_jobs.specs.Events.{Outcome, outcome, copied, unless_missing, paused, resumed, after_round, where_running}
 use Rattle.ic_jobs.specs.History.{table_after}
 use Rattle.ic_jobs.proofs.TableLookups.{KeepsName, job_named-changed, job_named-changed_other, job_named-without, job_named-without_other, job_named-append}
 
@@ -95,6 +95,9 @@ running_so name t what (Some j) each = at (is_running j.state)
 
 event_keeps : (t : List JobParts) (e : Event) (name : List ℕ) → Keeps (job_named name t) (job_named name (table_after t e))
 event_keeps t (by_command (Submit n s most)) name = submitted_so name n s most t (is_some (job_named n t)) (nat_lt (length t) MAX_JOBS)
+event_keeps t (by_command (CopyJob old n)) name =
+    unless name t (copied t n) (job_named old t)
+    (λ j. submitted_so name n (system_of j) None t (is_some (job_named n t)) (nat_lt (length t) MAX_JOBS))
 event_keeps t (by_command (Pause n)) name =
     unless name t (paused t n) (job_named n t)
     (λ j. either name t _ _ (is_running j.state) (changed name n (in_state state.Paused) t (bytes_eq name n) refl (λ k. refl) (λ k. refl)) (same (job_named name t)))

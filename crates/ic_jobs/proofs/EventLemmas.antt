@@ -1,27 +1,28 @@
 -- Events leave tables, and the jobs of names that they don't mention.
-use Rattle.std.proofs.Common.{◌≡◌, ℕ, ◌<◌, List, [], ◌∷◌, ◌++◌, Bool, true, false, cond, Option, None, Some, is_some, nat_lt, length, IsTrue, IfSome, refl, sym, ap, subst, ◌∙◌, arith}
+use Rattle.std.proofs.Common.{◌≡◌, ℕ, ◌<◌, List, [], ◌∷◌, ◌++◌, Bool, true, false, cond, Option, None, Some, is_some, nat_lt, length, IsTrue, IfSome, ◌||◌, refl, sym, ap, subst, ◌∙◌, arith}
 use Rattle.std.proofs.lemmas.Bool.{ltb-true}
 use Rattle.std.specs.Option.{option_map, option_map_or, option_or}
 use Rattle.std.specs.Str.{bytes_eq}
+use Rattle.ic_rules.specs.JobName.{is_job_name}
 use Rattle.ic_rules.specs.System.{SystemParts}
 use Rattle.ic_jobs.specs.declared.limits.TheConstants.{MAX_JOBS}
 use Rattle.ic_jobs.specs.declared.state.State.{State}
 use Rattle.ic_jobs.specs.declared.state.State.TheVariants as state
 use Rattle.ic_jobs.specs.declared.command.Command.{Command}
-use Rattle.ic_jobs.specs.declared.command.Command.TheVariants.{Submit, Pause, Resume, Cancel, Fetch, List as list_jobs}
+use Rattle.ic_jobs.specs.declared.command.Command.TheVariants.{Submit, CopyJob, Pause, Resume, Cancel, Fetch, List as list_jobs}
 use Rattle.ic_jobs.specs.declared.reply.Reply.TheVariants.{Accepted, Okay, Refused, Moved, Halted}
 use Rattle.ic_jobs.specs.declared.reply.Refusal.TheVariants.{Taken, Full, NotRunning, NotPaused}
 use Rattle.ic_jobs.specs.declared.event.Event.{Event}
 use Rattle.ic_jobs.specs.declared.event.Event.TheVariants.{Command as by_command, Round}
 use Rattle.ic_jobs.specs.State.{is_running, is_paused}
 use Rattle.ic_jobs.specs.inner.States.{is_finished}
-use Rattle.ic_jobs.specs.Job.{JobParts, IsJob, begun, can_move, moved, in_state}
+use Rattle.ic_jobs.specs.Job.{JobParts, IsJob, begun, system_of, can_move, moved, in_state}
 use Rattle.ic_jobs.specs.Table.{IsTable, is_named, job_named, with_changed, without}
-use Rattle.ic_jobs.specs.Events.{Outcome, outcome, submitted, unless_missing, paused, resumed, after_command, after_round, where_running, apply}
+use Rattle.ic_jobs.specs.Events.{Outcome, outcome, submitted, copied, unless_missing, paused, resumed, after_command, after_round, where_running, apply}
 use Rattle.ic_jobs.specs.History.{table_after}
 use Rattle.ic_jobs.specs.Commands.{IsEvent, IsCommand, IsSubmit}
 use Rattle.ic_jobs.specs.Names.{mentions}
-use Rattle.ic_jobs.proofs.JobLemmas.{IsJob-in_state, IsJob-moved, IsJob-begun}
+use Rattle.ic_jobs.proofs.JobLemmas.{IsJob-in_state, IsJob-moved, IsJob-begun, IsJob-branched}
 use Rattle.ic_jobs.proofs.TableLemmas.{All-split, StandsAlone, named_stands, changed_alone, without_alone, IsTable-with, IsTable-without, IsTable-push}
 use Rattle.ic_jobs.proofs.TableLookups.{job_named-changed_other, job_named-without_other, job_named-append}
 
@@ -75,6 +76,13 @@ submit_keeps name s most t true room there left is job = is
 submit_keeps name s most t false true there left is job = IsTable-push t (begun name s most) is job (room_left (length t) left) (none_there (job_named name t) there)
 submit_keeps name s most t false false there left is job = is
 
+copy_keeps : (old new : List ℕ) (t : List JobParts) (o : Option JobParts) → job_named old t ≡ o → IsTable t → IsTrue (is_job_name new)
+    → IsTable (unless_missing t (copied t new) o).table
+copy_keeps old new t None there is named = is
+copy_keeps old new t (Some j) there is named =
+    let s = named_stands old t j is.distinct there in
+    submit_keeps new (system_of j) None t (is_some (job_named new t)) (nat_lt (length t) MAX_JOBS) refl refl is (IsJob-branched new j named (job_there old t s.0 j s.1 is))
+
 pause_keeps : (name : List ℕ) (t : List JobParts) (o : Option JobParts) → job_named name t ≡ o → IsTable t → IsTable (unless_missing t (paused t name) o).table
 pause_keeps name t None there is = is
 pause_keeps name t (Some j) there is = at (is_running j.state) refl
@@ -102,6 +110,7 @@ fetch_keeps t what (Some j) same is = subst (λ (l : List JobParts). IsTable l) 
 pub command_keeps : (t : List JobParts) (c : Command) → IsTable t → IsCommand c → IsTable (after_command t c).table
 command_keeps t (Submit name s most) is ok =
     submit_keeps name s most t (is_some (job_named name t)) (nat_lt (length t) MAX_JOBS) refl refl is (IsJob-begun name s most ok.name ok.symbols ok.rules ok.config ok.over ok.budget)
+command_keeps t (CopyJob old new) is ok = copy_keeps old new t (job_named old t) refl is ok
 command_keeps t (Pause name) is ok = pause_keeps name t (job_named name t) refl is
 command_keeps t (Resume name) is ok = resume_keeps name t (job_named name t) refl is
 command_keeps t (Cancel name) is ok = cancel_keeps name t (job_named name t) refl is
@@ -158,8 +167,15 @@ running_others other t what (Some j) same = at (is_running j.state)
     at true = same j
     at false = refl
 
+pub second_apart : (a b : Bool) → (a || b) ≡ false → b ≡ false
+second_apart true b e = cc
+second_apart false b e = e
+
 pub others_stay : (t : List JobParts) (e : Event) (other : List ℕ) → mentions other e ≡ false → job_named other (table_after t e) ≡ job_named other t
 others_stay t (by_command (Submit name s most)) other apart = submit_others name other s most t (is_some (job_named name t)) (nat_lt (length t) MAX_JOBS) apart
+others_stay t (by_command (CopyJob old new)) other apart =
+    missing_others other t (copied t new) (job_named old t)
+    (λ j. submit_others new other (system_of j) None t (is_some (job_named new t)) (nat_lt (length t) MAX_JOBS) (second_apart (bytes_eq other old) (bytes_eq other new) apart))
 others_stay t (by_command (Pause name)) other apart =
     missing_others other t (paused t name) (job_named name t)
     (λ j. where_others other t _ _ (is_running j.state) (job_named-changed_other name other (in_state state.Paused) t apart (λ k. refl)) refl)

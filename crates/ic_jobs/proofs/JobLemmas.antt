@@ -16,7 +16,7 @@ use Rattle.ic_jobs.specs.declared.state.State.{State}
 use Rattle.ic_jobs.specs.declared.state.State.TheVariants.{Running, Paused, Done, Halted, Spent}
 use Rattle.ic_jobs.specs.inner.States.{is_done, is_spent, is_finished, may_be}
 use Rattle.ic_jobs.specs.Budget.{IsBudget, is_used_up}
-use Rattle.ic_jobs.specs.Job.{JobParts, IsJob, open_state, state_after, begun, can_move, moved, in_state}
+use Rattle.ic_jobs.specs.Job.{JobParts, IsJob, open_state, state_after, begun, system_of, can_move, moved, in_state}
 
 and_parts : (a b : Bool) → (a && b) ≡ true → (a ≡ true) × (b ≡ true)
 and_parts true b e = (refl, e)
@@ -224,6 +224,16 @@ IsJob-begun name s most named symbols rules config over budget =
       done = state.done;
       spent = state.spent;
     }
+
+-- a copy of a job begins as a job
+pub IsJob-branched : (new : List ℕ) (j : JobParts) → IsTrue (is_job_name new) → IsJob j → IsJob (begun new (system_of j) None)
+IsJob-branched new j named is = IsJob-begun new (system_of j) None named is.symbols is.rules is.config is.over tt
+
+pub IsJob-branched_as : (new : List ℕ) (j : JobParts) (rules : Rules) (config : Configuration) (s : State) → IsTrue (is_job_name new) → IsJob j → rules ≡ j.rules → config ≡ j.config
+    → s ≡ open_state j.rules j.config → IsJob (record { name = new; rules = rules; config = config; rounds = 0; state = s; budget = None })
+IsJob-branched_as new j rules config s named is same_rules same_config e =
+    subst (λ (p : Rules × Configuration × State). IsJob (record { name = new; rules = p.0; config = p.1; rounds = 0; state = p.2; budget = None }))
+    (λ i. (sym same_rules i, sym same_config i, sym e i)) (IsJob-branched new j named is)
 
 -- ---- jobs that are made or changed field by field
 

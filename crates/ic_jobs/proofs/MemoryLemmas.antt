@@ -5,16 +5,16 @@ use Rattle.ic_jobs.specs.declared.limits.TheConstants.{MAX_JOBS}
 use Rattle.ic_jobs.specs.declared.state.State.{State}
 use Rattle.ic_jobs.specs.declared.state.State.TheVariants as state
 use Rattle.ic_jobs.specs.declared.command.Command.{Command}
-use Rattle.ic_jobs.specs.declared.command.Command.TheVariants.{Submit, Pause, Resume, Cancel, Fetch, List as list_jobs}
+use Rattle.ic_jobs.specs.declared.command.Command.TheVariants.{Submit, CopyJob, Pause, Resume, Cancel, Fetch, List as list_jobs}
 use Rattle.ic_jobs.specs.declared.reply.Reply.{Reply}
 use Rattle.ic_jobs.specs.declared.reply.Reply.TheVariants.{Accepted, Okay, Shown, Listed, Refused, Moved, Halted}
 use Rattle.ic_jobs.specs.declared.reply.Refusal.{Refusal}
 use Rattle.ic_jobs.specs.declared.reply.Refusal.TheVariants.{Taken, Full, NotRunning, NotPaused}
 use Rattle.ic_jobs.specs.State.{is_running, is_paused}
-use Rattle.ic_jobs.specs.Job.{JobParts, begun, in_state}
+use Rattle.ic_jobs.specs.Job.{JobParts, begun, system_of, in_state}
 use Rattle.ic_jobs.specs.Table.{job_named, with_changed, without}
 use Rattle.ic_jobs.specs.Shown.{ShownParts, shown}
-use Rattle.ic_jobs.specs.Events.{Outcome, outcome, refused, unless_missing, paused, resumed, after_command}
+use Rattle.ic_jobs.specs.Events.{Outcome, outcome, refused, copied, unless_missing, paused, resumed, after_command}
 use Rattle.ic_jobs.specs.Replies.{is_accepted, is_okay}
 use Rattle.ic_jobs.specs.Memory.{takes_memory, is_submit, tells_jobs}
 
@@ -32,6 +32,7 @@ spares_unless t what (Some j) each = each j
 
 spared : (t : List JobParts) (c : Command) → takes_memory c ≡ false → Spares (after_command t c).reply
 spared t (Submit n s most) e = cc
+spared t (CopyJob old n) e = cc
 spared t (Pause n) e = spares_unless t (paused t n) (job_named n t) (λ j. spares_changed t (with_changed n (in_state state.Paused) t) NotRunning (is_running j.state))
 spared t (Resume n) e = spares_unless t (resumed t n) (job_named n t) (λ j. spares_changed t (with_changed n (in_state state.Running) t) NotPaused (is_paused j.state))
 spared t (Cancel n) e = spares_unless t (λ j. outcome (without n t) Okay) (job_named n t) (λ j. (refl, refl))
@@ -52,11 +53,15 @@ telling_by t c false is e = sym (spared t c is).1 ∙ e
 pub telling : (t : List JobParts) (c : Command) → tells_jobs (after_command t c).reply ≡ true → takes_memory c ≡ true
 telling t c e = telling_by t c (takes_memory c) refl e
 
--- a submit and a fetch are never answered `Okay`
+-- a submit, a copy and a fetch are never answered `Okay`
 submit_apart : (t u : List JobParts) (taken room : Bool) → is_okay (cond taken (refused t Taken) (cond room (outcome u Accepted) (refused t Full))).reply ≡ false
 submit_apart t u true room = refl
 submit_apart t u false true = refl
 submit_apart t u false false = refl
+
+copy_apart : (t : List JobParts) (n : List ℕ) (o : Option JobParts) → is_okay (unless_missing t (copied t n) o).reply ≡ false
+copy_apart t n None = refl
+copy_apart t n (Some j) = submit_apart t (t ++ begun n (system_of j) None ∷ []) (is_some (job_named n t)) (nat_lt (length t) MAX_JOBS)
 
 fetch_apart : (t : List JobParts) (o : Option JobParts) → is_okay (unless_missing t (λ j. outcome t (Shown (shown j))) o).reply ≡ false
 fetch_apart t None = refl
@@ -64,6 +69,7 @@ fetch_apart t (Some j) = refl
 
 pub changing : (t : List JobParts) (c : Command) → is_okay (after_command t c).reply ≡ true → takes_memory c ≡ false
 changing t (Submit n s most) e = sym e ∙ submit_apart t (t ++ begun n s most ∷ []) (is_some (job_named n t)) (nat_lt (length t) MAX_JOBS)
+changing t (CopyJob old n) e = sym e ∙ copy_apart t n (job_named old t)
 changing t (Pause n) e = refl
 changing t (Resume n) e = refl
 changing t (Cancel n) e = refl
@@ -79,6 +85,7 @@ other c apart none = (λ is. let both : false ≡ true = sym none ∙ is in cc, 
 
 pub is_submit_exact : (c : Command) → IsTrue (is_submit c) ↔ ((n : List ℕ) × (s : SystemParts) × (most : Option ℕ) × (c ≡ Submit n s most))
 is_submit_exact (Submit n s most) = (λ is. (n, s, most, refl), λ h. refl)
+is_submit_exact (CopyJob old n) = other (CopyJob old n) (λ m s b e. cc) refl
 is_submit_exact (Pause n) = other (Pause n) (λ m s b e. cc) refl
 is_submit_exact (Resume n) = other (Resume n) (λ m s b e. cc) refl
 is_submit_exact (Cancel n) = other (Cancel n) (λ m s b e. cc) refl

@@ -1,11 +1,11 @@
 -- The names that an event mentions are its own.
-use Rattle.std.proofs.Common.{◌≡◌, ℕ, zero, suc, ◌<◌, List, [], ◌∷◌, Bool, true, false, IsTrue, ◌↔◌, length, get_or, refl, sym, ◌∙◌, arith}
+use Rattle.std.proofs.Common.{◌≡◌, ℕ, zero, suc, ◌<◌, List, [], ◌∷◌, Bool, true, false, IsTrue, ◌↔◌, ◌||◌, length, get_or, refl, sym, ap, ◌∙◌, arith}
 use Rattle.std.specs.Prelude.{slice_index_or}
 use Rattle.std.specs.List.{Contains}
 use Rattle.std.specs.Str.{bytes_eq}
 use Rattle.std.specs.Cmp.Lexicographic.{bytes_decides}
 use Rattle.ic_jobs.specs.declared.command.Command.{Command}
-use Rattle.ic_jobs.specs.declared.command.Command.TheVariants.{Submit, Pause, Resume, Cancel, Fetch, List as list_jobs}
+use Rattle.ic_jobs.specs.declared.command.Command.TheVariants.{Submit, CopyJob, Pause, Resume, Cancel, Fetch, List as list_jobs}
 use Rattle.ic_jobs.specs.declared.event.Event.{Event}
 use Rattle.ic_jobs.specs.declared.event.Event.TheVariants.{Command as by_command, Round}
 use Rattle.ic_jobs.specs.Names.{command_mentions, mentions, command_names, event_names}
@@ -20,11 +20,32 @@ one_name x n = (
   λ h. (bytes_decides x n).1 (sym (at_place n x h.0 h.1 h.2)),
 )
 
+first_or_second : (x m n : List ℕ) (p q : Bool) → bytes_eq x m ≡ p → bytes_eq x n ≡ q → (p || q) ≡ true → Contains (m ∷ n ∷ []) x
+first_or_second x m n true q first second is = (0, omega arith, sym ((bytes_decides x m).0 first))
+first_or_second x m n false true first second is = (1, omega arith, sym ((bytes_decides x n).0 second))
+first_or_second x m n false false first second is = cc
+
+or_second : (p q : Bool) → q ≡ true → (p || q) ≡ true
+or_second true q is = refl
+or_second false q is = is
+
+among_two : (x m n : List ℕ) (k : ℕ) → k < 2 → slice_index_or (m ∷ n ∷ []) k x ≡ x → (bytes_eq x m || bytes_eq x n) ≡ true
+among_two x m n zero h e = ap (λ (p : Bool). p || bytes_eq x n) ((bytes_decides x m).1 (sym e))
+among_two x m n (suc zero) h e = or_second (bytes_eq x m) (bytes_eq x n) ((bytes_decides x n).1 (sym e))
+among_two x m n (suc (suc k)) h e = absurd (omega arith)
+
+two_names : (x m n : List ℕ) → IsTrue (bytes_eq x m || bytes_eq x n) ↔ Contains (m ∷ n ∷ []) x
+two_names x m n = (
+  λ is. first_or_second x m n (bytes_eq x m) (bytes_eq x n) refl refl is,
+  λ h. among_two x m n h.0 h.1 h.2,
+)
+
 no_name : (x : List ℕ) → IsTrue false ↔ Contains [] x
 no_name x = (λ is. cc, λ h. absurd (let low : h.0 < 0 = h.1 in omega arith))
 
 of_command : (x : List ℕ) (c : Command) → IsTrue (command_mentions x c) ↔ Contains (command_names c) x
 of_command x (Submit n s most) = one_name x n
+of_command x (CopyJob old new) = two_names x old new
 of_command x (Pause n) = one_name x n
 of_command x (Resume n) = one_name x n
 of_command x (Cancel n) = one_name x n

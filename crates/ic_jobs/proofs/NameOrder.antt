@@ -4,17 +4,17 @@ use Rattle.ic_rules.specs.System.{SystemParts}
 use Rattle.ic_jobs.specs.declared.limits.TheConstants.{MAX_JOBS}
 use Rattle.ic_jobs.specs.declared.state.State.TheVariants as state
 use Rattle.ic_jobs.specs.declared.command.Command.{Command}
-use Rattle.ic_jobs.specs.declared.command.Command.TheVariants.{Submit, Pause, Resume, Cancel, Fetch, List as list_jobs}
+use Rattle.ic_jobs.specs.declared.command.Command.TheVariants.{Submit, CopyJob, Pause, Resume, Cancel, Fetch, List as list_jobs}
 use Rattle.ic_jobs.specs.declared.reply.Reply.TheVariants.{Accepted, Okay, Shown, Refused, Moved, Halted}
 use Rattle.ic_jobs.specs.declared.reply.Refusal.{Refusal}
 use Rattle.ic_jobs.specs.declared.reply.Refusal.TheVariants.{Taken, Full, NotRunning, NotPaused}
 use Rattle.ic_jobs.specs.declared.event.Event.{Event}
 use Rattle.ic_jobs.specs.declared.event.Event.TheVariants.{Command as by_command, Round}
 use Rattle.ic_jobs.specs.State.{is_running, is_paused}
-use Rattle.ic_jobs.specs.Job.{JobParts, begun, can_move, moved, in_state}
+use Rattle.ic_jobs.specs.Job.{JobParts, begun, system_of, can_move, moved, in_state}
 use Rattle.ic_jobs.specs.Table.{job_names, is_named, job_named, with_changed, without}
 use Rattle.ic_jobs.specs.Shown.{shown}
-use Rattle.ic_jobs.specs.Events.{Outcome, outcome, refused, unless_missing, paused, resumed, after_command, after_round, where_running, apply}
+use Rattle.ic_jobs.specs.Events.{Outcome, outcome, refused, copied, unless_missing, paused, resumed, after_command, after_round, where_running, apply}
 use Rattle.ic_jobs.specs.Names.{but, names_after}
 use Rattle.ic_jobs.proofs.TableLookups.{KeepsName}
 use Rattle.ic_jobs.proofs.TableLemmas.{names-append}
@@ -47,6 +47,10 @@ submit_names t n s most true room = refl
 submit_names t n s most false true = names-append t (begun n s most ∷ [])
 submit_names t n s most false false = refl
 
+copy_names : (t : List JobParts) (old n : List ℕ) (o : Option JobParts) → NamesSo t (by_command (CopyJob old n)) (unless_missing t (copied t n) o)
+copy_names t old n None = refl
+copy_names t old n (Some j) = submit_names t n (system_of j) None (is_some (job_named n t)) (nat_lt (length t) MAX_JOBS)
+
 pause_names : (t : List JobParts) (n : List ℕ) (o : Option JobParts) → NamesSo t (by_command (Pause n)) (unless_missing t (paused t n) o)
 pause_names t n None = refl
 pause_names t n (Some j) = at (is_running j.state)
@@ -73,6 +77,7 @@ fetch_names t n (Some j) = refl
 
 command_names : (t : List JobParts) (c : Command) → NamesSo t (by_command c) (after_command t c)
 command_names t (Submit n s most) = submit_names t n s most (is_some (job_named n t)) (nat_lt (length t) MAX_JOBS)
+command_names t (CopyJob old n) = copy_names t old n (job_named old t)
 command_names t (Pause n) = pause_names t n (job_named n t)
 command_names t (Resume n) = resume_names t n (job_named n t)
 command_names t (Cancel n) = cancel_names t n (job_named n t)
@@ -121,6 +126,8 @@ missing_stays t r what (Some j) stays e = stays j e
 
 command_stays : (t : List JobParts) (c : Command) (r : Refusal) → Stays t r (after_command t c)
 command_stays t (Submit n s most) r = submit_stays t n s most r (is_some (job_named n t)) (nat_lt (length t) MAX_JOBS)
+command_stays t (CopyJob old n) r =
+    missing_stays t r (copied t n) (job_named old t) (λ j. submit_stays t n (system_of j) None r (is_some (job_named n t)) (nat_lt (length t) MAX_JOBS))
 command_stays t (Pause n) r = missing_stays t r (paused t n) (job_named n t) (λ j. changed_stays t _ NotRunning r (is_running j.state))
 command_stays t (Resume n) r = missing_stays t r (resumed t n) (job_named n t) (λ j. changed_stays t _ NotPaused r (is_paused j.state))
 command_stays t (Cancel n) r = missing_stays t r (λ j. outcome (without n t) Okay) (job_named n t) (λ j e. cc)
@@ -146,3 +153,19 @@ pub refused_stays : (t : List JobParts) (e : Event) (o : Outcome) (r : Refusal) 
 refused_stays t (by_command c) o r is =
     let same : after_command t c ≡ o = cc in subst (λ (p : Outcome). Stays t r p) same (command_stays t c r)
 refused_stays t (Round n) o r is = round_stays t n r o (job_named n t) is
+
+-- ---- an accepted copy goes last
+
+last_by : (t : List JobParts) (new : List ℕ) (j : JobParts) (taken room : Bool)
+    → let o = cond taken (refused t Taken) (cond room (outcome (t ++ begun new (system_of j) None ∷ []) Accepted) (refused t Full)) in
+    o.reply ≡ Accepted → o.table ≡ t ++ begun new (system_of j) None ∷ []
+last_by t new j true room e = cc
+last_by t new j false true e = refl
+last_by t new j false false e = cc
+
+pub copied_last : (t : List JobParts) (old new : List ℕ) (j : JobParts) → job_named old t ≡ Some j → (after_command t (CopyJob old new)).reply ≡ Accepted
+    → (after_command t (CopyJob old new)).table ≡ t ++ begun new (system_of j) None ∷ []
+copied_last t old new j there e =
+    let same : after_command t (CopyJob old new) ≡ copied t new j = ap (unless_missing t (copied t new)) there in
+    ap (λ (o : Outcome). o.table) same
+    ∙ last_by t new j (is_some (job_named new t)) (nat_lt (length t) MAX_JOBS) (sym (ap (λ (o : Outcome). o.reply) same) ∙ e)

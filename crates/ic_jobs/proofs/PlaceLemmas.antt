@@ -1,6 +1,6 @@
 -- The job at the place of a name: how it is found, changed and taken out.
 use Rattle.std.proofs.Common.{◌≡◌, ℕ, suc, zero, ◌+◌, ◌<◌, List, [], ◌∷◌, ◌++◌, Bool, true, false, cond, Option, None, Some, is_some, length, take, drop, refl, sym, ap, subst, ◌∙◌, arith, set, get_or, slice_get, add-one, nat_lt, ◌==◌, ◌&&◌, ◌||◌, not, IsTrue, ◌↔◌, ◌≤◌}
-use Rattle.std.proofs.lemmas.Bool.{lt-ltb, le-ltb, eqb-true}
+use Rattle.std.proofs.lemmas.Bool.{lt-ltb, le-ltb, ltb-true, eqb-true}
 use Rattle.std.specs.List.{position_from, remove, AllByRecursion, IsDistinct}
 use Rattle.std.specs.Str.{bytes_eq}
 use Rattle.std.specs.Bool.{Decides}
@@ -18,17 +18,19 @@ use Rattle.ic_pool.specs.declared.limits.TheConstants.{MAX_ROUNDS}
 use Rattle.ic_jobs.specs.declared.limits.TheConstants.{MAX_JOBS}
 use Rattle.ic_jobs.specs.declared.state.State.{State}
 use Rattle.ic_jobs.specs.declared.state.State.TheVariants as state
-use Rattle.ic_jobs.specs.declared.command.Command.TheVariants.{Submit, Pause, Resume, Cancel, Fetch}
+use Rattle.ic_jobs.specs.declared.command.Command.TheVariants.{Submit, CopyJob, Pause, Resume, Cancel, Fetch}
 use Rattle.ic_jobs.specs.declared.reply.Reply.TheVariants.{Accepted, Okay, Shown, Refused, Moved, Halted}
+use Rattle.ic_jobs.specs.declared.reply.Refusal.{Refusal}
 use Rattle.ic_jobs.specs.declared.reply.Refusal.TheVariants.{Taken, Full, NoJob, NotRunning, NotPaused}
 use Rattle.ic_jobs.specs.declared.event.Event.TheVariants.{Round}
-use Rattle.ic_jobs.specs.Events.{Outcome, outcome, refused, submitted, unless_missing, paused, resumed, after_command, after_round, where_running, apply}
+use Rattle.ic_jobs.specs.Events.{Outcome, outcome, refused, submitted, copied, unless_missing, paused, resumed, after_command, after_round, where_running, apply}
 use Rattle.ic_jobs.specs.Landing.{flight_of, flight_at, due_place, due, Agrees, agrees, Awaits}
 use Rattle.ic_jobs.specs.Shown.{ShownParts, shown}
 use Rattle.ic_jobs.proofs.TableLemmas.{IsTable-push}
 use Rattle.ic_jobs.specs.State.{is_running, is_paused}
+use Rattle.ic_jobs.specs.inner.Beginnings.{refusal_to_begin}
 use Rattle.ic_jobs.specs.inner.States.{is_finished}
-use Rattle.ic_jobs.specs.Job.{JobParts, IsJob, begun, can_move, moved, in_state}
+use Rattle.ic_jobs.specs.Job.{JobParts, IsJob, begun, system_of, can_move, moved, in_state}
 use Rattle.ic_jobs.specs.Table.{IsTable, job_names, is_named, job_named, with_changed, without}
 use Rattle.ic_jobs.proofs.TableLemmas.{StandsAlone, place_stands, found_alone, changed_alone, without_alone}
 use Rattle.ic_jobs.proofs.EventLemmas.{IsTable-in_state, IsTable-moved, IsTable-cancelled}
@@ -189,32 +191,77 @@ fetch_done name t i d s f same e =
 free_name : (name : List ℕ) (t : List JobParts) (b : Bool) → is_some (position_from (is_named name) 0 t) ≡ b → is_some (job_named name t) ≡ b
 free_name name t b e = sym (place_there name t) ∙ e
 
-abbrev accepted_or_full : List ℕ → SystemParts → Option ℕ → List JobParts → Bool → Outcome
-accepted_or_full name s most t room = cond room (outcome (t ++ begun name s most ∷ []) Accepted) (refused t Full)
+-- ---- jobs that begin
 
-submit_at : (name : List ℕ) (s : SystemParts) (most : Option ℕ) (t : List JobParts) (taken room : Bool) → is_some (position_from (is_named name) 0 t) ≡ taken → nat_lt (length t) MAX_JOBS ≡ room
-    → submitted t name s most ≡ cond taken (refused t Taken) (accepted_or_full name s most t room)
-submit_at name s most t taken room e r =
+refusal_at : (name : List ℕ) (t : List JobParts) (taken room : Bool) → is_some (position_from (is_named name) 0 t) ≡ taken → nat_lt (length t) MAX_JOBS ≡ room
+    → refusal_to_begin name t ≡ cond taken (Some Taken) (cond room None (Some Full))
+refusal_at name t taken room e r =
     let there = free_name name t taken e in
-    λ i. cond (there i) (refused t Taken) (accepted_or_full name s most t (r i))
+    λ i. cond (there i) (Some Taken) (cond (r i) None (Some Full))
 
-pub submit_taken : (name : List ℕ) (s : SystemParts) (most : Option ℕ) (t : List JobParts) → is_some (position_from (is_named name) 0 t) ≡ true
-    → refused t Taken ≡ after_command t (Submit name s most)
-submit_taken name s most t e = sym (submit_at name s most t true (nat_lt (length t) MAX_JOBS) e refl)
+pub refuses_taken : (name : List ℕ) (t : List JobParts) → is_some (position_from (is_named name) 0 t) ≡ true → Some Taken ≡ refusal_to_begin name t
+refuses_taken name t e = sym (refusal_at name t true (nat_lt (length t) MAX_JOBS) e refl)
 
-pub submit_full : (name : List ℕ) (s : SystemParts) (most : Option ℕ) (t : List JobParts) → is_some (position_from (is_named name) 0 t) ≡ false → MAX_JOBS ≤ length t
-    → refused t Full ≡ after_command t (Submit name s most)
-submit_full name s most t e h = sym (submit_at name s most t false false e (le-ltb (length t) MAX_JOBS h))
+pub refuses_full : (name : List ℕ) (t : List JobParts) → is_some (position_from (is_named name) 0 t) ≡ false → MAX_JOBS ≤ length t → Some Full ≡ refusal_to_begin name t
+refuses_full name t e h = sym (refusal_at name t false false e (le-ltb (length t) MAX_JOBS h))
 
-pub submit_done : (name : List ℕ) (s : SystemParts) (most : Option ℕ) (t u : List JobParts) → is_some (position_from (is_named name) 0 t) ≡ false → length t < MAX_JOBS
-    → u ≡ t ++ begun name s most ∷ [] → outcome u Accepted ≡ after_command t (Submit name s most)
-submit_done name s most t u e h is =
-    ap (λ (l : List JobParts). outcome l Accepted) is ∙ sym (submit_at name s most t false true e (lt-ltb (length t) MAX_JOBS h))
+pub refuses_none : (name : List ℕ) (t : List JobParts) → is_some (position_from (is_named name) 0 t) ≡ false → length t < MAX_JOBS → None ≡ refusal_to_begin name t
+refuses_none name t e h = sym (refusal_at name t false true e (lt-ltb (length t) MAX_JOBS h))
 
-pub IsTable-submitted : (name : List ℕ) (s : SystemParts) (most : Option ℕ) (t u : List JobParts) → IsTable t → IsJob (begun name s most) → is_some (position_from (is_named name) 0 t) ≡ false
-    → length t < MAX_JOBS → u ≡ t ++ begun name s most ∷ [] → IsTable u
-IsTable-submitted name s most t u is job e h to =
-    subst (λ (l : List JobParts). IsTable l) (sym to) (IsTable-push t (begun name s most) is job h (none_is (job_named name t) (free_name name t false e)))
+abbrev refusal_by : Bool → Bool → Option Refusal
+refusal_by taken room = cond taken (Some Taken) (cond room None (Some Full))
+
+abbrev begin_by : List ℕ → SystemParts → Option ℕ → List JobParts → Bool → Bool → Outcome
+begin_by name s most t taken room =
+    cond taken (refused t Taken) (cond room (outcome (t ++ begun name s most ∷ []) Accepted) (refused t Full))
+
+refused_by : (name : List ℕ) (s : SystemParts) (most : Option ℕ) (t : List JobParts) (r : Refusal) (taken room : Bool) → refusal_by taken room ≡ Some r
+    → refused t r ≡ begin_by name s most t taken room
+refused_by name s most t r true room e = let same : Taken ≡ r = cc in ap (λ (q : Refusal). refused t q) (sym same)
+refused_by name s most t r false true e = cc
+refused_by name s most t r false false e = let same : Full ≡ r = cc in ap (λ (q : Refusal). refused t q) (sym same)
+
+-- a job that can't begin is refused
+pub begin_refused : (name : List ℕ) (s : SystemParts) (most : Option ℕ) (t : List JobParts) (r : Refusal) → refusal_to_begin name t ≡ Some r
+    → refused t r ≡ submitted t name s most
+begin_refused name s most t r e = refused_by name s most t r (is_some (job_named name t)) (nat_lt (length t) MAX_JOBS) e
+
+done_by : (name : List ℕ) (s : SystemParts) (most : Option ℕ) (t : List JobParts) (taken room : Bool) → refusal_by taken room ≡ None
+    → outcome (t ++ begun name s most ∷ []) Accepted ≡ begin_by name s most t taken room
+done_by name s most t true room e = cc
+done_by name s most t false true e = refl
+done_by name s most t false false e = cc
+
+-- one that can goes last
+pub begin_done : (name : List ℕ) (s : SystemParts) (most : Option ℕ) (t u : List JobParts) → refusal_to_begin name t ≡ None → u ≡ t ++ begun name s most ∷ []
+    → outcome u Accepted ≡ submitted t name s most
+begin_done name s most t u e is =
+    ap (λ (l : List JobParts). outcome l Accepted) is ∙ done_by name s most t (is_some (job_named name t)) (nat_lt (length t) MAX_JOBS) e
+
+room_by : (name : List ℕ) (t : List JobParts) (taken room : Bool) → is_some (job_named name t) ≡ taken → nat_lt (length t) MAX_JOBS ≡ room → refusal_by taken room ≡ None
+    → (job_named name t ≡ None) × (length t < MAX_JOBS)
+room_by name t true room there left e = cc
+room_by name t false true there left e = (none_is (job_named name t) there, ltb-true (length t) MAX_JOBS left)
+room_by name t false false there left e = cc
+
+pub IsTable-begun : (name : List ℕ) (s : SystemParts) (most : Option ℕ) (t u : List JobParts) → IsTable t → IsJob (begun name s most) → refusal_to_begin name t ≡ None
+    → u ≡ t ++ begun name s most ∷ [] → IsTable u
+IsTable-begun name s most t u is job e to =
+    let room = room_by name t (is_some (job_named name t)) (nat_lt (length t) MAX_JOBS) refl refl e in
+    subst (λ (l : List JobParts). IsTable l) (sym to) (IsTable-push t (begun name s most) is job room.1 room.0)
+
+-- a copy of a job that is there begins as a submit of what it has
+pub copies_here : (old new : List ℕ) (t : List JobParts) (i : ℕ) (d : JobParts) (f : FoundAt old t i d) → d ≡ f.job
+    → submitted t new (system_of d) None ≡ after_command t (CopyJob old new)
+copies_here old new t i d f same =
+    ap (λ (j : JobParts). copied t new j) same ∙ sym (told t (copied t new) (job_named old t) f.job f.there)
+
+-- and is refused as one
+pub copy_refused : (old new : List ℕ) (t : List JobParts) (i : ℕ) (r : Refusal) → IsTable t → position_from (is_named old) 0 t ≡ Some i → refusal_to_begin new t ≡ Some r
+    → refused t r ≡ after_command t (CopyJob old new)
+copy_refused old new t i r is place e =
+    let s = place_stands old t i is.distinct place in
+    begin_refused new (system_of s.job) None t r e ∙ sym (told t (copied t new) (job_named old t) s.job (found_alone old t i s.job s.stands))
 
 pub IsTable-none : (t : List JobParts) → t ≡ [] → IsTable t
 unfolding IsDistinct

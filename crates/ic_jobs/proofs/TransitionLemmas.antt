@@ -1,5 +1,5 @@
 -- What events make of the state of a job.
-use Rattle.std.proofs.Common.{◌≡◌, ℕ, ◌+◌, List, [], ◌∷◌, ◌++◌, map, Bool, true, false, cond, Option, None, Some, is_some, nat_lt, length, refl, ap, ◌∙◌}
+use Rattle.std.proofs.Common.{◌≡◌, ℕ, ◌+◌, List, [], ◌∷◌, ◌++◌, map, Bool, true, false, cond, Option, None, Some, is_some, nat_lt, length, refl, sym, ap, ◌∙◌}
 use Rattle.std.specs.Option.{option_map, option_or}
 use Rattle.std.specs.Str.{bytes_eq}
 use Rattle.std.specs.Cmp.Lexicographic.{bytes_decides}
@@ -13,7 +13,7 @@ use Rattle.ic_jobs.specs.declared.limits.TheConstants.{MAX_JOBS}
 use Rattle.ic_jobs.specs.declared.state.State.{State}
 use Rattle.ic_jobs.specs.declared.state.State.TheVariants as state
 use Rattle.ic_jobs.specs.declared.command.Command.{Command}
-use Rattle.ic_jobs.specs.declared.command.Command.TheVariants.{Submit, Pause, Resume, Cancel, Fetch, List as list_jobs}
+use Rattle.ic_jobs.specs.declared.command.Command.TheVariants.{Submit, CopyJob, Pause, Resume, Cancel, Fetch, List as list_jobs}
 use Rattle.ic_jobs.specs.declared.reply.Reply.{Reply}
 use Rattle.ic_jobs.specs.declared.reply.Reply.TheVariants.{Accepted, Okay, Shown, Refused, Moved, Halted}
 use Rattle.ic_jobs.specs.declared.reply.Refusal.TheVariants.{Taken, Full, NoJob, NotRunning, NotPaused}
@@ -21,12 +21,12 @@ use Rattle.ic_jobs.specs.declared.event.Event.{Event}
 use Rattle.ic_jobs.specs.declared.event.Event.TheVariants.{Command as by_command, Round}
 use Rattle.ic_jobs.specs.State.{is_running, is_paused}
 use Rattle.ic_jobs.specs.Budget.{is_used_up}
-use Rattle.ic_jobs.specs.Job.{JobParts, begun, open_state, state_after, can_move, moved, in_state}
+use Rattle.ic_jobs.specs.Job.{JobParts, begun, system_of, open_state, state_after, can_move, moved, in_state}
 use Rattle.ic_jobs.specs.Table.{job_named, with_changed, without}
 use Rattle.ic_jobs.specs.Shown.{shown}
-use Rattle.ic_jobs.specs.Events.{Outcome, outcome, refused, unless_missing, paused, resumed, after_command, after_round, where_running, apply}
+use Rattle.ic_jobs.specs.Events.{Outcome, outcome, refused, submitted, copied, unless_missing, paused, resumed, after_command, after_round, where_running, apply}
 use Rattle.ic_jobs.specs.Names.{command_names}
-use Rattle.ic_jobs.specs.Transitions.{state_of, Leads, Row, row, submit_row, pause_row, resume_row, cancel_row, fetch_reply, round_row_in, round_row, LeadsBy, LeadsWhere, leaves_one, CommandLeadsBy, CommandLeads, EventLeads}
+use Rattle.ic_jobs.specs.Transitions.{state_of, Leads, Row, row, submit_row, copy_row, pause_row, resume_row, cancel_row, fetch_reply, round_row_in, round_row, LeadsBy, LeadsWhere, leaves_one, leaves_two, CommandLeadsBy, CommandLeads, EventLeads}
 use Rattle.ic_jobs.proofs.JobLemmas.{is_budget, used_up_where}
 use Rattle.ic_jobs.proofs.TableLookups.{KeepsName, job_named-changed, job_named-without, job_named-append}
 
@@ -217,8 +217,46 @@ of_one t c n w names l =
       left = ap (map (λ (name : List ℕ). state_of name l.outcome.table)) names ∙ ap (λ (s : Option State). s ∷ []) l.left;
     }
 
+-- ---- copies
+
+appended_stays : (old n : List ℕ) (t : List JobParts) (j : JobParts) (s : SystemParts) (taken room : Bool) → job_named old t ≡ Some j
+    → job_named old (cond taken (refused t Taken) (cond room (outcome (t ++ begun n s None ∷ []) Accepted) (refused t Full))).table ≡ job_named old t
+appended_stays old n t j s true room there = refl
+appended_stays old n t j s false true there =
+    job_named-append old t (begun n s None) ∙ ap (λ (o : Option JobParts). option_or o (cond (bytes_eq old n) (Some (begun n s None)) None)) there ∙ sym there
+appended_stays old n t j s false false there = refl
+
+-- a copy goes as a submit of what the copied job has, which stays as it is
+copied_leads : (t : List JobParts) (old new : List ℕ) (j : JobParts) (w : Row) → job_named old t ≡ Some j
+    → LeadsBy t (by_command (Submit new (system_of j) None)) new w → CommandLeadsBy t (CopyJob old new) (leaves_two (state_of old t) w)
+copied_leads t old new j w there l =
+    let made : Some (copied t new j) ≡ Some l.outcome = l.defined in
+    let same : copied t new j ≡ l.outcome = cc in
+    let stays : job_named old (copied t new j).table ≡ job_named old t =
+    appended_stays old new t j (system_of j) (is_some (job_named new t)) (nat_lt (length t) MAX_JOBS) there in
+    let kept : state_of old l.outcome.table ≡ state_of old t = ap (λ (o : Outcome). state_of old o.table) (sym same) ∙ ap state_in stays in
+    let left = l.left in
+    record {
+      outcome = l.outcome;
+      defined = ap (λ (o : Outcome). Some o) (ap (unless_missing t (copied t new)) there ∙ same);
+      replied = l.replied;
+      left = λ i. kept i ∷ left i ∷ [];
+    }
+
+copy_rows : (t : List JobParts) (old new : List ℕ) (o : Option JobParts) → job_named old t ≡ o
+    → CommandLeadsBy t (CopyJob old new) (leaves_two (state_of old t) (copy_row o (state_of new t) (nat_lt (length t) MAX_JOBS)))
+copy_rows t old new None there = record {
+  outcome = refused t NoJob;
+  defined = ap (λ (o : Option JobParts). Some (unless_missing t (copied t new) o)) there;
+  replied = refl;
+  left = refl;
+}
+copy_rows t old new (Some j) there =
+    copied_leads t old new j _ there (submit_rows t new (system_of j) None (state_of new t) (nat_lt (length t) MAX_JOBS) refl refl)
+
 command_leads : (t : List JobParts) (c : Command) → CommandLeads t c
 command_leads t (Submit n s most) = of_one t (Submit n s most) n _ refl (submit_rows t n s most (state_of n t) (nat_lt (length t) MAX_JOBS) refl refl)
+command_leads t (CopyJob old new) = copy_rows t old new (job_named old t) refl
 command_leads t (Pause n) = of_one t (Pause n) n _ refl (pause_rows t n (state_of n t) refl)
 command_leads t (Resume n) = of_one t (Resume n) n _ refl (resume_rows t n (state_of n t) refl)
 command_leads t (Cancel n) = of_one t (Cancel n) n _ refl (cancel_rows t n (state_of n t) refl)

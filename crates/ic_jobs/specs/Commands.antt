@@ -7,7 +7,7 @@ use Rattle.ic_rules.specs.RuleSet.{IsRuleSet}
 use Rattle.ic_rules.specs.System.{SystemParts}
 use Rattle.ic_jobs.specs.Budget.{IsBudget}
 use Rattle.ic_jobs.specs.declared.command.Command.{Command}
-use Rattle.ic_jobs.specs.declared.command.Command.TheVariants.{Submit, Pause, Resume, Cancel, Fetch, List as list_jobs}
+use Rattle.ic_jobs.specs.declared.command.Command.TheVariants.{Submit, CopyJob, Pause, Resume, Cancel, Fetch, List as list_jobs}
 use Rattle.ic_jobs.specs.declared.event.Event.{Event}
 use Rattle.ic_jobs.specs.declared.event.Event.TheVariants.{Command as by_command, Round}
 
@@ -24,6 +24,7 @@ pub record IsSubmit (text : List ℕ) (system : SystemParts) (most : Option ℕ)
 -- what commands keep, as the types of their parts say
 abbrev pub IsCommand : Command → Type 0
 IsCommand (Submit name system budget) = IsSubmit name system budget
+IsCommand (CopyJob old new) = IsTrue (is_job_name new)
 IsCommand (Pause name) = Unit {0}
 IsCommand (Resume name) = Unit {0}
 IsCommand (Cancel name) = Unit {0}

@@ -4,7 +4,7 @@ use Rattle.ic_rules.specs.System.{SystemParts}
 use Rattle.ic_jobs.specs.declared.limits.TheConstants.{MAX_JOBS}
 use Rattle.ic_jobs.specs.declared.state.State.TheVariants as state
 use Rattle.ic_jobs.specs.declared.command.Command.{Command}
-use Rattle.ic_jobs.specs.declared.command.Command.TheVariants.{Submit, Pause, Resume, Cancel, Fetch, List as list_jobs}
+use Rattle.ic_jobs.specs.declared.command.Command.TheVariants.{Submit, CopyJob, Pause, Resume, Cancel, Fetch, List as list_jobs}
 use Rattle.ic_jobs.specs.declared.reply.Reply.{Reply}
 use Rattle.ic_jobs.specs.declared.reply.Reply.TheVariants.{Accepted, Okay, Shown, Listed, Refused, Moved, Halted}
 use Rattle.ic_jobs.specs.declared.reply.Refusal.{Refusal}
@@ -12,7 +12,7 @@ use Rattle.ic_jobs.specs.declared.reply.Refusal.TheVariants.{Taken, Full, NoJob,
 use Rattle.ic_jobs.specs.declared.event.Event.{Event}
 use Rattle.ic_jobs.specs.declared.event.Event.TheVariants.{Command as by_command, Round}
 use Rattle.ic_jobs.specs.State.{is_running, is_paused}
-use Rattle.ic_jobs.specs.Job.{JobParts, begun, can_move, moved, in_state}
+use Rattle.ic_jobs.specs.Job.{JobParts, begun, system_of, can_move, moved, in_state}
 use Rattle.ic_jobs.specs.Table.{job_named, with_changed, without}
 use Rattle.ic_jobs.specs.Shown.{shown, listed}
 
@@ -40,6 +40,11 @@ abbrev pub unless_missing : List JobParts → (JobParts → Outcome) → Option 
 unless_missing t what None = refused t NoJob
 unless_missing t what (Some j) = what j
 
+-- A copy of a job is a new job: it begins with the rules and the configuration that the job has, and
+-- with no budget.
+abbrev pub copied : List JobParts → List ℕ → JobParts → Outcome
+copied t new j = submitted t new (system_of j) None
+
 -- A running job is paused.
 abbrev pub paused : List JobParts → List ℕ → JobParts → Outcome
 paused t name j =
@@ -55,6 +60,7 @@ resumed t name j =
 -- A command, and what it leaves. Cancel removes a job in any state.
 abbrev pub after_command : List JobParts → Command → Outcome
 after_command t (Submit name system budget) = submitted t name system budget
+after_command t (CopyJob old new) = unless_missing t (copied t new) (job_named old t)
 after_command t (Pause name) = unless_missing t (paused t name) (job_named name t)
 after_command t (Resume name) = unless_missing t (resumed t name) (job_named name t)
 after_command t (Cancel name) =

@@ -62,6 +62,10 @@ begun name system budget = record {
   budget = budget;
 }
 
+-- what a job has to reduce now: its rules and its whole configuration
+abbrev pub system_of : JobParts → SystemParts
+system_of j = record { rules = j.rules; config = j.config }
+
 -- a further round can be made: the configuration fits, and rounds are left
 abbrev pub can_move : JobParts → Bool
 can_move j = fits j.rules.rules j.config && nat_lt j.rounds MAX_ROUNDS

@@ -8,12 +8,14 @@ use Rattle.ic_rules.specs.RuleSet.{Rules}
 use Rattle.ic_rules.specs.System.{SystemParts}
 use Rattle.ic_round.specs.Rounds.{iterate}
 use Rattle.ic_jobs.specs.declared.command.Command.{Command}
-use Rattle.ic_jobs.specs.declared.command.Command.TheVariants.{Submit, Pause, Resume, Cancel, Fetch, List as list_jobs}
+use Rattle.ic_jobs.specs.declared.command.Command.TheVariants.{Submit, CopyJob, Pause, Resume, Cancel, Fetch, List as list_jobs}
 use Rattle.ic_jobs.specs.declared.reply.Reply.{Reply}
 use Rattle.ic_jobs.specs.declared.event.Event.{Event}
 use Rattle.ic_jobs.specs.declared.event.Event.TheVariants.{Command as by_command, Round}
 use Rattle.ic_jobs.specs.declared.event.Entry.{Entry}
-use Rattle.ic_jobs.specs.Job.{JobParts}
+use Rattle.ic_jobs.specs.Job.{JobParts, system_of}
+use Rattle.ic_jobs.specs.Table.{job_named}
+use Rattle.ic_jobs.specs.History.{table_after}
 use Rattle.ic_jobs.specs.Replies.{is_accepted, is_okay, is_moved}
 
 -- A job's rules, the configuration that it began with, and how many rounds it has made.
@@ -22,26 +24,30 @@ pub record Life : Type 0 where
   pub began : Configuration
   pub rounds : ℕ
 
--- the system that a command submits under a name
-abbrev pub command_begins : List ℕ → Command → Option SystemParts
-command_begins name (Submit n system budget) = if bytes_eq name n then Some system else None
-command_begins name (Pause n) = None
-command_begins name (Resume n) = None
-command_begins name (Cancel n) = None
-command_begins name (Fetch n) = None
-command_begins name list_jobs = None
+-- The system that a command begins the job of a name with, in a table: that which it submits, or that
+-- which the job that it copies has there.
+abbrev pub command_begins : List ℕ → List JobParts → Command → Option SystemParts
+command_begins name t (Submit n system budget) = if bytes_eq name n then Some system else None
+command_begins name t (CopyJob old new) =
+    if bytes_eq name new then option_map system_of (job_named old t) else None
+command_begins name t (Pause n) = None
+command_begins name t (Resume n) = None
+command_begins name t (Cancel n) = None
+command_begins name t (Fetch n) = None
+command_begins name t list_jobs = None
 
-abbrev pub event_begins : List ℕ → Event → Option SystemParts
-event_begins name (by_command c) = command_begins name c
-event_begins name (Round n) = None
+abbrev pub event_begins : List ℕ → List JobParts → Event → Option SystemParts
+event_begins name t (by_command c) = command_begins name t c
+event_begins name t (Round n) = None
 
--- the system of an accepted submit of a name
-abbrev pub begins : List ℕ → Event → Reply → Option SystemParts
-begins name e r = if is_accepted r then event_begins name e else None
+-- the system of an accepted beginning of a name
+abbrev pub begins : List ℕ → List JobParts → Event → Reply → Option SystemParts
+begins name t e r = if is_accepted r then event_begins name t e else None
 
 -- a command takes out the job of a name
 abbrev pub command_ends : List ℕ → Command → Bool
 command_ends name (Submit n system budget) = false
+command_ends name (CopyJob old new) = false
 command_ends name (Pause n) = false
 command_ends name (Resume n) = false
 command_ends name (Cancel n) = bytes_eq name n
@@ -70,11 +76,12 @@ pub record Beginning : Type 0 where
   pub system : SystemParts
   pub since : List Entry
 
-abbrev pub last_beginning : List ℕ → List Entry → Option Beginning
-last_beginning name [] = None
-last_beginning name (e ∷ es) =
-    option_or (last_beginning name es)
-    (option_map (λ s. record { system = s; since = es }) (begins name e.event e.reply))
+-- the last beginning of a name among the entries that came to a table
+abbrev pub last_beginning : List ℕ → List JobParts → List Entry → Option Beginning
+last_beginning name t [] = None
+last_beginning name t (e ∷ es) =
+    option_or (last_beginning name (table_after t e.event) es)
+    (option_map (λ s. record { system = s; since = es }) (begins name t e.event e.reply))
 
 -- What a job has lived through since it began: it is none where the job was cancelled, else its
 -- rounds are counted.
@@ -87,9 +94,9 @@ life_since name b =
       rounds = count_by (λ e. moves name e.event e.reply) b.since;
     })
 
--- the life of a name, told from its entries alone
+-- the life of a name, told from the entries that came to the empty table
 abbrev pub life : List ℕ → List Entry → Option Life
-life name h = option_and_then (life_since name) (last_beginning name h)
+life name h = option_and_then (life_since name) (last_beginning name [] h)
 
 -- A job is as its life says: these rules, these rounds, and the configuration after so many rounds.
 pub record HasLived (j : JobParts) (l : Life) : Type 0 where

@@ -3,7 +3,7 @@ use Rattle.std.specs.Prelude.{Bool, true, false}
 use Rattle.ic_jobs.specs.declared.reply.Reply.{Reply}
 use Rattle.ic_jobs.specs.declared.reply.Reply.TheVariants.{Accepted, Okay, Shown, Listed, Refused, Moved, Halted}
 
--- a job was submitted
+-- a job was submitted, or copied
 abbrev pub is_accepted : Reply → Bool
 is_accepted Accepted = true
 is_accepted Okay = false

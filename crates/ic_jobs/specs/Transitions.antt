@@ -6,7 +6,7 @@ use Rattle.ic_jobs.specs.declared.limits.TheConstants.{MAX_JOBS}
 use Rattle.ic_jobs.specs.declared.state.State.{State}
 use Rattle.ic_jobs.specs.declared.state.State.TheVariants as state
 use Rattle.ic_jobs.specs.declared.command.Command.{Command}
-use Rattle.ic_jobs.specs.declared.command.Command.TheVariants.{Submit, Pause, Resume, Cancel, Fetch, List as list_jobs}
+use Rattle.ic_jobs.specs.declared.command.Command.TheVariants.{Submit, CopyJob, Pause, Resume, Cancel, Fetch, List as list_jobs}
 use Rattle.ic_jobs.specs.declared.event.Event.{Event}
 use Rattle.ic_jobs.specs.declared.event.Event.TheVariants.{Command as by_command, Round}
 use Rattle.ic_jobs.specs.declared.reply.Reply.{Reply}
@@ -44,6 +44,11 @@ abbrev pub submit_row : State → Option State → Bool → Row
 submit_row begins (Some was) room = row (Refused Taken) (Some was)
 submit_row begins None true = row Accepted (Some begins)
 submit_row begins None false = row (Refused Full) None
+
+-- a copy, by the job that is copied and the state of the new one before
+abbrev pub copy_row : Option JobParts → Option State → Bool → Row
+copy_row None was room = row (Refused NoJob) was
+copy_row (Some j) was room = submit_row (open_state j.rules j.config) was room
 
 -- a pause, by the state before
 abbrev pub pause_row : Option State → Row
@@ -109,10 +114,16 @@ pub data CommandRow : Type 0 where
 abbrev pub leaves_one : Row → CommandRow
 leaves_one w = leaves w.reply (w.after ∷ [])
 
+-- one that names two jobs leaves the first in this state, and the second goes by a row
+abbrev pub leaves_two : Option State → Row → CommandRow
+leaves_two first w = leaves w.reply (first ∷ w.after ∷ [])
+
 -- the table of the commands
 abbrev pub command_row : List JobParts → Command → CommandRow
 command_row t (Submit n s budget) = leaves_one
     (submit_row (open_state s.rules s.config) (state_of n t) (nat_lt (length t) MAX_JOBS))
+command_row t (CopyJob old new) = leaves_two (state_of old t)
+    (copy_row (job_named old t) (state_of new t) (nat_lt (length t) MAX_JOBS))
 command_row t (Pause n) = leaves_one (pause_row (state_of n t))
 command_row t (Resume n) = leaves_one (resume_row (state_of n t))
 command_row t (Cancel n) = leaves_one (cancel_row (state_of n t))

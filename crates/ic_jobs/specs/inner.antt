@@ -1,2 +1,3 @@
 -- What contracts of private functions cite. A reader of the public contracts needs none of it.
+pub mod Beginnings
 pub mod States

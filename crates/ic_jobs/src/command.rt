@@ -1,6 +1,7 @@
 //! Commands: what a client asks of a job table.
 
 ghost use Rattle.std.specs.Prelude.{◌≡◌, IfOk, OnErr, IsTrue};
+ghost use Rattle.ic_rules.specs.JobName.{is_job_name};
 ghost use Rattle.ic_jobs.specs.Commands.{IsSubmit};
 
 use crate::budget::{Budget, is_within};
@@ -13,6 +14,9 @@ pub enum Command {
     /// A new job of this name, with this system, which makes at most as many rounds as its budget
     /// says.
     Submit(JobName, System, Option<Budget>),
+    /// A new job of the second name, which begins with the rules and the configuration that the job
+    /// of the first name has, and with no budget.
+    CopyJob(JobName, JobName),
     Pause(JobName),
     Resume(JobName),
     /// Removes a job in any state.
@@ -37,6 +41,10 @@ impl Command {
                 keeps_submit(name, system, budget);
                 Ok(Command::Submit(*name, system.copy(alloc)?, *budget))
             }
+            Command::CopyJob(old, new) => {
+                keeps_name(new);
+                Ok(Command::CopyJob(*old, *new))
+            }
             Command::Pause(name) => Ok(Command::Pause(*name)),
             Command::Resume(name) => Ok(Command::Resume(*name)),
             Command::Cancel(name) => Ok(Command::Cancel(*name)),
@@ -44,6 +52,14 @@ impl Command {
             Command::List => Ok(Command::List),
         }
     }
+}
+
+/// A copy of a job keeps what the type of the new name keeps.
+fn keeps_name(name: &JobName)
+    ensures { IsTrue (is_job_name name.now) }
+{
+    // Read for the proof: what the type keeps is known once the text was read.
+    let _text = name.as_bytes();
 }
 
 /// A submit keeps what the types of its parts keep.

@@ -57,10 +57,10 @@ impl Model for Job {
 }
 
 impl Job {
-    ghost use Rattle.std.specs.Prelude.{◌↔◌, ◌<◌, IsTrue, IsSome, IfSome, false, length};
+    ghost use Rattle.std.specs.Prelude.{◌↔◌, ◌<◌, IsTrue, IsSome, IfSome, None, false, length};
     ghost use Rattle.ic_round.specs.Rounds.{round};
     ghost use Rattle.ic_jobs.specs.inner.States.{is_finished};
-    ghost use Rattle.ic_jobs.specs.Job.{IsJob, begun, can_move, moved, in_state};
+    ghost use Rattle.ic_jobs.specs.Job.{IsJob, begun, system_of, can_move, moved, in_state};
     ghost use Rattle.ic_jobs.specs.Table.{is_named};
     ghost use Rattle.ic_jobs.specs.Landing.{flight_of, agrees};
     ghost use Rattle.ic_jobs.specs.Shown.{shown};
@@ -135,6 +135,25 @@ impl Job {
             rounds: 0,
             state,
             budget,
+        })
+    }
+
+    /// The job of this name as it begins with the rules and the configuration that this one has,
+    /// which it shares, and with no budget.
+    pub(crate) fn branch(&self, name: JobName) -> Result<Job, AllocError>
+        ensures job { IfOk result (λ job. job ≡ begun name (system_of self.now) None) }
+        ensures sound { IfOk result (λ job. IsJob job) }
+    {
+        // Read for the proof: what the type of the name keeps, the job keeps too.
+        let _text = name.as_bytes();
+        let state = open_state(&self.rules, &self.config);
+        Ok(Job {
+            name,
+            rules: self.rules.clone()?,
+            config: self.config.clone()?,
+            rounds: 0,
+            state,
+            budget: None,
         })
     }
 

@@ -10,15 +10,15 @@ ghost use Rattle.ic_pool.specs.Flight.{FlightParts};
 ghost use Rattle.ic_jobs.specs.declared.state.State.{State};
 ghost use Rattle.ic_jobs.specs.declared.state.State.TheVariants.{Running, Done, Spent};
 ghost use Rattle.ic_jobs.specs.declared.command.Command.{Command};
-ghost use Rattle.ic_jobs.specs.declared.command.Command.TheVariants.{Submit};
+ghost use Rattle.ic_jobs.specs.declared.command.Command.TheVariants.{Submit, CopyJob, Cancel};
 ghost use Rattle.ic_jobs.specs.declared.reply.Reply.{Reply};
-ghost use Rattle.ic_jobs.specs.declared.reply.Reply.TheVariants.{Shown, Listed, Refused};
+ghost use Rattle.ic_jobs.specs.declared.reply.Reply.TheVariants.{Accepted, Okay, Shown, Listed, Refused, Moved};
 ghost use Rattle.ic_jobs.specs.declared.reply.Refusal.{Refusal};
 ghost use Rattle.ic_jobs.specs.declared.event.Event.{Event};
-ghost use Rattle.ic_jobs.specs.declared.event.Event.TheVariants.{Round};
+ghost use Rattle.ic_jobs.specs.declared.event.Event.TheVariants.{Command as by_command, Round};
 ghost use Rattle.ic_jobs.specs.declared.event.Entry.{Entry};
 ghost use Rattle.ic_jobs.specs.declared.limits.TheConstants.{MAX_JOBS, MAX_BUDGET};
-ghost use Rattle.ic_jobs.specs.Job.{JobParts, open_state, state_after, begun, moved, in_state, job_eq, table_eq};
+ghost use Rattle.ic_jobs.specs.Job.{JobParts, open_state, state_after, begun, system_of, moved, in_state, job_eq, table_eq};
 ghost use Rattle.ic_jobs.specs.Refusal.{refusal_number, all_refusals};
 ghost use Rattle.ic_jobs.specs.Table.{IsTable, job_names, job_named};
 ghost use Rattle.ic_jobs.specs.Shown.{ShownParts, shown, listed};
@@ -31,7 +31,7 @@ ghost use Rattle.ic_jobs.specs.Memory.{takes_memory, is_submit, tells_jobs};
 ghost use Rattle.ic_jobs.specs.History.{table_after, replay, IsLegal};
 ghost use Rattle.ic_jobs.specs.Landing.{due, Awaits};
 ghost use Rattle.ic_jobs.specs.Turns.{RunsAt, IsFlightOf, HasFlight};
-ghost use Rattle.ic_jobs.specs.Life.{life, IsAsLived};
+ghost use Rattle.ic_jobs.specs.Life.{Life, life, IsAsLived};
 
 /// The limits of a job table.
 pub fn limits_are()
@@ -46,6 +46,30 @@ pub fn limits_are()
 pub fn life_law()
     ensures { (name : List ℕ) (h : List Entry) → IsLegal [] h
         → IsAsLived (job_named name (replay [] h)) (life name h) }
+{}
+
+/// The life of a name, entry by entry. There is none before the first entry. An accepted submit
+/// begins it with the submitted system; an accepted copy begins it with the rules and the
+/// configuration that the copied job has in the replay of the entries before. Each round that is
+/// made counts one, a cancel ends the life, and an entry that doesn't mention the name leaves it.
+pub fn lives_go_so()
+    ensures none { (name : List ℕ) → life name [] ≡ None }
+    ensures submitted { (name : List ℕ) (h : List Entry) (e : Entry) (s : SystemParts)
+        (budget : Option ℕ) → e.event ≡ by_command (Submit name s budget) → e.reply ≡ Accepted
+        → life name (h ++ e ∷ [])
+        ≡ Some (record { rules = s.rules; began = s.config; rounds = 0 }) }
+    ensures copied { (old name : List ℕ) (h : List Entry) (e : Entry) (j : JobParts)
+        → e.event ≡ by_command (CopyJob old name) → e.reply ≡ Accepted
+        → job_named old (replay [] h) ≡ Some j → life name (h ++ e ∷ [])
+        ≡ Some (record { rules = j.rules; began = j.config; rounds = 0 }) }
+    ensures moved { (name : List ℕ) (h : List Entry) (e : Entry) (l : Life)
+        → e.event ≡ Round name → e.reply ≡ Moved → life name h ≡ Some l
+        → life name (h ++ e ∷ []) ≡ Some (record l { rounds = l.rounds + 1 }) }
+    ensures ended { (name : List ℕ) (h : List Entry) (e : Entry)
+        → e.event ≡ by_command (Cancel name) → e.reply ≡ Okay
+        → life name (h ++ e ∷ []) ≡ None }
+    ensures other { (name : List ℕ) (h : List Entry) (e : Entry)
+        → mentions name e.event ≡ false → life name (h ++ e ∷ []) ≡ life name h }
 {}
 
 /// A history is legal where its first part is, and the rest is from the table that the first part
@@ -130,8 +154,26 @@ pub fn memory_is_taken_by()
         ⊎ ((l : List (List ℕ × State × ℕ)) × (r ≡ Listed l))) }
 {}
 
-/// A job has the budget that it was submitted with: while a job of a name is there, no event changes
-/// its budget, nor does a round or a change of its state.
+/// An accepted copy begins its job with the rules and the whole configuration that the copied job
+/// has, with no rounds made and no budget, done where it is quiet and else running. The new job goes
+/// last, behind all jobs as they were.
+pub fn copies_begin_so()
+    ensures accepted { (t : List JobParts) (old new : List ℕ) (j : JobParts)
+        → job_named old t ≡ Some j
+        → (after_command t (CopyJob old new)).reply ≡ Accepted
+        → (after_command t (CopyJob old new)).table ≡ t ++ begun new (system_of j) None ∷ [] }
+    ensures begun { (new : List ℕ) (j : JobParts) → begun new (system_of j) None ≡ record {
+      name = new;
+      rules = j.rules;
+      config = j.config;
+      rounds = 0;
+      state = open_state j.rules j.config;
+      budget = None;
+    } }
+{}
+
+/// A job has the budget that it was submitted with, and a copied one has none: while a job of a name
+/// is there, no event changes its budget, nor does a round or a change of its state.
 pub fn budgets_are_kept()
     ensures events { (t : List JobParts) (e : Event) (name : List ℕ) (j k : JobParts)
         → job_named name t ≡ Some j → job_named name (table_after t e) ≡ Some k
@@ -142,9 +184,9 @@ pub fn budgets_are_kept()
     ensures in_state { (s : State) (j : JobParts) → (in_state s j).budget ≡ j.budget }
 {}
 
-/// The names of a table stand in the order of submission: an accepted submit puts its name last, a
-/// cancel takes its name out, and any other event leaves all names as they are. What is refused
-/// leaves the whole table.
+/// The names of a table stand in the order in which their jobs began: an accepted submit or copy
+/// puts the new name last, a cancel takes its name out, and any other event leaves all names as they
+/// are. What is refused leaves the whole table.
 pub fn names_keep_their_order()
     ensures names { (t : List JobParts) (e : Event) (o : Outcome)
         → apply t e ≡ Some o → job_names o.table ≡ names_after (job_names t) e o.reply }

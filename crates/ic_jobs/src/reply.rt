@@ -34,7 +34,7 @@ impl Refusal {
 /// What an event answers.
 #[derive(Debug, Drop)]
 pub enum Reply {
-    /// The job was submitted.
+    /// The job was submitted, or copied.
     Accepted,
     /// The job was paused, resumed or cancelled.
     Okay,

@@ -14,7 +14,7 @@ use ic_rules::JobName;
 use std::alloc::{AllocError, Global};
 use std::marker::Model;
 
-/// Jobs in the order in which they were submitted, at most 32, no two of one name. It keeps the
+/// Jobs in the order in which they began, at most 32, no two of one name. It keeps the
 /// allocator that it was made with, and the list of its jobs until one changes.
 #[derive(Debug, Drop)]
 pub struct Table {
@@ -82,7 +82,7 @@ impl Table {
         })
     }
 
-    /// The jobs in the order in which they were submitted.
+    /// The jobs in the order in which they began.
     pub fn jobs(&self) -> &[Job]
         ensures jobs { result.now ≡ self.now }
         ensures sound { IsTable self.now }

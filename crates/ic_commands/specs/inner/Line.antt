@@ -43,14 +43,15 @@ is_nothing (Some (t ∷ ts)) = false
 -- the first word of a line
 abbrev pub opening_text : Opening → List ℕ
 opening_text opening.Submit = codes "submit"
+opening_text opening.Copy = codes "copy"
 opening_text (opening.About verb) = verb_text verb
 opening_text opening.List = codes "list"
 opening_text opening.Run = codes "run"
 
 -- all that a line may begin with
 abbrev pub openings : List Opening
-openings = opening.Submit ∷ opening.About Pause ∷ opening.About Resume ∷ opening.About Cancel
-    ∷ opening.About Fetch ∷ opening.List ∷ opening.Run ∷ []
+openings = opening.Submit ∷ opening.Copy ∷ opening.About Pause ∷ opening.About Resume
+    ∷ opening.About Cancel ∷ opening.About Fetch ∷ opening.List ∷ opening.Run ∷ []
 
 -- what a word asks for
 abbrev pub opening_of : List ℕ → Option Opening

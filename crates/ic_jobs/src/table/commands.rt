@@ -1,11 +1,12 @@
 //! What a command makes of a table.
 
 ghost use Rattle.std.specs.Prelude.{◌≡◌, IfOk, OnErr, IsTrue, Some, Ok};
-ghost use Rattle.ic_jobs.specs.declared.command.Command.TheVariants.{Submit, Pause, Resume, Cancel, Fetch, List as list_jobs};
+ghost use Rattle.ic_jobs.specs.declared.command.Command.TheVariants.{Submit, CopyJob, Pause, Resume, Cancel, Fetch, List as list_jobs};
 ghost use Rattle.ic_jobs.specs.declared.event.Event.TheVariants.{Command as by_command};
 ghost use Rattle.ic_jobs.specs.Events.{apply, after_command, outcome};
 ghost use Rattle.ic_jobs.specs.Memory.{takes_memory};
 ghost use Rattle.ic_jobs.specs.Shown.{listed};
+ghost use Rattle.ic_jobs.specs.inner.Beginnings.{refusal_to_begin};
 
 use super::Table;
 use super::places::place_of;
@@ -30,6 +31,7 @@ impl Table {
     {
         match command {
             Command::Submit(name, system, budget) => self.submit(name, system, budget),
+            Command::CopyJob(old, new) => self.copy_job(old, new),
             Command::Pause(name) => Ok(self.pause(name)),
             Command::Resume(name) => Ok(self.resume(name)),
             Command::Cancel(name) => Ok(self.cancel(name)),
@@ -48,16 +50,43 @@ impl Table {
             outcome self.new reply ≡ after_command self.old (Submit name system budget)) }
         ensures unchanged { OnErr result (self.new ≡ self.old) }
     {
-        if place_of(&self.jobs, name).is_some() {
-            return Ok(Reply::Refused(Refusal::Taken));
-        }
-        if self.jobs.len() >= MAX_JOBS {
-            return Ok(Reply::Refused(Refusal::Full));
+        if let Some(refusal) = self.refuses(name) {
+            return Ok(Reply::Refused(refusal));
         }
         let job = Job::begin(*self.jobs.allocator(), name, system, budget)?;
         self.kept_list = None;
         self.jobs.push(job)?;
         Ok(Reply::Accepted)
+    }
+
+    fn copy_job(&mut self, old: JobName, new: JobName) -> Result<Reply, AllocError>
+        ensures event { IfOk result (λ reply.
+            outcome self.new reply ≡ after_command self.old (CopyJob old new)) }
+        ensures unchanged { OnErr result (self.new ≡ self.old) }
+    {
+        let Some(place) = place_of(&self.jobs, old) else {
+            return Ok(Reply::Refused(Refusal::NoJob));
+        };
+        if let Some(refusal) = self.refuses(new) {
+            return Ok(Reply::Refused(refusal));
+        }
+        let job = self.jobs[place].branch(new)?;
+        self.kept_list = None;
+        self.jobs.push(job)?;
+        Ok(Reply::Accepted)
+    }
+
+    /// Why no job of this name can begin, where that is so.
+    fn refuses(&self, name: JobName) -> Option<Refusal>
+        ensures { result ≡ refusal_to_begin name self.now }
+    {
+        if place_of(&self.jobs, name).is_some() {
+            return Some(Refusal::Taken);
+        }
+        if self.jobs.len() >= MAX_JOBS {
+            return Some(Refusal::Full);
+        }
+        None
     }
 
     fn pause(&mut self, name: JobName) -> Reply
