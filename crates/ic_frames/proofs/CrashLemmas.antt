@@ -13,7 +13,7 @@ use Rattle.ic_frames.proofs.FieldLemmas.{SameAt, part_of, number-same, size-same
 use Rattle.ic_frames.proofs.HeldLemmas.{stands_holds}
 
 -- how far each slot may reach before the other
-pub apart : (slot : Slot) → (place slot + 13 + 4194291 ≤ place (other slot)) ⊎ (place (other slot) + 13 + 4194291 ≤ place slot)
+pub apart : (slot : Slot) → (place slot + 13 + 3036677 ≤ place (other slot)) ⊎ (place (other slot) + 13 + 3036677 ≤ place slot)
 apart First = inl (omega arith)
 apart Second = inr (omega arith)
 
@@ -57,7 +57,7 @@ slot_stays at from a c low whole same =
     )
 
 -- The newest slot stays as it is whatever becomes of a write beside it.
-module _ (slot : Slot) (r m : ℕ) (a c : List ℕ) (torn : Torn r m a c) (from : place (other slot) ≤ r) (until : r + m ≤ place (other slot) + 13 + 4194291) where
+module _ (slot : Slot) (r m : ℕ) (a c : List ℕ) (torn : Torn r m a c) (from : place (other slot) ≤ r) (until : r + m ≤ place (other slot) + 13 + 3036677) where
   pub newest_untouched : is_whole (place slot) a ≡ true → SameAt (place slot) (13 + size (place slot) a) a c
   newest_untouched whole =
       let parts = whole_parts (place slot) a whole in
@@ -100,7 +100,7 @@ gate_torn slot n kept a c stands made torn =
     (λ is. absurd (false≢true is)) (λ is. omega (arith, stands.older refl, number-same at a c same))
 
 -- A write behind a closed gate leaves the gate closed.
-pub body_torn : (slot : Slot) (n m : ℕ) (kept a c : List ℕ) → Stands slot n true kept a → IsMade a → m ≤ 12 + 4194291 → Torn (place (other slot) + 1) m a c → Stands slot n true kept c
+pub body_torn : (slot : Slot) (n m : ℕ) (kept a c : List ℕ) → Stands slot n true kept a → IsMade a → m ≤ 12 + 3036677 → Torn (place (other slot) + 1) m a c → Stands slot n true kept c
 body_torn slot n m kept a c stands made short torn =
     let at = place (other slot) in
     let same = untouched (at + 1) m at 1 a c torn (omega (arith, head_made (other slot) a made)) (inl (omega arith)) in

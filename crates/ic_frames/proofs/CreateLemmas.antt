@@ -16,7 +16,7 @@ use Rattle.ic_frames.proofs.CrashLemmas.{staged_torn}
 use Rattle.ic_frames.proofs.FrameLemmas.{number-framed, whole-framed, body-framed}
 use Rattle.ic_frames.proofs.KeepLemmas.{laid_byte, zero_is_one, of_only}
 
-module _ (held frame zeros file : List ℕ) (is : IsFrame 1 held frame) (short : length held ≤ 4194291) (long : length zeros ≡ 13) (zero_first : get_or zeros 0 0 ≡ 0) where
+module _ (held frame zeros file : List ℕ) (is : IsFrame 1 held frame) (short : length held ≤ 3036677) (long : length zeros ≡ 13) (zero_first : get_or zeros 0 0 ≡ 0) where
   -- the gate of the second slot
   second_gate : get_or (laid 4194304 zeros file) 4194304 0 ≡ 0
   second_gate = laid-inside 4194304 zeros file 4194304 (omega arith) (omega (arith, long)) ∙ zero_first

@@ -78,7 +78,7 @@ open-same at a b within within_new same =
     ∙ ap (λ (g : ℕ). nat_le (at + 13) (length a) && (g == 1)) same
 
 pub record Whole (at : ℕ) (file : List ℕ) : Type 0 where
-  pub bounded : size at file ≤ 4194291
+  pub bounded : size at file ≤ 3036677
   pub within : at + 13 + size at file ≤ length file
 
 pub whole_parts : (at : ℕ) (file : List ℕ) → is_whole at file ≡ true → Whole at file
@@ -87,11 +87,11 @@ whole_parts at file is =
     let both = and_parts _ _ is in
     record { bounded = leb-true _ _ both.0; within = leb-true _ _ both.1 }
 
-pub whole_from : (at : ℕ) (file : List ℕ) → size at file ≤ 4194291 → at + 13 + size at file ≤ length file → is_whole at file ≡ true
+pub whole_from : (at : ℕ) (file : List ℕ) → size at file ≤ 3036677 → at + 13 + size at file ≤ length file → is_whole at file ≡ true
 unfolding is_whole
 whole_from at file bounded within = and_from _ _ (le-leb _ _ bounded) (le-leb _ _ within)
 
-pub spoiled_from : (at : ℕ) (file : List ℕ) → (4194291 < size at file) ⊎ (length file < at + 13 + size at file) → is_whole at file ≡ false
+pub spoiled_from : (at : ℕ) (file : List ℕ) → (3036677 < size at file) ⊎ (length file < at + 13 + size at file) → is_whole at file ≡ false
 unfolding is_whole
 spoiled_from at file why = ⊎_elim (λ long. and_left _ _ (lt-leb _ _ long)) (λ cut. and_right _ _ (lt-leb _ _ cut)) why
 

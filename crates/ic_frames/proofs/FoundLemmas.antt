@@ -49,7 +49,7 @@ found_kept found file image is only =
     }
 
 -- what is found of a disk of whose slots the newest is whole
-pub found_whole : (newest : Newest) (file frame : List ℕ) → IsChosen newest file → (newest.head.size ≤ 4194291) × (place newest.slot + 13 + newest.head.size ≤ length file) → frame ≡ bytes_at (place newest.slot + 13) newest.head.size file
+pub found_whole : (newest : Newest) (file frame : List ℕ) → IsChosen newest file → (newest.head.size ≤ 3036677) × (place newest.slot + 13 + newest.head.size ≤ length file) → frame ≡ bytes_at (place newest.slot + 13) newest.head.size file
     → (is_whole (place newest.slot) file ≡ true) × (body (place newest.slot) file ≡ frame)
 unfolding body
 found_whole newest file frame chosen within read =
@@ -58,7 +58,7 @@ found_whole newest file frame chosen within read =
       ap (λ (m : ℕ). bytes_at (place newest.slot + 13) m file) sizes ∙ sym read,
     )
 
-pub found_spoiled : (newest : Newest) (file : List ℕ) → IsChosen newest file → (4194291 < newest.head.size) ⊎ (length file < place newest.slot + 13 + newest.head.size) → body_held file ≡ damaged
+pub found_spoiled : (newest : Newest) (file : List ℕ) → IsChosen newest file → (3036677 < newest.head.size) ⊎ (length file < place newest.slot + 13 + newest.head.size) → body_held file ≡ damaged
 found_spoiled newest file chosen why =
     let sizes = chosen.head.size_is in
     spoiled_held newest.slot file chosen.is_newest

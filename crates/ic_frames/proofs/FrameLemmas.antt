@@ -21,7 +21,7 @@ shifted_bytes k j n a b within within_new same = ext_get_or 0 (bytes_at j n b) (
     get_or-bytes_at j n i b below ∙ same i below ∙ sym (get_or-bytes_at k n i a below))
 
 -- A frame that is laid from its gate on, or from behind it.
-module _ (skip at n : ℕ) (held frame file : List ℕ) (low : skip ≤ 1) (is : IsFrame n held frame) (short : length held ≤ 4194291) where
+module _ (skip at n : ℕ) (held frame file : List ℕ) (low : skip ≤ 1) (is : IsFrame n held frame) (short : length held ≤ 3036677) where
   pub length-framed : at + 13 + length held ≤ length (laid (at + skip) (drop skip frame) file)
   length-framed = omega (arith, length-laid (at + skip) (drop skip frame) file, length-drop skip frame, is.long)
 
@@ -83,7 +83,7 @@ pub gate_part : (at gate : ℕ) (file : List ℕ) → at < length file → get_o
 gate_part at gate file within gate_is = ap (λ (l : List ℕ). take 1 l) (drop_more file at 0 within) ∙ ap (λ (b : ℕ). b ∷ []) gate_is
 
 -- The head of a frame that is filled in.
-module _ (n : ℕ) (frame xs ys : List ℕ) (fits : n < 2 ^ 64) (head : 13 ≤ length frame) (short : length frame ≤ 13 + 4194291) (is_number : xs ≡ to_be_bytes w64 n) (is_size : ys ≡ to_be_bytes w32 (length frame - 13)) where
+module _ (n : ℕ) (frame xs ys : List ℕ) (fits : n < 2 ^ 64) (head : 13 ≤ length frame) (short : length frame ≤ 13 + 3036677) (is_number : xs ≡ to_be_bytes w64 n) (is_size : ys ≡ to_be_bytes w32 (length frame - 13)) where
   long_number : length xs ≡ 8
   long_number = ap length is_number
 

@@ -95,7 +95,7 @@ module _ (content : List ℕ) (image : List ℕ → Type 0) (newest : Slot) (n :
 
 -- While the body is written behind the closed gate of the other slot, from the gate on where the disk isn't made.
 module _ (content : List ℕ) (image : List ℕ → Type 0) (newest : Slot) (n : ℕ) (staged made : Bool) (now : image content) (is : IsKept content image newest n true staged made) where
-  pub body_leaves : (m : ℕ) (kept : List ℕ) → made ≡ true → m ≤ 12 + 4194291 → Within image (Holds kept) → Within (TornFrom (place (other newest) + 1) m image) (Holds kept)
+  pub body_leaves : (m : ℕ) (kept : List ℕ) → made ≡ true → m ≤ 12 + 3036677 → Within image (Holds kept) → Within (TornFrom (place (other newest) + 1) m image) (Holds kept)
   body_leaves m kept is_made short holds c from =
       let a = from.0 in
       let held = body (place newest) content in
@@ -108,7 +108,7 @@ module _ (content : List ℕ) (image : List ℕ → Type 0) (newest : Slot) (n :
   not_made_leaves kept is_not holds = omega (arith, (is.not_made is_not).0, (holds content now).made)
 
   -- the gate stays closed
-  still_shut : (skip : ℕ) (held frame : List ℕ) → IsFrame (n + 1) held frame → length held ≤ 4194291 → ((made ≡ true) × (skip ≡ 1)) ⊎ ((made ≡ false) × (skip ≡ 0))
+  still_shut : (skip : ℕ) (held frame : List ℕ) → IsFrame (n + 1) held frame → length held ≤ 3036677 → ((made ≡ true) × (skip ≡ 1)) ⊎ ((made ≡ false) × (skip ≡ 0))
       → is_open (place (other newest)) (laid (place (other newest) + skip) (drop skip frame) content) ≡ false
   still_shut skip held frame is_frame short which = ⊎_elim
       (λ full.
@@ -124,7 +124,7 @@ module _ (content : List ℕ) (image : List ℕ → Type 0) (newest : Slot) (n :
       which
 
   -- what stands once the frame is laid
-  laid_stands : (skip : ℕ) (held frame : List ℕ) → IsFrame (n + 1) held frame → length held ≤ 4194291 → ((made ≡ true) × (skip ≡ 1)) ⊎ ((made ≡ false) × (skip ≡ 0))
+  laid_stands : (skip : ℕ) (held frame : List ℕ) → IsFrame (n + 1) held frame → length held ≤ 3036677 → ((made ≡ true) × (skip ≡ 1)) ⊎ ((made ≡ false) × (skip ≡ 0))
       → Stands newest n true (body (place newest) content) (laid (place (other newest) + skip) (drop skip frame) content)
       × IsStaged (other newest) (n + 1) held (laid (place (other newest) + skip) (drop skip frame) content)
   laid_stands skip held frame is_frame short which =
@@ -133,7 +133,7 @@ module _ (content : List ℕ) (image : List ℕ → Type 0) (newest : Slot) (n :
       let c = laid (at + skip) bytes content in
       let low : skip ≤ 1 = ⊎_elim (λ full. omega (arith, full.1)) (λ cut. omega (arith, cut.1)) which in
       let torn : Torn (at + skip) (length bytes) content c = torn_laid (at + skip) bytes content in
-      let until : at + skip + length bytes ≤ at + 13 + 4194291 = omega (arith, length-drop skip frame, is_frame.long, short, low) in (
+      let until : at + skip + length bytes ≤ at + 13 + 3036677 = omega (arith, length-drop skip frame, is_frame.long, short, low) in (
         still_stands newest (at + skip) (length bytes) content c torn (omega arith) until n true true (body (place newest) content) (is.stands content now)
             (λ _. still_shut skip held frame is_frame short which) (λ e. absurd (true≢false e)),
         record {
@@ -143,7 +143,7 @@ module _ (content : List ℕ) (image : List ℕ → Type 0) (newest : Slot) (n :
         },
       )
 
-  pub body_kept : (skip : ℕ) (held frame : List ℕ) (new_image : List ℕ → Type 0) → IsFrame (n + 1) held frame → length held ≤ 4194291 → ((made ≡ true) × (skip ≡ 1)) ⊎ ((made ≡ false) × (skip ≡ 0))
+  pub body_kept : (skip : ℕ) (held frame : List ℕ) (new_image : List ℕ → Type 0) → IsFrame (n + 1) held frame → length held ≤ 3036677 → ((made ≡ true) × (skip ≡ 1)) ⊎ ((made ≡ false) × (skip ≡ 0))
       → Only (laid (place (other newest) + skip) (drop skip frame) content) new_image
       → IsKept (laid (place (other newest) + skip) (drop skip frame) content) new_image newest n true true true × Within new_image (IsStaged (other newest) (n + 1) held)
   body_kept skip held frame new_image is_frame short which only =
@@ -154,7 +154,7 @@ module _ (content : List ℕ) (image : List ℕ → Type 0) (newest : Slot) (n :
       )
 
   -- once the frame is laid each image holds what the disk had, made or not
-  pub body_holds : (skip : ℕ) (held frame kept : List ℕ) (new_image : List ℕ → Type 0) → IsFrame (n + 1) held frame → length held ≤ 4194291 → ((made ≡ true) × (skip ≡ 1)) ⊎ ((made ≡ false) × (skip ≡ 0))
+  pub body_holds : (skip : ℕ) (held frame kept : List ℕ) (new_image : List ℕ → Type 0) → IsFrame (n + 1) held frame → length held ≤ 3036677 → ((made ≡ true) × (skip ≡ 1)) ⊎ ((made ≡ false) × (skip ≡ 0))
       → HasBody kept content → Only (laid (place (other newest) + skip) (drop skip frame) content) new_image → Within new_image (Holds kept)
   body_holds skip held frame kept new_image is_frame short which has only =
       let c = laid (place (other newest) + skip) (drop skip frame) content in

@@ -17,7 +17,7 @@ length-slot_bytes : (n : ℕ) (held : List ℕ) → length (slot_bytes n held) �
 length-slot_bytes n held = omega arith
 
 -- where these bytes stand in a file
-module _ (at n : ℕ) (held file : List ℕ) (fits : n < 2 ^ 64) (short : length held ≤ 4194291) (is : bytes_at at (13 + length held) file ≡ slot_bytes n held) where
+module _ (at n : ℕ) (held file : List ℕ) (fits : n < 2 ^ 64) (short : length held ≤ 3036677) (is : bytes_at at (13 + length held) file ≡ slot_bytes n held) where
   within : at + (13 + length held) ≤ length file
   within = omega (arith, ap length is ∙ length-slot_bytes n held, length-take (13 + length held) (drop at file), length-drop at file)
 
@@ -53,7 +53,7 @@ module _ (at n : ℕ) (held file : List ℕ) (fits : n < 2 ^ 64) (short : length
       ∙ take_all (length held) held (omega arith)
 
 -- These bytes are a slot that is open and whole, with this number and this body.
-pub written_slot : (slot : Slot) (n : ℕ) (held file : List ℕ) → n < 2 ^ 64 → length held ≤ 4194291 → bytes_at (place slot) (13 + length held) file ≡ slot_bytes n held
+pub written_slot : (slot : Slot) (n : ℕ) (held file : List ℕ) → n < 2 ^ 64 → length held ≤ 3036677 → bytes_at (place slot) (13 + length held) file ≡ slot_bytes n held
     → (is_open (place slot) file ≡ true) × IsStaged slot n held file
 written_slot slot n held file fits short is = (
   written_open (place slot) n held file fits short is,
@@ -116,7 +116,7 @@ slot_written slot n held file bytes opened is =
 pub open_is : (at : ℕ) (file : List ℕ) → (is_open at file ≡ true) ↔ ((at + 13 ≤ length file) × (get_or file at 0 ≡ 1))
 open_is at file = (λ opened. ((open_parts at file opened).within, (open_parts at file opened).gate_is), λ both. open_from at file both.0 both.1)
 
-pub whole_is : (at : ℕ) (file : List ℕ) → (is_whole at file ≡ true) ↔ ((size at file ≤ 4194291) × (at + 13 + size at file ≤ length file))
+pub whole_is : (at : ℕ) (file : List ℕ) → (is_whole at file ≡ true) ↔ ((size at file ≤ 3036677) × (at + 13 + size at file ≤ length file))
 whole_is at file = (λ whole. ((whole_parts at file whole).bounded, (whole_parts at file whole).within), λ both. whole_from at file both.0 both.1)
 
 -- a whole body is as long as its slot says

@@ -37,7 +37,7 @@ module _ {D : Type 0} (content : D → List ℕ) (image : D → List ℕ → Typ
       let holds = gate_run closed staged made is opened run kept (λ c here. record { made = is.all_made made_now c here; held = has c here }) in
       (holds.each file (law file run.later there)).held
 
-  pub body_run : (closed staged made : Bool) (skip : ℕ) (frame : List ℕ) → IsKept (content old) (image old) newest n closed staged made → closed ≡ true → length frame ≤ 13 + 4194291 → ((made ≡ true) × (skip ≡ 1)) ⊎ ((made ≡ false) × (skip ≡ 0))
+  pub body_run : (closed staged made : Bool) (skip : ℕ) (frame : List ℕ) → IsKept (content old) (image old) newest n closed staged made → closed ≡ true → length frame ≤ 13 + 3036677 → ((made ≡ true) × (skip ≡ 1)) ⊎ ((made ≡ false) × (skip ≡ 0))
       → LeavesOnly clock left old new (TornFrom (place slot + skip) (length frame - skip) (image old)) → (kept : List ℕ) → Within (image old) (Holds kept) → LeavesOnly clock left old new (Holds kept)
   body_run closed staged made skip frame is shut short which run kept holds =
       let kept_true = subst (λ (b : Bool). IsKept (content old) (image old) newest n b staged made) shut is in
@@ -49,7 +49,7 @@ module _ {D : Type 0} (content : D → List ℕ) (image : D → List ℕ → Typ
       (λ cut. absurd (not_made_leaves (content old) (image old) newest n staged made now kept_true kept cut.0 holds))
       which
 
-  pub body_end : (closed staged made : Bool) (skip : ℕ) (held frame : List ℕ) → IsKept (content old) (image old) newest n closed staged made → closed ≡ true → IsFrame (n + 1) held frame → length held ≤ 4194291 → ((made ≡ true) × (skip ≡ 1)) ⊎ ((made ≡ false) × (skip ≡ 0))
+  pub body_end : (closed staged made : Bool) (skip : ℕ) (held frame : List ℕ) → IsKept (content old) (image old) newest n closed staged made → closed ≡ true → IsFrame (n + 1) held frame → length held ≤ 3036677 → ((made ≡ true) × (skip ≡ 1)) ⊎ ((made ≡ false) × (skip ≡ 0))
       → content new ≡ laid (place slot + skip) (drop skip frame) (content old) → Only (laid (place slot + skip) (drop skip frame) (content old)) (image new)
       → IsKept (content new) (image new) newest n closed true true × Within (image new) (IsStaged (other newest) (n + 1) held)
   body_end closed staged made skip held frame is shut is_frame short which written only =
@@ -61,7 +61,7 @@ module _ {D : Type 0} (content : D → List ℕ) (image : D → List ℕ → Typ
       )
 
   -- Writing the body leaves an image that isn't made, or each image holds the body that it had.
-  pub body_if_made : (closed staged made : Bool) (skip : ℕ) (held frame : List ℕ) → IsKept (content old) (image old) newest n closed staged made → closed ≡ true → IsFrame (n + 1) held frame → length held ≤ 4194291 → ((made ≡ true) × (skip ≡ 1)) ⊎ ((made ≡ false) × (skip ≡ 0))
+  pub body_if_made : (closed staged made : Bool) (skip : ℕ) (held frame : List ℕ) → IsKept (content old) (image old) newest n closed staged made → closed ≡ true → IsFrame (n + 1) held frame → length held ≤ 3036677 → ((made ≡ true) × (skip ≡ 1)) ⊎ ((made ≡ false) × (skip ≡ 0))
       → LeavesOnly clock left old new (TornFrom (place slot + skip) (length frame - skip) (image old)) → ((file : List ℕ) → clock old ≤ clock new → image new file → LeftSince (left new) (clock old) file)
       → Within (image old) (image new) ⊎ Only (laid (place slot + skip) (drop skip frame) (content old)) (image new)
       → (kept : List ℕ) → Within (image old) (HasBody kept) → Within (image new) IsMade → Within (image new) (Holds kept)

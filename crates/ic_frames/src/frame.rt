@@ -6,8 +6,8 @@ ghost use Rattle.ic_frames.specs.inner.Standing.{IsFrame};
 /// How many bytes the head of a frame has: its gate, its number and the length of its body.
 pub const HEAD: usize = 13;
 
-/// The length of the longest body, in bytes: with its head it fills the room before the second slot.
-pub const MAX_BODY: usize = 4_194_291;
+/// The length of the longest body, in bytes: that of the longest table.
+pub const MAX_BODY: usize = 3_036_677;
 
 // Writes the head of a frame: a closed gate, this number and the length of the body behind it.
 pub(crate) fn fill_head(frame: &mut [u8], number: u64)

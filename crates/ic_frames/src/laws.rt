@@ -118,11 +118,11 @@ pub fn one_body_is_kept<D: Disk>(frames: &Frames<D>)
     let _ = frames;
 }
 
-/// The places and limits by their names. A head and the longest body fill the room of a slot.
+/// The places and limits by their names. A head and the longest body fit in the room of a slot.
 pub fn limits_are()
     ensures head { HEAD ≡ 13 }
-    ensures body { MAX_BODY ≡ 4194291 }
-    ensures room { place First + HEAD + MAX_BODY ≡ place Second }
+    ensures body { MAX_BODY ≡ 3036677 }
+    ensures room { place First + HEAD + MAX_BODY ≤ place Second }
     ensures first { place First ≡ 0 }
     ensures second { SECOND_AT ≡ place Second }
     ensures second_at { SECOND_AT ≡ 4194304 }

@@ -18,7 +18,7 @@ returns-clause-holds g c keeps =
     let frame = c.fill_head.new.frame in
     let file = disk.content c.args.disk.now in
     let keeps_once = c.write_synced.ensures.keeps ∙ keeps in
-    let short : length body ≤ 4194291 = omega (arith, c.requires.short, length-drop 13 c.args.frame.now) in
+    let short : length body ≤ 3036677 = omega (arith, c.requires.short, length-drop 13 c.args.frame.now) in
     on_created c.write_gate.result (Holds body) (laid 0 frame (laid 4194304 (replicate 13 0) file)) (disk.content c.write_frame.new.disk) (disk.image c.write_gate.new.disk)
     (c.in_ok-write_frame.ensures.written keeps_once ∙ ap (λ (f : List ℕ). laid 0 frame f) (c.in_ok-write_synced.ensures.written keeps))
     (created_holds body frame (replicate 13 0) file c.fill_head.ensures short refl refl)
@@ -40,7 +40,7 @@ returns-clause-first g c keeps =
     let frame = c.fill_head.new.frame in
     let file = disk.content c.args.disk.now in
     let keeps_once = c.write_synced.ensures.keeps ∙ keeps in
-    let short : length body ≤ 4194291 = omega (arith, c.requires.short, length-drop 13 c.args.frame.now) in
+    let short : length body ≤ 3036677 = omega (arith, c.requires.short, length-drop 13 c.args.frame.now) in
     on_created c.write_gate.result (IsStaged First 1 body) (laid 0 frame (laid 4194304 (replicate 13 0) file)) (disk.content c.write_frame.new.disk) (disk.image c.write_gate.new.disk)
     (c.in_ok-write_frame.ensures.written keeps_once ∙ ap (λ (f : List ℕ). laid 0 frame f) (c.in_ok-write_synced.ensures.written keeps))
     (created_first body frame (replicate 13 0) file c.fill_head.ensures short refl refl)
@@ -53,7 +53,7 @@ returns-clause-shut g c keeps =
     let frame = c.fill_head.new.frame in
     let file = disk.content c.args.disk.now in
     let keeps_once = c.write_synced.ensures.keeps ∙ keeps in
-    let short : length body ≤ 4194291 = omega (arith, c.requires.short, length-drop 13 c.args.frame.now) in
+    let short : length body ≤ 3036677 = omega (arith, c.requires.short, length-drop 13 c.args.frame.now) in
     on_created c.write_gate.result (IsClosedIn Second) (laid 0 frame (laid 4194304 (replicate 13 0) file)) (disk.content c.write_frame.new.disk) (disk.image c.write_gate.new.disk)
     (c.in_ok-write_frame.ensures.written keeps_once ∙ ap (λ (f : List ℕ). laid 0 frame f) (c.in_ok-write_synced.ensures.written keeps))
     (created_shut body frame (replicate 13 0) file c.fill_head.ensures short refl refl)

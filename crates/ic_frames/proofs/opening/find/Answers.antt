@@ -17,7 +17,7 @@ returns-in_err-whole-clause-refused g c keeps =
     let chosen = c.in_ok-newest.ensures.chosen file (c.in_ok-len.ensures.first keeps) (c.in_ok-len.ensures.second keeps) in
     let p = err_from_is_err_and c.from_residual-in_err-whole.result c.from_residual-in_err-whole.ensures.1 in
     let damage = found_spoiled newest file chosen
-    (subst (λ (n : ℕ). (4194291 < newest.head.size) ⊎ (n < place newest.slot + 13 + newest.head.size)) (c.in_ok-len.ensures.length keeps) c.in_err-whole.ensures.err) in
+    (subst (λ (n : ℕ). (3036677 < newest.head.size) ⊎ (n < place newest.slot + 13 + newest.head.size)) (c.in_ok-len.ensures.length keeps) c.in_err-whole.ensures.err) in
     rw (p.1, p.2) (damage_answers c.in_err-whole.field-0.0 (body_held file) c.in_err-whole.ensures.cause damage)
 
 pub returns-clause-found : goal.returns-clause-found

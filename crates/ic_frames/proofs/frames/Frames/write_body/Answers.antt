@@ -10,7 +10,7 @@ invariant_of-self-2 g c = record {
       let disk = g.D.Disk in
       let old = c.args.self.now in
       let keeps = sym c.write_frame.ensures.keeps ∙ keeps_new in
-      let short : length (drop 13 c.args.frame.now) ≤ 4194291 = omega (arith, c.requires.short, length-drop 13 c.args.frame.now) in
+      let short : length (drop 13 c.args.frame.now) ≤ 3036677 = omega (arith, c.requires.short, length-drop 13 c.args.frame.now) in
       (body_end disk.content disk.image disk.clock disk.left old.disk c.write_frame.new.disk (g.met.D.Disk.content_is_image old.disk) old.newest c.other.result old.number c.other.ensures
       old.closed old.staged old.made c.written_from-skip.result (drop 13 c.args.frame.now) c.fill_head.new.frame (old.kept keeps c.in_ok-check_usable.ensures.ok.0) c.requires.closed c.fill_head.ensures short c.written_from-skip.ensures.which
       (c.in_ok-write_frame.ensures.written keeps) (c.in_ok-write_frame.ensures.durable keeps)).0;
@@ -57,13 +57,13 @@ returns-in_err-write_frame-clause-crash g c =
       keeps = c.write_frame.ensures.keeps;
       any_moment = λ kept keeps holds.
           let frame = c.fill_head.new.frame in
-          let short : length frame ≤ 13 + 4194291 = omega (arith, c.requires.short, c.fill_head.auto.frame) in
+          let short : length frame ≤ 13 + 3036677 = omega (arith, c.requires.short, c.fill_head.auto.frame) in
           body_run disk.content disk.image disk.clock disk.left old.disk new (g.met.D.Disk.content_is_image old.disk) old.newest c.other.result old.number c.other.ensures
           old.closed old.staged old.made c.written_from-skip.result frame (old.kept keeps c.in_ok-check_usable.ensures.ok.0) c.requires.closed short c.written_from-skip.ensures.which (c.write_frame.ensures.any_moment keeps) kept holds;
       whole = search rules;
       made = search rules;
       holds_if_made = λ kept keeps has all.
-          let short : length (drop 13 c.args.frame.now) ≤ 4194291 = omega (arith, c.requires.short, length-drop 13 c.args.frame.now) in
+          let short : length (drop 13 c.args.frame.now) ≤ 3036677 = omega (arith, c.requires.short, length-drop 13 c.args.frame.now) in
           body_if_made disk.content disk.image disk.clock disk.left old.disk new (g.met.D.Disk.content_is_image old.disk) old.newest c.other.result old.number c.other.ensures
           old.closed old.staged old.made c.written_from-skip.result (drop 13 c.args.frame.now) c.fill_head.new.frame (old.kept keeps c.in_ok-check_usable.ensures.ok.0) c.requires.closed c.fill_head.ensures short c.written_from-skip.ensures.which
           (c.write_frame.ensures.any_moment keeps) (λ file later there. g.met.D.Disk.image_is_left new (disk.clock old.disk) file later there)
@@ -79,21 +79,21 @@ returns-clause-crash g c =
       keeps = c.write_frame.ensures.keeps;
       any_moment = λ kept keeps holds.
           let frame = c.fill_head.new.frame in
-          let short : length frame ≤ 13 + 4194291 = omega (arith, c.requires.short, c.fill_head.auto.frame) in
+          let short : length frame ≤ 13 + 3036677 = omega (arith, c.requires.short, c.fill_head.auto.frame) in
           body_run disk.content disk.image disk.clock disk.left old.disk new (g.met.D.Disk.content_is_image old.disk) old.newest c.other.result old.number c.other.ensures
           old.closed old.staged old.made c.written_from-skip.result frame (old.kept keeps c.in_ok-check_usable.ensures.ok.0) c.requires.closed short c.written_from-skip.ensures.which (c.write_frame.ensures.any_moment keeps) kept holds;
       whole = λ keeps.
-          let short : length (drop 13 c.args.frame.now) ≤ 4194291 = omega (arith, c.requires.short, length-drop 13 c.args.frame.now) in
+          let short : length (drop 13 c.args.frame.now) ≤ 3036677 = omega (arith, c.requires.short, length-drop 13 c.args.frame.now) in
           (body_end disk.content disk.image disk.clock disk.left old.disk new (g.met.D.Disk.content_is_image old.disk) old.newest c.other.result old.number c.other.ensures
           old.closed old.staged old.made c.written_from-skip.result (drop 13 c.args.frame.now) c.fill_head.new.frame (old.kept keeps c.in_ok-check_usable.ensures.ok.0) c.requires.closed c.fill_head.ensures short c.written_from-skip.ensures.which
           (c.in_ok-write_frame.ensures.written keeps) (c.in_ok-write_frame.ensures.durable keeps)).1;
       made = λ keeps.
-          let short : length (drop 13 c.args.frame.now) ≤ 4194291 = omega (arith, c.requires.short, length-drop 13 c.args.frame.now) in
+          let short : length (drop 13 c.args.frame.now) ≤ 3036677 = omega (arith, c.requires.short, length-drop 13 c.args.frame.now) in
           (body_end disk.content disk.image disk.clock disk.left old.disk new (g.met.D.Disk.content_is_image old.disk) old.newest c.other.result old.number c.other.ensures
           old.closed old.staged old.made c.written_from-skip.result (drop 13 c.args.frame.now) c.fill_head.new.frame (old.kept keeps c.in_ok-check_usable.ensures.ok.0) c.requires.closed c.fill_head.ensures short c.written_from-skip.ensures.which
           (c.in_ok-write_frame.ensures.written keeps) (c.in_ok-write_frame.ensures.durable keeps)).0.all_made refl;
       holds_if_made = λ kept keeps has all.
-          let short : length (drop 13 c.args.frame.now) ≤ 4194291 = omega (arith, c.requires.short, length-drop 13 c.args.frame.now) in
+          let short : length (drop 13 c.args.frame.now) ≤ 3036677 = omega (arith, c.requires.short, length-drop 13 c.args.frame.now) in
           body_if_made disk.content disk.image disk.clock disk.left old.disk new (g.met.D.Disk.content_is_image old.disk) old.newest c.other.result old.number c.other.ensures
           old.closed old.staged old.made c.written_from-skip.result (drop 13 c.args.frame.now) c.fill_head.new.frame (old.kept keeps c.in_ok-check_usable.ensures.ok.0) c.requires.closed c.fill_head.ensures short c.written_from-skip.ensures.which
           (c.write_frame.ensures.any_moment keeps) (λ file later there. g.met.D.Disk.image_is_left new (disk.clock old.disk) file later there)
