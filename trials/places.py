@@ -1,9 +1,12 @@
 """A model of where in a text its refusal stands, and of what is told of it: a fault of syntax is at the first word, mark or other
-byte with which no text can go on, or at the end; a text that is too long is refused behind the last byte that it may have."""
+byte with which no text can go on, or at the end; a text that is too long is refused behind the last byte that it may have; a limit
+of words is passed at the first word that does so, and a symbol has two arities at its first use with another one than before."""
 
 import re
 
 MOST_BYTES = 262_144
+MOST_SYMBOL_BYTES, MOST_ARGUMENTS, MOST_NAME, MOST_SYMBOLS = 32, 15, 2**32 - 1, 64
+MOST_RULES, MOST_RULE_NODES, MOST_TERMS, MOST_NODES = 256, 2048, 64, 8192
 TOKEN = re.compile(rb"[A-Za-z0-9-]+|[^ \t\r\n]")
 NAME = re.compile(rb"[a-z]([1-9][0-9]*)?")
 SYMBOL = re.compile(rb"[A-Z0-9][A-Za-z0-9]*")
@@ -19,6 +22,7 @@ class Reader:
     def __init__(self, text):
         self.tokens = [(it.start(), it.group()) for it in TOKEN.finditer(text)] + [(len(text), b"")]
         self.at = 0
+        self.words, self.rules, self.outer = [], 0, 0
 
     def place(self):
         return self.tokens[self.at][0]
@@ -41,17 +45,21 @@ class Reader:
         return form
 
     def term(self, *forms):
-        """A term of one of these forms. Its depth has no bound, so it is counted."""
-        depth = 0
+        """A term of one of these forms, whose words are kept with their arguments. Its depth has no bound, so it is a list."""
+        self.outer += 1
+        around = []
         while True:
-            if self.word(*forms) is SYMBOL and self.takes(b"("):
-                depth += 1
+            word = [*self.tokens[self.at], self.word(*forms), 0]
+            self.words.append(word)
+            if word[2] is SYMBOL and self.takes(b"("):
+                around.append(word)
             else:
-                while depth and self.takes(b")"):
-                    depth -= 1
-                if not depth:
+                while around and self.takes(b")"):
+                    around.pop()
+                if not around:
                     return
                 self.mark(b",")
+            around[-1][3] += 1
             forms = (NAME, SYMBOL)
 
     def listed(self, item, between, end):
@@ -68,7 +76,9 @@ class Reader:
 
     def configuration(self):
         self.mark(b"<")
+        self.before, self.outer = len(self.words), 0
         self.listed(lambda: self.term(NAME, SYMBOL), b",", b"|")
+        self.terms = self.outer
         self.listed(self.equation, b",", b">")
 
     def rule(self):
@@ -76,6 +86,7 @@ class Reader:
         self.mark(b">")
         self.mark(b"<")
         self.term(SYMBOL)
+        self.rules += 1
 
     def system(self):
         self.mark(b"{")
@@ -83,36 +94,65 @@ class Reader:
         self.configuration()
 
 
-def place_of(text, kind):
-    """Where the text stops being a `configuration` or a `system`; None where it is one."""
+def limit_at(word, symbols):
+    """The sentence of the limit that a word passes behind these symbols, if it passes one."""
+    _, text, form, arguments = word
+    if form is NAME:
+        number = 26 * int(text[1:] or b"0") + text[0] - ord("a")
+        return f"the number of a name is at most {MOST_NAME}" if number > MOST_NAME else None
+    if len(text) > MOST_SYMBOL_BYTES:
+        return f"a symbol has at most {MOST_SYMBOL_BYTES} bytes"
+    if arguments > MOST_ARGUMENTS:
+        return f"a symbol has at most {MOST_ARGUMENTS} arguments"
+    return f"a text has at most {MOST_SYMBOLS} symbols" if len(symbols | {text}) > MOST_SYMBOLS else None
+
+
+def fault_of_words(reader):
+    """The fault of what is written, its place and a sentence; None where it is another one or none."""
+    inner = reader.before - 2 * reader.rules
+    if reader.rules > MOST_RULES or inner > MOST_RULE_NODES or reader.terms > MOST_TERMS:
+        return None
+    if len(reader.words) - reader.before > MOST_NODES:
+        return None
+    symbols, clash = {}, None
+    for word in reader.words:
+        at, text, form, arguments = word
+        passed = limit_at(word, set(symbols))
+        if passed:
+            return "limit", at, passed
+        if form is SYMBOL and symbols.setdefault(text, arguments) != arguments and not clash:
+            first = symbols[text]
+            clash = ("arity", at, f"a symbol has one arity: this one has {arguments} here and {first} where it stands first")
+    return clash
+
+
+def found(text, kind):
+    """What refuses a text as a `configuration` or a `system`: the fault, its place and a sentence, where a place is told."""
     if len(text) > MOST_BYTES:
-        return MOST_BYTES
+        return "limit", MOST_BYTES, f"a text has at most {MOST_BYTES} bytes"
     reader = Reader(text)
     try:
         getattr(reader, kind)()
         reader.mark(b"")
     except NoText:
-        return reader.place()
-    return None
+        at = reader.place()
+        ends = f"the text ends before its {kind} does"
+        return "syntax", at, ends if at == len(text) else f"no {kind} goes on with this"
+    return fault_of_words(reader)
 
 
 def shown(data):
     return bytes(it if 32 < it < 127 else 32 if it in b" \t\r\n" else 63 for it in data)
 
 
-def sentence(text, at, kind):
-    if len(text) > MOST_BYTES:
-        return f"a text has at most {MOST_BYTES} bytes"
-    return f"the text ends before its {kind} does" if at == len(text) else f"no {kind} goes on with this"
-
-
 def told(text, kind):
     """What stands on standard error behind the line of a text's refusal; nothing where its place isn't told. Of a text that is too
     long no more than one byte too many is read."""
     text = text[: MOST_BYTES + 1]
-    at = place_of(text, kind)
-    if at is None:
+    fault = found(text, kind)
+    if fault is None:
         return b""
+    _, at, sentence = fault
     line, column = text[:at].count(b"\n") + 1, text[:at].split(b"\n")[-1]
     behind = re.split(rb"[\r\n]", text[at:])[0]
     before = shown(column) if len(column) <= 60 else b"..." + shown(column[-57:])
@@ -120,4 +160,4 @@ def told(text, kind):
     characters = sum(not 128 <= it < 192 for it in column)
     head = f"line {line}, column {characters + 1}\n".encode()
     mark = b" " * len(before) + b"^"
-    return head + b"    " + before + behind + b"\n    " + mark + b"\n" + sentence(text, at, kind).encode() + b"\n"
+    return head + b"    " + before + behind + b"\n    " + mark + b"\n" + sentence.encode() + b"\n"

@@ -22,7 +22,7 @@ class Places(Trial):
         ran = run(word, given=text)
         self.agrees(ran.command, "what stands behind the first line", places.told(text, WORDS[word]), ran.behind)
         if ran.behind:
-            line = b"icserve: bad limit\n" if len(text) > places.MOST_BYTES else b"icserve: bad syntax\n"
+            line = f"icserve: bad {places.found(text, WORDS[word])[0]}\n".encode()
             self.equals(ran.command, "status and first line", (1, line, b""), (ran.status, ran.err, ran.out))
         else:
             self.equals(ran.command, "a fault of syntax", False, ran.err == b"icserve: bad syntax\n")
@@ -56,6 +56,16 @@ class Places(Trial):
         for word in WORDS:
             self.tells(word, b"submit two {} <|>\n")
             self.tells(word, b"# a comment\n<|>")
+
+    def test_limits_of_words_and_arities(self):
+        symbols = [f"S{it}" for it in range(65)]
+        for faulty in ("A" * 33, "B" + "(" + ",".join("C" * 16) + ")", "v165191050", "z9999999999", ",".join(symbols)):
+            for text in (f"<r, {faulty}|>", f"<r|r={faulty}>", f"<|A=A(x),\n\t{faulty}=r>", f"<\xe9|{faulty}=r>"):
+                self.tells("settle", text.encode())
+                self.tells("once", f"{{A><{faulty.split(',')[0]}}}".encode() + text.encode())
+        for text in ("<|A=A(x)>", "<|A(x,y)=\r\nA(A(x),y)>", "<A|A(x)=A(y,z)>"):
+            self.tells("settle", text.encode())
+            self.tells("once", b"{A><A(B)}" + text.encode())
 
     def test_texts_of_the_greatest_length(self):
         for word in WORDS:

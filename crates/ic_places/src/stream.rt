@@ -7,6 +7,7 @@ ghost use Rattle.ic_round.specs.Rounds.{round, unless_unfit};
 ghost use Rattle.ic_round.specs.RoundAnswers.{Answers};
 ghost use Rattle.ic_text.specs.Source.{IsPhrase, phrase_words};
 ghost use Rattle.ic_text.specs.SystemSource.{IsSystemPhrase, system_words};
+ghost use Rattle.ic_text.specs.Words.{phrase_prefix, system_prefix};
 ghost use Rattle.ic_streams.specs.Streams.{OfText, IsAnswered, FaultOf, Rounds, Settles, TakesAt, TakesText};
 ghost use Rattle.ic_places.specs.Telling.{Appended, AppendedAt, told_lines};
 ghost use Rattle.ic_streams.specs.Faults.{fault_of_text};
@@ -37,8 +38,9 @@ pub fn settle_telling<R: Read, W: Write>(
     ensures taken { OnOk result (TakesText (R.remaining reader.old) (R.remaining reader.new)) }
     ensures taken_at_fault { IfErr result
         (λ fault. TakesAt fault (R.remaining reader.old) (R.remaining reader.new)) }
-    ensures told { IfErr result (λ fault. Appended IsPhrase phrase_words Kind.Config
-        (R.remaining reader.old) (R.remaining reader.new) fault told.old.items told.new.items) }
+    ensures told { IfErr result (λ fault. Appended IsPhrase phrase_words phrase_prefix
+        Kind.Config (R.remaining reader.old) (R.remaining reader.new) fault
+        told.old.items told.new.items) }
     ensures quiet { OnOk result (told.new.items ≡ told.old.items) }
 {
     let text = read_text(alloc, reader)?;
@@ -62,8 +64,9 @@ pub fn once_telling<R: Read, W: Write>(
     ensures taken { OnOk result (TakesText (R.remaining reader.old) (R.remaining reader.new)) }
     ensures taken_at_fault { IfErr result
         (λ fault. TakesAt fault (R.remaining reader.old) (R.remaining reader.new)) }
-    ensures told { IfErr result (λ fault. Appended IsSystemPhrase system_words Kind.System
-        (R.remaining reader.old) (R.remaining reader.new) fault told.old.items told.new.items) }
+    ensures told { IfErr result (λ fault. Appended IsSystemPhrase system_words system_prefix
+        Kind.System (R.remaining reader.old) (R.remaining reader.new) fault
+        told.old.items told.new.items) }
     ensures quiet { OnOk result (told.new.items ≡ told.old.items) }
 {
     let text = read_text(alloc, reader)?;
@@ -82,7 +85,7 @@ fn refused(
     requires { IfSome misread.place (λ at. at ≤ length text.now) }
     ensures fault { (result ≡ StreamFault.Memory) ⊎ (result ≡ fault_of_text misread.fault) }
     ensures told { result ≢ StreamFault.Memory → told.new.items
-        ≡ told.old.items ++ told_lines kind text.now misread.fault misread.place }
+        ≡ told.old.items ++ told_lines kind text.now misread.place misread.detail }
 {
     match told_lines(alloc, kind, text, misread) {
         Ok(lines) => match told.extend_from_slice(&lines) {
@@ -97,8 +100,8 @@ fn refused(
 fn settled_line(alloc: Global, text: &[u8], told: &mut Vec<u8>) -> Result<Vec<u8>, StreamFault>
     ensures line { IfOk result (λ line. Settles text.now (Ok line.items)) }
     ensures refused { IfErr result (λ fault. FaultOf Settles text.now fault) }
-    ensures told { IfErr result (λ fault. AppendedAt IsPhrase phrase_words Kind.Config text.now fault
-        told.old.items told.new.items) }
+    ensures told { IfErr result (λ fault. AppendedAt IsPhrase phrase_words phrase_prefix
+        Kind.Config text.now fault told.old.items told.new.items) }
     ensures quiet { OnOk result (told.new.items ≡ told.old.items) }
     ensures sort { IfErr result
         (λ fault. (fault ≢ StreamFault.Write) × (fault ≢ StreamFault.Read)) }
@@ -115,8 +118,8 @@ fn settled_line(alloc: Global, text: &[u8], told: &mut Vec<u8>) -> Result<Vec<u8
 fn once_line(alloc: Global, text: &[u8], told: &mut Vec<u8>) -> Result<Vec<u8>, StreamFault>
     ensures line { IfOk result (λ line. Rounds text.now (Ok line.items)) }
     ensures refused { IfErr result (λ fault. FaultOf Rounds text.now fault) }
-    ensures told { IfErr result (λ fault. AppendedAt IsSystemPhrase system_words Kind.System text.now
-        fault told.old.items told.new.items) }
+    ensures told { IfErr result (λ fault. AppendedAt IsSystemPhrase system_words system_prefix
+        Kind.System text.now fault told.old.items told.new.items) }
     ensures quiet { OnOk result (told.new.items ≡ told.old.items) }
     ensures sort { IfErr result
         (λ fault. (fault ≢ StreamFault.Write) × (fault ≢ StreamFault.Read)) }

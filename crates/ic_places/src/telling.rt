@@ -1,10 +1,10 @@
 //! What is told of a refused text beside its refusal.
 
 ghost use Rattle.std.specs.Prelude.{◌≡◌, ◌≤◌, IfOk, IfSome, length};
-ghost use Rattle.ic_places.specs.Telling.{sentence, syntax_sentence, told_lines};
+ghost use Rattle.ic_places.specs.Telling.{arity_sentence, limit_sentence, sentence, syntax_sentence, told_lines};
 
 use crate::lines::place_lines;
-use ic_text::{Misread, TextFault};
+use ic_text::{Detail, Limit, Misread};
 use std::alloc::{AllocError, Global};
 
 /// What a text was to be.
@@ -26,14 +26,43 @@ fn syntax_sentence(kind: Kind, at_end: bool) -> &'static [u8]
     }
 }
 
-/// What is amiss at the place of a fault.
-fn sentence(kind: Kind, fault: TextFault, at_end: bool) -> &'static [u8]
-    ensures { result.now ≡ sentence kind fault at_end }
+/// What is amiss where a limit is passed.
+fn limit_sentence(limit: Limit) -> &'static [u8]
+    ensures { result.now ≡ limit_sentence limit }
 {
-    match fault {
-        TextFault::Syntax => syntax_sentence(kind, at_end),
-        TextFault::Limit => b"a text has at most 262144 bytes",
-        _ => b"the fault is here",
+    match limit {
+        Limit::TextBytes => b"a text has at most 262144 bytes",
+        Limit::SymbolBytes => b"a symbol has at most 32 bytes",
+        Limit::Arguments => b"a symbol has at most 15 arguments",
+        Limit::NameNumber => b"the number of a name is at most 4294967295",
+        Limit::Symbols => b"a text has at most 64 symbols",
+    }
+}
+
+/// What is amiss where a symbol has another arity than at its first use.
+fn arity_sentence(alloc: Global, before: usize, here: usize) -> Result<Vec<u8>, AllocError>
+    ensures { IfOk result (λ sentence. sentence.items ≡ arity_sentence before here) }
+{
+    let text = format!(
+        in alloc;
+        "a symbol has one arity: this one has {here} here and {before} where it stands first"
+    )?;
+    Vec::from_slice(alloc, text.as_bytes())
+}
+
+/// What is amiss at the place of a refusal.
+fn sentence(
+    alloc: Global,
+    kind: Kind,
+    detail: Detail,
+    at_end: bool,
+) -> Result<Vec<u8>, AllocError>
+    ensures { IfOk result (λ text. text.items ≡ sentence kind detail at_end) }
+{
+    match detail {
+        Detail::Nothing => Vec::from_slice(alloc, syntax_sentence(kind, at_end)),
+        Detail::Passed(limit) => Vec::from_slice(alloc, limit_sentence(limit)),
+        Detail::Arities(before, here) => arity_sentence(alloc, before, here),
     }
 }
 
@@ -46,12 +75,12 @@ pub fn told_lines(
 ) -> Result<Vec<u8>, AllocError>
     requires { IfSome misread.place (λ at. at ≤ length text.now) }
     ensures { IfOk result
-        (λ lines. lines.items ≡ told_lines kind text.now misread.fault misread.place) }
+        (λ lines. lines.items ≡ told_lines kind text.now misread.place misread.detail) }
 {
     match misread.place {
         Some(at) => {
-            let sentence = sentence(kind, misread.fault, at == text.len());
-            place_lines(alloc, text, at, sentence)
+            let sentence = sentence(alloc, kind, misread.detail, at == text.len())?;
+            place_lines(alloc, text, at, &sentence)
         }
         None => Ok(Vec::new(alloc)),
     }

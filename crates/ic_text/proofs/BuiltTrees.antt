@@ -7,7 +7,7 @@ use Rattle.ic_term.specs.Tree.{Tree, name, agent, Trees, no_trees, more_trees, l
 use Rattle.ic_term.specs.Configuration.{configured}
 use Rattle.ic_text.specs.Source.{Source, leaf, node, Sources, no_sources, more_sources, Sides, Phrase, IsSource, AreSources, IsPhrase, count_of}
 use Rattle.ic_text.specs.Sense.{number_in_table, numbered_tree, numbered_trees, numbered_pair, numbered_phrase}
-use Rattle.ic_text.specs.inner.Prefix.{prefix, prefix_of_sources, phrase_prefix}
+use Rattle.ic_text.specs.Words.{prefix, prefix_of_sources, phrase_prefix}
 use Rattle.ic_text.specs.inner.Numbered.{item_in}
 use Rattle.ic_text.specs.inner.Built.{with_item, built_before, pairs_of, configuration_from}
 use Rattle.ic_text.specs.lemmas.NameLemmas.{is_name-name_text, name_number-name_text, isnt_name-symbol}

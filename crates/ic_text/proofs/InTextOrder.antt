@@ -11,12 +11,12 @@ use Rattle.ic_text.specs.Source.{Source, leaf, node, Sources, no_sources, more_s
 use Rattle.ic_text.specs.SystemSource.{RulePhrase, SystemPhrase, IsSystemPhrase, agent_source, rule_words, rules_words, system_words, rule_symbols, system_symbols}
 use Rattle.ic_text.specs.Sense.{symbols_after}
 use Rattle.ic_text.specs.SystemSense.{system_table}
-use Rattle.ic_text.specs.inner.Prefix.{prefix, prefix_of_sources, phrase_prefix, rules_prefix}
-use Rattle.ic_text.proofs.PrefixWords.{symbols_among, names_among, symbols_among-phrase, names_among-phrase}
+use Rattle.ic_text.specs.Words.{prefix, prefix_of_sources, phrase_prefix, rules_prefix, symbols_among, names_among}
+use Rattle.ic_text.proofs.PrefixWords.{symbols_among-phrase, names_among-phrase}
 use Rattle.ic_text.proofs.JoinedPhrase.{joined_phrase, prefix-joined, symbols-joined, is-joined}
 use Rattle.ic_text.proofs.SymbolOrder.{symbols_after-append}
 
-words_among-append : (ts us : List Token) → words_among (ts ++ us) ≡ words_among ts ++ words_among us
+pub words_among-append : (ts us : List Token) → words_among (ts ++ us) ≡ words_among ts ++ words_among us
 words_among-append [] us = refl
 words_among-append (word w ∷ ts) us = ap (λ l. w ∷ l) (words_among-append ts us)
 words_among-append (mark m ∷ ts) us = words_among-append ts us

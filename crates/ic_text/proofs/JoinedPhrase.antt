@@ -7,7 +7,7 @@ use Rattle.std.proofs.lemmas.List.Sums.{sum_by-cons}
 use Rattle.std.proofs.Common.{length-append}
 use Rattle.ic_text.specs.Source.{Source, Phrase, IsSource, IsPhrase, source_symbols, source_names, phrase_symbols, phrase_names}
 use Rattle.ic_text.specs.SystemSource.{RulePhrase, SystemPhrase, IsRulePhrase, IsSystemPhrase, agent_source, system_symbols, system_names, rule_nodes}
-use Rattle.ic_text.specs.inner.Prefix.{prefix, phrase_prefix, rules_prefix}
+use Rattle.ic_text.specs.Words.{prefix, phrase_prefix, rules_prefix}
 use Rattle.ic_text.proofs.PrefixWords.{length-prefix}
 
 -- the sides of rules, one behind the other

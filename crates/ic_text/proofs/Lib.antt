@@ -32,3 +32,7 @@ pub mod Surveying
 pub mod Going
 pub mod Placing
 pub mod PlaceLaws
+pub mod Blaming
+pub mod WordPlaces
+pub mod Refusing
+pub mod FirstWords

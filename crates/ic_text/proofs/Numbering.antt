@@ -17,17 +17,17 @@ use Rattle.ic_text.specs.Name.{is_name, name_number}
 use Rattle.ic_text.specs.inner.Numbered.{item_found, table_with, table_over, is_word_in_limits, is_word_over, item_in, unless_refused, numbered_words}
 use Rattle.ic_text.proofs.TableLemmas.{slice_get-append, slice_get-next, number_of_text-append, number_of_text-next, number_of_text-lt}
 
-abbrev Numbering : Type 0
+abbrev pub Numbering : Type 0
 Numbering = Result (List Symbol × List Item) TextFault
 
 -- goes on with an item, or with a clash noted, or refuses
-abbrev go_on : Result Item SymbolFault → (Item → Numbering) → Numbering → Numbering
+abbrev pub go_on : Result Item SymbolFault → (Item → Numbering) → Numbering → Numbering
 go_on (Ok item) next clashed = next item
 go_on (Err OverLimit) next clashed = Err Limit
 go_on (Err (OtherArity n)) next clashed = clashed
 go_on (Err NoMemory) next clashed = Err Memory
 
-abbrev finish : List Symbol → Bool → List Item → Numbering
+abbrev pub finish : List Symbol → Bool → List Item → Numbering
 finish table true items = Err Arity
 finish table false items = Ok (table, items)
 
@@ -44,7 +44,7 @@ answer table clash items ws =
     (table_over table ws, items ++ map (item_in (table_over table ws)) ws)
 
 -- a table only grows at its end
-with_word : (table : List Symbol) (w : Symbol) → (more : List Symbol) × (table_with table w ≡ table ++ more)
+pub with_word : (table : List Symbol) (w : Symbol) → (more : List Symbol) × (table_with table w ≡ table ++ more)
 with_word table w = by_name (is_name w.text) (number_of_text table w.text) refl refl
   where
     by_name : (b : Bool) (o : Option ℕ) → is_name w.text ≡ b → number_of_text table w.text ≡ o → (more : List Symbol) × (table_with table w ≡ table ++ more)
@@ -60,7 +60,7 @@ table_over-grows (w ∷ ws) table =
     (first.0 ++ rest.0, rest.1 ∙ ap (λ t. t ++ rest.0) first.1 ∙ append_assoc table first.0 rest.0)
 
 -- what one word does, and the other words behind it
-data Outcome (table : List Symbol) (w : Symbol) (ws : List Symbol) : Type 0 where
+pub data Outcome (table : List Symbol) (w : Symbol) (ws : List Symbol) : Type 0 where
   kept : (item : Item) → item_found table w ≡ Ok item → is_word_in_limits w ≡ true → is_word_over (table_over (table_with table w) ws) w ≡ true
       → item_in (table_over (table_with table w) ws) w ≡ item → length (table_with table w) ≤ MAX_SYMBOLS → Outcome table w ws
   limited : item_found table w ≡ Err OverLimit → ((is_word_in_limits w && list_all is_word_in_limits ws) && nat_le (length (table_over (table_with table w) ws)) MAX_SYMBOLS) ≡ false → Outcome table w ws
@@ -150,7 +150,7 @@ symbol_outcome table w ws fits named = by_limits (fits_limits w.text w.arity) (n
     by_limits true (Some n) low found = known_outcome table w ws fits named low n found
     by_limits false o low found = limited (rw (named, low) refl) (rw (named, low) refl)
 
-outcome : (table : List Symbol) (w : Symbol) (ws : List Symbol) → length table ≤ MAX_SYMBOLS → Outcome table w ws
+pub outcome : (table : List Symbol) (w : Symbol) (ws : List Symbol) → length table ≤ MAX_SYMBOLS → Outcome table w ws
 outcome table w ws fits = by_name (is_name w.text) refl
   where
     by_name : (b : Bool) → is_name w.text ≡ b → Outcome table w ws

@@ -39,7 +39,7 @@ apart_before true x = refl
 apart_before false x = refl
 
 -- a place behind a byte of no word, and one in front of such a byte, aren't within a word
-between_behind : (text : List ℕ) (place : ℕ) → is_word_byte (get_or text place 0) ≡ false → is_between text (place + 1) ≡ true
+pub between_behind : (text : List ℕ) (place : ℕ) → is_word_byte (get_or text place 0) ≡ false → is_between text (place + 1) ≡ true
 between_behind text place apart =
     let back : place + 1 - 1 ≡ place = omega arith in
     let other = is_word_byte (get_or text (place + 1) 0) in

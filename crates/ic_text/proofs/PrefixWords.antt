@@ -9,21 +9,11 @@ use Rattle.ic_text.specs.declared.limits.TheConstants.{MAX_NAME}
 use Rattle.ic_text.specs.Name.{is_name, name_number}
 use Rattle.ic_text.specs.Source.{Source, leaf, node, Sources, no_sources, more_sources, Sides, Phrase, IsSource, AreSources, IsPhrase, source_names, names_of_sources, source_symbols, symbols_of_sources, source_nodes, nodes_of_sources, phrase_names, phrase_symbols, phrase_nodes, count_of}
 use Rattle.ic_text.specs.Sense.{symbols_after, has_its_arity}
-use Rattle.ic_text.specs.inner.Prefix.{prefix, prefix_of_sources, phrase_prefix}
+use Rattle.ic_text.specs.Words.{prefix, prefix_of_sources, phrase_prefix, symbols_among, names_among}
 use Rattle.ic_text.specs.inner.Numbered.{IsWord, table_over, is_word_in_limits, is_word_over}
 use Rattle.ic_text.specs.lemmas.NameLemmas.{is_name-name_text, name_number-name_text, isnt_name-symbol}
 
--- the symbols among words
-abbrev pub symbols_among : List Symbol → List Symbol
-symbols_among [] = []
-symbols_among (w ∷ ws) = cond (is_name w.text) (symbols_among ws) (w ∷ symbols_among ws)
-
--- the names among words
-abbrev pub names_among : List Symbol → List ℕ
-names_among [] = []
-names_among (w ∷ ws) = cond (is_name w.text) (name_number w.text ∷ names_among ws) (names_among ws)
-
-symbols_among-append : (vs ws : List Symbol) → symbols_among (vs ++ ws) ≡ symbols_among vs ++ symbols_among ws
+pub symbols_among-append : (vs ws : List Symbol) → symbols_among (vs ++ ws) ≡ symbols_among vs ++ symbols_among ws
 symbols_among-append [] ws = refl
 symbols_among-append (v ∷ vs) ws = by_name (is_name v.text) (symbols_among (vs ++ ws)) (symbols_among-append vs ws)
   where
@@ -31,7 +21,7 @@ symbols_among-append (v ∷ vs) ws = by_name (is_name v.text) (symbols_among (vs
     by_name true both e = e
     by_name false both e = ap (λ l. v ∷ l) e
 
-names_among-append : (vs ws : List Symbol) → names_among (vs ++ ws) ≡ names_among vs ++ names_among ws
+pub names_among-append : (vs ws : List Symbol) → names_among (vs ++ ws) ≡ names_among vs ++ names_among ws
 names_among-append [] ws = refl
 names_among-append (v ∷ vs) ws = by_name (is_name v.text) (names_among (vs ++ ws)) (names_among-append vs ws)
   where

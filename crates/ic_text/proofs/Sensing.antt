@@ -17,7 +17,8 @@ use Rattle.ic_text.specs.declared.fault.TextFault.TheVariants.{Syntax, Limit, Ar
 use Rattle.ic_text.specs.Source.{Source, leaf, node, Sources, no_sources, more_sources, Sides, Phrase, IsPhrase, source_names, names_of_sources, source_nodes, nodes_of_sources, phrase_names, phrase_symbols, phrase_nodes}
 use Rattle.ic_text.specs.Sense.{symbols_after, symbol_table, has_its_arity, numbered_tree, numbered_trees, numbered_pair, numbered_phrase, unless_third_name, sense}
 use Rattle.ic_text.specs.declared.prefix.Node.{Node}
-use Rattle.ic_text.specs.inner.Prefix.{phrase_prefix, node_of, nodes_of as words_of}
+use Rattle.ic_text.specs.inner.Prefix.{node_of, nodes_of as words_of}
+use Rattle.ic_text.specs.Words.{phrase_prefix}
 use Rattle.ic_text.specs.inner.Numbered.{table_over, is_word_in_limits, is_word_over, item_in, unless_refused, numbered_words, as_text_answer, Refuses}
 use Rattle.ic_text.specs.inner.Built.{built_before, configuration_from}
 use Rattle.ic_text.proofs.Numbering.{not_le}

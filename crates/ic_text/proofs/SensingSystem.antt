@@ -23,7 +23,7 @@ use Rattle.ic_text.specs.Source.{phrase_names, phrase_symbols, phrase_nodes}
 use Rattle.ic_text.specs.Sense.{symbols_after, has_its_arity, numbered_tree, numbered_phrase}
 use Rattle.ic_text.specs.SystemSource.{SystemPhrase, IsSystemPhrase, rule_symbols, rule_names, rule_nodes, system_symbols, system_names}
 use Rattle.ic_text.specs.SystemSense.{system_table, rules_over, system_parts, unless_found, system_sense}
-use Rattle.ic_text.specs.inner.Prefix.{phrase_prefix}
+use Rattle.ic_text.specs.Words.{phrase_prefix}
 use Rattle.ic_text.specs.inner.Numbered.{item_in, unless_refused, numbered_words, as_text_answer}
 use Rattle.ic_text.specs.inner.Built.{built_before, configuration_from, rules_in, joined}
 use Rattle.ic_text.proofs.BuiltTrees.{sides_trees, built-phrase, configuration_from-trees}

@@ -13,7 +13,7 @@ use Rattle.ic_term.specs.Symbol.{Symbol}
 use Rattle.ic_text.specs.Token.{Token, word, mark, is_word_byte, mark_of, word_of, before, tokens_at, followed, tokens_behind, words_among, tokens}
 use Rattle.ic_text.specs.Source.{Phrase, phrase_words, phrase_nodes}
 use Rattle.ic_text.specs.SystemSource.{SystemPhrase, system_words, rule_nodes}
-use Rattle.ic_text.specs.inner.Prefix.{phrase_prefix, rules_prefix}
+use Rattle.ic_text.specs.Words.{phrase_prefix, rules_prefix}
 use Rattle.ic_text.specs.inner.Syntax.{step, is_end, at_beginning, accepts}
 use Rattle.ic_text.specs.inner.Survey.{take_one, taken, taken_behind, taken_at, counted, surveyed, Tells}
 use Rattle.ic_text.proofs.TokenLemmas.{ended_run}

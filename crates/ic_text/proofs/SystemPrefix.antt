@@ -16,7 +16,8 @@ use Rattle.ic_text.specs.Source.{phrase_words, phrase_nodes}
 use Rattle.ic_text.specs.SystemSource.{SystemPhrase, IsSystemPhrase, rules_words, system_words, rule_nodes}
 use Rattle.ic_text.specs.SystemSense.{system_sense}
 use Rattle.ic_text.specs.inner.Braces.{split_at_brace}
-use Rattle.ic_text.specs.inner.Prefix.{node_of, nodes_of, rules_prefix, phrase_prefix}
+use Rattle.ic_text.specs.inner.Prefix.{node_of, nodes_of}
+use Rattle.ic_text.specs.Words.{rules_prefix, phrase_prefix, system_prefix}
 use Rattle.ic_text.specs.inner.Numbered.{IsWord, numbered_words}
 use Rattle.ic_text.proofs.GrammarSystem.{split-rules_words}
 use Rattle.ic_text.proofs.JoinedPhrase.{joined_phrase, prefix-joined, is-joined, length-rules_prefix}
@@ -65,8 +66,11 @@ module _ (s : SystemPhrase) (rules config : Prefix) (known : Known s rules confi
   config_fits = let count = nodes_are config.nodes.items s.config known.config_are in λ i. nat_le (count i) MAX_NODES && nat_le (known.terms_are i) MAX_INTERFACE
 
   -- all words of the system
-  all_words : nodes_of (rules.nodes.items ++ config.nodes.items) ≡ phrase_prefix (joined_phrase s)
+  pub all_words : nodes_of (rules.nodes.items ++ config.nodes.items) ≡ phrase_prefix (joined_phrase s)
   all_words = map-append node_of rules.nodes.items config.nodes.items ∙ (λ i. known.rules_are i ++ known.config_are i) ∙ sym (prefix-joined s)
+
+  pub system_words_are : nodes_of (rules.nodes.items ++ config.nodes.items) ≡ system_prefix s
+  system_words_are = all_words ∙ prefix-joined s
 
   pub words_are : IsSystemPhrase s → AllByRecursion IsWord (nodes_of (rules.nodes.items ++ config.nodes.items))
   words_are is = rw all_words (words-phrase_prefix (joined_phrase s) (is-joined s is))

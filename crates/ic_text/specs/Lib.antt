@@ -10,6 +10,8 @@ pub mod Reading
 pub mod Text
 pub mod FaultNumber
 pub mod SystemText
+pub mod Words
+pub mod WordFaults
 pub mod Places
 pub mod lemmas
 pub mod inner

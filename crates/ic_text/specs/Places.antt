@@ -3,7 +3,13 @@ use Rattle.std.specs.Prelude.{◌≡◌, ℕ, ◌-◌, ◌==◌, ◌<◌, ◌≤
 use Rattle.ic_text.specs.declared.limits.TheConstants.{MAX_TEXT}
 use Rattle.ic_text.specs.declared.fault.TextFault.{TextFault}
 use Rattle.ic_text.specs.declared.fault.TextFault.TheVariants.{Syntax, Limit, Arity, NameCount, Name, Twice, Lopsided, Memory}
-use Rattle.ic_text.specs.Token.{Token, is_word_byte, tokens}
+use Rattle.ic_text.specs.declared.misread.Detail.{Detail}
+use Rattle.ic_text.specs.declared.misread.Detail.TheVariants.{Nothing, Passed, Arities}
+use Rattle.ic_text.specs.declared.misread.Limit.TheVariants.{TextBytes}
+use Rattle.ic_term.specs.Symbol.{Symbol}
+use Rattle.ic_text.specs.Reading.{IsSpelling}
+use Rattle.ic_text.specs.Token.{Token, is_word_byte, tokens, words_among}
+use Rattle.ic_text.specs.WordFaults.{IsWordOf}
 
 -- A place of a text, counted in bytes, that isn't within a word: of the bytes on its two sides one is
 -- none of a word, or isn't there (0 stands for no byte).
@@ -34,13 +40,36 @@ pub record IsLastPlace (IsInnocent : List ℕ → Type 0) (text : List ℕ) (at 
 abbrev pub IsSyntaxPlace : {P : Type 0} → (P → Type 0) → (P → List Token) → List ℕ → ℕ → Type 0
 IsSyntaxPlace IsOne words text at = IsLastPlace (GoesOn IsOne words) text at
 
--- The place that is told of a refusal: that of a fault of syntax, and where a text is too long its
--- first byte too many. Of other refusals none is told.
-abbrev pub IsPlaced : {P : Type 0} → (P → Type 0) → (P → List Token) → List ℕ
-    → TextFault → Option ℕ → Type 0
-IsPlaced IsOne words text Syntax (Some at) = IsSyntaxPlace IsOne words text at
-IsPlaced IsOne words text Syntax None = ⊥
-IsPlaced IsOne words text Limit (Some at) = (MAX_TEXT < length text) × (at ≡ MAX_TEXT)
-IsPlaced IsOne words text Limit None = length text ≤ MAX_TEXT
-IsPlaced IsOne words text fault (Some at) = ⊥
-IsPlaced IsOne words text fault None = Unit {0}
+-- so many words of a text stand before this place, and another one begins there
+pub record IsWordPlace (text : List ℕ) (k at : ℕ) : Type 0 where
+  pub inside : at < length text
+  pub begins : IsTrue (is_word_byte (get_or text at 0))
+  pub between : IsTrue (is_between text at)
+  pub front : List Token
+  pub tokens : tokens (take at text) ≡ Some front
+  pub before : length (words_among front) ≡ k
+
+-- the place of a refusal of what a text spells: that of the word at which it is found
+pub record IsPlacedWord {P : Type 0} (IsOne : P → Type 0) (words : P → List Token)
+    (written : P → List Symbol) (text : List ℕ) (fault : TextFault) (at : ℕ) (detail : Detail)
+    : Type 0 where
+  pub phrase : P
+  pub spells : IsSpelling IsOne words text phrase
+  pub word : ℕ
+  pub refused : IsWordOf (written phrase) fault word detail
+  pub place : IsWordPlace text word at
+
+-- The place that is told of a refusal, and what more is known: of a fault of syntax its place; where
+-- a text is too long its first byte too many; of a limit of words, and of a symbol with two arities,
+-- that of the word at which it is found. Of other refusals none is told.
+abbrev pub IsPlaced : {P : Type 0} → (P → Type 0) → (P → List Token) → (P → List Symbol) → List ℕ
+    → TextFault → Option ℕ → Detail → Type 0
+IsPlaced IsOne words written text Syntax (Some at) Nothing = IsSyntaxPlace IsOne words text at
+IsPlaced IsOne words written text Limit (Some at) (Passed TextBytes) =
+    (MAX_TEXT < length text) × (at ≡ MAX_TEXT)
+IsPlaced IsOne words written text fault (Some at) detail =
+    IsPlacedWord IsOne words written text fault at detail
+IsPlaced IsOne words written text Syntax None detail = ⊥
+IsPlaced IsOne words written text Arity None detail = ⊥
+IsPlaced IsOne words written text Limit None detail = length text ≤ MAX_TEXT
+IsPlaced IsOne words written text fault None detail = Unit {0}

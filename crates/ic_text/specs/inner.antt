@@ -6,6 +6,7 @@ pub mod Survey
 pub mod Braces
 pub mod Prefix
 pub mod Numbered
+pub mod Refused
 pub mod Terms
 pub mod Built
 pub mod Printing

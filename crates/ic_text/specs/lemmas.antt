@@ -4,3 +4,4 @@ pub mod ReadOnce
 pub mod WordRuns
 pub mod NameLemmas
 pub mod NameTexts
+pub mod PlacedWithin

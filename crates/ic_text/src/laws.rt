@@ -17,6 +17,8 @@ ghost use Rattle.ic_text.specs.Text.{Spells, Reads, phrase_of, printed, text_of,
 ghost use Rattle.ic_text.specs.FaultNumber.{all_faults, fault_number};
 ghost use Rattle.ic_text.specs.Places.{GoesOn, IsSyntaxPlace};
 ghost use Rattle.ic_text.specs.Sense.{symbols_after};
+ghost use Rattle.ic_text.specs.WordFaults.{IsFirstWord};
+ghost use Rattle.ic_text.specs.Words.{phrase_prefix, system_prefix};
 ghost use Rattle.ic_text.specs.Token.{Token, word, mark, is_blank, is_word_byte, mark_byte, mark_of, tokens_at, followed, tokens, words_among};
 ghost use Rattle.ic_text.specs.declared.token.Mark.{Mark};
 ghost use Rattle.ic_text.specs.declared.token.Mark.TheVariants.{LeftBrace, RightBrace, Less, Greater, Bar, Equals, Comma, Semicolon, Open, Close};
@@ -57,6 +59,20 @@ pub fn the_text_before_a_fault_is_innocent()
     ensures system { (text : List ℕ) (at cut : ℕ) →
         IsSyntaxPlace IsSystemPhrase system_words text at →
         IsSyntaxPlace IsSystemPhrase system_words (take at text) cut → cut ≡ at }
+{}
+
+/// Words have at most one first word with which they aren't innocent; cut there, they have none.
+pub fn words_before_the_first_are_innocent()
+    ensures one { (is_innocent : List Symbol → Bool) (ws : List Symbol) (a b : ℕ) →
+        IsFirstWord is_innocent ws a → IsFirstWord is_innocent ws b → a ≡ b }
+    ensures cut { (is_innocent : List Symbol → Bool) (ws : List Symbol) (k j : ℕ) →
+        IsFirstWord is_innocent ws k → ¬ IsFirstWord is_innocent (take k ws) j }
+{}
+
+/// The words of what is written are those of its tokens, in their order.
+pub fn words_are_those_of_tokens()
+    ensures config { (p : Phrase) → words_among (phrase_words p) ≡ texts (phrase_prefix p) }
+    ensures system { (s : SystemPhrase) → words_among (system_words s) ≡ texts (system_prefix s) }
 {}
 
 /// A text can go on to a phrase exactly where with more text behind a blank it spells one.

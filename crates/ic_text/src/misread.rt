@@ -1,8 +1,34 @@
 //! A refusal of a text, and its place.
 
 ghost use Rattle.std.specs.Prelude.{◌≡◌, None};
+ghost use Rattle.ic_text.specs.declared.misread.Detail.TheVariants.{Nothing};
 
 use crate::fault::TextFault;
+
+/// A limit that a text may pass.
+#[derive(Clone, Copy, Debug, PartialEq, Eq)]
+pub enum Limit {
+    /// Bytes of the text.
+    TextBytes,
+    /// Bytes of a symbol.
+    SymbolBytes,
+    /// Arguments of a symbol.
+    Arguments,
+    /// The number of a name.
+    NameNumber,
+    /// Symbols of different texts.
+    Symbols,
+}
+
+/// What more is known of a refusal.
+#[derive(Clone, Copy, Debug, PartialEq, Eq)]
+pub enum Detail {
+    Nothing,
+    /// The limit that is passed.
+    Passed(Limit),
+    /// How many arguments a symbol has where it is used first, and how many at the place.
+    Arities(usize, usize),
+}
 
 /// Why a text is refused, and where.
 #[derive(Clone, Copy, Debug, PartialEq, Eq)]
@@ -10,15 +36,7 @@ pub struct Misread {
     pub fault: TextFault,
     /// Before how many bytes of the text the fault stands, if that is told.
     pub place: Option<usize>,
-}
-
-impl From<TextFault> for Misread {
-    ghost from_gives = { λ fault misread. misread ≡ record { fault = fault; place = None } };
-
-    /// A refusal of which no place is told.
-    fn from(fault: TextFault) -> Misread {
-        Misread { fault, place: None }
-    }
+    pub detail: Detail,
 }
 
 impl From<Misread> for TextFault {

@@ -1,14 +1,17 @@
 //! Symbols as numbers: the limits of words, and the arities of symbols.
 
-ghost use Rattle.std.specs.Prelude.{◌≡◌, is_ok, [], if◌then◌else◌};
+ghost use Rattle.std.specs.Prelude.{◌≡◌, is_ok, [], if◌then◌else◌, IfErr, OnOk};
 ghost use Rattle.std.specs.List.{AllByRecursion};
 ghost use Rattle.ic_text.specs.inner.Prefix.{node_of, nodes_of};
 ghost use Rattle.ic_text.specs.inner.Numbered.{IsWord, ItemAnswers, item_found, table_with, numbered_words, Gives};
+ghost use Rattle.ic_text.specs.inner.Refused.{IsRefusedIn, Takes, Stops, bare, limit_of};
 
 use crate::fault::TextFault;
+use crate::misread::Limit;
 use crate::name::{is_name, name_number};
 use crate::prefix::Node;
-use ic_term::{SymbolFault, Symbols};
+use crate::refusal::Refusal;
+use ic_term::{MAX_ARITY, MAX_SYMBOL_TEXT, SymbolFault, Symbols};
 use std::alloc::Global;
 
 /// A word of a configuration in prefix notation: a name, or the number of a symbol with how many arguments it
@@ -37,39 +40,90 @@ fn item_of(symbols: &mut Symbols, node: &Node) -> Result<Item, SymbolFault>
     }
 }
 
-/// Numbers the words. Limits come before arities.
-fn number_nodes(
-    nodes: &[Node],
-    symbols: &mut Symbols,
-    items: &mut Vec<Item>,
-) -> Result<(), TextFault>
-    requires words { AllByRecursion IsWord (nodes_of nodes.now) }
-    requires no_symbol { symbols.old ≡ [] }
-    requires no_item { items.old.items ≡ [] }
-    ensures { Gives (λ _. (symbols.new, items.new.items)) result (numbered_words (nodes_of nodes.now)) }
+/// A symbol with two arities.
+#[derive(Clone, Copy)]
+pub(crate) struct Clash {
+    word: usize,
+    first: usize,
+    second: usize,
+}
+
+/// The limit that a word passes which has no number.
+fn limit_of(node: &Node) -> Limit
+    ensures { result ≡ limit_of (node_of node.now) }
 {
-    let mut clash = false;
-    for node in nodes {
-        match item_of(symbols, node) {
-            Ok(item) => items.push(item)?,
-            Err(SymbolFault::Limit) => return Err(TextFault::Limit),
-            Err(SymbolFault::Arity(_)) => clash = true,
-            Err(SymbolFault::Memory) => return Err(TextFault::Memory),
+    if is_name(node.text) {
+        Limit::NameNumber
+    } else if node.text.len() > MAX_SYMBOL_TEXT {
+        Limit::SymbolBytes
+    } else if node.arity > MAX_ARITY {
+        Limit::Arguments
+    } else {
+        Limit::Symbols
+    }
+}
+
+/// Words on their way to numbers: the symbols and the words so far, and the first symbol that has two arities.
+#[derive(Drop)]
+pub(crate) struct Numbering {
+    symbols: Symbols,
+    items: Vec<Item>,
+    clash: Option<Clash>,
+}
+
+impl Numbering {
+    /// Numbers the word behind so many others. Goes on behind a symbol that has two arities, since limits come before
+    /// arities.
+    fn take(&mut self, word: usize, node: &Node) -> Result<(), Refusal>
+        requires { IsWord (node_of node.now) }
+        ensures went { OnOk result (Takes word (node_of node.now)
+            (item_found self.old.symbols (node_of node.now)) self.old self.new) }
+        ensures stopped { IfErr result (Stops word (node_of node.now)
+            (item_found self.old.symbols (node_of node.now))) }
+    {
+        match item_of(&mut self.symbols, node) {
+            Ok(item) => {
+                self.items.push(item)?;
+                Ok(())
+            }
+            Err(SymbolFault::Limit) => Err(Refusal::passed(word, limit_of(node))),
+            Err(SymbolFault::Arity(symbol)) => {
+                self.clash = self.clash.or(Some(Clash {
+                    word,
+                    first: self.symbols.arity(symbol),
+                    second: node.arity,
+                }));
+                Ok(())
+            }
+            Err(SymbolFault::Memory) => Err(Refusal::untold(TextFault::Memory)),
         }
     }
-    if clash {
-        return Err(TextFault::Arity);
-    }
-    Ok(())
 }
 
 /// The words with their numbers, and the table of symbols.
-pub(crate) fn number_words(alloc: Global, nodes: &[Node]) -> Result<(Symbols, Vec<Item>), TextFault>
+pub(crate) fn number_words(alloc: Global, nodes: &[Node]) -> Result<(Symbols, Vec<Item>), Refusal>
     requires { AllByRecursion IsWord (nodes_of nodes.now) }
-    ensures { Gives (λ v. (v.0, v.1.items)) result (numbered_words (nodes_of nodes.now)) }
+    ensures numbers { Gives (λ v. (v.0, v.1.items)) (bare result)
+        (numbered_words (nodes_of nodes.now)) }
+    ensures word { IfErr result (IsRefusedIn (nodes_of nodes.now)) }
 {
-    let mut items = Vec::with_capacity(alloc, nodes.len())?;
-    let mut symbols = Symbols::new(alloc);
-    number_nodes(nodes, &mut symbols, &mut items)?;
-    Ok((symbols, items))
+    let items = Vec::with_capacity(alloc, nodes.len())?;
+    let symbols = Symbols::new(alloc);
+    let mut numbering = Numbering {
+        symbols,
+        items,
+        clash: None,
+    };
+    for (word, node) in nodes.iter().enumerate() {
+        numbering.take(word, node)?;
+    }
+    let Numbering {
+        symbols,
+        items,
+        clash,
+    } = numbering;
+    match clash {
+        Some(clash) => Err(Refusal::two_arities(clash.word, clash.first, clash.second)),
+        None => Ok((symbols, items)),
+    }
 }

@@ -5,7 +5,8 @@ ghost use Rattle.std.specs.List.{AllByRecursion};
 ghost use Rattle.ic_text.specs.Source.{Phrase, phrase_words};
 ghost use Rattle.ic_text.specs.SystemSource.{RulePhrase, rules_words};
 ghost use Rattle.ic_text.specs.inner.Tokens.{token_of, tokens_in};
-ghost use Rattle.ic_text.specs.inner.Prefix.{phrase_prefix, rules_prefix, nodes_of, scan_step, scanned};
+ghost use Rattle.ic_text.specs.inner.Prefix.{nodes_of, scan_step, scanned};
+ghost use Rattle.ic_text.specs.Words.{phrase_prefix, rules_prefix};
 
 use crate::token::{Mark, Token};
 use ic_rules::{MAX_RULE_NODES, MAX_RULES};

@@ -1,37 +1,42 @@
 //! Reading a configuration.
 
-ghost use Rattle.std.specs.Prelude.{◌≡◌, ◌≢◌, IfOk, IfErr, IsTrue, Ok, Err, Some};
+ghost use Rattle.std.specs.Prelude.{◌≡◌, ◌≢◌, ◌≤◌, length, IfOk, IfErr, IsTrue, Ok, Err, Some};
 ghost use Rattle.ic_term.specs.Symbol.{is_over};
 ghost use Rattle.ic_text.specs.inner.Numbered.{Gives};
+ghost use Rattle.ic_text.specs.inner.Refused.{IsRefusedIn, bare, faulted};
 ghost use Rattle.ic_text.specs.inner.Survey.{Tells};
 ghost use Rattle.ic_text.specs.Places.{IsPlaced};
 ghost use Rattle.ic_text.specs.Sense.{sense};
 ghost use Rattle.ic_text.specs.Source.{Phrase, IsPhrase, phrase_words};
 ghost use Rattle.ic_text.specs.inner.Spelled.{SpelledBy};
 ghost use Rattle.ic_text.specs.Text.{Reads, Spells};
+ghost use Rattle.ic_text.specs.Words.{phrase_prefix};
 ghost use Rattle.ic_text.specs.inner.Tokens.{tokens_in};
 
 use crate::build::config_of;
 use crate::fault::TextFault;
 use crate::limits::MAX_TEXT;
-use crate::misread::Misread;
+use crate::misread::{Detail, Limit, Misread};
 use crate::number::number_words;
 use crate::prefix::prefix_of;
+use crate::refusal::Refusal;
 use crate::survey::{Counts, survey_config};
 use crate::token::{Token, tokens_of};
 use ic_term::{Config, MAX_NODES, Symbols};
 use std::alloc::Global;
 
 /// The sense of tokens that are a configuration, of which so many are words. Every limit is tested before a term is built.
-fn sense_of(alloc: Global, tokens: &[Token], words: usize) -> Result<(Symbols, Config), TextFault>
+fn sense_of(alloc: Global, tokens: &[Token], words: usize) -> Result<(Symbols, Config), Refusal>
     requires { SpelledBy (tokens_in tokens.now) }
     ensures sense { (p : Phrase) → IsPhrase p → tokens_in tokens.now ≡ phrase_words p →
-        Gives (λ v. v) result (sense p) }
+        Gives (λ v. v) (bare result) (sense p) }
     ensures over { IfOk result (λ v. IsTrue (is_over v.0 v.1)) }
+    ensures word { (p : Phrase) → tokens_in tokens.now ≡ phrase_words p →
+        IfErr result (IsRefusedIn (phrase_prefix p)) }
 {
     let prefix = prefix_of(alloc, tokens, words)?;
     if !prefix.fits() {
-        return Err(TextFault::Limit);
+        return Err(Refusal::untold(TextFault::Limit));
     }
     let (symbols, items) = number_words(alloc, &prefix.nodes)?;
     let config = config_of(alloc, items, prefix.terms)?;
@@ -39,16 +44,34 @@ fn sense_of(alloc: Global, tokens: &[Token], words: usize) -> Result<(Symbols, C
 }
 
 /// The sense of a text that spells a configuration of so many words and tokens.
-fn config_in(alloc: Global, text: &[u8], counts: Counts) -> Result<(Symbols, Config), TextFault>
+fn config_in(alloc: Global, text: &[u8], counts: Counts) -> Result<(Symbols, Config), Refusal>
     requires { Tells IsPhrase phrase_words text.now (Some counts) }
-    ensures sense { (p : Phrase) → Spells text.now p → Gives (λ v. v) result (sense p) }
+    ensures sense { (p : Phrase) → Spells text.now p → Gives (λ v. v) (bare result) (sense p) }
     ensures over { IfOk result (λ v. IsTrue (is_over v.0 v.1)) }
+    ensures word { (p : Phrase) → Spells text.now p →
+        IfErr result (IsRefusedIn (phrase_prefix p)) }
 {
     if counts.words as u64 > MAX_NODES {
-        return Err(TextFault::Limit);
+        return Err(Refusal::untold(TextFault::Limit));
     }
     let tokens = tokens_of(alloc, text, counts.tokens)?;
     sense_of(alloc, &tokens, counts.words)
+}
+
+/// The same, with the place of the refusal in the text.
+fn config_at(alloc: Global, text: &[u8], counts: Counts) -> Result<(Symbols, Config), Misread>
+    requires short { length text.now ≤ MAX_TEXT }
+    requires spelled { Tells IsPhrase phrase_words text.now (Some counts) }
+    ensures sense { (p : Phrase) → Spells text.now p → Gives (λ v. v) (faulted result) (sense p) }
+    ensures over { IfOk result (λ v. IsTrue (is_over v.0 v.1)) }
+    ensures placed { IfErr result
+        (λ misread. IsPlaced IsPhrase phrase_words phrase_prefix text.now misread.fault
+        misread.place misread.detail) }
+{
+    match config_in(alloc, text, counts) {
+        Ok(found) => Ok(found),
+        Err(refusal) => Err(refusal.in_text(text)),
+    }
 }
 
 /// The configuration that a text means, with its symbols numbered by first occurrence and `next` one above its
@@ -60,7 +83,8 @@ pub fn find_config(alloc: Global, text: &[u8]) -> Result<(Symbols, Config), Misr
     ensures refused { IfErr result
         (λ misread. misread.fault ≢ TextFault.Memory → Reads text.now (Err misread.fault)) }
     ensures placed { IfErr result
-        (λ misread. IsPlaced IsPhrase phrase_words text.now misread.fault misread.place) }
+        (λ misread. IsPlaced IsPhrase phrase_words phrase_prefix text.now misread.fault
+        misread.place misread.detail) }
     ensures memory { IfErr result
         (λ misread. misread.fault ≡ TextFault.Memory → (p : Phrase) × Spells text.now p) }
 {
@@ -68,13 +92,15 @@ pub fn find_config(alloc: Global, text: &[u8]) -> Result<(Symbols, Config), Misr
         return Err(Misread {
             fault: TextFault::Limit,
             place: Some(MAX_TEXT),
+            detail: Detail::Passed(Limit::TextBytes),
         });
     }
     match survey_config(text) {
-        Ok(counts) => Ok(config_in(alloc, text, counts)?),
+        Ok(counts) => Ok(config_at(alloc, text, counts)?),
         Err(place) => Err(Misread {
             fault: TextFault::Syntax,
             place: Some(place),
+            detail: Detail::Nothing,
         }),
     }
 }

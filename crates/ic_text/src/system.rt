@@ -1,21 +1,24 @@
 //! Reading a system.
 
-ghost use Rattle.std.specs.Prelude.{◌≡◌, ◌≢◌, IfOk, IfErr, Ok, Err, Some};
+ghost use Rattle.std.specs.Prelude.{◌≡◌, ◌≢◌, ◌≤◌, length, IfOk, IfErr, Ok, Err, Some};
 ghost use Rattle.ic_text.specs.inner.Numbered.{Gives};
+ghost use Rattle.ic_text.specs.inner.Refused.{IsRefusedIn, bare, faulted};
 ghost use Rattle.ic_text.specs.inner.Survey.{Tells};
 ghost use Rattle.ic_text.specs.Places.{IsPlaced};
 ghost use Rattle.ic_text.specs.SystemSense.{system_sense};
 ghost use Rattle.ic_text.specs.SystemSource.{SystemPhrase, IsSystemPhrase, system_words};
 ghost use Rattle.ic_text.specs.inner.Spelled.{SystemSpelledBy};
 ghost use Rattle.ic_text.specs.SystemText.{SpellsSystem, ReadsSystem};
+ghost use Rattle.ic_text.specs.Words.{system_prefix};
 ghost use Rattle.ic_text.specs.inner.Tokens.{tokens_in};
 
 use crate::build::system_of;
 use crate::fault::TextFault;
 use crate::limits::MAX_TEXT;
-use crate::misread::Misread;
+use crate::misread::{Detail, Limit, Misread};
 use crate::number::number_words;
 use crate::prefix::prefix_of;
+use crate::refusal::Refusal;
 use crate::survey::{Counts, survey_system};
 use crate::syntax::split_at_brace;
 use crate::token::{Token, tokens_of};
@@ -27,33 +30,55 @@ use std::alloc::Global;
 const MAX_WORDS: u64 = 2 * MAX_RULES as u64 + MAX_RULE_NODES + MAX_NODES;
 
 /// The sense of tokens that are a system, of which so many are words. Every limit is tested before a term is built.
-fn sense_of(alloc: Global, tokens: &[Token], words: usize) -> Result<System, TextFault>
+fn sense_of(alloc: Global, tokens: &[Token], words: usize) -> Result<System, Refusal>
     requires { SystemSpelledBy (tokens_in tokens.now) }
-    ensures { (s : SystemPhrase) → IsSystemPhrase s → tokens_in tokens.now ≡ system_words s →
-        Gives (λ system. system) result (system_sense s) }
+    ensures sense { (s : SystemPhrase) → IsSystemPhrase s →
+        tokens_in tokens.now ≡ system_words s →
+        Gives (λ system. system) (bare result) (system_sense s) }
+    ensures word { (s : SystemPhrase) → tokens_in tokens.now ≡ system_words s →
+        IfErr result (IsRefusedIn (system_prefix s)) }
 {
     let (rules, config) = split_at_brace(&tokens[1..]);
     let mut rules = prefix_of(alloc, rules, words)?;
     let mut config = prefix_of(alloc, config, words)?;
     if !rules.fits_rules() || !config.fits() {
-        return Err(TextFault::Limit);
+        return Err(Refusal::untold(TextFault::Limit));
     }
     rules.nodes.append(&mut config.nodes)?;
     let (symbols, items) = number_words(alloc, &rules.nodes)?;
-    system_of(alloc, symbols, items, rules.terms, config.terms)
+    let system = system_of(alloc, symbols, items, rules.terms, config.terms)?;
+    Ok(system)
 }
 
 /// The sense of a text that spells a system of so many words and tokens.
-fn system_in(alloc: Global, text: &[u8], counts: Counts) -> Result<System, TextFault>
+fn system_in(alloc: Global, text: &[u8], counts: Counts) -> Result<System, Refusal>
     requires { Tells IsSystemPhrase system_words text.now (Some counts) }
-    ensures { (s : SystemPhrase) → SpellsSystem text.now s →
-        Gives (λ system. system) result (system_sense s) }
+    ensures sense { (s : SystemPhrase) → SpellsSystem text.now s →
+        Gives (λ system. system) (bare result) (system_sense s) }
+    ensures word { (s : SystemPhrase) → SpellsSystem text.now s →
+        IfErr result (IsRefusedIn (system_prefix s)) }
 {
     if counts.words as u64 > MAX_WORDS {
-        return Err(TextFault::Limit);
+        return Err(Refusal::untold(TextFault::Limit));
     }
     let tokens = tokens_of(alloc, text, counts.tokens)?;
     sense_of(alloc, &tokens, counts.words)
+}
+
+/// The same, with the place of the refusal in the text.
+fn system_at(alloc: Global, text: &[u8], counts: Counts) -> Result<System, Misread>
+    requires short { length text.now ≤ MAX_TEXT }
+    requires spelled { Tells IsSystemPhrase system_words text.now (Some counts) }
+    ensures sense { (s : SystemPhrase) → SpellsSystem text.now s →
+        Gives (λ system. system) (faulted result) (system_sense s) }
+    ensures placed { IfErr result
+        (λ misread. IsPlaced IsSystemPhrase system_words system_prefix text.now misread.fault
+        misread.place misread.detail) }
+{
+    match system_in(alloc, text, counts) {
+        Ok(found) => Ok(found),
+        Err(refusal) => Err(refusal.in_text(text)),
+    }
 }
 
 /// The system that a text means, with its symbols numbered by first occurrence, rules first, the names of each rule
@@ -64,7 +89,8 @@ pub fn find_system(alloc: Global, text: &[u8]) -> Result<System, Misread>
     ensures refused { IfErr result
         (λ misread. misread.fault ≢ TextFault.Memory → ReadsSystem text.now (Err misread.fault)) }
     ensures placed { IfErr result
-        (λ misread. IsPlaced IsSystemPhrase system_words text.now misread.fault misread.place) }
+        (λ misread. IsPlaced IsSystemPhrase system_words system_prefix text.now misread.fault
+        misread.place misread.detail) }
     ensures memory { IfErr result (λ misread. misread.fault ≡ TextFault.Memory
         → (s : SystemPhrase) × SpellsSystem text.now s) }
 {
@@ -72,13 +98,15 @@ pub fn find_system(alloc: Global, text: &[u8]) -> Result<System, Misread>
         return Err(Misread {
             fault: TextFault::Limit,
             place: Some(MAX_TEXT),
+            detail: Detail::Passed(Limit::TextBytes),
         });
     }
     match survey_system(text) {
-        Ok(counts) => Ok(system_in(alloc, text, counts)?),
+        Ok(counts) => Ok(system_at(alloc, text, counts)?),
         Err(place) => Err(Misread {
             fault: TextFault::Syntax,
             place: Some(place),
+            detail: Detail::Nothing,
         }),
     }
 }

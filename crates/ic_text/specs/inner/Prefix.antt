@@ -1,33 +1,11 @@
--- For private functions: a configuration in prefix notation, its words in the order of the text,
--- each with its number of arguments (Łukasiewicz's notation, which needs no parentheses).
-use Rattle.std.specs.Prelude.{ℕ, ◌+◌, List, [], ◌∷◌, ◌++◌, map, reverse}
-use Rattle.std.specs.List.{flat_map}
+-- For private functions: how words are found in tokens that are scanned from their end.
+use Rattle.std.specs.Prelude.{ℕ, ◌+◌, List, [], ◌∷◌, map, reverse}
 use Rattle.ic_term.specs.Symbol.{Symbol}
 use Rattle.ic_text.specs.declared.token.Mark.{Mark}
 use Rattle.ic_text.specs.declared.token.Mark.TheVariants.{Bar, Comma, Open, Close}
 use Rattle.ic_text.specs.declared.prefix.Node.{Node}
 use Rattle.ic_text.specs.declared.prefix.Scan.{Scan}
 use Rattle.ic_text.specs.Token.{Token, word, mark}
-use Rattle.ic_text.specs.Name.{name_text}
-use Rattle.ic_text.specs.Source.{Source, leaf, node, Sources, no_sources, more_sources, Phrase, count_of}
-use Rattle.ic_text.specs.SystemSource.{RulePhrase, agent_source}
-
-abbrev mutual
-  pub prefix : Source → List Symbol
-  prefix (leaf n) = record { text = name_text n; arity = 0 } ∷ []
-  prefix (node text ts) = record { text = text; arity = count_of ts } ∷ prefix_of_sources ts
-
-  pub prefix_of_sources : Sources → List Symbol
-  prefix_of_sources no_sources = []
-  prefix_of_sources (more_sources t ts) = prefix t ++ prefix_of_sources ts
-
-abbrev pub phrase_prefix : Phrase → List Symbol
-phrase_prefix p =
-    flat_map prefix p.interface ++ flat_map (λ e. prefix e.left ++ prefix e.right) p.equations
-
--- the words of rules, those of the agent on the left before those of the agent on the right
-abbrev pub rules_prefix : List RulePhrase → List Symbol
-rules_prefix rs = flat_map (λ r. prefix (agent_source r.left) ++ prefix (agent_source r.right)) rs
 
 -- What is known of tokens that were scanned from their end: the words, the arguments so far of each
 -- list that is open, those of the list that just opened, and the terms outside all parentheses

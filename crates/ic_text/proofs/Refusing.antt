@@ -1,0 +1,146 @@
+-- The place of a refusal, by its word.
+use Rattle.std.proofs.Common.{◌≡◌, ◌≢◌, ℕ, ◌<◌, ◌≤◌, Bool, true, false, ◌&&◌, cond, List, [], Option, None, Some, Result, Ok, Err, length, map, refl, sym, ap, ◌∙◌, subst, arith}
+use Rattle.std.specs.Prelude.{nat_le, IfSome}
+use Rattle.std.specs.List.{list_all}
+use Rattle.std.proofs.lemmas.Bool.{false≢true}
+use Rattle.std.proofs.lemmas.List.{length-map}
+use Rattle.ic_term.specs.Symbol.{Symbol, texts}
+use Rattle.ic_term.specs.declared.limits.TheConstants.{MAX_SYMBOLS}
+use Rattle.ic_term.specs.Configuration.{Configuration, third_occurrence}
+use Rattle.ic_term.specs.declared.config.ConfigFault.{ConfigFault}
+use Rattle.ic_term.specs.declared.config.ConfigFault.TheVariants.{Limit as TooMuch, Name as Third, Memory as NoRoom}
+use Rattle.ic_rules.specs.RuleSet.{first_uncounted, first_repeated, first_lopsided}
+use Rattle.ic_rules.specs.System.{SystemParts}
+use Rattle.ic_text.specs.declared.fault.TextFault.{TextFault}
+use Rattle.ic_text.specs.declared.fault.TextFault.TheVariants.{Syntax, Limit, Arity, NameCount, Name, Twice, Lopsided, Memory}
+use Rattle.ic_text.specs.declared.limits.TheConstants.{MAX_TEXT}
+use Rattle.ic_text.specs.declared.misread.Detail.{Detail}
+use Rattle.ic_text.specs.declared.misread.Detail.TheVariants.{Nothing, Passed, Arities}
+use Rattle.ic_text.specs.declared.misread.Limit.TheVariants.{TextBytes, SymbolBytes, Arguments, NameNumber, Symbols}
+use Rattle.ic_text.specs.declared.number.Item.{Item}
+use Rattle.ic_text.specs.Token.{Token, tokens, words_among}
+use Rattle.ic_text.specs.Reading.{IsSpelling}
+use Rattle.ic_text.specs.Sense.{symbols_after, has_its_arity}
+use Rattle.ic_text.specs.SystemSource.{SystemPhrase, IsSystemPhrase, system_symbols}
+use Rattle.ic_text.specs.SystemSense.{system_table, is_system_in_limits, rules_over, unless_found, system_parts, system_sense}
+use Rattle.ic_text.specs.Source.{phrase_names}
+use Rattle.ic_text.specs.Words.{phrase_prefix, symbols_among}
+use Rattle.ic_text.specs.WordFaults.{agree, IsWordOf}
+use Rattle.ic_text.specs.Places.{IsPlaced, IsPlacedWord}
+use Rattle.ic_text.specs.inner.Numbered.{table_over, is_word_in_limits, is_word_over, item_in, unless_refused, numbered_words, Refuses, as_text_answer}
+use Rattle.ic_text.specs.inner.Refused.{HasWord, IsPlaceOf, IsWordIn}
+use Rattle.ic_text.proofs.Blaming.{agree-words}
+use Rattle.ic_text.proofs.JoinedPhrase.{joined_phrase, symbols-joined, is-joined}
+use Rattle.ic_text.proofs.PrefixWords.{symbols_among-phrase}
+
+-- a refusal that is neither of syntax nor of arities needs no word
+pub told_none : {A : Type 0} (ws : List Symbol) (f : TextFault) (d : Detail) (a : Result A TextFault) → Refuses f a → (Err Syntax ≡ a → ⊥) → (Err Arity ≡ a → ⊥) → IsWordIn ws f None d
+told_none ws Syntax d a is no_syntax no_arity = no_syntax is
+told_none ws Limit d a is no_syntax no_arity = tt
+told_none ws Arity d a is no_syntax no_arity = no_arity is
+told_none ws (NameCount i) d a is no_syntax no_arity = tt
+told_none ws (Name n) d a is no_syntax no_arity = tt
+told_none ws (Twice i) d a is no_syntax no_arity = tt
+told_none ws (Lopsided i) d a is no_syntax no_arity = tt
+told_none ws Memory d a is no_syntax no_arity = tt
+
+-- a configuration is refused for neither
+pub config_syntax : (a : Result Configuration ConfigFault) → Err Syntax ≡ as_text_answer a → ⊥
+config_syntax (Ok c) e = cc
+config_syntax (Err TooMuch) e = cc
+config_syntax (Err (Third n)) e = cc
+config_syntax (Err NoRoom) e = cc
+
+pub config_arity : (a : Result Configuration ConfigFault) → Err Arity ≡ as_text_answer a → ⊥
+config_arity (Ok c) e = cc
+config_arity (Err TooMuch) e = cc
+config_arity (Err (Third n)) e = cc
+config_arity (Err NoRoom) e = cc
+
+-- what is found behind the arities is neither of syntax nor of arities
+abbrev found_behind : (a b c d : Option ℕ) → SystemParts → Result SystemParts TextFault
+found_behind a b c d v = unless_found a NameCount (unless_found b Name (unless_found c Twice (unless_found d Lopsided (Ok v))))
+
+neither_behind : (f : TextFault) → ((i : ℕ) → f ≢ NameCount i) → ((i : ℕ) → f ≢ Name i) → ((i : ℕ) → f ≢ Twice i) → ((i : ℕ) → f ≢ Lopsided i)
+    → (a b c d : Option ℕ) (v : SystemParts) → Err f ≡ found_behind a b c d v → ⊥
+neither_behind f x y z w (Some i) b c d v e = let same : f ≡ NameCount i = cc in x i same
+neither_behind f x y z w None (Some i) c d v e = let same : f ≡ Name i = cc in y i same
+neither_behind f x y z w None None (Some i) d v e = let same : f ≡ Twice i = cc in z i same
+neither_behind f x y z w None None None (Some i) v e = let same : f ≡ Lopsided i = cc in w i same
+neither_behind f x y z w None None None None v e = cc
+
+pub system_syntax : (s : SystemPhrase) → Err Syntax ≡ system_sense s → ⊥
+system_syntax s = by_cases (is_system_in_limits s) (list_all (has_its_arity (system_table s)) (system_symbols s))
+  where
+    by_cases : (l o : Bool) → Err Syntax ≡ cond l (cond o (found_behind (first_uncounted (rules_over s)) (third_occurrence (phrase_names s.config)) (first_repeated (rules_over s)) (first_lopsided (rules_over s)) (system_parts s)) (Err Arity)) (Err Limit) → ⊥
+    by_cases false o e = cc
+    by_cases true false e = cc
+    by_cases true true e = neither_behind Syntax (λ i x. cc) (λ i x. cc) (λ i x. cc) (λ i x. cc) _ _ _ _ _ e
+
+pub system_arity : (s : SystemPhrase) → list_all (has_its_arity (system_table s)) (system_symbols s) ≡ true → Err Arity ≡ system_sense s → ⊥
+system_arity s agree = by_cases (is_system_in_limits s) (list_all (has_its_arity (system_table s)) (system_symbols s)) agree
+  where
+    by_cases : (l o : Bool) → o ≡ true → Err Arity ≡ cond l (cond o (found_behind (first_uncounted (rules_over s)) (third_occurrence (phrase_names s.config)) (first_repeated (rules_over s)) (first_lopsided (rules_over s)) (system_parts s)) (Err Arity)) (Err Limit) → ⊥
+    by_cases false o is e = cc
+    by_cases true false is e = false≢true is
+    by_cases true true is e = neither_behind Arity (λ i x. cc) (λ i x. cc) (λ i x. cc) (λ i x. cc) _ _ _ _ _ e
+
+-- where words are numbered, their arities agree
+numbered_agree : (ws : List Symbol) (v : List Symbol × List Item) → Ok v ≡ numbered_words ws → agree ws ≡ true
+numbered_agree ws v e =
+    agree-words ws ∙ by_cases (list_all is_word_in_limits ws && nat_le (length (table_over [] ws)) MAX_SYMBOLS) (list_all (is_word_over (table_over [] ws)) ws) e
+  where
+    by_cases : (l o : Bool) → Ok v ≡ unless_refused {A = List Symbol × List Item} l o (table_over [] ws, map (item_in (table_over [] ws)) ws) → o ≡ true
+    by_cases true true e = refl
+    by_cases true false e = cc
+    by_cases false o e = cc
+
+pub system_agrees : (s : SystemPhrase) → IsSystemPhrase s → (v : List Symbol × List Item) → Ok v ≡ numbered_words (phrase_prefix (joined_phrase s))
+    → list_all (has_its_arity (system_table s)) (system_symbols s) ≡ true
+system_agrees s is v e =
+    let same : symbols_among (phrase_prefix (joined_phrase s)) ≡ system_symbols s = symbols_among-phrase (joined_phrase s) (is-joined s is) ∙ symbols-joined s in
+    (λ i. list_all (has_its_arity (symbols_after [] (sym same i))) (sym same i)) ∙ numbered_agree (phrase_prefix (joined_phrase s)) v e
+
+-- the word of a refusal is one of the words
+inside : (ws : List Symbol) (f : TextFault) (k : ℕ) (d : Detail) → IsWordOf ws f k d → k < length ws
+inside ws Limit k (Passed bound) is = is.first.inside
+inside ws Arity k (Arities before here) is = is.first.inside
+inside ws f k d is = absurd is
+
+module _ {P : Type 0} (IsOne : P → Type 0) (words_of : P → List Token) (written : P → List Symbol) (text : List ℕ) (p : P) (spells : IsSpelling IsOne words_of text p) where
+  has_word : words_among (words_of p) ≡ texts (written p) → (f : TextFault) (k : ℕ) (d : Detail) → IsWordIn (written p) f (Some k) d → HasWord text k
+  has_word same f k d is =
+      let all : length (words_among (words_of p)) ≡ length (written p) = ap length same ∙ length-map (written p) (λ (s : Symbol). s.text) in
+      (words_of p, spells.tokens, omega (arith, all, inside (written p) f k d is))
+
+  pub has_words : words_among (words_of p) ≡ texts (written p) → (f : TextFault) (w : Option ℕ) (d : Detail) → IsWordIn (written p) f w d → IfSome w (HasWord text)
+  has_words same f None d is = tt
+  has_words same f (Some k) d is = has_word same f k d is
+
+  placed_word : (f : TextFault) (k at : ℕ) (d : Detail) → IsWordOf (written p) f k d → IsPlaceOf text (Some k) (Some at) → IsPlacedWord IsOne words_of written text f at d
+  placed_word f k at d is place = record { phrase = p; spells = spells; word = k; refused = is; place = place }
+
+  at_word : (f : TextFault) (k at : ℕ) (d : Detail) → IsWordOf (written p) f k d → IsPlaceOf text (Some k) (Some at) → IsPlaced IsOne words_of written text f (Some at) d
+  at_word Limit k at (Passed TextBytes) is place = absurd (false≢true (sym is.passed))
+  at_word Limit k at (Passed SymbolBytes) is place = placed_word Limit k at (Passed SymbolBytes) is place
+  at_word Limit k at (Passed Arguments) is place = placed_word Limit k at (Passed Arguments) is place
+  at_word Limit k at (Passed NameNumber) is place = placed_word Limit k at (Passed NameNumber) is place
+  at_word Limit k at (Passed Symbols) is place = placed_word Limit k at (Passed Symbols) is place
+  at_word Arity k at (Arities before here) is place = placed_word Arity k at (Arities before here) is place
+  at_word f k at d is place = absurd is
+
+  at_none : (f : TextFault) (d : Detail) → length text ≤ MAX_TEXT → IsWordIn (written p) f None d → IsPlaced IsOne words_of written text f None d
+  at_none Syntax d short is = absurd is
+  at_none Limit d short is = short
+  at_none Arity d short is = absurd is
+  at_none (NameCount i) d short is = tt
+  at_none (Name n) d short is = tt
+  at_none (Twice i) d short is = tt
+  at_none (Lopsided i) d short is = tt
+  at_none Memory d short is = tt
+
+  pub placed_at : (f : TextFault) (w at : Option ℕ) (d : Detail) → length text ≤ MAX_TEXT → IsWordIn (written p) f w d → IsPlaceOf text w at → IsPlaced IsOne words_of written text f at d
+  placed_at f None None d short is place = at_none f d short is
+  placed_at f (Some k) (Some at) d short is place = at_word f k at d is place
+  placed_at f None (Some at) d short is place = absurd place
+  placed_at f (Some k) None d short is place = absurd place

@@ -1,0 +1,7 @@
+use Rattle.ic_text.specs.inner.Prefix.{nodes_of}
+use Rattle.ic_text.proofs.Blaming.{SoFar}
+use Rattle.ic_text.proofs.number.number_words.Given as goal
+
+-- the words so far are numbered
+abbrev pub invariant-loop-word : goal.invariant-loop-word
+invariant-loop-word l = SoFar (nodes_of l.nodes) l.word l.numbering

@@ -1,0 +1,34 @@
+//! The place of a word in a text.
+
+ghost use Rattle.std.specs.Prelude.{◌≡◌, ◌&&◌, not};
+ghost use Rattle.ic_text.specs.Places.{IsWordPlace};
+ghost use Rattle.ic_text.specs.Token.{is_word_byte};
+ghost use Rattle.ic_text.specs.inner.Refused.{HasWord};
+
+use crate::token::is_word_byte;
+
+/// Whether a word begins at a byte, which stands behind a byte of a word or behind none.
+fn begins_word(within: bool, byte: u8) -> bool
+    ensures { result ≡ (is_word_byte byte && not within) }
+{
+    is_word_byte(byte) && !within
+}
+
+/// Before how many bytes of a text the word stands before which so many words stand.
+pub(crate) fn word_place(text: &[u8], word: usize) -> usize
+    requires { HasWord text.now word }
+    ensures { IsWordPlace text.now word result }
+{
+    let mut words = 0;
+    let mut within = false;
+    for (place, byte) in text.iter().enumerate() {
+        if begins_word(within, *byte) {
+            if words == word {
+                return place;
+            }
+            words += 1;
+        }
+        within = is_word_byte(*byte);
+    }
+    text.len()
+}
