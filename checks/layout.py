@@ -110,6 +110,19 @@ def layers_are_as_built():
         yield Path("docs/layers.md"), told.get(name, 1), f"{name} stands in one of crates.txt and this table alone"
 
 
+def further_edits_apply():
+    """Each text that an edit of checks/edits/ puts another in the place of stands once in its file."""
+    for edit in sorted(Path("checks/edits").glob("*/*.edit")):
+        place, lines = Path("crates") / edit.parent.name, edit.read_text().split("\n")
+        path = None
+        for number, line in enumerate(lines, 1):
+            if line.startswith("file: "):
+                path = place / line[len("file: "):].strip()
+            old = line[len("old: "):] if line.startswith("old: ") else None
+            if old is not None and not (path and path.is_file() and path.read_text().count(old) == 1):
+                yield edit, number, f"its text doesn't stand once in {path}"
+
+
 def texts(path):
     """The paragraphs, headings, items of lists and cells of tables of a page, each as its words with their lines."""
     found, is_code, is_open = [], False, False
@@ -141,7 +154,7 @@ def sentences_are_short():
 def main():
     checks = [proofs_are_cited_at_home, definitions_stand_by_themselves, public_clauses_cite_definitions]
     checks += [files_say_what_they_hold, calls_of_a_book_are_steps, the_longest_form_is_said_once]
-    checks += [layers_are_as_built, sentences_are_short]
+    checks += [layers_are_as_built, further_edits_apply, sentences_are_short]
     failed = 0
     for check in checks:
         faults = list(check())
