@@ -1,6 +1,8 @@
 """A model of where in a text its refusal stands, and of what is told of it: a fault of syntax is at the first word, mark or other
 byte with which no text can go on, or at the end; a text that is too long is refused behind the last byte that it may have; a limit
-of words is passed at the first word that does so, and a symbol has two arities at its first use with another one than before."""
+of words is passed at the first word that does so, and a symbol has two arities at its first use with another one than before. A name
+that doesn't stand twice in a rule is told where it stands only there, or for the third time; a name of the configuration where it
+stands for the third time; a second rule of two symbols and a lopsided rule at their first word."""
 
 import re
 
@@ -22,7 +24,7 @@ class Reader:
     def __init__(self, text):
         self.tokens = [(it.start(), it.group()) for it in TOKEN.finditer(text)] + [(len(text), b"")]
         self.at = 0
-        self.words, self.rules, self.outer = [], 0, 0
+        self.words, self.rules, self.outer, self.sides = [], 0, 0, []
 
     def place(self):
         return self.tokens[self.at][0]
@@ -82,11 +84,14 @@ class Reader:
         self.listed(self.equation, b",", b">")
 
     def rule(self):
+        first = len(self.words)
         self.term(SYMBOL)
         self.mark(b">")
         self.mark(b"<")
+        second = len(self.words)
         self.term(SYMBOL)
         self.rules += 1
+        self.sides.append((self.words[first:second], self.words[second:]))
 
     def system(self):
         self.mark(b"{")
@@ -107,6 +112,40 @@ def limit_at(word, symbols):
     return f"a text has at most {MOST_SYMBOLS} symbols" if len(symbols | {text}) > MOST_SYMBOLS else None
 
 
+def miscounted(words):
+    """The place of the first name that stands only there among these words, or for the third time."""
+    names = [text for _, text, form, _ in words if form is NAME]
+    for before, (at, text, form, _) in enumerate(words):
+        if form is NAME and (names.count(text) == 1 or [it[1] for it in words[:before]].count(text) == 2):
+            return at
+
+
+def renamed(words):
+    """Words with their names numbered in the order in which they first occur."""
+    numbers = {}
+    return [(numbers.setdefault(text, len(numbers)) if form is NAME else text, arguments) for _, text, form, arguments in words]
+
+
+def fault_of_names_and_rules(reader):
+    """The fault of names or of rules, its place and a sentence, or None: of names in rules, in the configuration, then of rules."""
+    for left, right in reader.sides:
+        at = miscounted(left + right)
+        if at is not None:
+            return "namecount", at, "in a rule each name stands exactly twice"
+    seen = {}
+    for at, text, form, _ in reader.words[reader.before :]:
+        seen[text] = seen.get(text, 0) + (form is NAME)
+        if seen[text] == 3:
+            return "name", at, "in a configuration a name stands at most twice"
+    pairs = [{left[0][1], right[0][1]} for left, right in reader.sides]
+    for index, pair in enumerate(pairs):
+        if pair in pairs[:index]:
+            return "twice", reader.sides[index][0][0][0], "a rule before this one is of the same two symbols"
+    for left, right in reader.sides:
+        if left[0][1] == right[0][1] and renamed(left + right) != renamed(right + left):
+            return "lopsided", left[0][0], "a rule of a symbol with itself reads the same from both sides"
+
+
 def fault_of_words(reader):
     """The fault of what is written, its place and a sentence; None where it is another one or none."""
     inner = reader.before - 2 * reader.rules
@@ -123,7 +162,20 @@ def fault_of_words(reader):
         if form is SYMBOL and symbols.setdefault(text, arguments) != arguments and not clash:
             first = symbols[text]
             clash = ("arity", at, f"a symbol has one arity: this one has {arguments} here and {first} where it stands first")
-    return clash
+    return clash or fault_of_names_and_rules(reader)
+
+
+def sentence_of_syntax(text, at, kind):
+    """What is said at the place of a fault of syntax. A text that begins otherwise may be of another kind."""
+    if at == len(text):
+        return f"the text ends before its {kind} does"
+    mark, other, of = ("<", b"{", "a system") if kind == "configuration" else ("{", b"<", "a configuration")
+    if not text[:at].strip(b" \t\r\n"):
+        if text[at : at + 1] == other:
+            return f"a {kind} begins with {mark}, and this is {of}"
+        if text[at : at + 1].islower():
+            return f"a {kind} begins with {mark}, and commands are served"
+    return f"no {kind} goes on with this"
 
 
 def found(text, kind):
@@ -136,8 +188,7 @@ def found(text, kind):
         reader.mark(b"")
     except NoText:
         at = reader.place()
-        ends = f"the text ends before its {kind} does"
-        return "syntax", at, ends if at == len(text) else f"no {kind} goes on with this"
+        return "syntax", at, sentence_of_syntax(text, at, kind)
     return fault_of_words(reader)
 
 

@@ -1,7 +1,8 @@
 //! Where in a text its refusal stands, as it is told beside the refusal.
 //!
 //! `place_lines` tells a place by its line and column, shows the line with a mark under the place, and says what is
-//! amiss. `settle_telling` and `once_telling` answer streams as `ic_streams` does, and tell so of a text that is refused.
+//! amiss. `settle_telling` and `once_telling` answer streams as `ic_streams` does, and tell so of a text that is refused;
+//! `refused` does so for other answers.
 #![tactic(auto)]
 
 pub mod laws;
@@ -11,5 +12,5 @@ mod stream;
 mod telling;
 
 pub use lines::place_lines;
-pub use stream::{once_telling, settle_telling};
+pub use stream::{once_telling, refused, settle_telling};
 pub use telling::{Kind, told_lines};

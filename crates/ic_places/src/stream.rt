@@ -7,7 +7,7 @@ ghost use Rattle.ic_round.specs.Rounds.{round, unless_unfit};
 ghost use Rattle.ic_round.specs.RoundAnswers.{Answers};
 ghost use Rattle.ic_text.specs.Source.{IsPhrase, phrase_words};
 ghost use Rattle.ic_text.specs.SystemSource.{IsSystemPhrase, system_words};
-ghost use Rattle.ic_text.specs.Words.{phrase_prefix, system_prefix};
+ghost use Rattle.ic_text.specs.Words.{written_phrase, written_system};
 ghost use Rattle.ic_streams.specs.Streams.{OfText, IsAnswered, FaultOf, Rounds, Settles, TakesAt, TakesText};
 ghost use Rattle.ic_places.specs.Telling.{Appended, AppendedAt, told_lines};
 ghost use Rattle.ic_streams.specs.Faults.{fault_of_text};
@@ -38,7 +38,7 @@ pub fn settle_telling<R: Read, W: Write>(
     ensures taken { OnOk result (TakesText (R.remaining reader.old) (R.remaining reader.new)) }
     ensures taken_at_fault { IfErr result
         (λ fault. TakesAt fault (R.remaining reader.old) (R.remaining reader.new)) }
-    ensures told { IfErr result (λ fault. Appended IsPhrase phrase_words phrase_prefix
+    ensures told { IfErr result (λ fault. Appended IsPhrase phrase_words written_phrase
         Kind.Config (R.remaining reader.old) (R.remaining reader.new) fault
         told.old.items told.new.items) }
     ensures quiet { OnOk result (told.new.items ≡ told.old.items) }
@@ -64,7 +64,7 @@ pub fn once_telling<R: Read, W: Write>(
     ensures taken { OnOk result (TakesText (R.remaining reader.old) (R.remaining reader.new)) }
     ensures taken_at_fault { IfErr result
         (λ fault. TakesAt fault (R.remaining reader.old) (R.remaining reader.new)) }
-    ensures told { IfErr result (λ fault. Appended IsSystemPhrase system_words system_prefix
+    ensures told { IfErr result (λ fault. Appended IsSystemPhrase system_words written_system
         Kind.System (R.remaining reader.old) (R.remaining reader.new) fault
         told.old.items told.new.items) }
     ensures quiet { OnOk result (told.new.items ≡ told.old.items) }
@@ -75,7 +75,7 @@ pub fn once_telling<R: Read, W: Write>(
 }
 
 /// The fault of a stream whose text is refused, of which `told` gets the lines.
-fn refused(
+pub fn refused(
     alloc: Global,
     kind: Kind,
     text: &[u8],
@@ -85,7 +85,8 @@ fn refused(
     requires { IfSome misread.place (λ at. at ≤ length text.now) }
     ensures fault { (result ≡ StreamFault.Memory) ⊎ (result ≡ fault_of_text misread.fault) }
     ensures told { result ≢ StreamFault.Memory → told.new.items
-        ≡ told.old.items ++ told_lines kind text.now misread.place misread.detail }
+        ≡ told.old.items
+        ++ told_lines kind text.now misread.fault misread.place misread.detail }
 {
     match told_lines(alloc, kind, text, misread) {
         Ok(lines) => match told.extend_from_slice(&lines) {
@@ -100,7 +101,7 @@ fn refused(
 fn settled_line(alloc: Global, text: &[u8], told: &mut Vec<u8>) -> Result<Vec<u8>, StreamFault>
     ensures line { IfOk result (λ line. Settles text.now (Ok line.items)) }
     ensures refused { IfErr result (λ fault. FaultOf Settles text.now fault) }
-    ensures told { IfErr result (λ fault. AppendedAt IsPhrase phrase_words phrase_prefix
+    ensures told { IfErr result (λ fault. AppendedAt IsPhrase phrase_words written_phrase
         Kind.Config text.now fault told.old.items told.new.items) }
     ensures quiet { OnOk result (told.new.items ≡ told.old.items) }
     ensures sort { IfErr result
@@ -118,7 +119,7 @@ fn settled_line(alloc: Global, text: &[u8], told: &mut Vec<u8>) -> Result<Vec<u8
 fn once_line(alloc: Global, text: &[u8], told: &mut Vec<u8>) -> Result<Vec<u8>, StreamFault>
     ensures line { IfOk result (λ line. Rounds text.now (Ok line.items)) }
     ensures refused { IfErr result (λ fault. FaultOf Rounds text.now fault) }
-    ensures told { IfErr result (λ fault. AppendedAt IsSystemPhrase system_words system_prefix
+    ensures told { IfErr result (λ fault. AppendedAt IsSystemPhrase system_words written_system
         Kind.System text.now fault told.old.items told.new.items) }
     ensures quiet { OnOk result (told.new.items ≡ told.old.items) }
     ensures sort { IfErr result

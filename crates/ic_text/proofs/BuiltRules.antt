@@ -22,7 +22,7 @@ use Rattle.ic_text.proofs.Sensing.{names-numbered_trees, nodes-numbered_trees, s
 use Rattle.ic_text.proofs.Over.{found_has}
 use Rattle.ic_text.proofs.JoinedPhrase.{sides_of_rules}
 
-flat_names : (ts : Trees) → flat_map names (list_of ts) ≡ names_of ts
+pub flat_names : (ts : Trees) → flat_map names (list_of ts) ≡ names_of ts
 flat_names no_trees = refl
 flat_names (more_trees t ts) = ap (λ l. names t ++ l) (flat_names ts)
 

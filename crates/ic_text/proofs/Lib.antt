@@ -36,3 +36,9 @@ pub mod Blaming
 pub mod WordPlaces
 pub mod Refusing
 pub mod FirstWords
+pub mod Uses
+pub mod Miscounts
+pub mod RuleWalk
+pub mod HasFaults
+pub mod RulePlaces
+pub mod Innocence

@@ -46,7 +46,7 @@ mutual
       symbols_among-append (prefix t) (prefix_of_sources ts) ∙ ap (λ l. l ++ symbols_among (prefix_of_sources ts)) (symbols_among-prefix t are.0) ∙ ap (λ l. source_symbols t ++ l) (symbols_among-sources ts are.1)
 
 mutual
-  names_among-prefix : (t : Source) → IsSource t → names_among (prefix t) ≡ source_names t
+  pub names_among-prefix : (t : Source) → IsSource t → names_among (prefix t) ≡ source_names t
   names_among-prefix (leaf n) is = rw (is_name-name_text n) (ap (λ m. m ∷ []) (name_number-name_text n))
   names_among-prefix (node text ts) is = rw (isnt_name-symbol text is.0) (names_among-sources ts is.1)
 

@@ -1,9 +1,10 @@
 -- The place of a refusal, by its word.
-use Rattle.std.proofs.Common.{◌≡◌, ◌≢◌, ℕ, ◌<◌, ◌≤◌, Bool, true, false, ◌&&◌, cond, List, [], Option, None, Some, Result, Ok, Err, length, map, refl, sym, ap, ◌∙◌, subst, arith}
+use Rattle.std.proofs.Common.{◌≡◌, ◌≢◌, ℕ, zero, suc, ◌+◌, ◌<◌, ◌≤◌, Bool, true, false, ◌&&◌, cond, List, [], ◌∷◌, ◌++◌, Option, None, Some, Result, Ok, Err, length, take, map, refl, sym, ap, ◌∙◌, subst, arith, length-append}
 use Rattle.std.specs.Prelude.{nat_le, IfSome}
-use Rattle.std.specs.List.{list_all}
+use Rattle.std.specs.List.{list_all, slice_get}
 use Rattle.std.proofs.lemmas.Bool.{false≢true}
 use Rattle.std.proofs.lemmas.List.{length-map}
+use Rattle.std.proofs.lemmas.List.Folds.{flat_map-map}
 use Rattle.ic_term.specs.Symbol.{Symbol, texts}
 use Rattle.ic_term.specs.declared.limits.TheConstants.{MAX_SYMBOLS}
 use Rattle.ic_term.specs.Configuration.{Configuration, third_occurrence}
@@ -24,25 +25,27 @@ use Rattle.ic_text.specs.Sense.{symbols_after, has_its_arity}
 use Rattle.ic_text.specs.SystemSource.{SystemPhrase, IsSystemPhrase, system_symbols}
 use Rattle.ic_text.specs.SystemSense.{system_table, is_system_in_limits, rules_over, unless_found, system_parts, system_sense}
 use Rattle.ic_text.specs.Source.{phrase_names}
-use Rattle.ic_text.specs.Words.{phrase_prefix, symbols_among}
-use Rattle.ic_text.specs.WordFaults.{agree, IsWordOf}
+use Rattle.ic_text.specs.Words.{Written, all_words, in_a_row, phrase_prefix, rule_prefix, symbols_among, system_prefix, written_system}
+use Rattle.ic_text.specs.WordFaults.{agree, IsFaultWord, IsWordOf}
 use Rattle.ic_text.specs.Places.{IsPlaced, IsPlacedWord}
 use Rattle.ic_text.specs.inner.Numbered.{table_over, is_word_in_limits, is_word_over, item_in, unless_refused, numbered_words, Refuses, as_text_answer}
-use Rattle.ic_text.specs.inner.Refused.{HasWord, IsPlaceOf, IsWordIn}
+use Rattle.ic_text.specs.inner.Refused.{HasWord, IsPlaceOf, IsToldWord, IsWordIn}
 use Rattle.ic_text.proofs.Blaming.{agree-words}
 use Rattle.ic_text.proofs.JoinedPhrase.{joined_phrase, symbols-joined, is-joined}
 use Rattle.ic_text.proofs.PrefixWords.{symbols_among-phrase}
 
--- a refusal that is neither of syntax nor of arities needs no word
-pub told_none : {A : Type 0} (ws : List Symbol) (f : TextFault) (d : Detail) (a : Result A TextFault) → Refuses f a → (Err Syntax ≡ a → ⊥) → (Err Arity ≡ a → ⊥) → IsWordIn ws f None d
-told_none ws Syntax d a is no_syntax no_arity = no_syntax is
-told_none ws Limit d a is no_syntax no_arity = tt
-told_none ws Arity d a is no_syntax no_arity = no_arity is
-told_none ws (NameCount i) d a is no_syntax no_arity = tt
-told_none ws (Name n) d a is no_syntax no_arity = tt
-told_none ws (Twice i) d a is no_syntax no_arity = tt
-told_none ws (Lopsided i) d a is no_syntax no_arity = tt
-told_none ws Memory d a is no_syntax no_arity = tt
+-- a refusal of words is one of what is written
+pub told_in : (w : Written) (f : TextFault) (o : Option ℕ) (d : Detail) → IsWordIn (all_words w) f o d → IsToldWord w f o d
+told_in w Limit (Some k) d is = is
+told_in w Arity (Some k) d is = is
+told_in w Limit None d is = tt
+told_in w Memory None d is = tt
+told_in w f (Some k) d is = absurd is
+told_in w f None d is = absurd is
+
+-- all words of a system
+pub written-system : (s : SystemPhrase) → all_words (written_system s) ≡ system_prefix s
+written-system s = ap (λ l. l ++ phrase_prefix s.config) (flat_map-map (λ (ws : List Symbol). ws) rule_prefix s.rules)
 
 -- a configuration is refused for neither
 pub config_syntax : (a : Result Configuration ConfigFault) → Err Syntax ≡ as_text_answer a → ⊥
@@ -58,7 +61,7 @@ config_arity (Err (Third n)) e = cc
 config_arity (Err NoRoom) e = cc
 
 -- what is found behind the arities is neither of syntax nor of arities
-abbrev found_behind : (a b c d : Option ℕ) → SystemParts → Result SystemParts TextFault
+abbrev pub found_behind : (a b c d : Option ℕ) → SystemParts → Result SystemParts TextFault
 found_behind a b c d v = unless_found a NameCount (unless_found b Name (unless_found c Twice (unless_found d Lopsided (Ok v))))
 
 neither_behind : (f : TextFault) → ((i : ℕ) → f ≢ NameCount i) → ((i : ℕ) → f ≢ Name i) → ((i : ℕ) → f ≢ Twice i) → ((i : ℕ) → f ≢ Lopsided i)
@@ -107,39 +110,53 @@ inside ws Limit k (Passed bound) is = is.first.inside
 inside ws Arity k (Arities before here) is = is.first.inside
 inside ws f k d is = absurd is
 
-module _ {P : Type 0} (IsOne : P → Type 0) (words_of : P → List Token) (written : P → List Symbol) (text : List ℕ) (p : P) (spells : IsSpelling IsOne words_of text p) where
-  has_word : words_among (words_of p) ≡ texts (written p) → (f : TextFault) (k : ℕ) (d : Detail) → IsWordIn (written p) f (Some k) d → HasWord text k
-  has_word same f k d is =
-      let all : length (words_among (words_of p)) ≡ length (written p) = ap length same ∙ length-map (written p) (λ (s : Symbol). s.text) in
-      (words_of p, spells.tokens, omega (arith, all, inside (written p) f k d is))
+-- the words of a list stand within those of all lists
+one_of_all : (wss : List (List Symbol)) (i : ℕ) (ws : List Symbol) → slice_get wss i ≡ Some ws → length (in_a_row (take i wss)) + length ws ≤ length (in_a_row wss)
+one_of_all [] i ws e = cc
+one_of_all (x ∷ xs) zero ws e = let same : x ≡ ws = cc in omega (arith, ap length same, length-append x (in_a_row xs))
+one_of_all (x ∷ xs) (suc i) ws e = omega (arith, one_of_all xs i ws e, length-append x (in_a_row xs), length-append x (in_a_row (take i xs)))
 
-  pub has_words : words_among (words_of p) ≡ texts (written p) → (f : TextFault) (w : Option ℕ) (d : Detail) → IsWordIn (written p) f w d → IfSome w (HasWord text)
+inside_all : (w : Written) (f : TextFault) (k : ℕ) (d : Detail) → IsFaultWord w f k d → k < length (all_words w)
+inside_all w Limit k d is = inside (all_words w) Limit k d is
+inside_all w Arity k d is = inside (all_words w) Arity k d is
+inside_all w (NameCount i) k Nothing is = omega (arith, is.place, is.inside, one_of_all w.rules i is.words is.rule, length-append (in_a_row w.rules) w.config)
+inside_all w (Name n) k Nothing is = omega (arith, is.place, is.first.inside, length-append (in_a_row w.rules) w.config)
+inside_all w (Twice i) k Nothing is = is.inside
+inside_all w (Lopsided i) k Nothing is = is.inside
+inside_all w f k d is = absurd is
+
+module _ {P : Type 0} (IsOne : P → Type 0) (words_of : P → List Token) (written : P → Written) (text : List ℕ) (p : P) (spells : IsSpelling IsOne words_of text p) where
+  has_word : words_among (words_of p) ≡ texts (all_words (written p)) → (f : TextFault) (k : ℕ) (d : Detail) → IsToldWord (written p) f (Some k) d → HasWord text k
+  has_word same f k d is =
+      let all : length (words_among (words_of p)) ≡ length (all_words (written p)) = ap length same ∙ length-map (all_words (written p)) (λ (s : Symbol). s.text) in
+      (words_of p, spells.tokens, omega (arith, all, inside_all (written p) f k d is))
+
+  pub has_words : words_among (words_of p) ≡ texts (all_words (written p)) → (f : TextFault) (w : Option ℕ) (d : Detail) → IsToldWord (written p) f w d → IfSome w (HasWord text)
   has_words same f None d is = tt
   has_words same f (Some k) d is = has_word same f k d is
 
-  placed_word : (f : TextFault) (k at : ℕ) (d : Detail) → IsWordOf (written p) f k d → IsPlaceOf text (Some k) (Some at) → IsPlacedWord IsOne words_of written text f at d
+  placed_word : (f : TextFault) (k at : ℕ) (d : Detail) → IsFaultWord (written p) f k d → IsPlaceOf text (Some k) (Some at) → IsPlacedWord IsOne words_of written text f at d
   placed_word f k at d is place = record { phrase = p; spells = spells; word = k; refused = is; place = place }
 
-  at_word : (f : TextFault) (k at : ℕ) (d : Detail) → IsWordOf (written p) f k d → IsPlaceOf text (Some k) (Some at) → IsPlaced IsOne words_of written text f (Some at) d
+  at_word : (f : TextFault) (k at : ℕ) (d : Detail) → IsFaultWord (written p) f k d → IsPlaceOf text (Some k) (Some at) → IsPlaced IsOne words_of written text f (Some at) d
   at_word Limit k at (Passed TextBytes) is place = absurd (false≢true (sym is.passed))
   at_word Limit k at (Passed SymbolBytes) is place = placed_word Limit k at (Passed SymbolBytes) is place
   at_word Limit k at (Passed Arguments) is place = placed_word Limit k at (Passed Arguments) is place
   at_word Limit k at (Passed NameNumber) is place = placed_word Limit k at (Passed NameNumber) is place
   at_word Limit k at (Passed Symbols) is place = placed_word Limit k at (Passed Symbols) is place
   at_word Arity k at (Arities before here) is place = placed_word Arity k at (Arities before here) is place
+  at_word (NameCount i) k at Nothing is place = placed_word (NameCount i) k at Nothing is place
+  at_word (Name n) k at Nothing is place = placed_word (Name n) k at Nothing is place
+  at_word (Twice i) k at Nothing is place = placed_word (Twice i) k at Nothing is place
+  at_word (Lopsided i) k at Nothing is place = placed_word (Lopsided i) k at Nothing is place
   at_word f k at d is place = absurd is
 
-  at_none : (f : TextFault) (d : Detail) → length text ≤ MAX_TEXT → IsWordIn (written p) f None d → IsPlaced IsOne words_of written text f None d
-  at_none Syntax d short is = absurd is
+  at_none : (f : TextFault) (d : Detail) → length text ≤ MAX_TEXT → IsToldWord (written p) f None d → IsPlaced IsOne words_of written text f None d
   at_none Limit d short is = short
-  at_none Arity d short is = absurd is
-  at_none (NameCount i) d short is = tt
-  at_none (Name n) d short is = tt
-  at_none (Twice i) d short is = tt
-  at_none (Lopsided i) d short is = tt
   at_none Memory d short is = tt
+  at_none f d short is = absurd is
 
-  pub placed_at : (f : TextFault) (w at : Option ℕ) (d : Detail) → length text ≤ MAX_TEXT → IsWordIn (written p) f w d → IsPlaceOf text w at → IsPlaced IsOne words_of written text f at d
+  pub placed_at : (f : TextFault) (w at : Option ℕ) (d : Detail) → length text ≤ MAX_TEXT → IsToldWord (written p) f w d → IsPlaceOf text w at → IsPlaced IsOne words_of written text f at d
   placed_at f None None d short is place = at_none f d short is
   placed_at f (Some k) (Some at) d short is place = at_word f k at d is place
   placed_at f None (Some at) d short is place = absurd place

@@ -65,6 +65,10 @@ module _ (s : SystemPhrase) (rules config : Prefix) (known : Known s rules confi
   pub config_fits : (nat_le (length config.nodes.items) MAX_NODES && nat_le config.terms MAX_INTERFACE) ≡ (nat_le (phrase_nodes s.config) MAX_NODES && nat_le (length s.config.interface) MAX_INTERFACE)
   config_fits = let count = nodes_are config.nodes.items s.config known.config_are in λ i. nat_le (count i) MAX_NODES && nat_le (known.terms_are i) MAX_INTERFACE
 
+  -- how many words are those of the rules
+  pub rules_before : length rules.nodes.items ≡ length (rules_prefix s.rules)
+  rules_before = sym (length-map rules.nodes.items node_of) ∙ ap length known.rules_are
+
   -- all words of the system
   pub all_words : nodes_of (rules.nodes.items ++ config.nodes.items) ≡ phrase_prefix (joined_phrase s)
   all_words = map-append node_of rules.nodes.items config.nodes.items ∙ (λ i. known.rules_are i ++ known.config_are i) ∙ sym (prefix-joined s)

@@ -6,10 +6,10 @@ use Rattle.ic_text.specs.declared.fault.TextFault.TheVariants.{Syntax, Limit, Ar
 use Rattle.ic_text.specs.declared.misread.Detail.{Detail}
 use Rattle.ic_text.specs.declared.misread.Detail.TheVariants.{Nothing, Passed, Arities}
 use Rattle.ic_text.specs.declared.misread.Limit.TheVariants.{TextBytes}
-use Rattle.ic_term.specs.Symbol.{Symbol}
 use Rattle.ic_text.specs.Reading.{IsSpelling}
 use Rattle.ic_text.specs.Token.{Token, is_word_byte, tokens, words_among}
-use Rattle.ic_text.specs.WordFaults.{IsWordOf}
+use Rattle.ic_text.specs.WordFaults.{IsFaultWord}
+use Rattle.ic_text.specs.Words.{Written}
 
 -- A place of a text, counted in bytes, that isn't within a word: of the bytes on its two sides one is
 -- none of a word, or isn't there (0 stands for no byte).
@@ -51,25 +51,24 @@ pub record IsWordPlace (text : List ℕ) (k at : ℕ) : Type 0 where
 
 -- the place of a refusal of what a text spells: that of the word at which it is found
 pub record IsPlacedWord {P : Type 0} (IsOne : P → Type 0) (words : P → List Token)
-    (written : P → List Symbol) (text : List ℕ) (fault : TextFault) (at : ℕ) (detail : Detail)
+    (written : P → Written) (text : List ℕ) (fault : TextFault) (at : ℕ) (detail : Detail)
     : Type 0 where
   pub phrase : P
   pub spells : IsSpelling IsOne words text phrase
   pub word : ℕ
-  pub refused : IsWordOf (written phrase) fault word detail
+  pub refused : IsFaultWord (written phrase) fault word detail
   pub place : IsWordPlace text word at
 
 -- The place that is told of a refusal, and what more is known: of a fault of syntax its place; where
--- a text is too long its first byte too many; of a limit of words, and of a symbol with two arities,
--- that of the word at which it is found. Of other refusals none is told.
-abbrev pub IsPlaced : {P : Type 0} → (P → Type 0) → (P → List Token) → (P → List Symbol) → List ℕ
+-- a text is too long its first byte too many; of others that of the word at which it is found. Of
+-- too many rules, nodes or terms of the interface none is told.
+abbrev pub IsPlaced : {P : Type 0} → (P → Type 0) → (P → List Token) → (P → Written) → List ℕ
     → TextFault → Option ℕ → Detail → Type 0
 IsPlaced IsOne words written text Syntax (Some at) Nothing = IsSyntaxPlace IsOne words text at
 IsPlaced IsOne words written text Limit (Some at) (Passed TextBytes) =
     (MAX_TEXT < length text) × (at ≡ MAX_TEXT)
 IsPlaced IsOne words written text fault (Some at) detail =
     IsPlacedWord IsOne words written text fault at detail
-IsPlaced IsOne words written text Syntax None detail = ⊥
-IsPlaced IsOne words written text Arity None detail = ⊥
 IsPlaced IsOne words written text Limit None detail = length text ≤ MAX_TEXT
-IsPlaced IsOne words written text fault None detail = Unit {0}
+IsPlaced IsOne words written text Memory None detail = Unit {0}
+IsPlaced IsOne words written text fault None detail = ⊥

@@ -1,6 +1,7 @@
 -- To be believed: at which word of what is written a refusal is found.
-use Rattle.std.specs.Prelude.{◌≡◌, ℕ, ◌+◌, ◌<◌, ◌≤◌, List, [], Bool, true, false, ◌&&◌, Some, IsTrue, length, take, nat_le, slice_get}
+use Rattle.std.specs.Prelude.{◌≡◌, ℕ, ◌+◌, ◌<◌, ◌≤◌, ◌==◌, List, [], Bool, true, false, ◌&&◌, ◌||◌, Option, None, Some, IsTrue, length, take, nat_le, count_by, slice_get}
 use Rattle.std.specs.List.{list_all}
+use Rattle.std.specs.Str.{bytes_eq}
 use Rattle.ic_term.specs.Symbol.{Symbol, fits_limits}
 use Rattle.ic_term.specs.declared.limits.TheConstants.{MAX_SYMBOLS, MAX_SYMBOL_TEXT, MAX_ARITY}
 use Rattle.ic_text.specs.declared.limits.TheConstants.{MAX_NAME}
@@ -10,8 +11,9 @@ use Rattle.ic_text.specs.declared.misread.Detail.{Detail}
 use Rattle.ic_text.specs.declared.misread.Detail.TheVariants.{Nothing, Passed, Arities}
 use Rattle.ic_text.specs.declared.misread.Limit.{Limit as Bound}
 use Rattle.ic_text.specs.declared.misread.Limit.TheVariants.{TextBytes, SymbolBytes, Arguments, NameNumber, Symbols}
+use Rattle.ic_text.specs.Name.{is_name, name_text}
 use Rattle.ic_text.specs.Sense.{symbols_after, has_its_arity}
-use Rattle.ic_text.specs.Words.{symbols_among, names_among}
+use Rattle.ic_text.specs.Words.{Written, all_words, in_a_row, symbols_among, names_among}
 
 -- the symbols of words, numbered by first occurrence
 abbrev pub word_table : List Symbol → List Symbol
@@ -57,8 +59,62 @@ pub record IsSecondUse (before here : ℕ) (ws : List Symbol) (k : ℕ) : Type 0
       (record { text = word.text; arity = before }))
   pub arity : word.arity ≡ here
 
--- the word of a refusal: so many words stand before it
+-- how many words have this text
+abbrev pub uses : List ℕ → List Symbol → ℕ
+uses text ws = count_by (λ w. bytes_eq w.text text) ws
+
+-- a name stands at most twice among words
+abbrev pub at_most_twice : ℕ → List Symbol → Bool
+at_most_twice n ws = nat_le (uses (name_text n) ws) 2
+
+-- the first word of the configuration with which a name stands there more than twice
+pub record IsThirdWord (n : ℕ) (w : Written) (k : ℕ) : Type 0 where
+  pub before : ℕ
+  pub first : IsFirstWord (at_most_twice n) w.config before
+  pub place : k ≡ length (in_a_row w.rules) + before
+
+-- a word of a rule, behind so many others, is a name that stands there for the only or for the third time
+abbrev pub is_wrong_use : List Symbol → ℕ → Option Symbol → Bool
+is_wrong_use ws j None = false
+is_wrong_use ws j (Some w) =
+    is_name w.text && (uses w.text ws == 1 || uses w.text (take j ws) == 2)
+
+abbrev pub is_miscounted : List Symbol → ℕ → Bool
+is_miscounted ws j = is_wrong_use ws j (slice_get ws j)
+
+-- how many words stand before a rule
+abbrev pub words_before : Written → ℕ → ℕ
+words_before w i = length (in_a_row (take i w.rules))
+
+-- the first word of a rule that is a name's only or third one there
+pub record IsMiscount (i : ℕ) (w : Written) (k : ℕ) : Type 0 where
+  pub words : List Symbol
+  pub rule : slice_get w.rules i ≡ Some words
+  pub before : ℕ
+  pub inside : before < length words
+  pub wrong : IsTrue (is_miscounted words before)
+  pub first : (j : ℕ) → j < before → is_miscounted words j ≡ false
+  pub place : k ≡ words_before w i + before
+
+-- the first word of a rule
+pub record IsRuleWord (i : ℕ) (w : Written) (k : ℕ) : Type 0 where
+  pub there : i < length w.rules
+  pub inside : k < length (all_words w)
+  pub place : k ≡ words_before w i
+
+-- the word of a refusal by limits and arities: so many words stand before it
 abbrev pub IsWordOf : List Symbol → TextFault → ℕ → Detail → Type 0
 IsWordOf ws Limit k (Passed bound) = IsLimitWord bound ws k
 IsWordOf ws Arity k (Arities before here) = IsSecondUse before here ws k
 IsWordOf ws fault k detail = ⊥
+
+-- The word of any refusal that has one: that of a limit or of two arities, a name's third one in the
+-- configuration, its only or third one in a rule, or the first one of the rule.
+abbrev pub IsFaultWord : Written → TextFault → ℕ → Detail → Type 0
+IsFaultWord w Limit k detail = IsWordOf (all_words w) Limit k detail
+IsFaultWord w Arity k detail = IsWordOf (all_words w) Arity k detail
+IsFaultWord w (NameCount i) k Nothing = IsMiscount i w k
+IsFaultWord w (Name n) k Nothing = IsThirdWord n w k
+IsFaultWord w (Twice i) k Nothing = IsRuleWord i w k
+IsFaultWord w (Lopsided i) k Nothing = IsRuleWord i w k
+IsFaultWord w fault k detail = ⊥

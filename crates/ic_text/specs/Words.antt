@@ -1,6 +1,6 @@
 -- To be believed: the words of what is written, in the order of the text, each with how many arguments stand behind it
 -- (Łukasiewicz's notation, which needs no parentheses).
-use Rattle.std.specs.Prelude.{ℕ, List, [], ◌∷◌, ◌++◌, if◌then◌else◌}
+use Rattle.std.specs.Prelude.{ℕ, List, [], ◌∷◌, ◌++◌, map, if◌then◌else◌}
 use Rattle.std.specs.List.{flat_map}
 use Rattle.ic_term.specs.Symbol.{Symbol}
 use Rattle.ic_text.specs.Name.{is_name, name_number, name_text}
@@ -24,9 +24,32 @@ phrase_prefix p =
 abbrev pub rules_prefix : List RulePhrase → List Symbol
 rules_prefix rs = flat_map (λ r. prefix (agent_source r.left) ++ prefix (agent_source r.right)) rs
 
+-- the words of one of them
+abbrev pub rule_prefix : RulePhrase → List Symbol
+rule_prefix r = prefix (agent_source r.left) ++ prefix (agent_source r.right)
+
 -- the words of a system, its rules first
 abbrev pub system_prefix : SystemPhrase → List Symbol
 system_prefix s = rules_prefix s.rules ++ phrase_prefix s.config
+
+-- the words of what is written, those of each rule and those of the configuration
+pub record Written : Type 0 where
+  pub rules : List (List Symbol)
+  pub config : List Symbol
+
+abbrev pub written_phrase : Phrase → Written
+written_phrase p = record { rules = []; config = phrase_prefix p }
+
+abbrev pub written_system : SystemPhrase → Written
+written_system s = record { rules = map rule_prefix s.rules; config = phrase_prefix s.config }
+
+-- words of lists, one list behind the other
+abbrev pub in_a_row : List (List Symbol) → List Symbol
+in_a_row wss = flat_map (λ ws. ws) wss
+
+-- all words in the order of the text
+abbrev pub all_words : Written → List Symbol
+all_words w = in_a_row w.rules ++ w.config
 
 -- the symbols among words
 abbrev pub symbols_among : List Symbol → List Symbol

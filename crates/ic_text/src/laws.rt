@@ -5,6 +5,8 @@ ghost use Rattle.std.specs.List.{filter, flat_map, list_any, list_all, AllByRecu
 ghost use Rattle.std.specs.Str.{bytes_eq};
 ghost use Rattle.std.specs.Char.{is_ascii_alphanumeric, is_ascii_lowercase, is_ascii_digit};
 ghost use Rattle.std.specs.Fmt.{decimal};
+ghost use Rattle.ic_rules.specs.Rule.{Rule};
+ghost use Rattle.ic_rules.specs.RuleSet.{first_lopsided, first_repeated, first_uncounted};
 ghost use Rattle.ic_rules.specs.System.{SystemParts};
 ghost use Rattle.ic_term.specs.Configuration.{Configuration, configuration_names, one_above};
 ghost use Rattle.ic_term.specs.Symbol.{Symbol, texts};
@@ -17,8 +19,8 @@ ghost use Rattle.ic_text.specs.Text.{Spells, Reads, phrase_of, printed, text_of,
 ghost use Rattle.ic_text.specs.FaultNumber.{all_faults, fault_number};
 ghost use Rattle.ic_text.specs.Places.{GoesOn, IsSyntaxPlace};
 ghost use Rattle.ic_text.specs.Sense.{symbols_after};
-ghost use Rattle.ic_text.specs.WordFaults.{IsFirstWord};
-ghost use Rattle.ic_text.specs.Words.{phrase_prefix, system_prefix};
+ghost use Rattle.ic_text.specs.WordFaults.{IsFirstWord, IsMiscount, uses};
+ghost use Rattle.ic_text.specs.Words.{Written, all_words, phrase_prefix, system_prefix, written_system};
 ghost use Rattle.ic_text.specs.Token.{Token, word, mark, is_blank, is_word_byte, mark_byte, mark_of, tokens_at, followed, tokens, words_among};
 ghost use Rattle.ic_text.specs.declared.token.Mark.{Mark};
 ghost use Rattle.ic_text.specs.declared.token.Mark.TheVariants.{LeftBrace, RightBrace, Less, Greater, Bar, Equals, Comma, Semicolon, Open, Close};
@@ -73,6 +75,23 @@ pub fn words_before_the_first_are_innocent()
 pub fn words_are_those_of_tokens()
     ensures config { (p : Phrase) → words_among (phrase_words p) ≡ texts (phrase_prefix p) }
     ensures system { (s : SystemPhrase) → words_among (system_words s) ≡ texts (system_prefix s) }
+    ensures whole { (s : SystemPhrase) → all_words (written_system s) ≡ system_prefix s }
+{}
+
+/// Before the first name that stands in a rule only once, or for the third time, no name stands there three times.
+pub fn names_before_the_first_miscounted_are_innocent()
+    ensures { (i k : ℕ) (w : Written) (is : IsMiscount i w k) (text : List ℕ) →
+        IsTrue (is_name text) → uses text (take is.before is.words) ≤ 2 }
+{}
+
+/// The rules before the first one that is refused are not refused for the same.
+pub fn rules_before_the_first_refused_are_innocent()
+    ensures uncounted { (rs : List Rule) (i : ℕ) →
+        first_uncounted rs ≡ Some i → first_uncounted (take i rs) ≡ None }
+    ensures repeated { (rs : List Rule) (i : ℕ) →
+        first_repeated rs ≡ Some i → first_repeated (take i rs) ≡ None }
+    ensures lopsided { (rs : List Rule) (i : ℕ) →
+        first_lopsided rs ≡ Some i → first_lopsided (take i rs) ≡ None }
 {}
 
 /// A text can go on to a phrase exactly where with more text behind a blank it spells one.

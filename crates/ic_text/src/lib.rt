@@ -8,6 +8,7 @@
 //! what digits write. `laws` holds what is proved of the definitions alone.
 #![tactic(auto)]
 
+mod blame;
 mod build;
 mod fault;
 pub mod laws;

@@ -29,6 +29,13 @@ pub(crate) struct Prefix<'a> {
 }
 
 impl Prefix<'_> {
+    /// How many words these are.
+    pub(crate) fn words(&self) -> usize
+        ensures { result ≡ length self.now.nodes.items }
+    {
+        self.nodes.len()
+    }
+
     /// Whether a configuration of these words has neither too many nodes nor too many terms in its interface.
     pub(crate) fn fits(&self) -> bool
         ensures { result ≡ (nat_le (length self.now.nodes.items) MAX_NODES

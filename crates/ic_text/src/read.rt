@@ -3,16 +3,17 @@
 ghost use Rattle.std.specs.Prelude.{◌≡◌, ◌≢◌, ◌≤◌, length, IfOk, IfErr, IsTrue, Ok, Err, Some};
 ghost use Rattle.ic_term.specs.Symbol.{is_over};
 ghost use Rattle.ic_text.specs.inner.Numbered.{Gives};
-ghost use Rattle.ic_text.specs.inner.Refused.{IsRefusedIn, bare, faulted};
+ghost use Rattle.ic_text.specs.inner.Refused.{IsToldIn, bare, faulted};
 ghost use Rattle.ic_text.specs.inner.Survey.{Tells};
 ghost use Rattle.ic_text.specs.Places.{IsPlaced};
 ghost use Rattle.ic_text.specs.Sense.{sense};
 ghost use Rattle.ic_text.specs.Source.{Phrase, IsPhrase, phrase_words};
 ghost use Rattle.ic_text.specs.inner.Spelled.{SpelledBy};
 ghost use Rattle.ic_text.specs.Text.{Reads, Spells};
-ghost use Rattle.ic_text.specs.Words.{phrase_prefix};
+ghost use Rattle.ic_text.specs.Words.{written_phrase};
 ghost use Rattle.ic_text.specs.inner.Tokens.{tokens_in};
 
+use crate::blame::refusal_of;
 use crate::build::config_of;
 use crate::fault::TextFault;
 use crate::limits::MAX_TEXT;
@@ -31,16 +32,18 @@ fn sense_of(alloc: Global, tokens: &[Token], words: usize) -> Result<(Symbols, C
     ensures sense { (p : Phrase) → IsPhrase p → tokens_in tokens.now ≡ phrase_words p →
         Gives (λ v. v) (bare result) (sense p) }
     ensures over { IfOk result (λ v. IsTrue (is_over v.0 v.1)) }
-    ensures word { (p : Phrase) → tokens_in tokens.now ≡ phrase_words p →
-        IfErr result (IsRefusedIn (phrase_prefix p)) }
+    ensures word { (p : Phrase) → IsPhrase p → tokens_in tokens.now ≡ phrase_words p →
+        IfErr result (IsToldIn (written_phrase p)) }
 {
     let prefix = prefix_of(alloc, tokens, words)?;
     if !prefix.fits() {
         return Err(Refusal::untold(TextFault::Limit));
     }
     let (symbols, items) = number_words(alloc, &prefix.nodes)?;
-    let config = config_of(alloc, items, prefix.terms)?;
-    Ok((symbols, config))
+    match config_of(alloc, items, prefix.terms) {
+        Ok(config) => Ok((symbols, config)),
+        Err(fault) => Err(refusal_of(fault, &prefix.nodes, 0)),
+    }
 }
 
 /// The sense of a text that spells a configuration of so many words and tokens.
@@ -49,7 +52,7 @@ fn config_in(alloc: Global, text: &[u8], counts: Counts) -> Result<(Symbols, Con
     ensures sense { (p : Phrase) → Spells text.now p → Gives (λ v. v) (bare result) (sense p) }
     ensures over { IfOk result (λ v. IsTrue (is_over v.0 v.1)) }
     ensures word { (p : Phrase) → Spells text.now p →
-        IfErr result (IsRefusedIn (phrase_prefix p)) }
+        IfErr result (IsToldIn (written_phrase p)) }
 {
     if counts.words as u64 > MAX_NODES {
         return Err(Refusal::untold(TextFault::Limit));
@@ -65,7 +68,7 @@ fn config_at(alloc: Global, text: &[u8], counts: Counts) -> Result<(Symbols, Con
     ensures sense { (p : Phrase) → Spells text.now p → Gives (λ v. v) (faulted result) (sense p) }
     ensures over { IfOk result (λ v. IsTrue (is_over v.0 v.1)) }
     ensures placed { IfErr result
-        (λ misread. IsPlaced IsPhrase phrase_words phrase_prefix text.now misread.fault
+        (λ misread. IsPlaced IsPhrase phrase_words written_phrase text.now misread.fault
         misread.place misread.detail) }
 {
     match config_in(alloc, text, counts) {
@@ -83,7 +86,7 @@ pub fn find_config(alloc: Global, text: &[u8]) -> Result<(Symbols, Config), Misr
     ensures refused { IfErr result
         (λ misread. misread.fault ≢ TextFault.Memory → Reads text.now (Err misread.fault)) }
     ensures placed { IfErr result
-        (λ misread. IsPlaced IsPhrase phrase_words phrase_prefix text.now misread.fault
+        (λ misread. IsPlaced IsPhrase phrase_words written_phrase text.now misread.fault
         misread.place misread.detail) }
     ensures memory { IfErr result
         (λ misread. misread.fault ≡ TextFault.Memory → (p : Phrase) × Spells text.now p) }

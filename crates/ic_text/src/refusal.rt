@@ -31,6 +31,17 @@ impl Refusal {
         }
     }
 
+    /// A refusal that is found at this word.
+    pub(crate) fn at(fault: TextFault, word: usize) -> Refusal
+        ensures { result ≡ record { fault = fault; word = Some word; detail = Nothing } }
+    {
+        Refusal {
+            fault,
+            word: Some(word),
+            detail: Detail::Nothing,
+        }
+    }
+
     /// A limit that is passed at this word.
     pub(crate) fn passed(word: usize, limit: Limit) -> Refusal
         ensures { result
@@ -74,15 +85,6 @@ impl Refusal {
                 detail: self.detail,
             },
         }
-    }
-}
-
-impl From<TextFault> for Refusal {
-    ghost from_gives = { λ fault refusal.
-        refusal ≡ record { fault = fault; word = None; detail = Nothing } };
-
-    fn from(fault: TextFault) -> Refusal {
-        Refusal::untold(fault)
     }
 }
 

@@ -2,16 +2,17 @@
 
 ghost use Rattle.std.specs.Prelude.{◌≡◌, ◌≢◌, ◌≤◌, length, IfOk, IfErr, Ok, Err, Some};
 ghost use Rattle.ic_text.specs.inner.Numbered.{Gives};
-ghost use Rattle.ic_text.specs.inner.Refused.{IsRefusedIn, bare, faulted};
+ghost use Rattle.ic_text.specs.inner.Refused.{IsToldIn, bare, faulted};
 ghost use Rattle.ic_text.specs.inner.Survey.{Tells};
 ghost use Rattle.ic_text.specs.Places.{IsPlaced};
 ghost use Rattle.ic_text.specs.SystemSense.{system_sense};
 ghost use Rattle.ic_text.specs.SystemSource.{SystemPhrase, IsSystemPhrase, system_words};
 ghost use Rattle.ic_text.specs.inner.Spelled.{SystemSpelledBy};
 ghost use Rattle.ic_text.specs.SystemText.{SpellsSystem, ReadsSystem};
-ghost use Rattle.ic_text.specs.Words.{system_prefix};
+ghost use Rattle.ic_text.specs.Words.{written_system};
 ghost use Rattle.ic_text.specs.inner.Tokens.{tokens_in};
 
+use crate::blame::refusal_of;
 use crate::build::system_of;
 use crate::fault::TextFault;
 use crate::limits::MAX_TEXT;
@@ -35,8 +36,9 @@ fn sense_of(alloc: Global, tokens: &[Token], words: usize) -> Result<System, Ref
     ensures sense { (s : SystemPhrase) → IsSystemPhrase s →
         tokens_in tokens.now ≡ system_words s →
         Gives (λ system. system) (bare result) (system_sense s) }
-    ensures word { (s : SystemPhrase) → tokens_in tokens.now ≡ system_words s →
-        IfErr result (IsRefusedIn (system_prefix s)) }
+    ensures word { (s : SystemPhrase) → IsSystemPhrase s →
+        tokens_in tokens.now ≡ system_words s →
+        IfErr result (IsToldIn (written_system s)) }
 {
     let (rules, config) = split_at_brace(&tokens[1..]);
     let mut rules = prefix_of(alloc, rules, words)?;
@@ -44,10 +46,13 @@ fn sense_of(alloc: Global, tokens: &[Token], words: usize) -> Result<System, Ref
     if !rules.fits_rules() || !config.fits() {
         return Err(Refusal::untold(TextFault::Limit));
     }
+    let before = rules.words();
     rules.nodes.append(&mut config.nodes)?;
     let (symbols, items) = number_words(alloc, &rules.nodes)?;
-    let system = system_of(alloc, symbols, items, rules.terms, config.terms)?;
-    Ok(system)
+    match system_of(alloc, symbols, items, rules.terms, config.terms) {
+        Ok(system) => Ok(system),
+        Err(fault) => Err(refusal_of(fault, &rules.nodes, before)),
+    }
 }
 
 /// The sense of a text that spells a system of so many words and tokens.
@@ -56,7 +61,7 @@ fn system_in(alloc: Global, text: &[u8], counts: Counts) -> Result<System, Refus
     ensures sense { (s : SystemPhrase) → SpellsSystem text.now s →
         Gives (λ system. system) (bare result) (system_sense s) }
     ensures word { (s : SystemPhrase) → SpellsSystem text.now s →
-        IfErr result (IsRefusedIn (system_prefix s)) }
+        IfErr result (IsToldIn (written_system s)) }
 {
     if counts.words as u64 > MAX_WORDS {
         return Err(Refusal::untold(TextFault::Limit));
@@ -72,7 +77,7 @@ fn system_at(alloc: Global, text: &[u8], counts: Counts) -> Result<System, Misre
     ensures sense { (s : SystemPhrase) → SpellsSystem text.now s →
         Gives (λ system. system) (faulted result) (system_sense s) }
     ensures placed { IfErr result
-        (λ misread. IsPlaced IsSystemPhrase system_words system_prefix text.now misread.fault
+        (λ misread. IsPlaced IsSystemPhrase system_words written_system text.now misread.fault
         misread.place misread.detail) }
 {
     match system_in(alloc, text, counts) {
@@ -89,7 +94,7 @@ pub fn find_system(alloc: Global, text: &[u8]) -> Result<System, Misread>
     ensures refused { IfErr result
         (λ misread. misread.fault ≢ TextFault.Memory → ReadsSystem text.now (Err misread.fault)) }
     ensures placed { IfErr result
-        (λ misread. IsPlaced IsSystemPhrase system_words system_prefix text.now misread.fault
+        (λ misread. IsPlaced IsSystemPhrase system_words written_system text.now misread.fault
         misread.place misread.detail) }
     ensures memory { IfErr result (λ misread. misread.fault ≡ TextFault.Memory
         → (s : SystemPhrase) × SpellsSystem text.now s) }

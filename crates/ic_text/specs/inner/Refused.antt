@@ -1,12 +1,13 @@
 -- For private functions: a refusal and the word at which it is found.
-use Rattle.std.specs.Prelude.{◌≡◌, ℕ, ◌<◌, ◌⊎◌, List, [], ◌∷◌, ◌++◌, Option, None, Some, Result, Ok, Err, length, nat_lt, unwrap_or, if◌then◌else◌}
+use Rattle.std.specs.Prelude.{◌≡◌, ℕ, ◌+◌, ◌<◌, ◌≤◌, ◌⊎◌, List, [], ◌∷◌, ◌++◌, false, Option, None, Some, Result, Ok, Err, IsTrue, length, take, nat_lt, slice_get, unwrap_or, if◌then◌else◌}
 use Rattle.std.specs.Option.{option_or}
 use Rattle.ic_term.specs.Symbol.{Symbol, symbol_arity}
+use Rattle.ic_rules.specs.Renaming.{are_paired}
 use Rattle.ic_term.specs.declared.symbols.SymbolFault.{SymbolFault}
 use Rattle.ic_term.specs.declared.symbols.SymbolFault.TheVariants.{Limit as OverLimit, Arity as OtherArity}
 use Rattle.ic_term.specs.declared.limits.TheConstants.{MAX_SYMBOL_TEXT, MAX_ARITY}
 use Rattle.ic_text.specs.declared.fault.TextFault.{TextFault}
-use Rattle.ic_text.specs.declared.fault.TextFault.TheVariants.{Syntax, Limit as TooMuch, Arity, Memory}
+use Rattle.ic_text.specs.declared.fault.TextFault.TheVariants.{Limit as TooMuch, NameCount, Name, Twice, Lopsided, Memory}
 use Rattle.ic_text.specs.declared.misread.Detail.{Detail}
 use Rattle.ic_text.specs.declared.misread.Detail.TheVariants.{Nothing, Passed}
 use Rattle.ic_text.specs.declared.misread.Limit.{Limit}
@@ -16,10 +17,13 @@ use Rattle.ic_text.specs.declared.number.Item.{Item}
 use Rattle.ic_text.specs.declared.number.Numbering.{Numbering}
 use Rattle.ic_text.specs.declared.refusal.Refusal.{Refusal}
 use Rattle.ic_text.specs.inner.Numbered.{table_with}
-use Rattle.ic_text.specs.Name.{is_name}
+use Rattle.ic_text.specs.declared.limits.TheConstants.{MAX_NAME}
+use Rattle.ic_text.specs.Name.{is_name, name_text}
 use Rattle.ic_text.specs.Places.{IsWordPlace}
 use Rattle.ic_text.specs.Token.{Token, tokens, words_among}
-use Rattle.ic_text.specs.WordFaults.{IsWordOf}
+use Rattle.ic_text.specs.SystemSource.{RulePhrase, SystemPhrase}
+use Rattle.ic_text.specs.Words.{Written, names_among, phrase_prefix, rule_prefix, rules_prefix, system_prefix}
+use Rattle.ic_text.specs.WordFaults.{IsFaultWord, IsWordOf, is_miscounted, uses}
 
 -- a text has a word behind so many others
 abbrev pub HasWord : List ℕ → ℕ → Type 0
@@ -31,16 +35,70 @@ IsPlaceOf text None None = Unit {0}
 IsPlaceOf text (Some k) (Some at) = IsWordPlace text k at
 IsPlaceOf text _ _ = ⊥
 
--- the word of a refusal, where one is told, as it is of each clash of arities; and it is none of syntax
+-- the word of a refusal by limits, arities or memory, where one is told
 abbrev pub IsWordIn : List Symbol → TextFault → Option ℕ → Detail → Type 0
 IsWordIn ws fault (Some k) detail = IsWordOf ws fault k detail
-IsWordIn ws Syntax None detail = ⊥
-IsWordIn ws Arity None detail = ⊥
-IsWordIn ws fault None detail = Unit {0}
+IsWordIn ws TooMuch None detail = Unit {0}
+IsWordIn ws Memory None detail = Unit {0}
+IsWordIn ws fault None detail = ⊥
 
 -- the same of a whole refusal
 abbrev pub IsRefusedIn : List Symbol → Refusal → Type 0
 IsRefusedIn ws refusal = IsWordIn ws refusal.fault refusal.word refusal.detail
+
+-- the word of any refusal, where one is told, as it is of all but limits and memory
+abbrev pub IsToldWord : Written → TextFault → Option ℕ → Detail → Type 0
+IsToldWord w fault (Some k) detail = IsFaultWord w fault k detail
+IsToldWord w TooMuch None detail = Unit {0}
+IsToldWord w Memory None detail = Unit {0}
+IsToldWord w fault None detail = ⊥
+
+-- the same of a whole refusal
+abbrev pub IsToldIn : Written → Refusal → Type 0
+IsToldIn w refusal = IsToldWord w refusal.fault refusal.word refusal.detail
+
+-- words begin with those of rules
+abbrev pub BeginsWith : List Symbol → List RulePhrase → Type 0
+BeginsWith ws rs = (rest : List Symbol) × (ws ≡ rules_prefix rs ++ rest)
+
+-- the first word of a rule that is a name's only or third one there
+pub record IsFirstMiscounted (ws : List Symbol) (j : ℕ) : Type 0 where
+  pub inside : j < length ws
+  pub wrong : IsTrue (is_miscounted ws j)
+  pub first : (i : ℕ) → i < j → is_miscounted ws i ≡ false
+
+-- words begin with those of rules, one of which has a name that doesn't stand there twice
+pub record IsMiscountedRule (ws : List Symbol) (rs : List RulePhrase) (i : ℕ) : Type 0 where
+  pub begins : BeginsWith ws rs
+  pub rule : RulePhrase
+  pub there : slice_get rs i ≡ Some rule
+  pub unpaired : are_paired (names_among (rule_prefix rule)) ≡ false
+
+-- and where the first of its words is that is refused
+pub record IsMiscountedWord (rs : List RulePhrase) (i k : ℕ) : Type 0 where
+  pub rule : RulePhrase
+  pub there : slice_get rs i ≡ Some rule
+  pub before : ℕ
+  pub miscounted : IsFirstMiscounted (rule_prefix rule) before
+  pub place : k ≡ length (rules_prefix (take i rs)) + before
+
+-- a system has what it is refused for
+abbrev pub HasFault : SystemPhrase → TextFault → Type 0
+HasFault s TooMuch = Unit {0}
+HasFault s (NameCount i) = (r : RulePhrase) × (slice_get s.rules i ≡ Some r)
+    × (are_paired (names_among (rule_prefix r)) ≡ false)
+HasFault s (Name n) = (n ≤ MAX_NAME) × (3 ≤ uses (name_text n) (phrase_prefix s.config))
+HasFault s (Twice i) = i < length s.rules
+HasFault s (Lopsided i) = i < length s.rules
+HasFault s Memory = Unit {0}
+HasFault s _ = ⊥
+
+-- the same, and these are its words, so many of them those of its rules
+pub record IsFaultyIn (s : SystemPhrase) (fault : TextFault) (ws : List Symbol) (rules : ℕ)
+    : Type 0 where
+  pub words : ws ≡ system_prefix s
+  pub before : rules ≡ length (rules_prefix s.rules)
+  pub has : HasFault s fault
 
 -- a result without the word of its refusal
 abbrev pub bare : {A : Type 0} → Result A Refusal → Result A TextFault

@@ -1,4 +1,4 @@
-use Rattle.std.proofs.Common.{refl, sym, ap, ◌∙◌}
+use Rattle.std.proofs.Common.{refl}
 use Rattle.std.proofs.lemmas.Result.{err_from_is_err_and}
 use Rattle.ic_text.specs.inner.Prefix.{nodes_of}
 use Rattle.ic_text.proofs.Blaming.{node_is_word, node_goes_on, node_word, node_numbers, begins, all_numbered, ends_clash, ends_second, ends_numbers}
