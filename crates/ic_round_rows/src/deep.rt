@@ -2,7 +2,7 @@
 
 use ic_notation::Trouble;
 use ic_round::round;
-use ic_rules::RuleSet;
+use ic_rules::{RuleSet, System};
 use ic_term::{Config, over};
 use ic_text::{print_config, read_system};
 use std::alloc::{AllocError, Global};
@@ -37,13 +37,28 @@ fn after_round(
     if !over(rules.symbols(), &config) {
         return Ok(None);
     }
-    let Ok(after) = round(alloc, rules, config) else {
-        return Ok(None);
-    };
-    if !over(rules.symbols(), &after) {
+    match round(alloc, rules, config) {
+        Ok(after) => text_of(alloc, rules, &after),
+        Err(_) => Ok(None),
+    }
+}
+
+/// The text of a configuration, if it is over the symbols.
+fn text_of(alloc: Global, rules: &RuleSet, config: &Config) -> Result<Option<Vec<u8>>, AllocError> {
+    if !over(rules.symbols(), config) {
         return Ok(None);
     }
-    Ok(Some(print_config(alloc, rules.symbols(), &after)?))
+    Ok(Some(print_config(alloc, rules.symbols(), config)?))
+}
+
+/// Whether a system is copied and compared, and its round has this text.
+fn gives(alloc: Global, system: System, line: &[u8]) -> Result<bool, AllocError> {
+    let (rules, config) = system.into_parts();
+    let same = is_copied(alloc, &config)?;
+    match after_round(alloc, &rules, config)? {
+        Some(after) => Ok(same && after.as_slice() == line),
+        None => Ok(false),
+    }
 }
 
 /// Whether `A(T)`, 8,190 nested agents, is read, copied, compared, fired, settled and printed as it should be: the round
@@ -51,14 +66,9 @@ fn after_round(
 fn goes_deep(alloc: Global) -> Result<bool, AllocError> {
     let text = nested(alloc, b"{A(x)><B(x)}<|A(", b")=B(P)>")?;
     let expected = nested(alloc, b"<|P=", b">")?;
-    let Ok(system) = read_system(alloc, &text) else {
-        return Ok(false);
-    };
-    let (rules, config) = system.into_parts();
-    let same = is_copied(alloc, &config)?;
-    match after_round(alloc, &rules, config)? {
-        Some(line) => Ok(same && line.as_slice() == expected.as_slice()),
-        None => Ok(false),
+    match read_system(alloc, &text) {
+        Ok(system) => gives(alloc, system, &expected),
+        Err(_) => Ok(false),
     }
 }
 

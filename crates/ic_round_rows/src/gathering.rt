@@ -29,46 +29,50 @@ fn two_gaps(alloc: Global) -> Result<Rest, AllocError>
     Ok(Rest::new(Vec::new(alloc), gaps, 0))
 }
 
-fn without_results(alloc: Global) -> Result<Result<Config, GatherFault>, Trouble> {
-    Ok(gather(alloc, two_gaps(alloc)?, Vec::new(alloc)))
+/// Why gaps aren't filled.
+fn told(answer: Result<Config, GatherFault>) -> Result<&'static str, Trouble> {
+    match answer {
+        Ok(_) => Ok("filled"),
+        Err(GatherFault::Lost) => Ok("lost"),
+        Err(GatherFault::Stranger) => Ok("stranger"),
+        Err(GatherFault::Memory) => Err(Trouble("no memory")),
+    }
 }
 
-fn with_one_twice(alloc: Global) -> Result<Result<Config, GatherFault>, Trouble> {
+fn without_results(alloc: Global) -> Result<&'static str, Trouble> {
+    told(gather(alloc, two_gaps(alloc)?, Vec::new(alloc)))
+}
+
+fn with_one_twice(alloc: Global) -> Result<&'static str, Trouble> {
     let mut results = Vec::new(alloc);
     results.push(nothing_at(alloc, 1))?;
     results.push(nothing_at(alloc, 1))?;
-    Ok(gather(alloc, two_gaps(alloc)?, results))
+    told(gather(alloc, two_gaps(alloc)?, results))
 }
 
-fn with_one_again(alloc: Global) -> Result<Result<Config, GatherFault>, Trouble> {
+fn with_one_again(alloc: Global) -> Result<&'static str, Trouble> {
     let mut results = Vec::new(alloc);
     results.push(nothing_at(alloc, 1))?;
     results.push(nothing_at(alloc, 0))?;
     results.push(nothing_at(alloc, 1))?;
-    Ok(gather(alloc, two_gaps(alloc)?, results))
+    told(gather(alloc, two_gaps(alloc)?, results))
 }
 
-fn with_one_for_no_gap(alloc: Global) -> Result<Result<Config, GatherFault>, Trouble> {
+fn with_one_for_no_gap(alloc: Global) -> Result<&'static str, Trouble> {
     let mut results = Vec::new(alloc);
     results.push(nothing_at(alloc, 1))?;
     results.push(nothing_at(alloc, 0))?;
     results.push(nothing_at(alloc, 2))?;
-    Ok(gather(alloc, two_gaps(alloc)?, results))
+    told(gather(alloc, two_gaps(alloc)?, results))
 }
 
 /// Why two gaps aren't filled: by no result, by one twice, by both and one again, by both and one for another place.
 pub fn gathered(alloc: Global, results: &str) -> Result<Vec<u8>, Trouble> {
-    let answer = match results {
+    let line = match results {
         "none" => without_results(alloc)?,
         "1 1" => with_one_twice(alloc)?,
         "1 0 1" => with_one_again(alloc)?,
         _ => with_one_for_no_gap(alloc)?,
-    };
-    let line = match answer.err() {
-        None => "filled",
-        Some(GatherFault::Lost) => "lost",
-        Some(GatherFault::Stranger) => "stranger",
-        Some(GatherFault::Memory) => return Err(Trouble("no memory")),
     };
     Ok(Vec::from_slice(alloc, line.as_bytes())?)
 }

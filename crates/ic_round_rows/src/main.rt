@@ -1,13 +1,17 @@
-//! The worked rows of steps, settling and rounds: `answers` says what a row may ask.
+//! The worked rows of steps, settling and rounds, on terms and on words. `answers` says what a row may ask.
 #![tactic(auto)]
 
 mod answers;
+mod configurations;
 mod deep;
 mod drawn;
+mod drawn_systems;
 mod gathering;
 mod rounds;
 mod settling;
 mod steps;
+mod systems;
+mod words;
 
 use crate::answers::Kinds;
 use ic_notation::check_rows;

@@ -1,126 +1,82 @@
-//! Rounds of systems.
+//! Rounds and settling by all bodies: terms and equations, new lists, and the lists of a workspace.
 
-use ic_notation::{Trouble, decimal, printed, system_of};
-use ic_round::{RoundFault, fits, quiet, round};
+use crate::configurations::{config_of, text_over};
+use crate::systems::{put_text, read};
+use ic_flat::{Flat, over};
+use ic_flat_round::{FlatRules, Workspace, fits, quiet};
+use ic_notation::{Trouble, decimal};
+use ic_round::RoundFault;
 use ic_rules::RuleSet;
-use ic_term::{Config, over};
+use ic_term::{Config, Symbols};
 use std::alloc::Global;
 
-/// The configuration after one round or why there is none, where `fits` says the same.
-fn attempt(
+/// What settling makes of a configuration as terms and equations.
+fn settled_as_terms(alloc: Global, flat: &Flat) -> Result<Flat, Trouble> {
+    let config = flat.to_config(alloc)?;
+    let after = ic_settle::settle(alloc, config)?;
+    Ok(Flat::from_config(alloc, &after)?)
+}
+
+/// What settling makes of a configuration, if all bodies make the same of it.
+fn settled_by_all(alloc: Global, workspace: &mut Workspace, flat: &Flat) -> Result<Flat, Trouble> {
+    let other = settled_as_terms(alloc, flat)?;
+    let kept = workspace.settle(alloc, flat)?;
+    let after = ic_flat_round::settle(alloc, flat)?;
+    if after == other && kept == other {
+        Ok(after)
+    } else {
+        Err(Trouble("the bodies differ"))
+    }
+}
+
+/// A configuration that all bodies have settled.
+fn settled(alloc: Global, flat: &Flat) -> Result<Config, Trouble> {
+    let mut workspace = Workspace::new(alloc);
+    let after = settled_by_all(alloc, &mut workspace, flat)?;
+    Ok(after.to_config(alloc)?)
+}
+
+/// The text of a configuration that all bodies have settled.
+fn settled_text(alloc: Global, symbols: &Symbols, config: &Config) -> Result<Vec<u8>, Trouble> {
+    let flat = Flat::from_config(alloc, config)?;
+    let after = settled(alloc, &flat)?;
+    text_over(alloc, symbols, &after)
+}
+
+/// The settled text of a configuration.
+pub fn settles(alloc: Global, text: &str) -> Result<Vec<u8>, Trouble> {
+    let (symbols, config) = config_of(alloc, text)?;
+    settled_text(alloc, &symbols, &config)
+}
+
+/// What a round of terms and equations makes of a configuration.
+fn round_of_terms(
     alloc: Global,
     rules: &RuleSet,
-    config: Config,
-) -> Result<Result<Config, RoundFault>, Trouble> {
-    if !over(rules.symbols(), &config) {
+    flat: &Flat,
+) -> Result<Result<Flat, RoundFault>, Trouble> {
+    let config = flat.to_config(alloc)?;
+    if !ic_term::over(rules.symbols(), &config) {
         return Err(Trouble("not over the symbols"));
     }
-    let is_fit = fits(rules, &config);
-    let after = round(alloc, rules, config);
-    if after.is_ok() != is_fit {
-        return Err(Trouble("what fits and what has a round differ"));
-    }
-    Ok(after)
-}
-
-/// The configuration after one round.
-fn after_round(alloc: Global, rules: &RuleSet, config: Config) -> Result<Config, Trouble> {
-    match attempt(alloc, rules, config)? {
-        Ok(after) => Ok(after),
-        Err(_) => Err(Trouble("a round is refused")),
+    let is_fit = ic_round::fits(rules, &config);
+    match ic_round::round(alloc, rules, config) {
+        Ok(after) if is_fit => Ok(Ok(Flat::from_config(alloc, &after)?)),
+        Err(fault) if !is_fit => Ok(Err(fault)),
+        _ => Err(Trouble("what fits and what has a round differ")),
     }
 }
 
-/// `next` and the text after each of so many rounds, and whether the last configuration is quiet.
-pub fn rounds(alloc: Global, count: u32, text: &[u8]) -> Result<Vec<u8>, Trouble> {
-    let mut line = Vec::new(alloc);
-    let (rules, mut config) = system_of(alloc, text)?.into_parts();
-    for _ in 0..count {
-        config = after_round(alloc, &rules, config)?;
-        tell_round(alloc, &rules, &config, &mut line)?;
+/// Whether an answer is this fault, or where there is none, this configuration.
+fn is_answer(answer: &Result<Flat, RoundFault>, fault: Option<RoundFault>, flat: &Flat) -> bool {
+    match (answer, fault) {
+        (Ok(after), None) => after == flat,
+        (Err(one), Some(other)) => *one == other,
+        _ => false,
     }
-    tell_end(&rules, &config, &mut line)?;
-    Ok(line)
 }
 
-/// Adds `next` and the text of a configuration to a line.
-fn tell_round(
-    alloc: Global,
-    rules: &RuleSet,
-    config: &Config,
-    line: &mut Vec<u8>,
-) -> Result<(), Trouble> {
-    decimal(line, config.next())?;
-    line.push(b' ')?;
-    line.extend_from_slice(&printed(alloc, rules, config)?)?;
-    line.push(b' ')?;
-    Ok(())
-}
-
-/// Adds to a line whether a configuration is quiet.
-fn tell_end(rules: &RuleSet, config: &Config, line: &mut Vec<u8>) -> Result<(), Trouble> {
-    line.extend_from_slice(if quiet(rules, config) {
-        b"quiet"
-    } else {
-        b"on"
-    })?;
-    Ok(())
-}
-
-/// After how many rounds, at most so many, the configuration is quiet, and its text.
-pub fn ends(alloc: Global, most: u32, text: &[u8]) -> Result<Vec<u8>, Trouble> {
-    let (rules, mut config) = system_of(alloc, text)?.into_parts();
-    let mut count = 0u64;
-    for _ in 0..most {
-        if quiet(&rules, &config) {
-            break;
-        }
-        config = after_round(alloc, &rules, config)?;
-        count = count.saturating_add(1);
-    }
-    line_of_end(alloc, &rules, &config, count)
-}
-
-/// The number of rounds that were made, whether the configuration is quiet, and its text.
-fn line_of_end(
-    alloc: Global,
-    rules: &RuleSet,
-    config: &Config,
-    count: u64,
-) -> Result<Vec<u8>, Trouble> {
-    let mut line = Vec::new(alloc);
-    decimal(&mut line, count)?;
-    line.push(b' ')?;
-    tell_end(rules, config, &mut line)?;
-    line.push(b' ')?;
-    line.extend_from_slice(&printed(alloc, rules, config)?)?;
-    Ok(line)
-}
-
-/// How many rounds succeed, at most so many, and why the next one is refused.
-pub fn lasts(alloc: Global, most: u32, text: &[u8]) -> Result<Vec<u8>, Trouble> {
-    let (rules, mut config) = system_of(alloc, text)?.into_parts();
-    for count in 0..most {
-        match attempt(alloc, &rules, config)? {
-            Ok(after) => config = after,
-            Err(fault) => return line_of_fault(alloc, count, &fault),
-        }
-    }
-    let mut line = Vec::new(alloc);
-    decimal(&mut line, u64::from(most))?;
-    Ok(line)
-}
-
-/// The number of rounds that were made, and why the next one is refused.
-fn line_of_fault(alloc: Global, count: u32, fault: &RoundFault) -> Result<Vec<u8>, Trouble> {
-    let mut line = Vec::new(alloc);
-    decimal(&mut line, u64::from(count))?;
-    line.push(b' ')?;
-    line.extend_from_slice(name_of(fault))?;
-    Ok(line)
-}
-
-fn name_of(fault: &RoundFault) -> &'static [u8] {
+fn name_of(fault: RoundFault) -> &'static [u8] {
     match fault {
         RoundFault::Overgrown => b"overgrown",
         RoundFault::NamesOut => b"names out",
@@ -128,20 +84,196 @@ fn name_of(fault: &RoundFault) -> &'static [u8] {
     }
 }
 
-/// The round of a system with another `next` before its text.
-pub fn top_numbers(alloc: Global, text: &str) -> Result<Vec<u8>, Trouble> {
-    let (number, text) = text.split_once(' ').unwrap_or(("", text));
-    let next = u64::from_str_radix(number, 10).unwrap_or(0);
-    let (rules, config) = system_of(alloc, text.as_bytes())?.into_parts();
-    let (interface, equations, _) = config.into_parts();
-    let top = Config::restore(alloc, interface, equations, next)?;
-    line_of_round(alloc, &rules, top)
+/// What is asked of the rounds of a system.
+#[derive(Clone, Copy, Debug)]
+pub enum Question {
+    /// The text after one round, or why there is none.
+    One,
+    /// `next` and the text after each of so many rounds, and whether the last configuration is quiet.
+    Each(u32),
+    /// After how many rounds, at most so many, the configuration is quiet, and its text.
+    End(u32),
+    /// How many rounds succeed, at most so many, and why the next one is refused.
+    Last(u32),
 }
 
-/// The text after a round, or why there is none.
-fn line_of_round(alloc: Global, rules: &RuleSet, config: Config) -> Result<Vec<u8>, Trouble> {
-    match attempt(alloc, rules, config)? {
-        Ok(after) => printed(alloc, rules, &after),
-        Err(fault) => Ok(Vec::from_slice(alloc, name_of(&fault))?),
+/// Rules, and the lists in which all rounds by them are made.
+#[derive(Drop)]
+pub struct Rounds {
+    rules: FlatRules,
+    workspace: Workspace,
+}
+
+impl Rounds {
+    pub fn new(alloc: Global, rules: FlatRules) -> Rounds {
+        Rounds {
+            rules,
+            workspace: Workspace::new(alloc),
+        }
     }
+
+    /// Settles a configuration by all bodies, and then makes at most so many rounds of it, as `run` does.
+    pub fn settle_and_run(
+        &mut self,
+        alloc: Global,
+        flat: &mut Flat,
+        most: u32,
+    ) -> Result<u32, Trouble> {
+        settled_by_all(alloc, &mut self.workspace, flat)?;
+        self.run(alloc, flat, most)
+    }
+
+    /// Makes a round of a configuration in its place, or tells why there is none, if all bodies make the same of it.
+    fn make(&mut self, alloc: Global, flat: &mut Flat) -> Result<Option<RoundFault>, Trouble> {
+        let rules = self.rules.rules();
+        if !over(rules.symbols(), flat) {
+            return Err(Trouble("not over the symbols"));
+        }
+        let is_fit = fits(rules, flat);
+        let terms = round_of_terms(alloc, rules, flat)?;
+        let fresh = ic_flat_round::round(alloc, &self.rules, flat);
+        let fault = self.workspace.round(alloc, &self.rules, flat).err();
+        let is_same = is_answer(&terms, fault, flat) && is_answer(&fresh, fault, flat);
+        if is_same && is_fit == fault.is_none() {
+            Ok(fault)
+        } else {
+            Err(Trouble("the bodies differ"))
+        }
+    }
+
+    /// Makes at most so many rounds while a configuration isn't quiet, and tells how many.
+    fn run(&mut self, alloc: Global, flat: &mut Flat, most: u32) -> Result<u32, Trouble> {
+        for count in 0..most {
+            if self.is_quiet(alloc, flat)? {
+                return Ok(count);
+            }
+            if self.make(alloc, flat)?.is_some() {
+                return Err(Trouble("a round is refused"));
+            }
+        }
+        Ok(most)
+    }
+
+    /// Appends the text of a configuration.
+    fn put_text(&self, alloc: Global, flat: &Flat, line: &mut Vec<u8>) -> Result<(), Trouble> {
+        put_text(alloc, self.rules.rules(), flat, line)
+    }
+
+    /// Whether a configuration is quiet, if both forms of it answer the same.
+    fn is_quiet(&self, alloc: Global, flat: &Flat) -> Result<bool, Trouble> {
+        let rules = self.rules.rules();
+        let config = flat.to_config(alloc)?;
+        let is_quiet = quiet(rules, flat);
+        if is_quiet != ic_round::quiet(rules, &config) {
+            return Err(Trouble("the two forms differ"));
+        }
+        Ok(is_quiet)
+    }
+
+    /// Appends whether a configuration is quiet.
+    fn put_end(&self, alloc: Global, flat: &Flat, line: &mut Vec<u8>) -> Result<(), Trouble> {
+        let end = if self.is_quiet(alloc, flat)? {
+            "quiet"
+        } else {
+            "on"
+        };
+        line.extend_from_slice(end.as_bytes())?;
+        Ok(())
+    }
+
+    /// Appends the text after one round, or why there is none.
+    fn put_one(
+        &mut self,
+        alloc: Global,
+        flat: &mut Flat,
+        line: &mut Vec<u8>,
+    ) -> Result<(), Trouble> {
+        match self.make(alloc, flat)? {
+            None => self.put_text(alloc, flat, line),
+            Some(fault) => Ok(line.extend_from_slice(name_of(fault))?),
+        }
+    }
+
+    /// Appends what there is after each round.
+    fn put_each(
+        &mut self,
+        alloc: Global,
+        flat: &mut Flat,
+        count: u32,
+        line: &mut Vec<u8>,
+    ) -> Result<(), Trouble> {
+        for _ in 0..count {
+            if self.make(alloc, flat)?.is_some() {
+                return Err(Trouble("a round is refused"));
+            }
+            decimal(line, flat.next())?;
+            line.push(b' ')?;
+            self.put_text(alloc, flat, line)?;
+            line.push(b' ')?;
+        }
+        self.put_end(alloc, flat, line)
+    }
+
+    /// Appends after how many rounds what there is.
+    fn put_last(
+        &mut self,
+        alloc: Global,
+        flat: &mut Flat,
+        most: u32,
+        line: &mut Vec<u8>,
+    ) -> Result<(), Trouble> {
+        let count = self.run(alloc, flat, most)?;
+        decimal(line, u64::from(count))?;
+        line.push(b' ')?;
+        self.put_end(alloc, flat, line)?;
+        line.push(b' ')?;
+        self.put_text(alloc, flat, line)
+    }
+
+    /// Appends how many rounds succeed, and why the next one is refused.
+    fn put_refusal(
+        &mut self,
+        alloc: Global,
+        flat: &mut Flat,
+        most: u32,
+        line: &mut Vec<u8>,
+    ) -> Result<(), Trouble> {
+        for count in 0..most {
+            if let Some(fault) = self.make(alloc, flat)? {
+                decimal(line, u64::from(count))?;
+                line.push(b' ')?;
+                return Ok(line.extend_from_slice(name_of(fault))?);
+            }
+        }
+        Ok(decimal(line, u64::from(most))?)
+    }
+
+    fn put_answer(
+        &mut self,
+        alloc: Global,
+        question: Question,
+        flat: &mut Flat,
+        line: &mut Vec<u8>,
+    ) -> Result<(), Trouble> {
+        match question {
+            Question::One => self.put_one(alloc, flat, line),
+            Question::Each(count) => self.put_each(alloc, flat, count, line),
+            Question::End(most) => self.put_last(alloc, flat, most, line),
+            Question::Last(most) => self.put_refusal(alloc, flat, most, line),
+        }
+    }
+}
+
+/// The answer to a question on the rounds of a system, which begins with this `next` or its own.
+pub fn told(
+    alloc: Global,
+    question: Question,
+    next: Option<u64>,
+    text: &str,
+) -> Result<Vec<u8>, Trouble> {
+    let (rules, mut flat) = read(alloc, next, text)?;
+    let mut rounds = Rounds::new(alloc, rules);
+    let mut line = Vec::new(alloc);
+    rounds.put_answer(alloc, question, &mut flat, &mut line)?;
+    Ok(line)
 }

@@ -1,18 +1,11 @@
 //! Settling through bindings, beside the settling that makes one step after the other.
 
+use crate::configurations::{config_of, text_over};
 use ic_notation::{Trouble, decimal};
 use ic_round::laws::settle_slowly;
 use ic_round::{bind, settle};
-use ic_term::{Config, Symbols, Term, over};
-use ic_text::{print_config, read_config};
+use ic_term::{Config, Symbols, Term};
 use std::alloc::Global;
-
-fn printed(alloc: Global, symbols: &Symbols, config: &Config) -> Result<Vec<u8>, Trouble> {
-    if !over(symbols, config) {
-        return Err(Trouble("not over the symbols"));
-    }
-    Ok(print_config(alloc, symbols, config)?)
-}
 
 /// What both bodies make of a configuration.
 pub fn both_settled(alloc: Global, config: Config) -> Result<Config, Trouble> {
@@ -24,20 +17,21 @@ pub fn both_settled(alloc: Global, config: Config) -> Result<Config, Trouble> {
     Ok(fast)
 }
 
-/// What both bodies make of the configuration of a text.
-pub fn settled_twice(alloc: Global, text: &[u8]) -> Result<Vec<u8>, Trouble> {
-    let Ok((symbols, config)) = read_config(alloc, text) else {
-        return Err(Trouble("a text is refused"));
-    };
+/// The text of what both bodies make of a configuration.
+fn settled_text(alloc: Global, symbols: &Symbols, config: Config) -> Result<Vec<u8>, Trouble> {
     let settled = both_settled(alloc, config)?;
-    printed(alloc, &symbols, &settled)
+    text_over(alloc, symbols, &settled)
+}
+
+/// What both bodies make of the configuration of a text.
+pub fn settled_twice(alloc: Global, text: &str) -> Result<Vec<u8>, Trouble> {
+    let (symbols, config) = config_of(alloc, text)?;
+    settled_text(alloc, &symbols, config)
 }
 
 /// What a configuration binds: each name and the term that is put for it, as a configuration of both.
-pub fn bindings(alloc: Global, text: &[u8]) -> Result<Vec<u8>, Trouble> {
-    let Ok((symbols, config)) = read_config(alloc, text) else {
-        return Err(Trouble("a text is refused"));
-    };
+pub fn bindings(alloc: Global, text: &str) -> Result<Vec<u8>, Trouble> {
+    let (symbols, config) = config_of(alloc, text)?;
     let bindings = bind(alloc, &config)?;
     line_of_bindings(alloc, &symbols, bindings)
 }
@@ -50,12 +44,34 @@ fn line_of_bindings(
 ) -> Result<Vec<u8>, Trouble> {
     let mut line = Vec::new(alloc);
     decimal(&mut line, bindings.len() as u64)?;
-    for (name, term) in bindings {
-        let pair = name_and_term(alloc, name, term)?;
-        line.push(b' ')?;
-        line.extend_from_slice(&printed(alloc, symbols, &pair)?)?;
-    }
+    tell_bindings(alloc, symbols, bindings, &mut line)?;
     Ok(line)
+}
+
+fn tell_bindings(
+    alloc: Global,
+    symbols: &Symbols,
+    bindings: Vec<(u64, Term)>,
+    line: &mut Vec<u8>,
+) -> Result<(), Trouble> {
+    for (name, term) in bindings {
+        tell_binding(alloc, symbols, name, term, line)?;
+    }
+    Ok(())
+}
+
+/// Adds the configuration whose interface is a name and a term.
+fn tell_binding(
+    alloc: Global,
+    symbols: &Symbols,
+    name: u64,
+    term: Term,
+    line: &mut Vec<u8>,
+) -> Result<(), Trouble> {
+    let pair = name_and_term(alloc, name, term)?;
+    line.push(b' ')?;
+    line.extend_from_slice(&text_over(alloc, symbols, &pair)?)?;
+    Ok(())
 }
 
 /// The configuration whose interface is a name and a term.

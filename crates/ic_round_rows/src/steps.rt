@@ -37,12 +37,25 @@ fn line_of_step(
 
 /// The rule and the base of each work of a plan, and how many products it gives, at most so many works.
 pub fn products(alloc: Global, most: usize, text: &[u8]) -> Result<Vec<u8>, Trouble> {
-    let mut line = Vec::new(alloc);
     let (rules, config) = system_of(alloc, text)?.into_parts();
-    for work in works_of(alloc, &rules, config)?.into_iter().take(most) {
-        tell_work(alloc, &rules, work, &mut line)?;
-    }
+    let works = works_of(alloc, &rules, config)?;
+    let mut line = Vec::new(alloc);
+    tell_works(alloc, &rules, works, most, &mut line)?;
     Ok(line)
+}
+
+/// Adds what works are to a line, at most so many.
+fn tell_works(
+    alloc: Global,
+    rules: &RuleSet,
+    works: Vec<Work>,
+    most: usize,
+    line: &mut Vec<u8>,
+) -> Result<(), Trouble> {
+    for work in works.into_iter().take(most) {
+        tell_work(alloc, rules, work, line)?;
+    }
+    Ok(())
 }
 
 /// The works of the plan of a configuration.

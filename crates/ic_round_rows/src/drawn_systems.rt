@@ -123,7 +123,7 @@ fn most_rounds(alloc: Global) -> Result<u32, Trouble> {
 }
 
 /// Whether all bodies agree on the rounds of 2,000 systems, of which one has more than four.
-pub fn bodies_agree(alloc: Global) -> Result<Vec<u8>, Trouble> {
+pub fn rounds_agree(alloc: Global) -> Result<Vec<u8>, Trouble> {
     let line = if most_rounds(alloc)? > 4 {
         "the same"
     } else {
