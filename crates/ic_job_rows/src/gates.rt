@@ -1,13 +1,14 @@
-//! Gates that see which places pass them, and how many works are in them at once.
+//! Gates that see which places pass them.
 
+use crate::meeting::Meeting;
 use crate::pool::{WORKERS, first_flight};
 use ic_notation::{Trouble, decimal, expanded, printed};
 use ic_pool::{Flight, Gate, Played, play};
 use std::alloc::{AllocError, Global};
 use std::sync::Wait;
-use std::sync::atomic::{AtomicBool, AtomicU64, Ordering};
-use std::thread::{self, Threads};
-use std::time::{Clock, Duration};
+use std::sync::atomic::{AtomicU64, Ordering};
+use std::thread::Threads;
+use std::time::Clock;
 
 /// A gate with a counter for each place of a configuration, and one for all others.
 #[derive(Drop)]
@@ -110,67 +111,27 @@ fn passed_by_any<R: Threads + Wait>(
     Ok(line)
 }
 
-/// A gate that holds each work up until so many have begun, at most 10,000 times a millisecond, and that counts how many
-/// are in it at once.
+/// A gate at which workers wait for one another, with a counter for each place.
 #[derive(Drop)]
-struct Meeting<'a, R> {
-    rt: &'a R,
+struct CountedMeeting<'a, R> {
     counters: Counters,
-    wanted: u64,
-    inside: AtomicU64,
-    most: AtomicU64,
-    begun: AtomicU64,
-    missed: AtomicBool,
+    meeting: Meeting<'a, R>,
 }
 
-impl<'a, R> Meeting<'a, R> {
-    fn new(rt: &'a R, counters: Counters, wanted: u64) -> Meeting<'a, R> {
-        Meeting {
-            rt,
-            counters,
-            wanted,
-            inside: AtomicU64::new(0),
-            most: AtomicU64::new(0),
-            begun: AtomicU64::new(0),
-            missed: AtomicBool::new(false),
-        }
-    }
-
+impl<'a, R> CountedMeeting<'a, R> {
     /// Which places have passed, and how many were in the gate at once.
     fn told(&self, alloc: Global) -> Result<Vec<u8>, Trouble> {
-        if self.missed.load(Ordering::SeqCst) {
-            return Err(Trouble("a wait ran out"));
-        }
         let mut line = ranges(alloc, &self.counters.passed(alloc)?)?;
         line.extend_from_slice(b"; ")?;
-        decimal(&mut line, self.most.load(Ordering::SeqCst))?;
-        line.extend_from_slice(b" at once")?;
+        self.meeting.tell(&mut line)?;
         Ok(line)
     }
 }
 
-/// Waits until as many have begun as are wanted. Once one wait has run out, none goes on.
-fn wait<R: Clock>(rt: &R, begun: &AtomicU64, wanted: u64, missed: &AtomicBool) {
-    for _ in 0..10_000u32 {
-        if begun.load(Ordering::SeqCst) >= wanted || missed.load(Ordering::SeqCst) {
-            return;
-        }
-        thread::sleep(rt, Duration::from_millis(1));
-    }
-    missed.store(true, Ordering::SeqCst);
-}
-
-impl<'a, R: Clock + Sync> Gate for Meeting<'a, R> {
+impl<'a, R: Clock + Sync> Gate for CountedMeeting<'a, R> {
     fn pass(&self, place: u64) {
         self.counters.pass(place);
-        let inside = self.inside.fetch_add(1, Ordering::SeqCst);
-        self.most
-            .fetch_max(inside.wrapping_add(1), Ordering::SeqCst);
-        self.begun.fetch_add(1, Ordering::SeqCst);
-        wait(self.rt, &self.begun, self.wanted, &self.missed);
-        // A thread more than there may be comes in meanwhile.
-        thread::sleep(self.rt, Duration::from_millis(20));
-        self.inside.fetch_sub(1, Ordering::SeqCst);
+        self.meeting.pass(place);
     }
 
     fn answered(&self, _who: u64) {}
@@ -198,8 +159,10 @@ fn at_once<R: Threads + Wait + Clock + Sync>(
     wanted: u64,
     flight: &Flight,
 ) -> Result<Vec<u8>, Trouble> {
-    let counters = Counters::new(alloc, flight.config().equations().len())?;
-    let meeting = Meeting::new(rt, counters, wanted);
+    let meeting = CountedMeeting {
+        counters: Counters::new(alloc, flight.config().equations().len())?,
+        meeting: Meeting::new(rt, wanted),
+    };
     meet(rt, alloc, workers, flight, &meeting)
 }
 
@@ -209,7 +172,7 @@ fn meet<R: Threads + Wait + Clock + Sync>(
     alloc: Global,
     workers: usize,
     flight: &Flight,
-    meeting: &Meeting<'_, R>,
+    meeting: &CountedMeeting<'_, R>,
 ) -> Result<Vec<u8>, Trouble> {
     match play(rt, alloc, flight, workers, meeting) {
         Ok(played) => met(alloc, meeting, &played),
@@ -217,7 +180,11 @@ fn meet<R: Threads + Wait + Clock + Sync>(
     }
 }
 
-fn met<R>(alloc: Global, meeting: &Meeting<'_, R>, played: &Played) -> Result<Vec<u8>, Trouble> {
+fn met<R>(
+    alloc: Global,
+    meeting: &CountedMeeting<'_, R>,
+    played: &Played,
+) -> Result<Vec<u8>, Trouble> {
     let mut line = meeting.told(alloc)?;
     line.extend_from_slice(b"; ")?;
     line.append(&mut printed(alloc, played.rules(), played.after())?)?;

@@ -1,14 +1,18 @@
-//! The worked rows of jobs: command lines, scripts, the job table, rounds by workers, and tables as bytes. `answers` says
-//! what a row may ask.
+//! The worked rows of jobs: command lines, scripts, the job table, rounds by workers and by crews, tables as bytes and on a
+//! disk, and the book. `answers` says what a row may ask.
 #![tactic(auto)]
 
 mod answers;
+mod book;
 mod bytes;
+mod crews;
 mod gates;
 mod jobs;
 mod lines;
+mod meeting;
 mod pool;
 mod scripts;
+mod works;
 
 use crate::answers::answer;
 use ic_notation::{Row, Tally};

@@ -12,7 +12,7 @@ use std::thread::{self, Threads};
 pub const WORKERS: &[usize] = &[1, 2, 3, 7, 64, 200];
 
 /// A flight of a job, where these are the parts of one.
-fn flight_of(rules: Arc<RuleSet>, config: Arc<Config>, rounds: u64) -> Result<Flight, Trouble> {
+pub fn flight_of(rules: Arc<RuleSet>, config: Arc<Config>, rounds: u64) -> Result<Flight, Trouble> {
     match JobName::new(b"p") {
         Some(name) if over(rules.symbols(), &config) && rounds <= MAX_ROUNDS => {
             Ok(Flight::new(0, name, rules, config, rounds))
@@ -35,7 +35,7 @@ pub fn with_next(alloc: Global, config: Config, next: u64) -> Result<Arc<Config>
 }
 
 /// Whether a round is of this flight: its name, rules, configuration and rounds.
-fn is_of(played: &Played, flight: &Flight) -> bool {
+pub fn is_of(played: &Played, flight: &Flight) -> bool {
     played.name().as_bytes() == flight.name().as_bytes()
         && **played.rules() == **flight.rules()
         && played.before() == flight.config()
@@ -118,7 +118,7 @@ fn rounds_told<R: Threads + Wait>(
 }
 
 /// Adds the text and `next` of a configuration.
-fn tell(
+pub fn tell(
     alloc: Global,
     rules: &RuleSet,
     config: &Config,

@@ -1,6 +1,6 @@
 //! Two frames on a disk and in a file: their bytes, the bound on a body, and the phases by themselves.
 //!
-//! Which calls fail, what a stop leaves and what is refused are rows of `ic_slots_rows`.
+//! Which calls fail, what a stop leaves and what is refused are rows of `ic_job_rows`.
 
 use crate::framed::{
     SECOND, begun, body_on, bytes_after, changed, frames_on, keep_body, kept, stage_body,

@@ -2,41 +2,17 @@
 //!
 //! - `book SCRIPT`: what each word is answered (`session` has the words).
 //! - `crashes SCRIPT`: what the last word is answered, once for each choice of a crash.
-//! - `stops SEED`: a drawn history is stopped at every call to the disk.
 
-use crate::choices::CHOICES;
-use crate::session::Session;
-use crate::stops::stops;
+use crate::book::choices::CHOICES;
+use crate::book::session::Session;
 use ic_disk::Choice;
-use ic_notation::{Answers, Row, Trouble, expanded};
+use ic_notation::Trouble;
 use std::alloc::Global;
-
-/// The kinds of these rows.
-#[derive(Drop)]
-pub struct Kinds;
-
-impl Answers for Kinds {
-    fn answer(&self, alloc: Global, row: &Row<'_>) -> Result<Vec<u8>, Trouble> {
-        let Ok(text) = String::from_utf8(expanded(alloc, row.text)?) else {
-            return Err(Trouble("no text"));
-        };
-        match row.kind {
-            "book" => book(alloc, &text),
-            "crashes" => crashes(alloc, &text),
-            "stops" => stops(alloc, u64::from_str_radix(&text, 10).unwrap_or(0)),
-            _ => Err(Trouble("no such kind")),
-        }
-    }
-}
 
 /// What each word of a script is answered, where a crash of which nothing is said takes this choice.
 fn answers(alloc: Global, text: &str, choice: Choice) -> Result<Vec<Vec<u8>>, Trouble> {
     let mut session = Session::new(alloc, choice);
-    let mut lines = Vec::new(alloc);
-    for word in text.split(" ; ") {
-        lines.push(session.answer(word)?)?;
-    }
-    Ok(lines)
+    session.answers(text)
 }
 
 /// The answers in one line.
@@ -52,12 +28,12 @@ fn joined(alloc: Global, lines: &[Vec<u8>]) -> Result<Vec<u8>, Trouble> {
 }
 
 /// What each word of a script is answered.
-fn book(alloc: Global, text: &str) -> Result<Vec<u8>, Trouble> {
+pub fn answered(alloc: Global, text: &str) -> Result<Vec<u8>, Trouble> {
     joined(alloc, &answers(alloc, text, Choice::Synced)?)
 }
 
 /// What the last word of a script is answered, with each choice of a crash.
-fn crashes(alloc: Global, text: &str) -> Result<Vec<u8>, Trouble> {
+pub fn crashes(alloc: Global, text: &str) -> Result<Vec<u8>, Trouble> {
     let mut lines = Vec::new(alloc);
     for choice in CHOICES {
         match answers(alloc, text, *choice)?.pop() {

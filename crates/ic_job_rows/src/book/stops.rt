@@ -1,14 +1,17 @@
-//! A drawn history on a book, stopped before every call to the disk, opened again, played on, and stopped again.
+//! Stops of a book.
+//!
+//! - `stops SEED`: a drawn history on a book, stopped before every call to the disk, opened again, played on, and stopped again.
 
-use crate::choices::CHOICES;
-use crate::drawn::{History, Step, drawn_history};
-use crate::medium::created;
-use crate::plain::{command_of, round_of};
+use crate::book::choices::CHOICES;
+use crate::book::drawn::{History, Step, drawn_history};
+use crate::book::medium::created;
+use crate::book::plain::{command_of, round_of};
 use ic_commands::print_reply;
 use ic_desk::{Book, BookFault, OpenCause};
 use ic_disk::{Blow, Choice, FuseDisk, MemDisk, Then};
 use ic_jobs::{Landed, Table};
 use ic_notation::Trouble;
+use ic_pool::Flight;
 use std::alloc::Global;
 
 /// Events of a history.
@@ -20,13 +23,20 @@ const CALLS: u64 = 10_000;
 /// The second life is stopped before one of so many calls.
 const SECOND_CALLS: u64 = 60;
 
-/// How far a book came before it was stopped: so many entries up to the last command that was answered, and so many in all.
-#[derive(Drop)]
-struct Stop {
-    disk: MemDisk,
+/// How far a book came: so many entries up to the last command that was answered, and so many in all; and whether it was
+/// stopped.
+#[derive(Clone, Copy)]
+struct Way {
     answered: usize,
     made: usize,
     stopped: bool,
+}
+
+/// How far a book came, and the disk that it left.
+#[derive(Drop)]
+struct Stop {
+    disk: MemDisk,
+    way: Way,
 }
 
 /// Which prefixes were found: without the last entries, and with a last entry that wasn't answered.
@@ -54,10 +64,14 @@ fn step(alloc: Global, book: &mut Book<FuseDisk>, step: &Step) -> Result<Option<
 
 /// Makes a round, which is due.
 fn round(alloc: Global, book: &mut Book<FuseDisk>, after: usize) -> Result<(), Trouble> {
-    let Ok(Some(flight)) = book.due(after) else {
-        return Err(Trouble("no round is due"));
-    };
-    match book.land(round_of(alloc, &flight)?) {
+    match book.due(after) {
+        Ok(Some(flight)) => land(alloc, book, &flight),
+        _ => Err(Trouble("no round is due")),
+    }
+}
+
+fn land(alloc: Global, book: &mut Book<FuseDisk>, flight: &Flight) -> Result<(), Trouble> {
+    match book.land(round_of(alloc, flight)?) {
         Ok(Landed::Moved) => Ok(()),
         _ => Err(Trouble("a round doesn't land")),
     }
@@ -66,31 +80,39 @@ fn round(alloc: Global, book: &mut Book<FuseDisk>, after: usize) -> Result<(), T
 /// Plays the events of a history behind the first so many on a book, until the disk fails.
 fn played(
     alloc: Global,
-    mut book: Book<FuseDisk>,
+    book: &mut Book<FuseDisk>,
     history: &History,
     from: usize,
-) -> Result<Stop, Trouble> {
-    let mut answered = from;
-    let mut made = from;
-    let mut stopped = false;
+) -> Result<Way, Trouble> {
+    let mut way = Way {
+        answered: from,
+        made: from,
+        stopped: false,
+    };
     for one in history.steps.get(from..).unwrap_or(&[]) {
-        made = made.saturating_add(1);
-        match step(alloc, &mut book, one)? {
-            Some(true) => answered = made,
+        way.made = way.made.saturating_add(1);
+        match step(alloc, book, one)? {
+            Some(true) => way.answered = way.made,
             Some(false) => {}
             None => {
-                stopped = true;
+                way.stopped = true;
                 break;
             }
         }
     }
+    Ok(way)
+}
+
+/// Plays the events on a book, and closes it.
+fn lived(
+    alloc: Global,
+    mut book: Book<FuseDisk>,
+    history: &History,
+    from: usize,
+) -> Result<Stop, Trouble> {
+    let way = played(alloc, &mut book, history, from)?;
     let disk = book.close().into_inner();
-    Ok(Stop {
-        disk,
-        answered,
-        made,
-        stopped,
-    })
+    Ok(Stop { disk, way })
 }
 
 /// One life on a disk that holds the table of the first so many events: this call to it and all later ones fail.
@@ -102,13 +124,15 @@ fn life(
     call: u64,
 ) -> Result<Stop, Trouble> {
     match Book::open(alloc, FuseDisk::new(disk, call, Blow::Before, Then::Stop)) {
-        Ok(book) => played(alloc, book, history, from),
+        Ok(book) => lived(alloc, book, history, from),
         Err(fault) => match fault.cause {
             OpenCause::Device => Ok(Stop {
                 disk: fault.disk.into_inner(),
-                answered: from,
-                made: from,
-                stopped: true,
+                way: Way {
+                    answered: from,
+                    made: from,
+                    stopped: true,
+                },
             }),
             _ => Err(Trouble("another cause than the device")),
         },
@@ -136,7 +160,7 @@ fn reopened(
     let Ok(book) = Book::open(alloc, disk) else {
         return Err(Trouble("not opened"));
     };
-    match prefix_of(history, book.table(), stop.answered, stop.made) {
+    match prefix_of(history, book.table(), stop.way.answered, stop.way.made) {
         Some(count) => Ok((book.close().into_inner(), count)),
         None => Err(Trouble("the table of no prefix with all answered commands")),
     }
@@ -154,31 +178,47 @@ fn stopped_at(
     for (place, choice) in CHOICES.iter().enumerate() {
         let disk = MemDisk::from_bytes(start.to_vec(alloc)?);
         let stop = life(alloc, history, disk, 0, call)?;
-        if !stop.stopped {
+        if !stop.way.stopped {
             return Ok(false);
         }
-        let answered = stop.answered;
-        let made = stop.made;
-        let (disk, left) = reopened(alloc, history, stop, *choice)?;
-        seen.shorter = seen.shorter || left < made;
-        seen.unanswered = seen.unanswered || left > answered;
         let later = call.wrapping_mul(7).wrapping_add(place as u64) % SECOND_CALLS;
-        let stop = life(alloc, history, disk, left, later + 1)?;
-        let _reopened = reopened(alloc, history, stop, *choice)?;
+        live_on(alloc, history, stop, *choice, later + 1, seen)?;
     }
     Ok(true)
+}
+
+/// Crashes with a choice, opens again, plays on until this call, and does so once more.
+fn live_on(
+    alloc: Global,
+    history: &History,
+    stop: Stop,
+    choice: Choice,
+    call: u64,
+    seen: &mut Seen,
+) -> Result<(), Trouble> {
+    let way = stop.way;
+    let (disk, left) = reopened(alloc, history, stop, choice)?;
+    seen.shorter = seen.shorter || left < way.made;
+    seen.unanswered = seen.unanswered || left > way.answered;
+    let stop = life(alloc, history, disk, left, call)?;
+    let _reopened = reopened(alloc, history, stop, choice)?;
+    Ok(())
 }
 
 /// Stops before each call.
 pub fn stops(alloc: Global, seed: u64) -> Result<Vec<u8>, Trouble> {
     let history = drawn_history(alloc, seed, EVENTS)?;
     let start = created(alloc)?;
+    stopped_everywhere(alloc, &history, &start)
+}
+
+fn stopped_everywhere(alloc: Global, history: &History, start: &[u8]) -> Result<Vec<u8>, Trouble> {
     let mut seen = Seen {
         shorter: false,
         unanswered: false,
     };
     for call in 1..CALLS {
-        if stopped_at(alloc, &history, &start, call, &mut seen)? {
+        if stopped_at(alloc, history, start, call, &mut seen)? {
             continue;
         }
         if !seen.shorter || !seen.unanswered {

@@ -1,24 +1,44 @@
 //! A gate at which workers wait for one another.
 
-use crate::crews::by_one_at;
 use ic_notation::{Trouble, decimal};
 use ic_pool::Gate;
-use std::alloc::Global;
-use std::sync::Wait;
 use std::sync::atomic::{AtomicBool, AtomicU64, Ordering};
-use std::thread::{self, Threads};
+use std::thread;
 use std::time::{Clock, Duration};
 
 /// A gate that holds each work up until so many have begun, at most 10,000 times a millisecond, and that counts how many
 /// are in it at once.
 #[derive(Drop)]
-struct Meeting<'a, R> {
+pub struct Meeting<'a, R> {
     rt: &'a R,
     wanted: u64,
     inside: AtomicU64,
     most: AtomicU64,
     begun: AtomicU64,
     missed: AtomicBool,
+}
+
+impl<'a, R> Meeting<'a, R> {
+    pub fn new(rt: &'a R, wanted: u64) -> Meeting<'a, R> {
+        Meeting {
+            rt,
+            wanted,
+            inside: AtomicU64::new(0),
+            most: AtomicU64::new(0),
+            begun: AtomicU64::new(0),
+            missed: AtomicBool::new(false),
+        }
+    }
+
+    /// Adds to a line how many were in the gate at once.
+    pub fn tell(&self, line: &mut Vec<u8>) -> Result<(), Trouble> {
+        if self.missed.load(Ordering::SeqCst) {
+            return Err(Trouble("a wait ran out"));
+        }
+        decimal(line, self.most.load(Ordering::SeqCst))?;
+        line.extend_from_slice(b" at once")?;
+        Ok(())
+    }
 }
 
 /// Waits until as many have begun as are wanted. Once one wait has run out, none goes on.
@@ -45,30 +65,4 @@ impl<'a, R: Clock + Sync> Gate for Meeting<'a, R> {
     }
 
     fn answered(&self, _who: u64) {}
-}
-
-/// The texts after the rounds of systems by a crew of so many workers, where each work waits in their gate until so many
-/// have begun, and how many works are in it at once.
-pub fn at_once<R: Threads + Wait + Clock + Sync>(
-    rt: &R,
-    alloc: Global,
-    workers: usize,
-    text: &str,
-) -> Result<Vec<u8>, Trouble> {
-    let (wanted, text) = text.split_once(' ').unwrap_or(("", text));
-    let meeting = Meeting {
-        rt,
-        wanted: u64::from_str_radix(wanted, 10).unwrap_or(0),
-        inside: AtomicU64::new(0),
-        most: AtomicU64::new(0),
-        begun: AtomicU64::new(0),
-        missed: AtomicBool::new(false),
-    };
-    let mut line = by_one_at(rt, alloc, workers, &meeting, text)?;
-    if meeting.missed.load(Ordering::SeqCst) {
-        return Err(Trouble("a wait ran out"));
-    }
-    decimal(&mut line, meeting.most.load(Ordering::SeqCst))?;
-    line.extend_from_slice(b" at once")?;
-    Ok(line)
 }

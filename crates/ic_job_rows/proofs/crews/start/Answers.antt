@@ -1,7 +1,7 @@
 use denote.Param.Send.{sendable}
 use Rattle.std.proofs.Crossing.{crosses}
-use Rattle.ic_crew_rows.proofs.Crossings.{Post_send}
-use Rattle.ic_crew_rows.proofs.crews.start.Goals as goal
+use Rattle.ic_job_rows.proofs.Crossings.{Post_send}
+use Rattle.ic_job_rows.proofs.crews.start.Goals as goal
 
 pub spawn-requires-send-F : goal.spawn-requires-send-F
 spawn-requires-send-F g c κs within =

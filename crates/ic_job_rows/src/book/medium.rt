@@ -1,6 +1,7 @@
 //! A disk in memory while no book is open on it: its bytes, cut, changed and read, and crashes.
 
-use crate::choices::choice_of;
+use crate::book::bytes::put;
+use crate::book::choices::choice_of;
 use ic_desk::Book;
 use ic_disk::{Blow, Choice, FuseDisk, MemDisk, Then};
 use ic_notation::{Trouble, bytes_of};
@@ -23,12 +24,7 @@ fn cut(alloc: Global, disk: &MemDisk, length: usize) -> Result<MemDisk, Trouble>
 /// The disk with these bytes, in hexadecimal digits, at this place.
 fn with_bytes(alloc: Global, disk: &MemDisk, at: usize, digits: &str) -> Result<MemDisk, Trouble> {
     let mut bytes = disk.bytes().to_vec(alloc)?;
-    for (place, byte) in bytes_of(alloc, digits.as_bytes())?.iter().enumerate() {
-        match bytes.get_mut(at.saturating_add(place)) {
-            Some(there) => *there = *byte,
-            None => return Err(Trouble("past the end of the disk")),
-        }
-    }
+    put(&mut bytes, at, &bytes_of(alloc, digits.as_bytes())?)?;
     Ok(MemDisk::from_bytes(bytes))
 }
 

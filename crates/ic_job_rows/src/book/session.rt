@@ -1,8 +1,8 @@
 //! A book on a disk in memory, driven word by word.
 
-use crate::faults::{book_fault, create_fault, open_cause};
-use crate::medium::{changed, opening_calls, slot, with_slots};
-use crate::plain::round_of;
+use crate::book::faults::{book_fault, create_fault, open_cause};
+use crate::book::medium::{changed, opening_calls, slot, with_slots};
+use crate::book::plain::round_of;
 use ic_commands::{Line, print_reply, read_command};
 use ic_desk::{Book, BookFault};
 use ic_disk::{Blow, Choice, FuseDisk, MemDisk, Then};
@@ -51,11 +51,20 @@ impl Session {
         }
     }
 
+    /// What each word of a script is answered.
+    pub fn answers(&mut self, text: &str) -> Result<Vec<Vec<u8>>, Trouble> {
+        let mut lines = Vec::new(self.alloc);
+        for word in text.split(" ; ") {
+            lines.push(self.answer(word)?)?;
+        }
+        Ok(lines)
+    }
+
     /// What a word is answered. On the disk: `create`, `slots BYTES BYTES` (a disk with these two), `cut LENGTH`,
     /// `put PLACE BYTES`, `slot 0` (its gate, number and length), `crash CHOICE`; `fuse K before|after stop|on`, where the call K after the next opening fails, and `opening K ..`,
     /// where its call K does; `open`, `close`. On the book: a command line, `run K`, `by WHO LINE`, `times K LINE`, `due K`,
     /// `land K` and `halt K` for the K-th flight, `keep`, `page`; and what it tells: `log`, `entry K`, `table`, `start`.
-    pub fn answer(&mut self, word: &str) -> Result<Vec<u8>, Trouble> {
+    fn answer(&mut self, word: &str) -> Result<Vec<u8>, Trouble> {
         let (verb, rest) = word.split_once(' ').unwrap_or((word, ""));
         match verb {
             "create" => self.create(),
@@ -231,19 +240,32 @@ impl Session {
         let mut after = 0usize;
         let mut made = 0u64;
         for _ in 0..count {
-            let flight = match self.book()?.due(after) {
-                Ok(Some(flight)) => flight,
+            match self.advance_due(after)? {
+                Ok(Some(place)) => after = place.saturating_add(1),
                 Ok(None) => break,
                 Err(fault) => return self.said(book_fault(fault)),
-            };
-            after = flight.place().saturating_add(1);
-            match self.advance(&flight)? {
-                Ok(Landed::Moved) => made = made.saturating_add(1),
-                Ok(Landed::Stale) => return Err(Trouble("a round is stale")),
-                Err(fault) => return self.said(book_fault(fault)),
             }
+            made = made.saturating_add(1);
         }
         Ok(format!(in self.alloc; "ran {made}")?.into_bytes())
+    }
+
+    /// Lands the round that is due from a place on, or halts its job. Answers the place of the job, if any is due.
+    fn advance_due(&mut self, after: usize) -> Result<Result<Option<usize>, BookFault>, Trouble> {
+        match self.book()?.due(after) {
+            Ok(Some(flight)) => self.moved(&flight),
+            Ok(None) => Ok(Ok(None)),
+            Err(fault) => Ok(Err(fault)),
+        }
+    }
+
+    /// Lands the round of a flight that is due, or halts its job. Answers the place of the job.
+    fn moved(&mut self, flight: &Flight) -> Result<Result<Option<usize>, BookFault>, Trouble> {
+        match self.advance(flight)? {
+            Ok(Landed::Moved) => Ok(Ok(Some(flight.place()))),
+            Ok(Landed::Stale) => Err(Trouble("a round is stale")),
+            Err(fault) => Ok(Err(fault)),
+        }
     }
 
     /// Lands the round of a flight, or halts its job where it is blocked.

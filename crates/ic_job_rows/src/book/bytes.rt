@@ -1,7 +1,6 @@
 //! Numbers and bytes in the texts of rows.
 
 use ic_notation::Trouble;
-use std::alloc::Global;
 
 /// A number in decimal.
 pub fn number(text: &str) -> Result<u64, Trouble> {
@@ -25,14 +24,13 @@ pub fn place_and_rest(text: &str) -> Result<(usize, &str), Trouble> {
     Ok((place(first)?, rest))
 }
 
-/// These bytes with others put at a place.
-pub fn changed(alloc: Global, bytes: &[u8], at: usize, put: &[u8]) -> Result<Vec<u8>, Trouble> {
-    let mut changed = Vec::from_slice(alloc, bytes)?;
-    for (i, byte) in put.iter().enumerate() {
-        match changed.get_mut(at.saturating_add(i)) {
-            Some(place) => *place = *byte,
-            None => return Err(Trouble("too short")),
+/// Puts bytes in the place of others.
+pub fn put(bytes: &mut [u8], at: usize, others: &[u8]) -> Result<(), Trouble> {
+    for (place, byte) in others.iter().enumerate() {
+        match bytes.get_mut(at.saturating_add(place)) {
+            Some(there) => *there = *byte,
+            None => return Err(Trouble("past the end of the disk")),
         }
     }
-    Ok(changed)
+    Ok(())
 }

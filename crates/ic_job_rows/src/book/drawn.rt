@@ -1,6 +1,6 @@
 //! Histories that look drawn by chance, told by a job table alone.
 
-use crate::plain::{advanced, answered};
+use crate::book::plain::{advanced, answered};
 use ic_jobs::Table;
 use ic_notation::{Draws, Trouble};
 use std::alloc::Global;
@@ -72,14 +72,30 @@ fn drawn_step(alloc: Global, draws: &mut Draws, table: &mut Table) -> Result<Ste
 
 /// A history of so many events.
 pub fn drawn_history(alloc: Global, seed: u64, count: u32) -> Result<History, Trouble> {
-    let mut draws = Draws::new(seed);
-    let mut table = Table::new(alloc);
-    let mut steps = Vec::new(alloc);
-    let mut tables = Vec::new(alloc);
-    tables.push(table.copy(alloc)?)?;
-    for _ in 0..count {
-        steps.push(drawn_step(alloc, &mut draws, &mut table)?)?;
-        tables.push(table.copy(alloc)?)?;
+    let mut history = History {
+        steps: Vec::new(alloc),
+        tables: Vec::new(alloc),
+    };
+    history.extend(alloc, seed, count)?;
+    Ok(history)
+}
+
+impl History {
+    /// Adds the empty table, and so many events from it with the table after each.
+    fn extend(&mut self, alloc: Global, seed: u64, count: u32) -> Result<(), Trouble> {
+        let mut draws = Draws::new(seed);
+        let mut table = Table::new(alloc);
+        self.tables.push(table.copy(alloc)?)?;
+        for _ in 0..count {
+            self.add(alloc, &mut draws, &mut table)?;
+        }
+        Ok(())
     }
-    Ok(History { steps, tables })
+
+    /// Adds an event, and the table after it.
+    fn add(&mut self, alloc: Global, draws: &mut Draws, table: &mut Table) -> Result<(), Trouble> {
+        self.steps.push(drawn_step(alloc, draws, table)?)?;
+        self.tables.push(table.copy(alloc)?)?;
+        Ok(())
+    }
 }

@@ -30,9 +30,14 @@ pub fn answered(alloc: Global, table: &mut Table, line: &str) -> Result<Vec<u8>,
 
 /// Makes the next round from this place on, and tells whether there was one.
 pub fn advanced(alloc: Global, table: &mut Table, after: usize) -> Result<bool, Trouble> {
-    let Some(flight) = table.due(after)? else {
-        return Ok(false);
-    };
-    let played = round_of(alloc, &flight)?;
+    match table.due(after)? {
+        Some(flight) => landed(alloc, table, &flight),
+        None => Ok(false),
+    }
+}
+
+/// Lands the round of a flight, and tells whether it moved the job.
+fn landed(alloc: Global, table: &mut Table, flight: &Flight) -> Result<bool, Trouble> {
+    let played = round_of(alloc, flight)?;
     Ok(table.land(played) == Landed::Moved)
 }

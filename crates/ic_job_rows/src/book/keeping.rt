@@ -1,5 +1,5 @@
-//! Scripts: words with commas between them, which are run from left to right on an empty disk, and what they are
-//! answered. A word that begins with `-` isn't answered.
+//! Scripts over the keeper of a table: words with commas between them, which are run from left to right on an empty disk,
+//! and what they are answered. A word that begins with `-` isn't answered.
 //!
 //! - `run SCRIPT`: the answers, with blanks between them.
 //! - `fail A-B SCRIPT`: the answers where call A fails, then the next one up to B, counted from the word `arm` on. Each
@@ -8,10 +8,10 @@
 //! - `stop A-B CHOICES SCRIPT`: the answers where the calls from A on are unmade, then those from the next one on up to B.
 //!   For each of these there is one run with each choice of what the word `crash` leaves.
 
-use crate::bench::{Bench, Setting};
-use crate::bytes::number;
+use crate::book::bench::{Bench, Setting};
+use crate::book::bytes::number;
 use ic_disk::{Blow, Choice, Then};
-use ic_notation::{Answers, Row, Trouble};
+use ic_notation::Trouble;
 use std::alloc::Global;
 
 const WAYS: &[(Blow, Then)] = &[
@@ -21,23 +21,8 @@ const WAYS: &[(Blow, Then)] = &[
     (Blow::After, Then::GoOn),
 ];
 
-/// The kinds of these rows.
-#[derive(Drop)]
-pub struct Kinds;
-
-impl Answers for Kinds {
-    fn answer(&self, alloc: Global, row: &Row<'_>) -> Result<Vec<u8>, Trouble> {
-        match row.kind {
-            "run" => run_once(alloc, row.text),
-            "fail" => failed(alloc, row.text),
-            "stop" => stopped(alloc, row.text),
-            _ => Err(Trouble("no such kind")),
-        }
-    }
-}
-
 /// What a script is answered where no call fails.
-fn run_once(alloc: Global, script: &str) -> Result<Vec<u8>, Trouble> {
+pub fn run_once(alloc: Global, script: &str) -> Result<Vec<u8>, Trouble> {
     let setting = Setting {
         call: u64::MAX,
         blow: Blow::Before,
@@ -49,23 +34,11 @@ fn run_once(alloc: Global, script: &str) -> Result<Vec<u8>, Trouble> {
 
 fn run(alloc: Global, setting: Setting, script: &str, between: &[u8]) -> Result<Vec<u8>, Trouble> {
     let mut bench = Bench::new(alloc, setting);
-    let mut answers = Vec::new(alloc);
-    for word in script.split(", ") {
-        let silent = word.strip_prefix("-");
-        let (next, mut answer) = bench.step(silent.unwrap_or(word))?;
-        bench = next;
-        if silent.is_none() && !answer.is_empty() {
-            if !answers.is_empty() {
-                answers.extend_from_slice(between)?;
-            }
-            answers.append(&mut answer)?;
-        }
-    }
-    Ok(answers)
+    bench.answers(script, between)
 }
 
 /// What it is answered where each of these calls fails, in each way.
-fn failed(alloc: Global, text: &str) -> Result<Vec<u8>, Trouble> {
+pub fn failed(alloc: Global, text: &str) -> Result<Vec<u8>, Trouble> {
     let (calls, script) = text.split_once(' ').unwrap_or((text, ""));
     let (first, last) = range(calls)?;
     let mut answers = Vec::new(alloc);
@@ -96,7 +69,7 @@ fn failed_at(alloc: Global, call: u64, script: &str) -> Result<Vec<u8>, Trouble>
 }
 
 /// What it is answered where it is stopped before each of these calls, for each choice of what is left.
-fn stopped(alloc: Global, text: &str) -> Result<Vec<u8>, Trouble> {
+pub fn stopped(alloc: Global, text: &str) -> Result<Vec<u8>, Trouble> {
     let (calls, rest) = text.split_once(' ').unwrap_or((text, ""));
     let (choices, script) = rest.split_once(' ').unwrap_or((rest, ""));
     let (first, last) = range(calls)?;
