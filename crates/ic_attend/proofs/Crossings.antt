@@ -6,6 +6,7 @@ use Rattle.std.proofs.MapsCrossing.{crosses as maps}
 use Rattle.ic_term.proofs.term.Term.TheLaws.TheKnot.{crosses as terms}
 use Rattle.ic_term.proofs.symbols.Symbols.TheSendSync as symbols
 use Rattle.ic_rules.proofs.rule_set.SymbolPair.TheSendSync as pair
+use Rattle.ic_flat.proofs.word.Word.TheSendSync as word
 use Rattle.ic_rules.proofs.job_name.JobName.TheSendSync as name
 use Rattle.ic_jobs.proofs.budget.Budget.TheSendSync as budget
 use Rattle.ic_jobs.proofs.shown.JobList.TheSendSync as list
@@ -15,6 +16,8 @@ use Rattle.ic_term.specs.contracts.config.Config as Config
 use Rattle.ic_rules.specs.contracts.rule.Rule as Rule
 use Rattle.ic_rules.specs.contracts.rule_set.RuleSet as RuleSet
 use Rattle.ic_rules.specs.contracts.system.System as System
+use Rattle.ic_flat.specs.contracts.flat.Flat as Flat
+use Rattle.ic_flat_round.specs.contracts.flat_rules.FlatRules as FlatRules
 use Rattle.ic_jobs.specs.contracts.command.Command as Command
 use Rattle.ic_jobs.specs.contracts.event.Event as Event
 use Rattle.ic_jobs.specs.contracts.event.Entry as Entry
@@ -29,11 +32,8 @@ use Rattle.ic_attend.specs.contracts.desk.Desk as Desk
 use Rattle.ic_attend.specs.contracts.attended.ClientRun as ClientRun
 use Rattle.ic_attend.specs.contracts.client.Speech as Speech
 
-pub Config_send : IsSend Config.the_field.row
+Config_send : IsSend Config.the_field.row
 Config_send = search (sendable, crosses, terms) depth 40
-
-pub Config_sync : IsSync Config.the_field.row
-Config_sync = search (sendable, crosses, terms) depth 40
 
 Rule_send : IsSend Rule.the_field.row
 Rule_send = search (sendable, crosses, terms) depth 40
@@ -47,6 +47,18 @@ RuleSet_send = search (Rule_send, symbols.the_send, pair.the_field_send, sendabl
 pub RuleSet_sync : IsSync RuleSet.the_field.row
 RuleSet_sync = search (Rule_sync, symbols.the_sync, pair.the_field_sync, sendable, crosses, maps) depth 40
 
+Flat_send : IsSend Flat.the_field.row
+Flat_send = search (word.the_field_send, sendable, crosses) depth 40
+
+Flat_sync : IsSync Flat.the_field.row
+Flat_sync = search (word.the_field_sync, sendable, crosses) depth 40
+
+FlatRules_send : IsSend FlatRules.the_field.row
+FlatRules_send = search (RuleSet_send, RuleSet_sync, word.the_field_send, sendable, crosses) depth 40
+
+FlatRules_sync : IsSync FlatRules.the_field.row
+FlatRules_sync = search (RuleSet_send, RuleSet_sync, word.the_field_sync, sendable, crosses) depth 40
+
 System_send : IsSend System.the_field.row
 System_send = search (Config_send, RuleSet_send, RuleSet_sync, sendable, crosses) depth 40
 
@@ -54,7 +66,7 @@ pub Command_send : IsSend Command.the_field.row
 Command_send = search (System_send, name.the_send, budget.the_send, sendable, crosses) depth 40
 
 ShownJob_send : IsSend ShownJob.the_field.row
-ShownJob_send = search (Config_send, Config_sync, RuleSet_send, RuleSet_sync, name.the_send, state.the_field_send, sendable, crosses) depth 40
+ShownJob_send = search (Flat_send, Flat_sync, FlatRules_send, FlatRules_sync, name.the_send, state.the_field_send, sendable, crosses) depth 40
 
 pub Reply_send : IsSend Reply.the_field.row
 Reply_send = search (ShownJob_send, list.the_send, refusal.the_field_send, sendable, crosses) depth 40
@@ -66,7 +78,7 @@ pub Entry_send : IsSend Entry.the_field.row
 Entry_send = search (Event_send, Reply_send, sendable, crosses) depth 40
 
 Job_send : IsSend Job.the_field.row
-Job_send = search (Config_send, Config_sync, RuleSet_send, RuleSet_sync, name.the_send, state.the_field_send, budget.the_send, sendable, crosses) depth 40
+Job_send = search (Flat_send, Flat_sync, FlatRules_send, FlatRules_sync, name.the_send, state.the_field_send, budget.the_send, sendable, crosses) depth 40
 
 pub Table_send : IsSend Table.the_field.row
 Table_send = search (Job_send, sendable, crosses) depth 40

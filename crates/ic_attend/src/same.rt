@@ -79,7 +79,7 @@ fn same_shown(left: &ShownJob, right: &ShownJob) -> bool
         && same_state(left.state(), right.state())
         && left.rounds() == right.rounds()
         && *left.config() == *right.config()
-        && **left.rules() == **right.rules()
+        && *left.rules() == *right.rules()
 }
 
 fn same_line(left: &(JobName, State, u64), right: &(JobName, State, u64)) -> bool

@@ -241,7 +241,7 @@ fn tell_job(alloc: Global, line: &mut Vec<u8>, job: &Job, copy: bool) -> Result<
             decimal(line, job.rounds())?;
             line.push(b' ')?;
         }
-        line.append(&mut printed(alloc, job.rules(), job.config())?)?;
+        line.append(&mut printed(alloc, job.rules(), &job.config().to_config(alloc)?)?)?;
         line.extend_from_slice(b" ; ")?;
     }
     Ok(())

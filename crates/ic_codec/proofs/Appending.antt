@@ -75,3 +75,11 @@ module _ {Z : Type 0} where
     capacity = put.capacity;
     fits = rest_fits xs ys xs refl fits put;
   }
+
+  -- what is appended behind what was appended
+  pub both_appended : {start now new : Vec ℕ Z} (xs ys : List ℕ) → Appended start now xs → Appended now new ys → Appended start new (xs ++ ys)
+  both_appended {start} xs ys first last = record {
+    items = last.items ∙ ap (λ (bs : List ℕ). bs ++ ys) first.items ∙ append_assoc start.items xs ys;
+    len = omega (arith, last.len, first.len, length-append xs ys);
+    capacity = last.capacity ∙ first.capacity;
+  }

@@ -42,7 +42,7 @@ module _ {X : Type 0} where
   flat_map-push spell (y ∷ ys) x =
       ap (λ (bs : List ℕ). spell y ++ bs) (flat_map-push spell ys x) ∙ sym (append_assoc (spell y) (flat_map spell ys) (spell x))
 
-  all_push : (V : X → Type 0) (xs : List X) (x : X) → AllByRecursion V xs → V x → AllByRecursion V (xs ++ x ∷ [])
+  pub all_push : (V : X → Type 0) (xs : List X) (x : X) → AllByRecursion V xs → V x → AllByRecursion V (xs ++ x ∷ [])
   all_push V [] x all here = (here, tt)
   all_push V (y ∷ ys) x all here = (all.0, all_push V ys x all.1 here)
 

@@ -11,7 +11,9 @@ pub mod JobLemmas
 pub mod HeadingReading
 pub mod SymbolReading
 pub mod RuleReading
-pub mod ConfigReading
+pub mod WordLists
+pub mod WordReading
+pub mod FlatReading
 pub mod JobReading
 pub mod TableReading
 pub mod WorkedLemmas

@@ -289,7 +289,7 @@ configuration_spread c rest =
     (append_assoc (two_bytes (length c.equations)) (flat_map tree_bytes c.interface ++ flat_map pair_bytes c.equations) rest
     ∙ ap (λ (bs : List ℕ). two_bytes (length c.equations) ++ bs) (append_assoc (flat_map tree_bytes c.interface) (flat_map pair_bytes c.equations) rest))
 
-below_small : (next : ℕ) (ns : List ℕ) → next ≤ 2 ^ 62 → AllByRecursion (λ n. n < next) ns → AreSmall ns
+pub below_small : (next : ℕ) (ns : List ℕ) → next ≤ 2 ^ 62 → AllByRecursion (λ n. n < next) ns → AreSmall ns
 below_small next [] limit all = tt
 below_small next (n ∷ ns) limit all = (omega (arith, all.0), below_small next ns limit all.1)
 

@@ -1,4 +1,5 @@
 -- What contracts of private functions cite. A reader of the public contracts needs none of it.
 pub mod Forms
 pub mod Fronts
+pub mod WordFronts
 pub mod Room

@@ -1,6 +1,7 @@
 //! Jobs as bytes, and back.
 
 ghost use Rattle.std.specs.Prelude.{◌≡◌, ◌≤◌, IfOk, IfErr};
+ghost use Rattle.std.specs.Arc.{arc_value};
 ghost use Rattle.std.specs.List.{flat_map};
 ghost use Rattle.ic_codec.specs.inner.Room.{Fits, Appended};
 ghost use Rattle.ic_codec.specs.Jobs.{job_bytes};
@@ -9,13 +10,15 @@ ghost use Rattle.ic_codec.specs.declared.form.Form.TheVariants.{Ict2};
 ghost use Rattle.ic_codec.specs.inner.Fronts.{BeginsWith, BeginsWithNone, BeginsWithMany, BeginsWithNoMany, uncounted};
 ghost use Rattle.ic_codec.specs.declared.fault.CodecFault.TheVariants.{NotATable};
 
-use crate::configs::{config_at, put_config};
 use crate::fault::CodecFault;
+use crate::flats::{flat_at, put_flat};
 use crate::form::{Form, Heading, heading_at, put_heading};
 use crate::rules::{put_rules, rule_set_at};
 use crate::symbols::{put_symbols, symbols_at};
+use ic_flat_round::FlatRules;
 use ic_jobs::Job;
-use std::alloc::Global;
+use ic_rules::RuleSet;
+use std::alloc::{AllocError, Global};
 use std::sync::Arc;
 
 /// Appends jobs in order.
@@ -36,7 +39,7 @@ fn put_job(job: &Job, out: &mut Vec<u8>)
     put_heading(Heading::of(job), out);
     put_symbols(rules.symbols(), out);
     put_rules(rules.rules(), out);
-    put_config(job.config(), out);
+    put_flat(job.config(), out);
 }
 
 /// So many jobs, and the bytes behind them.
@@ -64,6 +67,14 @@ pub(crate) fn jobs_at(
     Ok((jobs, rest))
 }
 
+/// Rules with their words, to be shared.
+fn shared_rules(alloc: Global, rules: RuleSet) -> Result<Arc<FlatRules>, AllocError>
+    ensures { IfOk result (λ shared. arc_value shared ≡ rules) }
+{
+    let rules = Arc::new(alloc, rules)?;
+    Ok(Arc::new(alloc, FlatRules::new(alloc, rules)?)?)
+}
+
 fn job_at(alloc: Global, form: Form, bytes: &[u8]) -> Result<(Job, &[u8]), CodecFault>
     ensures read { IfOk result (λ r.
         BeginsWith (HasJobBytes form) (job_bytes form) bytes.now r.0 r.1.now) }
@@ -82,11 +93,11 @@ fn job_at(alloc: Global, form: Form, bytes: &[u8]) -> Result<(Job, &[u8]), Codec
         Ok((rules, rest)) => (rules, rest),
         Err(fault) => return Err(fault),
     };
-    let (config, rest) = match config_at(alloc, rules.symbols(), heading.next, rest) {
+    let (config, rest) = match flat_at(alloc, rules.symbols(), heading.next, rest) {
         Ok((config, rest)) => (config, rest),
         Err(fault) => return Err(fault),
     };
-    let rules = Arc::new(alloc, rules)?;
+    let rules = shared_rules(alloc, rules)?;
     let config = Arc::new(alloc, config)?;
     match Job::restore(
         heading.name,

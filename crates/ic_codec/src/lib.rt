@@ -6,9 +6,9 @@
 //! module writes and reads one type; what one form says otherwise than another stands in `form`.
 #![tactic(auto)]
 
-mod configs;
 mod fault;
 mod fields;
+mod flats;
 mod form;
 mod jobs;
 pub mod laws;
@@ -16,6 +16,7 @@ mod rules;
 mod symbols;
 mod tables;
 mod terms;
+mod words;
 
 pub use fault::CodecFault;
 pub use form::MAX_BYTES;

@@ -1,23 +1,21 @@
-//! Terms and equations as bytes, and back.
+//! The terms of rules as bytes, and back.
 
 ghost use Rattle.std.specs.Prelude.{◌≡◌, ◌≤◌, ℕ, IfOk, IfErr, length, map};
 ghost use Rattle.std.specs.List.{flat_map};
 ghost use Rattle.ic_term.specs.Tree.{agent, trees_of};
-ghost use Rattle.ic_term.specs.Term.{tree, cell_tree, pair};
+ghost use Rattle.ic_term.specs.Term.{tree, cell_tree};
 ghost use Rattle.ic_codec.specs.inner.Room.{Fits, Appended};
-ghost use Rattle.ic_codec.specs.Terms.{tree_bytes, pair_bytes};
-ghost use Rattle.ic_codec.specs.inner.Forms.{HasPairBytes};
-ghost use Rattle.ic_term.specs.Tree.{pair_nodes};
-ghost use Rattle.ic_codec.specs.inner.Fronts.{BeginsWithOne, BeginsWithNoOne, BeginsWithMany, BeginsWithNoMany, BeginsWithTree, BeginsWithNoTree, BeginsWithTrees, BeginsWithNoTrees};
+ghost use Rattle.ic_codec.specs.Terms.{tree_bytes};
+ghost use Rattle.ic_codec.specs.inner.Fronts.{BeginsWithTree, BeginsWithNoTree, BeginsWithTrees, BeginsWithNoTrees};
 ghost use Rattle.ic_codec.specs.declared.fault.CodecFault.TheVariants.{NotATable};
 
 use crate::fault::CodecFault;
 use crate::fields::{byte_at, eight_bytes_at, put_byte, put_eight_bytes};
-use ic_term::{Cell, Equation, Symbols, Term};
+use ic_term::{Cell, Symbols, Term};
 use std::alloc::{AllocError, Global};
 
 /// The byte before a name's number.
-const NAME: u8 = 255;
+pub(crate) const NAME: u8 = 255;
 
 /// Appends a term. It recurses as deep as the term.
 #[cycle(put)]
@@ -52,24 +50,6 @@ pub(crate) fn put_terms(terms: &[Term], out: &mut Vec<u8>)
 {
     for term in terms {
         put_term(term, out);
-    }
-}
-
-fn put_equation(equation: &Equation, out: &mut Vec<u8>)
-    requires { Fits out.old (pair_bytes (pair equation.now)) }
-    ensures { Appended out.old out.new (pair_bytes (pair equation.now)) }
-{
-    put_term(&equation.left, out);
-    put_term(&equation.right, out);
-}
-
-/// Appends equations in order.
-pub(crate) fn put_equations(equations: &[Equation], out: &mut Vec<u8>)
-    requires { Fits out.old (flat_map pair_bytes (map pair equations.now)) }
-    ensures { Appended out.old out.new (flat_map pair_bytes (map pair equations.now)) }
-{
-    for equation in equations {
-        put_equation(equation, out);
     }
 }
 
@@ -135,52 +115,4 @@ fn agent(alloc: Global, sym: u32, args: Vec<Term>) -> Result<Term, AllocError>
     ensures { IfOk result (λ term. tree term ≡ agent sym (trees_of (map tree args.items))) }
 {
     Ok(Term::Agent(Box::new(alloc, Cell { sym, args })?))
-}
-
-/// So many equations with at most so many nodes together, how many are left, and the bytes behind
-/// them.
-pub(crate) fn equations_at<'a>(
-    alloc: Global,
-    symbols: &Symbols,
-    count: usize,
-    budget: u64,
-    bytes: &'a [u8],
-) -> Result<(Vec<Equation>, u64, &'a [u8]), CodecFault>
-    requires { length symbols.now ≤ 64 }
-    ensures read { IfOk result (λ r.
-        BeginsWithMany (HasPairBytes symbols.now) pair_bytes pair_nodes count budget bytes.now
-        (map pair r.0.items) r.1 r.2.now) }
-    ensures refused { IfErr result (λ fault. fault ≡ NotATable
-        → BeginsWithNoMany (HasPairBytes symbols.now) pair_bytes pair_nodes count budget
-        bytes.now) }
-{
-    let mut equations = Vec::new(alloc);
-    let mut left = budget;
-    let mut rest = bytes;
-    for _ in 0..count {
-        let (equation, now_left, now_rest) = equation_at(alloc, symbols, left, rest)?;
-        equations.push(equation)?;
-        left = now_left;
-        rest = now_rest;
-    }
-    Ok((equations, left, rest))
-}
-
-/// An equation of at most so many nodes, how many are left, and the bytes behind it.
-fn equation_at<'a>(
-    alloc: Global,
-    symbols: &Symbols,
-    budget: u64,
-    bytes: &'a [u8],
-) -> Result<(Equation, u64, &'a [u8]), CodecFault>
-    requires { length symbols.now ≤ 64 }
-    ensures read { IfOk result (λ r.
-        BeginsWithOne (HasPairBytes symbols.now) pair_bytes pair_nodes budget bytes.now
-        (pair r.0) r.1 r.2.now) }
-    ensures refused { IfErr result (λ fault. fault ≡ NotATable
-        → BeginsWithNoOne (HasPairBytes symbols.now) pair_bytes pair_nodes budget bytes.now) }
-{
-    let (left, budget, rest) = term_at(alloc, symbols, budget, bytes)?;
-    let (right, budget, rest) = term_at(alloc, symbols, budget, rest)?;
-    Ok((Equation { left, right }, budget, rest))
 }

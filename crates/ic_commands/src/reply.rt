@@ -6,7 +6,7 @@ ghost use Rattle.ic_commands.specs.ReplyText.{state_text, refusal_text, job_text
 
 use ic_jobs::{JobList, Refusal, Reply, ShownJob, State};
 use ic_rules::JobName;
-use ic_text::put_config;
+use ic_text::put_flat;
 use std::alloc::{AllocError, Global};
 
 /// The word of a state.
@@ -49,7 +49,7 @@ fn print_shown(alloc: Global, job: &ShownJob) -> Result<Vec<u8>, AllocError>
     let mut out = Vec::new(alloc);
     put_job(alloc, &mut out, b' ', job.name(), job.state(), job.rounds())?;
     out.push(b' ')?;
-    put_config(alloc, job.rules().symbols(), job.config(), &mut out)?;
+    put_flat(alloc, job.rules().symbols(), job.config(), &mut out)?;
     Ok(out)
 }
 
@@ -78,8 +78,7 @@ fn print_refusal(alloc: Global, refusal: Refusal) -> Result<Vec<u8>, AllocError>
     }
 }
 
-/// The line that answers, without its end. Recurses on the nesting of a job that is shown, which the number of its nodes
-/// bounds.
+/// The line that answers, without its end.
 pub fn print_reply(alloc: Global, reply: &Reply) -> Result<Vec<u8>, AllocError>
     ensures { IfOk result (λ text. text.items ≡ reply_text reply.now) }
 {

@@ -1,4 +1,3 @@
-pub mod Counting
 pub mod FieldLemmas
 pub mod LineLemmas
 pub mod HeldLemmas

@@ -4,16 +4,13 @@ ghost use Rattle.std.specs.Prelude.{◌≡◌, ◌++◌, IfOk, OnOk};
 ghost use Rattle.std.specs.Fmt.{decimal};
 ghost use Rattle.std.specs.List.{flat_map};
 ghost use Rattle.ic_term.specs.Configuration.{configuration_nodes};
-ghost use Rattle.ic_term.specs.Term.{tree};
-ghost use Rattle.ic_round.specs.Firing.{rule_of_sides};
 ghost use Rattle.ic_commands.specs.ReplyText.{state_text};
 ghost use Rattle.ic_contents.specs.Report.{report, slot_line, seen_text, gate_text, body_text, held_lines, slot_held, body_held, table_lines, job_line, standing_text, sizes_text, counts_text, count_text, active_pairs};
 
 use crate::choosing::{Newest, newest_of};
 use crate::seen::{Body, Seen};
+use ic_flat_round::active_equations;
 use ic_jobs::{Job, State, Table};
-use ic_rules::RuleSet;
-use ic_term::{Config, Equation, Term};
 use std::alloc::{AllocError, Global};
 
 /// The lines of what is seen of two slots.
@@ -184,7 +181,7 @@ fn nodes_of(job: &Job) -> u64
 fn pairs_of(job: &Job) -> u64
     ensures { result ≡ active_pairs job.now.rules.rules job.now.config }
 {
-    active_pairs(job.rules(), job.config())
+    active_equations(job.rules(), job.config())
 }
 
 /// Appends these numbers of nodes and of active pairs.
@@ -213,30 +210,6 @@ fn state_word(state: State) -> &'static [u8]
         State::Done => b"done",
         State::Halted => b"halted",
         State::Spent => b"spent",
-    }
-}
-
-/// How many equations are active.
-fn active_pairs(rules: &RuleSet, config: &Config) -> u64
-    ensures { result ≡ active_pairs rules.now.rules config.now }
-{
-    let mut count = 0u64;
-    for equation in config.equations() {
-        if rule_of(rules, equation).is_some() {
-            count += 1;
-        }
-    }
-    count
-}
-
-/// The place of the rule of an equation's sides, and whether they are turned round in it.
-fn rule_of(rules: &RuleSet, equation: &Equation) -> Option<(usize, bool)>
-    ensures { result
-        ≡ rule_of_sides rules.now.rules (tree equation.now.left) (tree equation.now.right) }
-{
-    match (&equation.left, &equation.right) {
-        (Term::Agent(left), Term::Agent(right)) => rules.find(left.sym, right.sym),
-        _ => None,
     }
 }
 

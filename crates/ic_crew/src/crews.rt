@@ -16,6 +16,7 @@ use crate::dealing::deal;
 use crate::matching::match_answers;
 use crate::parcels::{Parcel, Returned};
 use crate::posts::{Line, Post, line_and_post};
+use ic_flat::Flat;
 use ic_pool::{Flight, MAX_ROUNDS, MAX_THREADS, Played, PoolFault, made_for};
 use ic_round::{Fired, Work, gather, plan, settle};
 use ic_rules::RuleSet;
@@ -126,9 +127,10 @@ impl Crew {
         if flight.rounds() == MAX_ROUNDS {
             return Err(PoolFault::RoundsOut);
         }
-        let config = flight.config().copy(alloc)?;
-        let after = round_by_lines(rt, alloc, &self.lines, flight.rules(), config)?;
-        Ok(made_for(alloc, flight, after)?)
+        let config = flight.config().to_config(alloc)?;
+        let rules = flight.shared_rules().shared();
+        let after = round_by_lines(rt, alloc, &self.lines, rules, config)?;
+        Ok(made_for(alloc, flight, Flat::from_config(alloc, &after)?)?)
     }
 }
 

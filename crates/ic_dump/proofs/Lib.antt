@@ -2,6 +2,7 @@ pub mod Places
 pub mod PrintLemmas
 pub mod RuleLemmas
 pub mod Numbered
+pub mod WordNames
 pub mod Dumps
 pub mod Lists
 pub mod Tokens

@@ -164,17 +164,3 @@ pub renumbered-over : (ss : List Symbol) (c : Configuration) → is_over ss (ren
 renumbered-over ss c =
     let f : ℕ → ℕ = number_among (first_occurrences (configuration_names c)) in
     λ i. interface_over f ss c.interface i && equations_over f ss c.equations i
-
--- the renumbered configuration, by its parts
-pub renumbered_parts : (c : Configuration) (ns keys : List ℕ) (ts us : List Tree) (es gs : List Pair) (next : ℕ)
-    → ns ≡ configuration_names c → keys ≡ first_occurrences ns → ts ≡ c.interface → es ≡ c.equations
-    → us ≡ map (renamed (number_among keys)) ts → gs ≡ map (renamed_pair (number_among keys)) es → next ≡ length keys
-    → renumbered c ≡ record { interface = us; equations = gs; next = next }
-renumbered_parts c ns keys ts us es gs next names firsts terms equations numbered paired count =
-    let same : keys ≡ first_occurrences (configuration_names c) = firsts ∙ ap first_occurrences names in
-    let interface : us ≡ map (renamed (number_among (first_occurrences (configuration_names c)))) c.interface =
-    numbered ∙ (λ i. map (renamed (number_among (same i))) (terms i)) in
-    let pairs : gs ≡ map (renamed_pair (number_among (first_occurrences (configuration_names c)))) c.equations =
-    paired ∙ (λ i. map (renamed_pair (number_among (same i))) (equations i)) in
-    let number : next ≡ length (first_occurrences (configuration_names c)) = count ∙ ap length same in
-    λ i. record { interface = sym interface i; equations = sym pairs i; next = sym number i }

@@ -1,37 +1,29 @@
 //! The names that a configuration is told with.
 
-ghost use Rattle.std.specs.Prelude.{◌≡◌, ◌++◌, map, IfOk, OnOk, nat_le};
+ghost use Rattle.std.specs.Prelude.{◌≡◌, map, IfOk, nat_le};
 ghost use Rattle.std.specs.List.{list_all};
 ghost use Rattle.ic_term.specs.Configuration.{configuration_names};
-ghost use Rattle.ic_term.specs.Term.{tree, cell_tree, pair};
-ghost use Rattle.ic_term.specs.Tree.{names};
-ghost use Rattle.ic_rules.specs.Renaming.{renamed, first_occurrences, number_among};
-ghost use Rattle.ic_dump.specs.Naming.{renamed_pair, renumbered};
+ghost use Rattle.ic_rules.specs.Renaming.{first_occurrences, number_among};
+ghost use Rattle.ic_dump.specs.Naming.{renumbered};
+ghost use Rattle.ic_dump.specs.inner.WordNaming.{renamed_word};
 
-use ic_term::{Cell, Config, Equation, Term, names_of_terms};
+use ic_flat::{Flat, Word};
 use ic_text::MAX_NAME;
 use indexmap::IndexSet;
 use std::alloc::{AllocError, Global};
-use std::slice;
 
 /// The names of a configuration in the order of the text, each as often as it occurs.
-pub(crate) fn names_of(alloc: Global, config: &Config) -> Result<Vec<u64>, AllocError>
-    ensures { IfOk result (λ list. list.items ≡ configuration_names config.now) }
+pub(crate) fn names_of(alloc: Global, flat: &Flat) -> Result<Vec<u64>, AllocError>
+    ensures { IfOk result (λ names. names.items ≡ configuration_names flat.now) }
 {
-    let mut list = names_of_terms(alloc, config.interface())?;
-    for equation in config.equations() {
-        put_names(alloc, &equation.left, &mut list)?;
-        put_names(alloc, &equation.right, &mut list)?;
+    let words = flat.words();
+    let mut names = Vec::with_capacity(alloc, words.len())?;
+    for word in words {
+        if let Word::Name(name) = *word {
+            names.push(name)?;
+        }
     }
-    Ok(list)
-}
-
-/// Appends the names of a term.
-fn put_names(alloc: Global, term: &Term, list: &mut Vec<u64>) -> Result<(), AllocError>
-    ensures { OnOk result (list.new.items ≡ list.old.items ++ names (tree term.now)) }
-{
-    list.extend_from_slice(&names_of_terms(alloc, slice::from_ref(term))?)?;
-    Ok(())
+    Ok(names)
 }
 
 /// Whether each name may stand in a text.
@@ -42,18 +34,14 @@ pub(crate) fn are_of_texts(names: &[u64]) -> bool
 }
 
 /// The configuration with its names numbered 0, 1, .. by first occurrence, where these are its names.
-pub(crate) fn renumbered(
-    alloc: Global,
-    config: &Config,
-    names: &[u64],
-) -> Result<Config, AllocError>
-    requires { names.now ≡ configuration_names config.now }
-    ensures { IfOk result (λ numbered. numbered ≡ renumbered config.now) }
+pub(crate) fn renumbered(alloc: Global, flat: &Flat, names: &[u64]) -> Result<Flat, AllocError>
+    requires { names.now ≡ configuration_names flat.now }
+    ensures { IfOk result (λ numbered. numbered ≡ renumbered flat.now) }
 {
     let firsts = first_occurrences(alloc, names)?;
-    let interface = number_terms(alloc, config.interface(), &firsts)?;
-    let equations = number_equations(alloc, config.equations(), &firsts)?;
-    Ok(Config::from_parts(interface, equations, firsts.len() as u64))
+    let words = number_words(alloc, flat.words(), &firsts)?;
+    let (terms, equations) = (flat.interface_len(), flat.equations_len());
+    Ok(Flat::from_parts(words, terms, equations, firsts.len() as u64))
 }
 
 /// The names of a list in the order in which they first occur.
@@ -67,82 +55,30 @@ fn first_occurrences(alloc: Global, names: &[u64]) -> Result<IndexSet<u64>, Allo
     Ok(firsts)
 }
 
-/// The terms with their names numbered by their places among the first occurrences.
-fn number_terms(
+/// The words with their names numbered by their places among the first occurrences.
+fn number_words(
     alloc: Global,
-    terms: &[Term],
+    words: &[Word],
     firsts: &IndexSet<u64>,
-) -> Result<Vec<Term>, AllocError>
+) -> Result<Vec<Word>, AllocError>
     ensures { IfOk result
-        (λ out. map tree out.items
-        ≡ map (renamed (number_among firsts.now.keys)) (map tree terms.now)) }
+        (λ out. out.items ≡ map (renamed_word (number_among firsts.now.keys)) words.now) }
 {
-    let mut numbered = Vec::with_capacity(alloc, terms.len())?;
-    for term in terms {
-        numbered.push(number_term(alloc, term, firsts)?)?;
+    let mut numbered = Vec::with_capacity(alloc, words.len())?;
+    for word in words {
+        numbered.push(number_word(*word, firsts))?;
     }
     Ok(numbered)
 }
 
-/// The equations with their names numbered.
-fn number_equations(
-    alloc: Global,
-    equations: &[Equation],
-    firsts: &IndexSet<u64>,
-) -> Result<Vec<Equation>, AllocError>
-    ensures { IfOk result
-        (λ out. map pair out.items
-        ≡ map (renamed_pair (number_among firsts.now.keys)) (map pair equations.now)) }
+fn number_word(word: Word, firsts: &IndexSet<u64>) -> Word
+    ensures { result ≡ renamed_word (number_among firsts.now.keys) word }
 {
-    let mut numbered = Vec::with_capacity(alloc, equations.len())?;
-    for equation in equations {
-        numbered.push(number_equation(alloc, equation, firsts)?)?;
-    }
-    Ok(numbered)
-}
-
-fn number_equation(
-    alloc: Global,
-    equation: &Equation,
-    firsts: &IndexSet<u64>,
-) -> Result<Equation, AllocError>
-    ensures { IfOk result
-        (λ out. pair out ≡ renamed_pair (number_among firsts.now.keys) (pair equation.now)) }
-{
-    Ok(Equation {
-        left: number_term(alloc, &equation.left, firsts)?,
-        right: number_term(alloc, &equation.right, firsts)?,
-    })
-}
-
-#[cycle(number)]
-fn number_term(alloc: Global, term: &Term, firsts: &IndexSet<u64>) -> Result<Term, AllocError>
-    ensures { IfOk result
-        (λ out. tree out ≡ renamed (number_among firsts.now.keys) (tree term.now)) }
-{
-    match term {
-        Term::Name(name) => {
-            let number = firsts.get_index_of(name).unwrap_or(firsts.len());
-            Ok(Term::Name(number as u64))
+    match word {
+        Word::Name(name) => {
+            let number = firsts.get_index_of(&name).unwrap_or(firsts.len());
+            Word::Name(number as u64)
         }
-        Term::Agent(cell) => {
-            let numbered = number_cell(alloc, cell, firsts)?;
-            Ok(Term::Agent(Box::new(alloc, numbered)?))
-        }
+        Word::Agent(sym, arity) => Word::Agent(sym, arity),
     }
-}
-
-#[cycle(number)]
-fn number_cell(alloc: Global, cell: &Cell, firsts: &IndexSet<u64>) -> Result<Cell, AllocError>
-    ensures { IfOk result
-        (λ out. cell_tree out ≡ renamed (number_among firsts.now.keys) (cell_tree cell.now)) }
-{
-    let mut args = Vec::with_capacity(alloc, cell.args.len())?;
-    for term in &cell.args {
-        args.push(number_term(alloc, term, firsts)?)?;
-    }
-    Ok(Cell {
-        sym: cell.sym,
-        args,
-    })
 }

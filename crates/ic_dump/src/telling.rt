@@ -9,9 +9,10 @@ ghost use Rattle.ic_dump.specs.Telling.{job_line};
 
 use crate::naming::{are_of_texts, names_of, renumbered};
 use crate::printing::{put_decimal, put_rules};
+use ic_flat::Flat;
 use ic_jobs::{Budget, Job};
-use ic_term::{Config, Symbols};
-use ic_text::put_config;
+use ic_term::Symbols;
+use ic_text::put_flat;
 use std::alloc::{AllocError, Global};
 
 /// The line that submits a job, without its end. Its budget is told as it is, whatever rounds were made of it. Names are
@@ -45,17 +46,17 @@ fn put_budget(alloc: Global, budget: Option<Budget>, out: &mut Vec<u8>) -> Resul
 fn put_told(
     alloc: Global,
     symbols: &Symbols,
-    config: &Config,
+    flat: &Flat,
     out: &mut Vec<u8>,
 ) -> Result<(), AllocError>
-    requires { IsTrue (is_over symbols.now config.now) }
+    requires { IsTrue (is_over symbols.now flat.now) }
     ensures { OnOk result
-        (out.new.items ≡ out.old.items ++ printed symbols.now (told config.now)) }
+        (out.new.items ≡ out.old.items ++ printed symbols.now (told flat.now)) }
 {
-    let names = names_of(alloc, config)?;
+    let names = names_of(alloc, flat)?;
     if are_of_texts(&names) {
-        return put_config(alloc, symbols, config, out);
+        return put_flat(alloc, symbols, flat, out);
     }
-    let numbered = renumbered(alloc, config, &names)?;
-    put_config(alloc, symbols, &numbered, out)
+    let numbered = renumbered(alloc, flat, &names)?;
+    put_flat(alloc, symbols, &numbered, out)
 }

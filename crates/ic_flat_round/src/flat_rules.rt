@@ -51,6 +51,13 @@ impl FlatRules {
         &self.rules
     }
 
+    /// The rules without their words, to be shared.
+    pub fn shared(&self) -> &Arc<RuleSet>
+        ensures { arc_value result.now ≡ self.now }
+    {
+        &self.rules
+    }
+
     /// How many names the rule at a place has.
     pub(crate) fn names(&self, place: usize) -> u64
         requires { place < length self.now.rules }

@@ -1,11 +1,12 @@
-//! Rounds of configurations in flat form: whether one fits, whether one is quiet, what its active equations fire to, what a
-//! configuration settles to, and `round`, which is both in turn.
+//! Rounds of configurations in flat form: whether one fits, whether one is quiet, how many of its equations are active and
+//! what they fire to, what a configuration settles to, and `round`, which fires and settles in turn.
 //!
 //! The answers are those of `ic_round` and `ic_settle` for the same configuration, found by walks over its words. No walk
 //! recurses on the depth of a configuration's terms; the nodes of a rule's terms are counted by `ic_term`, which does.
 //! `FlatRules` are rules whose sides are ready to be copied as words, and a `Workspace` has the lists that rounds are made in.
 #![tactic(auto)]
 
+mod activity;
 mod bound;
 mod containers;
 mod ended;
@@ -22,6 +23,7 @@ mod rounds;
 mod settling;
 mod workspace;
 
+pub use activity::active_equations;
 pub use ended::is_settled;
 pub use fired::fire;
 pub use fitting::fits;

@@ -103,4 +103,31 @@ impl Workspace {
         self.settled = settled;
         Ok(())
     }
+
+    /// The configuration after one round, in a list of its own that is no longer than its words.
+    pub fn next(
+        &mut self,
+        alloc: Global,
+        rules: &FlatRules,
+        flat: &Flat,
+    ) -> Result<Flat, RoundFault>
+        requires { IsTrue (is_over rules.now.symbols flat.now) }
+        ensures round { Answers result
+            (unless_unfit rules.now.rules flat.now (round rules.now.rules flat.now)) }
+        ensures reached { IfOk result (λ after. Steps rules.now.rules flat.now after) }
+        ensures over { IfOk result (λ after. IsTrue (is_over rules.now.symbols after)) }
+        ensures counted { IfOk result (λ after. (start : Configuration) (n : ℕ)
+            → flat.now ≡ iterate rules.now.rules n start
+            → after ≡ iterate rules.now.rules (n + 1) start) }
+    {
+        let words = mem::replace(&mut self.fired, Vec::new(alloc));
+        let fired = fire_onto(rules, flat, words)?;
+        let settled = self.settle(alloc, &fired)?;
+        let after = settled.copy(alloc)?;
+        let (fired, _, _, _) = fired.into_parts();
+        let (settled, _, _, _) = settled.into_parts();
+        self.fired = fired;
+        self.settled = settled;
+        Ok(after)
+    }
 }

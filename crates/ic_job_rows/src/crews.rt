@@ -1,12 +1,12 @@
 //! Rounds by crews, whose workers stand in threads of a scope.
 
 use crate::meeting::Meeting;
-use crate::pool::{first_flight, flight_of, is_of, tell};
+use crate::pool::{first_flight, flight_of, is_of, parts_of, tell};
 use ic_crew::{Crew, Post, stand};
-use ic_notation::{Trouble, decimal, expanded, system_of};
+use ic_flat::Flat;
+use ic_flat_round::FlatRules;
+use ic_notation::{Trouble, decimal, expanded};
 use ic_pool::{Flight, Gate, OpenGate, PoolFault, play_alone};
-use ic_rules::RuleSet;
-use ic_term::Config;
 use std::alloc::Global;
 use std::sync::{Arc, Wait};
 use std::thread::{self, Scope, Threads};
@@ -37,7 +37,7 @@ fn agree<R: Wait>(
     alloc: Global,
     crew: &mut Crew,
     flight: &Flight,
-    after: &Config,
+    after: &Flat,
 ) -> Result<(), Trouble> {
     let Ok(played) = crew.play(rt, alloc, flight) else {
         return Err(Trouble("a round by a crew is refused"));
@@ -54,7 +54,7 @@ fn round_by<R: Wait>(
     alloc: Global,
     crew: &mut Crew,
     flight: &Flight,
-) -> Result<Arc<Config>, Trouble> {
+) -> Result<Arc<Flat>, Trouble> {
     let Ok(alone) = play_alone(alloc, flight) else {
         return Err(Trouble("a round is refused"));
     };
@@ -67,10 +67,10 @@ fn next_by<R: Wait>(
     rt: &R,
     alloc: Global,
     crew: &mut Crew,
-    rules: &Arc<RuleSet>,
-    config: Arc<Config>,
+    rules: &Arc<FlatRules>,
+    config: Arc<Flat>,
     rounds: u64,
-) -> Result<Arc<Config>, Trouble> {
+) -> Result<Arc<Flat>, Trouble> {
     let flight = flight_of(rules.clone()?, config, rounds)?;
     round_by(rt, alloc, crew, &flight)
 }
@@ -81,14 +81,14 @@ fn tell_rounds<R: Wait>(
     alloc: Global,
     crew: &mut Crew,
     count: u32,
-    rules: &Arc<RuleSet>,
-    start: Arc<Config>,
+    rules: &Arc<FlatRules>,
+    start: Arc<Flat>,
     line: &mut Vec<u8>,
 ) -> Result<(), Trouble> {
     let mut config = start;
     for round in 0..count {
         config = next_by(rt, alloc, crew, rules, config, u64::from(round))?;
-        tell(alloc, rules, &config, line)?;
+        tell(alloc, rules.rules(), &config, line)?;
     }
     Ok(())
 }
@@ -103,8 +103,7 @@ fn tell_system<R: Wait>(
 ) -> Result<(), Trouble> {
     let (count, text) = text.split_once(' ').unwrap_or(("", text));
     let count = u32::from_str_radix(count, 10).unwrap_or(0);
-    let (rules, config) = system_of(alloc, &expanded(alloc, text)?)?.into_parts();
-    let start = Arc::new(alloc, config)?;
+    let (rules, start) = parts_of(alloc, &expanded(alloc, text)?)?;
     tell_rounds(rt, alloc, crew, count, &rules, start, line)
 }
 

@@ -83,7 +83,7 @@ fn passed_by<R: Threads + Wait>(
     flight: &Flight,
     workers: usize,
 ) -> Result<Vec<u8>, Trouble> {
-    let counters = Counters::new(alloc, flight.config().equations().len())?;
+    let counters = Counters::new(alloc, flight.config().equations_len())?;
     if play(rt, alloc, flight, workers, &counters).is_err() {
         return Err(Trouble("a round by workers is refused"));
     }
@@ -160,7 +160,7 @@ fn at_once<R: Threads + Wait + Clock + Sync>(
     flight: &Flight,
 ) -> Result<Vec<u8>, Trouble> {
     let meeting = CountedMeeting {
-        counters: Counters::new(alloc, flight.config().equations().len())?,
+        counters: Counters::new(alloc, flight.config().equations_len())?,
         meeting: Meeting::new(rt, wanted),
     };
     meet(rt, alloc, workers, flight, &meeting)
@@ -187,6 +187,7 @@ fn met<R>(
 ) -> Result<Vec<u8>, Trouble> {
     let mut line = meeting.told(alloc)?;
     line.extend_from_slice(b"; ")?;
-    line.append(&mut printed(alloc, played.rules(), played.after())?)?;
+    let after = played.after().to_config(alloc)?;
+    line.append(&mut printed(alloc, played.rules(), &after)?)?;
     Ok(line)
 }

@@ -1,10 +1,10 @@
 //! The job table, driven by scripts: command lines, and rounds that are taken, played and landed one by one.
 
 use crate::bytes::encoded;
-use crate::pool::with_next;
+use crate::pool::{parts_of, with_next};
 use ic_commands::{Line, print_reply, read_command};
 use ic_jobs::{Command, Job, Landed, State, Table};
-use ic_notation::{Trouble, decimal, digits_of, expanded, system_of};
+use ic_notation::{Trouble, decimal, digits_of, expanded};
 use ic_pool::{Flight, play_alone};
 use ic_rules::JobName;
 use ic_text::print_fault;
@@ -196,8 +196,8 @@ fn top_job(alloc: Global, text: &str) -> Result<Option<Job>, Trouble> {
     let Some(name) = JobName::new(b"top") else {
         return Err(Trouble("no name"));
     };
-    let (rules, config) = system_of(alloc, system.as_bytes())?.into_parts();
-    let config = with_next(alloc, config, next)?;
+    let (rules, config) = parts_of(alloc, system.as_bytes())?;
+    let config = with_next(alloc, &config, next)?;
     Ok(Job::restore(name, rules, config, rounds, State::Running, None))
 }
 

@@ -1,9 +1,10 @@
 //! Rounds of jobs by any number of workers.
 
+use ic_flat::{Flat, over};
+use ic_flat_round::FlatRules;
 use ic_notation::{Trouble, decimal, expanded, printed, system_of};
 use ic_pool::{Flight, Gate, MAX_ROUNDS, OpenGate, Played, PoolFault, play, play_alone};
 use ic_rules::{JobName, RuleSet};
-use ic_term::{Config, over};
 use std::alloc::Global;
 use std::sync::{Arc, Wait};
 use std::thread::{self, Threads};
@@ -12,32 +13,40 @@ use std::thread::{self, Threads};
 pub const WORKERS: &[usize] = &[1, 2, 3, 7, 64, 200];
 
 /// A flight of a job, where these are the parts of one.
-pub fn flight_of(rules: Arc<RuleSet>, config: Arc<Config>, rounds: u64) -> Result<Flight, Trouble> {
+pub fn flight_of(rules: Arc<FlatRules>, config: Arc<Flat>, rounds: u64) -> Result<Flight, Trouble> {
     match JobName::new(b"p") {
-        Some(name) if over(rules.symbols(), &config) && rounds <= MAX_ROUNDS => {
+        Some(name) if over(rules.rules().symbols(), &config) && rounds <= MAX_ROUNDS => {
             Ok(Flight::new(0, name, rules, config, rounds))
         }
         _ => Err(Trouble("no flight")),
     }
 }
 
+/// The rules and the configuration of a system, in flat form.
+pub fn parts_of(alloc: Global, text: &[u8]) -> Result<(Arc<FlatRules>, Arc<Flat>), Trouble> {
+    let (rules, config) = system_of(alloc, text)?.into_parts();
+    let rules = FlatRules::new(alloc, rules)?;
+    let config = Flat::from_config(alloc, &config)?;
+    Ok((Arc::new(alloc, rules)?, Arc::new(alloc, config)?))
+}
+
 /// The flight of a system, with no round behind it.
 pub fn first_flight(alloc: Global, text: &[u8]) -> Result<Flight, Trouble> {
-    let (rules, config) = system_of(alloc, text)?.into_parts();
-    flight_of(rules, Arc::new(alloc, config)?, 0)
+    let (rules, config) = parts_of(alloc, text)?;
+    flight_of(rules, config, 0)
 }
 
 /// A configuration with another `next`, in an `Arc`.
-pub fn with_next(alloc: Global, config: Config, next: u64) -> Result<Arc<Config>, Trouble> {
-    let (interface, equations, _) = config.into_parts();
-    let config = Config::restore(alloc, interface, equations, next)?;
+pub fn with_next(alloc: Global, config: &Flat, next: u64) -> Result<Arc<Flat>, Trouble> {
+    let (words, terms, equations, _) = config.copy(alloc)?.into_parts();
+    let config = Flat::restore(alloc, words, terms, equations, next)?;
     Ok(Arc::new(alloc, config)?)
 }
 
 /// Whether a round is of this flight: its name, rules, configuration and rounds.
 pub fn is_of(played: &Played, flight: &Flight) -> bool {
     played.name().as_bytes() == flight.name().as_bytes()
-        && **played.rules() == **flight.rules()
+        && *played.rules() == *flight.rules()
         && played.before() == flight.config()
         && played.rounds() == flight.rounds()
 }
@@ -48,7 +57,7 @@ fn agreed<R: Threads + Wait, G: Gate>(
     alloc: Global,
     flight: &Flight,
     gate: &G,
-) -> Result<Arc<Config>, Trouble> {
+) -> Result<Arc<Flat>, Trouble> {
     let Ok(alone) = play_alone(alloc, flight) else {
         return Err(Trouble("a round is refused"));
     };
@@ -62,7 +71,7 @@ fn agree<R: Threads + Wait, G: Gate>(
     alloc: Global,
     flight: &Flight,
     gate: &G,
-    after: &Config,
+    after: &Flat,
 ) -> Result<(), Trouble> {
     for workers in WORKERS {
         let Ok(played) = play(rt, alloc, flight, *workers, gate) else {
@@ -79,11 +88,11 @@ fn agree<R: Threads + Wait, G: Gate>(
 fn next_of<R: Threads + Wait, G: Gate>(
     rt: &R,
     alloc: Global,
-    rules: &Arc<RuleSet>,
-    config: Arc<Config>,
+    rules: &Arc<FlatRules>,
+    config: Arc<Flat>,
     rounds: u64,
     gate: &G,
-) -> Result<Arc<Config>, Trouble> {
+) -> Result<Arc<Flat>, Trouble> {
     let flight = flight_of(rules.clone()?, config, rounds)?;
     agreed(rt, alloc, &flight, gate)
 }
@@ -95,8 +104,7 @@ pub fn rounds_by_any<R: Threads + Wait>(
     count: u32,
     text: &[u8],
 ) -> Result<Vec<u8>, Trouble> {
-    let (rules, config) = system_of(alloc, text)?.into_parts();
-    let start = Arc::new(alloc, config)?;
+    let (rules, start) = parts_of(alloc, text)?;
     rounds_told(rt, alloc, count, &rules, start)
 }
 
@@ -105,14 +113,14 @@ fn rounds_told<R: Threads + Wait>(
     rt: &R,
     alloc: Global,
     count: u32,
-    rules: &Arc<RuleSet>,
-    start: Arc<Config>,
+    rules: &Arc<FlatRules>,
+    start: Arc<Flat>,
 ) -> Result<Vec<u8>, Trouble> {
     let mut line = Vec::new(alloc);
     let mut config = start;
     for round in 0..count {
         config = next_of(rt, alloc, rules, config, u64::from(round), &OpenGate)?;
-        tell(alloc, rules, &config, &mut line)?;
+        tell(alloc, rules.rules(), &config, &mut line)?;
     }
     Ok(line)
 }
@@ -121,10 +129,10 @@ fn rounds_told<R: Threads + Wait>(
 pub fn tell(
     alloc: Global,
     rules: &RuleSet,
-    config: &Config,
+    config: &Flat,
     line: &mut Vec<u8>,
 ) -> Result<(), Trouble> {
-    line.append(&mut printed(alloc, rules, config)?)?;
+    line.append(&mut printed(alloc, rules, &config.to_config(alloc)?)?)?;
     line.push(b' ')?;
     decimal(line, config.next())?;
     line.push(b' ')?;
@@ -157,8 +165,7 @@ pub fn rounds_by_yielding<R: Threads + Wait>(
     count: u32,
     text: &[u8],
 ) -> Result<Vec<u8>, Trouble> {
-    let (rules, config) = system_of(alloc, text)?.into_parts();
-    let mut config = Arc::new(alloc, config)?;
+    let (rules, mut config) = parts_of(alloc, text)?;
     for round in 0..count {
         let seed = u64::from(round);
         config = next_of(rt, alloc, &rules, config, seed, &Yielding { seed })?;
@@ -185,9 +192,9 @@ fn flight_behind(
     next: Option<u64>,
     rounds: u64,
 ) -> Result<Flight, Trouble> {
-    let (rules, config) = system_of(alloc, text)?.into_parts();
+    let (rules, config) = parts_of(alloc, text)?;
     let next = next.unwrap_or(config.next());
-    let config = with_next(alloc, config, next)?;
+    let config = with_next(alloc, &config, next)?;
     flight_of(rules, config, rounds)
 }
 

@@ -229,12 +229,6 @@ IsJob-begun name s most named symbols rules config over budget =
 pub IsJob-branched : (new : List ℕ) (j : JobParts) → IsTrue (is_job_name new) → IsJob j → IsJob (begun new (system_of j) None)
 IsJob-branched new j named is = IsJob-begun new (system_of j) None named is.symbols is.rules is.config is.over tt
 
-pub IsJob-branched_as : (new : List ℕ) (j : JobParts) (rules : Rules) (config : Configuration) (s : State) → IsTrue (is_job_name new) → IsJob j → rules ≡ j.rules → config ≡ j.config
-    → s ≡ open_state j.rules j.config → IsJob (record { name = new; rules = rules; config = config; rounds = 0; state = s; budget = None })
-IsJob-branched_as new j rules config s named is same_rules same_config e =
-    subst (λ (p : Rules × Configuration × State). IsJob (record { name = new; rules = p.0; config = p.1; rounds = 0; state = p.2; budget = None }))
-    (λ i. (sym same_rules i, sym same_config i, sym e i)) (IsJob-branched new j named is)
-
 -- ---- jobs that are made or changed field by field
 
 pub IsJob-of_parts : (name : List ℕ) (rules : Rules) (config : Configuration) (s : State) (most : Option ℕ) → IsTrue (is_job_name name) → AreSymbols rules.symbols → IsRuleSet rules

@@ -7,23 +7,23 @@ ghost use Rattle.ic_jobs.specs.Job.{open_state, state_after};
 use crate::budget::{Budget, is_used_up, is_within};
 use crate::shown::ShownJob;
 use crate::state::State;
+use ic_flat::{Flat, over};
+use ic_flat_round::{FlatRules, quiet};
 use ic_pool::{Flight, MAX_ROUNDS};
-use ic_round::quiet;
 use ic_rules::{JobName, RuleSet, System};
-use ic_term::{Config, over};
 use std::alloc::{AllocError, Global};
 use std::marker::Model;
 use std::sync::Arc;
 
-/// A job: its name, its rules and configuration, how many rounds it has made, its state, and its
-/// budget or none. It is done exactly where its configuration is quiet, and spent exactly where it
-/// isn't quiet and its rounds are its budget. Rules and configuration are shared, never changed: a
-/// round puts another configuration in place.
+/// A job: its name, its rules and configuration in flat form, how many rounds it has made, its state,
+/// and its budget or none. It is done exactly where its configuration is quiet, and spent exactly
+/// where it isn't quiet and its rounds are its budget. Rules and configuration are shared, never
+/// changed: a round puts another configuration in place.
 #[derive(Debug, Drop)]
 pub struct Job {
     name: JobName,
-    rules: Arc<RuleSet>,
-    config: Arc<Config>,
+    rules: Arc<FlatRules>,
+    config: Arc<Flat>,
     rounds: u64,
     state: State,
     budget: Option<Budget>,
@@ -58,6 +58,7 @@ impl Model for Job {
 
 impl Job {
     ghost use Rattle.std.specs.Prelude.{◌↔◌, ◌<◌, IsTrue, IsSome, IfSome, None, false, length};
+    ghost use Rattle.ic_term.specs.Symbol.{is_over};
     ghost use Rattle.ic_round.specs.Rounds.{round};
     ghost use Rattle.ic_jobs.specs.inner.States.{is_finished};
     ghost use Rattle.ic_jobs.specs.Job.{IsJob, begun, system_of, can_move, moved, in_state};
@@ -70,8 +71,8 @@ impl Job {
     /// configuration is quiet, and `Spent` exactly where it isn't and the rounds are the budget.
     pub fn restore(
         name: JobName,
-        rules: Arc<RuleSet>,
-        config: Arc<Config>,
+        rules: Arc<FlatRules>,
+        config: Arc<Flat>,
         rounds: u64,
         state: State,
         budget: Option<Budget>,
@@ -94,11 +95,12 @@ impl Job {
         }) }
     {
         // Read for the proof: what the types of the parts keep, the job keeps too.
-        let (_text, _count, _next) = (name.as_bytes(), rules.symbols().len(), config.next());
-        if rounds > MAX_ROUNDS || !is_within(&budget, rounds) || !over(rules.symbols(), &config) {
+        let symbols = rules.rules().symbols();
+        let (_text, _count, _next) = (name.as_bytes(), symbols.len(), config.next());
+        if rounds > MAX_ROUNDS || !is_within(&budget, rounds) || !over(symbols, &config) {
             return None;
         }
-        if !state.may_be(quiet(&rules, &config), is_used_up(&budget, rounds)) {
+        if !state.may_be(quiet(rules.rules(), &config), is_used_up(&budget, rounds)) {
             return None;
         }
         Some(Job {
@@ -111,7 +113,29 @@ impl Job {
         })
     }
 
-    /// A job as it begins. The system is moved into it.
+    /// The job of these parts as it begins.
+    fn begun(name: JobName, rules: Arc<FlatRules>, config: Arc<Flat>, budget: Option<Budget>) -> Job
+        requires { IsTrue (is_over (arc_value rules).symbols (arc_value config)) }
+        ensures job { result
+            ≡ begun name (record { rules = arc_value rules; config = arc_value config }) budget }
+        ensures sound { IsJob result }
+    {
+        // Read for the proof: what the types of the parts keep, the job keeps too.
+        let (_text, _next) = (name.as_bytes(), config.next());
+        let _count = rules.rules().symbols().len();
+        let _none = is_within(&budget, 0);
+        let state = open_state(rules.rules(), &config);
+        Job {
+            name,
+            rules,
+            config,
+            rounds: 0,
+            state,
+            budget,
+        }
+    }
+
+    /// A job as it begins. It shares the rules of the system, and has its configuration in words.
     pub(crate) fn begin(
         alloc: Global,
         name: JobName,
@@ -122,20 +146,11 @@ impl Job {
         ensures sound { IfOk result (λ job. IsJob job) }
     {
         let (rules, config) = system.into_parts();
-        let symbols = rules.symbols();
-        // Read for the proof: what the types of the parts keep, the job keeps too.
-        let (_text, _count, _next) = (name.as_bytes(), symbols.len(), config.next());
-        let _none = is_within(&budget, 0);
-        let state = open_state(&rules, &config);
+        let rules = FlatRules::new(alloc, rules)?;
+        let rules = Arc::new(alloc, rules)?;
+        let config = Flat::from_config(alloc, &config)?;
         let config = Arc::new(alloc, config)?;
-        Ok(Job {
-            name,
-            rules,
-            config,
-            rounds: 0,
-            state,
-            budget,
-        })
+        Ok(Job::begun(name, rules, config, budget))
     }
 
     /// The job of this name as it begins with the rules and the configuration that this one has,
@@ -144,17 +159,9 @@ impl Job {
         ensures job { IfOk result (λ job. job ≡ begun name (system_of self.now) None) }
         ensures sound { IfOk result (λ job. IsJob job) }
     {
-        // Read for the proof: what the type of the name keeps, the job keeps too.
-        let _text = name.as_bytes();
-        let state = open_state(&self.rules, &self.config);
-        Ok(Job {
-            name,
-            rules: self.rules.clone()?,
-            config: self.config.clone()?,
-            rounds: 0,
-            state,
-            budget: None,
-        })
+        let rules = self.rules.clone()?;
+        let config = self.config.clone()?;
+        Ok(Job::begun(name, rules, config, None))
     }
 
     pub fn name(&self) -> JobName
@@ -164,14 +171,14 @@ impl Job {
         self.name
     }
 
-    pub fn rules(&self) -> &Arc<RuleSet>
-        ensures rules { arc_value result.now ≡ self.now.rules }
+    pub fn rules(&self) -> &RuleSet
+        ensures rules { result.now ≡ self.now.rules }
         ensures sound { IsJob self.now }
     {
-        &self.rules
+        self.rules.rules()
     }
 
-    pub fn config(&self) -> &Config
+    pub fn config(&self) -> &Flat
         ensures config { result.now ≡ self.now.config }
         ensures sound { IsJob self.now }
     {
@@ -209,10 +216,10 @@ impl Job {
     }
 
     /// Whether it has these rules, this whole configuration and these rounds.
-    pub(crate) fn agrees(&self, rules: &RuleSet, config: &Config, rounds: u64) -> bool
+    pub(crate) fn agrees(&self, rules: &RuleSet, config: &Flat, rounds: u64) -> bool
         ensures { result ≡ agrees self.now rules.now config.now rounds }
     {
-        self.rounds == rounds && *self.config == *config && *self.rules == *rules
+        self.rounds == rounds && *self.config == *config && *self.rules.rules() == *rules
     }
 
     /// Puts a job that is neither done nor spent into another such state.
@@ -225,14 +232,14 @@ impl Job {
     }
 
     /// Puts the configuration after a round of a job that is neither done nor spent.
-    pub(crate) fn advance(&mut self, after: Arc<Config>)
+    pub(crate) fn advance(&mut self, after: Arc<Flat>)
         requires unfinished { is_finished self.old.state ≡ false }
         requires can { IsTrue (can_move self.old) }
         requires round { arc_value after ≡ round self.old.rules.rules self.old.config }
         ensures { self.new ≡ moved self.old }
     {
         self.rounds += 1;
-        self.state = state_after(&self.rules, &after, self.rounds, &self.budget);
+        self.state = state_after(self.rules.rules(), &after, self.rounds, &self.budget);
         self.config = after;
     }
 
@@ -293,7 +300,7 @@ impl PartialEq for Job {
             && self.state == other.state
             && self.budget == other.budget
             && *self.config == *other.config
-            && *self.rules == *other.rules
+            && *self.rules.rules() == *other.rules.rules()
     }
 }
 
@@ -304,7 +311,7 @@ impl Eq for Job {
 }
 
 /// The state of a job as it begins.
-fn open_state(rules: &RuleSet, config: &Config) -> State
+fn open_state(rules: &RuleSet, config: &Flat) -> State
     ensures { result ≡ open_state rules.now config.now }
 {
     if quiet(rules, config) {
@@ -315,7 +322,7 @@ fn open_state(rules: &RuleSet, config: &Config) -> State
 }
 
 /// The state of a job after a round: quiet comes before the budget.
-fn state_after(rules: &RuleSet, config: &Config, rounds: u64, budget: &Option<Budget>) -> State
+fn state_after(rules: &RuleSet, config: &Flat, rounds: u64, budget: &Option<Budget>) -> State
     ensures { result ≡ state_after rules.now config.now rounds budget.now }
 {
     if quiet(rules, config) {

@@ -2,8 +2,9 @@
 //!
 //! A `Table` has jobs in the order in which they began. `apply` takes a client's command.
 //! `due` gives a running job as it is, to be played outside; `land` puts its round and `halt` stops
-//! it, if the job is still as it was. Configurations are shared, not copied. The definitions of
-//! events, histories and lives stand in specs/, and `laws` holds what is proved of them alone.
+//! it, if the job is still as it was. Rules and configurations are in flat form, and are shared, not
+//! copied. The definitions of events, histories and lives stand in specs/, and `laws` holds what is
+//! proved of them alone.
 #![tactic(auto)]
 
 mod budget;

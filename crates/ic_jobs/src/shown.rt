@@ -4,21 +4,22 @@ ghost use Rattle.std.specs.Prelude.{◌≡◌, IfOk, length, slice_get, Some};
 ghost use Rattle.std.specs.Arc.{arc_value};
 
 use crate::state::State;
+use ic_flat::Flat;
+use ic_flat_round::FlatRules;
 use ic_rules::{JobName, RuleSet};
-use ic_term::Config;
 use std::alloc::{AllocError, Global};
 use std::marker::Model;
 use std::sync::Arc;
 
-/// A job as a reply shows it: its name, state and rounds, and its rules and configuration, which it
-/// shares with the job.
+/// A job as a reply shows it: its name, state and rounds, and its rules and configuration in flat
+/// form, which it shares with the job.
 #[derive(Debug, Drop)]
 pub struct ShownJob {
     name: JobName,
     state: State,
     rounds: u64,
-    rules: Arc<RuleSet>,
-    config: Arc<Config>,
+    rules: Arc<FlatRules>,
+    config: Arc<Flat>,
 }
 
 impl Model for ShownJob {
@@ -50,8 +51,8 @@ impl ShownJob {
         name: JobName,
         state: State,
         rounds: u64,
-        rules: Arc<RuleSet>,
-        config: Arc<Config>,
+        rules: Arc<FlatRules>,
+        config: Arc<Flat>,
     ) -> ShownJob
         requires { IsTrue (is_over (arc_value rules).symbols (arc_value config)) }
         ensures { result ≡ record {
@@ -90,13 +91,13 @@ impl ShownJob {
         self.rounds
     }
 
-    pub fn rules(&self) -> &Arc<RuleSet>
-        ensures { arc_value result.now ≡ self.now.rules }
+    pub fn rules(&self) -> &RuleSet
+        ensures { result.now ≡ self.now.rules }
     {
-        &self.rules
+        self.rules.rules()
     }
 
-    pub fn config(&self) -> &Config
+    pub fn config(&self) -> &Flat
         ensures config { result.now ≡ self.now.config }
         ensures sound { IsTrue (is_over self.now.rules.symbols self.now.config) }
     {

@@ -1,6 +1,7 @@
 //! What jobs begin with: for each name one system, and its configuration after each number of rounds.
 
 use crate::moves::Verb;
+use ic_flat::Flat;
 use ic_jobs::{Command, Job, State};
 use ic_notation::{Trouble, expanded, printed, system_of};
 use ic_round::{fits, quiet, round};
@@ -32,7 +33,7 @@ pub const ORIGINS: usize = SYSTEMS.len();
 pub struct Origin {
     name: JobName,
     system: System,
-    iterates: Vec<Config>,
+    iterates: Vec<Flat>,
     // Whether no round is to be made of the last one.
     ends: bool,
 }
@@ -54,7 +55,7 @@ pub fn origins(alloc: Global) -> Result<Vec<Origin>, Trouble> {
         let system = system_of(alloc, &expanded(alloc, text)?)?;
         let iterates = iterates(alloc, &system)?;
         let ends = match iterates.last() {
-            Some(last) => quiet(system.rules(), last),
+            Some(last) => quiet(system.rules(), &last.to_config(alloc)?),
             None => false,
         };
         origins.push(Origin {
@@ -68,12 +69,12 @@ pub fn origins(alloc: Global) -> Result<Vec<Origin>, Trouble> {
 }
 
 /// The configuration of a system after each number of rounds, as far as rounds can be made.
-fn iterates(alloc: Global, system: &System) -> Result<Vec<Config>, Trouble> {
+fn iterates(alloc: Global, system: &System) -> Result<Vec<Flat>, Trouble> {
     let mut iterates = Vec::new(alloc);
     let mut config = system.config().copy(alloc)?;
     for _ in 0..ROUNDS {
         let next = next_of(alloc, system.rules(), &config)?;
-        iterates.push(config)?;
+        iterates.push(Flat::from_config(alloc, &config)?)?;
         match next {
             Some(after) => config = after,
             None => return Ok(iterates),
@@ -127,7 +128,7 @@ impl Origin {
     /// The text of its configuration after so many rounds.
     pub fn text(&self, alloc: Global, rounds: usize) -> Result<Vec<u8>, Trouble> {
         match self.iterates.get(rounds) {
-            Some(config) => printed(alloc, self.system.rules(), config),
+            Some(config) => printed(alloc, self.system.rules(), &config.to_config(alloc)?),
             None => Err(Trouble("more rounds than there are")),
         }
     }
@@ -137,6 +138,6 @@ impl Origin {
         job.name().as_bytes() == self.name()
             && job.rounds() == rounds as u64
             && self.iterates.get(rounds) == Some(job.config())
-            && **job.rules() == **self.system.rules()
+            && *job.rules() == **self.system.rules()
     }
 }

@@ -4,21 +4,21 @@ ghost use Rattle.std.specs.Prelude.{◌≡◌, IsTrue};
 ghost use Rattle.std.specs.Arc.{arc_value};
 
 use crate::limits::MAX_ROUNDS;
-use ic_round::fits;
+use ic_flat::Flat;
+use ic_flat_round::{FlatRules, fits};
 use ic_rules::{JobName, RuleSet};
-use ic_term::Config;
 use std::marker::Model;
 use std::sync::Arc;
 
-/// A round that is to be made: a job's place in its table, its name, its rules and configuration,
-/// and how many rounds it has made. The configuration is shared with the job, and with the round
-/// that is made of it.
+/// A round that is to be made: a job's place in its table, its name, its rules and configuration in
+/// flat form, and how many rounds it has made. Rules and configuration are shared with the job, and
+/// with the round that is made of it.
 #[derive(Debug, Drop)]
 pub struct Flight {
     place: usize,
     name: JobName,
-    rules: Arc<RuleSet>,
-    config: Arc<Config>,
+    rules: Arc<FlatRules>,
+    config: Arc<Flat>,
     rounds: u64,
 }
 
@@ -53,8 +53,8 @@ impl Flight {
     pub fn new(
         place: usize,
         name: JobName,
-        rules: Arc<RuleSet>,
-        config: Arc<Config>,
+        rules: Arc<FlatRules>,
+        config: Arc<Flat>,
         rounds: u64,
     ) -> Flight
         requires { IsFlight (record {
@@ -96,23 +96,32 @@ impl Flight {
         self.name
     }
 
-    pub fn rules(&self) -> &Arc<RuleSet>
-        ensures rules { arc_value result.now ≡ self.now.rules }
+    pub fn rules(&self) -> &RuleSet
+        ensures rules { result.now ≡ self.now.rules }
         ensures sound { IsFlight self.now }
     {
-        &self.rules
+        self.rules.rules()
     }
 
-    pub fn config(&self) -> &Config
+    pub fn config(&self) -> &Flat
         ensures config { result.now ≡ self.now.config }
         ensures sound { IsFlight self.now }
     {
         &self.config
     }
 
+    /// The rules with their words, to be shared.
+    pub fn shared_rules(&self) -> &Arc<FlatRules>
+        ensures rules { arc_value result.now ≡ self.now.rules }
+        ensures sound { IsFlight self.now }
+    {
+        &self.rules
+    }
+
     /// The configuration, to be shared.
-    pub(crate) fn shared_config(&self) -> &Arc<Config>
-        ensures { arc_value result.now ≡ self.now.config }
+    pub fn shared_config(&self) -> &Arc<Flat>
+        ensures config { arc_value result.now ≡ self.now.config }
+        ensures sound { IsFlight self.now }
     {
         &self.config
     }
@@ -131,6 +140,6 @@ impl Flight {
         ensures blocked { result ≡ is_blocked self.now }
         ensures sound { IsFlight self.now }
     {
-        !fits(&self.rules, &self.config) || self.rounds == MAX_ROUNDS
+        !fits(self.rules.rules(), &self.config) || self.rounds == MAX_ROUNDS
     }
 }

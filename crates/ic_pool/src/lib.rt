@@ -1,9 +1,10 @@
 //! Rounds of jobs: what is to be played, and what was played.
 //!
-//! A `Flight` is a job that is due, as it is then. `play_alone` makes its round in the calling thread
-//! and answers a `Played`, whose type says that `after` is the round of `before`. Neither holds its
-//! job's table, so other events may come between. `play` makes it by threads of its own, and
-//! `round_by_workers` that of a configuration which is no job's.
+//! A `Flight` is a job that is due, as it is then, in flat form. `play_alone` makes its round in the
+//! calling thread and answers a `Played`, whose type says that `after` is the round of `before`;
+//! `play_in` does so in lists that are kept. Neither holds its job's table, so other events may come
+//! between. `play` makes it by threads of its own, which fire works of terms, and `round_by_workers`
+//! that of a configuration which is no job's.
 #![tactic(auto)]
 
 mod alone;
@@ -19,7 +20,7 @@ mod played;
 mod playing;
 mod workers;
 
-pub use alone::play_alone;
+pub use alone::{play_alone, play_in};
 pub use fault::PoolFault;
 pub use flight::Flight;
 pub use gate::{Gate, OpenGate};

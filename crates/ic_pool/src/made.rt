@@ -8,11 +8,11 @@ ghost use Rattle.ic_pool.specs.declared.limits.TheConstants.{MAX_ROUNDS};
 
 use crate::flight::Flight;
 use crate::played::Played;
-use ic_term::Config;
+use ic_flat::Flat;
 use std::alloc::{AllocError, Global};
 
 /// The round of a flight, from the configuration after it.
-pub fn made_for(alloc: Global, flight: &Flight, after: Config) -> Result<Played, AllocError>
+pub fn made_for(alloc: Global, flight: &Flight, after: Flat) -> Result<Played, AllocError>
     requires counted { flight.now.rounds < MAX_ROUNDS }
     requires fitting { IsTrue (fits flight.now.rules.rules flight.now.config) }
     requires made { after ≡ round flight.now.rules.rules flight.now.config }
@@ -20,7 +20,7 @@ pub fn made_for(alloc: Global, flight: &Flight, after: Config) -> Result<Played,
     ensures { IfOk result (λ played. played ≡ round_of flight.now) }
 {
     let before = flight.shared_config().clone()?;
-    let rules = flight.rules().clone()?;
+    let rules = flight.shared_rules().clone()?;
     let rounds = flight.rounds();
     Ok(Played::new(alloc, flight.name(), rules, before, after, rounds)?)
 }

@@ -3,21 +3,22 @@
 ghost use Rattle.std.specs.Prelude.{◌≡◌, IfOk};
 ghost use Rattle.std.specs.Arc.{arc_value};
 
+use ic_flat::Flat;
+use ic_flat_round::FlatRules;
 use ic_rules::{JobName, RuleSet};
-use ic_term::Config;
 use std::alloc::{AllocError, Global};
 use std::marker::Model;
 use std::sync::Arc;
 
-/// A round that was made: a job's name and rules, its configuration before and after, and how many
-/// rounds it had made before. `after` is the round of `before`. `before` is shared with its flight,
-/// and `after` with the job that it lands in.
+/// A round that was made: a job's name and rules, its configuration before and after in flat form,
+/// and how many rounds it had made before. `after` is the round of `before`. The rules and `before`
+/// are shared with its flight, and `after` with the job that it lands in.
 #[derive(Debug, Drop)]
 pub struct Played {
     name: JobName,
-    rules: Arc<RuleSet>,
-    before: Arc<Config>,
-    after: Arc<Config>,
+    rules: Arc<FlatRules>,
+    before: Arc<Flat>,
+    after: Arc<Flat>,
     rounds: u64,
 }
 
@@ -52,9 +53,9 @@ impl Played {
     pub(crate) fn new(
         alloc: Global,
         name: JobName,
-        rules: Arc<RuleSet>,
-        before: Arc<Config>,
-        after: Config,
+        rules: Arc<FlatRules>,
+        before: Arc<Flat>,
+        after: Flat,
         rounds: u64,
     ) -> Result<Played, AllocError>
         requires { IsPlayed (record {
@@ -88,15 +89,15 @@ impl Played {
         self.name
     }
 
-    pub fn rules(&self) -> &Arc<RuleSet>
-        ensures rules { arc_value result.now ≡ self.now.rules }
+    pub fn rules(&self) -> &RuleSet
+        ensures rules { result.now ≡ self.now.rules }
         ensures sound { IsPlayed self.now }
     {
-        &self.rules
+        self.rules.rules()
     }
 
     /// The configuration before the round.
-    pub fn before(&self) -> &Config
+    pub fn before(&self) -> &Flat
         ensures before { result.now ≡ self.now.before }
         ensures sound { IsPlayed self.now }
     {
@@ -104,7 +105,7 @@ impl Played {
     }
 
     /// The configuration after the round.
-    pub fn after(&self) -> &Config
+    pub fn after(&self) -> &Flat
         ensures after { result.now ≡ self.now.after }
         ensures sound { IsPlayed self.now }
     {
@@ -120,7 +121,7 @@ impl Played {
     }
 
     /// The configuration after the round, moved out.
-    pub fn into_after(self) -> Arc<Config>
+    pub fn into_after(self) -> Arc<Flat>
         ensures after { arc_value result ≡ self.after }
         ensures sound { IsPlayed self }
     {

@@ -13,6 +13,7 @@ use crate::gate::Gate;
 use crate::limits::MAX_ROUNDS;
 use crate::played::Played;
 use crate::workers::fire_by_workers;
+use ic_flat::Flat;
 use ic_round::{gather, plan, settle};
 use ic_rules::RuleSet;
 use ic_term::Config;
@@ -44,10 +45,11 @@ pub fn play<R: Threads + Wait, G: Gate>(
     if flight.rounds() == MAX_ROUNDS {
         return Err(PoolFault::RoundsOut);
     }
-    let config = flight.config().copy(alloc)?;
+    let config = flight.config().to_config(alloc)?;
     let after = round_by_workers(rt, alloc, flight.rules(), config, workers, gate)?;
+    let after = Flat::from_config(alloc, &after)?;
     let before = flight.shared_config().clone()?;
-    let rules = flight.rules().clone()?;
+    let rules = flight.shared_rules().clone()?;
     let rounds = flight.rounds();
     Ok(Played::new(alloc, flight.name(), rules, before, after, rounds)?)
 }

@@ -21,6 +21,8 @@ use Rattle.ic_slots.specs.Held.{HoldsTable, HoldsEitherTable}
 use Rattle.ic_slots.specs.Keeper as keeper_parts
 use Rattle.ic_commands.specs.LineText.{ReadsLine}
 use Rattle.ic_commands.specs.declared.line.Line.TheVariants.{Blank, Run, Command as Asks}
+use Rattle.ic_lines.specs.declared.buffer.LineFault.{LineFault}
+use Rattle.ic_lines.specs.declared.buffer.LineFault.TheVariants as line_fault
 use Rattle.ic_lines.specs.Turns.{after_events, turns}
 use Rattle.ic_lines.specs.Answers.{Reading, events}
 use Rattle.ic_lines.specs.Taking.{HasNoLine}
@@ -35,8 +37,8 @@ use Rattle.ic_serving.specs.Stopped.{HoldsOne, IsReached, MayStand}
 use Rattle.ic_desk.specs.ByCalls.{IsByCalls}
 use Rattle.ic_serving.specs.Moments.{FaultLeaves, Leaves, IsKeptOrNow, IsKeptInLine}
 use Rattle.ic_serving.specs.declared.fault.ServeFault.{ServeFault}
-use Rattle.ic_serving.specs.declared.fault.ServeFault.TheVariants.{Write, Memory}
-use Rattle.ic_serving.specs.Faults.{ComesInLine, MayCome, CountsServe}
+use Rattle.ic_serving.specs.declared.fault.ServeFault.TheVariants.{Read, Write, LongLine, Memory}
+use Rattle.ic_serving.specs.Faults.{ComesInLine, MayCome, CountsServe, fault_of_line}
 use Rattle.ic_serving.specs.Served.{OfLines, MayBeServed, SaysOf, IsEnded, IsCut}
 use Rattle.ic_serving.specs.Serving.{IsServing}
 use Rattle.ic_serving.specs.InTurn.{AreAnsweredInTurn}
@@ -351,6 +353,30 @@ module _ {D : Type 0} {ghosts : Ghosts D} where
       let counts : CountsServe {T = T} (Err fault) (ghosts.failures (disk_of first)) (ghosts.failures (disk_of new)) =
       subst (λ n. CountsServe {T = T} (Err fault) n (ghosts.failures (disk_of new))) counted (counts_as U T fault (ghosts.failures (disk_of book)) (ghosts.failures (disk_of new)) left.counted) in
       rw same (record { causes = may_come fault left.causes; counted = counts; ready = λ whole. tt; breaks = λ whole. left.breaks (ready whole) })
+
+  -- where no line is taken
+  pub fault_untaken : {T : Type 0} (r : Result T ServeFault) (e : LineFault) → IsErrAnd r (λ x. x ≡ fault_of_line e) → (first book : Book D ghosts)
+      → ghosts.failures (disk_of book) ≡ ghosts.failures (disk_of first) → (is_broken first ≡ false → is_broken book ≡ false)
+      → FaultLeaves MayCome r first book
+  fault_untaken (Ok v) e is first book counted ready = absurd is
+  fault_untaken (Err f) line_fault.Read is first book counted ready =
+      let same : f ≡ Read = is in rw same (record { causes = tt; counted = counted; ready = λ whole. tt; breaks = ready })
+  fault_untaken (Err f) line_fault.Write is first book counted ready =
+      let same : f ≡ Write = is in rw same (record { causes = tt; counted = counted; ready = λ whole. tt; breaks = ready })
+  fault_untaken (Err f) line_fault.LongLine is first book counted ready =
+      let same : f ≡ LongLine = is in rw same (record { causes = tt; counted = counted; ready = λ whole. tt; breaks = ready })
+  fault_untaken (Err f) line_fault.Memory is first book counted ready =
+      let same : f ≡ Memory = is in rw same (record { causes = tt; counted = counted; ready = λ whole. tt; breaks = ready })
+
+  -- where an answer isn't written
+  pub fault_unwritten : {T : Type 0} (r : Result T ServeFault) (fault : ServeFault) → IsErrAnd r (λ x. x ≡ fault) → fault ≡ Write → (first book : Book D ghosts)
+      → ghosts.failures (disk_of book) ≡ ghosts.failures (disk_of first) → (is_broken first ≡ false → is_broken book ≡ false)
+      → FaultLeaves MayCome r first book
+  fault_unwritten (Ok v) fault is write first book counted ready = absurd is
+  fault_unwritten (Err e) fault is write first book counted ready =
+      let equal : e ≡ fault = is in
+      let same : e ≡ Write = equal ∙ write in
+      rw same (record { causes = tt; counted = counted; ready = λ whole. tt; breaks = ready })
 
   pub fault_memory : {T : Type 0} (r : Result T ServeFault) (book : Book D ghosts) → IfErr r (λ f. f ≡ Memory) → FaultLeaves ComesInLine r book book
   fault_memory (Ok v) book is = record { causes = tt; counted = refl; ready = λ whole. whole; breaks = λ whole. tt }

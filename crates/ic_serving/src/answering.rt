@@ -23,6 +23,7 @@ use crate::running::run;
 use ic_commands::{Line, print_reply, read_command};
 use ic_desk::Book;
 use ic_disk::Disk;
+use ic_flat_round::Workspace;
 use ic_jobs::Command;
 use ic_pool::{Gate, OpenGate};
 use ic_text::{TextFault, print_fault};
@@ -54,10 +55,20 @@ pub fn answer_line<T: Threads + Wait, D: Disk>(
     ensures crash { Leaves book.old book.new
         (IsKeptInLine (table_of book.old) (last_kept book.old) line.now) }
 {
-    answer_watched(rt, alloc, book, line, workers, every, &OpenGate)
+    let mut workspace = Workspace::new(alloc);
+    answer_watched(
+        rt,
+        alloc,
+        book,
+        line,
+        workers,
+        every,
+        &OpenGate,
+        &mut workspace,
+    )
 }
 
-/// The same, watched by a gate.
+/// The same, watched by a gate, in lists for rounds that are kept from line to line.
 pub(crate) fn answer_watched<T: Threads + Wait, D: Disk, G: Gate>(
     rt: &T,
     alloc: Global,
@@ -66,6 +77,7 @@ pub(crate) fn answer_watched<T: Threads + Wait, D: Disk, G: Gate>(
     workers: usize,
     every: u64,
     gate: &G,
+    workspace: &mut Workspace,
 ) -> Result<Vec<u8>, ServeFault>
     requires workers { 1 ≤ workers }
     requires every { 1 ≤ every }
@@ -80,7 +92,9 @@ pub(crate) fn answer_watched<T: Threads + Wait, D: Disk, G: Gate>(
     match read_command(alloc, line) {
         Ok(Line::Blank) => Ok(Vec::new(alloc)),
         Ok(Line::Command(command)) => answer_command(alloc, book, command),
-        Ok(Line::Run(count)) => answer_run(rt, alloc, book, count, workers, every, gate),
+        Ok(Line::Run(count)) => {
+            answer_run(rt, alloc, book, count, workers, every, gate, workspace)
+        }
         Err(TextFault::Memory) => Err(ServeFault::Memory),
         Err(fault) => answer_refused(alloc, fault),
     }
@@ -129,6 +143,7 @@ fn answer_run<T: Threads + Wait, D: Disk, G: Gate>(
     workers: usize,
     every: u64,
     gate: &G,
+    workspace: &mut Workspace,
 ) -> Result<Vec<u8>, ServeFault>
     requires workers { 1 ≤ workers }
     requires every { 1 ≤ every }
@@ -146,7 +161,7 @@ fn answer_run<T: Threads + Wait, D: Disk, G: Gate>(
     ensures crash { Leaves book.old book.new (IsKeptWithin (table_of book.old)
         (last_kept book.old) (turns count 0 (table_of book.old))) }
 {
-    let made = run(rt, alloc, book, count, workers, every, gate)?;
+    let made = run(rt, alloc, book, count, workers, every, gate, workspace)?;
     book.facts();
     let mut line = b"ran ".to_vec(alloc)?;
     line.extend_from_slice(made.to_string(alloc)?.as_bytes())?;

@@ -22,7 +22,8 @@ use crate::fault::ServeFault;
 use crate::limits::FEW;
 use ic_desk::{Book, MAX_ENTRIES};
 use ic_disk::Disk;
-use ic_pool::{Flight, Gate, Played, PoolFault, play, play_alone};
+use ic_flat_round::Workspace;
+use ic_pool::{Flight, Gate, Played, PoolFault, play, play_in};
 use std::alloc::Global;
 use std::sync::Wait;
 use std::thread::Threads;
@@ -69,6 +70,7 @@ pub(crate) fn make_round<T: Threads + Wait, D: Disk, G: Gate>(
     after: usize,
     workers: usize,
     gate: &G,
+    workspace: &mut Workspace,
 ) -> Result<Option<usize>, ServeFault>
     requires { 1 ≤ workers }
     ensures idle { IfOk result (λ place. IfNone place (due (table_of book.old) after ≡ None)) }
@@ -89,7 +91,7 @@ pub(crate) fn make_round<T: Threads + Wait, D: Disk, G: Gate>(
     };
     make_room(alloc, book)?;
     let place = flight.place();
-    land_or_halt(rt, alloc, book, &flight, workers, gate)?;
+    land_or_halt(rt, alloc, book, &flight, workers, gate, workspace)?;
     Ok(Some(place))
 }
 
@@ -101,6 +103,7 @@ fn land_or_halt<T: Threads + Wait, D: Disk, G: Gate>(
     flight: &Flight,
     workers: usize,
     gate: &G,
+    workspace: &mut Workspace,
 ) -> Result<(), ServeFault>
     requires workers { 1 ≤ workers }
     requires room { length (log_of book.old) < MAX_ENTRIES }
@@ -117,7 +120,7 @@ fn land_or_halt<T: Threads + Wait, D: Disk, G: Gate>(
 {
     book.facts();
     ic_pool::laws::refused_flights_are_blocked();
-    let played = match play_flight(rt, alloc, flight, workers, gate) {
+    let played = match play_flight(rt, alloc, flight, workers, gate, workspace) {
         Ok(played) => played,
         Err(fault) => {
             if !fault.is_of_flight() {
@@ -131,22 +134,23 @@ fn land_or_halt<T: Threads + Wait, D: Disk, G: Gate>(
     Ok(())
 }
 
-/// The round of a flight. One of few equations is made in this thread.
+/// The round of a flight. One of few equations is made in this thread, in lists that are kept.
 fn play_flight<T: Threads + Wait, G: Gate>(
     rt: &T,
     alloc: Global,
     flight: &Flight,
     workers: usize,
     gate: &G,
+    workspace: &mut Workspace,
 ) -> Result<Played, PoolFault>
     requires { 1 ≤ workers }
     ensures answer { ByWorkers result (played_by workers flight.now) }
     ensures round { IfOk result (λ played. played ≡ round_of flight.now) }
 {
-    if flight.config().equations().len() < FEW {
+    if flight.config().equations_len() < FEW {
         ic_pool::laws::workers_answer_so();
         ic_pool::laws::refusals_come_in_order();
-        return play_alone(alloc, flight);
+        return play_in(alloc, flight, workspace);
     }
     play(rt, alloc, flight, workers, gate)
 }

@@ -15,6 +15,7 @@ use crate::fault::ServeFault;
 use crate::rounds::{keep_all, make_round};
 use ic_desk::Book;
 use ic_disk::Disk;
+use ic_flat_round::Workspace;
 use ic_jobs::{Job, State};
 use ic_pool::Gate;
 use std::alloc::Global;
@@ -31,6 +32,7 @@ pub(crate) fn run<T: Threads + Wait, D: Disk, G: Gate>(
     workers: usize,
     every: u64,
     gate: &G,
+    workspace: &mut Workspace,
 ) -> Result<u64, ServeFault>
     requires workers { 1 ≤ workers }
     requires every { 1 ≤ every }
@@ -48,7 +50,7 @@ pub(crate) fn run<T: Threads + Wait, D: Disk, G: Gate>(
     ensures crash { Leaves book.old book.new (IsKeptWithin (table_of book.old)
         (last_kept book.old) (turns count 0 (table_of book.old))) }
 {
-    let made = make_rounds(rt, alloc, book, count, workers, every, gate)?;
+    let made = make_rounds(rt, alloc, book, count, workers, every, gate, workspace)?;
     keep_all(book)?;
     Ok(made)
 }
@@ -62,6 +64,7 @@ fn make_rounds<T: Threads + Wait, D: Disk, G: Gate>(
     workers: usize,
     every: u64,
     gate: &G,
+    workspace: &mut Workspace,
 ) -> Result<u64, ServeFault>
     requires workers { 1 ≤ workers }
     requires every { 1 ≤ every }
@@ -80,7 +83,7 @@ fn make_rounds<T: Threads + Wait, D: Disk, G: Gate>(
     book.facts();
     let mut place = 0;
     for made in 0..count {
-        match make_round(rt, alloc, book, place, workers, gate)? {
+        match make_round(rt, alloc, book, place, workers, gate, workspace)? {
             None => return Ok(made),
             Some(last) => place = last + 1,
         }

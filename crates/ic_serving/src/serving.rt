@@ -13,6 +13,7 @@ use crate::limits::MAX_LINES;
 use crate::writing::write_answer;
 use ic_desk::Book;
 use ic_disk::Disk;
+use ic_flat_round::Workspace;
 use ic_lines::{LineBuffer, LineFault};
 use ic_pool::{Gate, OpenGate};
 use std::alloc::Global;
@@ -67,12 +68,22 @@ pub fn serve_watched<T: Threads + Wait, D: Disk, R: Read, W: Write, G: Gate>(
     ic_lines::laws::lines_are_served_in_one_way();
     book.facts();
     let mut lines = LineBuffer::new(alloc);
+    let mut workspace = Workspace::new(alloc);
     for _ in 0..MAX_LINES {
         book.facts();
         if !lines.take_line(reader, writer)? {
             return Ok(());
         }
-        let answer = answer_watched(rt, alloc, book, lines.line(), workers, every, gate)?;
+        let answer = answer_watched(
+            rt,
+            alloc,
+            book,
+            lines.line(),
+            workers,
+            every,
+            gate,
+            &mut workspace,
+        )?;
         book.facts();
         write_answer(writer, &answer)?;
     }

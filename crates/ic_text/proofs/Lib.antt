@@ -19,6 +19,7 @@ pub mod Sensing
 pub mod SensingSystem
 pub mod SystemPrefix
 pub mod PrintLemmas
+pub mod WordTextLemmas
 pub mod OneReading
 pub mod OneSystem
 pub mod ReadBack

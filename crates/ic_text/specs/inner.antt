@@ -10,3 +10,4 @@ pub mod Refused
 pub mod Terms
 pub mod Built
 pub mod Printing
+pub mod WordTexts

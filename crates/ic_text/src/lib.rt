@@ -3,14 +3,16 @@
 //! `read_config` answers what a text means, or the first refusal: its value is `sense` of the one phrase that the text
 //! spells. `read_system` does the same of rules and a configuration, and `is_system` tells whether a text is one.
 //! `find_config` and `find_system` also tell the place of a refusal.
-//! `print_config` and `put_config` write the tokens of a configuration without blanks, and `print_fault` the line of a
-//! refusal. For texts that hold others, `is_blank`, `is_word_byte`, `is_numeral` and `number_in` say what parts words and
-//! what digits write. `laws` holds what is proved of the definitions alone.
+//! `print_config` and `put_config` write the tokens of a configuration without blanks, `print_flat` and `put_flat` the same
+//! of one in flat form, and `print_fault` the line of a refusal. For texts that hold others, `is_blank`, `is_word_byte`,
+//! `is_numeral` and `number_in` say what parts words and what digits write. `laws` holds what is proved of the definitions
+//! alone.
 #![tactic(auto)]
 
 mod blame;
 mod build;
 mod fault;
+mod flat_print;
 pub mod laws;
 mod limits;
 mod misread;
@@ -27,6 +29,7 @@ mod system;
 mod token;
 
 pub use fault::TextFault;
+pub use flat_print::{print_flat, put_flat};
 pub use limits::{MAX_NAME, MAX_TEXT};
 pub use misread::{Detail, Limit, Misread};
 pub use name::{is_numeral, number_in};

@@ -23,7 +23,7 @@ fn put_decimal(alloc: Global, out: &mut Vec<u8>, number: u64) -> Result<(), Allo
 }
 
 /// Appends the text of a name.
-fn put_name(alloc: Global, out: &mut Vec<u8>, name: u64) -> Result<(), AllocError>
+pub(crate) fn put_name(alloc: Global, out: &mut Vec<u8>, name: u64) -> Result<(), AllocError>
     ensures { OnOk result (out.new.items ≡ out.old.items ++ name_text name) }
 {
     out.push(b'a' + (name % 26) as u8)?;

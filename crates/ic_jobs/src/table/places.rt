@@ -9,8 +9,8 @@ ghost use Rattle.ic_jobs.specs.Table.{IsTable, is_named, job_names};
 ghost use Rattle.ic_jobs.specs.Landing.{running_from, due_place, Awaits};
 
 use crate::job::Job;
+use ic_flat::Flat;
 use ic_rules::{JobName, RuleSet};
-use ic_term::Config;
 
 /// The place of the job of a name.
 pub(super) fn place_of(jobs: &[Job], name: JobName) -> Option<usize>
@@ -68,7 +68,7 @@ pub(super) fn awaited_place(
     jobs: &[Job],
     name: JobName,
     rules: &RuleSet,
-    config: &Config,
+    config: &Flat,
     rounds: u64,
 ) -> Option<usize>
     requires { IsTable jobs.now }

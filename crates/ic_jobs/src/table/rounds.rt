@@ -12,9 +12,9 @@ use super::Table;
 use super::places::{awaited_place, due_place, place_of};
 use crate::landed::Landed;
 use crate::state::State;
+use ic_flat::Flat;
 use ic_pool::{Flight, Played};
 use ic_rules::{JobName, RuleSet};
-use ic_term::Config;
 use std::alloc::AllocError;
 
 impl Table {
@@ -32,7 +32,7 @@ impl Table {
 
     /// Whether a running job of this name has these rules, this whole configuration and these
     /// rounds.
-    pub fn awaits(&self, name: JobName, rules: &RuleSet, config: &Config, rounds: u64) -> bool
+    pub fn awaits(&self, name: JobName, rules: &RuleSet, config: &Flat, rounds: u64) -> bool
         ensures { IsTrue result ↔ Awaits self.now name rules.now config.now rounds }
     {
         awaited_place(&self.jobs, name, rules, config, rounds).is_some()

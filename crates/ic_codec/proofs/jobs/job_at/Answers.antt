@@ -20,25 +20,25 @@ pub returns-in-Err-rule_set_at-clause-refused : goal.returns-in-Err-rule_set_at-
 returns-in-Err-rule_set_at-clause-refused c =
     λ same. job_none_rules c.args.form c.args.bytes.now c.in-Ok.heading c.in-Ok.rest.now c.in-Ok-symbols_at.symbols c.in-Ok-symbols_at.rest.now c.in-Ok.ensures.read c.in-Ok-symbols_at.ensures.read (c.in-Err-rule_set_at.ensures.refused same)
 
-pub returns-in-Err-config_at-clause-refused : goal.returns-in-Err-config_at-clause-refused
-returns-in-Err-config_at-clause-refused c =
+pub returns-in-Err-flat_at-clause-refused : goal.returns-in-Err-flat_at-clause-refused
+returns-in-Err-flat_at-clause-refused c =
     λ same. job_none_config c.args.form c.args.bytes.now c.in-Ok.heading c.in-Ok.rest.now c.in-Ok-symbols_at.symbols c.in-Ok-symbols_at.rest.now c.in-Ok-rule_set_at.rules c.in-Ok-rule_set_at.rest.now c.symbols.result.now
-    c.in-Ok.ensures.read c.in-Ok-symbols_at.ensures.read c.in-Ok-rule_set_at.ensures.read c.symbols.ensures.symbols (c.in-Err-config_at.ensures.refused same)
+    c.in-Ok.ensures.read c.in-Ok-symbols_at.ensures.read c.in-Ok-rule_set_at.ensures.read c.symbols.ensures.symbols (c.in-Err-flat_at.ensures.refused same)
 
 pub returns-in-None-clause-refused : goal.returns-in-None-clause-refused
 returns-in-None-clause-refused c =
     λ same. job_none_job c.args.form c.args.bytes.now c.in-Ok.heading c.in-Ok.rest.now c.in-Ok-symbols_at.symbols c.in-Ok-symbols_at.rest.now c.in-Ok-rule_set_at.rules c.in-Ok-rule_set_at.rest.now c.symbols.result.now
-    c.in-Ok-config_at.config c.in-Ok-config_at.rest.now c.in-Ok.ensures.read c.in-Ok-symbols_at.ensures.read c.in-Ok-rule_set_at.ensures.read c.symbols.ensures.symbols c.in-Ok-config_at.ensures.read
+    c.in-Ok-flat_at.config c.in-Ok-flat_at.rest.now c.in-Ok.ensures.read c.in-Ok-symbols_at.ensures.read c.in-Ok-rule_set_at.ensures.read c.symbols.ensures.symbols c.in-Ok-flat_at.ensures.read
     (λ is. false≢true (c.in-None.ensures.job.1
-    (subst (λ (s : Rules). IsJob (job_of c.in-Ok.heading s (arc_value c.in_ok-config.config))) (sym c.in_ok-rules.ensures.ok)
+    (subst (λ (s : Rules). IsJob (job_of c.in-Ok.heading s (arc_value c.in_ok-config.config))) (sym c.in_ok-rules.ensures)
     (subst (λ (k : Configuration). IsJob (job_of c.in-Ok.heading c.in-Ok-rule_set_at.rules k)) (sym c.in_ok-config.ensures.ok) is))))
 
 pub returns-in-Some-clause-read : goal.returns-in-Some-clause-read
 returns-in-Some-clause-read c =
     let is = subst (λ (k : Configuration). IsJob (job_of c.in-Ok.heading c.in-Ok-rule_set_at.rules k)) c.in_ok-config.ensures.ok
-    (subst (λ (s : Rules). IsJob (job_of c.in-Ok.heading s (arc_value c.in_ok-config.config))) c.in_ok-rules.ensures.ok (c.in-Some.ensures.job.0 refl)) in
-    let whole = c.in-Some.ensures.parts ∙ ap (λ (s : Rules). job_of c.in-Ok.heading s (arc_value c.in_ok-config.config)) c.in_ok-rules.ensures.ok
+    (subst (λ (s : Rules). IsJob (job_of c.in-Ok.heading s (arc_value c.in_ok-config.config))) c.in_ok-rules.ensures (c.in-Some.ensures.job.0 refl)) in
+    let whole = c.in-Some.ensures.parts ∙ ap (λ (s : Rules). job_of c.in-Ok.heading s (arc_value c.in_ok-config.config)) c.in_ok-rules.ensures
     ∙ ap (λ (k : Configuration). job_of c.in-Ok.heading c.in-Ok-rule_set_at.rules k) c.in_ok-config.ensures.ok in
-    subst (λ (j : JobParts). BeginsWith (HasJobBytes c.args.form) (job_bytes c.args.form) c.args.bytes.now j c.in-Ok-config_at.rest.now) (sym whole)
+    subst (λ (j : JobParts). BeginsWith (HasJobBytes c.args.form) (job_bytes c.args.form) c.args.bytes.now j c.in-Ok-flat_at.rest.now) (sym whole)
     (job_begins c.args.form c.args.bytes.now c.in-Ok.heading c.in-Ok.rest.now c.in-Ok-symbols_at.symbols c.in-Ok-symbols_at.rest.now c.in-Ok-rule_set_at.rules c.in-Ok-rule_set_at.rest.now c.symbols.result.now
-    c.in-Ok-config_at.config c.in-Ok-config_at.rest.now c.in-Ok.ensures.read c.in-Ok-symbols_at.ensures.read c.in-Ok-rule_set_at.ensures.read c.in-Ok-config_at.ensures.read is)
+    c.in-Ok-flat_at.config c.in-Ok-flat_at.rest.now c.in-Ok.ensures.read c.in-Ok-symbols_at.ensures.read c.in-Ok-rule_set_at.ensures.read c.in-Ok-flat_at.ensures.read is)

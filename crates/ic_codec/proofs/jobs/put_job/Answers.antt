@@ -29,7 +29,7 @@ fits_behind_symbols : (c : After-put_symbols) → Fits c.put_heading.new.out (be
     → Fits c.put_symbols.new.out (behind_symbols c.args.job.now)
 fits_behind_symbols c behind =
     let j = c.args.job.now in
-    let same = c.symbols.ensures.symbols ∙ ap (λ (r : Rules). r.symbols) (c.deref.ensures ∙ c.rules-rules.ensures.rules) in
+    let same = c.symbols.ensures.symbols ∙ ap (λ (r : Rules). r.symbols) c.rules-rules.ensures.rules in
     rest_fits (symbols_bytes j.rules.symbols) (behind_symbols j) _ (ap symbols_bytes same) behind c.put_symbols.ensures
 
 pub put_heading-requires : goal.put_heading-requires
@@ -40,22 +40,22 @@ put_heading-requires c =
 pub put_symbols-requires : goal.put_symbols-requires
 put_symbols-requires c =
     let j = c.args.job.now in
-    let same = c.symbols.ensures.symbols ∙ ap (λ (r : Rules). r.symbols) (c.deref.ensures ∙ c.rules-rules.ensures.rules) in
+    let same = c.symbols.ensures.symbols ∙ ap (λ (r : Rules). r.symbols) c.rules-rules.ensures.rules in
     first_fits (symbols_bytes j.rules.symbols) (behind_symbols j) _ (ap symbols_bytes same) (fits_behind_heading (goal.at.put_symbols-requires c).After-put_heading)
 
 pub put_rules-requires-clause-fits : goal.put_rules-requires-clause-fits
 put_rules-requires-clause-fits c =
     let j = c.args.job.now in
-    let alike = c.rules.ensures.rules ∙ ap (λ (r : Rules). r.rules) (c.deref-2.ensures ∙ c.rules-rules.ensures.rules) in
+    let alike = c.rules.ensures.rules ∙ ap (λ (r : Rules). r.rules) c.rules-rules.ensures.rules in
     let behind = fits_behind_heading (goal.at.put_rules-requires-clause-fits c).After-put_heading in
     let left = fits_behind_symbols (goal.at.put_rules-requires-clause-fits c).After-put_symbols behind in
     first_fits (rules_bytes j.rules.rules) (configuration_bytes j.config) _ (ap rules_bytes alike) left
 
-pub put_config-requires : goal.put_config-requires
-put_config-requires c =
+pub put_flat-requires : goal.put_flat-requires
+put_flat-requires c =
     let j = c.args.job.now in
-    let alike = c.rules.ensures.rules ∙ ap (λ (r : Rules). r.rules) (c.deref-2.ensures ∙ c.rules-rules.ensures.rules) in
-    let behind = fits_behind_heading (goal.at.put_config-requires c).After-put_heading in
-    let left = fits_behind_symbols (goal.at.put_config-requires c).After-put_symbols behind in
+    let alike = c.rules.ensures.rules ∙ ap (λ (r : Rules). r.rules) c.rules-rules.ensures.rules in
+    let behind = fits_behind_heading (goal.at.put_flat-requires c).After-put_heading in
+    let left = fits_behind_symbols (goal.at.put_flat-requires c).After-put_symbols behind in
     let last = rest_fits (rules_bytes j.rules.rules) (configuration_bytes j.config) _ (ap rules_bytes alike) left c.put_rules.ensures in
     subst (λ (n : Configuration). Fits c.put_rules.new.out (configuration_bytes n)) (sym c.config.ensures.config) last

@@ -1,14 +1,15 @@
-use Rattle.std.proofs.Common.{◌≡◌, length, map, subst, rules}
-use Rattle.ic_term.specs.Term.{tree, pair}
-use Rattle.ic_term.specs.Configuration.{Configuration, IsConfiguration}
-use Rattle.ic_dump.proofs.Numbered.{renumbered-is, renumbered_parts}
+use Rattle.std.proofs.Common.{◌≡◌, length, rules, ◌∙◌}
+use Rattle.ic_dump.proofs.WordNames.{numbered-flat, numbered-config}
 use Rattle.ic_dump.proofs.naming.renumbered.Goals as goal
 
 pub from_parts-requires : goal.from_parts-requires
 from_parts-requires c =
     let count : c.len.result ≡ length c.in_ok-firsts.firsts.keys = search rules in
-    subst (λ (d : Configuration). IsConfiguration d)
-    (renumbered_parts c.args.config.now c.args.names.now c.in_ok-firsts.firsts.keys (map tree c.interface.result.now) (map tree c.in_ok-interface.interface.items)
-    (map pair c.equations.result.now) (map pair c.in_ok-equations.equations.items) c.len.result c.requires c.in_ok-firsts.ensures c.interface.ensures.terms
-    c.equations.ensures.equations c.in_ok-interface.ensures c.in_ok-equations.ensures count)
-    (renumbered-is c.args.config.now c.interface.ensures.sound)
+    numbered-flat c.args.flat.now c.args.names.now c.in_ok-firsts.firsts.keys c.words.result.now c.in_ok-words.words.items c.interface_len-terms.result c.equations_len-equations.result c.len.result
+    c.requires c.in_ok-firsts.ensures c.words.ensures.words c.in_ok-words.ensures c.interface_len-terms.ensures.terms c.equations_len-equations.ensures.equations count c.words.ensures.sound
+
+pub returns : goal.returns
+returns c =
+    let count : c.len.result ≡ length c.in_ok-firsts.firsts.keys = search rules in
+    c.from_parts.ensures ∙ numbered-config c.args.flat.now c.args.names.now c.in_ok-firsts.firsts.keys c.words.result.now c.in_ok-words.words.items c.interface_len-terms.result c.equations_len-equations.result c.len.result
+    c.requires c.in_ok-firsts.ensures c.words.ensures.words c.in_ok-words.ensures c.interface_len-terms.ensures.terms c.equations_len-equations.ensures.equations count

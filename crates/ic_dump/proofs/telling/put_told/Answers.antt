@@ -3,6 +3,6 @@ use Rattle.ic_term.specs.Symbol.{is_over}
 use Rattle.ic_dump.proofs.Numbered.{renumbered-over}
 use Rattle.ic_dump.proofs.telling.put_told.Goals as goal
 
-pub put_config-requires-2 : goal.put_config-requires-2
-put_config-requires-2 c =
-    ap (is_over c.args.symbols.now) c.in_ok-numbered.ensures ∙ renumbered-over c.args.symbols.now c.args.config.now ∙ c.requires
+pub put_flat-requires-2 : goal.put_flat-requires-2
+put_flat-requires-2 c =
+    ap (is_over c.args.symbols.now) c.in_ok-numbered.ensures ∙ renumbered-over c.args.symbols.now c.args.flat.now ∙ c.requires

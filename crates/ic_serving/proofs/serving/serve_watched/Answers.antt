@@ -15,7 +15,7 @@ use Rattle.ic_desk.specs.lemmas.Chains.{by_nothing}
 use Rattle.ic_serving.proofs.LineLemmas.{kept_all}
 use Rattle.ic_serving.proofs.TurnLemmas.{turns_more}
 use Rattle.ic_serving.proofs.ServeLemmas.{under_first, under_more, ahead, is_ahead, first_more, taken, ended_at, cut_behind, kept_part, left_within, says_book, not_taken, none_behind, not_write, counts_behind, ready_behind}
-use Rattle.ic_serving.proofs.StopLemmas.{stops_first, stops_more, stops_longer, serving_over, serving_err, serving_untaken, fault_behind, kept_or_same, still_all, still_last}
+use Rattle.ic_serving.proofs.StopLemmas.{stops_first, stops_more, stops_longer, serving_over, serving_err, serving_untaken, fault_behind, fault_untaken, fault_unwritten, kept_or_same, still_all, still_last}
 use Rattle.ic_serving.proofs.serving.serve_watched.Goals as goal
 
 pub loop-init : goal.loop-init
@@ -40,6 +40,10 @@ returns-in_err-take_line-clause-serving g c =
     serving_untaken c.from_residual.result (fault_of_line c.in_err-take_line.field-0.0) c.from_residual.ensures.1 c.one_line_reading.ensures.total (g.R.Read.remaining c.args.reader.now) rest c.loop.counter
     c.args.book.now c.loop.book (g.W.Write.contents c.args.writer.now) (g.W.Write.contents c.loop.writer) (g.W.Write.contents c.take_line.new.writer) none.more
     c.loop.invariant c.take_line.ensures.kept none.coming none.says last (by_nothing c.loop.book c.facts-in-loop.ensures.step)
+
+pub returns-in_err-take_line-clause-fault : goal.returns-in_err-take_line-clause-fault
+returns-in_err-take_line-clause-fault g c = fault_untaken c.from_residual.result c.in_err-take_line.field-0.0 c.from_residual.ensures.1 c.args.book.now c.loop.book
+    c.loop.invariant.counted c.loop.invariant.ready
 
 pub returns-then-not-branch-clause-serving : goal.returns-then-not-branch-clause-serving
 returns-then-not-branch-clause-serving g c = serving_over tt c.one_line_reading.ensures.total (g.R.Read.remaining c.args.reader.now) (to_come c.loop.lines (g.R.Read.remaining c.loop.reader)) c.loop.counter
@@ -111,6 +115,11 @@ returns-in_err-write_answer-clause-serving g c =
     (turns_more c.loop.invariant.way.front c.take_line.new.self.line c.in_ok-answer.answer.items c.args.book.now c.loop.book c.answer_watched.new.book c.loop.invariant.turns
     (rw c.line.ensures at answered))
     (by_nothing c.answer_watched.new.book c.facts-in-loop-2.ensures.step)
+
+pub returns-in_err-write_answer-clause-fault : goal.returns-in_err-write_answer-clause-fault
+returns-in_err-write_answer-clause-fault g c = fault_unwritten c.from_residual-in_err-write_answer.result c.in_err-write_answer.field-0.0 c.from_residual-in_err-write_answer.ensures.1
+    c.in_err-write_answer.ensures.fault c.args.book.now c.answer_watched.new.book (c.in_ok-answer.ensures.fault.counted ∙ c.loop.invariant.counted)
+    (λ is. c.in_ok-answer.ensures.fault.ready (c.loop.invariant.ready is))
 
 pub loop-preserved : goal.loop-preserved
 loop-preserved g c =
