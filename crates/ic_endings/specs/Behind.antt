@@ -10,10 +10,12 @@ use Rattle.ic_desk.specs.declared.fault.BookFault.{BookFault}
 use Rattle.ic_desk.specs.declared.fault.BookFault.TheVariants as book
 use Rattle.ic_serving.specs.declared.fault.ServeFault.{ServeFault}
 use Rattle.ic_serving.specs.declared.fault.ServeFault.TheVariants as serve
+use Rattle.ic_contents.specs.declared.fault.InspectFault.{InspectFault}
+use Rattle.ic_contents.specs.declared.fault.InspectFault.TheVariants as inspect
 use Rattle.ic_scripts.specs.declared.fault.ScriptsFault.{ScriptsFault}
 use Rattle.ic_scripts.specs.declared.fault.ScriptsFault.TheVariants as scripts
 use Rattle.ic_endings.specs.declared.failure.Failure.{Failure}
-use Rattle.ic_endings.specs.declared.failure.Failure.TheVariants.{Words, Stream, Disk, Create, NotEmpty, Open, Serve, Attend, Dump, NotDone}
+use Rattle.ic_endings.specs.declared.failure.Failure.TheVariants.{Words, Stream, Disk, Create, NotEmpty, Open, Serve, Attend, Dump, Inspect, NotDone}
 
 -- of a file that is no disk
 abbrev pub no_disk : List ℕ
@@ -74,6 +76,13 @@ scripts_lines (scripts.Pool fault) path cause = []
 scripts_lines scripts.Memory path cause = []
 scripts_lines scripts.Write path cause = []
 
+-- where a file isn't shown
+abbrev pub inspect_lines : InspectFault → List ℕ → Option Cause → List ℕ
+inspect_lines inspect.Read path cause = cause_line path cause
+inspect_lines inspect.Changed path cause = []
+inspect_lines inspect.Memory path cause = []
+inspect_lines inspect.Write path cause = []
+
 -- what standard error is told behind the line of a failure, where the disk is in the file of this
 -- path and the cause is that of the last call to it that has failed
 abbrev pub lines_behind : Failure → List ℕ → Option Cause → List ℕ
@@ -84,6 +93,7 @@ lines_behind (Open fault) path cause = open_lines fault path cause
 lines_behind (Serve fault) path cause = serve_lines fault path cause
 lines_behind (Attend fault) path cause = scripts_lines fault path cause
 lines_behind (Dump fault) path cause = []
+lines_behind (Inspect fault) path cause = inspect_lines fault path cause
 lines_behind (Words fault) path cause = []
 lines_behind (Stream fault) path cause = []
 lines_behind NotDone path cause = []

@@ -18,9 +18,11 @@ use Rattle.ic_scripts.specs.declared.fault.ScriptsFault.{ScriptsFault}
 use Rattle.ic_scripts.specs.declared.fault.ScriptsFault.TheVariants as scripts
 use Rattle.ic_dump.specs.declared.fault.DumpFault.{DumpFault}
 use Rattle.ic_dump.specs.declared.fault.DumpFault.TheVariants as dump
+use Rattle.ic_contents.specs.declared.fault.InspectFault.{InspectFault}
+use Rattle.ic_contents.specs.declared.fault.InspectFault.TheVariants as inspect
 use Rattle.ic_words.specs.declared.words.WordsFault.TheVariants as words
 use Rattle.ic_endings.specs.declared.failure.Failure.{Failure}
-use Rattle.ic_endings.specs.declared.failure.Failure.TheVariants.{Words, Stream, Disk, Create, NotEmpty, Open, Serve, Attend, Dump, NotDone}
+use Rattle.ic_endings.specs.declared.failure.Failure.TheVariants.{Words, Stream, Disk, Create, NotEmpty, Open, Serve, Attend, Dump, Inspect, NotDone}
 
 -- the exit status of `attend`: 1 for a refused script, 3 for a disk that isn't opened, 4 for all
 -- else
@@ -42,6 +44,14 @@ dump_status (dump.TooLong name) = 1
 dump_status dump.Memory = 4
 dump_status dump.Write = 4
 
+-- the exit status of `inspect`: 3 for a file that can't be read, or was written meanwhile, 4 for all
+-- else
+abbrev pub inspect_status : InspectFault → ℕ
+inspect_status inspect.Read = 3
+inspect_status inspect.Changed = 3
+inspect_status inspect.Memory = 4
+inspect_status inspect.Write = 4
+
 -- the exit status: 1 for a refused text, round or job, 2 for refused words, 3 for a disk, 5 for
 -- rounds that didn't suffice, 4 for all else
 abbrev pub status_of : Failure → ℕ
@@ -59,6 +69,7 @@ status_of (Open cause) = 3
 status_of (Serve fault) = 4
 status_of (Attend fault) = scripts_status fault
 status_of (Dump fault) = dump_status fault
+status_of (Inspect fault) = inspect_status fault
 status_of NotDone = 5
 
 -- why a round isn't made
@@ -123,6 +134,13 @@ dump_word (dump.TooLong name) = codes "too long " ++ name
 dump_word dump.Memory = codes "memory"
 dump_word dump.Write = codes "write"
 
+-- why it isn't told what a file holds
+abbrev pub inspect_word : InspectFault → List ℕ
+inspect_word inspect.Read = codes "device"
+inspect_word inspect.Changed = codes "changed while read"
+inspect_word inspect.Memory = codes "memory"
+inspect_word inspect.Write = codes "write"
+
 -- a word as a line
 abbrev pub told : List ℕ → List ℕ
 told word = codes "icserve: " ++ word ++ 10 ∷ []
@@ -139,6 +157,7 @@ failure_line (Open cause) = told (open_word cause)
 failure_line (Serve fault) = told (serve_word fault)
 failure_line (Attend fault) = told (scripts_word fault)
 failure_line (Dump fault) = told (dump_word fault)
+failure_line (Inspect fault) = told (inspect_word fault)
 failure_line NotDone = told (codes "not done")
 
 -- the line that tells a stuck pair

@@ -2,10 +2,11 @@
 
 ghost use Rattle.std.specs.Prelude.{◌≡◌, IfOk};
 ghost use Rattle.ic_endings.specs.Behind.{book_lines, create_lines, lines_behind, open_lines, scripts_lines};
-ghost use Rattle.ic_endings.specs.Behind.{serve_lines, shown_of};
+ghost use Rattle.ic_endings.specs.Behind.{inspect_lines, serve_lines, shown_of};
 
 use crate::Failure;
 use ic_causes::{Cause, cause_line, shown_path};
+use ic_contents::InspectFault;
 use ic_desk::BookFault;
 use ic_scripts::ScriptsFault;
 use ic_serving::ServeFault;
@@ -42,7 +43,22 @@ impl Failure {
             Failure::Attend(fault) => scripts_lines(alloc, *fault, path, cause),
             Failure::Words(_) | Failure::Stream(_) | Failure::NotDone => Ok(Vec::new(alloc)),
             Failure::Dump(_) => Ok(Vec::new(alloc)),
+            Failure::Inspect(fault) => inspect_lines(alloc, *fault, path, cause),
         }
+    }
+}
+
+fn inspect_lines(
+    alloc: Global,
+    fault: InspectFault,
+    path: &[u8],
+    cause: Option<Cause>,
+) -> Result<Vec<u8>, AllocError>
+    ensures { IfOk result (λ lines. lines.items ≡ inspect_lines fault path.now cause) }
+{
+    match fault {
+        InspectFault::Read => cause_line(alloc, path, cause),
+        InspectFault::Changed | InspectFault::Memory | InspectFault::Write => Ok(Vec::new(alloc)),
     }
 }
 

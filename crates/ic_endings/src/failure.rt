@@ -3,8 +3,9 @@
 ghost use Rattle.std.specs.Prelude.{◌≡◌, ◌++◌, IfOk};
 ghost use Rattle.ic_endings.specs.Endings.{status_of, scripts_status, failure_line, told};
 ghost use Rattle.ic_endings.specs.Endings.{stream_word, round_word, create_word, open_word, serve_word, stuck_line};
-ghost use Rattle.ic_endings.specs.Endings.{dump_status, dump_word, scripts_word, script_words};
+ghost use Rattle.ic_endings.specs.Endings.{dump_status, dump_word, inspect_status, inspect_word, scripts_word, script_words};
 
+use ic_contents::InspectFault;
 use ic_disk::DiskFault;
 use ic_dump::DumpFault;
 use ic_lines::ScriptFault;
@@ -39,6 +40,8 @@ pub enum Failure {
     Attend(ScriptsFault),
     /// Jobs aren't printed.
     Dump(DumpFault),
+    /// It isn't told what a file holds.
+    Inspect(InspectFault),
     /// All rounds were made of what was to be reduced, and a step is still possible.
     NotDone,
 }
@@ -58,6 +61,7 @@ impl Failure {
             Failure::Serve(_) => 4,
             Failure::Attend(fault) => scripts_status(*fault),
             Failure::Dump(fault) => dump_status(*fault),
+            Failure::Inspect(fault) => inspect_status(*fault),
             Failure::NotDone => 5,
         }
     }
@@ -78,6 +82,7 @@ impl Failure {
             Failure::Serve(fault) => told(alloc, serve_word(*fault)),
             Failure::Attend(fault) => scripts_line(alloc, *fault),
             Failure::Dump(fault) => dump_line(alloc, *fault),
+            Failure::Inspect(fault) => told(alloc, inspect_word(*fault)),
             Failure::NotDone => told(alloc, b"not done"),
         }
     }
@@ -213,6 +218,28 @@ fn dump_line(alloc: Global, fault: DumpFault) -> Result<Vec<u8>, AllocError>
         DumpFault::TooLong(name) => told(alloc, &job_words(alloc, b"too long ", name)?),
         DumpFault::Memory => told(alloc, b"memory"),
         DumpFault::Write => told(alloc, b"write"),
+    }
+}
+
+/// The exit status of `inspect`.
+fn inspect_status(fault: InspectFault) -> u8
+    ensures { result ≡ inspect_status fault }
+{
+    match fault {
+        InspectFault::Read | InspectFault::Changed => 3,
+        InspectFault::Memory | InspectFault::Write => 4,
+    }
+}
+
+/// The words that tell why it isn't told what a file holds.
+fn inspect_word(fault: InspectFault) -> &'static [u8]
+    ensures { result.now ≡ inspect_word fault }
+{
+    match fault {
+        InspectFault::Read => b"device",
+        InspectFault::Changed => b"changed while read",
+        InspectFault::Memory => b"memory",
+        InspectFault::Write => b"write",
     }
 }
 

@@ -19,9 +19,10 @@ ghost use Rattle.ic_serving.specs.declared.fault.ServeFault.{ServeFault};
 ghost use Rattle.ic_serving.specs.declared.fault.ServeFault.TheVariants as serve;
 ghost use Rattle.ic_words.specs.declared.words.WordsFault.TheVariants as words;
 ghost use Rattle.ic_dump.specs.declared.fault.DumpFault.TheVariants as dump;
+ghost use Rattle.ic_contents.specs.declared.fault.InspectFault.TheVariants as inspect;
 ghost use Rattle.ic_lines.specs.declared.script.ScriptFault.{ScriptFault};
 ghost use Rattle.ic_scripts.specs.declared.fault.ScriptsFault.TheVariants as scripts;
-ghost use Rattle.ic_endings.specs.declared.failure.Failure.TheVariants.{Words, Stream, Disk, Create, NotEmpty, Open, Serve, Attend, Dump, NotDone};
+ghost use Rattle.ic_endings.specs.declared.failure.Failure.TheVariants.{Words, Stream, Disk, Create, NotEmpty, Open, Serve, Attend, Dump, Inspect, NotDone};
 ghost use Rattle.ic_endings.specs.Endings.{status_of, failure_line, stuck_line};
 ghost use Rattle.ic_endings.specs.Behind.{lines_behind};
 ghost use Rattle.ic_causes.specs.declared.cause.Cause.{Cause};
@@ -46,6 +47,8 @@ pub fn statuses_are(text: &String)
     ensures no_job { (name : List ℕ) → status_of (Dump (dump.NoJob name)) ≡ 1 }
     ensures long_job { (name : List ℕ) → status_of (Dump (dump.TooLong name)) ≡ 1 }
     ensures dumped { map status_of (Dump dump.Memory ∷ Dump dump.Write ∷ []) ≡ 4 ∷ 4 ∷ [] }
+    ensures inspected { map status_of (Inspect inspect.Read ∷ Inspect inspect.Changed
+        ∷ Inspect inspect.Memory ∷ Inspect inspect.Write ∷ []) ≡ 3 ∷ 3 ∷ 4 ∷ 4 ∷ [] }
     ensures not_done { status_of NotDone ≡ 5 }
     ensures others { map status_of (Words words.Memory ∷ Stream stream.Read ∷ Stream stream.Memory
         ∷ Stream stream.Write ∷ []) ≡ 4 ∷ 4 ∷ 4 ∷ 4 ∷ [] }
@@ -141,6 +144,15 @@ pub fn lines_of_dumps_are()
     ensures write { failure_line (Dump dump.Write) ≡ codes "icserve: write" ++ 10 ∷ [] }
 {}
 
+/// The line on standard error of each fault of `inspect`.
+pub fn lines_of_inspections_are()
+    ensures read { failure_line (Inspect inspect.Read) ≡ codes "icserve: device" ++ 10 ∷ [] }
+    ensures changed { failure_line (Inspect inspect.Changed)
+        ≡ codes "icserve: changed while read" ++ 10 ∷ [] }
+    ensures memory { failure_line (Inspect inspect.Memory) ≡ codes "icserve: memory" ++ 10 ∷ [] }
+    ensures write { failure_line (Inspect inspect.Write) ≡ codes "icserve: write" ++ 10 ∷ [] }
+{}
+
 /// The line on standard error where rounds didn't suffice, and that of a stuck pair.
 pub fn lines_of_looks_are()
     ensures not_done { failure_line NotDone ≡ codes "icserve: not done" ++ 10 ∷ [] }
@@ -161,6 +173,8 @@ pub fn lines_behind_are(text: &String)
         → lines_behind (Serve (serve.Book book.Device)) path cause ≡ cause_line path cause }
     ensures attended { (path : List ℕ) (cause : Option Cause)
         → lines_behind (Attend (scripts.Book book.Device)) path cause ≡ cause_line path cause }
+    ensures inspected { (path : List ℕ) (cause : Option Cause)
+        → lines_behind (Inspect inspect.Read) path cause ≡ cause_line path cause }
     ensures no_disk { (path : List ℕ) (cause : Option Cause)
         → lines_behind (Open opening.NoSlot) path cause ≡ shown_path path ++ codes ": "
         ++ codes "the file is no disk; `icserve create --disk F` makes a new file F one" ++ 10 ∷ [] }

@@ -56,6 +56,7 @@ fn asked(alloc: Global, task: &Task, part: &str) -> Result<String, AllocError> {
             let asked = format!(in alloc; "dump {disk}")?;
             with_texts(asked, names)
         }
+        Task::Inspect { disk } => format!(in alloc; "inspect {disk}"),
         Task::Help(text) => of_part(alloc, "help", text, part),
         Task::Version(text) => format!(in alloc; "version {text}"),
     }

@@ -16,5 +16,7 @@ pub mod LineRows
 pub mod TakenLines
 pub mod CreateLines
 pub mod DumpLines
+pub mod InspectLines
+mod NoCommand
 mod HelpLemmas
 pub mod AttendLines

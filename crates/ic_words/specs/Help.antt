@@ -14,18 +14,19 @@ program_help = text_of (codes "A job server for the interaction calculus"
     ∷ codes "Usage: icserve <COMMAND>"
     ∷ []
     ∷ codes "To look at a system, which is read from standard input:"
-    ∷ codes "  reduce  Makes rounds until no step is possible, and prints the configuration"
-    ∷ codes "  trace   Tells what each of these rounds does, as a table or a picture"
-    ∷ codes "  draw    Draws the net of a configuration as a graph, with its rules or without"
-    ∷ codes "  once    Makes one round, and prints the configuration"
-    ∷ codes "  settle  Settles a configuration that has no rules, and prints it"
+    ∷ codes "  reduce   Makes rounds until no step is possible, and prints the configuration"
+    ∷ codes "  trace    Tells what each of these rounds does, as a table or a picture"
+    ∷ codes "  draw     Draws the net of a configuration as a graph, with its rules or without"
+    ∷ codes "  once     Makes one round, and prints the configuration"
+    ∷ codes "  settle   Settles a configuration that has no rules, and prints it"
     ∷ []
     ∷ codes "To run jobs, which outlive a crash:"
-    ∷ codes "  create  Makes the file F an empty disk"
-    ∷ codes "  serve   Serves the lines of standard input over the disk in the file F"
-    ∷ (codes "  attend  Gives the commands of scripts to the disk in the file F, one"
+    ∷ codes "  create   Makes the file F an empty disk"
+    ∷ codes "  serve    Serves the lines of standard input over the disk in the file F"
+    ∷ (codes "  attend   Gives the commands of scripts to the disk in the file F, one"
     ++ codes " client to a script")
-    ∷ codes "  dump    Prints jobs of the disk in the file F, as lines that submit them"
+    ∷ codes "  dump     Prints jobs of the disk in the file F, as lines that submit them"
+    ∷ codes "  inspect  Tells what the file F holds, which a server may have open"
     ∷ []
     ∷ codes "Options:"
     ∷ codes "  -h, --help     Print help"
@@ -146,6 +147,16 @@ dump_help = text_of (codes "Prints jobs of the disk in the file F, as lines that
     ∷ codes "  -h, --help      Print help"
     ∷ [])
 
+abbrev pub inspect_help : Text
+inspect_help = text_of (codes "Tells what the file F holds, which a server may have open"
+    ∷ []
+    ∷ codes "Usage: icserve inspect --disk <F>"
+    ∷ []
+    ∷ codes "Options:"
+    ∷ codes "      --disk <F>  The path of the file, which stays as it is"
+    ∷ codes "  -h, --help      Print help"
+    ∷ [])
+
 -- the help that words ask for: that of the command that the first one names, or the program's
 abbrev pub help_of : List Text → Text
 help_of [] = program_help
@@ -157,7 +168,8 @@ help_of (word ∷ words) = if bytes_eq word (codes "settle") then settle_help
     else if bytes_eq word (codes "reduce") then reduce_help
     else if bytes_eq word (codes "trace") then trace_help
     else if bytes_eq word (codes "draw") then draw_help
-    else if bytes_eq word (codes "dump") then dump_help else program_help
+    else if bytes_eq word (codes "dump") then dump_help
+    else if bytes_eq word (codes "inspect") then inspect_help else program_help
 
 -- this part stands in a text
 abbrev pub Says : Text → Text → Type 0

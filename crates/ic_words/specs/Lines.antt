@@ -80,6 +80,11 @@ pub record IsDumpLine (words : List Text) (path : Text) (names : List Text) : Ty
   pub plain : AllByRecursion HasNoHyphen names
   pub few : length names < 2 ^ 64
 
+-- `inspect --disk F`
+abbrev pub IsInspectLine : Text → List Text → Type 0
+IsInspectLine disk words = (rest : List Text) × (words ≡ codes "inspect" ∷ rest)
+    × IsWritten (record { name = codes "disk"; value = disk }) rest
+
 -- no option has the name of one behind it
 abbrev pub AreOnce : List Given → Type 0
 AreOnce [] = Unit {0}

@@ -15,7 +15,7 @@ use Rattle.clap.specs.declared.error.ErrorKind.{ErrorKind}
 use Rattle.clap.specs.declared.error.ErrorKind.TheVariants.{DisplayHelp, DisplayVersion, InvalidValue}
 use Rattle.ic_words.specs.declared.words.Task.{Task}
 use Rattle.ic_words.specs.declared.words.Task.TheVariants.{Settle, Once, Create, Serve, Attend}
-use Rattle.ic_words.specs.declared.words.Task.TheVariants.{Reduce, Trace, Draw, Dump, Help, Version}
+use Rattle.ic_words.specs.declared.words.Task.TheVariants.{Reduce, Trace, Draw, Dump, Inspect, Help, Version}
 use Rattle.ic_words.specs.declared.words.TraceFormat.{TraceFormat}
 use Rattle.ic_words.specs.declared.words.TraceFormat.TheVariants.{Tsv, Svg}
 use Rattle.ic_words.specs.Help.{help_of, program_help}
@@ -142,6 +142,9 @@ name_argument = record (new_rule (codes "name")) {
 abbrev pub dump_command : App
 dump_command = with_rule (with_rule (new_app (codes "dump")) disk_option) name_argument
 
+abbrev pub inspect_command : App
+inspect_command = with_rule (new_app (codes "inspect")) disk_option
+
 -- the program with its commands `settle` and `once`
 abbrev pub with_streams : App
 with_streams = with_subcommand (with_subcommand program
@@ -157,9 +160,9 @@ abbrev pub with_looks : App
 with_looks = with_subcommand (with_subcommand (with_subcommand with_disks reduce_command.top)
     trace_command.top) (new_app (codes "draw")).top
 
--- the command line of the program, which has `dump`, too
+-- the command line of the program, which has `dump` and `inspect`, too
 abbrev pub command_line : App
-command_line = with_subcommand with_looks dump_command.top
+command_line = with_subcommand (with_subcommand with_looks dump_command.top) inspect_command.top
 
 -- the line that tells the version
 abbrev pub version_line : List ℕ
@@ -211,6 +214,7 @@ AnswersWords mistakes (Ok (Reduce rounds workers)) = mistakes ≡ []
 AnswersWords mistakes (Ok (Trace rounds format)) = mistakes ≡ []
 AnswersWords mistakes (Ok Draw) = mistakes ≡ []
 AnswersWords mistakes (Ok (Dump disk names)) = mistakes ≡ []
+AnswersWords mistakes (Ok (Inspect disk)) = mistakes ≡ []
 AnswersWords mistakes (Ok (Help text)) = IsAmong DisplayHelp mistakes
 AnswersWords mistakes (Ok (Version text)) =
     IsAmong DisplayVersion mistakes × (string_bytes text ≡ version_line)
@@ -237,6 +241,7 @@ GivesHelp (Ok (Reduce rounds workers)) = ⊥
 GivesHelp (Ok (Trace rounds format)) = ⊥
 GivesHelp (Ok Draw) = ⊥
 GivesHelp (Ok (Dump disk names)) = ⊥
+GivesHelp (Ok (Inspect disk)) = ⊥
 GivesHelp (Ok (Version text)) = ⊥
 GivesHelp (Err (Words text)) = ⊥
 
@@ -253,6 +258,7 @@ GivesVersion (Ok (Reduce rounds workers)) = ⊥
 GivesVersion (Ok (Trace rounds format)) = ⊥
 GivesVersion (Ok Draw) = ⊥
 GivesVersion (Ok (Dump disk names)) = ⊥
+GivesVersion (Ok (Inspect disk)) = ⊥
 GivesVersion (Ok (Help text)) = ⊥
 GivesVersion (Err (Words text)) = ⊥
 
@@ -317,5 +323,7 @@ Names words Draw = NamesCommand (codes "draw") words
 Names words (Dump disk names) = BeginsWith (codes "dump") words
     × (string_bytes disk ≡ value_met (codes "disk") (subcommand_of command_line words))
     × (map string_bytes names.items ≡ values_met (codes "name") (subcommand_of command_line words))
+Names words (Inspect disk) = BeginsWith (codes "inspect") words
+    × (string_bytes disk ≡ value_met (codes "disk") (subcommand_of command_line words))
 Names words (Help text) = string_bytes text ≡ help_of words
 Names words (Version text) = string_bytes text ≡ version_line

@@ -10,17 +10,18 @@ A job server for the interaction calculus
 Usage: icserve <COMMAND>
 
 To look at a system, which is read from standard input:
-  reduce  Makes rounds until no step is possible, and prints the configuration
-  trace   Tells what each of these rounds does, as a table or a picture
-  draw    Draws the net of a configuration as a graph, with its rules or without
-  once    Makes one round, and prints the configuration
-  settle  Settles a configuration that has no rules, and prints it
+  reduce   Makes rounds until no step is possible, and prints the configuration
+  trace    Tells what each of these rounds does, as a table or a picture
+  draw     Draws the net of a configuration as a graph, with its rules or without
+  once     Makes one round, and prints the configuration
+  settle   Settles a configuration that has no rules, and prints it
 
 To run jobs, which outlive a crash:
-  create  Makes the file F an empty disk
-  serve   Serves the lines of standard input over the disk in the file F
-  attend  Gives the commands of scripts to the disk in the file F, one client to a script
-  dump    Prints jobs of the disk in the file F, as lines that submit them
+  create   Makes the file F an empty disk
+  serve    Serves the lines of standard input over the disk in the file F
+  attend   Gives the commands of scripts to the disk in the file F, one client to a script
+  dump     Prints jobs of the disk in the file F, as lines that submit them
+  inspect  Tells what the file F holds, which a server may have open
 
 Options:
   -h, --help     Print help
@@ -141,6 +142,17 @@ Options:
   -h, --help      Print help
 ";
 
+/// The help of `inspect`.
+const INSPECT: &str = "\
+Tells what the file F holds, which a server may have open
+
+Usage: icserve inspect --disk <F>
+
+Options:
+      --disk <F>  The path of the file, which stays as it is
+  -h, --help      Print help
+";
+
 /// The help that words ask for: that of the command that the first one names, or the program's.
 pub(crate) fn help_of(words: &[String]) -> &'static str
     ensures { result.now ≡ help_of (map string_bytes words.now) }
@@ -158,6 +170,7 @@ pub(crate) fn help_of(words: &[String]) -> &'static str
         "trace" => TRACE,
         "draw" => DRAW,
         "dump" => DUMP,
+        "inspect" => INSPECT,
         _ => PROGRAM,
     }
 }

@@ -6,13 +6,13 @@ ghost use Rattle.std.specs.Fmt.{decimal};
 ghost use Rattle.clap.specs.Words.{Text};
 ghost use Rattle.clap.specs.declared.error.ErrorKind.{ErrorKind};
 ghost use Rattle.clap.specs.declared.error.ErrorKind.TheVariants.{DisplayHelp, DisplayVersion, InvalidValue};
-ghost use Rattle.ic_words.specs.declared.words.Task.TheVariants.{Settle, Once, Create, Serve, Attend, Reduce, Trace, Draw, Dump, Help, Version};
+ghost use Rattle.ic_words.specs.declared.words.Task.TheVariants.{Settle, Once, Create, Serve, Attend, Reduce, Trace, Draw, Dump, Inspect, Help, Version};
 ghost use Rattle.ic_words.specs.declared.words.TraceFormat.{TraceFormat};
 ghost use Rattle.ic_words.specs.declared.words.WordsFault.TheVariants.{Words, Memory};
 ghost use Rattle.ic_words.specs.Words.{AnswersWords, format_word, mistakes_of, words_fault_number, IsDecimal, Names};
 ghost use Rattle.ic_words.specs.Help.{help_of, Says, program_help, settle_help, once_help, create_help, serve_help, attend_help};
-ghost use Rattle.ic_words.specs.Help.{draw_help, dump_help, reduce_help, trace_help};
-ghost use Rattle.ic_words.specs.Lines.{IsAttendLine, IsCreateLine, IsDumpLine, IsReduceLine, IsServeLine, IsTraceLine};
+ghost use Rattle.ic_words.specs.Help.{draw_help, dump_help, inspect_help, reduce_help, trace_help};
+ghost use Rattle.ic_words.specs.Lines.{IsAttendLine, IsCreateLine, IsDumpLine, IsInspectLine, IsReduceLine, IsServeLine, IsTraceLine};
 
 /// A number's text is the number in decimal digits, before which a plus may stand, and no other
 /// number's; the empty text is none's.
@@ -85,6 +85,8 @@ pub fn help_and_version_are_asked()
     ensures trace { mistakes_of (codes "trace" ∷ codes "--help" ∷ []) ≡ DisplayHelp ∷ [] }
     ensures draw { mistakes_of (codes "draw" ∷ codes "--help" ∷ []) ≡ DisplayHelp ∷ [] }
     ensures dump { mistakes_of (codes "dump" ∷ codes "--help" ∷ []) ≡ DisplayHelp ∷ [] }
+    ensures inspect { mistakes_of (codes "inspect" ∷ codes "--help" ∷ [])
+        ≡ DisplayHelp ∷ [] }
     ensures version { mistakes_of (codes "--version" ∷ []) ≡ DisplayVersion ∷ [] }
     ensures short_version { mistakes_of (codes "-V" ∷ []) ≡ DisplayVersion ∷ [] }
 {}
@@ -102,13 +104,15 @@ pub fn each_command_has_its_help()
     ensures trace { (words : List Text) → help_of (codes "trace" ∷ words) ≡ trace_help }
     ensures draw { (words : List Text) → help_of (codes "draw" ∷ words) ≡ draw_help }
     ensures dump { (words : List Text) → help_of (codes "dump" ∷ words) ≡ dump_help }
+    ensures inspect { (words : List Text) → help_of (codes "inspect" ∷ words) ≡ inspect_help }
     ensures program { (word : Text) (words : List Text) → AllByRecursion (λ name. word ≢ name)
         (codes "settle" ∷ codes "once" ∷ codes "create" ∷ codes "serve" ∷ codes "attend"
-        ∷ codes "reduce" ∷ codes "trace" ∷ codes "draw" ∷ codes "dump" ∷ [])
-        → help_of (word ∷ words) ≡ program_help }
+        ∷ codes "reduce" ∷ codes "trace" ∷ codes "draw" ∷ codes "dump"
+        ∷ codes "inspect" ∷ []) → help_of (word ∷ words) ≡ program_help }
     ensures commands { AllByRecursion (Says program_help) (codes "  settle  " ∷ codes "  once  "
         ∷ codes "  create  " ∷ codes "  serve  " ∷ codes "  attend  "
         ∷ codes "  reduce  " ∷ codes "  trace  " ∷ codes "  draw  " ∷ codes "  dump  "
+        ∷ codes "  inspect  "
         ∷ codes "-h, --help" ∷ codes "-V, --version" ∷ []) }
     ensures streams { Says settle_help (codes "icserve settle")
         × Says once_help (codes "icserve once") × Says draw_help (codes "icserve draw") }
@@ -129,6 +133,8 @@ pub fn each_command_has_its_help()
         ∷ codes "--workers <N>" ∷ codes "from 1 to 64 [default: 2]" ∷ []) }
     ensures jobs { AllByRecursion (Says dump_help)
         (codes "icserve dump" ∷ codes "--disk <F>" ∷ codes "[NAME]..." ∷ []) }
+    ensures file { AllByRecursion (Says inspect_help)
+        (codes "icserve inspect" ∷ codes "--disk <F>" ∷ []) }
 {}
 
 /// A well-formed line of `create` is taken, and names the file that it is given, and whether it has
@@ -196,4 +202,12 @@ pub fn dump_lines_are_taken(disk: &String, jobs: &Vec<String>)
     ensures named { (words : List Text) (path : Text) (names : List Text)
         → IsDumpLine words path names → Names words (Dump disk.now jobs.now)
         → (string_bytes disk.now ≡ path) × (map string_bytes jobs.now.items ≡ names) }
+{}
+
+/// A well-formed line of `inspect` is taken, and names the file that it is given.
+pub fn inspect_lines_are_taken(disk: &String)
+    ensures taken { (words : List Text) (path : Text) → IsInspectLine path words
+        → mistakes_of words ≡ [] }
+    ensures named { (words : List Text) (path : Text) → IsInspectLine path words
+        → Names words (Inspect disk.now) → string_bytes disk.now ≡ path }
 {}

@@ -4,12 +4,12 @@ ghost use Rattle.std.specs.Prelude.{◌≡◌, ◌≤◌, ℕ, false, map, Ok, I
 ghost use Rattle.clap.specs.Words.{app_of, rule_of, subcommand_rows_of};
 ghost use Rattle.clap.specs.declared.builder.command.Command.TheViews.{out-Command};
 ghost use Rattle.ic_words.specs.Words.{AnswersWords, GivesHelp, GivesTask, GivesVersion, Names};
-ghost use Rattle.ic_words.specs.Words.{attend_command, command_line, create_command, dump_command, program};
-ghost use Rattle.ic_words.specs.Words.{reduce_command, serve_command, trace_command, with_disks, with_looks, with_streams};
+ghost use Rattle.ic_words.specs.Words.{attend_command, command_line, create_command, dump_command, inspect_command};
+ghost use Rattle.ic_words.specs.Words.{program, reduce_command, serve_command, trace_command, with_disks, with_looks, with_streams};
 ghost use Rattle.ic_words.specs.Words.{disk_option, every_option, format_option, name_argument, overwrite_flag, rounds_option};
 ghost use Rattle.ic_words.specs.Words.{runners_option, script_argument, turns_option, workers_option};
 ghost use Rattle.ic_words.specs.Words.{mistakes_of, value_met, values_met};
-ghost use Rattle.ic_words.specs.inner.Asking.{Asks, IsCommandMet, IsMet, IsReadFrom};
+ghost use Rattle.ic_words.specs.inner.Asking.{Asks, IsCommandMet, IsIn, IsMet, IsReadFrom, commands};
 
 use crate::help::help_of;
 use clap::error::ErrorKind;
@@ -93,6 +93,11 @@ pub enum Task {
         /// The names of the jobs: all jobs, where there are none.
         names: Vec<String>,
     },
+    /// Tell what a disk's file holds.
+    Inspect {
+        /// The path of the file.
+        disk: String,
+    },
     /// Show this help.
     Help(String),
     /// Show this line, which tells the version.
@@ -171,15 +176,28 @@ fn task_of(alloc: Global, matches: &ArgMatches) -> Result<Task, WordsFault>
     ensures { Asks (subcommand_rows_of matches.now) result }
 {
     match matches.subcommand_name() {
-        Some("settle") => Ok(Task::Settle),
-        Some("once") => Ok(Task::Once),
-        Some("create") => create_task(alloc, matches),
-        Some("serve") => serve_task(alloc, matches),
-        Some("attend") => attend_task(alloc, matches),
-        Some("reduce") => Ok(reduce_task(matches)),
-        Some("trace") => trace_task(alloc, matches),
-        Some("draw") => Ok(Task::Draw),
-        Some("dump") => dump_task(alloc, matches),
+        Some(name) => task_named(alloc, name, matches),
+        None => unreachable!(),
+    }
+}
+
+/// What the command of this name, which was met, is asked for.
+fn task_named(alloc: Global, name: &str, matches: &ArgMatches) -> Result<Task, WordsFault>
+    requires known { IsIn name.now commands }
+    requires met { IsMet name.now (subcommand_rows_of matches.now) }
+    ensures { Asks (subcommand_rows_of matches.now) result }
+{
+    match name {
+        "settle" => Ok(Task::Settle),
+        "once" => Ok(Task::Once),
+        "create" => create_task(alloc, matches),
+        "serve" => serve_task(alloc, matches),
+        "attend" => attend_task(alloc, matches),
+        "reduce" => Ok(reduce_task(matches)),
+        "trace" => trace_task(alloc, matches),
+        "draw" => Ok(Task::Draw),
+        "dump" => dump_task(alloc, matches),
+        "inspect" => inspect_task(alloc, matches),
         _ => unreachable!(),
     }
 }
@@ -268,6 +286,15 @@ fn dump_task(alloc: Global, matches: &ArgMatches) -> Result<Task, WordsFault>
     let disk = String::from_str(alloc, value_of(matches, "disk"))?;
     let names = values_of(alloc, matches, "name")?;
     Ok(Task::Dump { disk, names })
+}
+
+/// The task of `inspect`.
+fn inspect_task(alloc: Global, matches: &ArgMatches) -> Result<Task, WordsFault>
+    requires { IsMet (codes "inspect") (subcommand_rows_of matches.now) }
+    ensures { Asks (subcommand_rows_of matches.now) result }
+{
+    let disk = String::from_str(alloc, value_of(matches, "disk"))?;
+    Ok(Task::Inspect { disk })
 }
 
 /// Texts that own their bytes.
@@ -512,6 +539,15 @@ fn dump_command<'a>(alloc: Global) -> Result<Command<'a>, AllocError>
     Command::new(alloc, "dump").arg(disk)?.arg(name)
 }
 
+/// The command that tells what a file holds.
+fn inspect_command<'a>(alloc: Global) -> Result<Command<'a>, AllocError>
+    ensures shape { IfOk result (λ command. app_of command ≡ inspect_command) }
+    ensures local { IfOk result (λ command. (out-Command command).has_globals ≡ false) }
+{
+    let disk = disk_option(alloc);
+    Command::new(alloc, "inspect").arg(disk)
+}
+
 /// The program without its commands.
 fn program<'a>(alloc: Global) -> Result<Command<'a>, AllocError>
     ensures { IfOk result (λ command. app_of command ≡ program) }
@@ -566,5 +602,7 @@ fn command<'a>(alloc: Global) -> Result<Command<'a>, AllocError>
     ensures { IfOk result (λ command. app_of command ≡ command_line) }
 {
     let dump = dump_command(alloc)?;
-    with_looks(alloc)?.subcommand(dump)
+    let program = with_looks(alloc)?.subcommand(dump)?;
+    let inspect = inspect_command(alloc)?;
+    program.subcommand(inspect)
 }

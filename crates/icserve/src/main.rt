@@ -2,6 +2,7 @@
 #![tactic(auto)]
 
 mod dumping;
+mod inspecting;
 mod looking;
 mod progress;
 
@@ -63,6 +64,7 @@ fn path_of(task: &Task) -> &str {
         Task::Serve { disk, .. } => disk.as_str(),
         Task::Attend { disk, .. } => disk.as_str(),
         Task::Dump { disk, .. } => disk.as_str(),
+        Task::Inspect { disk } => disk.as_str(),
         _ => "",
     }
 }
@@ -110,6 +112,7 @@ fn run<T: Threads + Wait + Sync>(
         Task::Trace { rounds, format } => looking::trace(rt, rounds, format),
         Task::Draw => looking::draw(rt),
         Task::Dump { disk, names } => dumping::dump(rt, disk.as_str(), &names, notes),
+        Task::Inspect { disk } => inspecting::inspect(rt, disk.as_str(), notes),
         Task::Help(text) | Task::Version(text) => {
             show(&mut output, text.as_str()).map_err(Failure::Stream)
         }

@@ -18,10 +18,10 @@ pub returns-clause-attend : goal.returns-clause-attend
 returns-clause-attend c = λ words. refl
 
 pub returns-clause-program : goal.returns-clause-program
-returns-clause-program c = λ word words other. other_help word words other.0 other.1.0 other.1.1.0 other.1.1.1.0 other.1.1.1.1.0 other.1.1.1.1.1.0 other.1.1.1.1.1.1.0 other.1.1.1.1.1.1.1.0 other.1.1.1.1.1.1.1.1.0
+returns-clause-program c = λ word words other. other_help word words other.0 other.1.0 other.1.1.0 other.1.1.1.0 other.1.1.1.1.0 other.1.1.1.1.1.0 other.1.1.1.1.1.1.0 other.1.1.1.1.1.1.1.0 other.1.1.1.1.1.1.1.1.0 other.1.1.1.1.1.1.1.1.1.0
 
 pub returns-clause-commands : goal.returns-clause-commands
-returns-clause-commands c = ((413, refl), ((357, refl), ((517, refl), ((558, refl), ((631, refl), ((125, refl), ((204, refl), ((276, refl), ((721, refl), ((808, refl), ((836, refl), tt)))))))))))
+returns-clause-commands c = ((417, refl), ((360, refl), ((522, refl), ((564, refl), ((638, refl), ((125, refl), ((205, refl), ((278, refl), ((729, refl), ((805, refl), ((886, refl), ((914, refl), tt))))))))))))
 
 pub returns-clause-reduce : goal.returns-clause-reduce
 returns-clause-reduce c = λ words. refl
@@ -55,3 +55,9 @@ returns-clause-dump c = λ words. refl
 
 pub returns-clause-jobs : goal.returns-clause-jobs
 returns-clause-jobs c = ((73, refl), ((86, refl), ((97, refl), tt)))
+
+pub returns-clause-inspect : goal.returns-clause-inspect
+returns-clause-inspect c = λ words. refl
+
+pub returns-clause-file : goal.returns-clause-file
+returns-clause-file c = ((66, refl), ((82, refl), tt))

@@ -57,3 +57,7 @@ returns-clause-draw c = refl
 pub returns-clause-dump : goal.returns-clause-dump
 unfolding clap_on_literals
 returns-clause-dump c = refl
+
+pub returns-clause-inspect : goal.returns-clause-inspect
+unfolding clap_on_literals
+returns-clause-inspect c = refl

@@ -1,0 +1,56 @@
+//! The program's word `inspect`: what a disk's file holds, on standard output.
+
+use crate::stand_ins;
+use ic_causes::{FileCall, NotedFile, NotedFiles, Notes};
+use ic_contents::InspectFault;
+use ic_disk::DiskFault;
+use ic_endings::Failure;
+use std::fs::{self, OpenOptions};
+use std::io::{self, ErrorKind};
+
+/// How often a file is looked at, at most, that is written meanwhile.
+const LOOKS: u32 = 20;
+
+/// Prints what the file of this path holds, which stays as it is. No lock is taken, so a server may
+/// have it open.
+pub(crate) fn inspect(rt: &HostRuntime, path: &str, notes: &Notes) -> Result<(), Failure> {
+    for _ in 0..LOOKS {
+        if look(rt, path, notes)? {
+            return Ok(());
+        }
+    }
+    Err(Failure::Inspect(InspectFault::Changed))
+}
+
+/// Reads the file twice and prints what it holds, if both times are alike.
+fn look(rt: &HostRuntime, path: &str, notes: &Notes) -> Result<bool, Failure> {
+    let mut file = open_to_read(rt, path, notes)?;
+    let mut again = open_to_read(rt, path, notes)?;
+    let mut output = io::writer(rt);
+    match ic_contents::inspect(rt.alloc(), &mut file, &mut again, &mut output) {
+        Ok(()) => Ok(true),
+        Err(InspectFault::Changed) => Ok(false),
+        Err(fault) => Err(Failure::Inspect(fault)),
+    }
+}
+
+/// Opens the file of this path, which has to be a plain one, since others may keep who reads waiting.
+/// A folder can be opened, and isn't read.
+fn open_to_read<'a>(
+    rt: &HostRuntime,
+    path: &str,
+    notes: &'a Notes,
+) -> Result<NotedFile<'a>, Failure> {
+    let _stand_ins = stand_ins(rt).map_err(|_| Failure::Disk(DiskFault))?;
+    if let Ok(about) = fs::metadata(rt, path) {
+        if !about.is_file() && !about.is_dir() {
+            let error = io::Error::from(ErrorKind::InvalidInput);
+            notes.note(false, FileCall::Open, &error);
+            return Err(Failure::Disk(DiskFault));
+        }
+    }
+    let files = NotedFiles { rt, path, notes };
+    let mut how = OpenOptions::new();
+    how.read(true);
+    how.open(&files, path).map_err(|_| Failure::Disk(DiskFault))
+}
