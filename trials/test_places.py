@@ -2,6 +2,8 @@
 the place, and what is amiss there. The model of `places.py` says what is to be told. The first lines are tried in
 test_statuses.py."""
 
+import re
+
 import draws
 import model
 import places
@@ -9,7 +11,8 @@ from program import Trial, run
 from worked_rows import expanded, rows, short_texts
 
 # Which word of the program reads which kind of text, and the kinds of rows with such texts.
-WORDS = {"settle": "configuration", "once": "system"}
+WORDS = {"settle": "configuration", "once": "system", "reduce": "system", "trace": "system"}
+SYSTEM_WORDS = [word for word, kind in WORDS.items() if kind == "system"]
 CONFIGS = ("config", "settle", "config_place", "settle_told")
 SYSTEMS = ("system", "once", "system_place", "once_told")
 
@@ -19,11 +22,13 @@ class Places(Trial):
 
     def tells(self, word, text):
         """Fails unless a text that this word refuses has the place of the model told, and another nothing."""
+        kind = WORDS.get(word) or ("system" if text.lstrip(b" \t\r\n").startswith(b"{") else "configuration")
         ran = run(word, given=text)
-        self.agrees(ran.command, "what stands behind the first line", places.told(text, WORDS[word]), ran.behind)
+        self.agrees(ran.command, "what stands behind the first line", places.told(text, kind), ran.behind)
         if ran.behind:
-            line = f"icserve: bad {places.found(text, WORDS[word])[0]}\n".encode()
-            self.equals(ran.command, "status and first line", (1, line, b""), (ran.status, ran.err, ran.out))
+            first = b" ".join(ran.err.split(b" ")[:3]).strip()
+            line = f"icserve: bad {places.found(text, kind)[0]}".encode()
+            self.equals(ran.command, "status and first line", (1, line, b""), (ran.status, first, ran.out))
         else:
             self.equals(ran.command, "a fault of syntax", False, ran.err == b"icserve: bad syntax\n")
 
@@ -43,7 +48,9 @@ class Places(Trial):
         drawn = self.draws()
         for _ in range(150):
             rule_set, config = draws.system(drawn, drawn.choice([1, 2, 5]), drawn.choice([2, 3, 6]))
-            for word, text in (("once", draws.system_text(rule_set, config)), ("settle", model.printed(rule_set, config))):
+            system, configuration = draws.system_text(rule_set, config), model.printed(rule_set, config)
+            word = drawn.choice(SYSTEM_WORDS)
+            for word, text in ((word, system), ("settle", configuration), ("draw", drawn.choice([system, configuration]))):
                 text = draws.spaced(drawn, text) if drawn.random() < 0.5 else text
                 text = text.encode() if isinstance(text, str) else text
                 for _ in range(drawn.choice([1, 1, 2])):
@@ -52,8 +59,11 @@ class Places(Trial):
 
     def test_a_text_of_the_other_kind(self):
         self.tells("settle", b"{} <|>")
-        self.tells("once", b"<|>")
-        for word in WORDS:
+        for word in SYSTEM_WORDS:
+            self.tells(word, b"<|>")
+        for text in (b"{} <|> <|>", b" \n{}", b"{", b"<|>{}", b"", b"\0{} <|>"):
+            self.tells("draw", text)
+        for word in [*WORDS, "draw"]:
             self.tells(word, b"submit two {} <|>\n")
             self.tells(word, b"# a comment\n<|>")
 
@@ -67,8 +77,22 @@ class Places(Trial):
             self.tells("settle", text.encode())
             self.tells("once", b"{A><A(B)}" + text.encode())
 
+    def test_names_and_rules(self):
+        drawn = self.draws()
+        for _ in range(100):
+            rule_set, config = draws.system(drawn, drawn.choice([1, 2, 5]), drawn.choice([2, 3, 6]))
+            rules, behind, rest = draws.system_text(rule_set, config).partition("}")
+            if drawn.random() < 0.3:
+                rules += (";" if rules.strip() != "{" else "") + drawn.choice(rules.strip(" {").split(";") + ["A(x,y)><A(x,y)"])
+            text = rules + behind + rest
+            names = list(re.finditer(r"(?<![A-Za-z0-9])[a-z][0-9]*", text))
+            for name in sorted(drawn.sample(names, min(len(names), drawn.choice([0, 1, 1, 2]))), key=lambda it: -it.start()):
+                text = text[: name.start()] + drawn.choice(names).group() + text[name.end() :]
+            self.tells(drawn.choice(SYSTEM_WORDS), text.encode())
+            self.tells("settle", rest.encode())
+
     def test_texts_of_the_greatest_length(self):
-        for word in WORDS:
+        for word in [*WORDS, "draw"]:
             for text in (b"<", b" ", b"\xc3\xa9", b"\t\xff", b"x\n", b"\r\n", b"\n"):
                 long = text * places.MOST_BYTES
                 for most in (places.MOST_BYTES, places.MOST_BYTES + 1, 2 * places.MOST_BYTES):
@@ -84,6 +108,7 @@ class Places(Trial):
 
     def test_nothing_is_told_of_a_refused_round_and_of_other_faults(self):
         deep = "C(" * 8187 + "D" + ")" * 8187
-        for text in ("{A(x)><B} <|>", "{A><B;B><A} <|>", f"{{A><B(C(C(D)))}} <|A=B(P),{deep}=Q>"):
+        many = ";".join(["A><B"] * 257)
+        for text in (f"{{}} <{'A,' * 64}A|>", f"{{{many}}} <|>", f"{{A><B(C(C(D)))}} <|A=B(P),{deep}=Q>"):
             ran = run("once", given=text)
             self.equals(ran.command, "status and lines", (1, 1, b""), (ran.status, ran.err.count(b"\n"), ran.behind))

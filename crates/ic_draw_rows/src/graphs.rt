@@ -11,7 +11,7 @@ use std::alloc::Global;
 pub fn graph(alloc: Global, text: &[u8]) -> Result<Vec<u8>, Trouble> {
     let mut reader = text;
     let mut output = Vec::new(alloc);
-    match draw_stream(alloc, &mut reader, &mut output) {
+    match draw_stream(alloc, &mut reader, &mut output, &mut Vec::new(alloc)) {
         Ok(()) => Ok(output),
         Err(_) if !output.is_empty() => Err(Trouble("a refusal wrote something")),
         Err(StreamFault::Text(refused)) => Ok(print_fault(alloc, &refused)?),
@@ -43,7 +43,7 @@ pub fn failing_reader(alloc: Global, text: &[u8]) -> Result<Vec<u8>, Trouble> {
             failing: Some(left),
         };
         let mut output = Vec::new(alloc);
-        let answer = draw_stream(alloc, &mut reader, &mut output);
+        let answer = draw_stream(alloc, &mut reader, &mut output, &mut Vec::new(alloc));
         if !matches!(&answer, Err(StreamFault::Read)) || !output.is_empty() {
             return Err(Trouble("a stream ends otherwise"));
         }
@@ -60,7 +60,7 @@ pub fn failing_writer(alloc: Global, text: &[u8]) -> Result<Vec<u8>, Trouble> {
             failing: None,
         };
         let mut writer = SlowWriter::new(alloc, room);
-        let answer = draw_stream(alloc, &mut reader, &mut writer);
+        let answer = draw_stream(alloc, &mut reader, &mut writer, &mut Vec::new(alloc));
         if !matches!(&answer, Err(StreamFault::Write))
             || writer.bytes.as_slice() != &whole[..room]
         {
@@ -74,7 +74,7 @@ pub fn failing_writer(alloc: Global, text: &[u8]) -> Result<Vec<u8>, Trouble> {
 pub fn reads(alloc: Global, text: &[u8]) -> Result<Vec<u8>, Trouble> {
     let mut reader = text;
     let mut output = Vec::new(alloc);
-    let answer = draw_stream(alloc, &mut reader, &mut output);
+    let answer = draw_stream(alloc, &mut reader, &mut output, &mut Vec::new(alloc));
     if answer.is_err() && !output.is_empty() {
         return Err(Trouble("a refusal wrote something"));
     }

@@ -25,12 +25,27 @@ impl Look {
         reader: &mut R,
         writer: &mut W,
     ) -> Result<Option<Reduction>, StreamFault> {
+        let mut places = Vec::new(alloc);
         match self {
-            Look::Reduce => match reduce_stream(alloc, &OneThread, rounds, reader, writer) {
+            Look::Reduce => match reduce_stream(
+                alloc,
+                &OneThread,
+                rounds,
+                reader,
+                writer,
+                &mut places,
+            ) {
                 Ok(reduction) => Ok(Some(reduction)),
                 Err(fault) => Err(fault),
             },
-            Look::Trace(format) => match trace_stream(alloc, rounds, format, reader, writer) {
+            Look::Trace(format) => match trace_stream(
+                alloc,
+                rounds,
+                format,
+                reader,
+                writer,
+                &mut places,
+            ) {
                 Ok(()) => Ok(None),
                 Err(fault) => Err(fault),
             },

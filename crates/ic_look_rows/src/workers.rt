@@ -34,7 +34,8 @@ fn reduced<M: Maker>(
     let mut reader = text;
     let mut output = Vec::new(alloc);
     let mut ending = Vec::new(alloc);
-    match reduce_stream(alloc, maker, rounds, &mut reader, &mut output) {
+    let mut places = Vec::new(alloc);
+    match reduce_stream(alloc, maker, rounds, &mut reader, &mut output, &mut places) {
         Ok(reduction) => put_ending(&reduction, &mut ending)?,
         Err(fault) => ending = refusal(alloc, fault)?,
     }

@@ -8,6 +8,7 @@ ghost use Rattle.ic_streams.specs.Streams.{OfText, IsAnswered, FaultOf, TakesAt,
 ghost use Rattle.ic_looks.specs.Reductions.{Reduces, EndsAs, Tells};
 ghost use Rattle.ic_looks.specs.Pictures.{shown_as};
 ghost use Rattle.ic_looks.specs.Traces.{Traces};
+ghost use Rattle.ic_looks.specs.Telling.{Told, ToldAt};
 
 use crate::making::Maker;
 use crate::picture::picture;
@@ -19,9 +20,10 @@ use crate::sums::Format;
 use crate::table::table;
 use crate::tracing::trace;
 use ic_flat_round::FlatRules;
+use ic_places::{Kind, refused};
 use ic_rules::RuleSet;
 use ic_streams::{StreamFault, config_line, read_text, write_line};
-use ic_text::read_system;
+use ic_text::find_system;
 use std::alloc::{AllocError, Global};
 use std::io::{Read, Write};
 
@@ -29,13 +31,15 @@ use std::io::{Read, Write};
 /// and writes its configuration as a line.
 ///
 /// Nothing is written before the text is read and the rounds are made, and whoever makes them, the line is the same. A text
-/// of more than 262,144 bytes is `TextFault::Limit`, and at most 262,145 bytes are read.
+/// of more than 262,144 bytes is `TextFault::Limit`, and at most 262,145 bytes are read. Where the text is refused, the
+/// lines that tell of it are appended to `told`.
 pub fn reduce_stream<M: Maker, R: Read, W: Write>(
     alloc: Global,
     maker: &M,
     rounds: u64,
     reader: &mut R,
     writer: &mut W,
+    told: &mut Vec<u8>,
 ) -> Result<Reduction, StreamFault>
     // There is a text of which this holds: the reader's, where it tells its bytes.
     ensures answered { OfText (R.remaining reader.old)
@@ -46,9 +50,12 @@ pub fn reduce_stream<M: Maker, R: Read, W: Write>(
     ensures taken { OnOk result (TakesText (R.remaining reader.old) (R.remaining reader.new)) }
     ensures taken_at_fault { IfErr result
         (λ fault. TakesAt fault (R.remaining reader.old) (R.remaining reader.new)) }
+    ensures told { IfErr result (λ fault. Told (R.remaining reader.old) (R.remaining reader.new) fault
+        told.old.items told.new.items) }
+    ensures quiet { OnOk result (told.new.items ≡ told.old.items) }
 {
     let text = read_text(alloc, reader)?;
-    let (line, reduction) = reduced_line(alloc, maker, &text, rounds)?;
+    let (line, reduction) = reduced_line(alloc, maker, &text, rounds, told)?;
     write_line(writer, &line)?;
     Ok(reduction)
 }
@@ -56,13 +63,15 @@ pub fn reduce_stream<M: Maker, R: Read, W: Write>(
 /// Makes rounds of the system that the reader gives until no step is possible, but at most so many,
 /// and writes what each of them does as a table or a picture.
 ///
-/// Nothing is written before the text is read and the rounds are made. The reader is read as by `reduce_stream`.
+/// Nothing is written before the text is read and the rounds are made. The reader is read as by `reduce_stream`, and a
+/// refused text told of as there.
 pub fn trace_stream<R: Read, W: Write>(
     alloc: Global,
     rounds: u64,
     format: Format,
     reader: &mut R,
     writer: &mut W,
+    told: &mut Vec<u8>,
 ) -> Result<(), StreamFault>
     // There is a text of which this holds: the reader's, where it tells its bytes.
     ensures answered { OfText (R.remaining reader.old) (λ text. IsAnswered (Traces rounds format)
@@ -72,9 +81,12 @@ pub fn trace_stream<R: Read, W: Write>(
     ensures taken { OnOk result (TakesText (R.remaining reader.old) (R.remaining reader.new)) }
     ensures taken_at_fault { IfErr result
         (λ fault. TakesAt fault (R.remaining reader.old) (R.remaining reader.new)) }
+    ensures told { IfErr result (λ fault. Told (R.remaining reader.old) (R.remaining reader.new) fault
+        told.old.items told.new.items) }
+    ensures quiet { OnOk result (told.new.items ≡ told.old.items) }
 {
     let text = read_text(alloc, reader)?;
-    let shown = shown_trace(alloc, &text, rounds, format)?;
+    let shown = shown_trace(alloc, &text, rounds, format, told)?;
     write_line(writer, &shown)
 }
 
@@ -84,13 +96,20 @@ fn shown_trace(
     text: &[u8],
     rounds: u64,
     format: Format,
+    told: &mut Vec<u8>,
 ) -> Result<Vec<u8>, StreamFault>
     ensures shown { IfOk result (λ shown. Traces rounds format text.now (Ok shown.items)) }
     ensures refused { IfErr result (λ fault. FaultOf (Traces rounds format) text.now fault) }
+    ensures told { IfErr result (λ fault. ToldAt text.now fault told.old.items told.new.items) }
+    ensures quiet { OnOk result (told.new.items ≡ told.old.items) }
     ensures sort { IfErr result
         (λ fault. (fault ≢ StreamFault.Write) × (fault ≢ StreamFault.Read)) }
 {
-    let (rules, config) = read_system(alloc, text)?.into_parts();
+    let system = match find_system(alloc, text) {
+        Ok(found) => found,
+        Err(misread) => return Err(refused(alloc, Kind::System, text, misread, told)),
+    };
+    let (rules, config) = system.into_parts();
     let rows = trace(alloc, &rules, config, rounds)?;
     Ok(shown_as(alloc, format, &rows)?)
 }
@@ -111,14 +130,21 @@ fn reduced_line<M: Maker>(
     maker: &M,
     text: &[u8],
     rounds: u64,
+    told: &mut Vec<u8>,
 ) -> Result<(Vec<u8>, Reduction), StreamFault>
     ensures line { IfOk result (λ answer. Reduces rounds text.now (Ok answer.0.items)) }
     ensures ended { IfOk result (λ answer. EndsAs rounds text.now answer.1) }
     ensures refused { IfErr result (λ fault. FaultOf (Reduces rounds) text.now fault) }
+    ensures told { IfErr result (λ fault. ToldAt text.now fault told.old.items told.new.items) }
+    ensures quiet { OnOk result (told.new.items ≡ told.old.items) }
     ensures sort { IfErr result
         (λ fault. (fault ≢ StreamFault.Write) × (fault ≢ StreamFault.Read)) }
 {
-    let (rules, config) = read_system(alloc, text)?.into_parts();
+    let system = match find_system(alloc, text) {
+        Ok(found) => found,
+        Err(misread) => return Err(refused(alloc, Kind::System, text, misread, told)),
+    };
+    let (rules, config) = system.into_parts();
     let rules = FlatRules::new(alloc, rules)?;
     let reduced = reduce(alloc, maker, &rules, config, rounds)?;
     let line = config_line(alloc, rules.rules().symbols(), &reduced.config)?;

@@ -4,6 +4,7 @@ pub mod Nets
 pub mod Ports
 pub mod Dot
 pub mod Draws
+pub mod Telling
 pub mod ReadBack
 pub mod Likeness
 pub mod inner

@@ -4,13 +4,15 @@ ghost use Rattle.std.specs.Prelude.{◌≡◌, ◌≢◌, Ok, IfOk, IfErr, OnOk}
 ghost use Rattle.std.specs.Io.KnownBytes.{Keeps};
 ghost use Rattle.ic_streams.specs.Streams.{OfText, IsAnswered, FaultOf, TakesAt, TakesText};
 ghost use Rattle.ic_nets.specs.Draws.{Draws, IsDrawnAs, has_rules};
+ghost use Rattle.ic_nets.specs.Telling.{Told, ToldAt};
 
 use crate::drawing::dot;
 use crate::net::net_of;
+use ic_places::{Kind, refused};
 use ic_rules::RuleSet;
 use ic_streams::{StreamFault, read_text, write_line};
 use ic_term::Config;
-use ic_text::{is_blank, read_config, read_system};
+use ic_text::{find_config, find_system, is_blank};
 use std::alloc::{AllocError, Global};
 use std::io::{Read, Write};
 
@@ -18,11 +20,12 @@ use std::io::{Read, Write};
 /// configuration: active pairs stand out then.
 ///
 /// Nothing is written before the text is read and drawn. A text of more than 262,144 bytes is `TextFault::Limit`, and
-/// at most 262,145 bytes are read.
+/// at most 262,145 bytes are read. Where the text is refused, the lines that tell of it are appended to `told`.
 pub fn draw_stream<R: Read, W: Write>(
     alloc: Global,
     reader: &mut R,
     writer: &mut W,
+    told: &mut Vec<u8>,
 ) -> Result<(), StreamFault>
     // There is a text of which this holds: the reader's, where it tells its bytes.
     ensures answered { OfText (R.remaining reader.old) (λ text. IsAnswered Draws text result
@@ -32,24 +35,36 @@ pub fn draw_stream<R: Read, W: Write>(
     ensures taken { OnOk result (TakesText (R.remaining reader.old) (R.remaining reader.new)) }
     ensures taken_at_fault { IfErr result
         (λ fault. TakesAt fault (R.remaining reader.old) (R.remaining reader.new)) }
+    ensures told { IfErr result (λ fault. Told (R.remaining reader.old) (R.remaining reader.new) fault
+        told.old.items told.new.items) }
+    ensures quiet { OnOk result (told.new.items ≡ told.old.items) }
 {
     let text = read_text(alloc, reader)?;
-    let graph = graph_of(alloc, &text)?;
+    let graph = graph_of(alloc, &text, told)?;
     write_line(writer, &graph)
 }
 
 /// The graph of a text.
-fn graph_of(alloc: Global, text: &[u8]) -> Result<Vec<u8>, StreamFault>
+fn graph_of(alloc: Global, text: &[u8], told: &mut Vec<u8>) -> Result<Vec<u8>, StreamFault>
     ensures graph { IfOk result (λ graph. Draws text.now (Ok graph.items)) }
     ensures refused { IfErr result (λ fault. FaultOf Draws text.now fault) }
+    ensures told { IfErr result (λ fault. ToldAt text.now fault told.old.items told.new.items) }
+    ensures quiet { OnOk result (told.new.items ≡ told.old.items) }
     ensures sort { IfErr result
         (λ fault. (fault ≢ StreamFault.Write) × (fault ≢ StreamFault.Read)) }
 {
     if has_rules(text) {
-        let (rules, config) = read_system(alloc, text)?.into_parts();
+        let system = match find_system(alloc, text) {
+            Ok(found) => found,
+            Err(misread) => return Err(refused(alloc, Kind::System, text, misread, told)),
+        };
+        let (rules, config) = system.into_parts();
         return Ok(draw(alloc, &rules, &config)?);
     }
-    let (symbols, config) = read_config(alloc, text)?;
+    let (symbols, config) = match find_config(alloc, text) {
+        Ok(found) => found,
+        Err(misread) => return Err(refused(alloc, Kind::Config, text, misread, told)),
+    };
     match RuleSet::build(alloc, symbols, Vec::new(alloc)) {
         Ok(rules) => Ok(draw(alloc, &rules, &config)?),
         Err(_) => Err(StreamFault::Memory),

@@ -1,4 +1,5 @@
-//! What the program does for whoever looks at nets, on standard input and output: `reduce`, `trace` and `draw`.
+//! What the program does for whoever looks at nets, on standard input and output: `reduce`, `trace` and `draw`. Where the
+//! text is refused, the lines that tell its place are appended to `told`.
 
 use ic_endings::{Failure, stuck_line};
 use ic_looks::{Format, Reduction, Workers, reduce_stream, trace_stream};
@@ -15,6 +16,7 @@ pub(crate) fn reduce<T: Threads + Wait>(
     threads: &T,
     rounds: u64,
     workers: u32,
+    told: &mut Vec<u8>,
 ) -> Result<(), Failure> {
     let mut input = rt.reader();
     let mut output = io::writer(rt);
@@ -22,7 +24,7 @@ pub(crate) fn reduce<T: Threads + Wait>(
         rt: threads,
         count: workers as usize,
     };
-    let reduction = reduce_stream(rt.alloc(), &maker, rounds, &mut input, &mut output).map_err(
+    let reduction = reduce_stream(rt.alloc(), &maker, rounds, &mut input, &mut output, told).map_err(
         Failure::Stream,
     )?;
     match reduction {
@@ -44,19 +46,24 @@ fn tell_stuck(rt: &HostRuntime, pair: &[u8]) {
 }
 
 /// Prints what each of at most so many rounds does.
-pub(crate) fn trace(rt: &HostRuntime, rounds: u64, format: TraceFormat) -> Result<(), Failure> {
+pub(crate) fn trace(
+    rt: &HostRuntime,
+    rounds: u64,
+    format: TraceFormat,
+    told: &mut Vec<u8>,
+) -> Result<(), Failure> {
     let mut input = rt.reader();
     let mut output = io::writer(rt);
     let format = match format {
         TraceFormat::Tsv => Format::Table,
         TraceFormat::Svg => Format::Picture,
     };
-    trace_stream(rt.alloc(), rounds, format, &mut input, &mut output).map_err(Failure::Stream)
+    trace_stream(rt.alloc(), rounds, format, &mut input, &mut output, told).map_err(Failure::Stream)
 }
 
 /// Prints the net of the configuration as a graph.
-pub(crate) fn draw(rt: &HostRuntime) -> Result<(), Failure> {
+pub(crate) fn draw(rt: &HostRuntime, told: &mut Vec<u8>) -> Result<(), Failure> {
     let mut input = rt.reader();
     let mut output = io::writer(rt);
-    draw_stream(rt.alloc(), &mut input, &mut output).map_err(Failure::Stream)
+    draw_stream(rt.alloc(), &mut input, &mut output, told).map_err(Failure::Stream)
 }

@@ -108,9 +108,9 @@ fn run<T: Threads + Wait + Sync>(
             let numbers = [runners, turns, workers];
             give(rt, threads, disk, scripts, numbers).map_err(Failure::Attend)
         }
-        Task::Reduce { rounds, workers } => looking::reduce(rt, threads, rounds, workers),
-        Task::Trace { rounds, format } => looking::trace(rt, rounds, format),
-        Task::Draw => looking::draw(rt),
+        Task::Reduce { rounds, workers } => looking::reduce(rt, threads, rounds, workers, told),
+        Task::Trace { rounds, format } => looking::trace(rt, rounds, format, told),
+        Task::Draw => looking::draw(rt, told),
         Task::Dump { disk, names } => dumping::dump(rt, disk.as_str(), &names, notes),
         Task::Inspect { disk } => inspecting::inspect(rt, disk.as_str(), notes),
         Task::Help(text) | Task::Version(text) => {
