@@ -10,6 +10,8 @@
 //! - `settle CONFIGURATION`: the settled text. `both_bodies CONFIGURATION`: the same, on terms alone, by bindings and by single
 //!   steps. `bind CONFIGURATION`: what is bound.
 //! - `drawn`, `drawn_rounds`: whether all bodies agree on 2,000 configurations or systems that look drawn by chance.
+//! - `net A + B`, `orders COUNT SYSTEM`, `drawn_orders SYSTEMS ORDERS`, `order_ends SYSTEM`, `limits SYSTEM`, `spoiled SYSTEMS
+//!   WAY`: nets, and orders of steps (`nets`).
 //! - `gathered RESULTS`: what gathering refuses. `deep`: whether a term of the greatest depth fits a thread's stack.
 //! - `words CONFIGURATION`: its words in flat form, and behind `;` how many terms its interface has, how many equations and
 //!   nodes there are, and `next`. A name is its number, and an agent its symbol's number, `/` and how many arguments it has.
@@ -27,6 +29,7 @@ use crate::deep::deep_terms;
 use crate::drawn::bodies_agree;
 use crate::drawn_systems::rounds_agree;
 use crate::gathering::gathered;
+use crate::nets::of_nets;
 use crate::rounds::{Question, settles, told};
 use crate::settling::{bindings, settled_twice};
 use crate::steps::{products, step};
@@ -56,6 +59,9 @@ impl<R: Threads> Answers for Kinds<'_, R> {
             "fires" => fires(alloc, None, row.text),
             "both_bodies" => settled_twice(alloc, row.text),
             "bind" => bindings(alloc, row.text),
+            "net" | "order_ends" | "limits" | "orders" | "drawn_orders" | "spoiled" => {
+                of_nets(alloc, row)
+            }
             "words" | "back" | "same" | "over" | "term_ends" => in_flat_form(alloc, row),
             _ => behind_number(alloc, row),
         }
@@ -77,16 +83,17 @@ fn in_flat_form(alloc: Global, row: &Row<'_>) -> Result<Vec<u8>, Trouble> {
 /// What is answered to a text behind a number.
 fn behind_number(alloc: Global, row: &Row<'_>) -> Result<Vec<u8>, Trouble> {
     let (first, rest) = row.text.split_once(' ').unwrap_or((row.text, ""));
+    let first = number(first)?;
     match row.kind {
-        "rounds" => told(alloc, Question::Each(count(first)?), None, rest),
-        "ends" => told(alloc, Question::End(count(first)?), None, rest),
-        "lasts" => told(alloc, Question::Last(count(first)?), None, rest),
-        "once_from" => told(alloc, Question::One, Some(number(first)?), rest),
-        "tests_from" => tests(alloc, Some(number(first)?), rest),
-        "fires_from" => fires(alloc, Some(number(first)?), rest),
-        "new" => made(alloc, number(first)? as usize, None, rest),
-        "restore" => restored(alloc, number(first)? as usize, rest),
-        _ => by_steps(alloc, row.kind, number(first)? as usize, rest),
+        "rounds" => told(alloc, Question::Each(count(first)), None, rest),
+        "ends" => told(alloc, Question::End(count(first)), None, rest),
+        "lasts" => told(alloc, Question::Last(count(first)), None, rest),
+        "once_from" => told(alloc, Question::One, Some(first), rest),
+        "tests_from" => tests(alloc, Some(first), rest),
+        "fires_from" => fires(alloc, Some(first), rest),
+        "new" => made(alloc, first as usize, None, rest),
+        "restore" => restored(alloc, first as usize, rest),
+        _ => by_steps(alloc, row.kind, first as usize, rest),
     }
 }
 

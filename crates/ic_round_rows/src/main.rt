@@ -1,4 +1,4 @@
-//! The worked rows of steps, settling and rounds, on terms and on words. `answers` says what a row may ask.
+//! The worked rows of steps, settling, rounds and nets, on terms and on words. `answers` says what a row may ask.
 #![tactic(auto)]
 
 mod answers;
@@ -7,6 +7,7 @@ mod deep;
 mod drawn;
 mod drawn_systems;
 mod gathering;
+mod nets;
 mod rounds;
 mod settling;
 mod steps;

@@ -85,7 +85,7 @@ fn name_of(fault: RoundFault) -> &'static [u8] {
 }
 
 /// What is asked of the rounds of a system.
-#[derive(Clone, Copy, Debug)]
+#[derive(Clone, Copy)]
 pub enum Question {
     /// The text after one round, or why there is none.
     One,

@@ -14,11 +14,8 @@ pub fn number(text: &str) -> Result<u64, Trouble> {
 }
 
 /// A number of rounds.
-pub fn count(text: &str) -> Result<u32, Trouble> {
-    match u32::from_str_radix(text, 10) {
-        Ok(count) => Ok(count),
-        Err(_) => Err(Trouble("no number")),
-    }
+pub fn count(number: u64) -> u32 {
+    u32::try_from(number).unwrap_or(u32::MAX)
 }
 
 fn word_of(text: &str) -> Result<Word, Trouble> {
@@ -97,13 +94,20 @@ pub fn made(
     };
     match answer {
         Ok(flat) => described(alloc, &flat),
-        Err(ConfigFault::Limit) => Ok(Vec::from_slice(alloc, b"limit")?),
-        Err(ConfigFault::Name(name)) => {
+        Err(fault) => line_of_fault(alloc, fault),
+    }
+}
+
+/// Why words are no configuration.
+fn line_of_fault(alloc: Global, fault: ConfigFault) -> Result<Vec<u8>, Trouble> {
+    match fault {
+        ConfigFault::Limit => Ok(Vec::from_slice(alloc, b"limit")?),
+        ConfigFault::Name(name) => {
             let mut line = Vec::from_slice(alloc, b"name ")?;
             decimal(&mut line, name)?;
             Ok(line)
         }
-        Err(ConfigFault::Memory) => Err(Trouble("no memory")),
+        ConfigFault::Memory => Err(Trouble("no memory")),
     }
 }
 

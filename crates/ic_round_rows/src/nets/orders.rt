@@ -1,9 +1,9 @@
 //! A system reduced by rounds, and in orders of single steps that are drawn.
 
-use crate::comparison::are_one;
-use crate::counts::Counts;
-use crate::net::Net;
-use crate::steps::{Made, rule_of, step, steps_of};
+use crate::nets::comparison::are_one;
+use crate::nets::counts::Counts;
+use crate::nets::net::Net;
+use crate::nets::steps::{Made, rule_of, step, steps_of};
 use ic_notation::{Draws, Trouble};
 use ic_round::{plan, quiet, round};
 use ic_rules::RuleSet;
@@ -11,7 +11,7 @@ use ic_term::{Config, over};
 use std::alloc::Global;
 
 /// Where an order ends, and the steps that it made.
-#[derive(Debug, Drop)]
+#[derive(Drop)]
 pub struct Outcome {
     pub end: Config,
     pub counts: Counts,

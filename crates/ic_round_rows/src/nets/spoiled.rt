@@ -1,8 +1,8 @@
 //! Ends of drawn systems, each changed so that most are another net: the comparison has to tell them apart.
 
-use crate::drawn::SEED;
-use crate::drawn_text::Writer;
-use crate::orders::{are_one_net, by_rounds};
+use crate::nets::drawn::SEED;
+use crate::nets::drawn_text::Writer;
+use crate::nets::orders::{are_one_net, by_rounds};
 use ic_notation::{Trouble, decimal, system_of};
 use ic_rules::RuleSet;
 use ic_term::{Config, Equation, Term};

@@ -1,28 +1,36 @@
-//! What is answered to a row, by its kind.
+//! Nets: whether two configurations are one net, and that whatever order steps have, they end in one net. The comparison is the
+//! program's own: it draws both nets and shares nothing with the laws.
 
-use crate::comparison::are_one;
-use crate::drawn::drawn;
-use crate::ends::ends;
-use crate::limits::limits;
-use crate::net::Net;
-use crate::orders::{Outcome, agreed};
-use crate::spoiled::spoiled;
-use ic_notation::{Answers, Row, Trouble, decimal, expanded, system_of};
+mod comparison;
+mod counts;
+mod drawn;
+mod drawn_text;
+mod ends;
+mod limits;
+mod net;
+mod orders;
+mod spoiled;
+mod steps;
+
+use crate::nets::comparison::are_one;
+use crate::nets::drawn::drawn;
+use crate::nets::ends::ends;
+use crate::nets::limits::limits;
+use crate::nets::net::Net;
+use crate::nets::orders::{Outcome, agreed};
+use crate::nets::spoiled::spoiled;
+use crate::words::number;
+use ic_notation::{Row, Trouble, decimal, expanded, system_of};
 use ic_rules::System;
 use std::alloc::Global;
 
-/// The kinds of these rows.
-#[derive(Drop)]
-pub struct Kinds;
-
-impl Answers for Kinds {
-    fn answer(&self, alloc: Global, row: &Row<'_>) -> Result<Vec<u8>, Trouble> {
-        match row.kind {
-            "net" => compared(alloc, row.text),
-            "ends" => ends(alloc, &expanded(alloc, row.text)?),
-            "limits" => limits(alloc, &expanded(alloc, row.text)?),
-            _ => counted(alloc, row.kind, row.text),
-        }
+/// What is answered to a row about nets.
+pub fn of_nets(alloc: Global, row: &Row<'_>) -> Result<Vec<u8>, Trouble> {
+    match row.kind {
+        "net" => compared(alloc, row.text),
+        "order_ends" => ends(alloc, &expanded(alloc, row.text)?),
+        "limits" => limits(alloc, &expanded(alloc, row.text)?),
+        _ => counted(alloc, row.kind, row.text),
     }
 }
 
@@ -31,17 +39,9 @@ fn counted(alloc: Global, kind: &str, text: &str) -> Result<Vec<u8>, Trouble> {
     let (first, rest) = text.split_once(' ').unwrap_or((text, ""));
     let count = number(first)?;
     match kind {
-        "orders" => orders(alloc, count, &expanded(alloc, rest)?),
-        "drawn" => drawn(alloc, count, number(rest)?),
-        "spoiled" => spoiled(alloc, count, rest),
-        _ => Err(Trouble("no such kind")),
-    }
-}
-
-fn number(text: &str) -> Result<u64, Trouble> {
-    match u64::from_str_radix(text, 10) {
-        Ok(number) => Ok(number),
-        Err(_) => Err(Trouble("no number")),
+        "orders" => line_of_orders(alloc, count, &expanded(alloc, rest)?),
+        "drawn_orders" => drawn(alloc, count, number(rest)?),
+        _ => spoiled(alloc, count, rest),
     }
 }
 
@@ -72,7 +72,7 @@ fn drawn_net(alloc: Global, text: &str) -> Result<Net, Trouble> {
 
 /// How often each rule fires, how many names are replaced, and `next` at the end, where rounds end and so many drawn
 /// orders end as they do.
-fn orders(alloc: Global, count: u64, text: &[u8]) -> Result<Vec<u8>, Trouble> {
+fn line_of_orders(alloc: Global, count: u64, text: &[u8]) -> Result<Vec<u8>, Trouble> {
     match system_of(alloc, text) {
         Ok(system) => orders_of(alloc, count, &system),
         Err(_) => Ok(Vec::from_slice(alloc, b"refused")?),

@@ -1,6 +1,6 @@
 //! That the limit of nodes doesn't commute with the order of steps.
 
-use crate::steps::{Made, step, steps_of};
+use crate::nets::steps::{Made, step, steps_of};
 use ic_notation::{Trouble, decimal, printed, system_of};
 use ic_round::{RoundFault, quiet, round};
 use ic_rules::RuleSet;

@@ -3,7 +3,7 @@
 //! What is connected with a node is forced by the image of that node. So each part of one net is tried at each node of the
 //! other that is left.
 
-use crate::net::{Label, Net};
+use crate::nets::net::{Label, Net};
 use std::alloc::{AllocError, Global};
 
 /// Whether both nets are one.

@@ -4,7 +4,7 @@ use ic_term::{Cell, Config, Equation, Symbols, Term};
 use std::alloc::{AllocError, Global};
 
 /// What a node is. A joint stands for an equation while the net is drawn, and is taken out at its end.
-#[derive(Clone, Copy, Debug, PartialEq, Eq)]
+#[derive(Clone, Copy, PartialEq, Eq)]
 pub enum Label {
     /// An agent, by the letters of its symbol.
     Agent(u64),
@@ -14,21 +14,21 @@ pub enum Label {
 }
 
 /// A port of a node, both by their places.
-#[derive(Clone, Copy, Debug, PartialEq, Eq)]
+#[derive(Clone, Copy, PartialEq, Eq)]
 pub struct End {
     pub node: usize,
     pub port: usize,
 }
 
 /// A node, and the end that each of its ports is wired to. An agent's first port is its principal one.
-#[derive(Debug, Drop)]
+#[derive(Drop)]
 pub struct Node {
     pub label: Label,
     pub wires: Vec<End>,
 }
 
 /// The nodes of a configuration, and how many wires are closed in themselves, as that of `x=x`.
-#[derive(Debug, Drop)]
+#[derive(Drop)]
 pub struct Net {
     pub nodes: Vec<Node>,
     pub loops: usize,

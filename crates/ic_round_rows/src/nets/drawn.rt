@@ -1,7 +1,7 @@
 //! Systems that look drawn by chance, each reduced in several orders.
 
-use crate::drawn_text::Writer;
-use crate::orders::{Outcome, agreed};
+use crate::nets::drawn_text::Writer;
+use crate::nets::orders::{Outcome, agreed};
 use ic_notation::{Trouble, decimal, system_of};
 use ic_round::settle;
 use ic_term::{Config, Term, names_of_terms};

@@ -12,7 +12,7 @@ use std::mem::swap;
 const STEPS_AT: usize = 5;
 
 /// What comes of a step.
-#[derive(Debug, Drop)]
+#[derive(Drop)]
 pub enum Made {
     After(Config),
     NotThere,

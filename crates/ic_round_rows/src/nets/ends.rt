@@ -1,6 +1,6 @@
 //! All ends that single steps reach.
 
-use crate::steps::{Made, step, steps_of};
+use crate::nets::steps::{Made, step, steps_of};
 use ic_notation::{Trouble, printed, system_of};
 use ic_rules::RuleSet;
 use ic_term::Config;

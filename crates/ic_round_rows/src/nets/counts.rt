@@ -3,7 +3,7 @@
 use std::alloc::{AllocError, Global};
 
 /// How often each rule fired, and how many names were replaced.
-#[derive(Debug, Drop)]
+#[derive(Drop)]
 pub struct Counts {
     pub firings: Vec<u64>,
     pub names: u64,
