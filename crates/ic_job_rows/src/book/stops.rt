@@ -17,6 +17,9 @@ use std::alloc::Global;
 /// Events of a history.
 const EVENTS: u32 = 200;
 
+/// Behind so many events a book is opened anew, so that no stop plays all of them again.
+const PART: usize = 20;
+
 /// More calls than a history makes.
 const CALLS: u64 = 10_000;
 
@@ -30,6 +33,13 @@ struct Way {
     answered: usize,
     made: usize,
     stopped: bool,
+}
+
+/// The events that a life plays: those behind the first so many, up to this number.
+#[derive(Clone, Copy)]
+struct Part {
+    from: usize,
+    until: usize,
 }
 
 /// How far a book came, and the disk that it left.
@@ -77,19 +87,19 @@ fn land(alloc: Global, book: &mut Book<FuseDisk>, flight: &Flight) -> Result<(),
     }
 }
 
-/// Plays the events of a history behind the first so many on a book, until the disk fails.
+/// Plays a part of a history on a book, until the disk fails.
 fn played(
     alloc: Global,
     book: &mut Book<FuseDisk>,
     history: &History,
-    from: usize,
+    part: Part,
 ) -> Result<Way, Trouble> {
     let mut way = Way {
-        answered: from,
-        made: from,
+        answered: part.from,
+        made: part.from,
         stopped: false,
     };
-    for one in history.steps.get(from..).unwrap_or(&[]) {
+    for one in history.steps.get(part.from..part.until).unwrap_or(&[]) {
         way.made = way.made.saturating_add(1);
         match step(alloc, book, one)? {
             Some(true) => way.answered = way.made,
@@ -103,34 +113,34 @@ fn played(
     Ok(way)
 }
 
-/// Plays the events on a book, and closes it.
+/// Plays a part on a book, and closes it.
 fn lived(
     alloc: Global,
     mut book: Book<FuseDisk>,
     history: &History,
-    from: usize,
+    part: Part,
 ) -> Result<Stop, Trouble> {
-    let way = played(alloc, &mut book, history, from)?;
+    let way = played(alloc, &mut book, history, part)?;
     let disk = book.close().into_inner();
     Ok(Stop { disk, way })
 }
 
-/// One life on a disk that holds the table of the first so many events: this call to it and all later ones fail.
+/// One life on a disk that holds the table before a part: this call to it and all later ones fail.
 fn life(
     alloc: Global,
     history: &History,
     disk: MemDisk,
-    from: usize,
+    part: Part,
     call: u64,
 ) -> Result<Stop, Trouble> {
     match Book::open(alloc, FuseDisk::new(disk, call, Blow::Before, Then::Stop)) {
-        Ok(book) => lived(alloc, book, history, from),
+        Ok(book) => lived(alloc, book, history, part),
         Err(fault) => match fault.cause {
             OpenCause::Device => Ok(Stop {
                 disk: fault.disk.into_inner(),
                 way: Way {
-                    answered: from,
-                    made: from,
+                    answered: part.from,
+                    made: part.from,
                     stopped: true,
                 },
             }),
@@ -172,12 +182,13 @@ fn stopped_at(
     alloc: Global,
     history: &History,
     start: &[u8],
+    part: Part,
     call: u64,
     seen: &mut Seen,
 ) -> Result<bool, Trouble> {
     for (place, choice) in CHOICES.iter().enumerate() {
         let disk = MemDisk::from_bytes(start.to_vec(alloc)?);
-        let stop = life(alloc, history, disk, 0, call)?;
+        let stop = life(alloc, history, disk, part, call)?;
         if !stop.way.stopped {
             return Ok(false);
         }
@@ -200,31 +211,72 @@ fn live_on(
     let (disk, left) = reopened(alloc, history, stop, choice)?;
     seen.shorter = seen.shorter || left < way.made;
     seen.unanswered = seen.unanswered || left > way.answered;
-    let stop = life(alloc, history, disk, left, call)?;
+    let rest = Part {
+        from: left,
+        until: history.steps.len(),
+    };
+    let stop = life(alloc, history, disk, rest, call)?;
     let _reopened = reopened(alloc, history, stop, choice)?;
     Ok(())
+}
+
+/// Stops before each call of a part.
+fn stop_part(
+    alloc: Global,
+    history: &History,
+    start: &[u8],
+    part: Part,
+    seen: &mut Seen,
+) -> Result<(), Trouble> {
+    for call in 1..CALLS {
+        if !stopped_at(alloc, history, start, part, call, seen)? {
+            return Ok(());
+        }
+    }
+    Err(Trouble("too many calls"))
+}
+
+/// The disk that a part leaves in which nothing fails, and of how many events it has the table.
+fn behind(
+    alloc: Global,
+    history: &History,
+    start: &[u8],
+    part: Part,
+) -> Result<(Vec<u8>, usize), Trouble> {
+    let disk = MemDisk::from_bytes(start.to_vec(alloc)?);
+    let stop = life(alloc, history, disk, part, u64::MAX)?;
+    let (disk, left) = reopened(alloc, history, stop, Choice::Written)?;
+    Ok((disk.bytes().to_vec(alloc)?, left))
+}
+
+/// Stops before each call of a history, part by part.
+fn stop_everywhere(alloc: Global, history: &History, seen: &mut Seen) -> Result<(), Trouble> {
+    let all = history.steps.len();
+    let mut start = created(alloc)?;
+    let mut from = 0usize;
+    for _ in 0..all {
+        let until = from.saturating_add(PART).min(all);
+        stop_part(alloc, history, &start, Part { from, until }, seen)?;
+        if until == all {
+            return Ok(());
+        }
+        let (next, left) = behind(alloc, history, &start, Part { from, until })?;
+        start = next;
+        from = left;
+    }
+    Err(Trouble("too many parts"))
 }
 
 /// Stops before each call.
 pub fn stops(alloc: Global, seed: u64) -> Result<Vec<u8>, Trouble> {
     let history = drawn_history(alloc, seed, EVENTS)?;
-    let start = created(alloc)?;
-    stopped_everywhere(alloc, &history, &start)
-}
-
-fn stopped_everywhere(alloc: Global, history: &History, start: &[u8]) -> Result<Vec<u8>, Trouble> {
     let mut seen = Seen {
         shorter: false,
         unanswered: false,
     };
-    for call in 1..CALLS {
-        if stopped_at(alloc, history, start, call, &mut seen)? {
-            continue;
-        }
-        if !seen.shorter || !seen.unanswered {
-            return Err(Trouble("no stop in a keep"));
-        }
-        return Ok(Vec::from_slice(alloc, b"prefixes with all answered commands")?);
+    stop_everywhere(alloc, &history, &mut seen)?;
+    if !seen.shorter || !seen.unanswered {
+        return Err(Trouble("no stop in a keep"));
     }
-    Err(Trouble("too many calls"))
+    Ok(Vec::from_slice(alloc, b"prefixes with all answered commands")?)
 }
