@@ -113,10 +113,9 @@ class Pages(Trial):
                     self.serves(disk, session.read_bytes(), answers, "--workers", workers, "--every", every)
 
     def test_each_text_in_examples_has_the_answer_of_its_row(self):
-        """The answers stand in the files of rows that the gate runs, in rows of the files' names: those of `settle` and
-        `once` in ic_rows, those of systems that are reduced in ic_look_rows."""
+        """The answers stand in the file of rows that the gate runs, in rows of the files' names: those of `settle` and
+        `once`, and those of systems that are reduced."""
         rows = (TOP / "crates/ic_rows/stdin").read_text().splitlines()
-        reduced = (TOP / "crates/ic_look_rows/stdin").read_text().splitlines()
         texts = sorted(TOP.glob("examples/*.ic"))
         self.equals("examples/", f"at least 13 texts: {texts}", True, len(texts) >= 13)
         tried = 0
@@ -126,7 +125,7 @@ class Pages(Trial):
             told = f"{text.name}: reduce 1000000 {text.read_text()} => ".replace("\n", "~n")
             with self.subTest(text=text.name):
                 answers = [it[len(asked) + 4 :] for it in rows if it.startswith(f"{asked} => ")]
-                is_reduced = any(it.startswith(told) for it in reduced)
+                is_reduced = any(it.startswith(told) for it in rows)
                 self.equals(text.name, f"whether a row has {asked} or {told}", True, bool(answers) or is_reduced)
                 for answer in answers:
                     self.runs(word, given=text.read_bytes(), out=[answer])

@@ -1,7 +1,8 @@
-//! Readers and writers that give or take little at a time, or fail on the way, for both streams of the program.
+//! Readers and writers that give or take little at a time, or fail on the way, for each stream of the program.
 
+use crate::streams::Stream;
 use ic_notation::{Trouble, decimal};
-use ic_streams::{StreamFault, once_stream, settle_stream};
+use ic_streams::StreamFault;
 use std::alloc::Global;
 use std::io::{self, ErrorKind, Read, Write};
 
@@ -98,30 +99,16 @@ impl Write for UnflushedWriter {
     }
 }
 
-/// What a stream of the program answers, `once` or `settle`.
-fn answer<R: Read, W: Write>(
-    alloc: Global,
-    is_once: bool,
-    reader: &mut R,
-    writer: &mut W,
-) -> Result<(), StreamFault> {
-    if is_once {
-        once_stream(alloc, reader, writer)
-    } else {
-        settle_stream(alloc, reader, writer)
-    }
-}
-
-/// Whether a stream ends as it should, and has written these bytes.
+/// Makes sure that a stream ends so, and has written these bytes.
 fn ends(
     alloc: Global,
-    is_once: bool,
+    stream: Stream,
     mut reader: SlowReader<'_>,
     mut writer: SlowWriter,
-    end: Result<(), StreamFault>,
+    end: Option<StreamFault>,
     bytes: &[u8],
 ) -> Result<(), Trouble> {
-    let found = answer(alloc, is_once, &mut reader, &mut writer);
+    let found = stream.run(alloc, &mut reader, &mut writer).err();
     if found == end && writer.bytes.as_slice() == bytes {
         Ok(())
     } else {
@@ -129,11 +116,11 @@ fn ends(
     }
 }
 
-/// Whether a stream has written just this front of its line where a write fails behind it, whether the writer goes on
-/// or not.
+/// Makes sure that a stream has written just this front of what it is to write where a write fails behind it, whether the
+/// writer goes on or not.
 fn stops_behind(
     alloc: Global,
-    is_once: bool,
+    stream: Stream,
     text: &[u8],
     front: &[u8],
     goes_on: bool,
@@ -142,50 +129,87 @@ fn stops_behind(
     let writer = SlowWriter::new(alloc, front.len(), goes_on);
     ends(
         alloc,
-        is_once,
+        stream,
         reader,
         writer,
-        Err(StreamFault::Write),
+        Some(StreamFault::Write),
         front,
     )
 }
 
-/// Whether a stream has this line for a text, byte by byte; answers `Read` and writes nothing where a read fails, at
-/// whatever place; and `Write` with a front of the line written where a write fails, whether the writer goes on or not.
-pub fn failing(alloc: Global, is_once: bool, text: &[u8], line: &[u8]) -> Result<Vec<u8>, Trouble> {
-    let whole = SlowReader::new(text, None);
-    let writer = SlowWriter::new(alloc, 1_000, true);
-    ends(alloc, is_once, whole, writer, Ok(()), line)?;
+/// Makes sure that `Read` is answered and nothing written where a read fails, at whatever place of a text.
+fn fails_to_read(alloc: Global, stream: Stream, text: &[u8]) -> Result<(), Trouble> {
     for left in 0..=text.len() {
         let reader = SlowReader::new(text, Some(left));
-        let writer = SlowWriter::new(alloc, 1_000, true);
-        ends(alloc, is_once, reader, writer, Err(StreamFault::Read), b"")?;
+        let writer = SlowWriter::new(alloc, usize::MAX, true);
+        ends(alloc, stream, reader, writer, Some(StreamFault::Read), b"")?;
     }
-    for room in 0..line.len() {
-        stops_behind(alloc, is_once, text, &line[..room], true)?;
-        stops_behind(alloc, is_once, text, &line[..room], false)?;
+    Ok(())
+}
+
+/// Makes sure that `Write` is answered with a front of what is to be written where a write fails, at whatever place.
+fn fails_to_write(alloc: Global, stream: Stream, text: &[u8], whole: &[u8]) -> Result<(), Trouble> {
+    for room in 0..whole.len() {
+        stops_behind(alloc, stream, text, &whole[..room], true)?;
+        stops_behind(alloc, stream, text, &whole[..room], false)?;
     }
+    Ok(())
+}
+
+fn as_it_should(alloc: Global) -> Result<Vec<u8>, Trouble> {
     Ok(Vec::from_slice(alloc, b"as it should")?)
 }
 
-/// What is answered where the first flush fails.
-pub fn unflushed(alloc: Global, is_once: bool, text: &[u8]) -> Result<Vec<u8>, Trouble> {
+/// Whether a stream writes this for a text, byte by byte, and fails as it should where a read or a write fails.
+pub fn slowly(
+    alloc: Global,
+    stream: Stream,
+    text: &[u8],
+    whole: &[u8],
+) -> Result<Vec<u8>, Trouble> {
+    let reader = SlowReader::new(text, None);
+    let writer = SlowWriter::new(alloc, usize::MAX, true);
+    ends(alloc, stream, reader, writer, None, whole)?;
+    fails_to_read(alloc, stream, text)?;
+    fails_to_write(alloc, stream, text, whole)?;
+    as_it_should(alloc)
+}
+
+/// Whether a stream fails as it should where a read fails.
+pub fn failing_reader(alloc: Global, stream: Stream, text: &[u8]) -> Result<Vec<u8>, Trouble> {
+    fails_to_read(alloc, stream, text)?;
+    as_it_should(alloc)
+}
+
+/// Whether a stream fails as it should where a write fails.
+pub fn failing_writer(alloc: Global, stream: Stream, text: &[u8]) -> Result<Vec<u8>, Trouble> {
+    let mut reader = text;
+    let mut whole = Vec::new(alloc);
+    if stream.run(alloc, &mut reader, &mut whole).is_err() {
+        return Err(Trouble("nothing to write"));
+    }
+    fails_to_write(alloc, stream, text, &whole)?;
+    as_it_should(alloc)
+}
+
+/// What is written where the first flush fails.
+pub fn unflushed(alloc: Global, stream: Stream, text: &[u8]) -> Result<Vec<u8>, Trouble> {
     let mut reader = text;
     let mut writer = UnflushedWriter {
         bytes: Vec::new(alloc),
         flushes: false,
     };
-    match answer(alloc, is_once, &mut reader, &mut writer) {
+    match stream.run(alloc, &mut reader, &mut writer) {
         Err(StreamFault::Write) => Ok(writer.bytes),
         _ => Err(Trouble("another answer")),
     }
 }
 
 /// How many bytes of a text are read.
-pub fn reads(alloc: Global, is_once: bool, text: &[u8]) -> Result<Vec<u8>, Trouble> {
+pub fn reads(alloc: Global, stream: Stream, text: &[u8]) -> Result<Vec<u8>, Trouble> {
     let mut reader = text;
     let mut output = Vec::new(alloc);
-    if answer(alloc, is_once, &mut reader, &mut output).is_err() && !output.is_empty() {
+    if stream.run(alloc, &mut reader, &mut output).is_err() && !output.is_empty() {
         return Err(Trouble("a refusal wrote something"));
     }
     let mut line = Vec::new(alloc);

@@ -1,7 +1,9 @@
-//! The worked rows of texts, values, words, streams and places: `answers` says what a row may ask.
+//! The worked rows of texts, values, words, streams, places and failures: `answers` says what a row may ask. Of the streams
+//! some settle, some make rounds, and one draws.
 #![tactic(auto)]
 
 mod answers;
+mod endings;
 mod failing;
 mod faults;
 mod places;
@@ -10,11 +12,12 @@ mod systems;
 mod texts;
 mod values;
 mod words;
+mod workers;
 
 use crate::answers::Kinds;
 use ic_notation::check_rows;
 use std::io;
 
 fn main(rt: HostRuntime) -> io::Result<()> {
-    check_rows(&rt, rt.alloc(), &Kinds)
+    check_rows(&rt, rt.alloc(), &Kinds { rt: &rt })
 }

@@ -23,11 +23,11 @@
 //!   `other` bytes wherever a write is pending.
 //! - `times COUNT LINE`: the same line so many times, and the answer that each has.
 //! - `feeds COUNT TEXT`: so many line feeds, and a text behind them.
-//! - `stream_fault NAME`, `serve_fault NAME`, `disk_refused NAME`: the program's exit status and line at such a failure.
+//! - `moves MOVES`, `reached NAME`, `runs SEED COUNT`: servers over several lives (`lives`).
 
 use crate::cuts::{Failing, broken, cut_everywhere};
-use crate::faults::failure_line;
 use crate::lines::{lines_of, on_one_line, or_nothing, parted, repeated};
+use crate::lives::lived;
 use crate::serving::Server;
 use crate::streams::Pace;
 use ic_disk::{Blow, Choice, Then};
@@ -44,9 +44,7 @@ pub fn answer<R: Threads + Wait>(rt: &R, alloc: Global, row: &Row<'_>) -> Result
         "device" => device(rt, alloc, row.text),
         "broken" => broken_by(rt, alloc, row.text),
         "unkept" => unkept(rt, alloc, row.text),
-        "stream_fault" | "serve_fault" | "disk_refused" => {
-            failure_line(alloc, row.kind, row.text)
-        }
+        "moves" | "reached" | "runs" => lived(alloc, row),
         _ => by_server(rt, alloc, row),
     }
 }

@@ -1,11 +1,11 @@
 //! Lines that are served on a disk in memory.
 
 use crate::disks::{land_due, new_book, newest, opened, reopened, worn};
+use crate::faults::fault_line;
 use crate::lines::lines_of;
 use crate::streams::{FailingReader, FailingWriter, Pace};
 use ic_desk::Book;
 use ic_disk::{Choice, Disk, MemDisk};
-use ic_endings::Failure;
 use ic_notation::{Trouble, decimal};
 use ic_serving::serve_lines;
 use std::alloc::Global;
@@ -43,7 +43,7 @@ impl<'a, R: Threads + Wait> Server<'a, R> {
         let every = self.every.max(1);
         match serve_lines(self.rt, self.alloc, book, reader, writer, workers, every) {
             Ok(()) => Ok(Vec::new(self.alloc)),
-            Err(fault) => Ok(Failure::Serve(fault).line(self.alloc)?),
+            Err(fault) => Ok(fault_line(fault).to_vec(self.alloc)?),
         }
     }
 

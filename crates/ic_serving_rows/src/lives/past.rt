@@ -1,7 +1,7 @@
 //! What has come to a server, as a checker remembers it that knows nothing of disks.
 
-use crate::moves::Verb;
-use crate::origins::Origin;
+use crate::lives::moves::Verb;
+use crate::lives::origins::Origin;
 use ic_jobs::{Command, State, Table};
 use ic_notation::{Trouble, decimal};
 use std::alloc::Global;
@@ -69,41 +69,58 @@ impl<'a> Past<'a> {
 
     /// The line that has to answer a command, and the jobs behind it.
     pub fn asked(&self, verb: Verb, origin: usize) -> Result<(Vec<u8>, Vec<Known>), Trouble> {
+        match (verb, self.job_of(origin)) {
+            (Verb::List, _) => self.unchanged(self.listed()?),
+            (Verb::Fetch, Some(job)) => self.unchanged(self.shown(job)?),
+            (Verb::Submit, None) => self.submitted(origin),
+            (Verb::Submit, Some(_)) => self.refused(b"refused taken"),
+            (_, None) => self.refused(b"refused nojob"),
+            (Verb::Cancel, Some(job)) => self.answered(self.without(job)?),
+            (Verb::Pause, Some(job)) => self.paused(job),
+            (Verb::Resume, Some(job)) => self.resumed(job),
+        }
+    }
+
+    /// An answer behind which the jobs are as they were.
+    fn unchanged(&self, line: Vec<u8>) -> Result<(Vec<u8>, Vec<Known>), Trouble> {
+        let jobs = Vec::from_slice(self.alloc, self.jobs())?;
+        Ok((line, jobs))
+    }
+
+    fn refused(&self, line: &[u8]) -> Result<(Vec<u8>, Vec<Known>), Trouble> {
+        self.unchanged(Vec::from_slice(self.alloc, line)?)
+    }
+
+    /// The answer `ok`, behind which these are the jobs.
+    fn answered(&self, jobs: Vec<Known>) -> Result<(Vec<u8>, Vec<Known>), Trouble> {
+        let line = Vec::from_slice(self.alloc, b"ok")?;
+        Ok((line, jobs))
+    }
+
+    fn submitted(&self, origin: usize) -> Result<(Vec<u8>, Vec<Known>), Trouble> {
+        let state = self.origin(origin)?.state(0);
         let mut jobs = Vec::from_slice(self.alloc, self.jobs())?;
-        let own = self.job_of(origin);
-        let line: &[u8] = match (verb, own) {
-            (Verb::List, _) => return Ok((self.listed()?, jobs)),
-            (Verb::Fetch, Some(job)) => return Ok((self.shown(job)?, jobs)),
-            (Verb::Submit, None) => {
-                jobs.push(Known {
-                    origin,
-                    rounds: 0,
-                    state: self.origin(origin)?.state(0),
-                })?;
-                b"accepted"
-            }
-            (Verb::Submit, Some(_)) => b"refused taken",
-            (_, None) => b"refused nojob",
-            (Verb::Cancel, Some(job)) => {
-                jobs = self.without(job)?;
-                b"ok"
-            }
-            (Verb::Pause, Some(job)) if !matches!(job.state, State::Running) => {
-                b"refused notrunning"
-            }
-            (Verb::Resume, Some(job)) if !matches!(job.state, State::Paused) => {
-                b"refused notpaused"
-            }
-            (Verb::Pause, Some(job)) => {
-                jobs = self.with(job.in_state(State::Paused))?;
-                b"ok"
-            }
-            (Verb::Resume, Some(job)) => {
-                jobs = self.with(job.in_state(State::Running))?;
-                b"ok"
-            }
-        };
-        Ok((Vec::from_slice(self.alloc, line)?, jobs))
+        jobs.push(Known {
+            origin,
+            rounds: 0,
+            state,
+        })?;
+        let line = Vec::from_slice(self.alloc, b"accepted")?;
+        Ok((line, jobs))
+    }
+
+    fn paused(&self, job: Known) -> Result<(Vec<u8>, Vec<Known>), Trouble> {
+        match job.state {
+            State::Running => self.answered(self.with(job.in_state(State::Paused))?),
+            _ => self.refused(b"refused notrunning"),
+        }
+    }
+
+    fn resumed(&self, job: Known) -> Result<(Vec<u8>, Vec<Known>), Trouble> {
+        match job.state {
+            State::Paused => self.answered(self.with(job.in_state(State::Running))?),
+            _ => self.refused(b"refused notpaused"),
+        }
     }
 
     /// The job of an origin.

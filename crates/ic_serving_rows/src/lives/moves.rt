@@ -1,6 +1,6 @@
 //! Moves of a server, and their words.
 
-use crate::origins::place_of;
+use crate::lives::origins::place_of;
 use ic_disk::{Blow, Choice};
 
 /// What a client asks.

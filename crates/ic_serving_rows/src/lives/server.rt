@@ -1,10 +1,10 @@
 //! A server on a disk in memory, and what each of its moves has to be by the past.
 
-use crate::moves::{Move, Verb};
-use crate::origins::Origin;
-use crate::past::Past;
+use crate::lives::moves::{Move, Verb};
+use crate::lives::origins::Origin;
+use crate::lives::past::Past;
 use ic_commands::print_reply;
-use ic_desk::{Book, BookFault, OpenCause};
+use ic_desk::{Book, BookFault, OpenCause, OpenFault};
 use ic_disk::{Blow, FuseDisk, MemDisk, Then};
 use ic_jobs::Landed;
 use ic_notation::Trouble;
@@ -141,17 +141,22 @@ impl<'a> Server<'a> {
         let Some(mut book) = self.book.take() else {
             return Err(Trouble("no book is open"));
         };
+        let answer = self.call_on(&mut book, next);
+        self.book = Some(book);
+        answer
+    }
+
+    fn call_on(&mut self, book: &mut Book<FuseDisk>, next: Move) -> Result<Vec<u8>, Trouble> {
         let answer = match next {
-            Move::Ask(verb, origin) => self.ask(&mut book, verb, origin)?,
-            Move::Round(after) => self.take_round(&mut book, after)?,
-            Move::Again => self.put_round(&mut book)?,
+            Move::Ask(verb, origin) => self.ask(book, verb, origin)?,
+            Move::Round(after) => self.take_round(book, after)?,
+            Move::Again => self.put_round(book)?,
             Move::Keep => self.kept(book.keep())?,
             _ => self.kept(book.new_page(self.alloc))?,
         };
         if !self.past.is_now(book.table())? {
             return Err(Trouble("another table than that after all that has come"));
         }
-        self.book = Some(book);
         Ok(answer)
     }
 
@@ -161,24 +166,30 @@ impl<'a> Server<'a> {
             return Err(Trouble("no disk is found"));
         };
         match Book::open(self.alloc, FuseDisk::new(disk, at, blow, Then::Stop)) {
-            Ok(book) => self.find(book),
-            Err(fault) => {
-                if fault.cause != OpenCause::Device || at > OPENING_CALLS {
-                    return Err(Trouble("an opening is refused for another cause"));
-                }
-                self.seen.refused = self.seen.refused.saturating_add(1);
-                self.disk = Some(fault.disk.into_inner());
-                self.said("refused")
+            Ok(book) => {
+                let answer = self.find(&book);
+                self.book = Some(book);
+                answer
             }
+            Err(fault) => self.refuse(fault, at),
         }
     }
 
+    /// An opening of which this call was to fail is refused.
+    fn refuse(&mut self, fault: OpenFault<FuseDisk>, at: u64) -> Result<Vec<u8>, Trouble> {
+        if fault.cause != OpenCause::Device || at > OPENING_CALLS {
+            return Err(Trouble("an opening is refused for another cause"));
+        }
+        self.disk = Some(fault.disk.into_inner());
+        self.seen.refused = self.seen.refused.saturating_add(1);
+        self.said("refused")
+    }
+
     /// Compares what an opening has found: so many entries of so many.
-    fn find(&mut self, book: Book<FuseDisk>) -> Result<Vec<u8>, Trouble> {
+    fn find(&mut self, book: &Book<FuseDisk>) -> Result<Vec<u8>, Trouble> {
         let all = self.past.entries();
         let lasting = self.past.lasting();
         let count = self.past.cut(book.table())?;
-        self.book = Some(book);
         self.seen.openings = self.seen.openings.saturating_add(1);
         if count < all {
             self.seen.cuts = self.seen.cuts.saturating_add(1);
@@ -244,18 +255,24 @@ impl<'a> Server<'a> {
     fn take_round(&mut self, book: &mut Book<FuseDisk>, after: usize) -> Result<Vec<u8>, Trouble> {
         match book.due(after) {
             Ok(Some(flight)) => {
-                let awaited = self
-                    .past
-                    .awaiting(flight.name().as_bytes(), flight.rounds())?;
-                if awaited.is_none() {
-                    return Err(Trouble("a round of no running job is due"));
-                }
+                self.check_due(&flight)?;
                 self.flight = Some(flight);
                 self.put_round(book)
             }
             Ok(None) => self.said("none"),
             Err(fault) => self.failed(fault),
         }
+    }
+
+    /// Makes sure that the round that is due is of a job that runs.
+    fn check_due(&self, flight: &Flight) -> Result<(), Trouble> {
+        let awaited = self
+            .past
+            .awaiting(flight.name().as_bytes(), flight.rounds())?;
+        if awaited.is_none() {
+            return Err(Trouble("a round of no running job is due"));
+        }
+        Ok(())
     }
 
     /// Makes the round that was taken last, and puts it. It has to land just where its job is still as it was.

@@ -1,8 +1,8 @@
 //! Drawn runs of a server over several lives.
 
-use crate::moves::{Move, Verb};
-use crate::origins::{ORIGINS, Origin};
-use crate::server::{Seen, Server};
+use crate::lives::moves::{Move, Verb};
+use crate::lives::origins::{ORIGINS, Origin};
+use crate::lives::server::{Seen, Server};
 use ic_disk::{Blow, Choice};
 use ic_notation::{Draws, Trouble};
 use std::alloc::Global;

@@ -1,6 +1,6 @@
 //! What jobs begin with: for each name one system, and its configuration after each number of rounds.
 
-use crate::moves::Verb;
+use crate::lives::moves::Verb;
 use ic_flat::Flat;
 use ic_jobs::{Command, Job, State};
 use ic_notation::{Trouble, expanded, printed, system_of};
@@ -9,7 +9,7 @@ use ic_rules::{JobName, RuleSet, System};
 use ic_term::{Config, over};
 use std::alloc::Global;
 
-/// More rounds than a run makes.
+/// More configurations of a job than a run comes to.
 const ROUNDS: u32 = 64;
 
 /// The names of jobs and their systems. One goes on for ever, one ends, one grows, one has no round to make, and one has
@@ -48,52 +48,73 @@ pub fn place_of(name: &[u8]) -> Option<usize> {
 /// All origins.
 pub fn origins(alloc: Global) -> Result<Vec<Origin>, Trouble> {
     let mut origins = Vec::new(alloc);
-    for (name, text) in SYSTEMS {
-        let Some(name) = JobName::new(name.as_bytes()) else {
-            return Err(Trouble("no name"));
-        };
-        let system = system_of(alloc, &expanded(alloc, text)?)?;
-        let iterates = iterates(alloc, &system)?;
-        let ends = match iterates.last() {
-            Some(last) => quiet(system.rules(), &last.to_config(alloc)?),
-            None => false,
-        };
-        origins.push(Origin {
-            name,
-            system,
-            iterates,
-            ends,
-        })?;
-    }
+    add_origins(alloc, &mut origins)?;
     Ok(origins)
+}
+
+fn add_origins(alloc: Global, origins: &mut Vec<Origin>) -> Result<(), Trouble> {
+    for (name, text) in SYSTEMS {
+        origins.push(origin_of(alloc, name, text)?)?;
+    }
+    Ok(())
+}
+
+/// The origin of a name and its system.
+fn origin_of(alloc: Global, name: &str, text: &str) -> Result<Origin, Trouble> {
+    let Some(name) = JobName::new(name.as_bytes()) else {
+        return Err(Trouble("no name"));
+    };
+    let system = system_of(alloc, &expanded(alloc, text)?)?;
+    let iterates = iterates(alloc, &system)?;
+    let ends = match iterates.last() {
+        Some(last) => quiet(system.rules(), &last.to_config(alloc)?),
+        None => false,
+    };
+    Ok(Origin {
+        name,
+        system,
+        iterates,
+        ends,
+    })
 }
 
 /// The configuration of a system after each number of rounds, as far as rounds can be made.
 fn iterates(alloc: Global, system: &System) -> Result<Vec<Flat>, Trouble> {
     let mut iterates = Vec::new(alloc);
-    let mut config = system.config().copy(alloc)?;
-    for _ in 0..ROUNDS {
-        let next = next_of(alloc, system.rules(), &config)?;
-        iterates.push(Flat::from_config(alloc, &config)?)?;
-        match next {
-            Some(after) => config = after,
-            None => return Ok(iterates),
-        }
-    }
+    iterates.push(Flat::from_config(alloc, system.config())?)?;
+    add_iterates(alloc, system.rules(), &mut iterates)?;
     Ok(iterates)
 }
 
+/// Adds the configuration after each round, up to 64 in all.
+fn add_iterates(alloc: Global, rules: &RuleSet, iterates: &mut Vec<Flat>) -> Result<(), Trouble> {
+    for _ in 1..ROUNDS {
+        match next_behind(alloc, rules, iterates)? {
+            Some(after) => iterates.push(after)?,
+            None => return Ok(()),
+        }
+    }
+    Ok(())
+}
+
+/// The configuration after one more round than the last of these, where one can be made.
+fn next_behind(alloc: Global, rules: &RuleSet, iterates: &[Flat]) -> Result<Option<Flat>, Trouble> {
+    match iterates.last() {
+        Some(config) => next_of(alloc, rules, config.to_config(alloc)?),
+        None => Ok(None),
+    }
+}
+
 /// The configuration after one more round, where one can be made.
-fn next_of(alloc: Global, rules: &RuleSet, config: &Config) -> Result<Option<Config>, Trouble> {
-    let copy = config.copy(alloc)?;
-    if !over(rules.symbols(), &copy) {
+fn next_of(alloc: Global, rules: &RuleSet, config: Config) -> Result<Option<Flat>, Trouble> {
+    if !over(rules.symbols(), &config) {
         return Err(Trouble("not over the symbols"));
     }
-    if quiet(rules, &copy) || !fits(rules, &copy) {
+    if quiet(rules, &config) || !fits(rules, &config) {
         return Ok(None);
     }
-    match round(alloc, rules, copy) {
-        Ok(after) => Ok(Some(after)),
+    match round(alloc, rules, config) {
+        Ok(after) => Ok(Some(Flat::from_config(alloc, &after)?)),
         Err(_) => Err(Trouble("a round is refused")),
     }
 }
