@@ -36,15 +36,16 @@ impl Stream {
         reader: &mut R,
         writer: &mut W,
     ) -> Result<Option<Reduction>, StreamFault> {
+        let mut places = Vec::new(alloc);
         match self {
             Stream::Settle => alone(settle_stream(alloc, reader, writer)),
             Stream::Once => alone(once_stream(alloc, reader, writer)),
             Stream::Trace(rounds, format) => {
-                alone(trace_stream(alloc, rounds, format, reader, writer))
+                alone(trace_stream(alloc, rounds, format, reader, writer, &mut places))
             }
-            Stream::Draw => alone(draw_stream(alloc, reader, writer)),
+            Stream::Draw => alone(draw_stream(alloc, reader, writer, &mut places)),
             Stream::Reduce(rounds) => {
-                match reduce_stream(alloc, &OneThread, rounds, reader, writer) {
+                match reduce_stream(alloc, &OneThread, rounds, reader, writer, &mut places) {
                     Ok(reduction) => Ok(Some(reduction)),
                     Err(fault) => Err(fault),
                 }

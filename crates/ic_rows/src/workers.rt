@@ -42,7 +42,8 @@ fn reduced<M: Maker>(
     output: &mut Vec<u8>,
 ) -> Result<Vec<u8>, Trouble> {
     let mut reader = text;
-    match reduce_stream(alloc, maker, rounds, &mut reader, output) {
+    let mut places = Vec::new(alloc);
+    match reduce_stream(alloc, maker, rounds, &mut reader, output, &mut places) {
         Ok(reduction) => ending_of(alloc, &reduction),
         Err(fault) => refusal(alloc, fault),
     }
