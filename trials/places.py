@@ -5,6 +5,7 @@ that doesn't stand twice in a rule is told where it stands only there, or for th
 stands for the third time; a second rule of two symbols and a lopsided rule at their first word."""
 
 import re
+from collections import Counter
 
 MOST_BYTES = 262_144
 MOST_SYMBOL_BYTES, MOST_ARGUMENTS, MOST_NAME, MOST_SYMBOLS = 32, 15, 2**32 - 1, 64
@@ -114,10 +115,12 @@ def limit_at(word, symbols):
 
 def miscounted(words):
     """The place of the first name that stands only there among these words, or for the third time."""
-    names = [text for _, text, form, _ in words if form is NAME]
-    for before, (at, text, form, _) in enumerate(words):
-        if form is NAME and (names.count(text) == 1 or [it[1] for it in words[:before]].count(text) == 2):
+    names = [(at, text) for at, text, form, _ in words if form is NAME]
+    whole, before = Counter(text for _, text in names), Counter()
+    for at, text in names:
+        if whole[text] == 1 or before[text] == 2:
             return at
+        before[text] += 1
 
 
 def renamed(words):
