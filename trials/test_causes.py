@@ -133,7 +133,7 @@ class Causes(Trial):
 
     def test_nothing_is_told_behind_other_lines(self):
         path = self.disk()
-        for words, given in ((["settle"], "<r|r=r>"), (["serve", "--disk", path], "x" * 300_000), (["attend", "--disk", path, "no"], "")):
+        for words, given in ((["settle"], f"<{','.join(['A'] * 65)}|>"), (["serve", "--disk", path], "x" * 300_000), (["attend", "--disk", path, "no"], "")):
             ran = run(*words, given=given)
             self.equals(ran.command, "lines on standard error", (1, b""), (ran.err.count(b"\n"), ran.behind))
         with subprocess.Popen([PROGRAM, "serve"], stderr=subprocess.PIPE) as started:

@@ -284,7 +284,6 @@ class Meanwhile(ModelTrial):
         after it, or says that the file was changed; none is shown that is older than one that was shown before."""
         disk = self.new_disk()
         kept = Kept(disk, 1)
-        counts = {"tables": 0, "amid": 0, "changed": 0}
         with Server(self.path, "--every", 1) as server:
             self.asks_all(server, kept, [f"submit loop {LOOP.text}", f"submit other {LOOP.text}"])
             for look in range(1000):
@@ -294,23 +293,19 @@ class Meanwhile(ModelTrial):
                 server.send(lines)
                 ran = run("inspect", "--disk", self.path)
                 self.equals(server.said(), "answers", wanted, [server.answer() for _ in lines])
-                self.shows(ran, kept.told[first:], counts)
+                self.shows(ran, kept.told[first:])
             self.ends(server)
         self.same_file("serve", disk)
-        self.equals("inspect", f"whether tables were seen in the midst: {counts}", True, counts["amid"] > 0)
 
     def asks_all(self, server, kept, lines):
         for line in lines:
             self.answers(server, line, kept.answer(line.encode()))
 
-    def shows(self, ran, tables, counts):
+    def shows(self, ran, tables):
         """Fails unless a look has shown one of these tables, or has said that the file was changed meanwhile."""
         if ran.status:
             self.ended(ran, err="icserve: changed while read\n", status=3)
-            counts["changed"] += 1
             return
         came = ran.out.decode().splitlines()[2:]
         self.equals(ran.command, "standard error", b"", ran.err)
         self.equals(ran.command, f"whether it is one of {len(tables)} tables that stood: {came}", True, came in tables)
-        counts["tables"] += 1
-        counts["amid"] += came not in (tables[0], tables[-1])
