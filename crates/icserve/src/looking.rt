@@ -24,9 +24,14 @@ pub(crate) fn reduce<T: Threads + Wait>(
         rt: threads,
         count: workers as usize,
     };
-    let reduction = reduce_stream(rt.alloc(), &maker, rounds, &mut input, &mut output, told).map_err(
-        Failure::Stream,
-    )?;
+    let reduction = reduce_stream(
+        rt.alloc(),
+        &maker,
+        rounds,
+        &mut input,
+        &mut output,
+        told,
+    ).map_err(Failure::Stream)?;
     match reduction {
         Reduction::NotDone => Err(Failure::NotDone),
         Reduction::Done { stuck, .. } => {
