@@ -68,9 +68,9 @@ fn refusal(alloc: Global, bytes: Vec<u8>) -> Result<Option<OpenCause>, AllocErro
 fn lengths_at_the_bound(rt: HostRuntime) -> Result<(), Fail> {
     let alloc = rt.alloc();
     let bytes = bytes_after(alloc, &[EMPTY])?;
-    let longest = changed(alloc, &bytes, 9, &[0, 0x3f, 0xff, 0xf3])?;
+    let longest = changed(alloc, &bytes, 9, &[0, 0x2e, 0x56, 0x05])?;
     assert!(rt; refusal(alloc, longest)?.is_none());
-    let longer = changed(alloc, &bytes, 9, &[0, 0x3f, 0xff, 0xf4])?;
+    let longer = changed(alloc, &bytes, 9, &[0, 0x2e, 0x56, 0x06])?;
     assert!(rt; refusal(alloc, longer)? == Some(OpenCause::Damaged));
     Ok(())
 }
