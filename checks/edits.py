@@ -42,7 +42,7 @@ def try_edits(name, used):
             for part in ["src", "specs", "proofs", "out/rlib"] + ["out/incremental"] * (crate == name):
                 if (TOP / "crates" / crate / part).exists():
                     shutil.copytree(TOP / "crates" / crate / part, to / part, copy_function=os.link)
-        shutil.copy(TOP / "crates.txt", room)
+        (Path(room) / "crates.txt").write_text("".join(f"{it}: {' '.join(used[it])}\n" for it in with_all_below(name, used)))
         shutil.copytree(TOP / "checks" / "edits" / name, Path(room) / "crates" / name / "must-fail")
         return subprocess.call([RT, "must-fail", name], cwd=room)
 
