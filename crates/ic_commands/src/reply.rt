@@ -6,8 +6,11 @@ ghost use Rattle.ic_commands.specs.ReplyText.{state_text, refusal_text, job_text
 
 use ic_jobs::{JobList, Refusal, Reply, ShownJob, State};
 use ic_rules::JobName;
-use ic_text::put_flat;
+use ic_text::{put_decimal, put_flat};
 use std::alloc::{AllocError, Global};
+
+/// How many bytes are reserved for a line of jobs: for the list of a full table with names of up to 16 bytes.
+const ROOM: usize = 1_024;
 
 /// The word of a state.
 fn state_word(state: State) -> &'static [u8]
@@ -24,7 +27,6 @@ fn state_word(state: State) -> &'static [u8]
 
 /// Appends a job's name, state and rounds, with a byte between them.
 fn put_job(
-    alloc: Global,
     out: &mut Vec<u8>,
     between: u8,
     name: JobName,
@@ -38,16 +40,15 @@ fn put_job(
     out.push(between)?;
     out.extend_from_slice(state_word(state))?;
     out.push(between)?;
-    out.extend_from_slice(rounds.to_string(alloc)?.as_bytes())?;
-    Ok(())
+    put_decimal(rounds, out)
 }
 
 /// The line of a job that was fetched.
 fn print_shown(alloc: Global, job: &ShownJob) -> Result<Vec<u8>, AllocError>
     ensures { IfOk result (λ text. text.items ≡ shown_text job.now) }
 {
-    let mut out = Vec::new(alloc);
-    put_job(alloc, &mut out, b' ', job.name(), job.state(), job.rounds())?;
+    let mut out = Vec::with_capacity(alloc, ROOM)?;
+    put_job(&mut out, b' ', job.name(), job.state(), job.rounds())?;
     out.push(b' ')?;
     put_flat(alloc, job.rules().symbols(), job.config(), &mut out)?;
     Ok(out)
@@ -57,10 +58,11 @@ fn print_shown(alloc: Global, job: &ShownJob) -> Result<Vec<u8>, AllocError>
 fn print_list(alloc: Global, jobs: &JobList) -> Result<Vec<u8>, AllocError>
     ensures { IfOk result (λ text. text.items ≡ codes "jobs" ++ flat_map listed_text jobs.now) }
 {
-    let mut out = Vec::from_slice(alloc, b"jobs")?;
+    let mut out = Vec::with_capacity(alloc, ROOM)?;
+    out.extend_from_slice(b"jobs")?;
     for (name, state, rounds) in jobs.as_slice() {
         out.push(b' ')?;
-        put_job(alloc, &mut out, b':', *name, *state, *rounds)?;
+        put_job(&mut out, b':', *name, *state, *rounds)?;
     }
     Ok(out)
 }

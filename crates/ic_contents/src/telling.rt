@@ -1,7 +1,6 @@
 //! The lines of what is seen of a file.
 
 ghost use Rattle.std.specs.Prelude.{◌≡◌, ◌++◌, IfOk, OnOk};
-ghost use Rattle.std.specs.Fmt.{decimal};
 ghost use Rattle.std.specs.List.{flat_map};
 ghost use Rattle.ic_term.specs.Configuration.{configuration_nodes};
 ghost use Rattle.ic_commands.specs.ReplyText.{state_text};
@@ -11,6 +10,7 @@ use crate::choosing::{Newest, newest_of};
 use crate::seen::{Body, Seen};
 use ic_flat_round::active_equations;
 use ic_jobs::{Job, State, Table};
+use ic_text::put_decimal;
 use std::alloc::{AllocError, Global};
 
 /// The lines of what is seen of two slots.
@@ -22,25 +22,20 @@ pub(crate) fn report(
     ensures { IfOk result (λ lines. lines.items ≡ report first.now second.now) }
 {
     let mut lines = Vec::new(alloc);
-    put_slot(alloc, b'1', first, &mut lines)?;
-    put_slot(alloc, b'2', second, &mut lines)?;
-    put_held(alloc, first, second, &mut lines)?;
+    put_slot(b'1', first, &mut lines)?;
+    put_slot(b'2', second, &mut lines)?;
+    put_held(first, second, &mut lines)?;
     Ok(lines)
 }
 
 /// Appends the line of a slot.
-fn put_slot(
-    alloc: Global,
-    digit: u8,
-    seen: &Option<Seen>,
-    out: &mut Vec<u8>,
-) -> Result<(), AllocError>
+fn put_slot(digit: u8, seen: &Option<Seen>, out: &mut Vec<u8>) -> Result<(), AllocError>
     ensures { OnOk result (out.new.items ≡ out.old.items ++ slot_line digit seen.now) }
 {
     out.extend_from_slice(b"slot ")?;
     out.push(digit)?;
     match seen {
-        Some(seen) => put_seen(alloc, seen, out)?,
+        Some(seen) => put_seen(seen, out)?,
         None => out.extend_from_slice(b": cut off")?,
     }
     out.push(b'\n')?;
@@ -48,13 +43,13 @@ fn put_slot(
 }
 
 /// Appends what is seen of a slot.
-fn put_seen(alloc: Global, seen: &Seen, out: &mut Vec<u8>) -> Result<(), AllocError>
+fn put_seen(seen: &Seen, out: &mut Vec<u8>) -> Result<(), AllocError>
     ensures { OnOk result (out.new.items ≡ out.old.items ++ seen_text seen.now) }
 {
     out.extend_from_slice(gate_words(seen.opened))?;
-    put_decimal(alloc, seen.number, out)?;
+    put_decimal(seen.number, out)?;
     out.extend_from_slice(b", body ")?;
-    put_decimal(alloc, seen.size as u64, out)?;
+    put_decimal(seen.size as u64, out)?;
     out.extend_from_slice(body_words(&seen.body))?;
     Ok(())
 }
@@ -82,7 +77,6 @@ fn body_words(body: &Body) -> &'static [u8]
 
 /// Appends what is held.
 fn put_held(
-    alloc: Global,
     first: &Option<Seen>,
     second: &Option<Seen>,
     out: &mut Vec<u8>,
@@ -92,82 +86,77 @@ fn put_held(
     match newest_of(first, second) {
         Newest::NoSlot => out.extend_from_slice(b"held: no slot\n"),
         Newest::TwoAlike => out.extend_from_slice(b"held: two alike\n"),
-        Newest::First => put_slot_held(alloc, b'1', first, out),
-        Newest::Second => put_slot_held(alloc, b'2', second, out),
+        Newest::First => put_slot_held(b'1', first, out),
+        Newest::Second => put_slot_held(b'2', second, out),
     }
 }
 
 /// Appends what the newest slot holds.
-fn put_slot_held(
-    alloc: Global,
-    digit: u8,
-    seen: &Option<Seen>,
-    out: &mut Vec<u8>,
-) -> Result<(), AllocError>
+fn put_slot_held(digit: u8, seen: &Option<Seen>, out: &mut Vec<u8>) -> Result<(), AllocError>
     ensures { OnOk result (out.new.items ≡ out.old.items ++ slot_held digit seen.now) }
 {
     match seen {
-        Some(seen) => put_body_held(alloc, digit, &seen.body, out),
+        Some(seen) => put_body_held(digit, &seen.body, out),
         None => out.extend_from_slice(b"held: damaged\n"),
     }
 }
 
 /// Appends what the body of the newest slot holds.
-fn put_body_held(alloc: Global, digit: u8, body: &Body, out: &mut Vec<u8>) -> Result<(), AllocError>
+fn put_body_held(digit: u8, body: &Body, out: &mut Vec<u8>) -> Result<(), AllocError>
     ensures { OnOk result (out.new.items ≡ out.old.items ++ body_held digit body.now) }
 {
     match body {
-        Body::Holds(table) => put_table(alloc, digit, table, out),
+        Body::Holds(table) => put_table(digit, table, out),
         Body::TooLong | Body::CutShort | Body::NoTable => out.extend_from_slice(b"held: damaged\n"),
     }
 }
 
 /// Appends the lines of a table that a slot holds.
-fn put_table(alloc: Global, digit: u8, table: &Table, out: &mut Vec<u8>) -> Result<(), AllocError>
+fn put_table(digit: u8, table: &Table, out: &mut Vec<u8>) -> Result<(), AllocError>
     ensures { OnOk result (out.new.items ≡ out.old.items ++ table_lines digit table.now) }
 {
     out.extend_from_slice(b"held: slot ")?;
     out.push(digit)?;
     out.push(b'\n')?;
-    put_jobs(alloc, table.jobs(), out)
+    put_jobs(table.jobs(), out)
 }
 
 /// Appends the lines of jobs.
-fn put_jobs(alloc: Global, jobs: &[Job], out: &mut Vec<u8>) -> Result<(), AllocError>
+fn put_jobs(jobs: &[Job], out: &mut Vec<u8>) -> Result<(), AllocError>
     ensures { OnOk result (out.new.items ≡ out.old.items ++ flat_map job_line jobs.now) }
 {
     for job in jobs {
-        put_job(alloc, job, out)?;
+        put_job(job, out)?;
     }
     Ok(())
 }
 
 /// Appends the line of a job.
-fn put_job(alloc: Global, job: &Job, out: &mut Vec<u8>) -> Result<(), AllocError>
+fn put_job(job: &Job, out: &mut Vec<u8>) -> Result<(), AllocError>
     ensures { OnOk result (out.new.items ≡ out.old.items ++ job_line job.now) }
 {
-    put_standing(alloc, job, out)?;
-    put_sizes(alloc, job, out)?;
+    put_standing(job, out)?;
+    put_sizes(job, out)?;
     out.push(b'\n')?;
     Ok(())
 }
 
 /// Appends a job's name, state and rounds.
-fn put_standing(alloc: Global, job: &Job, out: &mut Vec<u8>) -> Result<(), AllocError>
+fn put_standing(job: &Job, out: &mut Vec<u8>) -> Result<(), AllocError>
     ensures { OnOk result (out.new.items ≡ out.old.items ++ standing_text job.now) }
 {
     out.extend_from_slice(job.name().as_bytes())?;
     out.extend_from_slice(b": ")?;
     out.extend_from_slice(state_word(job.state()))?;
     out.extend_from_slice(b", rounds ")?;
-    put_decimal(alloc, job.rounds(), out)
+    put_decimal(job.rounds(), out)
 }
 
 /// Appends how many nodes and active pairs a job has.
-fn put_sizes(alloc: Global, job: &Job, out: &mut Vec<u8>) -> Result<(), AllocError>
+fn put_sizes(job: &Job, out: &mut Vec<u8>) -> Result<(), AllocError>
     ensures { OnOk result (out.new.items ≡ out.old.items ++ sizes_text job.now) }
 {
-    put_counts(alloc, nodes_of(job), pairs_of(job), out)
+    put_counts(nodes_of(job), pairs_of(job), out)
 }
 
 /// How many nodes a job's configuration has.
@@ -185,19 +174,19 @@ fn pairs_of(job: &Job) -> u64
 }
 
 /// Appends these numbers of nodes and of active pairs.
-fn put_counts(alloc: Global, nodes: u64, pairs: u64, out: &mut Vec<u8>) -> Result<(), AllocError>
+fn put_counts(nodes: u64, pairs: u64, out: &mut Vec<u8>) -> Result<(), AllocError>
     ensures { OnOk result (out.new.items ≡ out.old.items ++ counts_text nodes pairs) }
 {
-    put_count(alloc, b", nodes ", nodes, out)?;
-    put_count(alloc, b", active pairs ", pairs, out)
+    put_count(b", nodes ", nodes, out)?;
+    put_count(b", active pairs ", pairs, out)
 }
 
 /// Appends words and a number.
-fn put_count(alloc: Global, words: &[u8], count: u64, out: &mut Vec<u8>) -> Result<(), AllocError>
+fn put_count(words: &[u8], count: u64, out: &mut Vec<u8>) -> Result<(), AllocError>
     ensures { OnOk result (out.new.items ≡ out.old.items ++ count_text words.now count) }
 {
     out.extend_from_slice(words)?;
-    put_decimal(alloc, count, out)
+    put_decimal(count, out)
 }
 
 /// The word of a state.
@@ -211,13 +200,4 @@ fn state_word(state: State) -> &'static [u8]
         State::Halted => b"halted",
         State::Spent => b"spent",
     }
-}
-
-/// Appends a number in digits.
-fn put_decimal(alloc: Global, number: u64, out: &mut Vec<u8>) -> Result<(), AllocError>
-    ensures { OnOk result (out.new.items ≡ out.old.items ++ decimal number) }
-{
-    let digits = number.to_string(alloc)?;
-    out.extend_from_slice(digits.as_bytes())?;
-    Ok(())
 }

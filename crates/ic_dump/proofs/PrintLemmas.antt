@@ -20,11 +20,6 @@ use Rattle.ic_text.specs.Text.{text_or_none, source_of, sources_of, text_of}
 use Rattle.ic_text.specs.SystemSource.{RulePhrase, rule_words, rules_words}
 use Rattle.ic_dump.specs.inner.Printing.{behind_semicolons, joined}
 
--- a letter and digits are a name's text
-pub letter_and_digits : (n : ℕ) (old pushed new : List ℕ) → 26 ≤ n → n < 2 ^ 64 → pushed ≡ old ++ (97 + n % 26) ∷ [] → new ≡ pushed ++ decimal (n / 26) → new ≡ old ++ name_text n
-letter_and_digits n old pushed new great fits letter digits =
-    digits ∙ (λ i. letter i ++ decimal-digits_of (n / 26) (omega arith) (omega arith) i) ∙ append_assoc old ((97 + n % 26) ∷ []) (map (λ d. 48 + d) (digits_of 10 (n / 26)))
-
 -- an agent's symbol is known
 pub known_symbol : (ss : List Symbol) (s : ℕ) (ts : Trees) → IsTrue (is_tree_over ss (agent s ts)) → s < length ss
 known_symbol ss s ts over = by_symbol (slice_get ss s) refl (and_parts (has_arity (length (list_of ts)) (slice_get ss s)) _ over).0

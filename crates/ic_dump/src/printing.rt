@@ -1,18 +1,17 @@
 //! Rules as text.
 
 ghost use Rattle.std.specs.Prelude.{◌≡◌, ◌++◌, map, IfOk, OnOk, IsTrue};
-ghost use Rattle.std.specs.Fmt.{decimal};
 ghost use Rattle.std.specs.List.{AllByRecursion};
 ghost use Rattle.ic_term.specs.Symbol.{is_tree_over};
 ghost use Rattle.ic_term.specs.Term.{tree, cell_tree};
 ghost use Rattle.ic_term.specs.Tree.{agent, trees_of};
 ghost use Rattle.ic_rules.specs.RuleSet.{IsRuleOver};
-ghost use Rattle.ic_text.specs.Name.{name_text};
 ghost use Rattle.ic_dump.specs.Writing.{rules_text};
 ghost use Rattle.ic_dump.specs.inner.Printing.{term_text, rule_text, rules_list_text};
 
 use ic_rules::{Rule, RuleSet};
 use ic_term::{Cell, Symbols, Term, copy_terms};
+use ic_text::put_name;
 use std::alloc::{AllocError, Global};
 
 /// Appends the rules, in braces and with `;` between them.
@@ -55,10 +54,10 @@ fn put_rule(
     ensures { OnOk result (out.new.items ≡ out.old.items ++ rule_text symbols.now rule.now) }
 {
     let left = cell_of(alloc, rule.left(), rule.left_args())?;
-    put_cell(alloc, symbols, &left, out)?;
+    put_cell(symbols, &left, out)?;
     out.extend_from_slice(b"><")?;
     let right = cell_of(alloc, rule.right(), rule.right_args())?;
-    put_cell(alloc, symbols, &right, out)
+    put_cell(symbols, &right, out)
 }
 
 /// An agent of this symbol with copies of these arguments.
@@ -71,51 +70,21 @@ fn cell_of(alloc: Global, sym: u32, args: &[Term]) -> Result<Cell, AllocError>
     })
 }
 
-/// Appends a number in digits.
-pub(crate) fn put_decimal(alloc: Global, number: u64, out: &mut Vec<u8>) -> Result<(), AllocError>
-    ensures { OnOk result (out.new.items ≡ out.old.items ++ decimal number) }
-{
-    let digits = number.to_string(alloc)?;
-    out.extend_from_slice(digits.as_bytes())?;
-    Ok(())
-}
-
-/// Appends the text of a name.
-fn put_name(alloc: Global, name: u64, out: &mut Vec<u8>) -> Result<(), AllocError>
-    ensures { OnOk result (out.new.items ≡ out.old.items ++ name_text name) }
-{
-    out.push(b'a' + (name % 26) as u8)?;
-    if name >= 26 {
-        put_decimal(alloc, name / 26, out)?;
-    }
-    Ok(())
-}
-
 /// Appends a term.
 #[cycle(put)]
-fn put_term(
-    alloc: Global,
-    symbols: &Symbols,
-    term: &Term,
-    out: &mut Vec<u8>,
-) -> Result<(), AllocError>
+fn put_term(symbols: &Symbols, term: &Term, out: &mut Vec<u8>) -> Result<(), AllocError>
     requires { IsTrue (is_tree_over symbols.now (tree term.now)) }
     ensures { OnOk result (out.new.items ≡ out.old.items ++ term_text symbols.now (tree term.now)) }
 {
     match term {
-        Term::Name(name) => put_name(alloc, *name, out),
-        Term::Agent(cell) => put_cell(alloc, symbols, cell, out),
+        Term::Name(name) => put_name(*name, out),
+        Term::Agent(cell) => put_cell(symbols, cell, out),
     }
 }
 
 /// Appends an agent.
 #[cycle(put)]
-fn put_cell(
-    alloc: Global,
-    symbols: &Symbols,
-    cell: &Cell,
-    out: &mut Vec<u8>,
-) -> Result<(), AllocError>
+fn put_cell(symbols: &Symbols, cell: &Cell, out: &mut Vec<u8>) -> Result<(), AllocError>
     requires { IsTrue (is_tree_over symbols.now (cell_tree cell.now)) }
     ensures { OnOk result
         (out.new.items ≡ out.old.items ++ term_text symbols.now (cell_tree cell.now)) }
@@ -124,7 +93,7 @@ fn put_cell(
     let mut sign = b'(';
     for term in &cell.args {
         out.push(sign)?;
-        put_term(alloc, symbols, term, out)?;
+        put_term(symbols, term, out)?;
         sign = b',';
     }
     if !cell.args.is_empty() {

@@ -8,11 +8,11 @@ ghost use Rattle.ic_dump.specs.Naming.{told};
 ghost use Rattle.ic_dump.specs.Telling.{job_line};
 
 use crate::naming::{are_of_texts, names_of, renumbered};
-use crate::printing::{put_decimal, put_rules};
+use crate::printing::put_rules;
 use ic_flat::Flat;
 use ic_jobs::{Budget, Job};
 use ic_term::Symbols;
-use ic_text::put_flat;
+use ic_text::{put_decimal, put_flat};
 use std::alloc::{AllocError, Global};
 
 /// The line that submits a job, without its end. Its budget is told as it is, whatever rounds were made of it. Names are
@@ -24,7 +24,7 @@ pub fn job_line(alloc: Global, job: &Job) -> Result<Vec<u8>, AllocError>
     let mut line = Vec::from_slice(alloc, b"submit ")?;
     line.extend_from_slice(job.name().as_bytes())?;
     line.push(b' ')?;
-    put_budget(alloc, job.budget(), &mut line)?;
+    put_budget(job.budget(), &mut line)?;
     put_rules(alloc, job.rules(), &mut line)?;
     line.push(b' ')?;
     put_told(alloc, job.rules().symbols(), job.config(), &mut line)?;
@@ -32,11 +32,11 @@ pub fn job_line(alloc: Global, job: &Job) -> Result<Vec<u8>, AllocError>
 }
 
 /// Appends a budget and a space, where there is one.
-fn put_budget(alloc: Global, budget: Option<Budget>, out: &mut Vec<u8>) -> Result<(), AllocError>
+fn put_budget(budget: Option<Budget>, out: &mut Vec<u8>) -> Result<(), AllocError>
     ensures { OnOk result (out.new.items ≡ out.old.items ++ budget_text budget) }
 {
     if let Some(budget) = budget {
-        put_decimal(alloc, budget.rounds(), out)?;
+        put_decimal(budget.rounds(), out)?;
         out.push(b' ')?;
     }
     Ok(())

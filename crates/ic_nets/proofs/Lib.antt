@@ -1,7 +1,6 @@
 pub mod ListLemmas
 pub mod HangingLemmas
 pub mod WiringLemmas
-pub mod DotLemmas
 pub mod DrawLemmas
 pub mod PortLemmas
 pub mod NameLemmas

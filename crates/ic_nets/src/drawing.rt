@@ -2,8 +2,6 @@
 
 ghost use Rattle.std.specs.Prelude.{◌≡◌, ◌++◌, IfOk, OnOk, slice_get};
 ghost use Rattle.std.specs.List.{flat_map};
-ghost use Rattle.std.specs.Fmt.{decimal};
-ghost use Rattle.ic_text.specs.Name.{name_text};
 ghost use Rattle.ic_text.specs.Text.{text_or_none};
 ghost use Rattle.ic_nets.specs.Dot.{agent_head, agent_line, agent_lines, dot_of, head_text, is_principal, joint_line, joint_lines};
 ghost use Rattle.ic_nets.specs.Dot.{port_cell, port_cells, port_text, ports_text, style_of, wire_line};
@@ -11,6 +9,7 @@ ghost use Rattle.ic_nets.specs.Dot.{port_cell, port_cells, port_text, ports_text
 use crate::net::{Agent, Net, Wire};
 use crate::port::Port;
 use ic_term::Symbols;
+use ic_text::put_name;
 use std::alloc::{AllocError, Global};
 
 /// A net as a graph: a vertex for each agent, with its ports in order, and an edge for each wire.
@@ -204,28 +203,8 @@ fn put_port(alloc: Global, port: Port, out: &mut Vec<u8>) -> Result<(), AllocErr
         Port::Auxiliary(agent, port) => format!(in alloc; "A{agent}:{port}")?,
         Port::Left(joint) => format!(in alloc; "J{joint}")?,
         Port::Right(joint) => format!(in alloc; "J{joint}")?,
-        Port::Free(name) => return put_name(alloc, name, out),
+        Port::Free(name) => return put_name(name, out),
     };
     out.extend_from_slice(text.as_bytes())?;
-    Ok(())
-}
-
-/// Appends the text of a name.
-fn put_name(alloc: Global, name: u64, out: &mut Vec<u8>) -> Result<(), AllocError>
-    ensures { OnOk result (out.new.items ≡ out.old.items ++ name_text name) }
-{
-    out.push(b'a' + (name % 26) as u8)?;
-    if name >= 26 {
-        put_decimal(alloc, name / 26, out)?;
-    }
-    Ok(())
-}
-
-/// Appends a number in digits.
-fn put_decimal(alloc: Global, number: u64, out: &mut Vec<u8>) -> Result<(), AllocError>
-    ensures { OnOk result (out.new.items ≡ out.old.items ++ decimal number) }
-{
-    let digits = number.to_string(alloc)?;
-    out.extend_from_slice(digits.as_bytes())?;
     Ok(())
 }

@@ -26,7 +26,7 @@ use ic_disk::Disk;
 use ic_flat_round::Workspace;
 use ic_jobs::Command;
 use ic_pool::{Gate, OpenGate};
-use ic_text::{TextFault, print_fault};
+use ic_text::{TextFault, print_fault, put_decimal};
 use std::alloc::{AllocError, Global};
 use std::sync::Wait;
 use std::thread::Threads;
@@ -164,7 +164,7 @@ fn answer_run<T: Threads + Wait, D: Disk, G: Gate>(
     let made = run(rt, alloc, book, count, workers, every, gate, workspace)?;
     book.facts();
     let mut line = b"ran ".to_vec(alloc)?;
-    line.extend_from_slice(made.to_string(alloc)?.as_bytes())?;
+    put_decimal(made, &mut line)?;
     Ok(ended(line)?)
 }
 

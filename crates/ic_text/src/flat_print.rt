@@ -15,17 +15,12 @@ use ic_term::Symbols;
 use std::alloc::{AllocError, Global};
 
 /// Appends the text of a name or of a symbol.
-fn put_head(
-    alloc: Global,
-    symbols: &Symbols,
-    word: Word,
-    out: &mut Vec<u8>,
-) -> Result<(), AllocError>
+fn put_head(symbols: &Symbols, word: Word, out: &mut Vec<u8>) -> Result<(), AllocError>
     requires { IsTrue (is_word_over symbols.now word) }
     ensures { OnOk result (out.new.items ≡ out.old.items ++ word_text symbols.now word) }
 {
     match word {
-        Word::Name(name) => put_name(alloc, out, name),
+        Word::Name(name) => put_name(name, out),
         Word::Agent(sym, _) => out.extend_from_slice(symbols.text(sym)),
     }
 }
@@ -64,7 +59,6 @@ fn put_mark(arguments: usize, due: &mut Vec<usize>, out: &mut Vec<u8>) -> Result
 
 /// Appends a word, and what stands behind it up to the next one. Tells whether a further term comes.
 fn put_word(
-    alloc: Global,
     symbols: &Symbols,
     word: Word,
     due: &mut Vec<usize>,
@@ -76,14 +70,13 @@ fn put_word(
         (arguments word + lacking (reverse due.old.items)) out.old.items out.new.items more
         (reverse due.new.items)) }
 {
-    put_head(alloc, symbols, word, out)?;
+    put_head(symbols, word, out)?;
     put_mark(word.arguments(), due, out)
 }
 
 /// Appends the term that begins at a place, and tells the place behind it. The list is empty before and after: it holds how
 /// many arguments each agent that is open lacks.
 fn put_term(
-    alloc: Global,
     symbols: &Symbols,
     words: &[Word],
     place: usize,
@@ -103,7 +96,7 @@ fn put_term(
     let mut end = place;
     let mut more = true;
     while more {
-        more = put_word(alloc, symbols, words[end], due, out)?;
+        more = put_word(symbols, words[end], due, out)?;
         end += 1;
     }
     Ok(end)
@@ -121,7 +114,6 @@ fn put_comma(place: usize, out: &mut Vec<u8>) -> Result<(), AllocError>
 
 /// Appends so many terms from the first one on, and tells the place behind them.
 fn put_interface(
-    alloc: Global,
     symbols: &Symbols,
     words: &[Word],
     count: usize,
@@ -141,14 +133,13 @@ fn put_interface(
     let mut end = 0;
     for i in 0..count {
         put_comma(i, out)?;
-        end = put_term(alloc, symbols, words, end, due, out)?;
+        end = put_term(symbols, words, end, due, out)?;
     }
     Ok(end)
 }
 
 /// Appends the equation whose left side begins at a place, and tells the place behind it.
 fn put_equation(
-    alloc: Global,
     symbols: &Symbols,
     words: &[Word],
     place: usize,
@@ -165,14 +156,13 @@ fn put_equation(
         ≡ drop 2 (forest (drop place words.now))) }
     ensures none_open { OnOk result (due.new.items ≡ []) }
 {
-    let right = put_term(alloc, symbols, words, place, due, out)?;
+    let right = put_term(symbols, words, place, due, out)?;
     out.push(b'=')?;
-    put_term(alloc, symbols, words, right, due, out)
+    put_term(symbols, words, right, due, out)
 }
 
 /// Appends so many equations, all that there are from a place on.
 fn put_equations(
-    alloc: Global,
     symbols: &Symbols,
     words: &[Word],
     place: usize,
@@ -190,7 +180,7 @@ fn put_equations(
     let mut end = place;
     for i in 0..count {
         put_comma(i, out)?;
-        end = put_equation(alloc, symbols, words, end, due, out)?;
+        end = put_equation(symbols, words, end, due, out)?;
     }
     Ok(())
 }
@@ -208,10 +198,10 @@ pub fn put_flat(
     let words = flat.words();
     let mut due = Vec::new(alloc);
     out.push(b'<')?;
-    let place = put_interface(alloc, symbols, words, flat.interface_len(), &mut due, out)?;
+    let place = put_interface(symbols, words, flat.interface_len(), &mut due, out)?;
     out.push(b'|')?;
     let equations = flat.equations_len();
-    put_equations(alloc, symbols, words, place, equations, &mut due, out)?;
+    put_equations(symbols, words, place, equations, &mut due, out)?;
     out.push(b'>')?;
     Ok(())
 }

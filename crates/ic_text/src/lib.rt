@@ -33,7 +33,7 @@ pub use flat_print::{print_flat, put_flat};
 pub use limits::{MAX_NAME, MAX_TEXT};
 pub use misread::{Detail, Limit, Misread};
 pub use name::{is_numeral, number_in};
-pub use print::{print_config, print_fault, put_config};
+pub use print::{print_config, print_fault, put_config, put_decimal, put_name};
 pub use read::{find_config, read_config};
 pub use survey::is_system;
 pub use system::{find_system, read_system};

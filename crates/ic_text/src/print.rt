@@ -11,53 +11,43 @@ ghost use Rattle.ic_text.specs.Text.{printed, fault_text};
 
 use crate::fault::TextFault;
 use ic_term::{Cell, Config, Equation, Symbols, Term};
+use itoa::Buffer;
 use std::alloc::{AllocError, Global};
 
 /// Appends a number in digits.
-fn put_decimal(alloc: Global, out: &mut Vec<u8>, number: u64) -> Result<(), AllocError>
+pub fn put_decimal(number: u64, out: &mut Vec<u8>) -> Result<(), AllocError>
     ensures { OnOk result (out.new.items ≡ out.old.items ++ decimal number) }
 {
-    let digits = number.to_string(alloc)?;
-    out.extend_from_slice(digits.as_bytes())?;
-    Ok(())
+    let mut digits = Buffer::new();
+    out.extend_from_slice(digits.format(number).as_bytes())
 }
 
 /// Appends the text of a name.
-pub(crate) fn put_name(alloc: Global, out: &mut Vec<u8>, name: u64) -> Result<(), AllocError>
+pub fn put_name(name: u64, out: &mut Vec<u8>) -> Result<(), AllocError>
     ensures { OnOk result (out.new.items ≡ out.old.items ++ name_text name) }
 {
     out.push(b'a' + (name % 26) as u8)?;
     if name >= 26 {
-        put_decimal(alloc, out, name / 26)?;
+        put_decimal(name / 26, out)?;
     }
     Ok(())
 }
 
 /// Appends a term.
 #[cycle(put)]
-fn put_term(
-    alloc: Global,
-    symbols: &Symbols,
-    term: &Term,
-    out: &mut Vec<u8>,
-) -> Result<(), AllocError>
+fn put_term(symbols: &Symbols, term: &Term, out: &mut Vec<u8>) -> Result<(), AllocError>
     requires { IsTrue (is_tree_over symbols.now (tree term.now)) }
     ensures { OnOk result (out.new.items ≡ out.old.items ++ term_text symbols.now (tree term.now)) }
 {
     match term {
-        Term::Name(name) => put_name(alloc, out, *name),
-        Term::Agent(cell) => put_cell(alloc, symbols, cell, out),
+        Term::Name(name) => put_name(*name, out),
+        Term::Agent(cell) => put_cell(symbols, cell, out),
     }
 }
 
 /// Appends an agent.
 #[cycle(put)]
-fn put_cell(
-    alloc: Global,
-    symbols: &Symbols,
-    cell: &Cell,
-    out: &mut Vec<u8>,
-) -> Result<(), AllocError>
+fn put_cell(symbols: &Symbols, cell: &Cell, out: &mut Vec<u8>) -> Result<(), AllocError>
     requires { IsTrue (is_tree_over symbols.now (cell_tree cell.now)) }
     ensures { OnOk result
         (out.new.items ≡ out.old.items ++ term_text symbols.now (cell_tree cell.now)) }
@@ -66,7 +56,7 @@ fn put_cell(
     let mut sign = b'(';
     for term in &cell.args {
         out.push(sign)?;
-        put_term(alloc, symbols, term, out)?;
+        put_term(symbols, term, out)?;
         sign = b',';
     }
     if !cell.args.is_empty() {
@@ -76,12 +66,7 @@ fn put_cell(
 }
 
 /// Appends the terms of an interface.
-fn put_interface(
-    alloc: Global,
-    symbols: &Symbols,
-    terms: &[Term],
-    out: &mut Vec<u8>,
-) -> Result<(), AllocError>
+fn put_interface(symbols: &Symbols, terms: &[Term], out: &mut Vec<u8>) -> Result<(), AllocError>
     requires { IsTrue (list_all (is_tree_over symbols.now) (map tree terms.now)) }
     ensures { OnOk result
         (out.new.items ≡ out.old.items ++ terms_text symbols.now (map tree terms.now)) }
@@ -90,30 +75,24 @@ fn put_interface(
         if place > 0 {
             out.push(b',')?;
         }
-        put_term(alloc, symbols, term, out)?;
+        put_term(symbols, term, out)?;
     }
     Ok(())
 }
 
 /// Appends an equation.
-fn put_equation(
-    alloc: Global,
-    symbols: &Symbols,
-    equation: &Equation,
-    out: &mut Vec<u8>,
-) -> Result<(), AllocError>
+fn put_equation(symbols: &Symbols, equation: &Equation, out: &mut Vec<u8>) -> Result<(), AllocError>
     requires { IsTrue (is_pair_over symbols.now (pair equation.now)) }
     ensures { OnOk result
         (out.new.items ≡ out.old.items ++ equation_text symbols.now (pair equation.now)) }
 {
-    put_term(alloc, symbols, &equation.left, out)?;
+    put_term(symbols, &equation.left, out)?;
     out.push(b'=')?;
-    put_term(alloc, symbols, &equation.right, out)
+    put_term(symbols, &equation.right, out)
 }
 
 /// Appends equations.
 fn put_equations(
-    alloc: Global,
     symbols: &Symbols,
     equations: &[Equation],
     out: &mut Vec<u8>,
@@ -126,26 +105,21 @@ fn put_equations(
         if place > 0 {
             out.push(b',')?;
         }
-        put_equation(alloc, symbols, equation, out)?;
+        put_equation(symbols, equation, out)?;
     }
     Ok(())
 }
 
 /// Appends the text of a configuration, as `print_config` writes it. Recurses on nesting, which the number of its nodes
 /// bounds. Where a growth is refused a part of it may stand there.
-pub fn put_config(
-    alloc: Global,
-    symbols: &Symbols,
-    config: &Config,
-    out: &mut Vec<u8>,
-) -> Result<(), AllocError>
+pub fn put_config(symbols: &Symbols, config: &Config, out: &mut Vec<u8>) -> Result<(), AllocError>
     requires { IsTrue (is_over symbols.now config.now) }
     ensures { OnOk result (out.new.items ≡ out.old.items ++ printed symbols.now config.now) }
 {
     out.push(b'<')?;
-    put_interface(alloc, symbols, config.interface(), out)?;
+    put_interface(symbols, config.interface(), out)?;
     out.push(b'|')?;
-    put_equations(alloc, symbols, config.equations(), out)?;
+    put_equations(symbols, config.equations(), out)?;
     out.push(b'>')?;
     Ok(())
 }
@@ -161,7 +135,7 @@ pub fn print_config(
     ensures { IfOk result (λ text. text.items ≡ printed symbols.now config.now) }
 {
     let mut out = Vec::new(alloc);
-    put_config(alloc, symbols, config, &mut out)?;
+    put_config(symbols, config, &mut out)?;
     Ok(out)
 }
 
@@ -176,7 +150,7 @@ pub fn print_fault(alloc: Global, fault: &TextFault) -> Result<Vec<u8>, AllocErr
         TextFault::NameCount(rule) => place_line(alloc, b"bad namecount ", rule),
         TextFault::Name(name) => {
             let mut out = Vec::from_slice(alloc, b"bad name ")?;
-            put_name(alloc, &mut out, name)?;
+            put_name(name, &mut out)?;
             Ok(out)
         }
         TextFault::Twice(rule) => place_line(alloc, b"bad twice ", rule),
@@ -190,6 +164,6 @@ fn place_line(alloc: Global, text: &[u8], rule: u32) -> Result<Vec<u8>, AllocErr
     ensures { IfOk result (λ line. line.items ≡ text.now ++ decimal (rule + 1)) }
 {
     let mut line = Vec::from_slice(alloc, text)?;
-    put_decimal(alloc, &mut line, u64::from(rule) + 1)?;
+    put_decimal(u64::from(rule) + 1, &mut line)?;
     Ok(line)
 }
