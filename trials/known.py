@@ -43,8 +43,8 @@ TWO = Ends(f"{ADD} <r|Add(r,S(Z))=S(Z)>", ("<r|Add(r,S(Z))=S(Z)>", "<S(s)|Z=Add(
 STILL = Ends("{} <|x=x>", ("<|x=x>",))
 
 # As many equations as the smallest round has that is made by threads.
-WIDE_ROUNDS = tuple("<|" + ",".join([it] * 1000) + ">" for it in ("A(P)=B(P)", "P=P"))
-WIDE = Ends("{A(x)><B(x)} " + WIDE_ROUNDS[0], WIDE_ROUNDS)
+WIDE_ROUNDS = tuple("<|" + ",".join([it] * 1000) + ">" for it in ("A=B,A=B,A=B,Q=R", "Q=R"))
+WIDE = Ends("{A><B} " + WIDE_ROUNDS[0], WIDE_ROUNDS)
 
 
 class Job(NamedTuple):

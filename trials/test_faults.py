@@ -210,22 +210,23 @@ class Faults(Stops):
                 self.are(1, self.in_turn(what, [how], attempt))
 
     def test_each_start_of_a_thread_is_refused_in_turn(self):
-        """Rounds of 1,000 equations are made by threads: a thread that can't be started is `pool`, and nothing is lost."""
+        """Rounds of 4,000 equations are made by threads: a thread that can't be started is `pool`, and nothing is lost."""
         calls = self.served(ROUND, ("once", "on"), "thread", (4, "pool"), words=("--workers", "4"))
-        self.equals("a round of 1,000 equations by 4 workers", "threads", 4, calls)
+        self.equals("a round of 4,000 equations by 4 workers", "threads", 4, calls)
         self.have_come((4, "pool"))
 
-    def test_rounds_of_1000_equations_and_more_are_made_by_as_many_threads_as_said(self):
+    def test_rounds_of_4000_equations_and_more_are_made_by_as_many_threads_as_said(self):
         """Smaller ones are made by the thread that serves. The shim counts the threads that are started."""
         disk = self.room / "jobs.disk"
-        for count in (1, 999, 1000, 1300):
+        for count in (1, 1000, 3999, 4000, 4096):
             for workers in (1, 2, 7, 64):
                 put(disk, slot(1, EMPTY))
-                lines = ["submit a {A(x)><B(x)} <|" + ",".join(["A(P)=B(P)"] * count) + ">", "run 1"]
+                lines = ["submit a {A><B} <|" + ",".join(["A=B"] * count) + ">", "run 1"]
                 counts = shimmed(f"thread {10**9} once", self.log)
                 ran = self.serves(disk, lines, ["accepted", "ran 1"], "--workers", workers, env=counts)
                 threads = next(it.at for it in noted(self.log) if it.kind == "C")
-                self.equals(ran.command, f"threads for {count} equations", workers if count >= 1000 else 0, threads)
+                made = workers if workers > 1 and count >= 4000 else 0
+                self.equals(ran.command, f"threads for {count} equations", made, threads)
 
     def test_drawn_growths_of_a_round_by_threads_are_refused(self):
         draw, disk = self.draws(), self.room / "jobs.disk"

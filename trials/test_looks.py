@@ -99,7 +99,7 @@ class Rows(Trial):
         self.equals(alone.command, "how it ends, and how many equations there are", (5, b"icserve: not done\n", 1200), told)
         for workers in (2, 3, 64):
             self.runs("reduce", "--workers", workers, "--rounds", 5, given=swaps, out=alone.out, err=alone.err, status=5)
-            self.runs("reduce", "--workers", workers, given=WIDE.text, out=[WIDE.config(1)], err=["icserve: stuck P><P"])
+            self.runs("reduce", "--workers", workers, given=WIDE.text, out=[WIDE.config(1)], err=["icserve: stuck Q><R"])
         for wrong in (0, 65, -1):
             ran = run("reduce", "--workers", wrong, given=TWO)
             self.equals(ran.command, "how it ends", (2, b"", b"error:"), (ran.status, ran.out, ran.err[:6]))

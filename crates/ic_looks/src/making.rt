@@ -13,8 +13,9 @@ use std::alloc::Global;
 use std::sync::Wait;
 use std::thread::Threads;
 
-/// A round of fewer equations is made by the calling thread alone: to start others takes longer.
-const FEW: usize = 1_000;
+/// A round of fewer equations is made by the calling thread alone, on words. Measured up to the most
+/// equations that a configuration holds: several threads, which make terms of them, take longer.
+const FEW: usize = 4_000;
 
 /// What makes rounds. Whoever makes them, they are the same rounds, with the same refusals.
 pub trait Maker {
@@ -49,7 +50,7 @@ impl Maker for OneThread {
     }
 }
 
-/// Threads of a runtime, at most so many for a round of 1,000 equations or more. Where they make none, as where
+/// Threads of a runtime, at most so many for a round of 4,000 equations or more. Where they make none, as where
 /// a thread can't be started, the calling thread does.
 #[derive(Drop)]
 pub struct Workers<'a, R: Threads + Wait> {

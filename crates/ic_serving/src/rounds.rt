@@ -134,7 +134,8 @@ fn land_or_halt<T: Threads + Wait, D: Disk, G: Gate>(
     Ok(())
 }
 
-/// The round of a flight. One of few equations is made in this thread, in lists that are kept.
+/// The round of a flight. One thread makes it on words, in lists that are kept; several make one of
+/// many equations on terms.
 fn play_flight<T: Threads + Wait, G: Gate>(
     rt: &T,
     alloc: Global,
@@ -147,7 +148,7 @@ fn play_flight<T: Threads + Wait, G: Gate>(
     ensures answer { ByWorkers result (played_by workers flight.now) }
     ensures round { IfOk result (λ played. played ≡ round_of flight.now) }
 {
-    if flight.config().equations_len() < FEW {
+    if workers == 1 || flight.config().equations_len() < FEW {
         ic_pool::laws::workers_answer_so();
         ic_pool::laws::refusals_come_in_order();
         return play_in(alloc, flight, workspace);

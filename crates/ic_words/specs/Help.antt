@@ -69,7 +69,7 @@ serve_help = text_of (codes "Serves the lines of standard input over the disk in
     ∷ []
     ∷ codes "Options:"
     ∷ codes "      --disk <F>     The path of the file, which has to be a disk"
-    ∷ (codes "      --workers <N>  Threads for a round of 1000 equations or more,"
+    ∷ (codes "      --workers <N>  Threads for a round of 4000 equations or more,"
     ++ codes " from 1 to 64 [default: 2]")
     ∷ (codes "      --every <K>    After how many rounds of a run they are kept,"
     ++ codes " from 1 to 1000000 [default: 100]")
@@ -104,7 +104,7 @@ reduce_help = text_of ((codes "Makes rounds of the system on standard input unti
     ∷ codes "Options:"
     ∷ (codes "      --rounds <N>   How many rounds are made at most, from 0 to"
     ++ codes " 4611686018427387904 [default: 1000000]")
-    ∷ (codes "      --workers <N>  Threads for a round of 1000 equations or more,"
+    ∷ (codes "      --workers <N>  Threads for a round of 4000 equations or more,"
     ++ codes " from 1 to 64 [default: 2]")
     ∷ codes "  -h, --help         Print help"
     ∷ []

@@ -68,7 +68,7 @@ Usage: icserve serve [OPTIONS] --disk <F>
 
 Options:
       --disk <F>     The path of the file, which has to be a disk
-      --workers <N>  Threads for a round of 1000 equations or more, from 1 to 64 [default: 2]
+      --workers <N>  Threads for a round of 4000 equations or more, from 1 to 64 [default: 2]
       --every <K>    After how many rounds of a run they are kept, from 1 to 1000000 [default: 100]
   -h, --help         Print help
 ";
@@ -98,7 +98,7 @@ Usage: icserve reduce [OPTIONS]
 
 Options:
       --rounds <N>   How many rounds are made at most, from 0 to 4611686018427387904 [default: 1000000]
-      --workers <N>  Threads for a round of 1000 equations or more, from 1 to 64 [default: 2]
+      --workers <N>  Threads for a round of 4000 equations or more, from 1 to 64 [default: 2]
   -h, --help         Print help
 
 The exit status is 5 where a step is still possible behind the last round.

@@ -52,7 +52,7 @@ pub enum Task {
     Serve {
         /// The path of the disk's file.
         disk: String,
-        /// How many threads make a round of 1,000 equations or more, from 1 to 64.
+        /// How many threads make a round of 4,000 equations or more, from 1 to 64.
         workers: u32,
         /// After how many rounds they are kept, from 1 to 1,000,000.
         every: u32,
@@ -74,7 +74,7 @@ pub enum Task {
     Reduce {
         /// How many rounds are made at most, from 0 to 2^62.
         rounds: u64,
-        /// How many threads make a round of 1,000 equations or more, from 1 to 64.
+        /// How many threads make a round of 4,000 equations or more, from 1 to 64.
         workers: u32,
     },
     /// Tell what each of these rounds does.
