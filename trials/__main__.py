@@ -74,6 +74,7 @@ def main(words):
         return 1
     prepare()
     counts = {"ok": 0, "FAILED": 0, "skipped": 0}
+    failed = []
     watch = threading.Timer(AT_MOST, give_up, [counts])
     watch.daemon = True
     watch.start()
@@ -82,7 +83,13 @@ def main(words):
         for done in as_completed([pool.submit(tried, name) for name in found(words)]):
             name, seconds, how, text = done.result()
             counts[how] += 1
-            print(f"trials: {name}: {how}, {seconds:.1f} s{': ' + text if text else ''}", flush=True)
+            line = f"trials: {name}: {how}, {seconds:.1f} s{': ' + text if text else ''}"
+            print(line, flush=True)
+            if how == "FAILED":
+                failed.append(line)
+    # A log that is cut keeps its end.
+    for line in failed:
+        print(f"once more: {line[-4000:]}")
     if counts["skipped"]:
         print(f"trials: {counts['skipped']} skipped, as said above")
     print(f"{counts['ok']} passed, {counts['FAILED']} failed")
