@@ -1,6 +1,5 @@
 //! What is answered to a row, by its kind.
 
-use crate::endings::failure_line;
 use crate::failing::{failing_reader, failing_writer, reads, slowly, unflushed};
 use crate::faults::text_line;
 use crate::places::{config_place, once_told, settle_told, system_place};
@@ -30,9 +29,6 @@ impl<R: Threads + Wait> Answers for Kinds<'_, R> {
             "joined" | "paired" | "built" => of_parts(alloc, row),
             "restored" => of_restored(alloc, row.text),
             "find" | "symbol" | "text_fault" => behind_number(alloc, row),
-            "stream_fault" | "serve_fault" | "disk_refused" => {
-                failure_line(alloc, row.kind, row.text)
-            }
             "config"
             | "system"
             | "symbols"
