@@ -7,7 +7,7 @@ use crate::shown::{shown_before, shown_behind};
 use std::alloc::{AllocError, Global};
 
 /// In which line a text ends, from 1.
-fn line_number(front: &[u8]) -> usize
+pub fn line_number(front: &[u8]) -> usize
     ensures { result ≡ line_number front.now }
 {
     let mut feeds = 0;
@@ -20,7 +20,7 @@ fn line_number(front: &[u8]) -> usize
 }
 
 /// The line in which a text ends, as far as it goes.
-fn last_line(front: &[u8]) -> &[u8]
+pub fn last_line(front: &[u8]) -> &[u8]
     ensures { result.now ≡ last_line front.now }
 {
     let mut start = front.len();
@@ -43,7 +43,7 @@ fn first_line(rest: &[u8]) -> &[u8]
 }
 
 /// At which character behind a front of its line a place is, from 1.
-fn column(line: &[u8]) -> usize
+pub fn column(line: &[u8]) -> usize
     ensures { result ≡ column line.now }
 {
     let mut characters = 0;

@@ -31,7 +31,7 @@ fn byte_at(text: &[u8], at: usize) -> Option<u8>
 }
 
 /// The byte at a place before which only blanks stand.
-fn opening(text: &[u8], at: usize) -> Option<u8>
+pub fn opening(text: &[u8], at: usize) -> Option<u8>
     requires { at ≤ length text.now }
     ensures { result ≡ opening text.now at }
 {
@@ -129,7 +129,7 @@ fn arity_sentence(alloc: Global, before: usize, here: usize) -> Result<Vec<u8>, 
 }
 
 /// What is amiss at the place of a refusal.
-fn sentence(
+pub fn sentence(
     alloc: Global,
     kind: Kind,
     misread: Misread,
