@@ -7,3 +7,5 @@ pub mod MemLemmas
 pub mod WordLemmas
 pub mod ServingLemmas
 pub mod ToldLemmas
+pub mod LifeLemmas
+pub mod BeginningLemmas

@@ -1,10 +1,21 @@
-//! What a server has after any run.
+//! What a server has after any run, and what an entry leaves of a job and of its life.
 
-ghost use Rattle.std.specs.Prelude.{◌≡◌, ◌⊎◌, ◌≤◌, [], ◌∷◌, ◌++◌, ℕ, List, length, take};
+ghost use Rattle.std.specs.Prelude.{◌≡◌, ◌⊎◌, ◌≤◌, [], ◌∷◌, ◌++◌, ℕ, List, Option, None, Some, length, take, false};
+ghost use Rattle.std.specs.Str.{bytes_eq};
+ghost use Rattle.ic_rules.specs.System.{SystemParts};
 ghost use Rattle.ic_jobs.specs.declared.command.Command.{Command};
+ghost use Rattle.ic_jobs.specs.declared.command.Command.TheVariants.{Submit, CopyJob, Pause, Resume};
 ghost use Rattle.ic_jobs.specs.declared.event.Entry.{Entry};
+ghost use Rattle.ic_jobs.specs.declared.event.Event.TheVariants.{Command as by_command};
 ghost use Rattle.ic_jobs.specs.declared.reply.Reply.{Reply};
-ghost use Rattle.ic_jobs.specs.History.{replay};
+ghost use Rattle.ic_jobs.specs.declared.reply.Reply.TheVariants.{Accepted, Shown, Refused, Halted};
+ghost use Rattle.ic_jobs.specs.declared.reply.Refusal.{Refusal};
+ghost use Rattle.ic_jobs.specs.Job.{JobParts, begun, system_of};
+ghost use Rattle.ic_jobs.specs.Table.{job_named};
+ghost use Rattle.ic_jobs.specs.Shown.{ShownParts};
+ghost use Rattle.ic_jobs.specs.Events.{after_command};
+ghost use Rattle.ic_jobs.specs.History.{table_after, replay, IsLegal};
+ghost use Rattle.ic_jobs.specs.Life.{life};
 ghost use Rattle.ic_frames.specs.declared.faults.OpenCause.{OpenCause};
 ghost use Rattle.ic_frames.specs.declared.faults.OpenCause.TheVariants.{Device, Memory};
 ghost use Rattle.ic_slots.specs.Held.{HoldsTable};
@@ -109,4 +120,56 @@ pub fn an_answer_stays()
         (now : Past) → IsPast (later ++ answers who command reply ∷ earlier) now
         → (then : Past) × IsPast (answers who command reply ∷ earlier) then
         × (take (length then.entries) now.entries ≡ then.entries) }
+{}
+
+/// The life of a name goes on as it was at each entry that neither begins, moves nor ends its job: a
+/// copy of the job to another name, a pause, a resume, a refusal, a job that is shown, and a halt.
+///
+/// With the clauses of `ic_jobs::laws::lives_go_so` this settles the life of a name at every entry of
+/// a legal history.
+pub fn a_life_stays()
+    ensures copied_from { (name new : List ℕ) (h : List Entry) (e : Entry)
+        → e.event ≡ by_command (CopyJob name new) → bytes_eq name new ≡ false
+        → life name (h ++ e ∷ []) ≡ life name h }
+    ensures paused { (name : List ℕ) (h : List Entry) (e : Entry)
+        → e.event ≡ by_command (Pause name) → life name (h ++ e ∷ []) ≡ life name h }
+    ensures resumed { (name : List ℕ) (h : List Entry) (e : Entry)
+        → e.event ≡ by_command (Resume name) → life name (h ++ e ∷ []) ≡ life name h }
+    ensures refused { (name : List ℕ) (h : List Entry) (e : Entry) (r : Refusal)
+        → e.reply ≡ Refused r → life name (h ++ e ∷ []) ≡ life name h }
+    ensures shown { (name : List ℕ) (h : List Entry) (e : Entry) (s : ShownParts)
+        → e.reply ≡ Shown s → life name (h ++ e ∷ []) ≡ life name h }
+    ensures halted { (name : List ℕ) (h : List Entry) (e : Entry)
+        → e.reply ≡ Halted → life name (h ++ e ∷ []) ≡ life name h }
+{}
+
+/// A copy leaves the job that it copies as it is, whatever it is answered.
+pub fn a_copied_job_stays()
+    ensures { (t : List JobParts) (old new : List ℕ)
+        → job_named old (table_after t (by_command (CopyJob old new))) ≡ job_named old t }
+{}
+
+/// An accepted submit begins its job with the system and the budget that were submitted. The new job
+/// goes last, behind all jobs as they were.
+pub fn submits_begin_so()
+    ensures { (t : List JobParts) (name : List ℕ) (s : SystemParts) (budget : Option ℕ)
+        → (after_command t (Submit name s budget)).reply ≡ Accepted
+        → (after_command t (Submit name s budget)).table ≡ t ++ begun name s budget ∷ [] }
+{}
+
+/// A job that was begun is read back as it was begun. Behind an accepted submit the job of its name
+/// has the system and the budget that were submitted. Behind an accepted copy it has what the copied
+/// job had, which was there, and no budget.
+pub fn a_begun_job_is_there()
+    ensures submitted { (start : List JobParts) (front : List Entry) (e : Entry)
+        (name : List ℕ) (s : SystemParts) (budget : Option ℕ)
+        → e.event ≡ by_command (Submit name s budget) → e.reply ≡ Accepted
+        → IsLegal start (front ++ e ∷ [])
+        → job_named name (replay start (front ++ e ∷ [])) ≡ Some (begun name s budget) }
+    ensures copied { (start : List JobParts) (front : List Entry) (e : Entry)
+        (old new : List ℕ) → e.event ≡ by_command (CopyJob old new) → e.reply ≡ Accepted
+        → IsLegal start (front ++ e ∷ [])
+        → (j : JobParts) × (job_named old (replay start front) ≡ Some j)
+        × (job_named new (replay start (front ++ e ∷ []))
+        ≡ Some (begun new (system_of j) None)) }
 {}
