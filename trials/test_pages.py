@@ -4,6 +4,7 @@ import re
 import shlex
 import shutil
 import subprocess
+from pathlib import Path
 
 from program import IN_MEMORY, PATIENCE, PROGRAM, TOP, Trial
 
@@ -96,11 +97,13 @@ class Pages(Trial):
                         wanted = (TOP / "examples/addition.answers").read_text().splitlines()
                     self.typed(page, [command], wanted)
 
-    def test_each_line_of_the_session_on_serving_has_the_answer_behind_it(self):
-        block = next(it for it in blocks_of("docs/serving.md") if it[0].startswith("submit "))
-        lines, answers = zip(*(re.split(r" {2,}", it, maxsplit=1) for it in block))
-        self.equals("docs/serving.md", f"at least six lines: {lines}", True, len(lines) >= 6)
-        self.serves(self.disk(), lines, answers)
+    def test_each_line_of_a_session_on_a_page_has_the_answer_behind_it(self):
+        for page in ("docs/serving.md", "docs/jobs.md"):
+            block = next(it for it in blocks_of(page) if it[0].startswith("submit "))
+            lines, answers = zip(*(re.split(r" {2,}", it, maxsplit=1) for it in block))
+            self.equals(page, f"at least six lines: {lines}", True, len(lines) >= 6)
+            with self.subTest(page=page):
+                self.serves(self.disk(f"{Path(page).stem}.disk"), lines, answers)
 
     def test_each_session_in_examples_has_its_answers_by_any_number_of_workers(self):
         sessions = sorted(TOP.glob("examples/*.session"))
