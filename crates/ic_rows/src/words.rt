@@ -57,6 +57,7 @@ fn asked(alloc: Global, task: &Task, part: &str) -> Result<String, AllocError> {
             with_texts(asked, names)
         }
         Task::Inspect { disk } => format!(in alloc; "inspect {disk}"),
+        Task::Check { files } => with_texts(String::from_str(alloc, "check")?, files),
         Task::Help(text) => of_part(alloc, "help", text, part),
         Task::Version(text) => format!(in alloc; "version {text}"),
     }

@@ -7,7 +7,7 @@ use Rattle.clap.specs.declared.error.ErrorKind.TheVariants.{InvalidValue}
 use Rattle.ic_words.specs.Words.{AnswersWords, GivesTask, Names, command_line, format_word, is_format, mistakes_of, most_rounds}
 use Rattle.ic_words.specs.inner.Asking.{Asks}
 use Rattle.ic_words.specs.declared.words.Task.{Task}
-use Rattle.ic_words.specs.declared.words.Task.TheVariants.{Settle, Once, Create, Serve, Attend, Reduce, Trace, Draw, Dump, Inspect, Help, Version}
+use Rattle.ic_words.specs.declared.words.Task.TheVariants.{Settle, Once, Create, Serve, Attend, Reduce, Trace, Draw, Dump, Inspect, Check, Help, Version}
 use Rattle.ic_words.specs.declared.words.TraceFormat.{TraceFormat}
 use Rattle.ic_words.specs.declared.words.TraceFormat.TheVariants.{Tsv, Svg}
 use Rattle.ic_words.specs.declared.words.WordsFault.{WordsFault}
@@ -117,6 +117,12 @@ asked words none called (Ok (Inspect disk)) asks = record {
   named = (called_as called.0 (codes "inspect") words called.1 asks.0, asks.1);
   settle = λ is. absurd (no_other_alone (codes "inspect") (codes "settle") words asks.0 settle_met refl is);
   once = λ is. absurd (no_other_alone (codes "inspect") (codes "once") words asks.0 once_met refl is);
+}
+asked words none called (Ok (Check files)) asks = record {
+  answers = ap₂ or_else none (no_format (codes "check") _ asks.0 refl);
+  named = (called_as called.0 (codes "check") words called.1 asks.0, asks.1);
+  settle = λ is. absurd (no_other_alone (codes "check") (codes "settle") words asks.0 settle_met refl is);
+  once = λ is. absurd (no_other_alone (codes "check") (codes "once") words asks.0 once_met refl is);
 }
 asked words none called (Ok (Help text)) asks = absurd asks
 asked words none called (Ok (Version text)) asks = absurd asks

@@ -11,8 +11,8 @@ differs a b false is other = refl
 
 -- a word that names no command
 pub other_help : (word : Text) (words : List Text) → word ≢ codes "settle" → word ≢ codes "once" → word ≢ codes "create" → word ≢ codes "serve"
-    → word ≢ codes "attend" → word ≢ codes "reduce" → word ≢ codes "trace" → word ≢ codes "draw" → word ≢ codes "dump" → word ≢ codes "inspect" → help_of (word ∷ words) ≡ program_help
-other_help word words settle once create serve attend reduce trace draw dump inspect =
+    → word ≢ codes "attend" → word ≢ codes "reduce" → word ≢ codes "trace" → word ≢ codes "draw" → word ≢ codes "dump" → word ≢ codes "inspect" → word ≢ codes "check" → help_of (word ∷ words) ≡ program_help
+other_help word words settle once create serve attend reduce trace draw dump inspect check =
     rw (
       differs word (codes "settle") (bytes_eq word (codes "settle")) refl settle,
       differs word (codes "once") (bytes_eq word (codes "once")) refl once,
@@ -24,16 +24,17 @@ other_help word words settle once create serve attend reduce trace draw dump ins
       differs word (codes "draw") (bytes_eq word (codes "draw")) refl draw,
       differs word (codes "dump") (bytes_eq word (codes "dump")) refl dump,
       differs word (codes "inspect") (bytes_eq word (codes "inspect")) refl inspect,
+      differs word (codes "check") (bytes_eq word (codes "check")) refl check,
     ) refl
 
 -- the same of the first of words
 pub other_first : {S : Type 0} (words : List S) (text : S → Text) (word : S) → Some word ≡ slice_get words 0 → text word ≢ codes "settle" → text word ≢ codes "once"
     → text word ≢ codes "create" → text word ≢ codes "serve" → text word ≢ codes "attend"
-    → text word ≢ codes "reduce" → text word ≢ codes "trace" → text word ≢ codes "draw" → text word ≢ codes "dump" → text word ≢ codes "inspect" → help_of (map text words) ≡ program_help
-other_first [] text word is settle once create serve attend reduce trace draw dump inspect = cc
-other_first (x ∷ xs) text word is settle once create serve attend reduce trace draw dump inspect =
+    → text word ≢ codes "reduce" → text word ≢ codes "trace" → text word ≢ codes "draw" → text word ≢ codes "dump" → text word ≢ codes "inspect" → text word ≢ codes "check" → help_of (map text words) ≡ program_help
+other_first [] text word is settle once create serve attend reduce trace draw dump inspect check = cc
+other_first (x ∷ xs) text word is settle once create serve attend reduce trace draw dump inspect check =
     let same : x ≡ word = cc in
-    rw same (other_help (text word) (map text xs) settle once create serve attend reduce trace draw dump inspect)
+    rw same (other_help (text word) (map text xs) settle once create serve attend reduce trace draw dump inspect check)
 
 -- the first of words is a command of its own
 pub own_first : {S : Type 0} (words : List S) (text : S → Text) (word : S) (name help : Text) → Some word ≡ slice_get words 0 → text word ≡ name

@@ -17,6 +17,7 @@ pub mod TakenLines
 pub mod CreateLines
 pub mod DumpLines
 pub mod InspectLines
+pub mod CheckLines
 mod NoCommand
 mod HelpLemmas
 pub mod AttendLines

@@ -19,6 +19,7 @@ program_help = text_of (codes "A job server for the interaction calculus"
     ∷ codes "  draw     Draws the net of a configuration as a graph, with its rules or without"
     ∷ codes "  once     Makes one round, and prints the configuration"
     ∷ codes "  settle   Settles a configuration that has no rules, and prints it"
+    ∷ codes "  check    Prints the faults of texts in files, and warns of what is mostly a mistake"
     ∷ []
     ∷ codes "To run jobs, which outlive a crash:"
     ∷ codes "  create   Makes the file F an empty disk"
@@ -157,6 +158,19 @@ inspect_help = text_of (codes "Tells what the file F holds, which a server may h
     ∷ codes "  -h, --help      Print help"
     ∷ [])
 
+abbrev pub check_help : Text
+check_help = text_of ((codes "Prints the faults of texts with their places,"
+    ++ codes " and warns of what is mostly a mistake")
+    ∷ []
+    ∷ codes "Usage: icserve check <FILE>..."
+    ∷ []
+    ∷ codes "Arguments:"
+    ∷ codes "  <FILE>...  The paths of the texts, one at least"
+    ∷ []
+    ∷ codes "Options:"
+    ∷ codes "  -h, --help  Print help"
+    ∷ [])
+
 -- the help that words ask for: that of the command that the first one names, or the program's
 abbrev pub help_of : List Text → Text
 help_of [] = program_help
@@ -169,7 +183,8 @@ help_of (word ∷ words) = if bytes_eq word (codes "settle") then settle_help
     else if bytes_eq word (codes "trace") then trace_help
     else if bytes_eq word (codes "draw") then draw_help
     else if bytes_eq word (codes "dump") then dump_help
-    else if bytes_eq word (codes "inspect") then inspect_help else program_help
+    else if bytes_eq word (codes "inspect") then inspect_help
+    else if bytes_eq word (codes "check") then check_help else program_help
 
 -- this part stands in a text
 abbrev pub Says : Text → Text → Type 0

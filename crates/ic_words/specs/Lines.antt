@@ -85,6 +85,13 @@ abbrev pub IsInspectLine : Text → List Text → Type 0
 IsInspectLine disk words = (rest : List Text) × (words ≡ codes "inspect" ∷ rest)
     × IsWritten (record { name = codes "disk"; value = disk }) rest
 
+-- `check`, and behind it the paths of files, one at least, none of which begins with a hyphen
+pub record IsCheckLine (words paths : List Text) : Type 0 where
+  pub begins : words ≡ codes "check" ∷ paths
+  pub one : paths ≢ []
+  pub plain : AllByRecursion HasNoHyphen paths
+  pub few : length paths < 2 ^ 64
+
 -- no option has the name of one behind it
 abbrev pub AreOnce : List Given → Type 0
 AreOnce [] = Unit {0}

@@ -15,7 +15,7 @@ use Rattle.clap.specs.declared.error.ErrorKind.{ErrorKind}
 use Rattle.clap.specs.declared.error.ErrorKind.TheVariants.{DisplayHelp, DisplayVersion, InvalidValue}
 use Rattle.ic_words.specs.declared.words.Task.{Task}
 use Rattle.ic_words.specs.declared.words.Task.TheVariants.{Settle, Once, Create, Serve, Attend}
-use Rattle.ic_words.specs.declared.words.Task.TheVariants.{Reduce, Trace, Draw, Dump, Inspect, Help, Version}
+use Rattle.ic_words.specs.declared.words.Task.TheVariants.{Reduce, Trace, Draw, Dump, Inspect, Check, Help, Version}
 use Rattle.ic_words.specs.declared.words.TraceFormat.{TraceFormat}
 use Rattle.ic_words.specs.declared.words.TraceFormat.TheVariants.{Tsv, Svg}
 use Rattle.ic_words.specs.Help.{help_of, program_help}
@@ -145,6 +145,17 @@ dump_command = with_rule (with_rule (new_app (codes "dump")) disk_option) name_a
 abbrev pub inspect_command : App
 inspect_command = with_rule (new_app (codes "inspect")) disk_option
 
+-- the arguments `FILE..`, of which there is one at least
+abbrev pub file_argument : Rule
+file_argument = record (new_rule (codes "file")) {
+  range = Some (record { start_inclusive = 1; end_inclusive = usize_max });
+  value_names = 1;
+  required = true;
+}
+
+abbrev pub check_command : App
+check_command = with_rule (new_app (codes "check")) file_argument
+
 -- the program with its commands `settle` and `once`
 abbrev pub with_streams : App
 with_streams = with_subcommand (with_subcommand program
@@ -160,9 +171,10 @@ abbrev pub with_looks : App
 with_looks = with_subcommand (with_subcommand (with_subcommand with_disks reduce_command.top)
     trace_command.top) (new_app (codes "draw")).top
 
--- the command line of the program, which has `dump` and `inspect`, too
+-- the command line of the program, which has `dump`, `inspect` and `check`, too
 abbrev pub command_line : App
-command_line = with_subcommand (with_subcommand with_looks dump_command.top) inspect_command.top
+command_line = with_subcommand (with_subcommand (with_subcommand with_looks dump_command.top)
+    inspect_command.top) check_command.top
 
 -- the line that tells the version
 abbrev pub version_line : List ℕ
@@ -215,6 +227,7 @@ AnswersWords mistakes (Ok (Trace rounds format)) = mistakes ≡ []
 AnswersWords mistakes (Ok Draw) = mistakes ≡ []
 AnswersWords mistakes (Ok (Dump disk names)) = mistakes ≡ []
 AnswersWords mistakes (Ok (Inspect disk)) = mistakes ≡ []
+AnswersWords mistakes (Ok (Check files)) = mistakes ≡ []
 AnswersWords mistakes (Ok (Help text)) = IsAmong DisplayHelp mistakes
 AnswersWords mistakes (Ok (Version text)) =
     IsAmong DisplayVersion mistakes × (string_bytes text ≡ version_line)
@@ -242,6 +255,7 @@ GivesHelp (Ok (Trace rounds format)) = ⊥
 GivesHelp (Ok Draw) = ⊥
 GivesHelp (Ok (Dump disk names)) = ⊥
 GivesHelp (Ok (Inspect disk)) = ⊥
+GivesHelp (Ok (Check files)) = ⊥
 GivesHelp (Ok (Version text)) = ⊥
 GivesHelp (Err (Words text)) = ⊥
 
@@ -259,6 +273,7 @@ GivesVersion (Ok (Trace rounds format)) = ⊥
 GivesVersion (Ok Draw) = ⊥
 GivesVersion (Ok (Dump disk names)) = ⊥
 GivesVersion (Ok (Inspect disk)) = ⊥
+GivesVersion (Ok (Check files)) = ⊥
 GivesVersion (Ok (Help text)) = ⊥
 GivesVersion (Err (Words text)) = ⊥
 
@@ -325,5 +340,7 @@ Names words (Dump disk names) = BeginsWith (codes "dump") words
     × (map string_bytes names.items ≡ values_met (codes "name") (subcommand_of command_line words))
 Names words (Inspect disk) = BeginsWith (codes "inspect") words
     × (string_bytes disk ≡ value_met (codes "disk") (subcommand_of command_line words))
+Names words (Check files) = BeginsWith (codes "check") words
+    × (map string_bytes files.items ≡ values_met (codes "file") (subcommand_of command_line words))
 Names words (Help text) = string_bytes text ≡ help_of words
 Names words (Version text) = string_bytes text ≡ version_line

@@ -15,6 +15,7 @@ To look at a system, which is read from standard input:
   draw     Draws the net of a configuration as a graph, with its rules or without
   once     Makes one round, and prints the configuration
   settle   Settles a configuration that has no rules, and prints it
+  check    Prints the faults of texts in files, and warns of what is mostly a mistake
 
 To run jobs, which outlive a crash:
   create   Makes the file F an empty disk
@@ -153,6 +154,19 @@ Options:
   -h, --help      Print help
 ";
 
+/// The help of `check`.
+const CHECK: &str = "\
+Prints the faults of texts with their places, and warns of what is mostly a mistake
+
+Usage: icserve check <FILE>...
+
+Arguments:
+  <FILE>...  The paths of the texts, one at least
+
+Options:
+  -h, --help  Print help
+";
+
 /// The help that words ask for: that of the command that the first one names, or the program's.
 pub(crate) fn help_of(words: &[String]) -> &'static str
     ensures { result.now ≡ help_of (map string_bytes words.now) }
@@ -171,6 +185,7 @@ pub(crate) fn help_of(words: &[String]) -> &'static str
         "draw" => DRAW,
         "dump" => DUMP,
         "inspect" => INSPECT,
+        "check" => CHECK,
         _ => PROGRAM,
     }
 }

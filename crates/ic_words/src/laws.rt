@@ -5,14 +5,14 @@ ghost use Rattle.std.specs.List.{AllByRecursion};
 ghost use Rattle.std.specs.Fmt.{decimal};
 ghost use Rattle.clap.specs.Words.{Text};
 ghost use Rattle.clap.specs.declared.error.ErrorKind.{ErrorKind};
-ghost use Rattle.clap.specs.declared.error.ErrorKind.TheVariants.{DisplayHelp, DisplayVersion, InvalidValue};
-ghost use Rattle.ic_words.specs.declared.words.Task.TheVariants.{Settle, Once, Create, Serve, Attend, Reduce, Trace, Draw, Dump, Inspect, Help, Version};
+ghost use Rattle.clap.specs.declared.error.ErrorKind.TheVariants.{DisplayHelp, DisplayVersion, InvalidValue, MissingRequiredArgument};
+ghost use Rattle.ic_words.specs.declared.words.Task.TheVariants.{Settle, Once, Create, Serve, Attend, Reduce, Trace, Draw, Dump, Inspect, Check, Help, Version};
 ghost use Rattle.ic_words.specs.declared.words.TraceFormat.{TraceFormat};
 ghost use Rattle.ic_words.specs.declared.words.WordsFault.TheVariants.{Words, Memory};
 ghost use Rattle.ic_words.specs.Words.{AnswersWords, format_word, mistakes_of, words_fault_number, IsDecimal, Names};
 ghost use Rattle.ic_words.specs.Help.{help_of, Says, program_help, settle_help, once_help, create_help, serve_help, attend_help};
-ghost use Rattle.ic_words.specs.Help.{draw_help, dump_help, inspect_help, reduce_help, trace_help};
-ghost use Rattle.ic_words.specs.Lines.{IsAttendLine, IsCreateLine, IsDumpLine, IsInspectLine, IsReduceLine, IsServeLine, IsTraceLine};
+ghost use Rattle.ic_words.specs.Help.{check_help, draw_help, dump_help, inspect_help, reduce_help, trace_help};
+ghost use Rattle.ic_words.specs.Lines.{IsAttendLine, IsCheckLine, IsCreateLine, IsDumpLine, IsInspectLine, IsReduceLine, IsServeLine, IsTraceLine};
 
 /// A number's text is the number in decimal digits, before which a plus may stand, and no other
 /// number's; the empty text is none's.
@@ -87,6 +87,7 @@ pub fn help_and_version_are_asked()
     ensures dump { mistakes_of (codes "dump" ∷ codes "--help" ∷ []) ≡ DisplayHelp ∷ [] }
     ensures inspect { mistakes_of (codes "inspect" ∷ codes "--help" ∷ [])
         ≡ DisplayHelp ∷ [] }
+    ensures check { mistakes_of (codes "check" ∷ codes "--help" ∷ []) ≡ DisplayHelp ∷ [] }
     ensures version { mistakes_of (codes "--version" ∷ []) ≡ DisplayVersion ∷ [] }
     ensures short_version { mistakes_of (codes "-V" ∷ []) ≡ DisplayVersion ∷ [] }
 {}
@@ -105,14 +106,15 @@ pub fn each_command_has_its_help()
     ensures draw { (words : List Text) → help_of (codes "draw" ∷ words) ≡ draw_help }
     ensures dump { (words : List Text) → help_of (codes "dump" ∷ words) ≡ dump_help }
     ensures inspect { (words : List Text) → help_of (codes "inspect" ∷ words) ≡ inspect_help }
+    ensures check { (words : List Text) → help_of (codes "check" ∷ words) ≡ check_help }
     ensures program { (word : Text) (words : List Text) → AllByRecursion (λ name. word ≢ name)
         (codes "settle" ∷ codes "once" ∷ codes "create" ∷ codes "serve" ∷ codes "attend"
         ∷ codes "reduce" ∷ codes "trace" ∷ codes "draw" ∷ codes "dump"
-        ∷ codes "inspect" ∷ []) → help_of (word ∷ words) ≡ program_help }
+        ∷ codes "inspect" ∷ codes "check" ∷ []) → help_of (word ∷ words) ≡ program_help }
     ensures commands { AllByRecursion (Says program_help) (codes "  settle  " ∷ codes "  once  "
         ∷ codes "  create  " ∷ codes "  serve  " ∷ codes "  attend  "
         ∷ codes "  reduce  " ∷ codes "  trace  " ∷ codes "  draw  " ∷ codes "  dump  "
-        ∷ codes "  inspect  "
+        ∷ codes "  inspect  " ∷ codes "  check  "
         ∷ codes "-h, --help" ∷ codes "-V, --version" ∷ []) }
     ensures streams { Says settle_help (codes "icserve settle")
         × Says once_help (codes "icserve once") × Says draw_help (codes "icserve draw") }
@@ -135,6 +137,9 @@ pub fn each_command_has_its_help()
         (codes "icserve dump" ∷ codes "--disk <F>" ∷ codes "[NAME]..." ∷ []) }
     ensures file { AllByRecursion (Says inspect_help)
         (codes "icserve inspect" ∷ codes "--disk <F>" ∷ []) }
+    ensures texts { AllByRecursion (Says check_help)
+        (codes "icserve check" ∷ codes "<FILE>..."
+        ∷ codes "Prints the faults of texts with their places" ∷ []) }
 {}
 
 /// A well-formed line of `create` is taken, and names the file that it is given, and whether it has
@@ -210,4 +215,13 @@ pub fn inspect_lines_are_taken(disk: &String)
         → mistakes_of words ≡ [] }
     ensures named { (words : List Text) (path : Text) → IsInspectLine path words
         → Names words (Inspect disk.now) → string_bytes disk.now ≡ path }
+{}
+
+/// A well-formed line of `check` is taken, and names the files that it is given, in their order. With
+/// no file it is refused.
+pub fn check_lines_are_taken(files: &Vec<String>)
+    ensures taken { (words paths : List Text) → IsCheckLine words paths → mistakes_of words ≡ [] }
+    ensures named { (words paths : List Text) → IsCheckLine words paths
+        → Names words (Check files.now) → map string_bytes files.now.items ≡ paths }
+    ensures none { mistakes_of (codes "check" ∷ []) ≡ MissingRequiredArgument ∷ [] }
 {}

@@ -4,9 +4,9 @@ ghost use Rattle.std.specs.Prelude.{◌≡◌, ◌≤◌, ℕ, false, map, Ok, I
 ghost use Rattle.clap.specs.Words.{app_of, rule_of, subcommand_rows_of};
 ghost use Rattle.clap.specs.declared.builder.command.Command.TheViews.{out-Command};
 ghost use Rattle.ic_words.specs.Words.{AnswersWords, GivesHelp, GivesTask, GivesVersion, Names};
-ghost use Rattle.ic_words.specs.Words.{attend_command, command_line, create_command, dump_command, inspect_command};
+ghost use Rattle.ic_words.specs.Words.{attend_command, check_command, command_line, create_command, dump_command, inspect_command};
 ghost use Rattle.ic_words.specs.Words.{program, reduce_command, serve_command, trace_command, with_disks, with_looks, with_streams};
-ghost use Rattle.ic_words.specs.Words.{disk_option, every_option, format_option, name_argument, overwrite_flag, rounds_option};
+ghost use Rattle.ic_words.specs.Words.{disk_option, every_option, file_argument, format_option, name_argument, overwrite_flag, rounds_option};
 ghost use Rattle.ic_words.specs.Words.{runners_option, script_argument, turns_option, workers_option};
 ghost use Rattle.ic_words.specs.Words.{mistakes_of, value_met, values_met};
 ghost use Rattle.ic_words.specs.inner.Asking.{Asks, IsCommandMet, IsIn, IsMet, IsReadFrom, commands};
@@ -97,6 +97,11 @@ pub enum Task {
     Inspect {
         /// The path of the file.
         disk: String,
+    },
+    /// Tell the faults of texts, and what in them is mostly a mistake.
+    Check {
+        /// The paths of the texts, one at least.
+        files: Vec<String>,
     },
     /// Show this help.
     Help(String),
@@ -198,6 +203,7 @@ fn task_named(alloc: Global, name: &str, matches: &ArgMatches) -> Result<Task, W
         "draw" => Ok(Task::Draw),
         "dump" => dump_task(alloc, matches),
         "inspect" => inspect_task(alloc, matches),
+        "check" => check_task(alloc, matches),
         _ => unreachable!(),
     }
 }
@@ -295,6 +301,15 @@ fn inspect_task(alloc: Global, matches: &ArgMatches) -> Result<Task, WordsFault>
 {
     let disk = String::from_str(alloc, value_of(matches, "disk"))?;
     Ok(Task::Inspect { disk })
+}
+
+/// The task of `check`.
+fn check_task(alloc: Global, matches: &ArgMatches) -> Result<Task, WordsFault>
+    requires { IsMet (codes "check") (subcommand_rows_of matches.now) }
+    ensures { Asks (subcommand_rows_of matches.now) result }
+{
+    let files = values_of(alloc, matches, "file")?;
+    Ok(Task::Check { files })
 }
 
 /// Texts that own their bytes.
@@ -444,6 +459,17 @@ fn name_argument<'a>(alloc: Global) -> Arg<'a>
     Arg::new(alloc, "name").value_name("NAME").num_args(0..)
 }
 
+/// The argument that names texts, one at least.
+fn file_argument<'a>(alloc: Global) -> Arg<'a>
+    ensures rule { rule_of result ≡ file_argument }
+    ensures local { result.global ≡ false }
+{
+    Arg::new(alloc, "file")
+        .value_name("FILE")
+        .num_args(1..)
+        .required(true)
+}
+
 /// The option that says how many rounds are made at most.
 fn rounds_option<'a>(alloc: Global) -> Arg<'a>
     ensures rule { rule_of result ≡ rounds_option }
@@ -548,6 +574,15 @@ fn inspect_command<'a>(alloc: Global) -> Result<Command<'a>, AllocError>
     Command::new(alloc, "inspect").arg(disk)
 }
 
+/// The command that tells the faults of texts.
+fn check_command<'a>(alloc: Global) -> Result<Command<'a>, AllocError>
+    ensures shape { IfOk result (λ command. app_of command ≡ check_command) }
+    ensures local { IfOk result (λ command. (out-Command command).has_globals ≡ false) }
+{
+    let file = file_argument(alloc);
+    Command::new(alloc, "check").arg(file)
+}
+
 /// The program without its commands.
 fn program<'a>(alloc: Global) -> Result<Command<'a>, AllocError>
     ensures { IfOk result (λ command. app_of command ≡ program) }
@@ -604,5 +639,7 @@ fn command<'a>(alloc: Global) -> Result<Command<'a>, AllocError>
     let dump = dump_command(alloc)?;
     let program = with_looks(alloc)?.subcommand(dump)?;
     let inspect = inspect_command(alloc)?;
-    program.subcommand(inspect)
+    let program = program.subcommand(inspect)?;
+    let check = check_command(alloc)?;
+    program.subcommand(check)
 }

@@ -3,7 +3,7 @@ use Rattle.std.specs.Prelude.{◌≡◌, ◌≤◌, ◌⊎◌, ℕ, List, [], �
 use Rattle.clap.specs.Words.{Row, Text}
 use Rattle.ic_words.specs.Words.{IsDecimal, format_word, is_flag_met, is_format, most_rounds, number_met, value_met, values_met}
 use Rattle.ic_words.specs.declared.words.Task.{Task}
-use Rattle.ic_words.specs.declared.words.Task.TheVariants.{Settle, Once, Create, Serve, Attend, Reduce, Trace, Draw, Dump, Inspect, Help, Version}
+use Rattle.ic_words.specs.declared.words.Task.TheVariants.{Settle, Once, Create, Serve, Attend, Reduce, Trace, Draw, Dump, Inspect, Check, Help, Version}
 use Rattle.ic_words.specs.declared.words.WordsFault.{WordsFault}
 use Rattle.ic_words.specs.declared.words.WordsFault.TheVariants.{Words, Memory}
 
@@ -20,7 +20,7 @@ IsMet name met = option_map (λ p. p.0) met ≡ Some name
 abbrev pub commands : List Text
 commands = codes "settle" ∷ codes "once" ∷ codes "create" ∷ codes "serve" ∷ codes "attend"
     ∷ codes "reduce" ∷ codes "trace" ∷ codes "draw" ∷ codes "dump"
-    ∷ codes "inspect" ∷ []
+    ∷ codes "inspect" ∷ codes "check" ∷ []
 
 -- it is one of these
 abbrev pub IsIn : Text → List Text → Type 0
@@ -58,6 +58,8 @@ Asks met (Ok (Dump disk names)) = IsMet (codes "dump") met
     × (map string_bytes names.items ≡ values_met (codes "name") met)
 Asks met (Ok (Inspect disk)) = IsMet (codes "inspect") met
     × (string_bytes disk ≡ value_met (codes "disk") met)
+Asks met (Ok (Check files)) = IsMet (codes "check") met
+    × (map string_bytes files.items ≡ values_met (codes "file") met)
 Asks met (Ok (Help text)) = ⊥
 Asks met (Ok (Version text)) = ⊥
 Asks met (Err (Words text)) = IsMet (codes "trace") met

@@ -1,6 +1,6 @@
 use Rattle.std.proofs.Common.{◌∙◌, sym, ap, codes, refl}
 use Rattle.std.specs.Prelude.{string_bytes, option_copied}
-use Rattle.ic_words.specs.Help.{attend_help, draw_help, dump_help, inspect_help, reduce_help, trace_help}
+use Rattle.ic_words.specs.Help.{attend_help, check_help, draw_help, dump_help, inspect_help, reduce_help, trace_help}
 use Rattle.ic_words.proofs.HelpLemmas.{other_first, own_first}
 use Rattle.ic_words.proofs.help.help_of.Goals as goal
 
@@ -10,7 +10,7 @@ returns-in_default-as_str c =
     let text = c.as_str.ensures.value in
     sym (other_first c.args.words.now string_bytes c.in-Some.word.now (ap option_copied (sym c.in-Some.is) ∙ c.first.ensures.value)
     (λ e. other.not-settle (text ∙ e)) (λ e. other.not-once (text ∙ e)) (λ e. other.not-create (text ∙ e)) (λ e. other.not-serve (text ∙ e)) (λ e. other.not-attend (text ∙ e))
-    (λ e. other.not-reduce (text ∙ e)) (λ e. other.not-trace (text ∙ e)) (λ e. other.not-draw (text ∙ e)) (λ e. other.not-dump (text ∙ e)) (λ e. other.not-inspect (text ∙ e)))
+    (λ e. other.not-reduce (text ∙ e)) (λ e. other.not-trace (text ∙ e)) (λ e. other.not-draw (text ∙ e)) (λ e. other.not-dump (text ∙ e)) (λ e. other.not-inspect (text ∙ e)) (λ e. other.not-check (text ∙ e)))
 
 pub returns-in-attend : goal.returns-in-attend
 returns-in-attend c =
@@ -41,3 +41,8 @@ pub returns-in-inspect : goal.returns-in-inspect
 returns-in-inspect c =
     sym (own_first c.args.words.now string_bytes c.in-Some.word.now (codes "inspect") inspect_help (ap option_copied (sym c.in-Some.is) ∙ c.first.ensures.value)
     (sym c.as_str.ensures.value ∙ c.in-inspect.is) (λ more. refl))
+
+pub returns-in-check : goal.returns-in-check
+returns-in-check c =
+    sym (own_first c.args.words.now string_bytes c.in-Some.word.now (codes "check") check_help (ap option_copied (sym c.in-Some.is) ∙ c.first.ensures.value)
+    (sym c.as_str.ensures.value ∙ c.in-check.is) (λ more. refl))

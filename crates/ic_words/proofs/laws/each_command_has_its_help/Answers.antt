@@ -18,10 +18,10 @@ pub returns-clause-attend : goal.returns-clause-attend
 returns-clause-attend c = λ words. refl
 
 pub returns-clause-program : goal.returns-clause-program
-returns-clause-program c = λ word words other. other_help word words other.0 other.1.0 other.1.1.0 other.1.1.1.0 other.1.1.1.1.0 other.1.1.1.1.1.0 other.1.1.1.1.1.1.0 other.1.1.1.1.1.1.1.0 other.1.1.1.1.1.1.1.1.0 other.1.1.1.1.1.1.1.1.1.0
+returns-clause-program c = λ word words other. other_help word words other.0 other.1.0 other.1.1.0 other.1.1.1.0 other.1.1.1.1.0 other.1.1.1.1.1.0 other.1.1.1.1.1.1.0 other.1.1.1.1.1.1.1.0 other.1.1.1.1.1.1.1.1.0 other.1.1.1.1.1.1.1.1.1.0 other.1.1.1.1.1.1.1.1.1.1.0
 
 pub returns-clause-commands : goal.returns-clause-commands
-returns-clause-commands c = ((417, refl), ((360, refl), ((522, refl), ((564, refl), ((638, refl), ((125, refl), ((205, refl), ((278, refl), ((729, refl), ((805, refl), ((886, refl), ((914, refl), tt))))))))))))
+returns-clause-commands c = ((417, refl), ((360, refl), ((608, refl), ((650, refl), ((724, refl), ((125, refl), ((205, refl), ((278, refl), ((815, refl), ((891, refl), ((485, refl), ((972, refl), ((1000, refl), tt)))))))))))))
 
 pub returns-clause-reduce : goal.returns-clause-reduce
 returns-clause-reduce c = λ words. refl
@@ -61,3 +61,9 @@ returns-clause-inspect c = λ words. refl
 
 pub returns-clause-file : goal.returns-clause-file
 returns-clause-file c = ((66, refl), ((82, refl), tt))
+
+pub returns-clause-check : goal.returns-clause-check
+returns-clause-check c = λ words. refl
+
+pub returns-clause-texts : goal.returns-clause-texts
+returns-clause-texts c = ((92, refl), ((106, refl), ((0, refl), tt)))

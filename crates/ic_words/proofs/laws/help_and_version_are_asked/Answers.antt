@@ -61,3 +61,7 @@ returns-clause-dump c = refl
 pub returns-clause-inspect : goal.returns-clause-inspect
 unfolding clap_on_literals
 returns-clause-inspect c = refl
+
+pub returns-clause-check : goal.returns-clause-check
+unfolding clap_on_literals
+returns-clause-check c = refl
