@@ -1,11 +1,13 @@
 -- What is answered to the command that was met is what the words name.
-use Rattle.std.proofs.Common.{◌≡◌, ◌∙◌, List, [], ◌∷◌, true, codes, refl, sym, ap, ap₂, inl, subst}
+use Rattle.std.proofs.Common.{◌≡◌, ◌≢◌, ◌∙◌, List, [], ◌∷◌, true, codes, refl, sym, ap, ap₂, inl, subst}
 use Rattle.std.specs.Prelude.{Result, Ok, Err, IfOk}
 use Rattle.clap.specs.Words.{IsAmong, Text, fault_of, subcommand_of}
 use Rattle.clap.specs.Kinds.{or_else}
-use Rattle.clap.specs.declared.error.ErrorKind.TheVariants.{InvalidValue}
-use Rattle.ic_words.specs.Words.{AnswersWords, GivesTask, Names, command_line, format_word, is_format, mistakes_of, most_rounds}
-use Rattle.ic_words.specs.inner.Asking.{Asks}
+use Rattle.clap.specs.declared.error.ErrorKind.{ErrorKind}
+use Rattle.clap.specs.declared.error.ErrorKind.TheVariants.{DisplayHelp, DisplayVersion, InvalidValue, OutOfMemory}
+use Rattle.ic_words.specs.Help.{help_of}
+use Rattle.ic_words.specs.Words.{AnswersWords, GivesHelp, GivesTask, GivesVersion, Names, command_line, format_word, is_format, mistakes_of, most_rounds}
+use Rattle.ic_words.specs.inner.Asking.{AnswersRefused, Asks}
 use Rattle.ic_words.specs.declared.words.Task.{Task}
 use Rattle.ic_words.specs.declared.words.Task.TheVariants.{Settle, Once, Create, Serve, Attend, Reduce, Trace, Draw, Dump, Inspect, Check, Help, Version}
 use Rattle.ic_words.specs.declared.words.TraceFormat.{TraceFormat}
@@ -17,7 +19,7 @@ use Rattle.ic_words.proofs.LookNumbers.{reduce_numbers, trace_numbers}
 use Rattle.ic_words.proofs.ServeNumbers.{serve_numbers}
 use Rattle.ic_words.proofs.Spelt.{number_named}
 use Rattle.ic_words.proofs.WordsExact.{IsCalled}
-use Rattle.ic_words.proofs.WordsLaws.{a_format, another_format, called_as, no_format, no_other_alone, once_met, settle_met}
+use Rattle.ic_words.proofs.WordsLaws.{a_format, among_all, another_format, asked_alone, called_as, help_asked, no_format, no_other_alone, once_met, once_taken, settle_met, settle_taken, taken_alone, version_asked}
 
 pub record IsAnswer (words : List Text) (r : Result Task WordsFault) : Type 0 where
   pub answers : AnswersWords (mistakes_of words) r
@@ -133,3 +135,66 @@ asked words none called (Err (Words text)) asks = record {
   once = λ is. no_other_alone (codes "trace") (codes "once") words asks.0 once_met refl is;
 }
 asked words none called (Err Memory) asks = record { answers = tt; named = tt; settle = λ is. tt; once = λ is. tt }
+
+-- ---- words that the parser refuses
+
+pub record IsNotTaken (words : List Text) (r : Result Task WordsFault) : Type 0 where
+  pub answers : AnswersWords (mistakes_of words) r
+  pub named : IfOk r (Names words)
+  pub settle : words ≡ codes "settle" ∷ [] → GivesTask Settle r
+  pub once : words ≡ codes "once" ∷ [] → GivesTask Once r
+  pub help : words ≡ codes "--help" ∷ [] → GivesHelp r
+  pub version : words ≡ codes "--version" ∷ [] → GivesVersion r
+
+no_help : DisplayHelp ≡ DisplayVersion → ⊥
+no_help e = cc
+
+-- a mistake of this kind was made, where it isn't that memory ran out
+among_mistakes : (words : List Text) (kind one : ErrorKind) → (kind ≢ OutOfMemory → IsAmong kind (fault_of command_line words)) → kind ≡ one
+    → one ≢ OutOfMemory → IsAmong one (fault_of command_line words)
+among_mistakes words kind one made is other = subst (λ (k : ErrorKind). IsAmong k (fault_of command_line words)) is (made (λ memory. other (sym is ∙ memory)))
+
+pub not_taken : (words : List Text) (kind : ErrorKind) (r : Result Task WordsFault) → (kind ≢ OutOfMemory → IsAmong kind (fault_of command_line words))
+    → AnswersRefused words kind r → IsNotTaken words r
+not_taken words kind (Ok (Help text)) made is =
+    let mistake = among_mistakes words kind DisplayHelp made is.0 (λ e. cc) in
+    record {
+      answers = among_all _ _ _ mistake;
+      named = is.1;
+      settle = λ alone. absurd (taken_alone _ _ _ settle_taken alone mistake);
+      once = λ alone. absurd (taken_alone _ _ _ once_taken alone mistake);
+      help = λ alone. is.1 ∙ ap help_of alone;
+      version = λ alone. absurd (no_help (asked_alone _ _ _ _ version_asked alone mistake));
+    }
+not_taken words kind (Ok (Version text)) made is =
+    let mistake = among_mistakes words kind DisplayVersion made is.0 (λ e. cc) in
+    record {
+      answers = (among_all _ _ _ mistake, is.1);
+      named = is.1;
+      settle = λ alone. absurd (taken_alone _ _ _ settle_taken alone mistake);
+      once = λ alone. absurd (taken_alone _ _ _ once_taken alone mistake);
+      help = λ alone. absurd (no_help (sym (asked_alone _ _ _ _ help_asked alone mistake)));
+      version = λ alone. is.1;
+    }
+not_taken words kind (Ok Settle) made is = absurd is
+not_taken words kind (Ok Once) made is = absurd is
+not_taken words kind (Ok (Create disk overwrite)) made is = absurd is
+not_taken words kind (Ok (Serve disk workers every)) made is = absurd is
+not_taken words kind (Ok (Attend disk runners turns workers scripts)) made is = absurd is
+not_taken words kind (Ok (Reduce rounds workers)) made is = absurd is
+not_taken words kind (Ok (Trace rounds format)) made is = absurd is
+not_taken words kind (Ok Draw) made is = absurd is
+not_taken words kind (Ok (Dump disk names)) made is = absurd is
+not_taken words kind (Ok (Inspect disk)) made is = absurd is
+not_taken words kind (Ok (Check files)) made is = absurd is
+not_taken words kind (Err (Words text)) made is =
+    let mistake = made is.0 in
+    record {
+      answers = (kind, among_all _ _ _ mistake, is.1, is.2);
+      named = tt;
+      settle = λ alone. taken_alone _ _ _ settle_taken alone mistake;
+      once = λ alone. taken_alone _ _ _ once_taken alone mistake;
+      help = λ alone. absurd (is.1 (asked_alone _ _ _ _ help_asked alone mistake));
+      version = λ alone. absurd (is.2 (asked_alone _ _ _ _ version_asked alone mistake));
+    }
+not_taken words kind (Err Memory) made is = record { answers = tt; named = tt; settle = λ alone. tt; once = λ alone. tt; help = λ alone. tt; version = λ alone. tt }

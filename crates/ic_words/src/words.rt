@@ -1,18 +1,18 @@
 //! The words after the program's name.
 
 ghost use Rattle.std.specs.Prelude.{◌≡◌, ◌≤◌, ℕ, false, map, Ok, IfOk, codes, [], ◌∷◌, string_bytes};
-ghost use Rattle.clap.specs.Words.{app_of, rule_of, subcommand_rows_of};
-ghost use Rattle.clap.specs.declared.builder.command.Command.TheViews.{out-Command};
+ghost use Rattle.clap.specs.Words.{App, Rule, app_of, kind_of, rule_of, subcommand_rows_of, with_rule, with_subcommand};
 ghost use Rattle.ic_words.specs.Words.{AnswersWords, GivesHelp, GivesTask, GivesVersion, Names};
 ghost use Rattle.ic_words.specs.Words.{attend_command, check_command, command_line, create_command, dump_command, inspect_command};
 ghost use Rattle.ic_words.specs.Words.{program, reduce_command, serve_command, trace_command, with_disks, with_looks, with_streams};
 ghost use Rattle.ic_words.specs.Words.{disk_option, every_option, file_argument, format_option, name_argument, overwrite_flag, rounds_option};
 ghost use Rattle.ic_words.specs.Words.{runners_option, script_argument, turns_option, workers_option};
 ghost use Rattle.ic_words.specs.Words.{mistakes_of, value_met, values_met};
-ghost use Rattle.ic_words.specs.inner.Asking.{Asks, IsCommandMet, IsIn, IsMet, IsReadFrom, commands};
+ghost use Rattle.ic_words.specs.inner.Making.{IsMade, valued_option};
+ghost use Rattle.ic_words.specs.inner.Asking.{AnswersRefused, Asks, IsCommandMet, IsIn, IsMet, IsReadFrom, commands};
 
 use crate::help::help_of;
-use clap::error::ErrorKind;
+use clap::error::{Error, ErrorKind};
 use clap::{Arg, ArgAction, ArgMatches, Command, value_parser};
 use std::alloc::{AllocError, AllocFailed, Global};
 
@@ -164,14 +164,19 @@ pub fn read_words(alloc: Global, words: &[String]) -> Result<Task, WordsFault>
 {
     match command(alloc)?.try_get_matches_from(words) {
         Ok(matches) => task_of(alloc, &matches),
-        Err(error) => match error.kind() {
-            ErrorKind::OutOfMemory => Err(WordsFault::Memory),
-            ErrorKind::DisplayHelp => Ok(Task::Help(String::from_str(alloc, help_of(words))?)),
-            ErrorKind::DisplayVersion => Ok(Task::Version(format!(in alloc;
-                "icserve {VERSION}\n"
-            )?)),
-            _ => Err(WordsFault::Words(error.to_string(alloc)?)),
-        },
+        Err(error) => refused(alloc, words, &error),
+    }
+}
+
+/// What is answered where the parser takes no task from words: help or the version that is asked for, or its text.
+fn refused(alloc: Global, words: &[String], error: &Error) -> Result<Task, WordsFault>
+    ensures { AnswersRefused (map string_bytes words.now) (kind_of error.now) result }
+{
+    match error.kind() {
+        ErrorKind::OutOfMemory => Err(WordsFault::Memory),
+        ErrorKind::DisplayHelp => Ok(Task::Help(String::from_str(alloc, help_of(words))?)),
+        ErrorKind::DisplayVersion => Ok(Task::Version(format!(in alloc; "icserve {VERSION}\n")?)),
+        _ => Err(WordsFault::Words(error.to_string(alloc)?)),
     }
 }
 
@@ -395,16 +400,23 @@ fn overwrite_flag<'a>(alloc: Global) -> Arg<'a>
         .action(ArgAction::SetTrue)
 }
 
+/// An option with a value, and its default.
+fn valued_option<'a>(alloc: Global, name: &'a str, value: &'a str, default: &'a str) -> Arg<'a>
+    ensures rule { rule_of result ≡ valued_option name.now default.now }
+    ensures local { result.global ≡ false }
+{
+    Arg::new(alloc, name)
+        .long(name)
+        .value_name(value)
+        .default_value(default)
+}
+
 /// The option that says how many threads make a round.
 fn workers_option<'a>(alloc: Global) -> Arg<'a>
     ensures rule { rule_of result ≡ workers_option }
     ensures local { result.global ≡ false }
 {
-    Arg::new(alloc, "workers")
-        .long("workers")
-        .value_name("N")
-        .default_value("2")
-        .value_parser(value_parser!(u32).range(1..65))
+    valued_option(alloc, "workers", "N", "2").value_parser(value_parser!(u32).range(1..65))
 }
 
 /// The option that says after how many rounds they are kept.
@@ -412,11 +424,7 @@ fn every_option<'a>(alloc: Global) -> Arg<'a>
     ensures rule { rule_of result ≡ every_option }
     ensures local { result.global ≡ false }
 {
-    Arg::new(alloc, "every")
-        .long("every")
-        .value_name("K")
-        .default_value("100")
-        .value_parser(value_parser!(u32).range(1..1_000_001))
+    valued_option(alloc, "every", "K", "100").value_parser(value_parser!(u32).range(1..1_000_001))
 }
 
 /// The option that says how many runners there are.
@@ -424,11 +432,7 @@ fn runners_option<'a>(alloc: Global) -> Arg<'a>
     ensures rule { rule_of result ≡ runners_option }
     ensures local { result.global ≡ false }
 {
-    Arg::new(alloc, "runners")
-        .long("runners")
-        .value_name("R")
-        .default_value("2")
-        .value_parser(value_parser!(u64).range(0..65))
+    valued_option(alloc, "runners", "R", "2").value_parser(value_parser!(u64).range(0..65))
 }
 
 /// The option that says how many rounds each runner may take once all scripts have ended.
@@ -436,11 +440,7 @@ fn turns_option<'a>(alloc: Global) -> Arg<'a>
     ensures rule { rule_of result ≡ turns_option }
     ensures local { result.global ≡ false }
 {
-    Arg::new(alloc, "turns")
-        .long("turns")
-        .value_name("T")
-        .default_value("0")
-        .value_parser(value_parser!(u64).range(0..1_000_001))
+    valued_option(alloc, "turns", "T", "0").value_parser(value_parser!(u64).range(0..1_000_001))
 }
 
 /// The argument that names scripts.
@@ -475,11 +475,9 @@ fn rounds_option<'a>(alloc: Global) -> Arg<'a>
     ensures rule { rule_of result ≡ rounds_option }
     ensures local { result.global ≡ false }
 {
-    Arg::new(alloc, "rounds")
-        .long("rounds")
-        .value_name("N")
-        .default_value("1000000")
-        .value_parser(value_parser!(u64).range(0..4_611_686_018_427_387_905))
+    valued_option(alloc, "rounds", "N", "1000000").value_parser(value_parser!(u64).range(
+        0..4_611_686_018_427_387_905,
+    ))
 }
 
 /// The option that says how a trace is told.
@@ -487,100 +485,100 @@ fn format_option<'a>(alloc: Global) -> Arg<'a>
     ensures rule { rule_of result ≡ format_option }
     ensures local { result.global ≡ false }
 {
-    Arg::new(alloc, "format")
-        .long("format")
-        .value_name("FORMAT")
-        .default_value("tsv")
+    valued_option(alloc, "format", "FORMAT", "tsv")
+}
+
+/// A command with one more argument, where no growth was refused before.
+fn with_arg<'a>(
+    command: Result<Command<'a>, AllocError>,
+    arg: Arg<'a>,
+) -> Result<Command<'a>, AllocError>
+    ensures { (app : App) (rule : Rule) → IfOk command.entry (IsMade app)
+        → rule_of arg.entry ≡ rule
+        → arg.entry.global ≡ false → IfOk result (IsMade (with_rule app rule)) }
+{
+    let command = command?;
+    command.arg(arg)
+}
+
+/// The program with one more command, where no growth was refused before.
+fn with_command<'a>(
+    program: Result<Command<'a>, AllocError>,
+    command: Result<Command<'a>, AllocError>,
+) -> Result<Command<'a>, AllocError>
+    ensures { (whole part : App) → IfOk program.entry (λ made. app_of made ≡ whole)
+        → IfOk command.entry (IsMade part)
+        → IfOk result (λ made. app_of made ≡ with_subcommand whole part.top) }
+{
+    let command = command?;
+    let program = program?;
+    program.subcommand(command)
 }
 
 /// The command that makes a file an empty disk.
 fn create_command<'a>(alloc: Global) -> Result<Command<'a>, AllocError>
-    ensures shape { IfOk result (λ command. app_of command ≡ create_command) }
-    ensures local { IfOk result (λ command. (out-Command command).has_globals ≡ false) }
+    ensures { IfOk result (IsMade create_command) }
 {
-    let disk = disk_option(alloc);
-    let overwrite = overwrite_flag(alloc);
-    Command::new(alloc, "create").arg(disk)?.arg(overwrite)
+    let command = with_arg(Ok(Command::new(alloc, "create")), disk_option(alloc));
+    with_arg(command, overwrite_flag(alloc))
 }
 
 /// The command that serves lines.
 fn serve_command<'a>(alloc: Global) -> Result<Command<'a>, AllocError>
-    ensures shape { IfOk result (λ command. app_of command ≡ serve_command) }
-    ensures local { IfOk result (λ command. (out-Command command).has_globals ≡ false) }
+    ensures { IfOk result (IsMade serve_command) }
 {
-    let disk = disk_option(alloc);
-    let workers = workers_option(alloc);
-    let every = every_option(alloc);
-    Command::new(alloc, "serve")
-        .arg(disk)?
-        .arg(workers)?
-        .arg(every)
+    let command = with_arg(Ok(Command::new(alloc, "serve")), disk_option(alloc));
+    let command = with_arg(command, workers_option(alloc));
+    with_arg(command, every_option(alloc))
 }
 
 /// The command that gives the commands of scripts.
 fn attend_command<'a>(alloc: Global) -> Result<Command<'a>, AllocError>
-    ensures shape { IfOk result (λ command. app_of command ≡ attend_command) }
-    ensures local { IfOk result (λ command. (out-Command command).has_globals ≡ false) }
+    ensures { IfOk result (IsMade attend_command) }
 {
-    let disk = disk_option(alloc);
-    let runners = runners_option(alloc);
-    let turns = turns_option(alloc);
-    let workers = workers_option(alloc);
-    let script = script_argument(alloc);
-    Command::new(alloc, "attend")
-        .arg(disk)?
-        .arg(runners)?
-        .arg(turns)?
-        .arg(workers)?
-        .arg(script)
+    let command = with_arg(Ok(Command::new(alloc, "attend")), disk_option(alloc));
+    let command = with_arg(command, runners_option(alloc));
+    let command = with_arg(command, turns_option(alloc));
+    let command = with_arg(command, workers_option(alloc));
+    with_arg(command, script_argument(alloc))
 }
 
 /// The command that reduces a system.
 fn reduce_command<'a>(alloc: Global) -> Result<Command<'a>, AllocError>
-    ensures shape { IfOk result (λ command. app_of command ≡ reduce_command) }
-    ensures local { IfOk result (λ command. (out-Command command).has_globals ≡ false) }
+    ensures { IfOk result (IsMade reduce_command) }
 {
-    let rounds = rounds_option(alloc);
-    let workers = workers_option(alloc);
-    Command::new(alloc, "reduce").arg(rounds)?.arg(workers)
+    let command = with_arg(Ok(Command::new(alloc, "reduce")), rounds_option(alloc));
+    with_arg(command, workers_option(alloc))
 }
 
 /// The command that traces a system.
 fn trace_command<'a>(alloc: Global) -> Result<Command<'a>, AllocError>
-    ensures shape { IfOk result (λ command. app_of command ≡ trace_command) }
-    ensures local { IfOk result (λ command. (out-Command command).has_globals ≡ false) }
+    ensures { IfOk result (IsMade trace_command) }
 {
-    let rounds = rounds_option(alloc);
-    let format = format_option(alloc);
-    Command::new(alloc, "trace").arg(rounds)?.arg(format)
+    let command = with_arg(Ok(Command::new(alloc, "trace")), rounds_option(alloc));
+    with_arg(command, format_option(alloc))
 }
 
 /// The command that prints jobs of a disk.
 fn dump_command<'a>(alloc: Global) -> Result<Command<'a>, AllocError>
-    ensures shape { IfOk result (λ command. app_of command ≡ dump_command) }
-    ensures local { IfOk result (λ command. (out-Command command).has_globals ≡ false) }
+    ensures { IfOk result (IsMade dump_command) }
 {
-    let disk = disk_option(alloc);
-    let name = name_argument(alloc);
-    Command::new(alloc, "dump").arg(disk)?.arg(name)
+    let command = with_arg(Ok(Command::new(alloc, "dump")), disk_option(alloc));
+    with_arg(command, name_argument(alloc))
 }
 
 /// The command that tells what a file holds.
 fn inspect_command<'a>(alloc: Global) -> Result<Command<'a>, AllocError>
-    ensures shape { IfOk result (λ command. app_of command ≡ inspect_command) }
-    ensures local { IfOk result (λ command. (out-Command command).has_globals ≡ false) }
+    ensures { IfOk result (IsMade inspect_command) }
 {
-    let disk = disk_option(alloc);
-    Command::new(alloc, "inspect").arg(disk)
+    with_arg(Ok(Command::new(alloc, "inspect")), disk_option(alloc))
 }
 
 /// The command that tells the faults of texts.
 fn check_command<'a>(alloc: Global) -> Result<Command<'a>, AllocError>
-    ensures shape { IfOk result (λ command. app_of command ≡ check_command) }
-    ensures local { IfOk result (λ command. (out-Command command).has_globals ≡ false) }
+    ensures { IfOk result (IsMade check_command) }
 {
-    let file = file_argument(alloc);
-    Command::new(alloc, "check").arg(file)
+    with_arg(Ok(Command::new(alloc, "check")), file_argument(alloc))
 }
 
 /// The program without its commands.
@@ -602,44 +600,33 @@ fn program<'a>(alloc: Global) -> Result<Command<'a>, AllocError>
 fn with_streams<'a>(alloc: Global) -> Result<Command<'a>, AllocError>
     ensures { IfOk result (λ command. app_of command ≡ with_streams) }
 {
-    let settle = Command::new(alloc, "settle");
-    let program = program(alloc)?.subcommand(settle)?;
-    let once = Command::new(alloc, "once");
-    program.subcommand(once)
+    let program = with_command(program(alloc), Ok(Command::new(alloc, "settle")));
+    with_command(program, Ok(Command::new(alloc, "once")))
 }
 
 /// The program with the commands over disks, too.
 fn with_disks<'a>(alloc: Global) -> Result<Command<'a>, AllocError>
     ensures { IfOk result (λ command. app_of command ≡ with_disks) }
 {
-    let create = create_command(alloc)?;
-    let program = with_streams(alloc)?.subcommand(create)?;
-    let serve = serve_command(alloc)?;
-    let program = program.subcommand(serve)?;
-    let attend = attend_command(alloc)?;
-    program.subcommand(attend)
+    let program = with_command(with_streams(alloc), create_command(alloc));
+    let program = with_command(program, serve_command(alloc));
+    with_command(program, attend_command(alloc))
 }
 
 /// The program with the commands for whoever looks at nets, too.
 fn with_looks<'a>(alloc: Global) -> Result<Command<'a>, AllocError>
     ensures { IfOk result (λ command. app_of command ≡ with_looks) }
 {
-    let reduce = reduce_command(alloc)?;
-    let program = with_disks(alloc)?.subcommand(reduce)?;
-    let trace = trace_command(alloc)?;
-    let program = program.subcommand(trace)?;
-    let draw = Command::new(alloc, "draw");
-    program.subcommand(draw)
+    let program = with_command(with_disks(alloc), reduce_command(alloc));
+    let program = with_command(program, trace_command(alloc));
+    with_command(program, Ok(Command::new(alloc, "draw")))
 }
 
 /// The program's command line.
 fn command<'a>(alloc: Global) -> Result<Command<'a>, AllocError>
     ensures { IfOk result (λ command. app_of command ≡ command_line) }
 {
-    let dump = dump_command(alloc)?;
-    let program = with_looks(alloc)?.subcommand(dump)?;
-    let inspect = inspect_command(alloc)?;
-    let program = program.subcommand(inspect)?;
-    let check = check_command(alloc)?;
-    program.subcommand(check)
+    let program = with_command(with_looks(alloc), dump_command(alloc));
+    let program = with_command(program, inspect_command(alloc));
+    with_command(program, check_command(alloc))
 }

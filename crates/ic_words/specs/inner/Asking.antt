@@ -1,7 +1,10 @@
 -- What a task is read from: the command that the parser met, with its rows.
-use Rattle.std.specs.Prelude.{◌≡◌, ◌≤◌, ◌⊎◌, ℕ, List, [], ◌∷◌, Option, Some, Result, Ok, Err, codes, map, option_map, string_bytes, false}
+use Rattle.std.specs.Prelude.{◌≡◌, ◌≢◌, ◌≤◌, ◌⊎◌, ℕ, List, [], ◌∷◌, Option, Some, Result, Ok, Err, codes, map, option_map, string_bytes, false}
 use Rattle.clap.specs.Words.{Row, Text}
-use Rattle.ic_words.specs.Words.{IsDecimal, format_word, is_flag_met, is_format, most_rounds, number_met, value_met, values_met}
+use Rattle.clap.specs.declared.error.ErrorKind.{ErrorKind}
+use Rattle.clap.specs.declared.error.ErrorKind.TheVariants.{DisplayHelp, DisplayVersion, OutOfMemory}
+use Rattle.ic_words.specs.Help.{help_of}
+use Rattle.ic_words.specs.Words.{IsDecimal, format_word, is_flag_met, is_format, most_rounds, number_met, value_met, values_met, version_line}
 use Rattle.ic_words.specs.declared.words.Task.{Task}
 use Rattle.ic_words.specs.declared.words.Task.TheVariants.{Settle, Once, Create, Serve, Attend, Reduce, Trace, Draw, Dump, Inspect, Check, Help, Version}
 use Rattle.ic_words.specs.declared.words.WordsFault.{WordsFault}
@@ -65,3 +68,14 @@ Asks met (Ok (Version text)) = ⊥
 Asks met (Err (Words text)) = IsMet (codes "trace") met
     × (is_format (value_met (codes "format") met) ≡ false)
 Asks met (Err Memory) = Unit {0}
+
+-- what is answered where the parser's error is of this kind
+abbrev pub AnswersRefused : List Text → ErrorKind → Result Task WordsFault → Type 0
+AnswersRefused words kind (Ok (Help text)) =
+    (kind ≡ DisplayHelp) × (string_bytes text ≡ help_of words)
+AnswersRefused words kind (Ok (Version text)) =
+    (kind ≡ DisplayVersion) × (string_bytes text ≡ version_line)
+AnswersRefused words kind (Err (Words text)) =
+    (kind ≢ OutOfMemory) × (kind ≢ DisplayHelp) × (kind ≢ DisplayVersion)
+AnswersRefused words kind (Err Memory) = Unit {0}
+AnswersRefused words kind (Ok _) = ⊥

@@ -1,21 +1,14 @@
-use Rattle.std.proofs.Common.{◌≡◌, ◌∙◌, ap₂, rules, codes}
-use Rattle.std.proofs.lemmas.Result.{IfOk-weaker}
-use Rattle.clap.specs.Words.{app_of, new_app, with_rule}
+use Rattle.std.proofs.Common.{codes}
+use Rattle.clap.specs.Words.{new_app}
+use Rattle.ic_words.specs.Words.{disk_option, runners_option, script_argument, turns_option, workers_option}
+use Rattle.ic_words.specs.inner.Making.{IsMade}
 use Rattle.ic_words.proofs.words.attend_command.Goals as goal
 
 pub returns : goal.returns
 returns c =
-    let bare : app_of c.new.result ≡ new_app (codes "attend") = c.new.ensures.app in
-    let disk = c.disk_option-disk.ensures in
-    let runners = c.runners_option-runners.ensures in
-    let turns = c.turns_option-turns.ensures in
-    let workers = c.workers_option-workers.ensures in
-    let script = c.script_argument-script.ensures in
-    let first = c.in_ok-arg.ensures.shape disk.local ∙ ap₂ with_rule bare disk.rule in
-    let second = c.in_ok-arg-2.ensures.shape runners.local ∙ ap₂ with_rule first runners.rule in
-    let third = c.in_ok-arg-3.ensures.shape turns.local ∙ ap₂ with_rule second turns.rule in
-    let fourth = c.in_ok-arg-4.ensures.shape workers.local ∙ ap₂ with_rule third workers.rule in
-    record {
-      shape = IfOk-weaker c.arg-5.result _ _ (λ command h. h.shape script.local ∙ ap₂ with_rule fourth script.rule) c.arg-5.ensures;
-      local = IfOk-weaker c.arg-5.result _ _ (λ command h. h.globals ∙ search rules) c.arg-5.ensures;
-    }
+    let made : IsMade (new_app (codes "attend")) c.new.result = (c.new.ensures.app, c.new.ensures.local) in
+    let first = c.with_arg-command.ensures (new_app (codes "attend")) disk_option made c.disk_option.ensures.rule c.disk_option.ensures.local in
+    let second = c.with_arg-command-2.ensures _ runners_option first c.runners_option.ensures.rule c.runners_option.ensures.local in
+    let third = c.with_arg-command-3.ensures _ turns_option second c.turns_option.ensures.rule c.turns_option.ensures.local in
+    let fourth = c.with_arg-command-4.ensures _ workers_option third c.workers_option.ensures.rule c.workers_option.ensures.local in
+    c.with_arg.ensures _ script_argument fourth c.script_argument.ensures.rule c.script_argument.ensures.local

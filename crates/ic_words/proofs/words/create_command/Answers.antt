@@ -1,15 +1,11 @@
-use Rattle.std.proofs.Common.{◌≡◌, ◌∙◌, ap₂, rules, codes}
-use Rattle.std.proofs.lemmas.Result.{IfOk-weaker}
-use Rattle.clap.specs.Words.{app_of, new_app, with_rule}
+use Rattle.std.proofs.Common.{codes}
+use Rattle.clap.specs.Words.{new_app}
+use Rattle.ic_words.specs.Words.{disk_option, overwrite_flag}
+use Rattle.ic_words.specs.inner.Making.{IsMade}
 use Rattle.ic_words.proofs.words.create_command.Goals as goal
 
 pub returns : goal.returns
 returns c =
-    let bare : app_of c.new.result ≡ new_app (codes "create") = c.new.ensures.app in
-    let disk = c.disk_option-disk.ensures in
-    let overwrite = c.overwrite_flag-overwrite.ensures in
-    let first = c.in_ok-arg.ensures.shape disk.local ∙ ap₂ with_rule bare disk.rule in
-    record {
-      shape = IfOk-weaker c.arg-2.result _ _ (λ command h. h.shape overwrite.local ∙ ap₂ with_rule first overwrite.rule) c.arg-2.ensures;
-      local = IfOk-weaker c.arg-2.result _ _ (λ command h. h.globals ∙ search rules) c.arg-2.ensures;
-    }
+    let made : IsMade (new_app (codes "create")) c.new.result = (c.new.ensures.app, c.new.ensures.local) in
+    let first = c.with_arg-command.ensures (new_app (codes "create")) disk_option made c.disk_option.ensures.rule c.disk_option.ensures.local in
+    c.with_arg.ensures _ overwrite_flag first c.overwrite_flag.ensures.rule c.overwrite_flag.ensures.local

@@ -1,13 +1,10 @@
-use Rattle.std.proofs.Common.{◌≡◌, ◌∙◌, ap₂, rules, codes}
-use Rattle.std.proofs.lemmas.Result.{IfOk-weaker}
-use Rattle.clap.specs.Words.{app_of, new_app, with_rule}
+use Rattle.std.proofs.Common.{codes}
+use Rattle.clap.specs.Words.{new_app}
+use Rattle.ic_words.specs.Words.{disk_option}
+use Rattle.ic_words.specs.inner.Making.{IsMade}
 use Rattle.ic_words.proofs.words.inspect_command.Goals as goal
 
 pub returns : goal.returns
 returns c =
-    let bare : app_of c.new.result ≡ new_app (codes "inspect") = c.new.ensures.app in
-    let option = c.disk_option-disk.ensures in
-    record {
-      shape = IfOk-weaker c.arg.result _ _ (λ command h. h.shape option.local ∙ ap₂ with_rule bare option.rule) c.arg.ensures;
-      local = IfOk-weaker c.arg.result _ _ (λ command h. h.globals ∙ search rules) c.arg.ensures;
-    }
+    let made : IsMade (new_app (codes "inspect")) c.new.result = (c.new.ensures.app, c.new.ensures.local) in
+    c.with_arg.ensures (new_app (codes "inspect")) disk_option made c.disk_option.ensures.rule c.disk_option.ensures.local

@@ -1,15 +1,11 @@
-use Rattle.std.proofs.Common.{◌≡◌, ◌∙◌, ap₂, rules, codes}
-use Rattle.std.proofs.lemmas.Result.{IfOk-weaker}
-use Rattle.clap.specs.Words.{app_of, new_app, with_rule}
+use Rattle.std.proofs.Common.{codes}
+use Rattle.clap.specs.Words.{new_app}
+use Rattle.ic_words.specs.Words.{format_option, rounds_option}
+use Rattle.ic_words.specs.inner.Making.{IsMade}
 use Rattle.ic_words.proofs.words.trace_command.Goals as goal
 
 pub returns : goal.returns
 returns c =
-    let bare : app_of c.new.result ≡ new_app (codes "trace") = c.new.ensures.app in
-    let rounds = c.rounds_option-rounds.ensures in
-    let format = c.format_option-format.ensures in
-    let first = c.in_ok-arg.ensures.shape rounds.local ∙ ap₂ with_rule bare rounds.rule in
-    record {
-      shape = IfOk-weaker c.arg-2.result _ _ (λ command h. h.shape format.local ∙ ap₂ with_rule first format.rule) c.arg-2.ensures;
-      local = IfOk-weaker c.arg-2.result _ _ (λ command h. h.globals ∙ search rules) c.arg-2.ensures;
-    }
+    let made : IsMade (new_app (codes "trace")) c.new.result = (c.new.ensures.app, c.new.ensures.local) in
+    let first = c.with_arg-command.ensures (new_app (codes "trace")) rounds_option made c.rounds_option.ensures.rule c.rounds_option.ensures.local in
+    c.with_arg.ensures _ format_option first c.format_option.ensures.rule c.format_option.ensures.local

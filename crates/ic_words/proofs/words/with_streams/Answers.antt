@@ -1,11 +1,9 @@
-use Rattle.std.proofs.Common.{◌∙◌, ap, ap₂}
-use Rattle.std.proofs.lemmas.Result.{IfOk-weaker}
-use Rattle.clap.specs.Words.{App, with_subcommand}
+use Rattle.std.proofs.Common.{codes}
+use Rattle.clap.specs.Words.{new_app}
+use Rattle.ic_words.specs.Words.{program}
 use Rattle.ic_words.proofs.words.with_streams.Goals as goal
 
 pub returns : goal.returns
 returns c =
-    let settle = c.new-settle.ensures in
-    let once = c.new-once.ensures in
-    let first = c.in_ok-program-2.ensures.shape settle.local ∙ ap₂ with_subcommand c.in_ok-program.ensures (ap (λ (a : App). a.top) settle.app) in
-    IfOk-weaker c.subcommand-2.result _ _ (λ command h. h.shape once.local ∙ ap₂ with_subcommand first (ap (λ (a : App). a.top) once.app)) c.subcommand-2.ensures
+    let first = c.with_command-program.ensures program (new_app (codes "settle")) c.program.ensures (c.new.ensures.app, c.new.ensures.local) in
+    c.with_command.ensures _ (new_app (codes "once")) first (c.new-2.ensures.app, c.new-2.ensures.local)
