@@ -1,5 +1,5 @@
 -- Each well-formed line of `check` is taken, with its files.
-use Rattle.std.proofs.Common.{◌≡◌, ◌<◌, ◌^◌, ℕ, List, [], ◌∷◌, ◌++◌, Bool, true, false, ne_eqb, None, Option, Some, codes, fold, length, refl, sym, ◌∙◌, ap, ap₂, subst, append-nil, append_assoc, option_map, arith}
+use Rattle.std.proofs.Common.{◌≡◌, ◌<◌, ◌^◌, ℕ, List, [], ◌∷◌, ◌++◌, true, false, ne_eqb, None, Option, Some, codes, fold, length, refl, sym, ◌∙◌, ap, ap₂, subst, append-nil, append_assoc, option_map, arith}
 use Rattle.std.specs.List.{AllByRecursion}
 use Rattle.std.proofs.lemmas.Bool.{le-ltb}
 use Rattle.clap.specs.Words.{Kinds, Rule, Row, Text, built, fault_of, subcommand_of}

@@ -585,15 +585,12 @@ fn check_command<'a>(alloc: Global) -> Result<Command<'a>, AllocError>
 fn program<'a>(alloc: Global) -> Result<Command<'a>, AllocError>
     ensures { IfOk result (λ command. app_of command ≡ program) }
 {
-    let program = Command::new(alloc, "icserve")
-        .bin_name("icserve")?
-        .version(VERSION);
-    Ok(
-        program
-            .no_binary_name(true)
-            .disable_help_subcommand(true)
-            .subcommand_required(true),
-    )
+    Command::new(alloc, "icserve")
+        .version(VERSION)
+        .no_binary_name(true)
+        .disable_help_subcommand(true)
+        .subcommand_required(true)
+        .bin_name("icserve")
 }
 
 /// The program with the commands over streams.
