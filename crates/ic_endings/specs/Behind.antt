@@ -15,7 +15,7 @@ use Rattle.ic_contents.specs.declared.fault.InspectFault.TheVariants as inspect
 use Rattle.ic_scripts.specs.declared.fault.ScriptsFault.{ScriptsFault}
 use Rattle.ic_scripts.specs.declared.fault.ScriptsFault.TheVariants as scripts
 use Rattle.ic_endings.specs.declared.failure.Failure.{Failure}
-use Rattle.ic_endings.specs.declared.failure.Failure.TheVariants.{Words, Stream, Disk, Create, NotEmpty, Open, Serve, Attend, Dump, Inspect, NotDone}
+use Rattle.ic_endings.specs.declared.failure.Failure.TheVariants.{Words, Stream, Disk, Create, NotEmpty, Open, Serve, Attend, Dump, Inspect, Faults, NotDone}
 
 -- of a file that is no disk
 abbrev pub no_disk : List ℕ
@@ -96,4 +96,5 @@ lines_behind (Dump fault) path cause = []
 lines_behind (Inspect fault) path cause = inspect_lines fault path cause
 lines_behind (Words fault) path cause = []
 lines_behind (Stream fault) path cause = []
+lines_behind Faults path cause = []
 lines_behind NotDone path cause = []

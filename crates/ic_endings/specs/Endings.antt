@@ -22,7 +22,7 @@ use Rattle.ic_contents.specs.declared.fault.InspectFault.{InspectFault}
 use Rattle.ic_contents.specs.declared.fault.InspectFault.TheVariants as inspect
 use Rattle.ic_words.specs.declared.words.WordsFault.TheVariants as words
 use Rattle.ic_endings.specs.declared.failure.Failure.{Failure}
-use Rattle.ic_endings.specs.declared.failure.Failure.TheVariants.{Words, Stream, Disk, Create, NotEmpty, Open, Serve, Attend, Dump, Inspect, NotDone}
+use Rattle.ic_endings.specs.declared.failure.Failure.TheVariants.{Words, Stream, Disk, Create, NotEmpty, Open, Serve, Attend, Dump, Inspect, Faults, NotDone}
 
 -- the exit status of `attend`: 1 for a refused script, 3 for a disk that isn't opened, 4 for all
 -- else
@@ -70,6 +70,7 @@ status_of (Serve fault) = 4
 status_of (Attend fault) = scripts_status fault
 status_of (Dump fault) = dump_status fault
 status_of (Inspect fault) = inspect_status fault
+status_of Faults = 1
 status_of NotDone = 5
 
 -- why a round isn't made
@@ -158,6 +159,7 @@ failure_line (Serve fault) = told (serve_word fault)
 failure_line (Attend fault) = told (scripts_word fault)
 failure_line (Dump fault) = told (dump_word fault)
 failure_line (Inspect fault) = told (inspect_word fault)
+failure_line Faults = told (codes "faults")
 failure_line NotDone = told (codes "not done")
 
 -- the line that tells a stuck pair

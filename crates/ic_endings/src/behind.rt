@@ -42,7 +42,7 @@ impl Failure {
             Failure::Serve(fault) => serve_lines(alloc, *fault, path, cause),
             Failure::Attend(fault) => scripts_lines(alloc, *fault, path, cause),
             Failure::Words(_) | Failure::Stream(_) | Failure::NotDone => Ok(Vec::new(alloc)),
-            Failure::Dump(_) => Ok(Vec::new(alloc)),
+            Failure::Dump(_) | Failure::Faults => Ok(Vec::new(alloc)),
             Failure::Inspect(fault) => inspect_lines(alloc, *fault, path, cause),
         }
     }

@@ -24,7 +24,7 @@ use std::alloc::{AllocError, Global};
 pub enum Failure {
     /// The words after its name ask for nothing.
     Words(WordsFault),
-    /// What stands on standard input isn't answered.
+    /// What stands on standard input, or in a file that is looked over, isn't answered.
     Stream(StreamFault),
     /// The file of a disk can't be opened or locked.
     Disk(DiskFault),
@@ -42,6 +42,8 @@ pub enum Failure {
     Dump(DumpFault),
     /// It isn't told what a file holds.
     Inspect(InspectFault),
+    /// A text that was looked over has a fault.
+    Faults,
     /// All rounds were made of what was to be reduced, and a step is still possible.
     NotDone,
 }
@@ -62,6 +64,7 @@ impl Failure {
             Failure::Attend(fault) => scripts_status(*fault),
             Failure::Dump(fault) => dump_status(*fault),
             Failure::Inspect(fault) => inspect_status(*fault),
+            Failure::Faults => 1,
             Failure::NotDone => 5,
         }
     }
@@ -83,6 +86,7 @@ impl Failure {
             Failure::Attend(fault) => scripts_line(alloc, *fault),
             Failure::Dump(fault) => dump_line(alloc, *fault),
             Failure::Inspect(fault) => told(alloc, inspect_word(*fault)),
+            Failure::Faults => told(alloc, b"faults"),
             Failure::NotDone => told(alloc, b"not done"),
         }
     }

@@ -22,7 +22,7 @@ ghost use Rattle.ic_dump.specs.declared.fault.DumpFault.TheVariants as dump;
 ghost use Rattle.ic_contents.specs.declared.fault.InspectFault.TheVariants as inspect;
 ghost use Rattle.ic_lines.specs.declared.script.ScriptFault.{ScriptFault};
 ghost use Rattle.ic_scripts.specs.declared.fault.ScriptsFault.TheVariants as scripts;
-ghost use Rattle.ic_endings.specs.declared.failure.Failure.TheVariants.{Words, Stream, Disk, Create, NotEmpty, Open, Serve, Attend, Dump, Inspect, NotDone};
+ghost use Rattle.ic_endings.specs.declared.failure.Failure.TheVariants.{Words, Stream, Disk, Create, NotEmpty, Open, Serve, Attend, Dump, Inspect, Faults, NotDone};
 ghost use Rattle.ic_endings.specs.Endings.{status_of, failure_line, stuck_line};
 ghost use Rattle.ic_endings.specs.Behind.{lines_behind};
 ghost use Rattle.ic_causes.specs.declared.cause.Cause.{Cause};
@@ -49,6 +49,7 @@ pub fn statuses_are(text: &String)
     ensures dumped { map status_of (Dump dump.Memory ∷ Dump dump.Write ∷ []) ≡ 4 ∷ 4 ∷ [] }
     ensures inspected { map status_of (Inspect inspect.Read ∷ Inspect inspect.Changed
         ∷ Inspect inspect.Memory ∷ Inspect inspect.Write ∷ []) ≡ 3 ∷ 3 ∷ 4 ∷ 4 ∷ [] }
+    ensures faults { status_of Faults ≡ 1 }
     ensures not_done { status_of NotDone ≡ 5 }
     ensures others { map status_of (Words words.Memory ∷ Stream stream.Read ∷ Stream stream.Memory
         ∷ Stream stream.Write ∷ []) ≡ 4 ∷ 4 ∷ 4 ∷ 4 ∷ [] }
@@ -153,6 +154,12 @@ pub fn lines_of_inspections_are()
     ensures write { failure_line (Inspect inspect.Write) ≡ codes "icserve: write" ++ 10 ∷ [] }
 {}
 
+/// The line on standard error where a text that was looked over has a fault. The faults themselves
+/// stand on standard output.
+pub fn lines_of_checks_are()
+    ensures faults { failure_line Faults ≡ codes "icserve: faults" ++ 10 ∷ [] }
+{}
+
 /// The line on standard error where rounds didn't suffice, and that of a stuck pair.
 pub fn lines_of_looks_are()
     ensures not_done { failure_line NotDone ≡ codes "icserve: not done" ++ 10 ∷ [] }
@@ -187,6 +194,8 @@ pub fn lines_behind_are(text: &String)
         ++ codes "something else has changed the file, or it was copied in part" ++ 10 ∷ [] }
     ensures text { (fault : TextFault) (path : List ℕ) (cause : Option Cause)
         → lines_behind (Stream (stream.Text fault)) path cause ≡ [] }
+    ensures faults { (path : List ℕ) (cause : Option Cause)
+        → lines_behind Faults path cause ≡ [] }
     ensures words { (path : List ℕ) (cause : Option Cause)
         → lines_behind (Words (words.Words text.now)) path cause ≡ [] }
 {}
