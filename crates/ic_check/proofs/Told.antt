@@ -1,0 +1,100 @@
+-- What is told of texts.
+use Rattle.std.proofs.Common.{◌≡◌, ◌≢◌, ◌≤◌, ◌<◌, ℕ, ◌+◌, ◌||◌, List, [], ◌∷◌, ◌++◌, Bool, true, false, Option, None, Some, Result, Ok, Err, IfOk, OnOk, length, refl, sym, ap, ◌∙◌, subst, append-nil, append_assoc}
+use Rattle.ic_term.specs.Configuration.{Configuration}
+use Rattle.ic_term.specs.Symbol.{Symbol}
+use Rattle.ic_rules.specs.RuleSet.{Rules}
+use Rattle.ic_rules.specs.System.{SystemParts}
+use Rattle.ic_lines.specs.Lines.{lines}
+use Rattle.ic_text.specs.Places.{IsPlaced}
+use Rattle.ic_text.specs.Source.{IsPhrase, phrase_words}
+use Rattle.ic_text.specs.SystemSource.{IsSystemPhrase, system_words}
+use Rattle.ic_text.specs.SystemText.{ReadsSystem}
+use Rattle.ic_text.specs.Text.{Reads}
+use Rattle.ic_text.specs.Words.{written_phrase, written_system}
+use Rattle.ic_text.specs.declared.fault.TextFault.{TextFault}
+use Rattle.ic_text.specs.declared.fault.TextFault.TheVariants.{Memory}
+use Rattle.ic_text.specs.declared.misread.Detail.{Detail}
+use Rattle.ic_places.specs.declared.telling.Kind.TheVariants.{Config, System}
+use Rattle.ic_check.specs.Checking.{TellsConfig, TellsLine, TellsLines, TellsSystem, told_fault}
+use Rattle.ic_check.specs.Reach.{IsReach}
+use Rattle.ic_check.specs.Symbols.{text_symbols}
+use Rattle.ic_check.specs.Warnings.{Warns, once_lines, ruleless_lines, unused_lines, warning_lines}
+use Rattle.ic_check.specs.inner.Growing.{holds}
+
+-- the lines of a text are appended, and it has a fault or none
+abbrev pub Appends : (List ℕ → Bool → Type 0) → (old new : List ℕ) → Bool → Type 0
+Appends Tells old new faulty = (told : List ℕ) × Tells told faulty × (new ≡ old ++ told)
+
+pub config_fine : (file text : List ℕ) (v : List Symbol × Configuration) (out : List ℕ) → Reads text (Ok v) → Appends (TellsConfig file text) out out false
+config_fine file text v out reads = ([], (Ok v, reads, (refl, refl)), sym (append-nil out))
+
+pub config_told : (file text : List ℕ) (fault : TextFault) (place : Option ℕ) (detail : Detail) {E : Type 0} (r : Result Bool E) (old new : List ℕ)
+    → (fault ≢ Memory → Reads text (Err fault)) → IsPlaced IsPhrase phrase_words written_phrase text fault place detail
+    → IfOk r (λ faulty. faulty ≡ true) → IfOk r (λ faulty. fault ≢ Memory) → OnOk r (new ≡ old ++ told_fault file None Config text place fault detail)
+    → IfOk r (λ faulty. Appends (TellsConfig file text) old new faulty)
+config_told file text fault place detail (Ok faulty) old new reads placed faulted known put =
+    (told_fault file None Config text place fault detail, (Err fault, reads known, ((place, detail, placed, refl), faulted)), put)
+config_told file text fault place detail (Err e) old new reads placed faulted known put = tt
+
+pub system_told : (file text : List ℕ) (fault : TextFault) (place : Option ℕ) (detail : Detail) {E : Type 0} (r : Result Bool E) (old new : List ℕ)
+    → (fault ≢ Memory → ReadsSystem text (Err fault)) → IsPlaced IsSystemPhrase system_words written_system text fault place detail
+    → IfOk r (λ faulty. faulty ≡ true) → IfOk r (λ faulty. fault ≢ Memory) → OnOk r (new ≡ old ++ told_fault file None System text place fault detail)
+    → IfOk r (λ faulty. Appends (TellsSystem file text) old new faulty)
+system_told file text fault place detail (Ok faulty) old new reads placed faulted known put =
+    (told_fault file None System text place fault detail, (Err fault, reads known, ((place, detail, placed, refl), faulted)), put)
+system_told file text fault place detail (Err e) old new reads placed faulted known put = tt
+
+-- the warnings of a system are appended
+abbrev pub AppendsWarnings : List ℕ → Rules → Configuration → (old new : List ℕ) → Type 0
+AppendsWarnings place rs c old new = (told : List ℕ) × Warns place rs c told × (new ≡ old ++ told)
+
+pub system_warned : (file text : List ℕ) (s : SystemParts) (rs : Rules) (c : Configuration) (old new : List ℕ) → ReadsSystem text (Ok s) → rs ≡ s.rules → c ≡ s.config
+    → AppendsWarnings file rs c old new → Appends (TellsSystem file text) old new false
+system_warned file text s rs c old new reads are is warned =
+    let warns : Warns file s.rules s.config warned.0 =
+    subst (λ (d : Configuration). Warns file s.rules d warned.0) is (subst (λ (r : Rules). Warns file r c warned.0) are warned.1) in
+    (warned.0, (Ok s, reads, (warns, refl)), warned.2)
+
+-- the three kinds of warnings, one behind the other
+pub warned : {T E : Type 0} (place : List ℕ) (rs : Rules) (c : Configuration) (all seen old one two new : List ℕ) (r : Result T E) → all ≡ text_symbols rs.rules c
+    → IsReach rs.rules c (holds seen) → one ≡ old ++ ruleless_lines place rs c.equations → two ≡ one ++ once_lines place all 0 rs.symbols
+    → OnOk r (new ≡ two ++ unused_lines place (holds seen) rs.symbols 0 rs.rules) → OnOk r (AppendsWarnings place rs c old new)
+warned place rs c all seen old one two new (Ok v) are reach first second third =
+    let a : List ℕ = ruleless_lines place rs c.equations in
+    let b : List ℕ = once_lines place (text_symbols rs.rules c) 0 rs.symbols in
+    let d : List ℕ = unused_lines place (holds seen) rs.symbols 0 rs.rules in
+    let both : two ≡ (old ++ a) ++ b = second ∙ (λ i. first i ++ once_lines place (are i) 0 rs.symbols) in (
+      warning_lines place (holds seen) rs c,
+      (holds seen, reach, refl),
+      third ∙ ap (λ l. l ++ d) (both ∙ append_assoc old a b) ∙ append_assoc old (a ++ b) d,
+    )
+warned place rs c all seen old one two new (Err e) are reach first second third = tt
+
+-- ---- lines
+
+-- what is told of what is left is told of the whole
+abbrev pub GoesOn : (file text rest : List ℕ) (number : ℕ) (so_far : List ℕ) → Bool → Type 0
+GoesOn file text rest number so_far faulty = (more : List ℕ) (later : Bool) → TellsLines file number (lines rest) more later
+    → TellsLines file 1 (lines text) (so_far ++ more) (faulty || later)
+
+or_assoc : (a b d : Bool) → ((a || b) || d) ≡ (a || (b || d))
+or_assoc true b d = refl
+or_assoc false b d = refl
+
+or_false : (a : Bool) → (a || false) ≡ a
+or_false true = refl
+or_false false = refl
+
+pub line_more : (file text rest line behind so_far told : List ℕ) (number : ℕ) (faulty here : Bool) → lines rest ≡ line ∷ lines behind
+    → TellsLine file number line told here → GoesOn file text rest number so_far faulty → GoesOn file text behind (number + 1) (so_far ++ told) (faulty || here)
+line_more file text rest line behind so_far told number faulty here split tells goes more later is =
+    let whole : TellsLines file number (line ∷ lines behind) (told ++ more) (here || later) = (told, here, tells, more, later, is, refl, refl) in
+    let there = goes (told ++ more) (here || later) (subst (λ (ls : List (List ℕ)). TellsLines file number ls (told ++ more) (here || later)) (sym split) whole) in
+    subst (λ (b : Bool). TellsLines file 1 (lines text) ((so_far ++ told) ++ more) b) (sym (or_assoc faulty here later))
+    (subst (λ (l : List ℕ). TellsLines file 1 (lines text) l (faulty || (here || later))) (sym (append_assoc so_far told more)) there)
+
+pub lines_end : (file text rest so_far : List ℕ) (number : ℕ) (faulty : Bool) → rest ≡ [] → GoesOn file text rest number so_far faulty → TellsLines file 1 (lines text) so_far faulty
+lines_end file text rest so_far number faulty none goes =
+    let there = goes [] false (subst (λ (l : List ℕ). TellsLines file number (lines l) [] false) (sym none) (refl, refl)) in
+    subst (λ (b : Bool). TellsLines file 1 (lines text) so_far b) (or_false faulty)
+    (subst (λ (l : List ℕ). TellsLines file 1 (lines text) l (faulty || false)) (append-nil so_far) there)

@@ -1,0 +1,56 @@
+-- Warnings that are written one after the other.
+use Rattle.std.proofs.Common.{◌≡◌, ◌⊎◌, inl, inr, ℕ, ◌+◌, ◌<◌, ◌≤◌, List, [], ◌∷◌, ◌++◌, Bool, false, Option, None, Some, Result, Ok, Err, OnOk, codes, is_some, length, drop, get_or, slice_get, refl, sym, ap, ◌∙◌, subst, arith, append-nil, append_assoc}
+use Rattle.std.specs.Option.{option_map}
+use Rattle.std.proofs.lemmas.List.{drop_all}
+use Rattle.std.proofs.lemmas.Option.{slice_get_cases}
+use Rattle.ic_rules.specs.Rule.{Rule}
+use Rattle.ic_rules.specs.RuleSet.{Rules, rule_for}
+use Rattle.ic_term.specs.Symbol.{Symbol, symbol_text}
+use Rattle.ic_term.specs.Term.{cell_tree}
+use Rattle.ic_term.specs.lemmas.TermLaws.{cell_tree-out}
+use Rattle.ic_term.specs.declared.term.Cell.{Cell, out-Cell}
+use Rattle.ic_check.specs.Warnings.{once_line, once_lines, pair_text, ruleless_line, unused_line, unused_lines, warning_line}
+use Rattle.ic_check.proofs.Listing.{from_place}
+
+-- nothing is left
+pub all_written : {X Z : Type 0} (g : List X → List Z) → g [] ≡ [] → (xs : List X) (i : ℕ) (out whole : List Z) → length xs ≤ i → out ++ g (drop i xs) ≡ whole → out ≡ whole
+all_written g none xs i out whole past all =
+    sym (append-nil out) ∙ ap (λ l. out ++ l) (sym none) ∙ ap (λ l. out ++ g l) (sym (drop_all i xs past)) ∙ all
+
+same_some : (a b : List ℕ) → Some a ≡ Some b → a ≡ b
+same_some a b e = cc
+
+pub once_next : (place all : List ℕ) (ss : List Symbol) (i : ℕ) (text out new whole : List ℕ) → i < length ss → symbol_text ss i ≡ Some text
+    → new ≡ out ++ once_line place all i text → out ++ once_lines place all i (drop i ss) ≡ whole → new ++ once_lines place all (i + 1) (drop (i + 1) ss) ≡ whole
+once_next place all ss i text out new whole below is put so_far = elim (slice_get_cases ss i).1 [
+  | inl there ↦
+      let s = there.0 in
+      let same : s.text ≡ text = same_some s.text text (sym (ap (λ (o : Option Symbol). option_map (λ (t : Symbol). t.text) o) there.2) ∙ is) in
+      let rest : List ℕ = once_lines place all (i + 1) (drop (i + 1) ss) in
+      ap (λ l. l ++ rest) put ∙ append_assoc out (once_line place all i text) rest ∙ ap (λ t. out ++ (once_line place all i t ++ rest)) (sym same)
+      ∙ ap (λ l. out ++ once_lines place all i l) (sym (from_place ss i s below (sym there.3))) ∙ so_far
+  | inr past ↦ absurd (omega (arith, past.0))
+]
+
+pub once_end : (place all : List ℕ) (ss : List Symbol) (i : ℕ) (out whole : List ℕ) → length ss ≤ i → out ++ once_lines place all i (drop i ss) ≡ whole → out ≡ whole
+once_end place all ss i out whole past so_far = all_written (once_lines place all i) refl ss i out whole past so_far
+
+pub unused_next : (place : List ℕ) (among : ℕ → Bool) (ss : List Symbol) (rs : List Rule) (i : ℕ) (r : Rule) (out new whole : List ℕ) → i < length rs → r ≡ get_or rs i r
+    → new ≡ out ++ unused_line place among ss i r → out ++ unused_lines place among ss i (drop i rs) ≡ whole → new ++ unused_lines place among ss (i + 1) (drop (i + 1) rs) ≡ whole
+unused_next place among ss rs i r out new whole below at put so_far =
+    let rest : List ℕ = unused_lines place among ss (i + 1) (drop (i + 1) rs) in
+    ap (λ l. l ++ rest) put ∙ append_assoc out (unused_line place among ss i r) rest
+    ∙ ap (λ l. out ++ unused_lines place among ss i l) (sym (from_place rs i r below at)) ∙ so_far
+
+pub unused_end : (place : List ℕ) (among : ℕ → Bool) (ss : List Symbol) (rs : List Rule) (i : ℕ) (out whole : List ℕ) → length rs ≤ i
+    → out ++ unused_lines place among ss i (drop i rs) ≡ whole → out ≡ whole
+unused_end place among ss rs i out whole past so_far = all_written (unused_lines place among ss i) refl rs i out whole past so_far
+
+-- two agents that face each other without a rule
+pub facing : {T E : Type 0} (r : Result T E) (place : List ℕ) (rs : Rules) (left right : Cell) (words old new : List ℕ)
+    → is_some (rule_for rs.rules (out-Cell left).sym (out-Cell right).sym) ≡ false
+    → words ≡ codes "no rule for " ++ pair_text rs.symbols (out-Cell left).sym (out-Cell right).sym → OnOk r (new ≡ old ++ warning_line place words)
+    → OnOk r (new ≡ old ++ ruleless_line place rs (cell_tree left) (cell_tree right))
+facing (Ok v) place rs left right words old new none are put =
+    put ∙ ap (λ w. old ++ warning_line place w) are ∙ sym (ap (λ l. old ++ l) (rw (cell_tree-out left, cell_tree-out right) (rw none refl)))
+facing (Err e) place rs left right words old new none are put = tt

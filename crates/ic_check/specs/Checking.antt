@@ -1,0 +1,141 @@
+-- To be believed: what is told of a text (this project's choice).
+use Rattle.std.specs.Prelude.{◌≡◌, ◌⊎◌, ℕ, ◌+◌, ◌-◌, ◌==◌, List, [], ◌∷◌, ◌++◌, Bool, true, false, ◌&&◌, ◌||◌, not, Option, None, Some, Result, Ok, Err, codes, length, drop, option_map, if◌then◌else◌}
+use Rattle.ic_term.specs.Symbol.{Symbol}
+use Rattle.ic_term.specs.Configuration.{Configuration}
+use Rattle.ic_rules.specs.System.{SystemParts}
+use Rattle.ic_jobs.specs.declared.command.Command.{Command}
+use Rattle.ic_jobs.specs.declared.command.Command.TheVariants as command
+use Rattle.ic_commands.specs.LineText.{ReadsLine}
+use Rattle.ic_commands.specs.declared.line.Line.{Line}
+use Rattle.ic_commands.specs.declared.line.Line.TheVariants.{Blank, Command as Asks, Run}
+use Rattle.ic_lines.specs.Lines.{lines}
+use Rattle.ic_text.specs.FaultNumber.{fault_number}
+use Rattle.ic_text.specs.Places.{IsPlaced}
+use Rattle.ic_text.specs.Source.{IsPhrase, phrase_words}
+use Rattle.ic_text.specs.SystemSource.{IsSystemPhrase, system_words}
+use Rattle.ic_text.specs.SystemText.{ReadsSystem}
+use Rattle.ic_text.specs.Text.{Reads}
+use Rattle.ic_text.specs.Token.{is_blank}
+use Rattle.ic_text.specs.Words.{written_phrase, written_system}
+use Rattle.ic_text.specs.declared.fault.TextFault.{TextFault}
+use Rattle.ic_text.specs.declared.misread.Detail.{Detail}
+use Rattle.ic_places.specs.declared.telling.Kind.{Kind}
+use Rattle.ic_places.specs.declared.telling.Kind.TheVariants.{Config, System}
+use Rattle.ic_check.specs.Telling.{fault_line, place_text, placed_line}
+use Rattle.ic_check.specs.Warnings.{Warns}
+use Rattle.ic_check.specs.declared.checking.Form.{Form}
+use Rattle.ic_check.specs.declared.checking.Form.TheVariants as form
+
+-- how many lines of a file stand before a text of it
+abbrev pub before : Option ℕ → ℕ
+before None = 0
+before (Some line) = line - 1
+
+-- the line of a fault, with its place in the text where that is told
+abbrev pub told_fault : List ℕ → Option ℕ → Kind → List ℕ → Option ℕ → TextFault → Detail
+    → List ℕ
+told_fault file line kind text (Some at) fault detail =
+    placed_line file (before line) kind text at fault detail
+told_fault file line kind text None fault detail = fault_line (place_text file line) fault
+
+-- what is told of a text that is read so: of its value, or of its fault
+abbrev pub TellsAnswer : {V : Type 0} → (V → List ℕ → Type 0) → (TextFault → List ℕ → Type 0)
+    → Result V TextFault → List ℕ → Bool → Type 0
+TellsAnswer OfValue OfFault (Ok v) told faulty = OfValue v told × (faulty ≡ false)
+TellsAnswer OfValue OfFault (Err fault) told faulty = OfFault fault told × (faulty ≡ true)
+
+-- a configuration: nothing, or its fault
+abbrev pub TellsConfig : (file text told : List ℕ) → Bool → Type 0
+TellsConfig file text told faulty = (answer : Result (List Symbol × Configuration) TextFault)
+    × Reads text answer
+    × TellsAnswer (λ v told. told ≡ []) (λ fault told. (place : Option ℕ) × (detail : Detail)
+    × IsPlaced IsPhrase phrase_words written_phrase text fault place detail
+    × (told ≡ told_fault file None Config text place fault detail)) answer told faulty
+
+-- a system: its warnings, or its fault
+abbrev pub TellsSystem : (file text told : List ℕ) → Bool → Type 0
+TellsSystem file text told faulty = (answer : Result SystemParts TextFault)
+    × ReadsSystem text answer
+    × TellsAnswer (λ s told. Warns file s.rules s.config told)
+    (λ fault told. (place : Option ℕ) × (detail : Detail)
+    × IsPlaced IsSystemPhrase system_words written_system text fault place detail
+    × (told ≡ told_fault file None System text place fault detail)) answer told faulty
+
+-- what stands before the first brace of a line, and the rest, which begins with it
+abbrev pub front_of : List ℕ → List ℕ
+front_of [] = []
+front_of (b ∷ bs) = if b == 123 then [] else b ∷ front_of bs
+
+abbrev pub system_of : List ℕ → List ℕ
+system_of line = drop (length (front_of line)) line
+
+-- the line with the empty system behind its front
+abbrev pub with_no_system : List ℕ → List ℕ
+with_no_system line = front_of line ++ codes "{}<|>"
+
+-- The place of a line's fault, where the system in it has this place and this fault: the same, where
+-- the fault is.
+abbrev pub place_within : List ℕ → TextFault → Option ℕ → TextFault → Option ℕ
+place_within line fault inner other = if fault_number fault == fault_number other
+    then option_map (λ at. length (front_of line) + at) inner else None
+
+-- where the system in a line is refused, and with which fault
+pub record IsSystemFault (line : List ℕ) (other : TextFault) (inner : Option ℕ) (detail : Detail)
+    : Type 0 where
+  pub reads : ReadsSystem (system_of line) (Err other)
+  pub placed : IsPlaced IsSystemPhrase system_words written_system (system_of line) other inner
+      detail
+
+-- The place of a fault of a line: it is told where the line's front is that of a submit, and its
+-- system has the fault.
+abbrev pub IsLinePlace : List ℕ → TextFault → Option ℕ → Detail → Type 0
+IsLinePlace line fault place detail =
+    ((e : TextFault) × ReadsLine (with_no_system line) (Err e) × (place ≡ None))
+    ⊎ (((s : SystemParts) × ReadsSystem (system_of line) (Ok s) × (place ≡ None))
+    ⊎ ((asked : Line) × ReadsLine (with_no_system line) (Ok asked)
+    × (other : TextFault) × (inner : Option ℕ) × IsSystemFault line other inner detail
+    × (place ≡ place_within line fault inner other)))
+
+-- what is told of what a line asks: warnings of a system that is submitted
+abbrev pub WarnsOf : List ℕ → Line → List ℕ → Type 0
+WarnsOf place (Asks (command.Submit name s budget)) told = Warns place s.rules s.config told
+WarnsOf place asked told = told ≡ []
+
+-- a line of a file: its warnings, or its fault
+abbrev pub TellsLine : (file : List ℕ) → (number : ℕ) → (line told : List ℕ) → Bool → Type 0
+TellsLine file number line told faulty = (answer : Result Line TextFault)
+    × ReadsLine line answer
+    × TellsAnswer (WarnsOf (place_text file (Some number)))
+    (λ fault told. (place : Option ℕ) × (detail : Detail) × IsLinePlace line fault place detail
+    × (told ≡ told_fault file (Some number) System line place fault detail)) answer told faulty
+
+-- lines of a file, the first of which has this number, one after the other
+abbrev pub TellsLines : (file : List ℕ) → (number : ℕ) → List (List ℕ) → (told : List ℕ) → Bool
+    → Type 0
+TellsLines file number [] told faulty = (told ≡ []) × (faulty ≡ false)
+TellsLines file number (line ∷ ls) told faulty = (first : List ℕ) × (is_first : Bool)
+    × TellsLine file number line first is_first
+    × (rest : List ℕ) × (is_later : Bool) × TellsLines file (number + 1) ls rest is_later
+    × (told ≡ first ++ rest) × (faulty ≡ (is_first || is_later))
+
+-- the form of a file by its first byte that is no blank: `{` begins a system, `<` a configuration
+abbrev pub first_of : List ℕ → Option ℕ
+first_of [] = None
+first_of (b ∷ bs) = if is_blank b then first_of bs else Some b
+
+abbrev pub form_by : Option ℕ → Form
+form_by None = form.Lines
+form_by (Some b) =
+    if b == 123 then form.System else (if b == 60 then form.Config else form.Lines)
+
+abbrev pub form_of : List ℕ → Form
+form_of text = form_by (first_of text)
+
+-- what is told of a file, by its form
+abbrev pub TellsForm : Form → (file text told : List ℕ) → Bool → Type 0
+TellsForm form.System file text told faulty = TellsSystem file text told faulty
+TellsForm form.Config file text told faulty = TellsConfig file text told faulty
+TellsForm form.Lines file text told faulty = TellsLines file 1 (lines text) told faulty
+
+abbrev pub Tells : (file text told : List ℕ) → Bool → Type 0
+Tells file text told faulty = TellsForm (form_of text) file text told faulty

@@ -1,0 +1,78 @@
+-- To be believed: what is legal in a system and mostly a mistake, told in lines (this project's
+-- choice).
+use Rattle.std.specs.Prelude.{◌≡◌, ℕ, ◌+◌, ◌==◌, List, [], ◌∷◌, ◌++◌, Bool, true, false, ◌&&◌, not, codes, is_some, slice_get, if◌then◌else◌}
+use Rattle.std.specs.Fmt.{decimal}
+use Rattle.std.specs.List.{concat, count_by, flat_map}
+use Rattle.ic_term.specs.Tree.{Tree, name, agent, Pair}
+use Rattle.ic_term.specs.Configuration.{Configuration}
+use Rattle.ic_term.specs.Symbol.{Symbol}
+use Rattle.ic_rules.specs.Rule.{Rule}
+use Rattle.ic_rules.specs.RuleSet.{Rules}
+use Rattle.ic_round.specs.Firing.{rule_of_sides}
+use Rattle.ic_text.specs.Text.{text_or_none}
+use Rattle.ic_check.specs.Symbols.{text_symbols}
+use Rattle.ic_check.specs.Reach.{IsReach}
+
+-- the text of a symbol
+abbrev pub symbol_text : List Symbol → ℕ → List ℕ
+symbol_text ss s = text_or_none (slice_get ss s)
+
+-- `A><B`
+abbrev pub pair_text : List Symbol → ℕ → ℕ → List ℕ
+pair_text ss a b = symbol_text ss a ++ codes "><" ++ symbol_text ss b
+
+-- a line of a warning, behind what tells where
+abbrev pub warning_line : (place words : List ℕ) → List ℕ
+warning_line place words = concat (place ∷ codes ": warning: " ∷ words ∷ (10 ∷ []) ∷ [])
+
+-- an equation of two agents that no rule takes apart stays for ever
+abbrev pub ruleless_line : List ℕ → Rules → Tree → Tree → List ℕ
+ruleless_line place rs (agent a ts) (agent b us) =
+    if is_some (rule_of_sides rs.rules (agent a ts) (agent b us)) then []
+    else warning_line place (codes "no rule for " ++ pair_text rs.symbols a b)
+ruleless_line place rs _ _ = []
+
+abbrev pub ruleless_lines : List ℕ → Rules → List Pair → List ℕ
+ruleless_lines place rs es = flat_map (λ e. ruleless_line place rs e.left e.right) es
+
+-- how often a symbol stands among symbols
+abbrev pub count_of : List ℕ → ℕ → ℕ
+count_of ss s = count_by (λ t. t == s) ss
+
+-- a symbol of this number and this text that stands just once among all
+abbrev pub once_line : (place all : List ℕ) → ℕ → List ℕ → List ℕ
+once_line place all i text =
+    if count_of all i == 1 then warning_line place (text ++ codes " stands only once") else []
+
+-- those of these symbols that do, the first of which has this number
+abbrev pub once_lines : (place all : List ℕ) → ℕ → List Symbol → List ℕ
+once_lines place all i [] = []
+once_lines place all i (s ∷ ss) =
+    once_line place all i s.text ++ once_lines place all (i + 1) ss
+
+-- `rule I, A><B, is never used`
+abbrev pub unused_words : List Symbol → ℕ → Rule → List ℕ
+unused_words ss i r = codes "rule " ++ decimal (i + 1) ++ codes ", "
+    ++ pair_text ss r.left r.right ++ codes ", is never used"
+
+-- a rule that is never used, since its symbols never both stand in the configuration
+abbrev pub unused_line : List ℕ → (ℕ → Bool) → List Symbol → ℕ → Rule → List ℕ
+unused_line place among ss i r = if among r.left && among r.right then []
+    else warning_line place (unused_words ss i r)
+
+-- those of these rules that aren't, the first of which has this place
+abbrev pub unused_lines : List ℕ → (ℕ → Bool) → List Symbol → ℕ → List Rule → List ℕ
+unused_lines place among ss i [] = []
+unused_lines place among ss i (r ∷ rs) =
+    unused_line place among ss i r ++ unused_lines place among ss (i + 1) rs
+
+-- all warnings of a system, where these symbols may come to stand
+abbrev pub warning_lines : List ℕ → (ℕ → Bool) → Rules → Configuration → List ℕ
+warning_lines place among rs c = ruleless_lines place rs c.equations
+    ++ once_lines place (text_symbols rs.rules c) 0 rs.symbols
+    ++ unused_lines place among rs.symbols 0 rs.rules
+
+-- these lines tell the warnings of a system
+abbrev pub Warns : List ℕ → Rules → Configuration → List ℕ → Type 0
+Warns place rs c lines = (among : ℕ → Bool) × IsReach rs.rules c among
+    × (lines ≡ warning_lines place among rs c)

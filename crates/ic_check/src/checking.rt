@@ -1,0 +1,69 @@
+//! Looking over a file by its form.
+
+ghost use Rattle.std.specs.Prelude.{◌≡◌, ◌++◌, ℕ, List, IfOk};
+ghost use Rattle.ic_check.specs.Checking.{Tells, TellsForm, first_of, form_of};
+
+use crate::lines::check_lines;
+use crate::texts::{check_config, check_system};
+use ic_text::is_blank;
+use std::alloc::{AllocError, Global};
+
+/// What a file holds.
+#[derive(Clone, Copy, Debug, PartialEq, Eq)]
+pub enum Form {
+    System,
+    Config,
+    /// Lines for a server.
+    Lines,
+}
+
+/// The first byte that is no blank.
+fn first_byte(text: &[u8]) -> Option<u8>
+    ensures { result ≡ first_of text.now }
+{
+    for byte in text {
+        if !is_blank(*byte) {
+            return Some(*byte);
+        }
+    }
+    None
+}
+
+/// The form of a file, which its first byte that is no blank tells.
+fn form_of(text: &[u8]) -> Form
+    ensures { result ≡ form_of text.now }
+{
+    match first_byte(text) {
+        Some(b'{') => Form::System,
+        Some(b'<') => Form::Config,
+        _ => Form::Lines,
+    }
+}
+
+/// Appends what is told of a text of this form, and tells whether it has a fault.
+fn check_form(
+    alloc: Global,
+    form: Form,
+    file: &[u8],
+    text: &[u8],
+    out: &mut Vec<u8>,
+) -> Result<bool, AllocError>
+    ensures { IfOk result (λ faulty. (told : List ℕ)
+        × TellsForm form file.now text.now told faulty
+        × (out.new.items ≡ out.old.items ++ told)) }
+{
+    match form {
+        Form::System => check_system(alloc, file, text, out),
+        Form::Config => check_config(alloc, file, text, out),
+        Form::Lines => check_lines(alloc, file, text, out),
+    }
+}
+
+/// Appends lines that tell the faults of a file of this name, and the warnings of what has none, and tells whether it has a
+/// fault. A line of a faulty file may be without one, and is looked at by itself.
+pub fn check(alloc: Global, file: &[u8], text: &[u8], out: &mut Vec<u8>) -> Result<bool, AllocError>
+    ensures { IfOk result (λ faulty. (told : List ℕ) × Tells file.now text.now told faulty
+        × (out.new.items ≡ out.old.items ++ told)) }
+{
+    check_form(alloc, form_of(text), file, text, out)
+}

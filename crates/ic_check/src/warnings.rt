@@ -1,0 +1,250 @@
+//! The lines that warn of what is legal in a system and mostly a mistake.
+
+ghost use Rattle.std.specs.Prelude.{◌≡◌, ◌&&◌, ◌++◌, ℕ, List, IfOk, OnOk, codes, map};
+ghost use Rattle.ic_term.specs.Term.{cell_tree, pair, tree};
+ghost use Rattle.ic_check.specs.Warnings.{Warns, count_of, once_line, once_lines, pair_text, ruleless_line, ruleless_lines, symbol_text, unused_line, unused_lines, unused_words, warning_line};
+ghost use Rattle.ic_check.specs.inner.Growing.{holds};
+
+use crate::reach::{holds, reach};
+use crate::symbols::text_symbols;
+use ic_rules::{Rule, RuleSet};
+use ic_term::{Cell, Config, Equation, Symbols, Term};
+use std::alloc::{AllocError, Global};
+
+/// Appends the line of a warning.
+fn put_warning(place: &[u8], words: &[u8], out: &mut Vec<u8>) -> Result<(), AllocError>
+    ensures { OnOk result
+        (out.new.items ≡ out.old.items ++ warning_line place.now words.now) }
+{
+    out.extend_from_slice(place)?;
+    out.extend_from_slice(b": warning: ")?;
+    out.extend_from_slice(words)?;
+    out.push(b'\n')?;
+    Ok(())
+}
+
+/// The text of a symbol, where there is one of this number.
+fn symbol_text(symbols: &Symbols, symbol: u32) -> &[u8]
+    ensures { result.now ≡ symbol_text symbols.now symbol }
+{
+    if (symbol as usize) < symbols.len() {
+        symbols.text(symbol)
+    } else {
+        b""
+    }
+}
+
+/// The texts of two symbols, as a rule of them begins.
+fn pair_text(alloc: Global, symbols: &Symbols, left: u32, right: u32) -> Result<Vec<u8>, AllocError>
+    ensures { IfOk result (λ text. text.items ≡ pair_text symbols.now left right) }
+{
+    let mut text = symbol_text(symbols, left).to_vec(alloc)?;
+    text.extend_from_slice(b"><")?;
+    text.extend_from_slice(symbol_text(symbols, right))?;
+    Ok(text)
+}
+
+/// The words of a pair of symbols that has no rule.
+fn ruleless_words(
+    alloc: Global,
+    symbols: &Symbols,
+    left: u32,
+    right: u32,
+) -> Result<Vec<u8>, AllocError>
+    ensures { IfOk result
+        (λ words. words.items ≡ codes "no rule for " ++ pair_text symbols.now left right) }
+{
+    let mut words = b"no rule for ".to_vec(alloc)?;
+    words.extend_from_slice(&pair_text(alloc, symbols, left, right)?)?;
+    Ok(words)
+}
+
+/// Appends the line of two agents that face each other, where no rule takes them apart.
+fn put_facing(
+    alloc: Global,
+    place: &[u8],
+    rules: &RuleSet,
+    left: &Cell,
+    right: &Cell,
+    out: &mut Vec<u8>,
+) -> Result<(), AllocError>
+    ensures { OnOk result (out.new.items ≡ out.old.items
+        ++ ruleless_line place.now rules.now (cell_tree left.now) (cell_tree right.now)) }
+{
+    if rules.find(left.sym, right.sym).is_some() {
+        return Ok(());
+    }
+    let words = ruleless_words(alloc, rules.symbols(), left.sym, right.sym)?;
+    put_warning(place, &words, out)
+}
+
+/// Appends the line of an equation of two agents that no rule takes apart.
+fn put_ruleless(
+    alloc: Global,
+    place: &[u8],
+    rules: &RuleSet,
+    equation: &Equation,
+    out: &mut Vec<u8>,
+) -> Result<(), AllocError>
+    ensures { OnOk result (out.new.items ≡ out.old.items
+        ++ ruleless_line place.now rules.now (tree equation.now.left) (tree equation.now.right)) }
+{
+    match (&equation.left, &equation.right) {
+        (Term::Agent(left), Term::Agent(right)) => {
+            put_facing(alloc, place, rules, left, right, out)
+        }
+        _ => Ok(()),
+    }
+}
+
+/// Appends the lines of the equations of two agents that no rule takes apart.
+fn put_ruleless_lines(
+    alloc: Global,
+    place: &[u8],
+    rules: &RuleSet,
+    equations: &[Equation],
+    out: &mut Vec<u8>,
+) -> Result<(), AllocError>
+    ensures { OnOk result (out.new.items ≡ out.old.items
+        ++ ruleless_lines place.now rules.now (map pair equations.now)) }
+{
+    for equation in equations {
+        put_ruleless(alloc, place, rules, equation, out)?;
+    }
+    Ok(())
+}
+
+/// How often a symbol stands among these.
+fn count_of(symbols: &[u32], symbol: u32) -> usize
+    ensures { result ≡ count_of symbols.now symbol }
+{
+    let mut count = 0;
+    for other in symbols {
+        if *other == symbol {
+            count += 1;
+        }
+    }
+    count
+}
+
+/// Appends the line of a symbol of this text, where it stands just once among these.
+fn put_once(
+    alloc: Global,
+    place: &[u8],
+    all: &[u32],
+    symbol: u32,
+    text: &[u8],
+    out: &mut Vec<u8>,
+) -> Result<(), AllocError>
+    ensures { OnOk result
+        (out.new.items ≡ out.old.items ++ once_line place.now all.now symbol text.now) }
+{
+    if count_of(all, symbol) != 1 {
+        return Ok(());
+    }
+    let mut words = text.to_vec(alloc)?;
+    words.extend_from_slice(b" stands only once")?;
+    put_warning(place, &words, out)
+}
+
+/// Appends the lines of the symbols that stand just once among these.
+fn put_once_lines(
+    alloc: Global,
+    place: &[u8],
+    all: &[u32],
+    symbols: &Symbols,
+    out: &mut Vec<u8>,
+) -> Result<(), AllocError>
+    ensures { OnOk result
+        (out.new.items ≡ out.old.items ++ once_lines place.now all.now 0 symbols.now) }
+{
+    let count = symbols.len();
+    for symbol in 0..count {
+        let number = symbol as u32;
+        put_once(alloc, place, all, number, symbols.text(number), out)?;
+    }
+    Ok(())
+}
+
+/// The words of a rule that is never used, which stands at this place.
+fn unused_words(
+    alloc: Global,
+    symbols: &Symbols,
+    at: usize,
+    rule: &Rule,
+) -> Result<Vec<u8>, AllocError>
+    ensures { IfOk result (λ words. words.items ≡ unused_words symbols.now at rule.now) }
+{
+    let number = at as u128 + 1;
+    let mut words = b"rule ".to_vec(alloc)?;
+    words.extend_from_slice(number.to_string(alloc)?.as_bytes())?;
+    words.extend_from_slice(b", ")?;
+    words.extend_from_slice(&pair_text(alloc, symbols, rule.left(), rule.right())?)?;
+    words.extend_from_slice(b", is never used")?;
+    Ok(words)
+}
+
+/// Whether both symbols of a rule are among these.
+fn may_be_used(seen: &[u32], rule: &Rule) -> bool
+    ensures { result ≡ (holds seen.now rule.now.left && holds seen.now rule.now.right) }
+{
+    holds(seen, rule.left()) && holds(seen, rule.right())
+}
+
+/// Appends the line of a rule that is never used, where these symbols may come to stand.
+fn put_unused(
+    alloc: Global,
+    place: &[u8],
+    seen: &[u32],
+    symbols: &Symbols,
+    at: usize,
+    rule: &Rule,
+    out: &mut Vec<u8>,
+) -> Result<(), AllocError>
+    ensures { OnOk result (out.new.items ≡ out.old.items
+        ++ unused_line place.now (holds seen.now) symbols.now at rule.now) }
+{
+    if may_be_used(seen, rule) {
+        return Ok(());
+    }
+    let words = unused_words(alloc, symbols, at, rule)?;
+    put_warning(place, &words, out)
+}
+
+/// Appends the lines of the rules that are never used, where these symbols may come to stand.
+fn put_unused_lines(
+    alloc: Global,
+    place: &[u8],
+    seen: &[u32],
+    symbols: &Symbols,
+    rules: &[Rule],
+    out: &mut Vec<u8>,
+) -> Result<(), AllocError>
+    ensures { OnOk result (out.new.items ≡ out.old.items
+        ++ unused_lines place.now (holds seen.now) symbols.now 0 rules.now) }
+{
+    for (at, rule) in rules.iter().enumerate() {
+        put_unused(alloc, place, seen, symbols, at, rule, out)?;
+    }
+    Ok(())
+}
+
+/// Appends all warnings of a system that stands at this place.
+pub(crate) fn put_warnings(
+    alloc: Global,
+    place: &[u8],
+    rules: &RuleSet,
+    config: &Config,
+    out: &mut Vec<u8>,
+) -> Result<(), AllocError>
+    ensures { OnOk result ((lines : List ℕ) × Warns place.now rules.now config.now lines
+        × (out.new.items ≡ out.old.items ++ lines)) }
+{
+    let listed = rules.rules();
+    let symbols = rules.symbols();
+    let all = text_symbols(alloc, listed, config)?;
+    let seen = reach(alloc, listed, config)?;
+    put_ruleless_lines(alloc, place, rules, config.equations(), out)?;
+    put_once_lines(alloc, place, &all, symbols, out)?;
+    put_unused_lines(alloc, place, &seen, symbols, listed, out)
+}
