@@ -1,5 +1,6 @@
 //! What is answered to a row, by its kind.
 
+use crate::checks::checked;
 use crate::failing::{failing_reader, failing_writer, reads, slowly, unflushed};
 use crate::faults::text_line;
 use crate::places::{config_place, once_told, settle_told, system_place};
@@ -35,7 +36,8 @@ impl<R: Threads + Wait> Answers for Kinds<'_, R> {
             | "byte"
             | "system_byte"
             | "config_place"
-            | "system_place" => of_text(alloc, row),
+            | "system_place"
+            | "checked" => of_text(alloc, row),
             _ => of_stream(self.rt, alloc, row),
         }
     }
@@ -63,6 +65,7 @@ fn of_text(alloc: Global, row: &Row<'_>) -> Result<Vec<u8>, Trouble> {
         "system" => system(alloc, &text),
         "config_place" => config_place(alloc, &text),
         "system_place" => system_place(alloc, &text),
+        "checked" => checked(alloc, &text),
         "symbols" => named_symbols(alloc, &text),
         "byte" => fates(alloc, &text),
         _ => blanks(alloc, &text),

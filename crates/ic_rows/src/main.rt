@@ -1,8 +1,9 @@
-//! The worked rows of texts, values, words, streams and places: `answers` says what a row may ask. Of the streams
+//! The worked rows of texts, values, words, streams, places and checks: `answers` says what a row may ask. Of the streams
 //! some settle, some make rounds, and one draws.
 #![tactic(auto)]
 
 mod answers;
+mod checks;
 mod failing;
 mod faults;
 mod places;

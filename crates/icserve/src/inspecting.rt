@@ -36,7 +36,7 @@ fn look(rt: &HostRuntime, path: &str, notes: &Notes) -> Result<bool, Failure> {
 
 /// Opens the file of this path, which has to be a plain one, since others may keep who reads waiting.
 /// A folder can be opened, and isn't read.
-fn open_to_read<'a>(
+pub(crate) fn open_to_read<'a>(
     rt: &HostRuntime,
     path: &str,
     notes: &'a Notes,

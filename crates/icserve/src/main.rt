@@ -1,6 +1,7 @@
 //! The program `icserve`: a job server for the interaction calculus.
 #![tactic(auto)]
 
+mod checking;
 mod dumping;
 mod inspecting;
 mod looking;
@@ -69,8 +70,9 @@ fn path_of(task: &Task) -> &str {
     }
 }
 
-/// Does a task on standard input and output, but for `create`, and but for the input of `attend`.
-/// The lines that tell the place of a fault in a text are appended to `told`.
+/// Does a task on standard input and output, but for `create`, and but for the input of `attend` and
+/// of `check`. The lines that tell the place of a fault in a text, and those that tell why a text
+/// can't be read, are appended to `told`.
 fn run<T: Threads + Wait + Sync>(
     rt: &HostRuntime,
     threads: &T,
@@ -113,6 +115,7 @@ fn run<T: Threads + Wait + Sync>(
         Task::Draw => looking::draw(rt, told),
         Task::Dump { disk, names } => dumping::dump(rt, disk.as_str(), &names, notes),
         Task::Inspect { disk } => inspecting::inspect(rt, disk.as_str(), notes),
+        Task::Check { files } => checking::check(rt, &files, told),
         Task::Help(text) | Task::Version(text) => {
             show(&mut output, text.as_str()).map_err(Failure::Stream)
         }

@@ -1,0 +1,192 @@
+"""`check`: the faults of texts in files, each with its place, and warnings of what is legal and mostly a mistake. What is told
+is compared with the model of `checked.py`."""
+
+import os
+import re
+
+import draws
+import model
+from checked import MOST_BYTES, checked
+from places import MOST_BYTES as MOST_TEXT
+from program import IN_MEMORY, TOP, Trial, as_bytes, run
+from test_drawn_serving import job_names, session, small_systems
+from worked_rows import expanded, rows
+
+CONFIGS = ("config", "settle", "config_place", "settle_told")
+SYSTEMS = ("system", "once", "system_place", "once_told")
+
+
+class Check(Trial):
+    seconds = 8
+    rooms = IN_MEMORY
+
+    def put(self, *texts):
+        """Files with these texts, each with its path and its text."""
+        files = []
+        for number, text in enumerate(texts):
+            path = self.room / f"{number}.ic"
+            path.write_bytes(as_bytes(text))
+            files.append((path, as_bytes(text)))
+        return files
+
+    def tells(self, files):
+        """Fails unless the files are told as the model says, in their order."""
+        told = [checked(path, text) for path, text in files]
+        ran = run("check", *(path for path, _ in files))
+        self.agrees(ran.command, "what is told", "".join(f"{it}\n" for lines, _ in told for it in lines), ran.out)
+        faulty = any(it for _, it in told)
+        ends = (1, b"icserve: faults\n") if faulty else (0, b"")
+        self.equals(ran.command, "how it ends", ends, (ran.status, ran.err))
+        return ran.out.decode()
+
+    def test_each_row(self):
+        texts = [expanded(text) for _, _, text, _ in rows("ic_rows", *CONFIGS, *SYSTEMS)]
+        files = self.put(*texts)
+        for at in range(0, len(files), 50):
+            self.tells(files[at : at + 50])
+        for at in range(0, len(texts), 20):
+            lines = [b"submit job " + it.replace(b"\n", b" ") for it in texts[at : at + 20] if len(it) < 100_000]
+            self.tells(self.put(b"\n".join(lines)))
+
+    def test_each_fault_of_the_page_on_texts_has_the_place_that_the_page_tells(self):
+        """What `settle` and `once` say there, in one line for each text."""
+        page = (TOP / "docs/text-format.md").read_text()
+        typed = re.findall(
+            r"\$ printf '(.*)' \| \./icserve (?:settle|once)\n *icserve: (.*)\n *line (\d+), column (\d+)\n.*\n.*\n *(.*)\n", page
+        )
+        self.equals("docs/text-format.md", "at least seven faults", True, len(typed) >= 7)
+        files = self.put(*(it[0] for it in typed))
+        wanted = [
+            f"{path}:{line}:{column}: {fault}: {sentence}"
+            for (path, _), (_, fault, line, column, sentence) in zip(files, typed)
+        ]
+        self.refuses("check", *(path for path, _ in files), out=wanted, line="faults", status=1)
+        self.tells(files)
+
+    def test_warnings(self):
+        add = "{Add(x,x)><Z;Add(S(x),y)><S(Add(x,y))}"
+        systems = {
+            f"{add} <r|Add(r,S(Z))=S(Z)>": [],
+            f"{add} <r|Add(r,Z)=Nil>": ["no rule for Add><Nil", "Nil stands only once", "rule 2, Add><S, is never used"],
+            f"{add} <Z|>": ["rule 1, Add><Z, is never used", "rule 2, Add><S, is never used"],
+            "{A><B} <|A=B>": [],
+            "{A><B} <|A=A,B=A,B=B>": ["no rule for A><A", "no rule for B><B"],
+            "{A><B;D><D} <|A=x>": ["B stands only once", "rule 1, A><B, is never used", "rule 2, D><D, is never used"],
+            "{} <x,A|x=A>": [],
+            "{} <A|>": ["A stands only once"],
+        }
+        for text, told in systems.items():
+            ((path, _),) = files = self.put(text)
+            self.tells(files)
+            self.runs("check", path, out=[f"{path}: warning: {it}" for it in told])
+            ((path, _),) = self.put(f"\nsubmit one {text}\nlist")
+            self.runs("check", path, out=[f"{path}:2: warning: {it}" for it in told])
+        self.tells(self.put("<A|>", "<|A=B>"))
+
+    def test_the_texts_and_sessions_in_examples(self):
+        paths = sorted([*TOP.glob("examples/*.ic"), *TOP.glob("examples/*.session")])
+        self.equals("examples/", "at least 20 files", True, len(paths) >= 20)
+        told = self.tells([(path, path.read_bytes()) for path in paths])
+        faulty = [it for it in told.splitlines() if "warning" not in it and ".ic:" in it]
+        self.equals("examples/", "texts with a fault", [], faulty)
+
+    def test_drawn_texts(self):
+        drawn = self.draws()
+        texts = []
+        for _ in range(150):
+            rule_set, config = draws.system(drawn, drawn.choice([1, 2, 5]), drawn.choice([2, 3, 6]), drawn.choice([0, 0, 0.2]))
+            text = drawn.choice([draws.system_text, draws.system_text, model.printed])(rule_set, config)
+            text = as_bytes(draws.spaced(drawn, text) if drawn.random() < 0.3 else text)
+            for _ in range(drawn.choice([0, 0, 1, 1, 2])):
+                text = draws.spoilt(drawn, text)
+            texts.append(text)
+        files = self.put(*texts)
+        for at in range(0, len(files), 30):
+            self.tells(files[at : at + 30])
+
+    def test_drawn_lines(self):
+        drawn = self.draws()
+        for _ in range(12):
+            lines = session(drawn, job_names(drawn, 6), small_systems(drawn, 6), drawn.choice([1, 10, 60]))
+            lines = [draws.spoilt(drawn, as_bytes(it)) if drawn.random() < 0.5 else as_bytes(it) for it in lines]
+            self.tells(self.put(drawn.choice([b"\n", b"\r\n"]).join(lines) + drawn.choice([b"", b"\n", b"\r\n", b"\n\n"])))
+
+    def test_files_that_are_no_text(self):
+        blank = [b"", b"\n", b" \t\r\n"]
+        others = [b"\0", b"\xff\xfe<|>", b"\xef\xbb\xbf{} <|>", b"# a comment\n<|>", b"{", b"<", b"\n\n<", b"\r{}\r\n<\r"]
+        self.tells(self.put(*blank, *others))
+
+    def test_line_ends(self):
+        for end in ("\n", "\r\n", "\r"):
+            system = end.join(["{A><B;", "\tB><A}", "<|>"])
+            lines = end.join(["list", "", "submit a {A(x)><B} <|>", "pause", "submit b {} <A|>", "submit"])
+            self.tells(self.put(system, lines, lines + end, end + end + lines))
+
+    def test_texts_of_the_greatest_length(self):
+        for piece in (b"<", b"{}<|>", b"x\n", b"submit a {}<|>\n", b"\xc3\xa9", b"\r\n"):
+            long = piece * (MOST_TEXT // len(piece) + 1)
+            self.tells(self.put(*(long[:most] for most in (MOST_TEXT, MOST_TEXT + 1))))
+        space = b" " * MOST_TEXT
+        self.tells(self.put(space + b"<|>", b"submit a {}" + space + b"<|>\nlist\n", b"submit a {" + space + b"A}<|>"))
+
+    def test_many_lines(self):
+        lines = {b"list\n": 0, b"submit a {} <r|r=r>\r\n": 1, b"x\n": 1, b"submit b {A><B} <A|>\n": 2}
+        for line, told in lines.items():
+            self.equals("check", "how many lines are told", told * 100_000, self.tells(self.put(line * 100_000)).count("\n"))
+
+    def test_several_files(self):
+        fine, faulty, warns = self.put("<|>", "<|", "{} <A|>")
+        self.tells([fine])
+        self.tells([warns, fine])
+        self.tells([fine, faulty, warns])
+        self.tells([faulty] * 3)
+
+    def test_files_that_are_not_read(self):
+        """The others are looked over all the same."""
+        (fine, _), (faulty, text) = self.put("<|>", "<|")
+        os.mkfifo(self.room / "pipe")
+        missing = [f"{self.room}/missing: open: no such file or folder"]
+        folder = [f"{self.room}: read: is a folder"]
+        pipe = [f"{self.room}/pipe: open: not possible with such a file"]
+        told, _ = checked(faulty, text)
+        for paths, out, behind in (
+            ([self.room / "missing"], [], missing),
+            ([fine, self.room], [], folder),
+            ([self.room / "pipe", faulty], told, pipe),
+            ([self.room / "missing", faulty, self.room, fine, faulty], told + told, missing + folder),
+        ):
+            self.runs("check", *paths, out=out, err=["icserve: read", *behind], status=4)
+        how = self.without_rights()
+        os.chmod(fine, 0o000)
+        os.chmod(faulty, 0o444)
+        err = ["icserve: read", f"{fine}: open: no rights"]
+        self.runs("check", fine, faulty, out=told, err=err, status=4, **how)
+
+    def test_a_file_that_is_too_long(self):
+        ((path, _),) = self.put(b"")
+        with open(path, "r+b") as file:
+            file.truncate(MOST_BYTES)
+        told, _ = checked(path, bytes(MOST_BYTES))
+        self.refuses("check", path, out=told, line="faults", status=1)
+        for size in (MOST_BYTES + 1, 2**40):
+            with open(path, "r+b") as file:
+                file.truncate(size)
+            self.runs("check", path, err=["icserve: read", f"{path}: it has more than {MOST_BYTES} bytes"], status=4)
+
+    def test_a_path_with_bytes_that_are_not_shown(self):
+        path = self.room / "a\nb\x7f\u00e9.ic"
+        path.write_text("<|")
+        told = f"{self.room}/a?b?\u00e9.ic:1:3: bad syntax: the text ends before its configuration does"
+        self.refuses("check", path, out=[told], line="faults", status=1)
+
+    def test_files_stay_as_they_are(self):
+        files = self.put("<|", "{} <A|>", "submit\n")
+        before = [(path.read_bytes(), path.stat().st_mtime_ns) for path, _ in files]
+        self.tells(files)
+        self.equals("check", "the files", before, [(path.read_bytes(), path.stat().st_mtime_ns) for path, _ in files])
+
+    def test_an_output_that_cant_be_written(self):
+        ((path, _),) = self.put("<|")
+        with open("/dev/full", "wb") as full:
+            ran = run("check", path, stdout=full)
+        self.equals(ran.command, "how it ends", (4, b"icserve: write\n"), (ran.status, ran.err))
