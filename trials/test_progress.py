@@ -8,16 +8,16 @@ import time
 import tty
 import unittest
 
-from known import LOOP, STILL
+from known import LOOP, STILL, name_text
 from program import IN_MEMORY, PROGRAM, Trial, as_lines, run, said_of
 
 # A line as the program writes it: to the begin of the terminal's line, the text, and what erases the rest.
 LINE = re.compile(rb"\revents (\d+)(?:, rounds a second (\d+), jobs running (\d+))?\x1b\[K")
 WIPED = b"\r\x1b[K"
 
-# A system whose net grows with each round, so that many rounds take a while on any machine.
-GROWING = "{A(B(x),S(y))><B(A(x,y))} <r|A(x,r)=B(x)>"
-LONG = [f"submit grow {GROWING}", *["run 1000"] * 6]
+# A thousand pairs that never end, so that many rounds take a while on any machine.
+WIDE = "{A(B(x))><B(A(x))} <|" + ",".join(f"A({name_text(at)})=B({name_text(at)})" for at in range(1000)) + ">"
+LONG = [f"submit wide {WIDE}", *["run 1000"] * 6]
 ANSWERS = ["accepted", *["ran 1000"] * 6]
 
 
@@ -91,12 +91,12 @@ class Progress(Trial):
         self.equals(self.command, "status and standard output", (0, as_lines(ANSWERS)), (status, out))
         lines = self.lines_of(shown, took)
         self.equals(self.command, f"more than two lines came: {lines}", True, len(lines) > 2)
-        told = all(0 < events <= 6000 and running == 1 for events, _, running in lines)
-        self.equals(self.command, f"1 to 6,000 events and one job that runs: {lines}", True, told)
+        told = all(0 < events <= 6001 and running == 1 for events, _, running in lines)
+        self.equals(self.command, f"1 to 6,001 events and one job that runs: {lines}", True, told)
 
     def test_scripts_show_their_line_on_a_terminal_and_wipe_it(self):
-        scripts = [self.script(f"script {i}", [f"submit grow{i} {GROWING}", *["list"] * 100]) for i in range(3)]
-        words = ["attend", "--disk", self.jobs, "--turns", 2400, *scripts]
+        scripts = [self.script(f"script {i}", [f"submit wide{i} {WIDE}", *["list"] * 100]) for i in range(3)]
+        words = ["attend", "--disk", self.jobs, "--turns", 800, *scripts]
         status, out, _, shown, took = self.shows(words, out=False)
         self.equals(self.command, "status, and how the output begins", (0, b"client 0\naccepted\n"), (status, out[:18]))
         lines = self.lines_of(shown, took)
