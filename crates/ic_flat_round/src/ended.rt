@@ -1,9 +1,8 @@
 //! Whether settling makes no step.
 
-ghost use Rattle.std.specs.Prelude.{◌≡◌, ℕ, ◌≤◌, ◌<◌, length, is_none};
+ghost use Rattle.std.specs.Prelude.{◌≡◌, ◌+◌, ◌++◌, ◌≤◌, ◌<◌, length, is_none};
 ghost use Rattle.std.specs.List.{flat_map, list_any};
 ghost use Rattle.std.specs.List.Sorted.{IsNonDecreasing};
-ghost use Rattle.ic_term.specs.Configuration.{occurrences, configuration_names};
 ghost use Rattle.ic_settle.specs.Settling.{settling_step};
 ghost use Rattle.ic_settle.specs.lemmas.Ended.{is_applicable, has_applicable};
 ghost use Rattle.ic_flat.specs.Words.{IsWhole, word_names};
@@ -18,37 +17,33 @@ use ic_settle::is_twice_in;
 type Names = ArrayVec<u64, 8_192>;
 
 /// Whether settling takes no step. Takes n log n steps for n nodes, and no memory but for a table
-/// of names on the stack (64 KiB).
+/// of names on the stack (64 KiB); where there is no equation, one step and no table.
 pub fn is_settled(flat: &Flat) -> bool
     ensures { result ≡ is_none (settling_step flat.now) }
 {
-    let names = sorted_names(flat);
+    flat.equations_len() == 0 || has_no_applicable(flat)
+}
+
+/// The same, by a table of the names.
+fn has_no_applicable(flat: &Flat) -> bool
+    ensures { result ≡ is_none (settling_step flat.now) }
+{
+    let mut names = ArrayVec::new();
+    push_names(flat.words(), &mut names);
+    names.sort_unstable();
     !any_applicable(names.as_slice(), flat)
 }
 
-/// The names of a configuration by their numbers.
-fn sorted_names(flat: &Flat) -> Names
-    ensures all { (x : ℕ)
-        → occurrences x result.items ≡ occurrences x (configuration_names flat.now) }
-    ensures twice { (x : ℕ) → occurrences x result.items ≤ 2 }
-    ensures sorted { IsNonDecreasing result.items }
+/// Appends the names of words, each as often as it occurs.
+fn push_names(words: &[Word], names: &mut Names)
+    requires { length names.old.items + length words.now ≤ 8192 }
+    ensures { names.new.items ≡ names.old.items ++ flat_map word_names words.now }
 {
-    let mut names = names_of(flat.words());
-    names.sort_unstable();
-    names
-}
-
-fn names_of(words: &[Word]) -> Names
-    requires { length words.now ≤ 8192 }
-    ensures { result.items ≡ flat_map word_names words.now }
-{
-    let mut names = ArrayVec::new();
     for word in words {
         if let Word::Name(name) = *word {
             names.push(name);
         }
     }
-    names
 }
 
 fn any_applicable(names: &[u64], flat: &Flat) -> bool
