@@ -1,6 +1,8 @@
 pub mod WordPlaces
 pub mod Appending
 pub mod RaisedWords
+pub mod RuleBounds
+pub mod RuleWriting
 pub mod Interacting
 pub mod BoundPlaces
 pub mod PassingWords

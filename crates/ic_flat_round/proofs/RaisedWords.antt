@@ -1,6 +1,5 @@
 -- Words of a rule's terms with their names made higher, and the products that they are put in.
-use Rattle.std.proofs.Common.{◌≡◌, ℕ, suc, ◌-◌, ◌<◌, List, [], ◌∷◌, ◌++◌, length, map, get_or, zero, subst, refl, sym, ap, ◌∙◌, append_assoc, arith}
-use Rattle.std.specs.Prelude.{Vec, IfSome, slice_get}
+use Rattle.std.proofs.Common.{◌≡◌, ℕ, suc, ◌-◌, ◌<◌, List, ◌∷◌, ◌++◌, length, map, refl, sym, ap, ◌∙◌, append_assoc, arith}
 use Rattle.std.specs.List.{flat_map}
 use Rattle.std.proofs.lemmas.List.{map-append, length-map}
 use Rattle.ic_term.specs.Tree.{Tree, name, agent, Trees, no_trees, more_trees, list_of}
@@ -47,22 +46,3 @@ forest-rule_words r =
 
 pub whole-rule_words : (r : Rule) → IsWhole (rule_words r)
 whole-rule_words r = whole-append (flat_map tree_words r.left_args) (flat_map tree_words r.right_args) (whole-words r.left_args) (whole-words r.right_args)
-
--- the words of the rule at a place
-items_at : {X Y : Type 0} (f : X → Y) (xs : List X) (i : ℕ) (d : X) → f (get_or xs i d) ≡ get_or (map f xs) i (f d)
-items_at f [] i d = refl
-items_at f (x ∷ xs) zero d = refl
-items_at f (x ∷ xs) (suc i) d = items_at f xs i d
-
-rule_words_at : (rs : List Rule) (i : ℕ) (d : List Word) → IfSome (slice_get rs i) (λ r. get_or (map rule_words rs) i d ≡ rule_words r)
-rule_words_at [] i d = tt
-rule_words_at (r ∷ rs) zero d = refl
-rule_words_at (r ∷ rs) (suc i) d = rule_words_at rs i d
-
-pub words_of_rule_at : {Z : Type 0} (all : List (Vec Word Z)) (rs : List Rule) (i : ℕ) (found : Vec Word Z) (words : List Word)
-    → map (λ (w : Vec Word Z). w.items) all ≡ map rule_words rs → found ≡ get_or all i found → words ≡ found.items
-    → IfSome (slice_get rs i) (λ r. words ≡ rule_words r)
-words_of_rule_at all rs i found words same at_place read =
-    let value : words ≡ get_or (map rule_words rs) i found.items =
-    read ∙ ap (λ (w : Vec Word _). w.items) at_place ∙ items_at (λ (w : Vec Word _). w.items) all i found ∙ ap (λ l. get_or l i found.items) same in
-    subst (λ ws. IfSome (slice_get rs i) (λ r. ws ≡ rule_words r)) (sym value) (rule_words_at rs i found.items)

@@ -1,12 +1,13 @@
 //! Rules with the words of their sides.
 
-ghost use Rattle.std.specs.Prelude.{◌≡◌, ◌<◌, length, map, IfOk, IfSome, slice_get};
+ghost use Rattle.std.specs.Prelude.{◌≡◌, ◌<◌, length, IfOk, IfSome, slice_get};
 ghost use Rattle.std.specs.Arc.{arc_value};
 ghost use Rattle.ic_rules.specs.RuleSet.{IsRuleSet};
 ghost use Rattle.ic_flat_round.specs.inner.RuleWords.{rule_words};
 
-use ic_flat::{Word, write_terms};
-use ic_rules::{Rule, RuleSet};
+use crate::writing::words_of_rules;
+use ic_flat::Word;
+use ic_rules::RuleSet;
 use std::alloc::{AllocError, Global};
 use std::marker::Model;
 use std::sync::Arc;
@@ -15,13 +16,17 @@ use std::sync::Arc;
 #[derive(Debug, Drop)]
 pub struct FlatRules {
     rules: Arc<RuleSet>,
-    words: Vec<Vec<Word>>,
+    /// The words of all rules, one rule's behind the other's.
+    words: Vec<Word>,
+    /// Where the words of each rule begin, and where those of the last one end.
+    bounds: Vec<usize>,
 }
 
 impl Model for FlatRules {
-    ghost use Rattle.std.specs.Prelude.{◌≡◌, map};
+    ghost use Rattle.std.specs.Prelude.{◌≡◌};
+    ghost use Rattle.std.specs.List.{flat_map};
     ghost use Rattle.ic_rules.specs.RuleSet.{Rules, IsRuleSet, coded_rules};
-    ghost use Rattle.ic_flat_round.specs.inner.RuleWords.{rule_words};
+    ghost use Rattle.ic_flat_round.specs.inner.RuleWords.{rule_words, bounds_from};
 
     ghost Value = { Rules };
 
@@ -32,16 +37,22 @@ impl Model for FlatRules {
     ghost view = { λ s. arc_value s.rules };
 
     ghost invariant = { λ s. IsRuleSet (arc_value s.rules)
-        × (map (λ w. w.items) s.words.items ≡ map rule_words (arc_value s.rules).rules) };
+        × (s.words.items ≡ flat_map rule_words (arc_value s.rules).rules)
+        × (s.bounds.items ≡ bounds_from 0 (arc_value s.rules).rules) };
 }
 
 impl FlatRules {
-    /// The same rules with their words. Takes memory in proportion to the nodes of the rules, which it shares.
+    /// The same rules with their words. Takes memory in proportion to the rules, which it shares, and
+    /// their nodes.
     pub fn new(alloc: Global, rules: Arc<RuleSet>) -> Result<FlatRules, AllocError>
         ensures { IfOk result (λ flat. flat ≡ arc_value rules) }
     {
-        let words = words_of_rules(alloc, rules.rules())?;
-        Ok(FlatRules { rules, words })
+        let (words, bounds) = words_of_rules(alloc, rules.rules())?;
+        Ok(FlatRules {
+            rules,
+            words,
+            bounds,
+        })
     }
 
     pub fn rules(&self) -> &RuleSet
@@ -71,25 +82,8 @@ impl FlatRules {
         requires { place < length self.now.rules }
         ensures { IfSome (slice_get self.now.rules place) (λ rule. result.now ≡ rule_words rule) }
     {
-        self.words[place].as_slice()
+        let begin = self.bounds[place];
+        let end = self.bounds[place + 1];
+        &self.words[begin..end]
     }
-}
-
-fn words_of_rules(alloc: Global, rules: &[Rule]) -> Result<Vec<Vec<Word>>, AllocError>
-    ensures { IfOk result (λ all. map (λ w. w.items) all.items ≡ map rule_words rules.now) }
-{
-    let mut all = Vec::with_capacity(alloc, rules.len())?;
-    for rule in rules {
-        all.push(words_of_rule(alloc, rule)?)?;
-    }
-    Ok(all)
-}
-
-fn words_of_rule(alloc: Global, rule: &Rule) -> Result<Vec<Word>, AllocError>
-    ensures { IfOk result (λ words. words.items ≡ rule_words rule.now) }
-{
-    let mut words = Vec::new(alloc);
-    write_terms(alloc, rule.left_args(), &mut words)?;
-    write_terms(alloc, rule.right_args(), &mut words)?;
-    Ok(words)
 }

@@ -2,7 +2,7 @@
 //! what they fire to, what a configuration settles to, and `round`, which fires and settles in turn.
 //!
 //! The answers are those of `ic_round` and `ic_settle` for the same configuration, found by walks over its words. No walk
-//! recurses on the depth of a configuration's terms; the nodes of a rule's terms are counted by `ic_term`, which does.
+//! recurses on the depth of a configuration's terms; those over a rule's terms, which have 2,048 nodes at most, do.
 //! `FlatRules` are rules whose sides are ready to be copied as words, and a `Workspace` has the lists that rounds are made in.
 #![tactic(auto)]
 
@@ -22,6 +22,7 @@ mod rebuilding;
 mod rounds;
 mod settling;
 mod workspace;
+mod writing;
 
 pub use activity::active_equations;
 pub use ended::is_settled;

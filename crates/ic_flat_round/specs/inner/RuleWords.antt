@@ -1,5 +1,5 @@
 -- For private functions: a rule's arguments as words, and what is made of them when an equation fires.
-use Rattle.std.specs.Prelude.{ℕ, ◌+◌, ◌^◌, ◌-◌, List, ◌++◌, map, min, take, drop, length}
+use Rattle.std.specs.Prelude.{ℕ, ◌+◌, ◌^◌, ◌-◌, List, [], ◌∷◌, ◌++◌, map, min, take, drop, length}
 use Rattle.std.specs.List.{flat_map}
 use Rattle.ic_term.specs.Tree.{Tree, Pair}
 use Rattle.ic_rules.specs.Renaming.{renamed}
@@ -13,6 +13,11 @@ use Rattle.ic_flat.specs.Flat.{sides}
 -- the words of a rule's arguments, the left agent's before the right one's
 abbrev pub rule_words : Rule → List Word
 rule_words r = flat_map tree_words r.left_args ++ flat_map tree_words r.right_args
+
+-- where the words of each rule begin, where these follow one another from a place on, and where the last ones end
+abbrev pub bounds_from : ℕ → List Rule → List ℕ
+bounds_from place [] = place ∷ []
+bounds_from place (r ∷ rs) = place ∷ bounds_from (place + length (rule_words r)) rs
 
 -- a name made higher, to 2^64 - 1 at most
 abbrev pub above : ℕ → ℕ → ℕ
