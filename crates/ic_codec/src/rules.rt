@@ -15,7 +15,7 @@ use crate::fault::CodecFault;
 use crate::fields::{byte_at, put_byte, put_two_bytes, two_bytes_at};
 use crate::terms::{put_terms, terms_at};
 use ic_rules::laws::{build_takes_rule_sets, refusals_come_in_order};
-use ic_rules::{MAX_RULE_NODES, Rule, RuleFault, RuleSet, has_numbered_names};
+use ic_rules::{MAX_RULE_NODES, MAX_RULES, Rule, RuleFault, RuleSet, has_numbered_names};
 use ic_term::{Cell, Symbols};
 use std::alloc::Global;
 
@@ -88,7 +88,7 @@ fn rules_at<'a>(
     ensures refused { IfErr result (λ fault. fault ≡ NotATable
         → BeginsWithNoMany (HasRuleBytes symbols.now) rule_bytes rule_nodes count 2048 bytes.now) }
 {
-    let mut rules = Vec::new(alloc);
+    let mut rules = Vec::with_capacity(alloc, count.min(MAX_RULES))?;
     let mut left = MAX_RULE_NODES;
     let mut rest = bytes;
     for _ in 0..count {
