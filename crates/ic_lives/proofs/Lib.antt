@@ -9,3 +9,5 @@ pub mod ServingLemmas
 pub mod ToldLemmas
 pub mod LifeLemmas
 pub mod BeginningLemmas
+pub mod StopLemmas
+pub mod PageLemmas

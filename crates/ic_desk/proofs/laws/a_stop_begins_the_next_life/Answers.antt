@@ -1,5 +1,0 @@
-use Rattle.ic_desk.proofs.LivesLemmas.{begins_next}
-use Rattle.ic_desk.proofs.laws.a_stop_begins_the_next_life.Goals as goal
-
-pub returns : goal.returns
-returns c = begins_next c.histories_split_and_join.ensures.table c.one_is_held.ensures

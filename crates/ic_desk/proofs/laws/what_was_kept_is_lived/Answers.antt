@@ -1,8 +1,0 @@
-use Rattle.ic_desk.proofs.LivesLemmas.{kept_stays, counted}
-use Rattle.ic_desk.proofs.laws.what_was_kept_is_lived.Goals as goal
-
-pub returns-clause-kept : goal.returns-clause-kept
-returns-clause-kept c = kept_stays
-
-pub returns-clause-counted : goal.returns-clause-counted
-returns-clause-counted c = counted
