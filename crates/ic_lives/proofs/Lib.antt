@@ -1,13 +1,9 @@
 pub mod PastLemmas
-pub mod RunLemmas
-pub mod JobLemmas
-pub mod ServedLemmas
-pub mod AmongLemmas
 pub mod MemLemmas
+pub mod StopLemmas
 pub mod WordLemmas
-pub mod ServingLemmas
 pub mod ToldLemmas
 pub mod LifeLemmas
 pub mod BeginningLemmas
-pub mod StopLemmas
+pub mod LeftLemmas
 pub mod PageLemmas

@@ -13,14 +13,7 @@ use Rattle.ic_jobs.specs.History.{replay, IsLegal}
 use Rattle.ic_jobs.specs.Life.{Life, HasLived, IsAsLived}
 use Rattle.ic_slots.specs.Held.{Held, the_table, IsHeld, HoldsTable}
 use Rattle.ic_desk.specs.Lives.{Page, IsPage, AreLives, left_by, lived}
-
--- ---- what is known of histories
-
-abbrev pub Replays : Type 0
-Replays = (t : List JobParts) (h k : List Entry) → replay t (h ++ k) ≡ replay (replay t h) k
-
-abbrev pub Joins : Type 0
-Joins = (t : List JobParts) (h k : List Entry) → IsLegal t (h ++ k) ↔ (IsLegal t h × IsLegal (replay t h) k)
+use Rattle.ic_lives.specs.lemmas.RunLemmas.{Replays, Joins}
 
 legal_front : Joins → (t : List JobParts) (h : List Entry) (n : ℕ) → IsLegal t h → IsLegal t (take n h)
 legal_front joins t h n legal =

@@ -1,29 +1,20 @@
--- What a stop of a book leaves.
-use Rattle.std.proofs.Common.{ℕ, ◌≤◌, List, Bool, length, take, sym, subst, ⊎_elim, arith}
-use Rattle.std.proofs.lemmas.List.{take_all}
-use Rattle.ic_jobs.specs.declared.event.Entry.{Entry}
-use Rattle.ic_jobs.specs.Job.{JobParts}
-use Rattle.ic_jobs.specs.History.{replay}
-use Rattle.ic_slots.specs.Held.{HoldsTable}
-use Rattle.ic_desk.specs.Kept.{HoldsKeptOrAll, IsHistory}
-use Rattle.ic_desk.specs.Lives.{IsPage}
+-- A stop in the midst of a step.
+use Rattle.ic_disk.specs.declared.disk.Disk.{Ghosts}
+use Rattle.ic_desk.specs.declared.book.Book.{Book}
+use Rattle.ic_desk.specs.Book.{disk_of}
+use Rattle.ic_desk.specs.Moves.{Move, opens, refuses, answers, fails, rounds, keeps, stays, closes, stops}
+use Rattle.ic_desk.specs.Server.{down, up, IsFound, Step}
 
--- how many entries are in the table that is left
-pub stop_front : (start : List JobParts) (log : List Entry) (kept : ℕ) (file : List ℕ) → kept ≤ length log → HoldsKeptOrAll start log kept file
-    → (k : ℕ) × (kept ≤ k) × (k ≤ length log) × HoldsTable (replay start (take k log)) file
-stop_front start log kept file within holds = ⊎_elim
-    (λ first. (kept, omega arith, within, first))
-    (λ all. (
-      length log,
-      within,
-      omega arith,
-      subst (λ (es : List Entry). HoldsTable (replay start es) file) (sym (take_all (length log) log (omega arith))) all,
-    ))
-    holds
-
-pub stop_page : (start : List JobParts) (log : List Entry) (table : List JobParts) (kept now : ℕ) (broken : Bool) (file : List ℕ)
-    → IsHistory start log table now broken → kept ≤ now → HoldsKeptOrAll start log kept file
-    → (k : ℕ) × IsPage (record { start = start; log = log; kept = kept; stop = k }) × HoldsTable (replay start (take k log)) file
-stop_page start log table kept now broken file is below holds =
-    let front = stop_front start log kept file (omega (arith, below, is.within)) holds in
-    (front.0, record { legal = is.legal; kept = front.1; stop = front.2 }, front.3)
+module _ {D : Type 0} {ghosts : Ghosts D} where
+  pub step_stop : (move : Move) (before after : Book D ghosts) (found : D) → Step move (up before) (up after) → IsFound ghosts (disk_of before) (disk_of after) found
+      → Step (stops move) (up before) (down found)
+  step_stop opens before after found is here = (up after, is, here)
+  step_stop (refuses cause) before after found is here = (up after, is, here)
+  step_stop (answers who command reply) before after found is here = (up after, is, here)
+  step_stop (fails who command reply) before after found is here = (up after, is, here)
+  step_stop (rounds name reply) before after found is here = (up after, is, here)
+  step_stop keeps before after found is here = (up after, is, here)
+  step_stop stays before after found is here = (up after, is, here)
+  step_stop closes before after found is here = (up after, is, here)
+  step_stop (stops (stops move)) before after found is here = absurd is
+  step_stop (stops move) before after found is here = absurd is.page

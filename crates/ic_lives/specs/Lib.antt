@@ -1,5 +1,4 @@
 pub mod Past
 pub mod Headline
-pub mod Served
 pub mod Histories
-pub mod Servings
+pub mod lemmas

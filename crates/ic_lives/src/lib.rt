@@ -1,12 +1,11 @@
 //! Laws over the lives of a server: what its open book and its disk have after any list of moves,
 //! stopped at any moment. No program calls them; they say what the calls of a book come to.
-//! `served` says it of a server that serves lines, `reached` that there are such runs, and `words` what
-//! their words come to. `pages` says it of lives that follow one another, from stop to stop. What an
-//! entry leaves of a job, and of its life, stands in `laws` too.
+//! `reached` says that there are such runs, and `words` what the words of the laws come to. `pages`
+//! says it of lives that follow one another, from stop to stop. What an entry leaves of a job, and of
+//! its life, stands in `laws` too. Of servings it is `ic_serving_laws`.
 #![tactic(auto)]
 
 pub mod laws;
 pub mod pages;
 pub mod reached;
-pub mod served;
 pub mod words;

@@ -1,4 +1,3 @@
-pub mod PartLemmas
 pub mod RunLemmas
 pub mod PageLemmas
 pub mod LineLemmas

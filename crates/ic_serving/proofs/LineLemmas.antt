@@ -1,7 +1,7 @@
 -- One line over a book.
-use Rattle.std.proofs.Common.{◌≡◌, ◌≢◌, ◌⊎◌, inl, inr, ℕ, ◌≤◌, List, [], ◌∷◌, ◌++◌, Some, length, take, refl, sym, ap, ◌∙◌, arith}
+use Rattle.std.proofs.Common.{◌≡◌, ◌≢◌, ◌⊎◌, inl, inr, ℕ, ◌≤◌, List, [], ◌∷◌, ◌++◌, Some, length, take, refl, sym, ap, ◌∙◌}
 use Rattle.std.specs.Option.{option_map_or}
-use Rattle.std.proofs.lemmas.List.{take_all, take-append-le}
+use Rattle.std.proofs.lemmas.List.{take-append-le}
 use Rattle.ic_jobs.specs.Job.{JobParts}
 use Rattle.ic_jobs.specs.declared.event.Event.{Event}
 use Rattle.ic_jobs.specs.declared.event.Entry.{Entry}
@@ -43,10 +43,7 @@ begun_kept t kept e u w moved now =
 pub after_event : (t u : List JobParts) (e : Event) (r : Reply) → apply t e ≡ Some (outcome u r) → u ≡ table_after t e
 after_event t u e r is = sym (ap (λ o. option_map_or (λ (p : Outcome). p.table) o t) is)
 
--- the table that was kept last, where one entry more stands in the history, and where all is kept
+-- the table that was kept last, where one entry more stands in the history
 pub kept_behind : (s n : List JobParts) (h l : List Entry) (e : Entry) (k m : ℕ) → n ≡ s → l ≡ h ++ e ∷ [] → m ≡ k → k ≤ length h
     → table_kept n l m ≡ table_kept s h k
 kept_behind s n h l e k m a b c within = rw (a, b, c) (ap (replay s) (take-append-le k h (e ∷ []) within))
-
-pub kept_all : (s t : List JobParts) (h : List Entry) (k : ℕ) → replay s h ≡ t → k ≡ length h → table_kept s h k ≡ t
-kept_all s t h k is all = ap (replay s) (take_all k h (omega (arith, all))) ∙ is

@@ -9,18 +9,19 @@ use Rattle.ic_jobs.specs.declared.event.Event.{Event}
 use Rattle.ic_commands.specs.LineText.{ReadsLine}
 use Rattle.ic_text.specs.declared.limits.TheConstants.{MAX_TEXT}
 use Rattle.ic_lines.specs.Lines.{lines}
-use Rattle.ic_lines.specs.Answers.{Reading, events, answer, after_line}
+use Rattle.ic_lines.specs.Answers.{Reading, answer, after_line}
 use Rattle.ic_lines.specs.Serving.{IsServed}
 use Rattle.ic_lines.specs.Taking.{BufferParts, to_come, TakesLine, HasNoLine, HasLongLine, IsTooLong}
 use Rattle.ic_serving.specs.declared.limits.TheConstants.{MAX_LINES}
 use Rattle.ic_serving.specs.declared.fault.ServeFault.{ServeFault}
 use Rattle.ic_serving.specs.declared.fault.ServeFault.TheVariants.{Read, Write, TooManyLines, Book, Pool, LongLine, Memory}
-use Rattle.ic_serving.specs.Parts.{IsPart, IsKeptWithin, IsInLine, IsInFirst}
+use Rattle.ic_serving.specs.Parts.{IsPart, IsKeptWithin, IsInFirst}
 use Rattle.ic_serving.specs.Served.{OfLines, MayBeServed, AreAnswered, AppendsFront, SaysOf, IsLeftBy, IsEnded, IsCut}
 use Rattle.ic_serving.specs.Faults.{MayCome, ComesInLine, CountsServe, StaysReady, fault_of_line}
 use Rattle.ic_lines.specs.declared.buffer.LineFault.{LineFault}
 use Rattle.ic_lines.specs.declared.buffer.LineFault.TheVariants as line_fault
 use Rattle.ic_serving.specs.inner.Progress.{AreFirst, AreToCome, IsUnderWay}
+use Rattle.ic_serving.specs.lemmas.Reaching.{SomeWay, in_line, in_first, served_none}
 use Rattle.ic_serving.proofs.WriteLemmas.{appends_none, appends_kept, appends_more, front_none, front_behind}
 
 -- ---- lines that were answered
@@ -37,9 +38,6 @@ served_line t line bytes r u reads is left = record {
   answered = is ∙ sym (append-nil (answer t r));
   leaves = left;
 }
-
-pub served_none : (t : List JobParts) → IsServed t [] [] t
-served_none t = record { readings = []; read = tt; answered = refl; leaves = refl }
 
 short_both : (a b : List (List ℕ)) → AllByRecursion (λ line. length line ≤ MAX_TEXT) a → AllByRecursion (λ line. length line ≤ MAX_TEXT) b
     → AllByRecursion (λ line. length line ≤ MAX_TEXT) (a ++ b)
@@ -199,22 +197,6 @@ cut_behind ls n t u v old mid seen new line bytes r answered counted short less 
 }
 
 -- ---- where a table stands
-
--- each line is read somehow
-abbrev pub SomeWay : Type 0
-SomeWay = (text : List ℕ) → (a : Reading) × ReadsLine text a
-
--- before a line, none of its events has come
-pub in_line : SomeWay → (u : List JobParts) (line : List ℕ) → IsInLine u line u
-in_line law u line = let r = law line in record {
-  reading = r.0;
-  read = r.1;
-  part = record { front = []; rest = events u r.0; parted = refl; leaves = refl };
-}
-
-pub in_first : SomeWay → (u : List JobParts) (ls : List (List ℕ)) → IsInFirst u ls u
-in_first law u [] = refl
-in_first law u (line ∷ ls) = in_line law u line
 
 -- nothing of the next line has come
 pub left_first : SomeWay → (fault : ServeFault) (u v : List JobParts) (ls : List (List ℕ)) → v ≡ u → IsLeftBy fault u ls v

@@ -1,5 +1,5 @@
 -- What a crash in the midst of a call leaves, call by call.
-use Rattle.std.proofs.Common.{false, Result, Ok, Err, ◌≡◌, ◌≢◌, ◌⊎◌, inl, inr, ⊎_elim, ℕ, ◌≤◌, List, [], ◌∷◌, ◌++◌, Option, length, refl, sym, ap, subst, ◌∙◌, arith, append-nil, append_assoc}
+use Rattle.std.proofs.Common.{false, Result, Ok, Err, ◌≡◌, ◌≢◌, ◌⊎◌, inl, inr, ⊎_elim, ℕ, ◌≤◌, List, [], ◌∷◌, ◌++◌, Option, length, refl, sym, ap, subst, ◌∙◌, arith, append-nil}
 use Rattle.std.specs.Prelude.{IsTrue, IfErr}
 use Rattle.std.specs.Result.{IsErrAnd}
 use Rattle.std.specs.Io.KnownBytes.{Keeps}
@@ -20,7 +20,6 @@ use Rattle.ic_slots.specs.declared.keeper.Keeper.{Keeper}
 use Rattle.ic_slots.specs.Held.{HoldsTable, HoldsEitherTable}
 use Rattle.ic_slots.specs.Keeper as keeper_parts
 use Rattle.ic_commands.specs.LineText.{ReadsLine}
-use Rattle.ic_commands.specs.declared.line.Line.TheVariants.{Blank, Run, Command as Asks}
 use Rattle.ic_lines.specs.declared.buffer.LineFault.{LineFault}
 use Rattle.ic_lines.specs.declared.buffer.LineFault.TheVariants as line_fault
 use Rattle.ic_lines.specs.Turns.{after_events, turns}
@@ -31,8 +30,7 @@ use Rattle.ic_desk.specs.Book.{is_broken, start_of, log_of, table_of, kept_of, k
 use Rattle.ic_desk.specs.Entries.{AddsCommand, command_entry}
 use Rattle.ic_desk.specs.Kept.{HoldsKeptOrAll, table_kept}
 use Rattle.ic_serving.specs.Booked.{last_kept, IsAllKept, StaysPut}
-use Rattle.ic_serving.specs.Answered.{IsKeptFor}
-use Rattle.ic_serving.specs.Parts.{IsKeptWithin, IsInLine, IsInFirst}
+use Rattle.ic_serving.specs.Parts.{IsKeptWithin, IsInLine}
 use Rattle.ic_serving.specs.Stopped.{HoldsOne, IsReached, MayStand}
 use Rattle.ic_desk.specs.ByCalls.{IsByCalls}
 use Rattle.ic_serving.specs.Moments.{FaultLeaves, Leaves, IsKeptOrNow, IsKeptInLine}
@@ -47,7 +45,8 @@ use Rattle.ic_serving.specs.inner.Progress.{AreFirst, AreToCome, IsUnderWay}
 use Rattle.ic_desk.specs.lemmas.Chains.{by_calls_then}
 use Rattle.ic_serving.proofs.LineLemmas.{kept_behind}
 use Rattle.ic_serving.proofs.RunLemmas.{InRun, run_begun}
-use Rattle.ic_serving.proofs.ServeLemmas.{SomeWay, in_line, in_first, served_none, of_lines, none_ahead, over, ended_at, cut_before, left_first, may_come, counts_as}
+use Rattle.ic_serving.specs.lemmas.Reaching.{SomeWay, in_line, reached_now, reached_longer}
+use Rattle.ic_serving.proofs.ServeLemmas.{of_lines, none_ahead, over, ended_at, cut_before, left_first, may_come, counts_as}
 
 -- ---- which tables
 
@@ -82,35 +81,6 @@ all_or_not m n = ⊎_elim
     (λ less. inr (λ same. omega (arith, less, same)))
     (λ more. ⊎_elim (λ less. inr (λ same. omega (arith, less, same))) (λ fewer. inl (omega (arith, more, fewer))) (cases_lt n m))
     (cases_lt m n)
-
-pub reached_now : SomeWay → (t : List JobParts) (ls : List (List ℕ)) → IsReached t ls t
-reached_now law t ls = record {
-  front = [];
-  rest = ls;
-  answers = [];
-  between = t;
-  parted = refl;
-  within = record { few = omega arith; short = tt };
-  served = served_none t;
-  in_line = in_first law t ls;
-}
-
--- more lines come
-longer : SomeWay → (between u : List JobParts) (rest more : List (List ℕ)) → IsInFirst between rest u → IsInFirst between (rest ++ more) u
-longer law between u [] more here = subst (IsInFirst between more) (sym here) (in_first law between more)
-longer law between u (line ∷ rest) more here = here
-
-pub reached_longer : SomeWay → (t : List JobParts) (ls more : List (List ℕ)) (u : List JobParts) → IsReached t ls u → IsReached t (ls ++ more) u
-reached_longer law t ls more u r = record {
-  front = r.front;
-  rest = r.rest ++ more;
-  answers = r.answers;
-  between = r.between;
-  parted = ap (λ xs. xs ++ more) r.parted ∙ append_assoc r.front r.rest more;
-  within = r.within;
-  served = r.served;
-  in_line = longer law r.between u r.rest more r.in_line;
-}
 
 may_longer : SomeWay → (all : Type 0) (kept t : List JobParts) (ls more : List (List ℕ)) (u : List JobParts) → MayStand all kept t ls u → MayStand all kept t (ls ++ more) u
 may_longer law all kept t ls more u (inl r) = inl (reached_longer law t ls more u r)
@@ -383,13 +353,6 @@ module _ {D : Type 0} {ghosts : Ghosts D} where
   fault_memory (Err f) book is = record { causes = rw is tt; counted = rw is refl; ready = λ whole. tt; breaks = λ whole. rw is whole }
 
   -- what a line leaves keeps
-  -- all is kept, or nothing has changed
-  pub kept_or_same : (r : Reading) (old new : Book D ghosts) → IsKeptFor r old new → IsAllKept new ⊎ IsUnchanged old new
-  kept_or_same (Ok Blank) old new is = inr is
-  kept_or_same (Ok (Asks command)) old new is = inl is
-  kept_or_same (Ok (Run count)) old new is = inl is
-  kept_or_same (Err fault) old new is = inr is
-
   pub still_all : (old new : Book D ghosts) → IsAllKept new ⊎ IsUnchanged old new → IsAllKept old → IsAllKept new
   still_all old new (inl all) was = all
   still_all old new (inr same) was = same.same_kept ∙ was ∙ ap length (sym same.same_log)

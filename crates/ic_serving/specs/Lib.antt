@@ -8,4 +8,5 @@ pub mod Moments
 pub mod Answered
 pub mod InTurn
 pub mod Serving
+pub mod lemmas
 pub mod inner

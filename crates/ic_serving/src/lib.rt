@@ -13,7 +13,6 @@ mod limits;
 mod rounds;
 mod running;
 mod serving;
-pub mod stop_laws;
 mod writing;
 
 pub use answering::answer_line;

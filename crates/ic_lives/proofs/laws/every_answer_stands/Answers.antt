@@ -1,6 +1,6 @@
 use Rattle.ic_desk.specs.Book.{table_of}
-use Rattle.ic_lives.proofs.AmongLemmas.{table_stands, file_stands}
-use Rattle.ic_lives.proofs.RunLemmas.{table_after, prefix_after}
+use Rattle.ic_lives.specs.lemmas.AmongLemmas.{table_stands, file_stands}
+use Rattle.ic_lives.specs.lemmas.RunLemmas.{table_after, prefix_after}
 use Rattle.ic_lives.proofs.laws.every_answer_stands.Goals as goal
 
 pub returns-clause-open : goal.returns-clause-open

@@ -1,4 +1,4 @@
-use Rattle.ic_lives.proofs.RunLemmas.{two_looks, all_told}
+use Rattle.ic_lives.specs.lemmas.RunLemmas.{two_looks, all_told}
 use Rattle.ic_lives.proofs.laws.looks_go_on.Goals as goal
 
 pub returns-clause-two : goal.returns-clause-two

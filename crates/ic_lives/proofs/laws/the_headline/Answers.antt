@@ -1,4 +1,4 @@
-use Rattle.ic_lives.proofs.RunLemmas.{table_after, prefix_after, refused_so}
+use Rattle.ic_lives.specs.lemmas.RunLemmas.{table_after, prefix_after, refused_so}
 use Rattle.ic_lives.proofs.laws.the_headline.Goals as goal
 
 pub returns-clause-open : goal.returns-clause-open

@@ -1,5 +1,5 @@
 use Rattle.std.proofs.Common.{◌∙◌, ⊎_elim}
-use Rattle.ic_lives.proofs.StopLemmas.{stop_front}
+use Rattle.ic_lives.proofs.LeftLemmas.{stop_front}
 use Rattle.ic_lives.proofs.pages.a_crash_in_a_call_leaves_a_front.Goals as goal
 
 pub returns-clause-front : goal.returns-clause-front

@@ -1,4 +1,4 @@
-use Rattle.ic_lives.proofs.StopLemmas.{stop_page}
+use Rattle.ic_lives.proofs.LeftLemmas.{stop_page}
 use Rattle.ic_lives.proofs.pages.a_stop_leaves_a_page.Goals as goal
 
 pub returns-clause-page : goal.returns-clause-page

@@ -1,5 +1,5 @@
 use Rattle.ic_desk.specs.Server.{up}
-use Rattle.ic_lives.proofs.ServedLemmas.{step_stop}
+use Rattle.ic_lives.proofs.StopLemmas.{step_stop}
 use Rattle.ic_lives.proofs.reached.a_call_may_be_stopped.Goals as goal
 
 pub returns-clause-of_book : goal.returns-clause-of_book

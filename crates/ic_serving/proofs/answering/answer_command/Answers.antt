@@ -8,7 +8,8 @@ use Rattle.ic_desk.specs.Entries.{command_entry}
 use Rattle.ic_serving.specs.Booked.{last_kept}
 use Rattle.ic_serving.proofs.RunLemmas.{kept_same, on_err}
 use Rattle.ic_desk.specs.lemmas.Chains.{answer_moves, by_answer, by_failure, by_refusal}
-use Rattle.ic_serving.proofs.LineLemmas.{device_or_not, begun_none, begun_one, begun_kept, after_event, kept_behind, kept_all}
+use Rattle.ic_serving.specs.lemmas.Reaching.{kept_all}
+use Rattle.ic_serving.proofs.LineLemmas.{device_or_not, begun_none, begun_one, begun_kept, after_event, kept_behind}
 use Rattle.ic_serving.proofs.PageLemmas.{command_goes, one_room, same_then, within_all, within_none}
 use Rattle.ic_serving.specs.Parts.{IsKeptWithin}
 use Rattle.ic_serving.specs.Moments.{IsKeptOrNow}

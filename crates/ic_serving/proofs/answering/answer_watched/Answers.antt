@@ -21,7 +21,7 @@ use Rattle.ic_commands.specs.declared.line.Line.TheVariants.{Blank, Command as A
 use Rattle.ic_lines.specs.Turns.{turns}
 use Rattle.ic_serving.specs.Parts.{IsKeptWithin}
 use Rattle.ic_serving.specs.Moments.{IsKeptInLine}
-use Rattle.ic_serving.proofs.ServeLemmas.{SomeWay, in_line}
+use Rattle.ic_serving.specs.lemmas.Reaching.{SomeWay, in_line}
 use Rattle.ic_serving.proofs.StopLemmas.{fault_memory, kept_in_line, leaves_more, leaves_nothing}
 use Rattle.ic_desk.specs.Moves.{keeps}
 use Rattle.ic_desk.specs.ByCalls.{IsByCalls}

@@ -1,5 +1,0 @@
-use Rattle.ic_lives.proofs.ServingLemmas.{call_serves}
-use Rattle.ic_lives.proofs.served.a_call_is_a_serving.Goals as goal
-
-pub returns : goal.returns
-returns g c = call_serves c.args.old.now c.args.new.now

@@ -1,0 +1,4 @@
+-- What is proved of the definitions of specs/, for proofs of this crate and of those above.
+pub mod JobLemmas
+pub mod RunLemmas
+pub mod AmongLemmas

@@ -1,0 +1,5 @@
+pub mod PartLemmas
+pub mod ServedLemmas
+pub mod ServingLemmas
+pub mod WordLemmas
+pub mod ToldLemmas

@@ -1,0 +1,11 @@
+use Rattle.ic_serving_laws.proofs.PartLemmas.{says_long, says_many}
+use Rattle.ic_serving_laws.proofs.laws.faults_say.Goals as goal
+
+pub returns-clause-long_line : goal.returns-clause-long_line
+returns-clause-long_line c = says_long
+
+pub returns-clause-too_many_lines : goal.returns-clause-too_many_lines
+returns-clause-too_many_lines c = says_many
+
+pub returns-clause-never : goal.returns-clause-never
+returns-clause-never c = (λ h. h, (λ h. h, (λ h. h, (λ h. h, (λ h. h, tt)))))

@@ -1,0 +1,301 @@
+//! Laws of one serving: what the definitions that the contracts of `ic_serving` cite come to.
+
+ghost use Rattle.std.specs.Prelude.{IsTrue, false, ◌-◌, ◌^◌, ◌≡◌, ◌≢◌, ◌⊎◌, ◌↔◌, ◌<◌, ◌≤◌, ◌+◌, ℕ, List, [], ◌∷◌, ◌++◌, Bool, true, Option, None, Some, Ok, Err, length, map, take, drop};
+ghost use Rattle.std.specs.List.{AllByRecursion};
+ghost use Rattle.std.specs.Io.KnownBytes.{Appends};
+ghost use Rattle.ic_disk.specs.Time.{LeavesOnly, OneMore};
+ghost use Rattle.ic_pool.specs.declared.fault.PoolFault.TheVariants as pool_fault;
+ghost use Rattle.ic_jobs.specs.declared.command.Command.{Command};
+ghost use Rattle.ic_jobs.specs.declared.event.Entry.{Entry};
+ghost use Rattle.ic_jobs.specs.declared.event.Event.{Event};
+ghost use Rattle.ic_jobs.specs.declared.event.Event.TheVariants.{Command as by_command};
+ghost use Rattle.ic_jobs.specs.Job.{JobParts};
+ghost use Rattle.ic_jobs.specs.History.{table_after, replay};
+ghost use Rattle.ic_slots.specs.Held.{HoldsTable};
+ghost use Rattle.ic_text.specs.declared.fault.TextFault.{TextFault};
+ghost use Rattle.ic_commands.specs.declared.line.Line.TheVariants.{Blank, Command as Asks, Run};
+ghost use Rattle.ic_commands.specs.LineText.{ReadsLine};
+ghost use Rattle.ic_lines.specs.declared.buffer.LineFault.TheVariants as line_fault;
+ghost use Rattle.ic_lines.specs.Answers.{Reading, events};
+ghost use Rattle.ic_lines.specs.Lines.{lines};
+ghost use Rattle.ic_lines.specs.Turns.{turns, after_events};
+ghost use Rattle.ic_lines.specs.Serving.{IsServed};
+ghost use Rattle.ic_desk.specs.declared.fault.BookFault.TheVariants as book_fault;
+ghost use Rattle.ic_disk.specs.Images.{Within};
+ghost use Rattle.ic_frames.specs.Fields.{IsMade};
+ghost use Rattle.ic_desk.specs.ByCalls.{IsOnMadeDisk};
+ghost use Rattle.ic_desk.specs.Book.{is_broken, number_of, start_of, log_of, table_of, kept_of, disk_of, IsUnchanged};
+ghost use Rattle.ic_serving.specs.declared.fault.ServeFault.{ServeFault};
+ghost use Rattle.ic_serving.specs.declared.fault.ServeFault.TheVariants.{Read, Write, TooManyLines, Book as by_book, Pool, LongLine, Memory};
+ghost use Rattle.ic_serving.specs.Answered.{IsAnswered, IsBegun};
+ghost use Rattle.ic_serving.specs.Booked.{last_kept, IsAllKept};
+ghost use Rattle.ic_serving.specs.Faults.{fault_of_line, ComesInLine, MayCome, CountsServe, StaysReady};
+ghost use Rattle.ic_serving.specs.Grown.{GoesOn, GoesOnWithin, HasRoom};
+ghost use Rattle.ic_serving.specs.Moments.{Leaves, IsKeptInLine};
+ghost use Rattle.ic_serving.specs.Parts.{IsPart, IsKeptWithin, IsInLine, IsInFirst};
+ghost use Rattle.ic_serving.specs.Served.{OfLines, MayBeServed, AreAnswered, AppendsFront, SaysOf, IsLeftBy, IsEnded, IsCut};
+ghost use Rattle.ic_serving.specs.Stopped.{IsReached, MayStand};
+
+use ic_desk::Book;
+use ic_disk::Disk;
+
+/// A part of some events is a front of them: the first so many have come to the table, and nothing
+/// else has. What is kept within them is what was kept before, or such a part.
+pub fn a_part_is_a_front()
+    ensures part { (t u : List JobParts) (es : List Event) → IsPart t es u
+        ↔ ((n : ℕ) × (n ≤ length es) × (u ≡ after_events t (take n es))) }
+    ensures kept { (t kept u : List JobParts) (es : List Event) → IsKeptWithin t kept es u
+        ↔ ((u ≡ kept) ⊎ IsPart t es u) }
+{}
+
+/// Within a run stand the tables that runs of at most as many rounds leave; within a command the
+/// table before it and the one after it; within a blank or refused line the table before it alone.
+/// Where no line is to come, the table stays.
+pub fn tables_within_a_line_are()
+    ensures run { (t u : List JobParts) (line : List ℕ) (k : ℕ) → ReadsLine line (Ok (Run k))
+        → IsInLine t line u ↔ ((n : ℕ) × (n ≤ k) × (u ≡ after_events t (turns n 0 t))) }
+    ensures command { (t u : List JobParts) (line : List ℕ) (c : Command)
+        → ReadsLine line (Ok (Asks c))
+        → IsInLine t line u ↔ ((u ≡ t) ⊎ (u ≡ table_after t (by_command c))) }
+    ensures blank { (t u : List JobParts) (line : List ℕ) → ReadsLine line (Ok Blank)
+        → IsInLine t line u ↔ (u ≡ t) }
+    ensures refused { (t u : List JobParts) (line : List ℕ) (fault : TextFault)
+        → ReadsLine line (Err fault) → IsInLine t line u ↔ (u ≡ t) }
+    ensures first { (t u : List JobParts) (line : List ℕ) (more : List (List ℕ))
+        → IsInFirst t (line ∷ more) u ↔ IsInLine t line u }
+    ensures none { (t u : List JobParts) → IsInFirst t [] u ↔ (u ≡ t) }
+{
+    ic_commands::laws::one_line_reading();
+    ic_lines::laws::runs_are_rounds_in_turn();
+}
+
+/// What is said of a reader's lines is said of those of its bytes, where it tells them, and of some
+/// lines where it doesn't.
+pub fn lines_are_those_of_the_reader()
+    ensures known { (text : List ℕ) (p : List (List ℕ) → Bool)
+        → OfLines (Some text) (λ ls. p ls ≡ true) ↔ (p (lines text) ≡ true) }
+    ensures unknown { (p : List (List ℕ) → Bool)
+        → OfLines None (λ ls. p ls ≡ true) ↔ ((ls : List (List ℕ)) × (p ls ≡ true)) }
+{}
+
+/// Lines that are answered are at most 1,000,000, each of at most 262,144 bytes. What answers them
+/// is appended to what was written, and this in just one way: no two tables or texts are left.
+pub fn answers_are_appended()
+    ensures few { (ls : List (List ℕ)) (t u : List JobParts) (old new : Option (List ℕ))
+        → AreAnswered ls t u old new → length ls ≤ 1000000 }
+    ensures short { (ls : List (List ℕ)) (t u : List JobParts) (old new : Option (List ℕ))
+        → AreAnswered ls t u old new → AllByRecursion (λ line. length line ≤ 262144) ls }
+    ensures appended { (ls : List (List ℕ)) (t u : List JobParts) (a b : List ℕ)
+        → AreAnswered ls t u (Some a) (Some b)
+        → (answers : List ℕ) × IsServed t ls answers u × (b ≡ a ++ answers) }
+    ensures one_table { (ls : List (List ℕ)) (t u v : List JobParts) (a b c d : Option (List ℕ))
+        → AreAnswered ls t u a b → AreAnswered ls t v c d → u ≡ v }
+    ensures one_text { (ls : List (List ℕ)) (t u v : List JobParts) (a b c : List ℕ)
+        → AreAnswered ls t u (Some a) (Some b) → AreAnswered ls t v (Some a) (Some c) → b ≡ c }
+{
+    ic_lines::laws::lines_are_served_in_one_way();
+}
+
+/// `LongLine` says that fewer than 1,000,000 lines are answered and that the line behind them has
+/// more than 262,144 bytes, and `TooManyLines` that 1,000,000 are answered and one more is to come.
+/// Some faults of the book and of the pool never come.
+pub fn faults_say()
+    ensures long_line { (front rest : List (List ℕ)) → SaysOf LongLine front rest
+        → (line : List ℕ) × (more : List (List ℕ)) × (rest ≡ line ∷ more)
+        × (length front < 1000000) × (262144 < length line) }
+    ensures too_many_lines { (front rest : List (List ℕ)) → SaysOf TooManyLines front rest
+        → (line : List ℕ) × (more : List (List ℕ)) × (rest ≡ line ∷ more)
+        × (length front ≡ 1000000) }
+    ensures in_line { (fault : ServeFault) → ComesInLine fault
+        → MayCome fault × (fault ≢ Read) × (fault ≢ Write) × (fault ≢ TooManyLines)
+        × (fault ≢ LongLine) }
+    ensures never { AllByRecursion (λ fault. ¬ MayCome fault) (by_book book_fault.LogFull
+        ∷ Pool pool_fault.NoWorkers ∷ Pool pool_fault.RoundsOut ∷ Pool pool_fault.Overgrown
+        ∷ Pool pool_fault.NamesOut ∷ []) }
+    ensures of_line { map fault_of_line
+        (line_fault.Read ∷ line_fault.Write ∷ line_fault.LongLine ∷ line_fault.Memory ∷ [])
+        ≡ Read ∷ Write ∷ LongLine ∷ Memory ∷ [] }
+{}
+
+/// Whatever fault ends a serving, the table is within the next line; and where that line wasn't
+/// taken, the table is the one that the lines before it leave.
+pub fn faults_leave()
+    ensures within { (fault : ServeFault) (t u : List JobParts) (ls : List (List ℕ))
+        → IsLeftBy fault t ls u → IsInFirst t ls u }
+    ensures untaken { (t u : List JobParts) (ls : List (List ℕ))
+        → AllByRecursion (λ fault. IsLeftBy fault t ls u → u ≡ t)
+        (Read ∷ LongLine ∷ TooManyLines ∷ []) }
+{
+    ic_commands::laws::one_line_reading();
+}
+
+/// A fault ends a serving behind a front of the lines, which are answered. The table is within the
+/// line behind them, as is the one that was kept last, where all was kept when it began.
+pub fn a_fault_ends_a_serving()
+    ensures within { (fault : ServeFault) (all : Bool) (front rest : List (List ℕ))
+        (t u kept : List JobParts) (old new : Option (List ℕ))
+        → IsEnded fault (all ≡ true) front rest t u kept old new
+        → (answers : List ℕ) × (v : List JobParts) × IsServed t front answers v
+        × Appends old new answers × IsInFirst v rest u × (all ≡ true → IsInFirst v rest kept) }
+    ensures read { (all : Bool) (front rest : List (List ℕ)) (t u kept : List JobParts)
+        (old new : Option (List ℕ)) → IsEnded Read (all ≡ true) front rest t u kept old new
+        → (answers : List ℕ) × IsServed t front answers u × Appends old new answers
+        × (all ≡ true → kept ≡ u) }
+    ensures long_line { (all : Bool) (front rest : List (List ℕ)) (t u kept : List JobParts)
+        (old new : Option (List ℕ)) → IsEnded LongLine (all ≡ true) front rest t u kept old new
+        → (line : List ℕ) × (more : List (List ℕ)) × (answers : List ℕ)
+        × (rest ≡ line ∷ more) × (length front < 1000000) × (262144 < length line)
+        × IsServed t front answers u × Appends old new answers × (all ≡ true → kept ≡ u) }
+    ensures too_many_lines { (all : Bool) (front rest : List (List ℕ)) (t u kept : List JobParts)
+        (old new : Option (List ℕ))
+        → IsEnded TooManyLines (all ≡ true) front rest t u kept old new
+        → (line : List ℕ) × (more : List (List ℕ)) × (answers : List ℕ)
+        × (rest ≡ line ∷ more) × (length front ≡ 1000000)
+        × IsServed t front answers u × Appends old new answers × (all ≡ true → kept ≡ u) }
+{
+    ic_commands::laws::one_line_reading();
+}
+
+/// A failing writer ends a serving behind a front of the lines, which are done. All of them are
+/// answered but at most the last one, of whose answer a front was written.
+pub fn a_failing_writer_cuts_a_serving()
+    ensures sent { (before behind a b : List ℕ) → AppendsFront (Some a) (Some b) before behind
+        → (n : ℕ) × (n ≤ length behind) × (b ≡ a ++ (before ++ take n behind)) }
+    ensures answered { (front : List (List ℕ)) (t u : List JobParts) (old new : Option (List ℕ))
+        → IsCut front t u old new
+        → (whole : List (List ℕ)) × (last : List (List ℕ)) × (answers : List ℕ)
+        × (more : List ℕ) × (v : List JobParts) × (front ≡ whole ++ last) × (length last ≤ 1)
+        × IsServed t whole answers v × IsServed v last more u
+        × AppendsFront old new answers more }
+    ensures done { (front : List (List ℕ)) (t u : List JobParts) (old new : Option (List ℕ))
+        → IsCut front t u old new
+        → (answers : List ℕ) × MayBeServed front × IsServed t front answers u }
+{
+    ic_lines::laws::lines_are_served_in_one_way();
+}
+
+/// All of a book is kept where each of its entries is; then its table is the one that was kept
+/// last.
+pub fn all_is_kept_where_each_entry_is<D: Disk>(book: &Book<D>)
+    ensures all { IsAllKept book.now ↔ (kept_of book.now ≡ length (log_of book.now)) }
+    ensures last { last_kept book.now
+        ≡ replay (start_of book.now) (take (kept_of book.now) (log_of book.now)) }
+    ensures table { IsAllKept book.now → last_kept book.now ≡ table_of book.now }
+{
+    book.facts();
+}
+
+/// A line that is answered is served: this answers it, and it leaves this table. Behind a command
+/// and a run all is kept; behind a blank and a refused line nothing has changed. Where a line was
+/// only begun, the table is within it, and what is kept is what was kept before it, or within it too.
+pub fn a_line_is_answered_as_it_is_served<D: Disk>(before: &Book<D>, behind: &Book<D>)
+    ensures served { (line bytes : List ℕ) → IsAnswered line bytes before.now behind.now
+        → IsServed (table_of before.now) (line ∷ []) bytes (table_of behind.now) }
+    ensures kept { (line bytes : List ℕ) → IsAnswered line bytes before.now behind.now
+        → IsAllKept behind.now ⊎ IsUnchanged before.now behind.now }
+    ensures blank { (line bytes : List ℕ) → ReadsLine line (Ok Blank)
+        → IsAnswered line bytes before.now behind.now → IsUnchanged before.now behind.now }
+    ensures refused { (line bytes : List ℕ) (fault : TextFault) → ReadsLine line (Err fault)
+        → IsAnswered line bytes before.now behind.now → IsUnchanged before.now behind.now }
+    ensures command { (line bytes : List ℕ) (c : Command) → ReadsLine line (Ok (Asks c))
+        → IsAnswered line bytes before.now behind.now → IsAllKept behind.now }
+    ensures run { (line bytes : List ℕ) (k : ℕ) → ReadsLine line (Ok (Run k))
+        → IsAnswered line bytes before.now behind.now → IsAllKept behind.now }
+    ensures begun { (line : List ℕ) → IsBegun line before.now behind.now
+        → IsInLine (table_of before.now) line (table_of behind.now) }
+    ensures kept_within { (line : List ℕ) → IsBegun line before.now behind.now
+        → IsKeptInLine (table_of before.now) (last_kept before.now) line (last_kept behind.now) }
+    ensures within { (t kept u : List JobParts) (line : List ℕ) → IsKeptInLine t kept line u
+        ↔ ((u ≡ kept) ⊎ IsInLine t line u) }
+{
+    ic_commands::laws::one_line_reading();
+}
+
+/// A command or a run is answered over no broken book, and a command over none whose slots' numbers
+/// are used up. A line's events stand behind the log of the page, where there is room for them.
+pub fn an_answered_line_tells_of_its_book<D: Disk>(before: &Book<D>, behind: &Book<D>)
+    ensures whole { (line bytes : List ℕ) (c : Command) → ReadsLine line (Ok (Asks c))
+        → IsAnswered line bytes before.now behind.now → is_broken behind.now ≡ false }
+    ensures whole_run { (line bytes : List ℕ) (k : ℕ) → ReadsLine line (Ok (Run k))
+        → IsAnswered line bytes before.now behind.now → is_broken behind.now ≡ false }
+    ensures fresh { (line bytes : List ℕ) (c : Command) → ReadsLine line (Ok (Asks c))
+        → IsAnswered line bytes before.now behind.now → length (log_of before.now) < 65536
+        → number_of before.now ≢ 2 ^ 64 - 1 }
+    ensures page { (line bytes : List ℕ) (a : Reading) → ReadsLine line a
+        → IsAnswered line bytes before.now behind.now
+        → HasRoom (events (table_of before.now) a) before.now
+        → GoesOn (events (table_of before.now) a) before.now behind.now }
+    ensures begun_page { (line : List ℕ) (a : Reading) → ReadsLine line a
+        → IsBegun line before.now behind.now
+        → HasRoom (events (table_of before.now) a) before.now
+        → GoesOnWithin (events (table_of before.now) a) before.now behind.now }
+{
+    ic_commands::laws::one_line_reading();
+}
+
+/// A page that goes on begins with the table that it began with, and its log is the one that it had
+/// with the entries of these events behind it, one for each, in their order, sent by 0. So the old
+/// log is a front of the new one. It goes on within events by the first so many of them.
+pub fn a_page_goes_on<D: Disk>(before: &Book<D>, behind: &Book<D>)
+    ensures start { (es : List Event) → GoesOn es before.now behind.now
+        → start_of behind.now ≡ start_of before.now }
+    ensures front { (es : List Event) → GoesOn es before.now behind.now
+        → take (length (log_of before.now)) (log_of behind.now) ≡ log_of before.now }
+    ensures events { (es : List Event) → GoesOn es before.now behind.now
+        → map (λ (e : Entry). e.event) (drop (length (log_of before.now)) (log_of behind.now)) ≡ es }
+    ensures senders { (es : List Event) → GoesOn es before.now behind.now
+        → AllByRecursion (λ (e : Entry). e.who ≡ 0)
+        (drop (length (log_of before.now)) (log_of behind.now)) }
+    ensures within { (es : List Event) → GoesOnWithin es before.now behind.now
+        → (n : ℕ) × (n ≤ length es) × GoesOn (take n es) before.now behind.now }
+    ensures room { (es : List Event) → HasRoom es before.now
+        ↔ (length (log_of before.now) + length es < 65536) }
+{}
+
+/// `Device` says that one failure more of the disk was counted, or that the count stands at its end,
+/// and no other fault does. Only `Device` breaks a book; `Broken` is told of none that wasn't broken,
+/// and `Worn` only where the numbers of the slots are used up.
+pub fn causes_say()
+    ensures device { (old new : ℕ) → CountsServe {T = Unit {0}} (Err (by_book book_fault.Device)) old new
+        ↔ OneMore old new }
+    ensures others { (fault : ServeFault) (old new : ℕ) → fault ≢ by_book book_fault.Device
+        → CountsServe {T = Unit {0}} (Err fault) old new → new ≡ old }
+    ensures breaks { (broken : Bool) (number : ℕ)
+        → StaysReady (by_book book_fault.Device) broken number ↔ (broken ≡ true) }
+    ensures stays { (fault : ServeFault) (broken : Bool) (number : ℕ)
+        → fault ≢ by_book book_fault.Device → StaysReady fault broken number → broken ≡ false }
+    ensures broken { (broken : Bool) (number : ℕ)
+        → ¬ StaysReady (by_book book_fault.Broken) broken number }
+    ensures worn { (broken : Bool) (number : ℕ)
+        → StaysReady (by_book book_fault.Worn) broken number → number ≡ 2 ^ 64 - 1 }
+{}
+
+/// What a stop in the midst of a call leaves is told of a disk that keeps the model and is made: a
+/// file that holds one of these tables. Behind the call it keeps the model where it did before, and
+/// is made.
+pub fn a_stop_leaves_one_of_these_tables<D: Disk>(before: &Book<D>, behind: &Book<D>)
+    ensures made { IsOnMadeDisk before.now
+        ↔ (IsTrue (D.keeps (disk_of before.now)) × Within (D.image (disk_of before.now)) IsMade) }
+    ensures crash { (p : List JobParts → Bool) → Leaves before.now behind.now (λ t. p t ≡ true)
+        → IsOnMadeDisk before.now
+        → LeavesOnly D.clock D.left (disk_of before.now) (disk_of behind.now)
+        (λ file. (t : List JobParts) × (p t ≡ true) × HoldsTable t file) }
+    ensures stays { (p : List JobParts → Bool) → Leaves before.now behind.now (λ t. p t ≡ true)
+        → IsOnMadeDisk before.now → IsOnMadeDisk behind.now }
+    ensures keeps { (p : List JobParts → Bool) → Leaves before.now behind.now (λ t. p t ≡ true)
+        → D.keeps (disk_of behind.now) ≡ D.keeps (disk_of before.now) }
+{}
+
+/// A stop in the midst of a serving leaves a table that lines reach: a front of them is served, and
+/// the table is within the line behind them. Only where not all was kept when it began, the table
+/// may be the one that was.
+pub fn a_stop_is_within_the_lines()
+    ensures reached { (t u : List JobParts) (ls : List (List ℕ)) → IsReached t ls u
+        → (front : List (List ℕ)) × (rest : List (List ℕ)) × (answers : List ℕ)
+        × (v : List JobParts) × (ls ≡ front ++ rest) × MayBeServed front
+        × IsServed t front answers v × IsInFirst v rest u }
+    ensures all_kept { (kept t u : List JobParts) (ls : List (List ℕ))
+        → MayStand (true ≡ true) kept t ls u → IsReached t ls u }
+    ensures others { (all : Bool) (kept t u : List JobParts) (ls : List (List ℕ))
+        → MayStand (all ≡ true) kept t ls u → IsReached t ls u ⊎ (u ≡ kept) }
+{}

@@ -1,0 +1,11 @@
+//! Laws of servings of lines over a book. No program calls them.
+//!
+//! `laws` says what the definitions of one serving come to, and `stops` what those of a stop in its
+//! midst do. `served` says what a server has after any number of servings, each ended or stopped at any
+//! moment, and `words` what its words come to.
+#![tactic(auto)]
+
+pub mod laws;
+pub mod served;
+pub mod stops;
+pub mod words;
