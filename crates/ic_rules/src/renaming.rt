@@ -11,7 +11,7 @@ ghost use Rattle.ic_rules.specs.Renaming.{renamed, first_occurrences, number_amo
 ghost use Rattle.ic_rules.specs.Rule.{IsNumbered};
 ghost use Rattle.ic_rules.specs.Written.{written};
 
-use ic_term::{Cell, Term, names_of_terms};
+use ic_term::{Cell, Term, append_names};
 use indexmap::IndexSet;
 use std::alloc::{AllocError, Global};
 use std::collections::BTreeMap;
@@ -22,8 +22,9 @@ pub(crate) fn names_of(alloc: Global, left: &[Term], right: &[Term]) -> Result<V
         (λ list. list.items
         ≡ flat_map names (map tree left.now) ++ flat_map names (map tree right.now)) }
 {
-    let mut list = names_of_terms(alloc, left)?;
-    list.extend_from_slice(&names_of_terms(alloc, right)?)?;
+    let mut list = Vec::new(alloc);
+    append_names(left, &mut list)?;
+    append_names(right, &mut list)?;
     Ok(list)
 }
 

@@ -20,4 +20,4 @@ pub use limits::{MAX_ARITY, MAX_INTERFACE, MAX_NEXT, MAX_NODES, MAX_SYMBOL_TEXT,
 pub use occurrences::third_occurrence;
 pub use symbols::{SymbolFault, Symbols, is_symbol};
 pub use term::{Cell, Equation, Term};
-pub use terms::{copy_terms, names_of_terms, nodes_of_terms, same_terms};
+pub use terms::{append_names, copy_terms, names_of_terms, nodes_of_terms, same_terms};

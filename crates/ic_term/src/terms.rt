@@ -29,8 +29,8 @@ pub fn names_of_terms(alloc: Global, terms: &[Term]) -> Result<Vec<u64>, AllocEr
     Ok(list)
 }
 
-/// Appends the names of the terms.
-pub(crate) fn append_names(terms: &[Term], list: &mut Vec<u64>) -> Result<(), AllocError>
+/// Appends the names of the terms in the order of the text, each as often as it occurs.
+pub fn append_names(terms: &[Term], list: &mut Vec<u64>) -> Result<(), AllocError>
     ensures { OnOk result (list.new.items ≡ list.old.items ++ flat_map names (map tree terms.now)) }
 {
     for term in terms {
