@@ -1,9 +1,9 @@
 -- At which word the numbering of words is refused.
-use Rattle.std.proofs.Common.{◌≡◌, ℕ, zero, suc, ◌+◌, ◌-◌, ◌<◌, ◌≤◌, ◌⊎◌, inl, inr, Bool, true, false, ◌&&◌, cond, eqb, List, [], ◌∷◌, ◌++◌, Option, None, Some, is_some, Result, Ok, Err, length, map, take, drop, get_or, IsTrue, refl, sym, ap, ◌∙◌, subst, ⊎_elim, arith, append_assoc, append-nil, length-append}
-use Rattle.std.specs.Prelude.{nat_le, nat_lt, unwrap_or, option_and_then}
+use Rattle.std.proofs.Common.{◌≡◌, ℕ, zero, suc, ◌+◌, ◌<◌, ◌≤◌, inl, inr, Bool, true, false, ◌&&◌, eqb, List, [], ◌∷◌, ◌++◌, Option, None, Some, is_some, Result, Ok, Err, length, take, drop, get_or, refl, sym, ap, ◌∙◌, subst, ⊎_elim, arith, length-append}
+use Rattle.std.specs.Prelude.{nat_le, nat_lt, unwrap_or}
 use Rattle.std.specs.List.{list_all, slice_get, AllByRecursion}
 use Rattle.std.specs.Option.{option_or, option_map}
-use Rattle.std.proofs.lemmas.Bool.{false≢true, and_parts, and_from, leb-true, cases_lt, ltb-false, ltb-true}
+use Rattle.std.proofs.lemmas.Bool.{false≢true, and_parts, and_from, leb-true, cases_lt, ltb-false}
 use Rattle.std.proofs.lemmas.Bool.Decides.{nat_tests}
 use Rattle.std.proofs.lemmas.List.{take_more, drop_more, drop_all, get_or-map, length-map}
 use Rattle.std.proofs.lemmas.List.Folds.{list_all-append}
@@ -13,11 +13,10 @@ use Rattle.ic_term.specs.declared.symbols.SymbolFault.{SymbolFault}
 use Rattle.ic_term.specs.declared.symbols.SymbolFault.TheVariants.{Limit as OverLimit, Arity as OtherArity, Memory as NoMemory}
 use Rattle.ic_term.specs.declared.limits.TheConstants.{MAX_SYMBOLS, MAX_SYMBOL_TEXT, MAX_ARITY}
 use Rattle.ic_text.specs.declared.limits.TheConstants.{MAX_NAME}
-use Rattle.ic_text.specs.declared.fault.TextFault.{TextFault}
-use Rattle.ic_text.specs.declared.fault.TextFault.TheVariants.{Limit, Arity, Memory}
-use Rattle.ic_text.specs.declared.misread.Detail.TheVariants.{Nothing, Passed, Arities}
+use Rattle.ic_text.specs.declared.fault.TextFault.TheVariants.{Limit, Arity}
+use Rattle.ic_text.specs.declared.misread.Detail.TheVariants.{Passed}
 use Rattle.ic_text.specs.declared.misread.Limit.{Limit as Bound}
-use Rattle.ic_text.specs.declared.misread.Limit.TheVariants.{SymbolBytes, Arguments, NameNumber, Symbols}
+use Rattle.ic_text.specs.declared.misread.Limit.TheVariants.{NameNumber, Symbols}
 use Rattle.ic_text.specs.declared.number.Clash.{Clash}
 use Rattle.ic_text.specs.declared.number.Item.{Item}
 use Rattle.ic_text.specs.declared.number.Item.TheVariants.{Name, Symbol as Agent}
@@ -27,10 +26,10 @@ use Rattle.ic_text.specs.declared.refusal.Refusal.{Refusal}
 use Rattle.ic_text.specs.Name.{is_name, name_number}
 use Rattle.ic_text.specs.Sense.{has_its_arity}
 use Rattle.ic_text.specs.Words.{symbols_among, names_among}
-use Rattle.ic_text.specs.WordFaults.{word_table, keeps, are_within, agree, IsFirstWord, IsLimitWord, IsSecondUse}
+use Rattle.ic_text.specs.WordFaults.{word_table, keeps, agree, IsSecondUse}
 use Rattle.ic_text.specs.inner.Numbered.{IsWord, item_found, table_with, table_over, is_word_in_limits, is_word_over, numbered_words, Refuses}
 use Rattle.ic_text.specs.inner.Prefix.{node_of, nodes_of}
-use Rattle.ic_text.specs.inner.Refused.{IsRefusedIn, Takes, Stops, limit_of}
+use Rattle.ic_text.specs.inner.Refused.{IsRefusedIn, IsWordLimit, Takes, Stops, are_within, limit_of}
 use Rattle.ic_text.proofs.Numbering.{Outcome, kept, limited, clashed, outcome, with_word, go, go_on, go-numbered_words, and_right, not_le}
 use Rattle.ic_text.proofs.PrefixWords.{symbols_among-append, names_among-append, limits-words, table-words, arities-words}
 use Rattle.ic_text.proofs.TableLemmas.{slice_get-append, number_of_text-append, number_of_text-lt}
@@ -306,7 +305,7 @@ module _ (ws : List Symbol) (k : ℕ) (w : Symbol) (old : Numbering) (so_far : S
   table_on : table_over [] (take (k + 1) ws) ≡ table_with (table_over [] the_front) w
   table_on = ap (table_over []) stands.front ∙ table_over-append the_front (w ∷ []) []
 
-  pub limit_word : item_found old.symbols w ≡ Err OverLimit → IsLimitWord (limit_of w) ws k
+  pub limit_word : item_found old.symbols w ≡ Err OverLimit → IsWordLimit (limit_of w) ws k
   limit_word e = record {
     first = record {
       inside = stands.inside;

@@ -1,13 +1,13 @@
 -- What a system or a configuration is refused for behind its limits and arities, it has.
-use Rattle.std.proofs.Common.{◌≡◌, ◌≢◌, ℕ, zero, suc, ◌+◌, ◌<◌, ◌≤◌, ◌==◌, Bool, true, false, ◌&&◌, not, cond, List, [], ◌∷◌, ◌++◌, Option, None, Some, Result, Ok, Err, length, map, refl, sym, ap, ◌∙◌, subst, arith, append_assoc, length-append}
+use Rattle.std.proofs.Common.{◌≡◌, ℕ, zero, suc, ◌+◌, ◌<◌, ◌≤◌, ◌==◌, Bool, true, false, not, cond, List, [], ◌∷◌, ◌++◌, Option, None, Some, Result, Ok, Err, length, map, refl, sym, ap, ◌∙◌, subst, arith, append_assoc, length-append}
 use Rattle.std.specs.Prelude.{nat_le}
 use Rattle.std.specs.List.{list_all, list_any, slice_get, flat_map, position_from, AllByRecursion}
 use Rattle.std.specs.Cmp.{unsigned_Decides}
-use Rattle.std.proofs.lemmas.Bool.{and_parts, leb-true}
+use Rattle.std.proofs.lemmas.Bool.{false≢true, and_parts, leb-true}
 use Rattle.std.proofs.lemmas.List.{length-map}
 use Rattle.std.proofs.lemmas.List.Folds.{list_all-append}
 use Rattle.std.proofs.lemmas.List.Sums.{sum_by-append, sum_by-cons}
-use Rattle.ic_term.specs.Symbol.{Symbol, fits_limits}
+use Rattle.ic_term.specs.Symbol.{Symbol}
 use Rattle.ic_term.specs.Configuration.{Configuration, occurrences, third_from, third_occurrence}
 use Rattle.ic_term.specs.declared.config.ConfigFault.{ConfigFault}
 use Rattle.ic_term.specs.declared.config.ConfigFault.TheVariants.{Limit as TooMuch, Name as Third, Memory as NoRoom}
@@ -29,7 +29,7 @@ use Rattle.ic_text.specs.inner.Numbered.{Refuses, as_text_answer}
 use Rattle.ic_text.specs.inner.Refused.{HasFault}
 use Rattle.ic_text.proofs.BuiltRules.{flat_names}
 use Rattle.ic_text.proofs.PrefixWords.{names_among-append, names_among-prefix, names_among-phrase}
-use Rattle.ic_text.proofs.Refusing.{config_syntax, config_arity, found_behind, system_syntax, system_arity}
+use Rattle.ic_text.proofs.Refusing.{config_syntax, config_arity, found_behind, system_syntax, system_arity, system_limit}
 use Rattle.ic_text.proofs.Sensing.{names-numbered_trees}
 use Rattle.ic_text.proofs.Uses.{occurrences-uses}
 
@@ -183,23 +183,23 @@ module _ (s : SystemPhrase) (is : IsSystemPhrase s) where
   size : length (rules_over s) ≡ length s.rules
   size = length-map s.rules (rule_over (system_table s))
 
-  pub has_fault : list_all (has_its_arity (system_table s)) (system_symbols s) ≡ true → (f : TextFault) → Refuses f (system_sense s) → HasFault s f
-  has_fault agreed Syntax e = system_syntax s e
-  has_fault agreed Limit e = tt
-  has_fault agreed Arity e = system_arity s agreed e
-  has_fault agreed (NameCount i) e =
+  pub has_fault : is_system_in_limits s ≡ true → list_all (has_its_arity (system_table s)) (system_symbols s) ≡ true → (f : TextFault) → Refuses f (system_sense s) → HasFault s f
+  has_fault low agreed Syntax e = system_syntax s e
+  has_fault low agreed Limit e = system_limit s low e
+  has_fault low agreed Arity e = system_arity s agreed e
+  has_fault low agreed (NameCount i) e =
       let e = behind (NameCount i) (λ x. cc) (λ x. cc) e in
       uncounted s is i (by_count _ _ _ _ _ i e.1)
-  has_fault agreed (Name n) e =
+  has_fault low agreed (Name n) e =
       let e = behind (Name n) (λ x. cc) (λ x. cc) e in
       third s.config is.config n (low_names e.0) (by_third _ _ _ _ _ n e.1)
-  has_fault agreed (Twice i) e =
+  has_fault low agreed (Twice i) e =
       let e = behind (Twice i) (λ x. cc) (λ x. cc) e in
       omega (arith, size, repeated_inside [] (rules_over s) i (by_twice _ _ _ _ _ i e.1))
-  has_fault agreed (Lopsided i) e =
+  has_fault low agreed (Lopsided i) e =
       let e = behind (Lopsided i) (λ x. cc) (λ x. cc) e in
       omega (arith, size, length-map (rules_over s) numbered, position_inside is_lopsided (map numbered (rules_over s)) 0 i (by_lopsided _ _ _ _ _ i e.1))
-  has_fault agreed Memory e = tt
+  has_fault low agreed Memory e = tt
 
 -- the same of a configuration, as a system without rules
 abbrev pub alone : Phrase → SystemPhrase
@@ -238,14 +238,24 @@ module _ (p : Phrase) (is : IsPhrase p) where
   low-config : is_in_limits p ≡ true → list_all (λ n. nat_le n MAX_NAME) (phrase_names p) ≡ true
   low-config low = (and_parts _ _ (and_parts _ _ (and_parts _ _ (and_parts _ _ low).0).0).0).1
 
-  pub has_fault-config : (a : Result Configuration ConfigFault) (f : TextFault) → Refuses f (as_text_answer a) → Refuses f (sense p) → HasFault (alone p) f
-  has_fault-config a Syntax built e = config_syntax a built
-  has_fault-config a Limit built e = tt
-  has_fault-config a Arity built e = config_arity a built
-  has_fault-config a (NameCount i) built e = absurd (config_count a i built)
-  has_fault-config a (Name n) built e =
+  config_limit : is_in_limits p ≡ true → Err Limit ≡ sense p → ⊥
+  config_limit low = by_cases (is_in_limits p) (list_all (has_its_arity (symbol_table p)) (phrase_symbols p)) (third_occurrence (phrase_names p)) low
+    where
+      by_cases : (l o : Bool) (t : Option ℕ) → l ≡ true
+          → Err Limit ≡ cond l (cond o (unless_third_name {A = List Symbol × Configuration} (symbol_table p, numbered_phrase (symbol_table p) p) t) (Err Arity)) (Err Limit) → ⊥
+      by_cases false o t is e = false≢true is
+      by_cases true false t is e = cc
+      by_cases true true None is e = cc
+      by_cases true true (Some m) is e = cc
+
+  pub has_fault-config : is_in_limits p ≡ true → (a : Result Configuration ConfigFault) (f : TextFault) → Refuses f (as_text_answer a) → Refuses f (sense p) → HasFault (alone p) f
+  has_fault-config low a Syntax built e = config_syntax a built
+  has_fault-config low a Limit built e = config_limit low e
+  has_fault-config low a Arity built e = config_arity a built
+  has_fault-config low a (NameCount i) built e = absurd (config_count a i built)
+  has_fault-config low a (Name n) built e =
       let found = third-config n e in
       third p is n (low-config found.0) found.1
-  has_fault-config a (Twice i) built e = absurd (config_twice a i built)
-  has_fault-config a (Lopsided i) built e = absurd (config_lopsided a i built)
-  has_fault-config a Memory built e = tt
+  has_fault-config low a (Twice i) built e = absurd (config_twice a i built)
+  has_fault-config low a (Lopsided i) built e = absurd (config_lopsided a i built)
+  has_fault-config low a Memory built e = tt

@@ -43,3 +43,8 @@ pub mod RuleWalk
 pub mod HasFaults
 pub mod RulePlaces
 pub mod Innocence
+pub mod Counting
+pub mod Excesses
+pub mod Fitting
+pub mod Stopping
+pub mod OnePlace

@@ -1,5 +1,5 @@
 -- The place of a refusal, by its word.
-use Rattle.std.proofs.Common.{◌≡◌, ◌≢◌, ℕ, zero, suc, ◌+◌, ◌<◌, ◌≤◌, Bool, true, false, ◌&&◌, cond, List, [], ◌∷◌, ◌++◌, Option, None, Some, Result, Ok, Err, length, take, map, refl, sym, ap, ◌∙◌, subst, arith, length-append}
+use Rattle.std.proofs.Common.{◌≡◌, ◌≢◌, ℕ, zero, suc, ◌+◌, ◌<◌, ◌≤◌, Bool, true, false, ◌&&◌, cond, List, [], ◌∷◌, ◌++◌, Option, None, Some, Result, Ok, Err, length, take, map, refl, sym, ap, ◌∙◌, arith, length-append}
 use Rattle.std.specs.Prelude.{nat_le, IfSome}
 use Rattle.std.specs.List.{list_all, slice_get}
 use Rattle.std.proofs.lemmas.Bool.{false≢true}
@@ -17,31 +17,22 @@ use Rattle.ic_text.specs.declared.fault.TextFault.TheVariants.{Syntax, Limit, Ar
 use Rattle.ic_text.specs.declared.limits.TheConstants.{MAX_TEXT}
 use Rattle.ic_text.specs.declared.misread.Detail.{Detail}
 use Rattle.ic_text.specs.declared.misread.Detail.TheVariants.{Nothing, Passed, Arities}
-use Rattle.ic_text.specs.declared.misread.Limit.TheVariants.{TextBytes, SymbolBytes, Arguments, NameNumber, Symbols}
+use Rattle.ic_text.specs.declared.misread.Limit.TheVariants.{TextBytes, SymbolBytes, Arguments, NameNumber, Symbols, Rules, RuleNodes, Interface, Nodes}
 use Rattle.ic_text.specs.declared.number.Item.{Item}
-use Rattle.ic_text.specs.Token.{Token, tokens, words_among}
+use Rattle.ic_text.specs.Token.{Token, words_among}
 use Rattle.ic_text.specs.Reading.{IsSpelling}
 use Rattle.ic_text.specs.Sense.{symbols_after, has_its_arity}
 use Rattle.ic_text.specs.SystemSource.{SystemPhrase, IsSystemPhrase, system_symbols}
 use Rattle.ic_text.specs.SystemSense.{system_table, is_system_in_limits, rules_over, unless_found, system_parts, system_sense}
 use Rattle.ic_text.specs.Source.{phrase_names}
 use Rattle.ic_text.specs.Words.{Written, all_words, in_a_row, phrase_prefix, rule_prefix, symbols_among, system_prefix, written_system}
-use Rattle.ic_text.specs.WordFaults.{agree, IsFaultWord, IsWordOf}
+use Rattle.ic_text.specs.WordFaults.{agree, IsFaultWord}
 use Rattle.ic_text.specs.Places.{IsPlaced, IsPlacedWord}
-use Rattle.ic_text.specs.inner.Numbered.{table_over, is_word_in_limits, is_word_over, item_in, unless_refused, numbered_words, Refuses, as_text_answer}
-use Rattle.ic_text.specs.inner.Refused.{HasWord, IsPlaceOf, IsToldWord, IsWordIn}
+use Rattle.ic_text.specs.inner.Numbered.{table_over, is_word_in_limits, is_word_over, item_in, unless_refused, numbered_words, as_text_answer}
+use Rattle.ic_text.specs.inner.Refused.{HasWord, IsPlaceOf, IsToldWord}
 use Rattle.ic_text.proofs.Blaming.{agree-words}
 use Rattle.ic_text.proofs.JoinedPhrase.{joined_phrase, symbols-joined, is-joined}
 use Rattle.ic_text.proofs.PrefixWords.{symbols_among-phrase}
-
--- a refusal of words is one of what is written
-pub told_in : (w : Written) (f : TextFault) (o : Option ℕ) (d : Detail) → IsWordIn (all_words w) f o d → IsToldWord w f o d
-told_in w Limit (Some k) d is = is
-told_in w Arity (Some k) d is = is
-told_in w Limit None d is = tt
-told_in w Memory None d is = tt
-told_in w f (Some k) d is = absurd is
-told_in w f None d is = absurd is
 
 -- all words of a system
 pub written-system : (s : SystemPhrase) → all_words (written_system s) ≡ system_prefix s
@@ -88,6 +79,14 @@ system_arity s agree = by_cases (is_system_in_limits s) (list_all (has_its_arity
     by_cases true false is e = false≢true is
     by_cases true true is e = neither_behind Arity (λ i x. cc) (λ i x. cc) (λ i x. cc) (λ i x. cc) _ _ _ _ _ e
 
+pub system_limit : (s : SystemPhrase) → is_system_in_limits s ≡ true → Err Limit ≡ system_sense s → ⊥
+system_limit s low = by_cases (is_system_in_limits s) (list_all (has_its_arity (system_table s)) (system_symbols s)) low
+  where
+    by_cases : (l o : Bool) → l ≡ true → Err Limit ≡ cond l (cond o (found_behind (first_uncounted (rules_over s)) (third_occurrence (phrase_names s.config)) (first_repeated (rules_over s)) (first_lopsided (rules_over s)) (system_parts s)) (Err Arity)) (Err Limit) → ⊥
+    by_cases false o is e = false≢true is
+    by_cases true false is e = cc
+    by_cases true true is e = neither_behind Limit (λ i x. cc) (λ i x. cc) (λ i x. cc) (λ i x. cc) _ _ _ _ _ e
+
 -- where words are numbered, their arities agree
 numbered_agree : (ws : List Symbol) (v : List Symbol × List Item) → Ok v ≡ numbered_words ws → agree ws ≡ true
 numbered_agree ws v e =
@@ -104,21 +103,15 @@ system_agrees s is v e =
     let same : symbols_among (phrase_prefix (joined_phrase s)) ≡ system_symbols s = symbols_among-phrase (joined_phrase s) (is-joined s is) ∙ symbols-joined s in
     (λ i. list_all (has_its_arity (symbols_after [] (sym same i))) (sym same i)) ∙ numbered_agree (phrase_prefix (joined_phrase s)) v e
 
--- the word of a refusal is one of the words
-inside : (ws : List Symbol) (f : TextFault) (k : ℕ) (d : Detail) → IsWordOf ws f k d → k < length ws
-inside ws Limit k (Passed bound) is = is.first.inside
-inside ws Arity k (Arities before here) is = is.first.inside
-inside ws f k d is = absurd is
-
--- the words of a list stand within those of all lists
+-- the word of a refusal is one of the words, and those of a list stand within those of all lists
 one_of_all : (wss : List (List Symbol)) (i : ℕ) (ws : List Symbol) → slice_get wss i ≡ Some ws → length (in_a_row (take i wss)) + length ws ≤ length (in_a_row wss)
 one_of_all [] i ws e = cc
 one_of_all (x ∷ xs) zero ws e = let same : x ≡ ws = cc in omega (arith, ap length same, length-append x (in_a_row xs))
 one_of_all (x ∷ xs) (suc i) ws e = omega (arith, one_of_all xs i ws e, length-append x (in_a_row xs), length-append x (in_a_row (take i xs)))
 
 inside_all : (w : Written) (f : TextFault) (k : ℕ) (d : Detail) → IsFaultWord w f k d → k < length (all_words w)
-inside_all w Limit k d is = inside (all_words w) Limit k d is
-inside_all w Arity k d is = inside (all_words w) Arity k d is
+inside_all w Limit k (Passed bound) is = is.inside
+inside_all w Arity k (Arities before here) is = is.first.inside
 inside_all w (NameCount i) k Nothing is = omega (arith, is.place, is.inside, one_of_all w.rules i is.words is.rule, length-append (in_a_row w.rules) w.config)
 inside_all w (Name n) k Nothing is = omega (arith, is.place, is.first.inside, length-append (in_a_row w.rules) w.config)
 inside_all w (Twice i) k Nothing is = is.inside
@@ -135,29 +128,33 @@ module _ {P : Type 0} (IsOne : P → Type 0) (words_of : P → List Token) (writ
   has_words same f None d is = tt
   has_words same f (Some k) d is = has_word same f k d is
 
-  placed_word : (f : TextFault) (k at : ℕ) (d : Detail) → IsFaultWord (written p) f k d → IsPlaceOf text (Some k) (Some at) → IsPlacedWord IsOne words_of written text f at d
-  placed_word f k at d is place = record { phrase = p; spells = spells; word = k; refused = is; place = place }
+  module _ (short : length text ≤ MAX_TEXT) where
+    placed_word : (f : TextFault) (k at : ℕ) (d : Detail) → IsFaultWord (written p) f k d → IsPlaceOf text (Some k) (Some at) → IsPlacedWord IsOne words_of written text f at d
+    placed_word f k at d is place = record { short = short; phrase = p; spells = spells; word = k; refused = is; place = place }
 
-  at_word : (f : TextFault) (k at : ℕ) (d : Detail) → IsFaultWord (written p) f k d → IsPlaceOf text (Some k) (Some at) → IsPlaced IsOne words_of written text f (Some at) d
-  at_word Limit k at (Passed TextBytes) is place = absurd (false≢true (sym is.passed))
-  at_word Limit k at (Passed SymbolBytes) is place = placed_word Limit k at (Passed SymbolBytes) is place
-  at_word Limit k at (Passed Arguments) is place = placed_word Limit k at (Passed Arguments) is place
-  at_word Limit k at (Passed NameNumber) is place = placed_word Limit k at (Passed NameNumber) is place
-  at_word Limit k at (Passed Symbols) is place = placed_word Limit k at (Passed Symbols) is place
-  at_word Arity k at (Arities before here) is place = placed_word Arity k at (Arities before here) is place
-  at_word (NameCount i) k at Nothing is place = placed_word (NameCount i) k at Nothing is place
-  at_word (Name n) k at Nothing is place = placed_word (Name n) k at Nothing is place
-  at_word (Twice i) k at Nothing is place = placed_word (Twice i) k at Nothing is place
-  at_word (Lopsided i) k at Nothing is place = placed_word (Lopsided i) k at Nothing is place
-  at_word f k at d is place = absurd is
+    at_word : (f : TextFault) (k at : ℕ) (d : Detail) → IsFaultWord (written p) f k d → IsPlaceOf text (Some k) (Some at) → IsPlaced IsOne words_of written text f (Some at) d
+    at_word Limit k at (Passed TextBytes) is place = absurd (false≢true (sym is.passed))
+    at_word Limit k at (Passed SymbolBytes) is place = placed_word Limit k at (Passed SymbolBytes) is place
+    at_word Limit k at (Passed Arguments) is place = placed_word Limit k at (Passed Arguments) is place
+    at_word Limit k at (Passed NameNumber) is place = placed_word Limit k at (Passed NameNumber) is place
+    at_word Limit k at (Passed Symbols) is place = placed_word Limit k at (Passed Symbols) is place
+    at_word Limit k at (Passed Rules) is place = placed_word Limit k at (Passed Rules) is place
+    at_word Limit k at (Passed RuleNodes) is place = placed_word Limit k at (Passed RuleNodes) is place
+    at_word Limit k at (Passed Interface) is place = placed_word Limit k at (Passed Interface) is place
+    at_word Limit k at (Passed Nodes) is place = placed_word Limit k at (Passed Nodes) is place
+    at_word Arity k at (Arities before here) is place = placed_word Arity k at (Arities before here) is place
+    at_word (NameCount i) k at Nothing is place = placed_word (NameCount i) k at Nothing is place
+    at_word (Name n) k at Nothing is place = placed_word (Name n) k at Nothing is place
+    at_word (Twice i) k at Nothing is place = placed_word (Twice i) k at Nothing is place
+    at_word (Lopsided i) k at Nothing is place = placed_word (Lopsided i) k at Nothing is place
+    at_word f k at d is place = absurd is
 
-  at_none : (f : TextFault) (d : Detail) → length text ≤ MAX_TEXT → IsToldWord (written p) f None d → IsPlaced IsOne words_of written text f None d
-  at_none Limit d short is = short
-  at_none Memory d short is = tt
-  at_none f d short is = absurd is
+    at_none : (f : TextFault) (d : Detail) → IsToldWord (written p) f None d → IsPlaced IsOne words_of written text f None d
+    at_none Memory d is = tt
+    at_none f d is = absurd is
 
-  pub placed_at : (f : TextFault) (w at : Option ℕ) (d : Detail) → length text ≤ MAX_TEXT → IsToldWord (written p) f w d → IsPlaceOf text w at → IsPlaced IsOne words_of written text f at d
-  placed_at f None None d short is place = at_none f d short is
-  placed_at f (Some k) (Some at) d short is place = at_word f k at d is place
-  placed_at f None (Some at) d short is place = absurd place
-  placed_at f (Some k) None d short is place = absurd place
+    pub placed_at : (f : TextFault) (w at : Option ℕ) (d : Detail) → IsToldWord (written p) f w d → IsPlaceOf text w at → IsPlaced IsOne words_of written text f at d
+    placed_at f None None d is place = at_none f d is
+    placed_at f (Some k) (Some at) d is place = at_word f k at d is place
+    placed_at f None (Some at) d is place = absurd place
+    placed_at f (Some k) None d is place = absurd place

@@ -1,5 +1,5 @@
 -- Numbering the words of a configuration and building its terms gives its sense.
-use Rattle.std.proofs.Common.{◌≡◌, ℕ, ◌+◌, ◌<◌, ◌≤◌, ◌^◌, Bool, true, false, ◌&&◌, cond, List, [], ◌∷◌, ◌++◌, Option, None, Some, Result, Ok, Err, length, map, refl, sym, ap, ◌∙◌, arith}
+use Rattle.std.proofs.Common.{◌≡◌, ℕ, ◌+◌, ◌≤◌, ◌^◌, Bool, true, false, ◌&&◌, cond, List, [], ◌∷◌, ◌++◌, Option, None, Some, Result, Ok, Err, length, map, refl, sym, ap, ◌∙◌, arith}
 use Rattle.std.specs.Prelude.{nat_le, nat_lt, sum_by}
 use Rattle.std.specs.List.{flat_map, list_all}
 use Rattle.std.proofs.lemmas.List.{length-map}
@@ -21,7 +21,6 @@ use Rattle.ic_text.specs.inner.Prefix.{node_of, nodes_of as words_of}
 use Rattle.ic_text.specs.Words.{phrase_prefix}
 use Rattle.ic_text.specs.inner.Numbered.{table_over, is_word_in_limits, is_word_over, item_in, unless_refused, numbered_words, as_text_answer, Refuses}
 use Rattle.ic_text.specs.inner.Built.{built_before, configuration_from}
-use Rattle.ic_text.proofs.Numbering.{not_le}
 use Rattle.ic_text.proofs.PrefixWords.{symbols_among-phrase, names_among-phrase, limits-words, table-words, arities-words, length-phrase_prefix}
 use Rattle.ic_text.proofs.BuiltTrees.{configuration_from-built}
 
@@ -107,6 +106,11 @@ third_beside : (table : List Symbol) (c : Configuration) (o : Option ℕ) → un
 third_beside table c None = refl
 third_beside table c (Some n) = refl
 
+-- words that are numbered are within their limits
+pub numbered_within : (l o : Bool) (x v : List Symbol × List Item) → Ok v ≡ unless_refused {A = List Symbol × List Item} l o x → l ≡ true
+numbered_within true o x v e = refl
+numbered_within false o x v e = cc
+
 module _ (p : Phrase) (is : IsPhrase p) where
   abbrev pub table : List Symbol
   table = symbol_table p
@@ -133,6 +137,9 @@ module _ (p : Phrase) (is : IsPhrase p) where
       let same_arities : list_all (is_word_over table) ws ≡ agree = arities-words table ws ∙ ap (list_all (has_its_arity table)) (symbols_among-phrase p is) in
       ap (λ t. unless_refused {A = List Symbol × List Item} (list_all is_word_in_limits ws && nat_le (length t) MAX_SYMBOLS) (list_all (is_word_over t) ws) (t, map (item_in t) ws)) same_table
       ∙ (λ i. unless_refused {A = List Symbol × List Item} (same_limits i && nat_le (length table) MAX_SYMBOLS) (same_arities i) (table, items))
+
+  pub phrase_within : (v : List Symbol × List Item) → Ok v ≡ numbered_words (phrase_prefix p) → in_limits ≡ true
+  phrase_within v e = numbered_within in_limits agree (table, items) v (e ∙ numbered_words-phrase)
 
   -- where neither nodes nor terms of the interface are too many, the sense is that of the words
   pub sense-words : nat_le (phrase_nodes p) MAX_NODES ≡ true → nat_le (length p.interface) MAX_INTERFACE ≡ true → sense p ≡ finished (length p.interface) (numbered_words (phrase_prefix p))
@@ -164,9 +171,6 @@ sense-unfit p = by_cases _ (nat_le (length p.interface) MAX_INTERFACE) (nat_le (
     by_cases true true false v unfit = refl
     by_cases true false k v unfit = refl
     by_cases false i k v unfit = refl
-
-pub sense-many : (p : Phrase) → MAX_NODES < phrase_nodes p → sense p ≡ Err Limit
-sense-many p many = sense-unfit p (rw (not_le (phrase_nodes p) MAX_NODES many) refl)
 
 -- a refusal stays where a function goes on with values alone
 pub Refuses-through : {A B : Type 0} (f : Result A TextFault → Result B TextFault) (stays : (e : TextFault) → f (Err e) ≡ Err e) (e : TextFault) (a : Result A TextFault) → Refuses e a → Refuses e (f a)

@@ -1,10 +1,10 @@
 -- Numbering the words of a system and building its rules and its configuration gives its sense.
-use Rattle.std.proofs.Common.{◌≡◌, ℕ, ◌+◌, ◌*◌, ◌<◌, Bool, true, false, ◌&&◌, cond, List, [], ◌++◌, Option, None, Some, Result, Ok, Err, length, map, take, drop, refl, sym, ap, ◌∙◌, append_assoc, arith}
+use Rattle.std.proofs.Common.{◌≡◌, ℕ, ◌*◌, Bool, true, false, ◌&&◌, cond, List, [], ◌++◌, Option, None, Some, Result, Ok, Err, length, map, take, drop, refl, sym, ap, ◌∙◌, append_assoc}
 use Rattle.std.specs.Prelude.{nat_le, sum_by}
 use Rattle.std.specs.List.{flat_map, list_all}
 use Rattle.std.proofs.lemmas.List.{length-map, map-append, take_at, drop_at}
 use Rattle.std.proofs.lemmas.List.Folds.{list_all-append}
-use Rattle.std.proofs.lemmas.Bool.{false≢true, and_parts, leb-true}
+use Rattle.std.proofs.lemmas.Bool.{false≢true, and_parts}
 use Rattle.ic_term.specs.Symbol.{Symbol, fits_limits, is_over}
 use Rattle.ic_term.specs.Tree.{Tree}
 use Rattle.ic_term.specs.Configuration.{Configuration, third_occurrence, unless_third, restored}
@@ -30,7 +30,7 @@ use Rattle.ic_text.proofs.BuiltTrees.{sides_trees, built-phrase, configuration_f
 use Rattle.ic_text.proofs.BuiltRules.{rules_in-sides, few-rules_over, fit-rules_over}
 use Rattle.ic_text.proofs.JoinedPhrase.{sides_of_rules, joined_phrase, symbols-joined, names-joined, length-sides_of_rules, is-joined}
 use Rattle.ic_text.proofs.Over.{over-numbered_phrase}
-use Rattle.ic_text.proofs.Sensing.{numbered_words-phrase, restored-numbered}
+use Rattle.ic_text.proofs.Sensing.{numbered_within, numbered_words-phrase, restored-numbered}
 
 -- numbered words as a system, the first so many terms of which are the sides of rules
 abbrev pub finished_system : ℕ → ℕ → Result (List Symbol × List Item) TextFault → Result SystemParts TextFault
@@ -39,16 +39,16 @@ finished_system agents terms (Ok v) =
 finished_system agents terms (Err e) = Err e
 
 module _ (s : SystemPhrase) (is : IsSystemPhrase s) where
-  abbrev table : List Symbol
+  abbrev pub table : List Symbol
   table = system_table s
 
-  abbrev words : List Symbol
+  abbrev pub words : List Symbol
   words = phrase_prefix (joined_phrase s)
 
   abbrev items : List Item
   items = map (item_in table) words
 
-  abbrev in_limits : Bool
+  abbrev pub in_limits : Bool
   in_limits = (list_all (λ x. fits_limits x.text x.arity) (system_symbols s) && list_all (λ n. nat_le n MAX_NAME) (system_names s)) && nat_le (length table) MAX_SYMBOLS
 
   abbrev agree : Bool
@@ -61,6 +61,9 @@ module _ (s : SystemPhrase) (is : IsSystemPhrase s) where
       over ss ns = unless_refused {A = List Symbol × List Item}
           ((list_all (λ x. fits_limits x.text x.arity) ss && list_all (λ n. nat_le n MAX_NAME) ns) && nat_le (length (symbols_after [] ss)) MAX_SYMBOLS)
           (list_all (has_its_arity (symbols_after [] ss)) ss) (symbols_after [] ss, map (item_in (symbols_after [] ss)) words)
+
+  pub system_within : (v : List Symbol × List Item) → Ok v ≡ numbered_words words → in_limits ≡ true
+  system_within v e = numbered_within in_limits agree (table, items) v (e ∙ numbered_words-system)
 
   -- the sides of the rules, and the terms of the configuration
   abbrev sides : List Tree
@@ -157,16 +160,3 @@ system-unfit s = by_cases _ (nat_le (length s.rules) MAX_RULES) (nat_le (sum_by 
     by_cases true true false i k v unfit = refl
     by_cases true false m i k v unfit = refl
     by_cases false r m i k v unfit = refl
-
--- so is one with more words than all of these limits together have
-pub system-many : (s : SystemPhrase)
-    → 2 * MAX_RULES + MAX_RULE_NODES + MAX_NODES < 2 * length s.rules + sum_by rule_nodes s.rules + phrase_nodes s.config
-    → system_sense s ≡ Err Limit
-system-many s many = system-unfit s (by_cases (nat_le (length s.rules) MAX_RULES) (nat_le (sum_by rule_nodes s.rules) MAX_RULE_NODES) (nat_le (phrase_nodes s.config) MAX_NODES) refl refl refl)
-  where
-    by_cases : (r m k : Bool) → nat_le (length s.rules) MAX_RULES ≡ r → nat_le (sum_by rule_nodes s.rules) MAX_RULE_NODES ≡ m → nat_le (phrase_nodes s.config) MAX_NODES ≡ k
-        → ((r && m) && (k && nat_le (length s.config.interface) MAX_INTERFACE)) ≡ false
-    by_cases false m k few small low = refl
-    by_cases true false k few small low = refl
-    by_cases true true false few small low = refl
-    by_cases true true true few small low = absurd (omega (arith, leb-true (length s.rules) MAX_RULES few, leb-true (sum_by rule_nodes s.rules) MAX_RULE_NODES small, leb-true (phrase_nodes s.config) MAX_NODES low))

@@ -1,26 +1,17 @@
 -- The first pass over a text counts the words and tokens of what it spells.
-use Rattle.std.proofs.Common.{◌≡◌, ℕ, ◌+◌, ◌-◌, ◌*◌, ◌<◌, ◌≤◌, Bool, true, false, cond, List, [], ◌∷◌, ◌++◌, Option, None, Some, length, get_or, take, drop, refl, sym, ap, ◌∙◌, arith, length-append}
+use Rattle.std.proofs.Common.{◌≡◌, ℕ, ◌+◌, ◌-◌, ◌<◌, ◌≤◌, Bool, true, false, cond, List, [], ◌∷◌, ◌++◌, Option, None, Some, length, get_or, take, drop, refl, sym, ap, ◌∙◌, arith}
 use Rattle.std.specs.Prelude.{option_and_then}
 use Rattle.std.specs.Option.{option_map}
 use Rattle.ic_text.specs.declared.syntax.Part.{Part}
 use Rattle.ic_text.specs.declared.syntax.State.{State}
 use Rattle.ic_text.specs.declared.survey.Counts.{Counts}
 use Rattle.ic_text.specs.declared.survey.Progress.{Progress}
-use Rattle.std.specs.Prelude.{sum_by}
 use Rattle.std.proofs.lemmas.Bool.{false≢true}
-use Rattle.std.proofs.lemmas.List.{length-map}
-use Rattle.ic_term.specs.Symbol.{Symbol}
 use Rattle.ic_text.specs.Token.{Token, word, mark, is_word_byte, mark_of, word_of, before, tokens_at, followed, tokens_behind, words_among, tokens}
-use Rattle.ic_text.specs.Source.{Phrase, phrase_words, phrase_nodes}
-use Rattle.ic_text.specs.SystemSource.{SystemPhrase, system_words, rule_nodes}
-use Rattle.ic_text.specs.Words.{phrase_prefix, rules_prefix}
 use Rattle.ic_text.specs.inner.Syntax.{step, is_end, at_beginning, accepts}
 use Rattle.ic_text.specs.inner.Survey.{take_one, taken, taken_behind, taken_at, counted, surveyed, Tells}
 use Rattle.ic_text.proofs.TokenLemmas.{ended_run}
 use Rattle.ic_text.specs.lemmas.ReadOnce.{IsTold, some-injective, none_is_some}
-use Rattle.ic_text.proofs.InTextOrder.{among-phrase, among-system}
-use Rattle.ic_text.proofs.PrefixWords.{length-phrase_prefix}
-use Rattle.ic_text.proofs.JoinedPhrase.{joined_phrase, prefix-joined, length-rules_prefix}
 
 pub taken-none : (ts : List Token) → taken None ts ≡ None
 taken-none [] = refl
@@ -137,13 +128,3 @@ module _ {P : Type 0} (IsOne : P → Type 0) (words : P → List Token) (told : 
 
   pub surveyed_tells : (text : List ℕ) → Tells IsOne words text (surveyed part (tokens text))
   surveyed_tells text = by_tokens text (tokens text) refl
-
--- the words of a phrase are its nodes, and the sides of its rules
-pub length-words-phrase : (p : Phrase) → length (words_among (phrase_words p)) ≡ phrase_nodes p
-length-words-phrase p = ap length (among-phrase p) ∙ length-map (phrase_prefix p) (λ (s : Symbol). s.text) ∙ length-phrase_prefix p
-
-pub length-words-system : (s : SystemPhrase)
-    → length (words_among (system_words s)) ≡ 2 * length s.rules + sum_by rule_nodes s.rules + phrase_nodes s.config
-length-words-system s =
-    let all = ap length (among-system s) ∙ length-map (phrase_prefix (joined_phrase s)) (λ (x : Symbol). x.text) ∙ ap length (prefix-joined s) ∙ length-append (rules_prefix s.rules) (phrase_prefix s.config) in
-    omega (arith, all, length-rules_prefix s.rules, length-phrase_prefix s.config)

@@ -2,9 +2,9 @@
 use Rattle.std.specs.Prelude.{◌≡◌, ℕ, ◌-◌, ◌==◌, ◌<◌, ◌≤◌, List, ◌++◌, Bool, ◌&&◌, ◌||◌, not, Option, None, Some, IsTrue, length, get_or, take}
 use Rattle.ic_text.specs.declared.limits.TheConstants.{MAX_TEXT}
 use Rattle.ic_text.specs.declared.fault.TextFault.{TextFault}
-use Rattle.ic_text.specs.declared.fault.TextFault.TheVariants.{Syntax, Limit, Arity, NameCount, Name, Twice, Lopsided, Memory}
+use Rattle.ic_text.specs.declared.fault.TextFault.TheVariants.{Syntax, Limit, Memory}
 use Rattle.ic_text.specs.declared.misread.Detail.{Detail}
-use Rattle.ic_text.specs.declared.misread.Detail.TheVariants.{Nothing, Passed, Arities}
+use Rattle.ic_text.specs.declared.misread.Detail.TheVariants.{Nothing, Passed}
 use Rattle.ic_text.specs.declared.misread.Limit.TheVariants.{TextBytes}
 use Rattle.ic_text.specs.Reading.{IsSpelling}
 use Rattle.ic_text.specs.Token.{Token, is_word_byte, tokens, words_among}
@@ -49,10 +49,12 @@ pub record IsWordPlace (text : List ℕ) (k at : ℕ) : Type 0 where
   pub tokens : tokens (take at text) ≡ Some front
   pub before : length (words_among front) ≡ k
 
--- the place of a refusal of what a text spells: that of the word at which it is found
+-- the place of a refusal of what a text spells, where it isn't too long: that of the word at which
+-- it is found
 pub record IsPlacedWord {P : Type 0} (IsOne : P → Type 0) (words : P → List Token)
     (written : P → Written) (text : List ℕ) (fault : TextFault) (at : ℕ) (detail : Detail)
     : Type 0 where
+  pub short : length text ≤ MAX_TEXT
   pub phrase : P
   pub spells : IsSpelling IsOne words text phrase
   pub word : ℕ
@@ -61,7 +63,7 @@ pub record IsPlacedWord {P : Type 0} (IsOne : P → Type 0) (words : P → List 
 
 -- The place that is told of a refusal, and what more is known: of a fault of syntax its place; where
 -- a text is too long its first byte too many; of others that of the word at which it is found. Of
--- too many rules, nodes or terms of the interface none is told.
+-- memory that was refused none is told.
 abbrev pub IsPlaced : {P : Type 0} → (P → Type 0) → (P → List Token) → (P → Written) → List ℕ
     → TextFault → Option ℕ → Detail → Type 0
 IsPlaced IsOne words written text Syntax (Some at) Nothing = IsSyntaxPlace IsOne words text at
@@ -69,6 +71,5 @@ IsPlaced IsOne words written text Limit (Some at) (Passed TextBytes) =
     (MAX_TEXT < length text) × (at ≡ MAX_TEXT)
 IsPlaced IsOne words written text fault (Some at) detail =
     IsPlacedWord IsOne words written text fault at detail
-IsPlaced IsOne words written text Limit None detail = length text ≤ MAX_TEXT
 IsPlaced IsOne words written text Memory None detail = Unit {0}
 IsPlaced IsOne words written text fault None detail = ⊥

@@ -1,16 +1,17 @@
 -- To be believed: at which word of what is written a refusal is found.
-use Rattle.std.specs.Prelude.{◌≡◌, ℕ, ◌+◌, ◌<◌, ◌≤◌, ◌==◌, List, [], Bool, true, false, ◌&&◌, ◌||◌, Option, None, Some, IsTrue, length, take, nat_le, count_by, slice_get}
+use Rattle.std.specs.Prelude.{◌≡◌, ℕ, zero, suc, ◌+◌, ◌-◌, ◌*◌, ◌<◌, ◌≤◌, ◌==◌, List, [], ◌∷◌, Bool, true, false, ◌&&◌, ◌||◌, Option, None, Some, IsTrue, length, take, nat_le, count_by, slice_get, if◌then◌else◌}
 use Rattle.std.specs.List.{list_all}
 use Rattle.std.specs.Str.{bytes_eq}
-use Rattle.ic_term.specs.Symbol.{Symbol, fits_limits}
-use Rattle.ic_term.specs.declared.limits.TheConstants.{MAX_SYMBOLS, MAX_SYMBOL_TEXT, MAX_ARITY}
+use Rattle.ic_rules.specs.declared.limits.TheConstants.{MAX_RULES, MAX_RULE_NODES}
+use Rattle.ic_term.specs.Symbol.{Symbol}
+use Rattle.ic_term.specs.declared.limits.TheConstants.{MAX_SYMBOLS, MAX_SYMBOL_TEXT, MAX_ARITY, MAX_INTERFACE, MAX_NODES}
 use Rattle.ic_text.specs.declared.limits.TheConstants.{MAX_NAME}
 use Rattle.ic_text.specs.declared.fault.TextFault.{TextFault}
-use Rattle.ic_text.specs.declared.fault.TextFault.TheVariants.{Syntax, Limit, Arity, NameCount, Name, Twice, Lopsided, Memory}
+use Rattle.ic_text.specs.declared.fault.TextFault.TheVariants.{Limit, Arity, NameCount, Name, Twice, Lopsided}
 use Rattle.ic_text.specs.declared.misread.Detail.{Detail}
 use Rattle.ic_text.specs.declared.misread.Detail.TheVariants.{Nothing, Passed, Arities}
 use Rattle.ic_text.specs.declared.misread.Limit.{Limit as Bound}
-use Rattle.ic_text.specs.declared.misread.Limit.TheVariants.{TextBytes, SymbolBytes, Arguments, NameNumber, Symbols}
+use Rattle.ic_text.specs.declared.misread.Limit.TheVariants.{SymbolBytes, Arguments, NameNumber, Symbols, Rules, RuleNodes, Interface, Nodes}
 use Rattle.ic_text.specs.Name.{is_name, name_text}
 use Rattle.ic_text.specs.Sense.{symbols_after, has_its_arity}
 use Rattle.ic_text.specs.Words.{Written, all_words, in_a_row, symbols_among, names_among}
@@ -19,20 +20,58 @@ use Rattle.ic_text.specs.Words.{Written, all_words, in_a_row, symbols_among, nam
 abbrev pub word_table : List Symbol → List Symbol
 word_table ws = symbols_after [] (symbols_among ws)
 
--- words keep one limit
+-- words keep one limit of words
 abbrev pub keeps : Bound → List Symbol → Bool
-keeps TextBytes ws = true
 keeps SymbolBytes ws = list_all (λ s. nat_le (length s.text) MAX_SYMBOL_TEXT) (symbols_among ws)
 keeps Arguments ws = list_all (λ s. nat_le s.arity MAX_ARITY) (symbols_among ws)
 keeps NameNumber ws = list_all (λ n. nat_le n MAX_NAME) (names_among ws)
 keeps Symbols ws = nat_le (length (word_table ws)) MAX_SYMBOLS
+keeps bound ws = true
 
--- words keep all limits of words
-abbrev pub are_within : List Symbol → Bool
-are_within ws =
-    list_all (λ s. fits_limits s.text s.arity) (symbols_among ws)
-    && list_all (λ n. nat_le n MAX_NAME) (names_among ws)
-    && nat_le (length (word_table ws)) MAX_SYMBOLS
+-- How many terms are due behind a word in prefix notation, before which so many were: none in front of
+-- a term that no other holds.
+abbrev pub due_behind : ℕ → ℕ → ℕ
+due_behind zero arity = arity
+due_behind (suc due) arity = due + arity
+
+-- a word is the first of a term that no other holds, as where none is due, or one of those within
+abbrev pub is_counted : Bool → ℕ → Bool
+is_counted true zero = true
+is_counted true (suc due) = false
+is_counted false zero = false
+is_counted false (suc due) = true
+
+-- how many words are the first of such a term, or how many stand within, where so many terms are due
+-- in front of them
+abbrev pub count_words : Bool → ℕ → List Symbol → ℕ
+count_words outer due [] = 0
+count_words outer due (w ∷ ws) =
+    (if is_counted outer due then 1 else 0) + count_words outer (due_behind due w.arity) ws
+
+-- Words of rules keep one limit of those: two agents are the sides of a rule, and the words within
+-- agents are its nodes.
+abbrev pub rules_keep : Bound → List Symbol → Bool
+rules_keep Rules ws = nat_le (count_words true 0 ws) (2 * MAX_RULES)
+rules_keep RuleNodes ws = nat_le (count_words false 0 ws) MAX_RULE_NODES
+rules_keep bound ws = true
+
+-- Words of a configuration keep one limit of those, where so many terms are its interface, which
+-- stands first.
+abbrev pub config_keeps : ℕ → Bound → List Symbol → Bool
+config_keeps terms Interface ws =
+    nat_le terms MAX_INTERFACE || nat_le (count_words true 0 ws) MAX_INTERFACE
+config_keeps terms Nodes ws = nat_le (length ws) MAX_NODES
+config_keeps terms bound ws = true
+
+-- what is written keeps one limit of how much it is as far as so many words
+abbrev pub counts_keep : Bound → Written → ℕ → Bool
+counts_keep bound w k =
+    rules_keep bound (take k (in_a_row w.rules))
+    && config_keeps w.terms bound (take (k - length (in_a_row w.rules)) w.config)
+
+-- what is written keeps one limit as far as so many words
+abbrev pub keeps_so_far : Bound → Written → ℕ → Bool
+keeps_so_far bound w k = keeps bound (take k (all_words w)) && counts_keep bound w k
 
 -- each symbol among words has the arity of its first use
 abbrev pub agree : List Symbol → Bool
@@ -45,10 +84,12 @@ pub record IsFirstWord (is_innocent : List Symbol → Bool) (ws : List Symbol) (
   pub innocent : (j : ℕ) → j ≤ k → IsTrue (is_innocent (take j ws))
   pub guilty : is_innocent (take (k + 1) ws) ≡ false
 
--- the first word with which a limit of words is passed, and the limit
-pub record IsLimitWord (bound : Bound) (ws : List Symbol) (k : ℕ) : Type 0 where
-  pub first : IsFirstWord are_within ws k
-  pub passed : keeps bound (take (k + 1) ws) ≡ false
+-- The first word with which a limit is passed, and the limit: so many words stand before it, and as
+-- far as these every limit is kept.
+pub record IsLimitWord (bound : Bound) (w : Written) (k : ℕ) : Type 0 where
+  pub inside : k < length (all_words w)
+  pub innocent : (j : ℕ) → j ≤ k → (b : Bound) → IsTrue (keeps_so_far b w j)
+  pub passed : keeps_so_far bound w (k + 1) ≡ false
 
 -- the first word that is a symbol with another arity than before: those of its first use, and of this
 pub record IsSecondUse (before here : ℕ) (ws : List Symbol) (k : ℕ) : Type 0 where
@@ -102,17 +143,11 @@ pub record IsRuleWord (i : ℕ) (w : Written) (k : ℕ) : Type 0 where
   pub inside : k < length (all_words w)
   pub place : k ≡ words_before w i
 
--- the word of a refusal by limits and arities: so many words stand before it
-abbrev pub IsWordOf : List Symbol → TextFault → ℕ → Detail → Type 0
-IsWordOf ws Limit k (Passed bound) = IsLimitWord bound ws k
-IsWordOf ws Arity k (Arities before here) = IsSecondUse before here ws k
-IsWordOf ws fault k detail = ⊥
-
 -- The word of any refusal that has one: that of a limit or of two arities, a name's third one in the
 -- configuration, its only or third one in a rule, or the first one of the rule.
 abbrev pub IsFaultWord : Written → TextFault → ℕ → Detail → Type 0
-IsFaultWord w Limit k detail = IsWordOf (all_words w) Limit k detail
-IsFaultWord w Arity k detail = IsWordOf (all_words w) Arity k detail
+IsFaultWord w Limit k (Passed bound) = IsLimitWord bound w k
+IsFaultWord w Arity k (Arities before here) = IsSecondUse before here (all_words w) k
 IsFaultWord w (NameCount i) k Nothing = IsMiscount i w k
 IsFaultWord w (Name n) k Nothing = IsThirdWord n w k
 IsFaultWord w (Twice i) k Nothing = IsRuleWord i w k

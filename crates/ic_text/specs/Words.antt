@@ -1,6 +1,6 @@
 -- To be believed: the words of what is written, in the order of the text, each with how many arguments stand behind it
 -- (Łukasiewicz's notation, which needs no parentheses).
-use Rattle.std.specs.Prelude.{ℕ, List, [], ◌∷◌, ◌++◌, map, if◌then◌else◌}
+use Rattle.std.specs.Prelude.{ℕ, List, [], ◌∷◌, ◌++◌, length, map, if◌then◌else◌}
 use Rattle.std.specs.List.{flat_map}
 use Rattle.ic_term.specs.Symbol.{Symbol}
 use Rattle.ic_text.specs.Name.{is_name, name_number, name_text}
@@ -32,16 +32,23 @@ rule_prefix r = prefix (agent_source r.left) ++ prefix (agent_source r.right)
 abbrev pub system_prefix : SystemPhrase → List Symbol
 system_prefix s = rules_prefix s.rules ++ phrase_prefix s.config
 
--- the words of what is written, those of each rule and those of the configuration
+-- the words of what is written, those of each rule and those of the configuration, and how many
+-- terms its interface has
 pub record Written : Type 0 where
   pub rules : List (List Symbol)
   pub config : List Symbol
+  pub terms : ℕ
 
 abbrev pub written_phrase : Phrase → Written
-written_phrase p = record { rules = []; config = phrase_prefix p }
+written_phrase p =
+    record { rules = []; config = phrase_prefix p; terms = length p.interface }
 
 abbrev pub written_system : SystemPhrase → Written
-written_system s = record { rules = map rule_prefix s.rules; config = phrase_prefix s.config }
+written_system s = record {
+  rules = map rule_prefix s.rules;
+  config = phrase_prefix s.config;
+  terms = length s.config.interface;
+}
 
 -- words of lists, one list behind the other
 abbrev pub in_a_row : List (List Symbol) → List Symbol

@@ -6,6 +6,7 @@ pub mod Survey
 pub mod Braces
 pub mod Prefix
 pub mod Numbered
+pub mod Counted
 pub mod Refused
 pub mod Terms
 pub mod Built

@@ -17,15 +17,17 @@ ghost use Rattle.ic_text.specs.SystemSense.{system_table};
 ghost use Rattle.ic_text.specs.SystemText.{SpellsSystem, ReadsSystem};
 ghost use Rattle.ic_text.specs.Text.{Spells, Reads, phrase_of, printed, text_of, fault_text};
 ghost use Rattle.ic_text.specs.FaultNumber.{all_faults, fault_number};
-ghost use Rattle.ic_text.specs.Places.{GoesOn, IsSyntaxPlace};
+ghost use Rattle.ic_text.specs.Places.{GoesOn, IsPlaced, IsSyntaxPlace};
 ghost use Rattle.ic_text.specs.Sense.{symbols_after};
-ghost use Rattle.ic_text.specs.WordFaults.{IsFirstWord, IsMiscount, uses};
-ghost use Rattle.ic_text.specs.Words.{Written, all_words, phrase_prefix, system_prefix, written_system};
+ghost use Rattle.ic_text.specs.WordFaults.{IsFirstWord, IsLimitWord, IsMiscount, keeps_so_far, uses};
+ghost use Rattle.ic_text.specs.Words.{Written, all_words, phrase_prefix, system_prefix, written_phrase, written_system};
 ghost use Rattle.ic_text.specs.Token.{Token, word, mark, is_blank, is_word_byte, mark_byte, mark_of, tokens_at, followed, tokens, words_among};
 ghost use Rattle.ic_text.specs.declared.token.Mark.{Mark};
 ghost use Rattle.ic_text.specs.declared.token.Mark.TheVariants.{LeftBrace, RightBrace, Less, Greater, Bar, Equals, Comma, Semicolon, Open, Close};
 ghost use Rattle.ic_text.specs.declared.limits.TheConstants.{MAX_TEXT, MAX_NAME};
 ghost use Rattle.ic_text.specs.declared.fault.TextFault.{TextFault};
+ghost use Rattle.ic_text.specs.declared.misread.Detail.{Detail};
+ghost use Rattle.ic_text.specs.declared.misread.Limit.{Limit};
 ghost use Rattle.ic_text.specs.declared.fault.TextFault.TheVariants.{Memory};
 
 /// A text spells at most one configuration, and it is read in just one way.
@@ -61,6 +63,24 @@ pub fn the_text_before_a_fault_is_innocent()
     ensures system { (text : List ℕ) (at cut : ℕ) →
         IsSyntaxPlace IsSystemPhrase system_words text at →
         IsSyntaxPlace IsSystemPhrase system_words (take at text) cut → cut ≡ at }
+{}
+
+/// The places that are told of one refusal of a text are the same.
+pub fn a_refusal_is_found_at_one_place()
+    ensures config { (text : List ℕ) (fault : TextFault) (a b : ℕ) (d e : Detail) →
+        IsPlaced IsPhrase phrase_words written_phrase text fault (Some a) d →
+        IsPlaced IsPhrase phrase_words written_phrase text fault (Some b) e → a ≡ b }
+    ensures system { (text : List ℕ) (fault : TextFault) (a b : ℕ) (d e : Detail) →
+        IsPlaced IsSystemPhrase system_words written_system text fault (Some a) d →
+        IsPlaced IsSystemPhrase system_words written_system text fault (Some b) e → a ≡ b }
+{}
+
+/// What is written passes limits first with one word; as far as any word before it, it keeps them all.
+pub fn words_before_a_passed_limit_are_innocent()
+    ensures one { (a b : Limit) (w : Written) (j k : ℕ) →
+        IsLimitWord a w j → IsLimitWord b w k → j ≡ k }
+    ensures kept { (a b : Limit) (w : Written) (j k : ℕ) →
+        IsLimitWord a w k → j ≤ k → IsTrue (keeps_so_far b w j) }
 {}
 
 /// Words have at most one first word with which they aren't innocent; cut there, they have none.

@@ -11,6 +11,7 @@
 
 mod blame;
 mod build;
+mod excess;
 mod fault;
 mod flat_print;
 pub mod laws;

@@ -18,6 +18,14 @@ pub enum Limit {
     NameNumber,
     /// Symbols of different texts.
     Symbols,
+    /// Rules.
+    Rules,
+    /// Nodes in the arguments of all rules.
+    RuleNodes,
+    /// Terms of the interface.
+    Interface,
+    /// Nodes of the configuration.
+    Nodes,
 }
 
 /// What more is known of a refusal.

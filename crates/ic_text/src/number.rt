@@ -1,11 +1,12 @@
 //! Symbols as numbers: the limits of words, and the arities of symbols.
 
-ghost use Rattle.std.specs.Prelude.{◌≡◌, is_ok, [], if◌then◌else◌, IfErr, OnOk};
+ghost use Rattle.std.specs.Prelude.{◌≡◌, ◌<◌, is_ok, [], if◌then◌else◌, length, IfErr, IfSome, OnOk};
 ghost use Rattle.std.specs.List.{AllByRecursion};
 ghost use Rattle.ic_text.specs.inner.Prefix.{node_of, nodes_of};
-ghost use Rattle.ic_text.specs.inner.Numbered.{IsWord, ItemAnswers, item_found, table_with, numbered_words, Gives};
-ghost use Rattle.ic_text.specs.inner.Refused.{IsRefusedIn, Takes, Stops, bare, limit_of};
+ghost use Rattle.ic_text.specs.inner.Numbered.{IsWord, ItemAnswers, item_found, table_with, counted_words, Gives};
+ghost use Rattle.ic_text.specs.inner.Refused.{IsStoppedIn, Takes, Stops, bare, limit_of};
 
+use crate::excess::{Excess, limit_at};
 use crate::fault::TextFault;
 use crate::misread::Limit;
 use crate::name::{is_name, name_number};
@@ -100,12 +101,18 @@ impl Numbering {
     }
 }
 
-/// The words with their numbers, and the table of symbols.
-pub(crate) fn number_words(alloc: Global, nodes: &[Node]) -> Result<(Symbols, Vec<Item>), Refusal>
-    requires { AllByRecursion IsWord (nodes_of nodes.now) }
+/// The words with their numbers, and the table of symbols, unless they pass a limit of how many they are: then they are
+/// numbered no further than to the word with which they do.
+pub(crate) fn number_words(
+    alloc: Global,
+    nodes: &[Node],
+    excess: Option<Excess>,
+) -> Result<(Symbols, Vec<Item>), Refusal>
+    requires words { AllByRecursion IsWord (nodes_of nodes.now) }
+    requires inside { IfSome excess (λ e. e.word < length nodes.now) }
     ensures numbers { Gives (λ v. (v.0, v.1.items)) (bare result)
-        (numbered_words (nodes_of nodes.now)) }
-    ensures word { IfErr result (IsRefusedIn (nodes_of nodes.now)) }
+        (counted_words excess (nodes_of nodes.now)) }
+    ensures word { IfErr result (IsStoppedIn (nodes_of nodes.now) excess) }
 {
     let items = Vec::with_capacity(alloc, nodes.len())?;
     let symbols = Symbols::new(alloc);
@@ -115,6 +122,9 @@ pub(crate) fn number_words(alloc: Global, nodes: &[Node]) -> Result<(Symbols, Ve
         clash: None,
     };
     for (word, node) in nodes.iter().enumerate() {
+        if let Some(limit) = limit_at(excess, word) {
+            return Err(Refusal::passed(word, limit));
+        }
         numbering.take(word, node)?;
     }
     let Numbering {

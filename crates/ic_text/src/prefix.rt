@@ -1,6 +1,6 @@
 //! A configuration in prefix notation, made of its tokens without a step into what they nest.
 
-ghost use Rattle.std.specs.Prelude.{◌≡◌, ◌+◌, ◌-◌, ◌*◌, ◌<◌, ◌^◌, ◌&&◌, IfOk, OnOk, List, length, nat_le};
+ghost use Rattle.std.specs.Prelude.{◌≡◌, ◌+◌, ◌*◌, ◌<◌, ◌^◌, IfOk, OnOk, List, length};
 ghost use Rattle.std.specs.List.{AllByRecursion};
 ghost use Rattle.ic_text.specs.Source.{Phrase, phrase_words};
 ghost use Rattle.ic_text.specs.SystemSource.{RulePhrase, rules_words};
@@ -9,8 +9,6 @@ ghost use Rattle.ic_text.specs.inner.Prefix.{nodes_of, scan_step, scanned};
 ghost use Rattle.ic_text.specs.Words.{phrase_prefix, rules_prefix};
 
 use crate::token::{Mark, Token};
-use ic_rules::{MAX_RULE_NODES, MAX_RULES};
-use ic_term::{MAX_INTERFACE, MAX_NODES};
 use std::alloc::{AllocError, Global};
 
 /// A word, and how many arguments stand behind it.
@@ -34,23 +32,6 @@ impl Prefix<'_> {
         ensures { result ≡ length self.now.nodes.items }
     {
         self.nodes.len()
-    }
-
-    /// Whether a configuration of these words has neither too many nodes nor too many terms in its interface.
-    pub(crate) fn fits(&self) -> bool
-        ensures { result ≡ (nat_le (length self.now.nodes.items) MAX_NODES
-            && nat_le self.now.terms MAX_INTERFACE) }
-    {
-        self.nodes.len() as u64 <= MAX_NODES && self.terms <= MAX_INTERFACE
-    }
-
-    /// Whether rules of these words are neither too many nor have too many nodes in their arguments.
-    pub(crate) fn fits_rules(&self) -> bool
-        ensures { result ≡ (nat_le self.now.terms (2 * MAX_RULES)
-            && nat_le (length self.now.nodes.items - self.now.terms) MAX_RULE_NODES) }
-    {
-        self.terms <= 2 * MAX_RULES
-            && self.nodes.len().saturating_sub(self.terms) as u64 <= MAX_RULE_NODES
     }
 }
 

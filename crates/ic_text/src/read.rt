@@ -15,6 +15,7 @@ ghost use Rattle.ic_text.specs.inner.Tokens.{tokens_in};
 
 use crate::blame::refusal_of;
 use crate::build::config_of;
+use crate::excess::excess_of;
 use crate::fault::TextFault;
 use crate::limits::MAX_TEXT;
 use crate::misread::{Detail, Limit, Misread};
@@ -23,7 +24,7 @@ use crate::prefix::prefix_of;
 use crate::refusal::Refusal;
 use crate::survey::{Counts, survey_config};
 use crate::token::{Token, tokens_of};
-use ic_term::{Config, MAX_NODES, Symbols};
+use ic_term::{Config, Symbols};
 use std::alloc::Global;
 
 /// The sense of tokens that are a configuration, of which so many are words. Every limit is tested before a term is built.
@@ -36,10 +37,8 @@ fn sense_of(alloc: Global, tokens: &[Token], words: usize) -> Result<(Symbols, C
         IfErr result (IsToldIn (written_phrase p)) }
 {
     let prefix = prefix_of(alloc, tokens, words)?;
-    if !prefix.fits() {
-        return Err(Refusal::untold(TextFault::Limit));
-    }
-    let (symbols, items) = number_words(alloc, &prefix.nodes)?;
+    let excess = excess_of(&prefix.nodes, 0, 0, prefix.terms);
+    let (symbols, items) = number_words(alloc, &prefix.nodes, excess)?;
     match config_of(alloc, items, prefix.terms) {
         Ok(config) => Ok((symbols, config)),
         Err(fault) => Err(refusal_of(fault, &prefix.nodes, 0)),
@@ -54,9 +53,6 @@ fn config_in(alloc: Global, text: &[u8], counts: Counts) -> Result<(Symbols, Con
     ensures word { (p : Phrase) → Spells text.now p →
         IfErr result (IsToldIn (written_phrase p)) }
 {
-    if counts.words as u64 > MAX_NODES {
-        return Err(Refusal::untold(TextFault::Limit));
-    }
     let tokens = tokens_of(alloc, text, counts.tokens)?;
     sense_of(alloc, &tokens, counts.words)
 }

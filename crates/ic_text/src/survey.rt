@@ -1,5 +1,5 @@
 //! A first pass over the bytes of a text: whether they are a phrase of the grammar, and of how many words and tokens. It
-//! takes no memory, so that a text that is refused fills none.
+//! takes no memory, so that a text that is no phrase fills none.
 
 ghost use Rattle.std.specs.Prelude.{◌≡◌, ◌≤◌, ◌-◌, ◌^◌, [], ◌∷◌, Some, None, IfErr, length};
 ghost use Rattle.std.specs.Bool.{OnTrue, OnFalse};

@@ -14,6 +14,7 @@ ghost use Rattle.ic_text.specs.inner.Tokens.{tokens_in};
 
 use crate::blame::refusal_of;
 use crate::build::system_of;
+use crate::excess::excess_of;
 use crate::fault::TextFault;
 use crate::limits::MAX_TEXT;
 use crate::misread::{Detail, Limit, Misread};
@@ -23,12 +24,8 @@ use crate::refusal::Refusal;
 use crate::survey::{Counts, survey_system};
 use crate::syntax::split_at_brace;
 use crate::token::{Token, tokens_of};
-use ic_rules::{MAX_RULE_NODES, MAX_RULES, System};
-use ic_term::MAX_NODES;
+use ic_rules::System;
 use std::alloc::Global;
-
-/// The most words of a system: the sides of its rules, the nodes of their arguments, and those of its configuration.
-const MAX_WORDS: u64 = 2 * MAX_RULES as u64 + MAX_RULE_NODES + MAX_NODES;
 
 /// The sense of tokens that are a system, of which so many are words. Every limit is tested before a term is built.
 fn sense_of(alloc: Global, tokens: &[Token], words: usize) -> Result<System, Refusal>
@@ -43,12 +40,10 @@ fn sense_of(alloc: Global, tokens: &[Token], words: usize) -> Result<System, Ref
     let (rules, config) = split_at_brace(&tokens[1..]);
     let mut rules = prefix_of(alloc, rules, words)?;
     let mut config = prefix_of(alloc, config, words)?;
-    if !rules.fits_rules() || !config.fits() {
-        return Err(Refusal::untold(TextFault::Limit));
-    }
     let before = rules.words();
     rules.nodes.append(&mut config.nodes)?;
-    let (symbols, items) = number_words(alloc, &rules.nodes)?;
+    let excess = excess_of(&rules.nodes, before, rules.terms, config.terms);
+    let (symbols, items) = number_words(alloc, &rules.nodes, excess)?;
     match system_of(alloc, symbols, items, rules.terms, config.terms) {
         Ok(system) => Ok(system),
         Err(fault) => Err(refusal_of(fault, &rules.nodes, before)),
@@ -63,9 +58,6 @@ fn system_in(alloc: Global, text: &[u8], counts: Counts) -> Result<System, Refus
     ensures word { (s : SystemPhrase) → SpellsSystem text.now s →
         IfErr result (IsToldIn (written_system s)) }
 {
-    if counts.words as u64 > MAX_WORDS {
-        return Err(Refusal::untold(TextFault::Limit));
-    }
     let tokens = tokens_of(alloc, text, counts.tokens)?;
     sense_of(alloc, &tokens, counts.words)
 }

@@ -1,5 +1,5 @@
 -- For private functions: a configuration in prefix notation with its symbols as numbers.
-use Rattle.std.specs.Prelude.{◌≡◌, ℕ, List, [], ◌∷◌, Bool, true, ◌&&◌, ◌||◌, IsTrue, Result, Ok, Err, length, map, nat_le, if◌then◌else◌}
+use Rattle.std.specs.Prelude.{◌≡◌, ℕ, List, [], ◌∷◌, Bool, true, ◌&&◌, ◌||◌, Option, None, Some, IsTrue, Result, Ok, Err, length, map, nat_le, if◌then◌else◌}
 use Rattle.std.specs.List.{list_all}
 use Rattle.ic_term.specs.Symbol.{Symbol, is_symbol_text, fits_limits, numbered, with_symbol}
 use Rattle.ic_term.specs.declared.limits.TheConstants.{MAX_SYMBOLS}
@@ -10,6 +10,7 @@ use Rattle.ic_term.specs.declared.config.ConfigFault.{ConfigFault}
 use Rattle.ic_term.specs.declared.config.ConfigFault.TheVariants.{Limit as TooMuch, Name as Third, Memory as NoRoom}
 use Rattle.ic_text.specs.declared.limits.TheConstants.{MAX_NAME}
 use Rattle.ic_text.specs.declared.number.Item.{Item}
+use Rattle.ic_text.specs.declared.excess.Excess.{Excess}
 use Rattle.ic_text.specs.declared.number.Item.TheVariants.{Name, Symbol as Agent}
 use Rattle.ic_text.specs.declared.fault.TextFault.{TextFault}
 use Rattle.ic_text.specs.declared.fault.TextFault.TheVariants.{Syntax, Limit, Arity, NameCount, Name as ThirdName, Twice, Lopsided, Memory}
@@ -67,6 +68,11 @@ numbered_words ws =
     unless_refused (list_all is_word_in_limits ws && nat_le (length (table_over [] ws)) MAX_SYMBOLS)
     (list_all (is_word_over (table_over [] ws)) ws)
     (table_over [] ws, map (item_in (table_over [] ws)) ws)
+
+-- the same, unless a limit of how many they are is passed
+abbrev pub counted_words : Option Excess → List Symbol → Result (List Symbol × List Item) TextFault
+counted_words None ws = numbered_words ws
+counted_words (Some excess) ws = Err Limit
 
 -- an item or a refusal, unless a growth was refused
 abbrev pub ItemAnswers : Result Item SymbolFault → Result Item SymbolFault → Type 0

@@ -1,20 +1,22 @@
 -- For private functions: a refusal and the word at which it is found.
-use Rattle.std.specs.Prelude.{◌≡◌, ℕ, ◌+◌, ◌<◌, ◌≤◌, ◌⊎◌, List, [], ◌∷◌, ◌++◌, false, Option, None, Some, Result, Ok, Err, IsTrue, length, take, nat_lt, slice_get, unwrap_or, if◌then◌else◌}
+use Rattle.std.specs.Prelude.{◌≡◌, ℕ, ◌+◌, ◌<◌, ◌≤◌, ◌⊎◌, List, [], ◌∷◌, ◌++◌, Bool, true, false, ◌&&◌, Option, None, Some, Result, Ok, Err, IsTrue, length, take, nat_le, nat_lt, slice_get, unwrap_or, if◌then◌else◌}
 use Rattle.std.specs.Option.{option_or}
-use Rattle.ic_term.specs.Symbol.{Symbol, symbol_arity}
+use Rattle.std.specs.List.{list_all}
+use Rattle.ic_term.specs.Symbol.{Symbol, fits_limits, symbol_arity}
 use Rattle.ic_rules.specs.Renaming.{are_paired}
 use Rattle.ic_term.specs.declared.symbols.SymbolFault.{SymbolFault}
 use Rattle.ic_term.specs.declared.symbols.SymbolFault.TheVariants.{Limit as OverLimit, Arity as OtherArity}
-use Rattle.ic_term.specs.declared.limits.TheConstants.{MAX_SYMBOL_TEXT, MAX_ARITY}
+use Rattle.ic_term.specs.declared.limits.TheConstants.{MAX_SYMBOL_TEXT, MAX_ARITY, MAX_SYMBOLS}
 use Rattle.ic_text.specs.declared.fault.TextFault.{TextFault}
-use Rattle.ic_text.specs.declared.fault.TextFault.TheVariants.{Limit as TooMuch, NameCount, Name, Twice, Lopsided, Memory}
+use Rattle.ic_text.specs.declared.fault.TextFault.TheVariants.{Limit as TooMuch, Arity, NameCount, Name, Twice, Lopsided, Memory}
 use Rattle.ic_text.specs.declared.misread.Detail.{Detail}
-use Rattle.ic_text.specs.declared.misread.Detail.TheVariants.{Nothing, Passed}
+use Rattle.ic_text.specs.declared.misread.Detail.TheVariants.{Nothing, Passed, Arities}
 use Rattle.ic_text.specs.declared.misread.Limit.{Limit}
 use Rattle.ic_text.specs.declared.misread.Limit.TheVariants.{SymbolBytes, Arguments, NameNumber, Symbols}
 use Rattle.ic_text.specs.declared.misread.Misread.{Misread}
 use Rattle.ic_text.specs.declared.number.Item.{Item}
 use Rattle.ic_text.specs.declared.number.Numbering.{Numbering}
+use Rattle.ic_text.specs.declared.excess.Excess.{Excess}
 use Rattle.ic_text.specs.declared.refusal.Refusal.{Refusal}
 use Rattle.ic_text.specs.inner.Numbered.{table_with}
 use Rattle.ic_text.specs.declared.limits.TheConstants.{MAX_NAME}
@@ -22,8 +24,8 @@ use Rattle.ic_text.specs.Name.{is_name, name_text}
 use Rattle.ic_text.specs.Places.{IsWordPlace}
 use Rattle.ic_text.specs.Token.{Token, tokens, words_among}
 use Rattle.ic_text.specs.SystemSource.{RulePhrase, SystemPhrase}
-use Rattle.ic_text.specs.Words.{Written, names_among, phrase_prefix, rule_prefix, rules_prefix, system_prefix}
-use Rattle.ic_text.specs.WordFaults.{IsFaultWord, IsWordOf, is_miscounted, uses}
+use Rattle.ic_text.specs.Words.{Written, names_among, phrase_prefix, rule_prefix, rules_prefix, symbols_among, system_prefix}
+use Rattle.ic_text.specs.WordFaults.{IsFaultWord, IsFirstWord, IsSecondUse, is_miscounted, keeps, uses, word_table}
 
 -- a text has a word behind so many others
 abbrev pub HasWord : List ℕ → ℕ → Type 0
@@ -35,21 +37,49 @@ IsPlaceOf text None None = Unit {0}
 IsPlaceOf text (Some k) (Some at) = IsWordPlace text k at
 IsPlaceOf text _ _ = ⊥
 
--- the word of a refusal by limits, arities or memory, where one is told
+-- words keep all limits of words
+abbrev pub are_within : List Symbol → Bool
+are_within ws =
+    list_all (λ s. fits_limits s.text s.arity) (symbols_among ws)
+    && list_all (λ n. nat_le n MAX_NAME) (names_among ws)
+    && nat_le (length (word_table ws)) MAX_SYMBOLS
+
+-- the first word with which a limit of words is passed, and the limit
+pub record IsWordLimit (bound : Limit) (ws : List Symbol) (k : ℕ) : Type 0 where
+  pub first : IsFirstWord are_within ws k
+  pub passed : keeps bound (take (k + 1) ws) ≡ false
+
+-- the word of a refusal by limits of words, arities or memory, where one is told
 abbrev pub IsWordIn : List Symbol → TextFault → Option ℕ → Detail → Type 0
-IsWordIn ws fault (Some k) detail = IsWordOf ws fault k detail
-IsWordIn ws TooMuch None detail = Unit {0}
+IsWordIn ws TooMuch (Some k) (Passed bound) = IsWordLimit bound ws k
+IsWordIn ws Arity (Some k) (Arities before here) = IsSecondUse before here ws k
 IsWordIn ws Memory None detail = Unit {0}
-IsWordIn ws fault None detail = ⊥
+IsWordIn ws fault k detail = ⊥
 
 -- the same of a whole refusal
 abbrev pub IsRefusedIn : List Symbol → Refusal → Type 0
 IsRefusedIn ws refusal = IsWordIn ws refusal.fault refusal.word refusal.detail
 
--- the word of any refusal, where one is told, as it is of all but limits and memory
+-- a word stands before the one with which too many are written, if there is one
+abbrev pub IsBefore : Option Excess → Option ℕ → Type 0
+IsBefore (Some excess) (Some k) = k < excess.word
+IsBefore _ _ = Unit {0}
+
+-- too many are written with a word, before which limits of words are kept
+abbrev pub IsExcessAt : List Symbol → Option Excess → Refusal → Type 0
+IsExcessAt ws None refusal = ⊥
+IsExcessAt ws (Some excess) refusal =
+    (refusal ≡ record { fault = TooMuch; word = Some excess.word; detail = Passed excess.limit })
+    × ((j : ℕ) → j ≤ excess.word → are_within (take j ws) ≡ true)
+
+-- a refusal of words, with one of which too many are written, if there is one: that one or an earlier
+abbrev pub IsStoppedIn : List Symbol → Option Excess → Refusal → Type 0
+IsStoppedIn ws excess refusal =
+    (IsRefusedIn ws refusal × IsBefore excess refusal.word) ⊎ IsExcessAt ws excess refusal
+
+-- the word of any refusal, where one is told, as it is of all but memory
 abbrev pub IsToldWord : Written → TextFault → Option ℕ → Detail → Type 0
 IsToldWord w fault (Some k) detail = IsFaultWord w fault k detail
-IsToldWord w TooMuch None detail = Unit {0}
 IsToldWord w Memory None detail = Unit {0}
 IsToldWord w fault None detail = ⊥
 
@@ -84,7 +114,6 @@ pub record IsMiscountedWord (rs : List RulePhrase) (i k : ℕ) : Type 0 where
 
 -- a system has what it is refused for
 abbrev pub HasFault : SystemPhrase → TextFault → Type 0
-HasFault s TooMuch = Unit {0}
 HasFault s (NameCount i) = (r : RulePhrase) × (slice_get s.rules i ≡ Some r)
     × (are_paired (names_among (rule_prefix r)) ≡ false)
 HasFault s (Name n) = (n ≤ MAX_NAME) × (3 ≤ uses (name_text n) (phrase_prefix s.config))

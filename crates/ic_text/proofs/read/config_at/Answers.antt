@@ -1,4 +1,3 @@
-use Rattle.std.proofs.Common.{sym, ap, ◌∙◌}
 use Rattle.ic_text.specs.Source.{IsPhrase, phrase_words}
 use Rattle.ic_text.specs.Words.{written_phrase}
 use Rattle.ic_text.proofs.InTextOrder.{among-phrase}
@@ -17,4 +16,4 @@ pub returns-in-Err-clause-placed : goal.returns-in-Err-clause-placed
 returns-in-Err-clause-placed c =
     let found = c.requires.spelled in
     rw (c.in_text.ensures.fault, c.in_text.ensures.detail)
-    (placed_at IsPhrase phrase_words written_phrase c.args.text.now found.0 found.1 _ _ _ _ c.requires.short (c.in-Err.ensures.word found.0 found.1) c.in_text.ensures.place)
+    (placed_at IsPhrase phrase_words written_phrase c.args.text.now found.0 found.1 c.requires.short _ _ _ _ (c.in-Err.ensures.word found.0 found.1) c.in_text.ensures.place)

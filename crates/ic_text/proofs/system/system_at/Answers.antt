@@ -19,4 +19,4 @@ pub returns-in-Err-clause-placed : goal.returns-in-Err-clause-placed
 returns-in-Err-clause-placed c =
     let found = c.requires.spelled in
     rw (c.in_text.ensures.fault, c.in_text.ensures.detail)
-    (placed_at IsSystemPhrase system_words written_system c.args.text.now found.0 found.1 _ _ _ _ c.requires.short (c.in-Err.ensures.word found.0 found.1) c.in_text.ensures.place)
+    (placed_at IsSystemPhrase system_words written_system c.args.text.now found.0 found.1 c.requires.short _ _ _ _ (c.in-Err.ensures.word found.0 found.1) c.in_text.ensures.place)

@@ -1,0 +1,168 @@
+-- The word with which too many are written: of the rules, of the configuration, and of both.
+use Rattle.std.proofs.Common.{◌≡◌, ℕ, ◌+◌, ◌-◌, ◌*◌, ◌<◌, ◌≤◌, ◌⊎◌, inl, inr, Bool, true, false, ◌&&◌, ◌||◌, cond, List, [], Option, None, Some, length, take, refl, ap, ◌∙◌, arith, length-append}
+use Rattle.std.specs.Prelude.{nat_le, nat_lt}
+use Rattle.std.proofs.lemmas.Bool.{and_from, ltb-true, ltb-false}
+use Rattle.std.proofs.lemmas.List.{length-take, length-take-le}
+use Rattle.ic_term.specs.Symbol.{Symbol}
+use Rattle.ic_term.specs.declared.limits.TheConstants.{MAX_NODES, MAX_INTERFACE}
+use Rattle.ic_rules.specs.declared.limits.TheConstants.{MAX_RULES, MAX_RULE_NODES}
+use Rattle.ic_text.specs.declared.excess.Excess.{Excess}
+use Rattle.ic_text.specs.declared.misread.Limit.{Limit as Bound}
+use Rattle.ic_text.specs.declared.misread.Limit.TheVariants.{TextBytes, SymbolBytes, Arguments, NameNumber, Symbols, Rules, RuleNodes, Interface, Nodes}
+use Rattle.ic_text.specs.Words.{Written, all_words, in_a_row}
+use Rattle.ic_text.specs.WordFaults.{IsFirstWord, config_keeps, count_words, counts_keep, rules_keep}
+use Rattle.ic_text.specs.inner.Counted.{IsExcess, IsExcessTest, IsFirstExcess, earlier}
+use Rattle.ic_text.proofs.Counting.{all-few, count-both, le_test, gt_test}
+
+-- one of two limits, or another, which is kept anyhow
+abbrev pub OneOf : (Bound → List Symbol → Bool) → Bound → Bound → Bound → Type 0
+OneOf keep a b c = (c ≡ a) ⊎ ((c ≡ b) ⊎ ((ws : List Symbol) → keep c ws ≡ true))
+
+-- of two limits the one that is passed first
+module _ (keep : Bound → List Symbol → Bool) (a b : Bound) (others : (c : Bound) → OneOf keep a b c) (ws : List Symbol) where
+  both_kept : (j : ℕ) → keep a (take j ws) ≡ true → keep b (take j ws) ≡ true → (c : Bound) → keep c (take j ws) ≡ true
+  both_kept j is_a is_b c = elim (others c) [
+    | inl e ↦ ap (λ x. keep x (take j ws)) e ∙ is_a
+    | inr o ↦ elim o [
+      | inl e ↦ ap (λ x. keep x (take j ws)) e ∙ is_b
+      | inr kept ↦ kept (take j ws)
+    ]
+  ]
+
+  this_one : (x : Bound) (e : Excess) → IsFirstWord (keep x) ws e.word → e.limit ≡ x → ((j : ℕ) → j ≤ e.word → (c : Bound) → keep c (take j ws) ≡ true)
+      → IsExcess (λ c j. keep c (take j ws)) (length ws) e
+  this_one x e first is kept = record {
+    inside = first.inside;
+    kept = kept;
+    passed = ap (λ y. keep y (take (e.word + 1) ws)) is ∙ first.guilty;
+  }
+
+  by_order : (e f : Excess) (r : Bool) → nat_lt f.word e.word ≡ r → IsFirstWord (keep a) ws e.word → e.limit ≡ a → IsFirstWord (keep b) ws f.word → f.limit ≡ b
+      → IsFirstExcess (λ c j. keep c (take j ws)) (length ws) (cond r (Some f) (Some e))
+  by_order e f true less first_e is_e first_f is_f =
+      let low = ltb-true f.word e.word less in
+      this_one b f first_f is_f (λ j le. both_kept j (first_e.innocent j (omega (arith, le, low))) (first_f.innocent j le))
+  by_order e f false less first_e is_e first_f is_f =
+      let low = ltb-false f.word e.word less in
+      this_one a e first_e is_e (λ j le. both_kept j (first_e.innocent j le) (first_f.innocent j (omega (arith, le, low))))
+
+  pub earlier-first : (o p : Option Excess) → IsExcessTest (keep a) a ws o → IsExcessTest (keep b) b ws p → IsFirstExcess (λ c j. keep c (take j ws)) (length ws) (earlier o p)
+  earlier-first None None is_o is_p = λ j c. both_kept j (is_o j) (is_p j) c
+  earlier-first None (Some f) is_o is_p = this_one b f is_p.0 is_p.1 (λ j le. both_kept j (is_o j) (is_p.0.innocent j le))
+  earlier-first (Some e) None is_o is_p = this_one a e is_o.0 is_o.1 (λ j le. both_kept j (is_o.0.innocent j le) (is_p j))
+  earlier-first (Some e) (Some f) is_o is_p = by_order e f (nat_lt f.word e.word) refl is_o.0 is_o.1 is_p.0 is_p.1
+
+pub rules_others : (c : Bound) → OneOf rules_keep Rules RuleNodes c
+rules_others Rules = inl refl
+rules_others RuleNodes = inr (inl refl)
+rules_others TextBytes = inr (inr (λ ws. refl))
+rules_others SymbolBytes = inr (inr (λ ws. refl))
+rules_others Arguments = inr (inr (λ ws. refl))
+rules_others NameNumber = inr (inr (λ ws. refl))
+rules_others Symbols = inr (inr (λ ws. refl))
+rules_others Interface = inr (inr (λ ws. refl))
+rules_others Nodes = inr (inr (λ ws. refl))
+
+pub config_others : (terms : ℕ) (c : Bound) → OneOf (config_keeps terms) Interface Nodes c
+config_others terms Interface = inl refl
+config_others terms Nodes = inr (inl refl)
+config_others terms TextBytes = inr (inr (λ ws. refl))
+config_others terms SymbolBytes = inr (inr (λ ws. refl))
+config_others terms Arguments = inr (inr (λ ws. refl))
+config_others terms NameNumber = inr (inr (λ ws. refl))
+config_others terms Symbols = inr (inr (λ ws. refl))
+config_others terms Rules = inr (inr (λ ws. refl))
+config_others terms RuleNodes = inr (inr (λ ws. refl))
+
+-- the interface is what is tested where it has too many terms
+interface_test : (terms : ℕ) (ws : List Symbol) → MAX_INTERFACE < terms → config_keeps terms Interface ws ≡ nat_le (count_words true 0 ws) MAX_INTERFACE
+interface_test terms ws many = ap (λ b. b || nat_le (count_words true 0 ws) MAX_INTERFACE) (gt_test terms MAX_INTERFACE many)
+
+pub interface_excess : (terms : ℕ) (ws : List Symbol) (o : Option Excess) → MAX_INTERFACE < terms → IsExcessTest (λ us. nat_le (count_words true 0 us) MAX_INTERFACE) Interface ws o
+    → IsExcessTest (config_keeps terms Interface) Interface ws o
+interface_excess terms ws None many is = λ j. interface_test terms (take j ws) many ∙ is j
+interface_excess terms ws (Some e) many is = (
+  record {
+    inside = is.0.inside;
+    innocent = λ j le. interface_test terms (take j ws) many ∙ is.0.innocent j le;
+    guilty = interface_test terms (take (e.word + 1) ws) many ∙ is.0.guilty;
+  },
+  is.1,
+)
+
+pub interface_fits : (terms : ℕ) (ws : List Symbol) → terms ≤ MAX_INTERFACE → IsExcessTest (config_keeps terms Interface) Interface ws None
+interface_fits terms ws few = λ j. ap (λ b. b || nat_le (count_words true 0 (take j ws)) MAX_INTERFACE) (le_test terms MAX_INTERFACE few)
+
+-- the nodes of a configuration are its words
+pub nodes_excess : (terms : ℕ) (ws : List Symbol) (e : Excess) → MAX_NODES < length ws → e.word ≡ MAX_NODES → e.limit ≡ Nodes → IsExcessTest (config_keeps terms Nodes) Nodes ws (Some e)
+nodes_excess terms ws e many at is = (
+  record {
+    inside = omega (arith, many, at);
+    innocent = λ j le. le_test (length (take j ws)) MAX_NODES (omega (arith, length-take j ws, le, at));
+    guilty = gt_test (length (take (e.word + 1) ws)) MAX_NODES (omega (arith, length-take-le (e.word + 1) ws (omega (arith, many, at)), at));
+  },
+  is,
+)
+
+pub nodes_fit : (terms : ℕ) (ws : List Symbol) → length ws ≤ MAX_NODES → IsExcessTest (config_keeps terms Nodes) Nodes ws None
+nodes_fit terms ws few = λ j. le_test (length (take j ws)) MAX_NODES (omega (arith, length-take j ws, few))
+
+-- rules that aren't too many
+pub rules_fit : (ws : List Symbol) (agents : ℕ) → agents ≡ count_words true 0 ws → agents ≤ 2 * MAX_RULES → IsExcessTest (rules_keep Rules) Rules ws None
+rules_fit ws agents all few = λ j. all-few ws true (2 * MAX_RULES) (omega (arith, all, few)) j
+
+pub within_fit : (ws : List Symbol) (agents size : ℕ) → agents ≡ count_words true 0 ws → size ≡ length ws → size - agents ≤ MAX_RULE_NODES → IsExcessTest (rules_keep RuleNodes) RuleNodes ws None
+within_fit ws agents size all long few = λ j. all-few ws false MAX_RULE_NODES (omega (arith, all, few, long, count-both ws 0)) j
+
+-- both parts of what is written
+nothing_kept : (terms : ℕ) (b : Bound) → config_keeps terms b [] ≡ true
+nothing_kept terms Interface = or_true (nat_le terms MAX_INTERFACE)
+  where
+    or_true : (x : Bool) → (x || true) ≡ true
+    or_true true = refl
+    or_true false = refl
+nothing_kept terms Nodes = refl
+nothing_kept terms TextBytes = refl
+nothing_kept terms SymbolBytes = refl
+nothing_kept terms Arguments = refl
+nothing_kept terms NameNumber = refl
+nothing_kept terms Symbols = refl
+nothing_kept terms Rules = refl
+nothing_kept terms RuleNodes = refl
+
+and_false : (x : Bool) → (x && false) ≡ false
+and_false true = refl
+and_false false = refl
+
+module _ (w : Written) where
+  abbrev the_rules : List Symbol
+  the_rules = in_a_row w.rules
+
+  size : length (all_words w) ≡ length the_rules + length w.config
+  size = length-append the_rules w.config
+
+  pub excess_in_rules : (e : Excess) → IsExcess (λ b j. rules_keep b (take j the_rules)) (length the_rules) e → IsExcess (λ b j. counts_keep b w j) (length (all_words w)) e
+  excess_in_rules e is = record {
+    inside = omega (arith, is.inside, size);
+    kept = λ j le b.
+        let none : j - length the_rules ≡ 0 = omega (arith, le, is.inside) in
+        and_from (rules_keep b (take j the_rules)) _ (is.kept j le b) (ap (λ n. config_keeps w.terms b (take n w.config)) none ∙ nothing_kept w.terms b);
+    passed = ap (λ x. x && config_keeps w.terms e.limit (take (e.word + 1 - length the_rules) w.config)) is.passed;
+  }
+
+  module _ (rules_kept : (j : ℕ) (b : Bound) → rules_keep b (take j the_rules) ≡ true) where
+    pub excess_in_config : (e f : Excess) → IsExcess (λ b j. config_keeps w.terms b (take j w.config)) (length w.config) e → f.word ≡ length the_rules + e.word → f.limit ≡ e.limit
+        → IsExcess (λ b j. counts_keep b w j) (length (all_words w)) f
+    excess_in_config e f is at same =
+        let behind : f.word + 1 - length the_rules ≡ e.word + 1 = omega (arith, at) in
+        record {
+          inside = omega (arith, is.inside, size, at);
+          kept = λ j le b. and_from (rules_keep b (take j the_rules)) _ (rules_kept j b) (is.kept (j - length the_rules) (omega (arith, le, at)) b);
+          passed =
+              (λ i. rules_keep f.limit (take (f.word + 1) the_rules) && config_keeps w.terms (same i) (take (behind i) w.config))
+              ∙ ap (λ x. rules_keep f.limit (take (f.word + 1) the_rules) && x) is.passed
+              ∙ and_false (rules_keep f.limit (take (f.word + 1) the_rules));
+        }
+
+    pub no_excess : ((j : ℕ) (b : Bound) → config_keeps w.terms b (take j w.config) ≡ true) → IsFirstExcess (λ b j. counts_keep b w j) (length (all_words w)) None
+    no_excess config_kept = λ j b. and_from (rules_keep b (take j the_rules)) _ (rules_kept j b) (config_kept (j - length the_rules) b)

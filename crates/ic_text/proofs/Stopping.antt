@@ -1,0 +1,159 @@
+-- Numbering stops at the word with which too many are written.
+use Rattle.std.proofs.Common.{◌≡◌, ℕ, ◌+◌, ◌<◌, ◌≤◌, inl, inr, Bool, true, false, ◌&&◌, cond, eqb, List, [], ◌∷◌, Option, None, Some, Result, Err, length, take, get_or, refl, sym, ap, ◌∙◌, subst, arith}
+use Rattle.std.specs.Prelude.{IfSome, nat_le}
+use Rattle.std.specs.List.{list_all}
+use Rattle.std.proofs.lemmas.Bool.{and_parts, and_from}
+use Rattle.std.proofs.lemmas.Bool.Decides.{nat_tests}
+use Rattle.ic_term.specs.Symbol.{Symbol, fits_limits}
+use Rattle.ic_term.specs.declared.limits.TheConstants.{MAX_SYMBOLS, MAX_SYMBOL_TEXT, MAX_ARITY}
+use Rattle.ic_term.specs.declared.symbols.SymbolFault.{SymbolFault}
+use Rattle.ic_text.specs.declared.limits.TheConstants.{MAX_NAME}
+use Rattle.ic_text.specs.declared.excess.Excess.{Excess}
+use Rattle.ic_text.specs.declared.fault.TextFault.{TextFault}
+use Rattle.ic_text.specs.declared.fault.TextFault.TheVariants.{Limit, Arity, Memory}
+use Rattle.ic_text.specs.declared.misread.Detail.{Detail}
+use Rattle.ic_text.specs.declared.misread.Detail.TheVariants.{Passed, Arities}
+use Rattle.ic_text.specs.declared.misread.Limit.{Limit as Bound}
+use Rattle.ic_text.specs.declared.misread.Limit.TheVariants.{TextBytes, SymbolBytes, Arguments, NameNumber, Symbols, Rules, RuleNodes, Interface, Nodes}
+use Rattle.ic_text.specs.declared.number.Item.{Item}
+use Rattle.ic_text.specs.declared.prefix.Node.{Node}
+use Rattle.ic_text.specs.declared.refusal.Refusal.{Refusal}
+use Rattle.ic_text.specs.Words.{Written, all_words, names_among, symbols_among}
+use Rattle.ic_text.specs.WordFaults.{IsLimitWord, counts_keep, keeps, word_table}
+use Rattle.ic_text.specs.inner.Counted.{IsExcess, IsFirstExcess, limit_at}
+use Rattle.ic_text.specs.inner.Numbered.{Refuses, counted_words, numbered_words}
+use Rattle.ic_text.specs.inner.Prefix.{node_of, nodes_of}
+use Rattle.ic_text.specs.inner.Refused.{IsBefore, IsExcessAt, IsStoppedIn, IsToldIn, IsToldWord, IsWordIn, IsWordLimit, Stops, are_within}
+
+equal : (n m : ℕ) → eqb n m ≡ true → n ≡ m
+equal n m e = grind (arith, nat_tests)
+
+unequal : (n m : ℕ) → eqb n m ≡ false → (n ≡ m → ⊥)
+unequal n m e = grind (arith, nat_tests)
+
+-- the word with which too many are written
+record IsThere (o : Option Excess) (k : ℕ) (l : Bound) : Type 0 where
+  excess : Excess
+  is : o ≡ Some excess
+  word : excess.word ≡ k
+  limit : excess.limit ≡ l
+
+there : (o : Option Excess) (k : ℕ) (l : Bound) → limit_at o k ≡ Some l → IsThere o k l
+there None k l e = cc
+there (Some x) k l e = by_word (eqb x.word k) refl e
+  where
+    by_word : (b : Bool) → eqb x.word k ≡ b → cond b (Some x.limit) None ≡ Some l → IsThere (Some x) k l
+    by_word true at e = record { excess = x; is = refl; word = equal x.word k at; limit = let same : x.limit ≡ l = cc in same }
+    by_word false at e = cc
+
+module _ (ws : List Symbol) (k : ℕ) (o : Option Excess) (l : Bound) (found : limit_at o k ≡ Some l) where
+  pub stops_there : (r : Refusal) → r ≡ record { fault = Limit; word = Some k; detail = Passed l } → ((j : ℕ) → j ≤ k → are_within (take j ws) ≡ true) → IsStoppedIn ws o r
+  stops_there r is within =
+      let t = there o k l found in
+      inr (subst (λ x. IsExcessAt ws x r) (sym t.is) (
+        is ∙ (λ i. record { fault = Limit; word = Some (sym t.word i); detail = Passed (sym t.limit i) }),
+        λ j le. within j (omega (arith, le, t.word)),
+      ))
+
+  pub stops_counted : Err Limit ≡ counted_words o ws
+  stops_counted = ap (λ x. counted_words x ws) (sym (there o k l found).is)
+
+-- it doesn't stand so far
+pub none_there : (o : Option Excess) (k : ℕ) → limit_at o k ≡ None → IfSome o (λ e. k ≤ e.word) → IfSome o (λ e. k + 1 ≤ e.word)
+none_there None k none before = tt
+none_there (Some x) k none before = by_word (eqb x.word k) refl none
+  where
+    by_word : (b : Bool) → eqb x.word k ≡ b → cond b (Some x.limit) None ≡ None → k + 1 ≤ x.word
+    by_word true at e = cc
+    by_word false at e = omega (arith, before, unequal x.word k at)
+
+-- a word before it is refused
+module _ (nodes : List Node) (k : ℕ) (d : Node) (found : Result Item SymbolFault) (r : Refusal) (stops : Stops k (node_of (get_or nodes k d)) found r) where
+  pub before_there : (o : Option Excess) → IfSome o (λ e. k + 1 ≤ e.word) → IsBefore o r.word
+  before_there None before = tt
+  before_there (Some x) before = by_stop stops
+    where
+      by_stop : Stops k (node_of (get_or nodes k d)) found r → IsBefore (Some x) r.word
+      by_stop (inl memory) = subst (λ (y : Refusal). IsBefore (Some x) y.word) (sym memory) tt
+      by_stop (inr limit) = subst (λ (y : Refusal). IsBefore (Some x) y.word) (sym limit.1) (omega (arith, before))
+
+  pub refused_counted : (o : Option Excess) → Refuses r.fault (numbered_words (nodes_of nodes)) → Refuses r.fault (counted_words o (nodes_of nodes))
+  refused_counted None refuses = refuses
+  refused_counted (Some x) refuses = by_stop stops
+    where
+      by_stop : Stops k (node_of (get_or nodes k d)) found r → Refuses r.fault (counted_words (Some x) (nodes_of nodes))
+      by_stop (inl memory) = subst (λ (y : Refusal). Refuses y.fault (counted_words (Some x) (nodes_of nodes))) (sym memory) tt
+      by_stop (inr limit) = subst (λ (y : Refusal). Refuses y.fault (counted_words (Some x) (nodes_of nodes))) (sym limit.1) refl
+
+-- behind all words it isn't
+pub none_behind : (o : Option Excess) (size k : ℕ) → size ≤ k → IfSome o (λ e. e.word < size) → IfSome o (λ e. k ≤ e.word) → o ≡ None
+none_behind None size k end inside before = refl
+none_behind (Some x) size k end inside before = absurd (omega (arith, end, inside, before))
+
+-- words within all limits keep each
+all_of : (p q : Symbol → Bool) → ((s : Symbol) → p s ≡ true → q s ≡ true) → (ws : List Symbol) → list_all p ws ≡ true → list_all q ws ≡ true
+all_of p q each [] all = refl
+all_of p q each (w ∷ ws) all =
+    let parts = and_parts (p w) (list_all p ws) all in
+    and_from (q w) _ (each w parts.0) (all_of p q each ws parts.1)
+
+module _ (ws : List Symbol) (within : are_within ws ≡ true) where
+  limits : (list_all (λ (s : Symbol). fits_limits s.text s.arity) (symbols_among ws) && list_all (λ n. nat_le n MAX_NAME) (names_among ws)) ≡ true
+  limits = (and_parts _ (nat_le (length (word_table ws)) MAX_SYMBOLS) within).0
+
+  symbols : list_all (λ (s : Symbol). fits_limits s.text s.arity) (symbols_among ws) ≡ true
+  symbols = (and_parts _ (list_all (λ n. nat_le n MAX_NAME) (names_among ws)) limits).0
+
+  pub keeps_each : (b : Bound) → keeps b ws ≡ true
+  keeps_each SymbolBytes =
+      all_of (λ s. fits_limits s.text s.arity) (λ s. nat_le (length s.text) MAX_SYMBOL_TEXT) (λ s is. (and_parts (nat_le (length s.text) MAX_SYMBOL_TEXT) (nat_le s.arity MAX_ARITY) is).0) (symbols_among ws) symbols
+  keeps_each Arguments =
+      all_of (λ s. fits_limits s.text s.arity) (λ s. nat_le s.arity MAX_ARITY) (λ s is. (and_parts (nat_le (length s.text) MAX_SYMBOL_TEXT) (nat_le s.arity MAX_ARITY) is).1) (symbols_among ws) symbols
+  keeps_each NameNumber = (and_parts (list_all (λ (s : Symbol). fits_limits s.text s.arity) (symbols_among ws)) (list_all (λ n. nat_le n MAX_NAME) (names_among ws)) limits).1
+  keeps_each Symbols = (and_parts (list_all (λ (s : Symbol). fits_limits s.text s.arity) (symbols_among ws) && list_all (λ n. nat_le n MAX_NAME) (names_among ws)) (nat_le (length (word_table ws)) MAX_SYMBOLS) within).1
+  keeps_each TextBytes = refl
+  keeps_each Rules = refl
+  keeps_each RuleNodes = refl
+  keeps_each Interface = refl
+  keeps_each Nodes = refl
+
+and_false : (x : Bool) → (x && false) ≡ false
+and_false true = refl
+and_false false = refl
+
+-- a refusal of words is one of what is written
+module _ (w : Written) where
+  abbrev Counts : Option Excess → Type 0
+  Counts o = IsFirstExcess (λ b j. counts_keep b w j) (length (all_words w)) o
+
+  counts_kept : (o : Option Excess) → Counts o → (k : ℕ) → IsBefore o (Some k) → (j : ℕ) → j ≤ k → (b : Bound) → counts_keep b w j ≡ true
+  counts_kept None first k before j le b = first j b
+  counts_kept (Some x) first k before j le b = first.kept j (omega (arith, le, before)) b
+
+  word_limit : (o : Option Excess) → Counts o → (bound : Bound) (k : ℕ) → IsWordLimit bound (all_words w) k → IsBefore o (Some k) → IsLimitWord bound w k
+  word_limit o first bound k is before = record {
+    inside = is.first.inside;
+    innocent = λ j le b. and_from (keeps b (take j (all_words w))) _ (keeps_each (take j (all_words w)) (is.first.innocent j le) b) (counts_kept o first k before j le b);
+    passed = ap (λ x. x && counts_keep bound w (k + 1)) is.passed;
+  }
+
+  count_limit : (x : Excess) → IsExcess (λ b j. counts_keep b w j) (length (all_words w)) x → ((j : ℕ) → j ≤ x.word → are_within (take j (all_words w)) ≡ true) → IsLimitWord x.limit w x.word
+  count_limit x is within = record {
+    inside = is.inside;
+    innocent = λ j le b. and_from (keeps b (take j (all_words w))) _ (keeps_each (take j (all_words w)) (within j le) b) (is.kept j le b);
+    passed = ap (λ y. keeps x.limit (take (x.word + 1) (all_words w)) && y) is.passed ∙ and_false (keeps x.limit (take (x.word + 1) (all_words w)));
+  }
+
+  told_word : (o : Option Excess) → Counts o → (f : TextFault) (k : Option ℕ) (d : Detail) → IsWordIn (all_words w) f k d → IsBefore o k → IsToldWord w f k d
+  told_word o first Limit (Some k) (Passed bound) is before = word_limit o first bound k is before
+  told_word o first Arity (Some k) (Arities first_arity here) is before = is
+  told_word o first Memory None d is before = tt
+  told_word o first f k d is before = absurd is
+
+  told_excess : (o : Option Excess) → Counts o → (r : Refusal) → IsExcessAt (all_words w) o r → IsToldIn w r
+  told_excess None first r is = absurd is
+  told_excess (Some x) first r is = subst (IsToldIn w) (sym is.0) (count_limit x first is.1)
+
+  pub told_in : (o : Option Excess) → Counts o → (r : Refusal) → IsStoppedIn (all_words w) o r → IsToldIn w r
+  told_in o first r (inl is) = told_word o first r.fault r.word r.detail is.0 is.1
+  told_in o first r (inr is) = told_excess o first r is

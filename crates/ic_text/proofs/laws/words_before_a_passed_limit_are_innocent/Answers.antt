@@ -1,0 +1,5 @@
+use Rattle.ic_text.proofs.OnePlace.{one_limit}
+use Rattle.ic_text.proofs.laws.words_before_a_passed_limit_are_innocent.Goals as goal
+
+pub returns : goal.returns
+returns c = record { one = one_limit; kept = λ a b w j k is le. is.innocent j le b }

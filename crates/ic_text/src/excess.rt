@@ -1,0 +1,175 @@
+//! With which word too much is written: the limits of rules, of nodes and of terms of the interface.
+
+ghost use Rattle.std.specs.Prelude.{◌≡◌, ℕ, ◌+◌, ◌*◌, ◌<◌, ◌≤◌, ◌^◌, length, nat_le, sum_by, take, true};
+ghost use Rattle.ic_text.specs.SystemSource.{SystemPhrase};
+ghost use Rattle.ic_text.specs.Words.{all_words, written_system};
+ghost use Rattle.ic_text.specs.WordFaults.{config_keeps, count_words, counts_keep, due_behind, is_counted, rules_keep};
+ghost use Rattle.ic_text.specs.inner.Counted.{IsCounted, IsFirstExcess, IsExcessTest, earlier, limit_at};
+ghost use Rattle.ic_text.specs.inner.Prefix.{nodes_of};
+
+use crate::misread::Limit;
+use crate::prefix::Node;
+use ic_rules::{MAX_RULE_NODES, MAX_RULES};
+use ic_term::{MAX_INTERFACE, MAX_NODES};
+
+/// A limit that is passed, and before how many words the one stands with which it is.
+#[derive(Clone, Copy)]
+pub(crate) struct Excess {
+    pub word: usize,
+    pub limit: Limit,
+}
+
+/// The limit that is passed with a word, if one is.
+pub(crate) fn limit_at(excess: Option<Excess>, word: usize) -> Option<Limit>
+    ensures { result ≡ limit_at excess word }
+{
+    match excess {
+        Some(excess) => (excess.word == word).then_some(excess.limit),
+        None => None,
+    }
+}
+
+/// Which of two comes first, if there is one.
+fn earlier(one: Option<Excess>, other: Option<Excess>) -> Option<Excess>
+    ensures { result ≡ earlier one other }
+{
+    match (one, other) {
+        (Some(first), Some(second)) => {
+            if second.word < first.word {
+                Some(second)
+            } else {
+                Some(first)
+            }
+        }
+        (Some(first), None) => Some(first),
+        (None, other) => other,
+    }
+}
+
+/// How many terms are due behind a word, before which so many were: none in front of a term that no other holds.
+fn due_behind(due: usize, arity: usize) -> usize
+    requires { due + arity < 2 ^ 64 }
+    ensures { result ≡ due_behind due arity }
+{
+    if due == 0 { arity } else { due - 1 + arity }
+}
+
+/// Whether a word is counted, before which so many terms are due: one in front of which none is, or another.
+fn is_counted(outer: bool, due: usize) -> bool
+    ensures { result ≡ is_counted outer due }
+{
+    if outer { due == 0 } else { due > 0 }
+}
+
+/// The word with which more than so many are counted, if there is one, and the limit that this passes.
+fn first_excess(nodes: &[Node], outer: bool, most: usize, limit: Limit) -> Option<Excess>
+    requires { sum_by (λ w. w.arity) (nodes_of nodes.now) < 2 ^ 64 }
+    ensures { IsExcessTest (λ ws. nat_le (count_words outer 0 ws) most) limit (nodes_of nodes.now)
+        result }
+{
+    let mut due = 0;
+    let mut found = 0;
+    for (word, node) in nodes.iter().enumerate() {
+        if is_counted(outer, due) {
+            if found == most {
+                return Some(Excess { word, limit });
+            }
+            found += 1;
+        }
+        due = due_behind(due, node.arity);
+    }
+    None
+}
+
+/// The first word of the first rule too many, where so many agents are the sides of rules.
+fn too_many_rules(nodes: &[Node], agents: usize) -> Option<Excess>
+    requires few { sum_by (λ w. w.arity) (nodes_of nodes.now) < 2 ^ 64 }
+    requires agents { agents ≡ count_words true 0 (nodes_of nodes.now) }
+    ensures { IsExcessTest (rules_keep Limit.Rules) Limit.Rules (nodes_of nodes.now) result }
+{
+    if agents <= 2 * MAX_RULES {
+        return None;
+    }
+    first_excess(nodes, true, 2 * MAX_RULES, Limit::Rules)
+}
+
+/// The first node too many in the arguments of rules.
+fn too_many_rule_nodes(nodes: &[Node], agents: usize) -> Option<Excess>
+    requires few { sum_by (λ w. w.arity) (nodes_of nodes.now) < 2 ^ 64 }
+    requires agents { agents ≡ count_words true 0 (nodes_of nodes.now) }
+    ensures { IsExcessTest (rules_keep Limit.RuleNodes) Limit.RuleNodes (nodes_of nodes.now)
+        result }
+{
+    if nodes.len().saturating_sub(agents) <= MAX_RULE_NODES as usize {
+        return None;
+    }
+    first_excess(nodes, false, MAX_RULE_NODES as usize, Limit::RuleNodes)
+}
+
+/// The word with which rules pass a limit, the first one if there is one.
+fn rules_excess(nodes: &[Node], agents: usize) -> Option<Excess>
+    requires few { sum_by (λ w. w.arity) (nodes_of nodes.now) < 2 ^ 64 }
+    requires agents { agents ≡ count_words true 0 (nodes_of nodes.now) }
+    ensures { IsFirstExcess (λ bound j. rules_keep bound (take j (nodes_of nodes.now)))
+        (length (nodes_of nodes.now)) result }
+{
+    earlier(
+        too_many_rules(nodes, agents),
+        too_many_rule_nodes(nodes, agents),
+    )
+}
+
+/// The first word of the first term too many, where an interface of so many terms stands first.
+fn too_many_terms(nodes: &[Node], terms: usize) -> Option<Excess>
+    requires { sum_by (λ w. w.arity) (nodes_of nodes.now) < 2 ^ 64 }
+    ensures { IsExcessTest (config_keeps terms Limit.Interface) Limit.Interface (nodes_of nodes.now)
+        result }
+{
+    if terms <= MAX_INTERFACE {
+        return None;
+    }
+    first_excess(nodes, true, MAX_INTERFACE, Limit::Interface)
+}
+
+/// The first node too many of a configuration.
+fn too_many_nodes(nodes: &[Node]) -> Option<Excess>
+    ensures { (terms : ℕ) → IsExcessTest (config_keeps terms Limit.Nodes) Limit.Nodes
+        (nodes_of nodes.now) result }
+{
+    if nodes.len() as u64 <= MAX_NODES {
+        return None;
+    }
+    Some(Excess {
+        word: MAX_NODES as usize,
+        limit: Limit::Nodes,
+    })
+}
+
+/// The word with which a configuration passes a limit, the first one if there is one.
+fn config_excess(nodes: &[Node], terms: usize) -> Option<Excess>
+    requires { sum_by (λ w. w.arity) (nodes_of nodes.now) < 2 ^ 64 }
+    ensures { IsFirstExcess (λ bound j. config_keeps terms bound (take j (nodes_of nodes.now)))
+        (length (nodes_of nodes.now)) result }
+{
+    earlier(too_many_terms(nodes, terms), too_many_nodes(nodes))
+}
+
+/// The limit of how much is written that is passed first, if one is, and with which word. So many words are those of the
+/// rules, so many agents are their sides, and the interface has so many terms.
+pub(crate) fn excess_of(nodes: &[Node], rules: usize, agents: usize, terms: usize) -> Option<Excess>
+    requires { (s : SystemPhrase) × IsCounted s (nodes_of nodes.now) rules agents terms }
+    ensures { (s : SystemPhrase) → IsCounted s (nodes_of nodes.now) rules agents terms →
+        IsFirstExcess (λ bound j. counts_keep bound (written_system s) j)
+        (length (all_words (written_system s))) result }
+{
+    match rules_excess(&nodes[..rules], agents) {
+        Some(excess) => Some(excess),
+        None => match config_excess(&nodes[rules..], terms) {
+            Some(excess) => Some(Excess {
+                word: rules + excess.word,
+                limit: excess.limit,
+            }),
+            None => None,
+        },
+    }
+}
