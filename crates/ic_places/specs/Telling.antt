@@ -8,7 +8,7 @@ use Rattle.ic_text.specs.declared.fault.TextFault.TheVariants.{NameCount, Name, 
 use Rattle.ic_text.specs.declared.misread.Detail.{Detail}
 use Rattle.ic_text.specs.declared.misread.Detail.TheVariants.{Nothing, Passed, Arities}
 use Rattle.ic_text.specs.declared.misread.Limit.{Limit}
-use Rattle.ic_text.specs.declared.misread.Limit.TheVariants.{TextBytes, SymbolBytes, Arguments, NameNumber, Symbols}
+use Rattle.ic_text.specs.declared.misread.Limit.TheVariants.{TextBytes, SymbolBytes, Arguments, NameNumber, Symbols, Rules, RuleNodes, Interface, Nodes}
 use Rattle.ic_text.specs.Token.{Token, is_blank}
 use Rattle.ic_text.specs.Words.{Written}
 use Rattle.ic_text.specs.Places.{IsPlaced}
@@ -64,6 +64,10 @@ limit_sentence SymbolBytes = codes "a symbol has at most 32 bytes"
 limit_sentence Arguments = codes "a symbol has at most 15 arguments"
 limit_sentence NameNumber = codes "the number of a name is at most 4294967295"
 limit_sentence Symbols = codes "a text has at most 64 symbols"
+limit_sentence Rules = codes "a system has at most 256 rules"
+limit_sentence RuleNodes = codes "in their arguments all rules have at most 2048 nodes"
+limit_sentence Interface = codes "an interface has at most 64 terms"
+limit_sentence Nodes = codes "a configuration has at most 8192 nodes"
 
 -- what is amiss where a symbol has another arity than at its first use
 abbrev pub arity_sentence : (before here : ℕ) → List ℕ

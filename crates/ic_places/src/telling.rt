@@ -115,6 +115,10 @@ fn limit_sentence(limit: Limit) -> &'static [u8]
         Limit::Arguments => b"a symbol has at most 15 arguments",
         Limit::NameNumber => b"the number of a name is at most 4294967295",
         Limit::Symbols => b"a text has at most 64 symbols",
+        Limit::Rules => b"a system has at most 256 rules",
+        Limit::RuleNodes => b"in their arguments all rules have at most 2048 nodes",
+        Limit::Interface => b"an interface has at most 64 terms",
+        Limit::Nodes => b"a configuration has at most 8192 nodes",
     }
 }
 
