@@ -1,8 +1,9 @@
 """A model of where in a text its refusal stands, and of what is told of it: a fault of syntax is at the first word, mark or other
 byte with which no text can go on, or at the end; a text that is too long is refused behind the last byte that it may have; a limit
-of words is passed at the first word that does so, and a symbol has two arities at its first use with another one than before. A name
-that doesn't stand twice in a rule is told where it stands only there, or for the third time; a name of the configuration where it
-stands for the third time; a second rule of two symbols and a lopsided rule at their first word."""
+is passed at the first word that does so, which may be the first of a rule or a term too many, or a node too many. A symbol has two
+arities at its first use with another one than before. A name that doesn't stand twice in a rule is told where it stands only there,
+or for the third time; a name of the configuration where it stands for the third time; a second rule of two symbols and a lopsided
+rule at their first word."""
 
 import re
 from collections import Counter
@@ -25,7 +26,7 @@ class Reader:
     def __init__(self, text):
         self.tokens = [(it.start(), it.group()) for it in TOKEN.finditer(text)] + [(len(text), b"")]
         self.at = 0
-        self.words, self.rules, self.outer, self.sides = [], 0, 0, []
+        self.words, self.terms, self.sides = [], [], []
 
     def place(self):
         return self.tokens[self.at][0]
@@ -49,7 +50,6 @@ class Reader:
 
     def term(self, *forms):
         """A term of one of these forms, whose words are kept with their arguments. Its depth has no bound, so it is a list."""
-        self.outer += 1
         around = []
         while True:
             word = [*self.tokens[self.at], self.word(*forms), 0]
@@ -72,6 +72,11 @@ class Reader:
                 item()
             self.mark(end)
 
+    def item(self):
+        first = len(self.words)
+        self.term(NAME, SYMBOL)
+        self.terms.append(self.words[first])
+
     def equation(self):
         self.term(NAME, SYMBOL)
         self.mark(b"=")
@@ -79,9 +84,8 @@ class Reader:
 
     def configuration(self):
         self.mark(b"<")
-        self.before, self.outer = len(self.words), 0
-        self.listed(lambda: self.term(NAME, SYMBOL), b",", b"|")
-        self.terms = self.outer
+        self.before = len(self.words)
+        self.listed(self.item, b",", b"|")
         self.listed(self.equation, b",", b">")
 
     def rule(self):
@@ -91,7 +95,6 @@ class Reader:
         self.mark(b"<")
         second = len(self.words)
         self.term(SYMBOL)
-        self.rules += 1
         self.sides.append((self.words[first:second], self.words[second:]))
 
     def system(self):
@@ -111,6 +114,20 @@ def limit_at(word, symbols):
     if arguments > MOST_ARGUMENTS:
         return f"a symbol has at most {MOST_ARGUMENTS} arguments"
     return f"a text has at most {MOST_SYMBOLS} symbols" if len(symbols | {text}) > MOST_SYMBOLS else None
+
+
+def too_many(reader):
+    """The first word with which there are too many rules, nodes of rules, terms or nodes, as its place and a sentence, or None."""
+    rules = [left[0] for left, _ in reader.sides]
+    inner = [word for sides in reader.sides for side in sides for word in side[1:]]
+    counts = (
+        (rules, MOST_RULES, f"a system has at most {MOST_RULES} rules"),
+        (inner, MOST_RULE_NODES, f"in their arguments all rules have at most {MOST_RULE_NODES} nodes"),
+        (reader.terms, MOST_TERMS, f"an interface has at most {MOST_TERMS} terms"),
+        (reader.words[reader.before :], MOST_NODES, f"a configuration has at most {MOST_NODES} nodes"),
+    )
+    places = [(words[most][0], sentence) for words, most, sentence in counts if len(words) > most]
+    return min(places, key=lambda it: it[0], default=None)
 
 
 def miscounted(words):
@@ -150,15 +167,13 @@ def fault_of_names_and_rules(reader):
 
 
 def fault_of_words(reader):
-    """The fault of what is written, its place and a sentence; None where it is another one or none."""
-    inner = reader.before - 2 * reader.rules
-    if reader.rules > MOST_RULES or inner > MOST_RULE_NODES or reader.terms > MOST_TERMS:
-        return None
-    if len(reader.words) - reader.before > MOST_NODES:
-        return None
+    """The fault of what is written, its place and a sentence, or None."""
+    over = too_many(reader)
     symbols, clash = {}, None
     for word in reader.words:
         at, text, form, arguments = word
+        if over and over[0] == at:
+            return "limit", *over
         passed = limit_at(word, set(symbols))
         if passed:
             return "limit", at, passed
@@ -182,7 +197,7 @@ def sentence_of_syntax(text, at, kind):
 
 
 def found(text, kind):
-    """What refuses a text as a `configuration` or a `system`: the fault, its place and a sentence, where a place is told."""
+    """What refuses a text as a `configuration` or a `system`: the fault, its place and a sentence, or None."""
     if len(text) > MOST_BYTES:
         return "limit", MOST_BYTES, f"a text has at most {MOST_BYTES} bytes"
     reader = Reader(text)
@@ -200,7 +215,7 @@ def shown(data):
 
 
 def told(text, kind):
-    """What stands on standard error behind the line of a text's refusal; nothing where its place isn't told. Of a text that is too
+    """What stands on standard error behind the line of a text's refusal; nothing where it isn't refused. Of a text that is too
     long no more than one byte too many is read."""
     text = text[: MOST_BYTES + 1]
     fault = found(text, kind)

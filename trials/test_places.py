@@ -17,6 +17,16 @@ CONFIGS = ("config", "settle", "config_place", "settle_told")
 SYSTEMS = ("system", "once", "system_place", "once_told")
 
 
+def near(drawn, most):
+    """A number near the most that there may be, or none."""
+    return drawn.choice([0, 0, most - 1, most, most + 1, most + 2])
+
+
+def nested(nodes):
+    """The one argument of an agent, of so many nodes, with its parentheses; nothing for none."""
+    return "(" + "S(" * (nodes - 1) + "Z" + ")" * nodes if nodes else ""
+
+
 class Places(Trial):
     seconds = 6
 
@@ -77,6 +87,22 @@ class Places(Trial):
             self.tells("settle", text.encode())
             self.tells("once", b"{A><A(B)}" + text.encode())
 
+    def test_too_many_rules_terms_and_nodes(self):
+        drawn = self.draws()
+        for _ in range(60):
+            rules = ["A><B"] * near(drawn, places.MOST_RULES)
+            rules += [f"A{nested(near(drawn, places.MOST_RULE_NODES))}><B"] * drawn.choice([0, 1, 1])
+            terms = ["C"] * near(drawn, places.MOST_TERMS)
+            terms += [f"D{nested(near(drawn, places.MOST_NODES))}"] * drawn.choice([0, 0, 1])
+            equations = ["A=B"] * near(drawn, places.MOST_NODES // 2)
+            for items, faulty in ((rules, f"A(v165191050)><{'B' * 33}"), (terms, "B" * 33), (equations, "A(B)=A")):
+                drawn.shuffle(items)
+                if drawn.random() < 0.3:
+                    items.insert(drawn.randint(0, len(items)), faulty)
+            config = f"<{','.join(terms)}|\n{','.join(equations)}>"
+            self.tells("settle", config.encode())
+            self.tells(drawn.choice(SYSTEM_WORDS), f"{{{';'.join(rules)}}}\n{config}".encode())
+
     def test_names_and_rules(self):
         drawn = self.draws()
         for _ in range(100):
@@ -109,7 +135,5 @@ class Places(Trial):
 
     def test_nothing_is_told_of_a_refused_round_and_of_other_faults(self):
         deep = "C(" * 8187 + "D" + ")" * 8187
-        many = ";".join(["A><B"] * 257)
-        for text in (f"{{}} <{'A,' * 64}A|>", f"{{{many}}} <|>", f"{{A><B(C(C(D)))}} <|A=B(P),{deep}=Q>"):
-            ran = run("once", given=text)
-            self.equals(ran.command, "status and lines", (1, 1, b""), (ran.status, ran.err.count(b"\n"), ran.behind))
+        ran = run("once", given=f"{{A><B(C(C(D)))}} <|A=B(P),{deep}=Q>")
+        self.equals(ran.command, "status and lines", (1, 1, b""), (ran.status, ran.err.count(b"\n"), ran.behind))
