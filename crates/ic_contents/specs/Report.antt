@@ -6,13 +6,14 @@ use Rattle.ic_term.specs.Configuration.{Configuration, configuration_nodes}
 use Rattle.ic_rules.specs.Rule.{Rule}
 use Rattle.ic_round.specs.Firing.{rule_of_sides}
 use Rattle.ic_jobs.specs.Job.{JobParts}
+use Rattle.ic_slots.specs.Held.{Held, the_table, no_slot, two_alike, damaged}
 use Rattle.ic_commands.specs.ReplyText.{state_text}
 use Rattle.ic_contents.specs.declared.choosing.Newest.{Newest}
 use Rattle.ic_contents.specs.declared.choosing.Newest.TheVariants.{NoSlot, TwoAlike, First, Second}
 use Rattle.ic_contents.specs.declared.seen.Body.{Body}
 use Rattle.ic_contents.specs.declared.seen.Body.TheVariants.{TooLong, CutShort, NoTable, Holds}
 use Rattle.ic_contents.specs.declared.seen.Seen.{Seen}
-use Rattle.ic_contents.specs.Held.{newest_of}
+use Rattle.ic_contents.specs.Held.{newest_of, held_of}
 
 -- a line with its line feed
 abbrev pub line : List ℕ → List ℕ
@@ -73,27 +74,22 @@ job_line j = line (standing_text j ++ sizes_text j)
 abbrev pub table_lines : ℕ → List JobParts → List ℕ
 table_lines digit t = line (codes "held: slot " ++ digit ∷ []) ++ flat_map job_line t
 
--- the lines of the newest slot's body
-abbrev pub body_held : ℕ → Body → List ℕ
-body_held digit (Holds t) = table_lines digit t
-body_held digit TooLong = line (codes "held: damaged")
-body_held digit CutShort = line (codes "held: damaged")
-body_held digit NoTable = line (codes "held: damaged")
+-- the lines of what is held: of a table those of its jobs, behind the digit of its slot
+abbrev pub told_held : ℕ → Held → List ℕ
+told_held digit (the_table t) = table_lines digit t
+told_held digit no_slot = line (codes "held: no slot")
+told_held digit two_alike = line (codes "held: two alike")
+told_held digit damaged = line (codes "held: damaged")
 
--- the lines of the newest slot
-abbrev pub slot_held : ℕ → Option Seen → List ℕ
-slot_held digit None = line (codes "held: damaged")
-slot_held digit (Some seen) = body_held digit seen.body
-
--- the lines of what is held, where this slot is the newest
-abbrev pub held_lines_by : Newest → Option Seen → Option Seen → List ℕ
-held_lines_by NoSlot first second = line (codes "held: no slot")
-held_lines_by TwoAlike first second = line (codes "held: two alike")
-held_lines_by First first second = slot_held 49 first
-held_lines_by Second first second = slot_held 50 second
+-- the digit of the newest slot; where none is, it isn't told
+abbrev pub digit_of : Newest → ℕ
+digit_of First = 49
+digit_of Second = 50
+digit_of NoSlot = 49
+digit_of TwoAlike = 49
 
 abbrev pub held_lines : Option Seen → Option Seen → List ℕ
-held_lines first second = held_lines_by (newest_of first second) first second
+held_lines first second = told_held (digit_of (newest_of first second)) (held_of first second)
 
 -- a line for each slot, and what is held
 abbrev pub report : Option Seen → Option Seen → List ℕ

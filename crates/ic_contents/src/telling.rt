@@ -4,7 +4,8 @@ ghost use Rattle.std.specs.Prelude.{◌≡◌, ◌++◌, IfOk, OnOk};
 ghost use Rattle.std.specs.List.{flat_map};
 ghost use Rattle.ic_term.specs.Configuration.{configuration_nodes};
 ghost use Rattle.ic_commands.specs.ReplyText.{state_text};
-ghost use Rattle.ic_contents.specs.Report.{report, slot_line, seen_text, gate_text, body_text, held_lines, slot_held, body_held, table_lines, job_line, standing_text, sizes_text, counts_text, count_text, active_pairs};
+ghost use Rattle.ic_contents.specs.Held.{held_by_body, held_by_slot};
+ghost use Rattle.ic_contents.specs.Report.{report, slot_line, seen_text, gate_text, body_text, held_lines, told_held, table_lines, job_line, standing_text, sizes_text, counts_text, count_text, active_pairs};
 
 use crate::choosing::{Newest, newest_of};
 use crate::seen::{Body, Seen};
@@ -93,7 +94,7 @@ fn put_held(
 
 /// Appends what the newest slot holds.
 fn put_slot_held(digit: u8, seen: &Option<Seen>, out: &mut Vec<u8>) -> Result<(), AllocError>
-    ensures { OnOk result (out.new.items ≡ out.old.items ++ slot_held digit seen.now) }
+    ensures { OnOk result (out.new.items ≡ out.old.items ++ told_held digit (held_by_slot seen.now)) }
 {
     match seen {
         Some(seen) => put_body_held(digit, &seen.body, out),
@@ -103,7 +104,7 @@ fn put_slot_held(digit: u8, seen: &Option<Seen>, out: &mut Vec<u8>) -> Result<()
 
 /// Appends what the body of the newest slot holds.
 fn put_body_held(digit: u8, body: &Body, out: &mut Vec<u8>) -> Result<(), AllocError>
-    ensures { OnOk result (out.new.items ≡ out.old.items ++ body_held digit body.now) }
+    ensures { OnOk result (out.new.items ≡ out.old.items ++ told_held digit (held_by_body body.now)) }
 {
     match body {
         Body::Holds(table) => put_table(digit, table, out),
