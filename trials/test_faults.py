@@ -1,7 +1,7 @@
 """Each call of the program to the system goes wrong in turn: a growth of memory, a thread, a call on the disk's file, a read,
 a write. Each fault gives the defined line and status, and leaves the disk to be opened with all that was answered."""
 
-from disks import EMPTY, put, slot
+from disks import EMPTY, SECOND, put, slot
 from known import ADD, LOOP, TWO, WIDE
 from program import TOP, Server, run
 from shim import noted, shimmed, was_refused
@@ -81,6 +81,39 @@ class Faults(Stops):
                     self.agrees(ran.command, f"standard output, where it went wrong: {call}", b"", ran.out)
 
             self.in_turn("growth", ("once", "on"), attempt)
+
+    def told_of(self, file, *words):
+        """Each growth of a run that tells of a file is refused: a fault, or all goes as if it weren't. Nothing is printed at a
+        fault, but where the lines of `check` stand before the program's own. The file stays as it is."""
+        well, before = run(*words), file.read_bytes()
+
+        def attempt(env, call):
+            ran = run(*words, env=env)
+            if (ran.status, ran.out, ran.err) != (well.status, well.out, well.err):
+                self.is_fault(ran, call, (4, "memory"), (3, "memory"))
+                if not (well.status and ran.out == well.out):
+                    self.agrees(ran.command, f"standard output, where it went wrong: {call}", b"", ran.out)
+            self.holds(file, before)
+
+        return self.in_turn("growth", ("once", "on"), attempt)
+
+    def test_each_growth_of_dump_and_of_inspect_is_refused_in_turn(self):
+        """Of a disk with two jobs, one of which has a name that may not stand in a text. Its newest slot alone is looked at."""
+        disk = self.disk()
+        great = "submit great {A(B(x))><B(A(x))} <v165191049|A(x)=B(x)>"
+        self.serves(disk, [great, f"submit two 7 {TWO.text}", "run 2"], ["accepted", "accepted", "ran 2"])
+        disk.write_bytes(disk.read_bytes()[SECOND:])
+        self.are(200, self.told_of(disk, "dump", "--disk", disk))
+        self.told_of(disk, "dump", "--disk", disk, "two", "none")
+        self.have_come((3, "memory"), (4, "memory"))
+        self.are(200, self.told_of(disk, "inspect", "--disk", disk))
+
+    def test_each_growth_of_check_is_refused_in_turn(self):
+        path = self.room / "text"
+        for text in (f"submit a {TWO.text}\nlist\nsubmit b {{}} <A|>\nsubmit c {{}} <A|", "{A><B;C><C} <|A=A>", "<r|r=r>"):
+            path.write_text(text)
+            self.are(100, self.told_of(path, "check", path))
+        self.have_come((4, "memory"))
 
     def created(self, env, call, *faults):
         """A `create` in which a call goes wrong. It is done again, and the disk is empty and serves."""
