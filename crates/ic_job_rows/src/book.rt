@@ -4,6 +4,7 @@
 mod bench;
 mod bytes;
 mod choices;
+mod contents;
 mod drawn;
 mod faults;
 mod keeping;

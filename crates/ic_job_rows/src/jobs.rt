@@ -1,6 +1,7 @@
 //! The job table, driven by scripts: command lines, and rounds that are taken, played and landed one by one.
 
 use crate::bytes::encoded;
+use crate::dumps::{dumped, line_at, undumped};
 use crate::pool::{parts_of, with_next};
 use ic_commands::{Line, print_reply, read_command};
 use ic_jobs::{Command, Job, Landed, State, Table};
@@ -43,7 +44,8 @@ impl Session {
 
     /// What a word is answered: a command line; `due K`, which takes a flight from the place K on; `land K`, which plays
     /// the K-th flight and lands its round, or halts its job where it is blocked; `top NEXT ROUNDS SYSTEM`, which makes a
-    /// table of one running job; or `bytes`, the table's byte form.
+    /// table of one running job; `bytes`, the table's byte form; `dump NAME..`, the lines of these jobs, `undumped NAME..`,
+    /// why they can't be written, and `told K`, the line of the job at the place K.
     fn answer(&mut self, alloc: Global, word: &str) -> Result<Vec<u8>, Trouble> {
         let (verb, rest) = word.split_once(' ').unwrap_or((word, ""));
         match verb {
@@ -51,6 +53,13 @@ impl Session {
             "land" => self.land(alloc, usize::from_str_radix(rest, 10).unwrap_or(0)),
             "top" => self.top(alloc, rest),
             "bytes" => Ok(digits_of(alloc, &encoded(alloc, &self.table)?)?),
+            "dump" => dumped(alloc, &self.table, rest),
+            "undumped" => undumped(alloc, &self.table, rest),
+            "told" => line_at(
+                alloc,
+                &self.table,
+                usize::from_str_radix(rest, 10).unwrap_or(0),
+            ),
             _ => self.line(alloc, word.as_bytes()),
         }
     }

@@ -1,17 +1,19 @@
-//! The worked rows of jobs: command lines, scripts, the job table, rounds by workers and by crews, tables as bytes and on a
-//! disk, and the book. `answers` says what a row may ask.
+//! The worked rows of jobs: command lines, scripts, the job table and its dumps, rounds by workers and by crews, tables as bytes
+//! and on a disk, what is told of its bytes, and the book. `answers` says what a row may ask.
 #![tactic(auto)]
 
 mod answers;
 mod book;
 mod bytes;
 mod crews;
+mod dumps;
 mod gates;
 mod jobs;
 mod lines;
 mod meeting;
 mod pool;
 mod scripts;
+mod streams;
 mod works;
 
 use crate::answers::answer;

@@ -1,6 +1,7 @@
 //! What a script is run on: a disk with a fuse, or the keeper of it while it is open.
 
 use crate::book::bytes::{place, place_and_rest, put};
+use crate::book::contents::looked_at;
 use crate::book::tables::{letter_of, table_of};
 use ic_disk::{Blow, Choice, FuseDisk, MemDisk, Then};
 use ic_jobs::Table;
@@ -245,7 +246,7 @@ fn keep_in_phases(keeper: &mut Keeper<FuseDisk>, table: &Table) -> Result<(), Ke
 }
 
 // What is asked of bytes: how many there are, some of them, whether all are zeros from a place on, whether they are those
-// that were noted.
+// that were noted; or what a look at them tells.
 fn seen(
     alloc: Global,
     bytes: &[u8],
@@ -265,6 +266,6 @@ fn seen(
             Ok(Vec::from_slice(alloc, yes(zeros).as_bytes())?)
         }
         "same" => Ok(Vec::from_slice(alloc, yes(bytes == noted).as_bytes())?),
-        _ => Err(Trouble("no such word")),
+        _ => looked_at(alloc, bytes, noted, verb),
     }
 }
