@@ -48,3 +48,4 @@ pub mod Excesses
 pub mod Fitting
 pub mod Stopping
 pub mod OnePlace
+pub mod Ending

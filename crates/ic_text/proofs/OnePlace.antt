@@ -64,7 +64,7 @@ one_word w (Lopsided i) j k Nothing e is_j is_k = absurd is_k
 one_word w f j k d e is_j is_k = absurd is_j
 
 -- no fewer words begin in more bytes
-begun-append : (xs ys : List ℕ) (within : Bool) → begun_words within xs ≤ begun_words within (xs ++ ys)
+pub begun-append : (xs ys : List ℕ) (within : Bool) → begun_words within xs ≤ begun_words within (xs ++ ys)
 begun-append [] ys within = omega arith
 begun-append (x ∷ xs) ys within = by_cases (is_word_byte x) within (begun-append xs ys)
   where
@@ -75,7 +75,7 @@ begun-append (x ∷ xs) ys within = by_cases (is_word_byte x) within (begun-appe
     by_cases false v next = next false
 
 -- where a word begins, the bytes before it don't end in one
-apart_before : (text : List ℕ) (at : ℕ) → at < length text → is_word_byte (get_or text at 0) ≡ true → is_between text at ≡ true → ends_within false (take at text) ≡ false
+pub apart_before : (text : List ℕ) (at : ℕ) → at < length text → is_word_byte (get_or text at 0) ≡ true → is_between text at ≡ true → ends_within false (take at text) ≡ false
 apart_before text zero inside begins between = refl
 apart_before text (suc n) inside begins between =
     let one : n + 1 ≡ suc n = omega arith in
@@ -96,7 +96,7 @@ words_at text k at is =
     let count : length _ ≡ begun_words false (take at text) + 0 = run_words (take at text) [] is.front is.tokens in
     omega (arith, count, is.before)
 
-begins_one : (text : List ℕ) (k at : ℕ) → IsWordPlace text k at → begun_words false (take (at + 1) text) ≡ k + 1
+pub begins_one : (text : List ℕ) (k at : ℕ) → IsWordPlace text k at → begun_words false (take (at + 1) text) ≡ k + 1
 begins_one text k at is =
     let apart = apart_before text at is.inside is.begins is.between in
     ap (begun_words false) (take_more text at 0 is.inside)

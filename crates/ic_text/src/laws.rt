@@ -27,8 +27,10 @@ ghost use Rattle.ic_text.specs.declared.token.Mark.TheVariants.{LeftBrace, Right
 ghost use Rattle.ic_text.specs.declared.limits.TheConstants.{MAX_TEXT, MAX_NAME};
 ghost use Rattle.ic_text.specs.declared.fault.TextFault.{TextFault};
 ghost use Rattle.ic_text.specs.declared.misread.Detail.{Detail};
-ghost use Rattle.ic_text.specs.declared.misread.Limit.{Limit};
-ghost use Rattle.ic_text.specs.declared.fault.TextFault.TheVariants.{Memory};
+ghost use Rattle.ic_text.specs.declared.misread.Detail.TheVariants.{Passed};
+ghost use Rattle.ic_text.specs.declared.misread.Limit.{Limit as Bound};
+ghost use Rattle.ic_text.specs.declared.misread.Limit.TheVariants.{TextBytes};
+ghost use Rattle.ic_text.specs.declared.fault.TextFault.TheVariants.{Syntax, Limit, Memory};
 
 /// A text spells at most one configuration, and it is read in just one way.
 pub fn one_reading()
@@ -75,11 +77,31 @@ pub fn a_refusal_is_found_at_one_place()
         IsPlaced IsSystemPhrase system_words written_system text fault (Some b) e → a ≡ b }
 {}
 
+/// A text that is cut before the place of a refusal wants more, and has a fault of syntax at its end: it ends no phrase,
+/// so it has none of the other faults. One that is cut where it gets too long isn't too long.
+pub fn the_text_before_a_refusal_wants_more()
+    ensures config { (text : List ℕ) (fault : TextFault) (at : ℕ) (detail : Detail) →
+        fault ≢ Syntax → detail ≢ Passed TextBytes →
+        IsPlaced IsPhrase phrase_words written_phrase text fault (Some at) detail →
+        Reads (take at text) (Err Syntax) × IsSyntaxPlace IsPhrase phrase_words (take at text) at }
+    ensures system { (text : List ℕ) (fault : TextFault) (at : ℕ) (detail : Detail) →
+        fault ≢ Syntax → detail ≢ Passed TextBytes →
+        IsPlaced IsSystemPhrase system_words written_system text fault (Some at) detail →
+        ReadsSystem (take at text) (Err Syntax)
+        × IsSyntaxPlace IsSystemPhrase system_words (take at text) at }
+    ensures long_config { (text : List ℕ) (at : ℕ) →
+        IsPlaced IsPhrase phrase_words written_phrase text Limit (Some at) (Passed TextBytes) →
+        length (take at text) ≤ MAX_TEXT }
+    ensures long_system { (text : List ℕ) (at : ℕ) →
+        IsPlaced IsSystemPhrase system_words written_system text Limit (Some at) (Passed TextBytes) →
+        length (take at text) ≤ MAX_TEXT }
+{}
+
 /// What is written passes limits first with one word; as far as any word before it, it keeps them all.
 pub fn words_before_a_passed_limit_are_innocent()
-    ensures one { (a b : Limit) (w : Written) (j k : ℕ) →
+    ensures one { (a b : Bound) (w : Written) (j k : ℕ) →
         IsLimitWord a w j → IsLimitWord b w k → j ≡ k }
-    ensures kept { (a b : Limit) (w : Written) (j k : ℕ) →
+    ensures kept { (a b : Bound) (w : Written) (j k : ℕ) →
         IsLimitWord a w k → j ≤ k → IsTrue (keeps_so_far b w j) }
 {}
 
