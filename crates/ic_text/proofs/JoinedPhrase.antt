@@ -19,7 +19,7 @@ abbrev pub joined_phrase : SystemPhrase → Phrase
 joined_phrase s = record { interface = sides_of_rules s.rules ++ s.config.interface; equations = s.config.equations }
 
 -- what is made of the sides of rules
-sides_through : {Y : Type 0} (f : Source → List Y) (rs : List RulePhrase)
+pub sides_through : {Y : Type 0} (f : Source → List Y) (rs : List RulePhrase)
     → flat_map f (sides_of_rules rs) ≡ flat_map (λ r. f (agent_source r.left) ++ f (agent_source r.right)) rs
 sides_through f [] = refl
 sides_through f (r ∷ rs) =

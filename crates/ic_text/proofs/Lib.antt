@@ -49,3 +49,5 @@ pub mod Fitting
 pub mod Stopping
 pub mod OnePlace
 pub mod Ending
+pub mod Heads
+pub mod PassedLimits

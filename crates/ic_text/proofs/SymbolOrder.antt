@@ -69,7 +69,7 @@ grows_by_one seen s = by_known (is_some (number_of_text seen s.text))
     by_known true = ([], sym (append-nil seen))
     by_known false = (s ∷ [], refl)
 
-grows : (ss seen : List Symbol) → (more : List Symbol) × (symbols_after seen ss ≡ seen ++ more)
+pub grows : (ss seen : List Symbol) → (more : List Symbol) × (symbols_after seen ss ≡ seen ++ more)
 grows [] seen = ([], sym (append-nil seen))
 grows (s ∷ ss) seen =
     let first = grows_by_one seen s in

@@ -4,6 +4,7 @@ pub mod Token
 pub mod Name
 pub mod Source
 pub mod SystemSource
+pub mod Agents
 pub mod Sense
 pub mod SystemSense
 pub mod Reading

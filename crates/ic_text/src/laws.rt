@@ -1,18 +1,21 @@
 //! What is proved of the definitions alone: each law is the contract of a function that does nothing.
 
-ghost use Rattle.std.specs.Prelude.{◌≡◌, ◌≢◌, ◌↔◌, ◌<◌, ◌≤◌, ◌+◌, ◌*◌, ◌^◌, ◌&&◌, ◌||◌, ◌==◌, ℕ, Bool, List, [], ◌∷◌, ◌++◌, Result, Ok, Err, Some, None, true, false, length, map, codes, not, slice_get, nat_le, take, Contains, IsTrue};
+ghost use Rattle.std.specs.Prelude.{◌≡◌, ◌≢◌, ◌↔◌, ◌<◌, ◌≤◌, ◌+◌, ◌*◌, ◌^◌, ◌&&◌, ◌||◌, ◌==◌, ℕ, Bool, List, [], ◌∷◌, ◌++◌, Result, Ok, Err, Some, None, true, false, length, map, codes, not, slice_get, nat_le, take, Contains, IsTrue, sum_by};
 ghost use Rattle.std.specs.List.{filter, flat_map, list_any, list_all, AllByRecursion};
 ghost use Rattle.std.specs.Str.{bytes_eq};
 ghost use Rattle.std.specs.Char.{is_ascii_alphanumeric, is_ascii_lowercase, is_ascii_digit};
 ghost use Rattle.std.specs.Fmt.{decimal};
 ghost use Rattle.ic_rules.specs.Rule.{Rule};
+ghost use Rattle.ic_rules.specs.declared.limits.TheConstants.{MAX_RULES, MAX_RULE_NODES};
 ghost use Rattle.ic_rules.specs.RuleSet.{first_lopsided, first_repeated, first_uncounted};
 ghost use Rattle.ic_rules.specs.System.{SystemParts};
 ghost use Rattle.ic_term.specs.Configuration.{Configuration, configuration_names, one_above};
 ghost use Rattle.ic_term.specs.Symbol.{Symbol, texts};
+ghost use Rattle.ic_term.specs.declared.limits.TheConstants.{MAX_SYMBOLS, MAX_SYMBOL_TEXT, MAX_ARITY, MAX_INTERFACE, MAX_NODES};
+ghost use Rattle.ic_text.specs.Agents.{agents, nodes_within};
 ghost use Rattle.ic_text.specs.Name.{is_name, name_number, name_text, number_in};
-ghost use Rattle.ic_text.specs.Source.{Phrase, IsPhrase, phrase_words, phrase_symbols, phrase_names, source_symbols};
-ghost use Rattle.ic_text.specs.SystemSource.{SystemPhrase, IsSystemPhrase, system_words, system_symbols, rule_symbols};
+ghost use Rattle.ic_text.specs.Source.{Phrase, IsPhrase, phrase_nodes, phrase_words, phrase_symbols, phrase_names, source_symbols};
+ghost use Rattle.ic_text.specs.SystemSource.{SystemPhrase, IsSystemPhrase, system_words, system_symbols, system_names, rule_symbols, rule_nodes};
 ghost use Rattle.ic_text.specs.SystemSense.{system_table};
 ghost use Rattle.ic_text.specs.SystemText.{SpellsSystem, ReadsSystem};
 ghost use Rattle.ic_text.specs.Text.{Spells, Reads, phrase_of, printed, text_of, fault_text};
@@ -20,7 +23,7 @@ ghost use Rattle.ic_text.specs.FaultNumber.{all_faults, fault_number};
 ghost use Rattle.ic_text.specs.Places.{GoesOn, IsPlaced, IsSyntaxPlace};
 ghost use Rattle.ic_text.specs.Sense.{symbols_after};
 ghost use Rattle.ic_text.specs.WordFaults.{IsFirstWord, IsLimitWord, IsMiscount, keeps_so_far, uses};
-ghost use Rattle.ic_text.specs.Words.{Written, all_words, phrase_prefix, system_prefix, written_phrase, written_system};
+ghost use Rattle.ic_text.specs.Words.{Written, all_words, names_among, phrase_prefix, prefix, rules_prefix, symbols_among, system_prefix, written_phrase, written_system};
 ghost use Rattle.ic_text.specs.Token.{Token, word, mark, is_blank, is_word_byte, mark_byte, mark_of, tokens_at, followed, tokens, words_among};
 ghost use Rattle.ic_text.specs.declared.token.Mark.{Mark};
 ghost use Rattle.ic_text.specs.declared.token.Mark.TheVariants.{LeftBrace, RightBrace, Less, Greater, Bar, Equals, Comma, Semicolon, Open, Close};
@@ -29,7 +32,7 @@ ghost use Rattle.ic_text.specs.declared.fault.TextFault.{TextFault};
 ghost use Rattle.ic_text.specs.declared.misread.Detail.{Detail};
 ghost use Rattle.ic_text.specs.declared.misread.Detail.TheVariants.{Passed};
 ghost use Rattle.ic_text.specs.declared.misread.Limit.{Limit as Bound};
-ghost use Rattle.ic_text.specs.declared.misread.Limit.TheVariants.{TextBytes};
+ghost use Rattle.ic_text.specs.declared.misread.Limit.TheVariants.{TextBytes, SymbolBytes, Arguments, NameNumber, Symbols, Rules, RuleNodes, Interface, Nodes};
 ghost use Rattle.ic_text.specs.declared.fault.TextFault.TheVariants.{Syntax, Limit, Memory};
 
 /// A text spells at most one configuration, and it is read in just one way.
@@ -105,6 +108,42 @@ pub fn words_before_a_passed_limit_are_innocent()
         IsLimitWord a w k → j ≤ k → IsTrue (keeps_so_far b w j) }
 {}
 
+/// A limit that is told is one that is passed, and its word the first one too many. That of rules is the first word of
+/// the first rule too many; that of nodes in rules stands within an agent, behind so many nodes and the symbols of this
+/// agent and of those before. A configuration is written as a system without rules.
+pub fn a_limit_that_is_told_is_passed()
+    ensures rules { (s : SystemPhrase) (k : ℕ) → IsLimitWord Rules (written_system s) k →
+        (MAX_RULES < length s.rules) × (k ≡ length (rules_prefix (take MAX_RULES s.rules))) }
+    ensures rule_nodes { (s : SystemPhrase) (k : ℕ) → IsLimitWord RuleNodes (written_system s) k →
+        (before : ℕ) × (k ≡ MAX_RULE_NODES + before + 1)
+        × (nodes_within (take before (agents s.rules)) ≤ MAX_RULE_NODES)
+        × (MAX_RULE_NODES < nodes_within (take (before + 1) (agents s.rules)))
+        × (MAX_RULE_NODES < sum_by rule_nodes s.rules) }
+    ensures interface { (s : SystemPhrase) (k : ℕ) → IsLimitWord Interface (written_system s) k →
+        (MAX_INTERFACE < length s.config.interface)
+        × (k ≡ length (rules_prefix s.rules)
+        + length (flat_map prefix (take MAX_INTERFACE s.config.interface))) }
+    ensures nodes { (s : SystemPhrase) (k : ℕ) → IsLimitWord Nodes (written_system s) k →
+        (MAX_NODES < phrase_nodes s.config)
+        × (k ≡ length (rules_prefix s.rules) + MAX_NODES) }
+    ensures symbol_bytes { (s : SystemPhrase) (k : ℕ) → IsSystemPhrase s →
+        IsLimitWord SymbolBytes (written_system s) k →
+        (x : Symbol) × (slice_get (system_prefix s) k ≡ Some x)
+        × Contains (system_symbols s) x × (MAX_SYMBOL_TEXT < length x.text) }
+    ensures arguments { (s : SystemPhrase) (k : ℕ) → IsSystemPhrase s →
+        IsLimitWord Arguments (written_system s) k →
+        (x : Symbol) × (slice_get (system_prefix s) k ≡ Some x)
+        × Contains (system_symbols s) x × (MAX_ARITY < x.arity) }
+    ensures name_number { (s : SystemPhrase) (k : ℕ) → IsSystemPhrase s →
+        IsLimitWord NameNumber (written_system s) k →
+        (n : ℕ) × (slice_get (texts (system_prefix s)) k ≡ Some (name_text n))
+        × Contains (system_names s) n × (MAX_NAME < n) }
+    ensures symbols { (s : SystemPhrase) (k : ℕ) → IsSystemPhrase s →
+        IsLimitWord Symbols (written_system s) k → MAX_SYMBOLS < length (system_table s) }
+    ensures alone { (p : Phrase) →
+        written_phrase p ≡ written_system (record { rules = []; config = p }) }
+{}
+
 /// Words have at most one first word with which they aren't innocent; cut there, they have none.
 pub fn words_before_the_first_are_innocent()
     ensures one { (is_innocent : List Symbol → Bool) (ws : List Symbol) (a b : ℕ) →
@@ -113,11 +152,15 @@ pub fn words_before_the_first_are_innocent()
         IsFirstWord is_innocent ws k → ¬ IsFirstWord is_innocent (take k ws) j }
 {}
 
-/// The words of what is written are those of its tokens, in their order.
+/// The words of what is written are those of its tokens, in their order; the symbols and the names among them are its own.
 pub fn words_are_those_of_tokens()
     ensures config { (p : Phrase) → words_among (phrase_words p) ≡ texts (phrase_prefix p) }
     ensures system { (s : SystemPhrase) → words_among (system_words s) ≡ texts (system_prefix s) }
     ensures whole { (s : SystemPhrase) → all_words (written_system s) ≡ system_prefix s }
+    ensures symbols { (s : SystemPhrase) → IsSystemPhrase s →
+        symbols_among (system_prefix s) ≡ system_symbols s }
+    ensures names { (s : SystemPhrase) → IsSystemPhrase s →
+        names_among (system_prefix s) ≡ system_names s }
 {}
 
 /// Before the first name that stands in a rule only once, or for the third time, no name stands there three times.
