@@ -77,6 +77,20 @@ module _ (ws : List Symbol) where
             below (suc zero) n le other is = omega (arith, is)
             below (suc (suc m)) n le other is = absurd (other (omega (arith, le)))
 
+    -- and one that stands before it doesn't stand only there
+    pub never_alone : (k : ℕ) → k ≤ most → 0 < uses text (take k ws) → uses text ws ≡ 1 → ⊥
+    never_alone zero le some one = omega (arith, some)
+    never_alone (suc k) le some one =
+        let stands = standing_in ws k (omega arith) in
+        by_test k (omega arith) (get_or ws k (record { text = []; arity = 0 })) stands (bytes_eq (get_or ws k (record { text = []; arity = 0 })).text text) refl
+        (subst (λ n. 0 < uses text (take n ws)) (sym (add-one k)) some) (λ less. never_alone k (omega arith) less one)
+      where
+        by_test : (k : ℕ) → k < most → (w : Symbol) → Standing ws k w → (b : Bool) → bytes_eq w.text text ≡ b → 0 < uses text (take (k + 1) ws) → (0 < uses text (take k ws) → ⊥) → ⊥
+        by_test k less w stands false e some next = next (omega (arith, uses_more text ws k w stands false e, some))
+        by_test k less w stands true e some next =
+            let same : w.text ≡ text = (bytes_eq-Decides w.text text).0 e in
+            (right_use k w stands (right k less) (ap is_name same ∙ named)).0 (ap (λ t. uses t ws) same ∙ one)
+
   module _ (right : (j : ℕ) → j < length ws → is_miscounted ws j ≡ false) where
     -- each name stands there twice
     exactly_twice : (k : ℕ) (w : Symbol) → Standing ws k w → is_name w.text ≡ true → uses w.text ws ≡ 2

@@ -163,10 +163,13 @@ pub fn words_are_those_of_tokens()
         names_among (system_prefix s) ≡ system_names s }
 {}
 
-/// Before the first name that stands in a rule only once, or for the third time, no name stands there three times.
+/// Before the first name that stands in a rule only once, or for the third time, no name stands there three times, and
+/// none is the only one in the rule.
 pub fn names_before_the_first_miscounted_are_innocent()
-    ensures { (i k : ℕ) (w : Written) (is : IsMiscount i w k) (text : List ℕ) →
+    ensures thrice { (i k : ℕ) (w : Written) (is : IsMiscount i w k) (text : List ℕ) →
         IsTrue (is_name text) → uses text (take is.before is.words) ≤ 2 }
+    ensures alone { (i k : ℕ) (w : Written) (is : IsMiscount i w k) (text : List ℕ) →
+        IsTrue (is_name text) → 0 < uses text (take is.before is.words) → uses text is.words ≢ 1 }
 {}
 
 /// The rules before the first one that is refused are not refused for the same.
