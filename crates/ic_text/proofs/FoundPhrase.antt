@@ -8,12 +8,15 @@ use Rattle.ic_text.specs.declared.syntax.Part.TheVariants.{Begin, Interface, Lef
 use Rattle.ic_text.specs.declared.syntax.Spot.{Spot}
 use Rattle.ic_text.specs.declared.syntax.Spot.TheVariants.{First, Due, After}
 use Rattle.ic_text.specs.Token.{Token, word, mark}
-use Rattle.ic_text.specs.Source.{Source, Sides, IsSource, words, sides_words, separated}
-use Rattle.ic_text.specs.inner.Spelled.{SpelledBy}
+use Rattle.ic_text.specs.Source.{Source, Sides, Phrase, IsSource, IsPhrase, words, sides_words, separated, phrase_words}
 use Rattle.ic_text.specs.inner.Syntax.{word_spot, beside, either_step, accepts}
 use Rattle.ic_text.proofs.Accepted.{at}
 use Rattle.ic_text.proofs.Grammar.{behind_commas, AreSides, accepts-phrase_words}
 use Rattle.ic_text.proofs.Found.{TermFound, term_due, rest_is_less}
+
+-- some configuration has these tokens
+abbrev pub SpelledBy : List Token → Type 0
+SpelledBy ts = (p : Phrase) × IsPhrase p × (ts ≡ phrase_words p)
 
 -- where a part may be empty, a word begins a term all the same
 first_is_due : (p : Part) (text : List ℕ) (ts : List Token) → accepts (at p First 0) (word text ∷ ts) ≡ accepts (at p Due 0) (word text ∷ ts)

@@ -10,12 +10,15 @@ use Rattle.ic_text.specs.declared.syntax.Spot.TheVariants.{FirstAgent, DueAgent,
 use Rattle.ic_text.specs.Token.{Token, word, mark}
 use Rattle.ic_text.specs.Source.{IsSource, words, separated}
 use Rattle.ic_text.specs.inner.Syntax.{beside, either_step, accepts}
-use Rattle.ic_text.specs.SystemSource.{AgentPhrase, RulePhrase, IsRulePhrase, agent_source, rule_words, rules_words}
-use Rattle.ic_text.specs.inner.Spelled.{SystemSpelledBy}
+use Rattle.ic_text.specs.SystemSource.{AgentPhrase, RulePhrase, IsRulePhrase, SystemPhrase, IsSystemPhrase, agent_source, rule_words, rules_words, system_words}
 use Rattle.ic_text.proofs.Accepted.{at}
 use Rattle.ic_text.proofs.Found.{IsInner, goes_on, arguments_due, rest_is_less}
 use Rattle.ic_text.proofs.FoundPhrase.{SpelledBy-accepts}
 use Rattle.ic_text.proofs.GrammarSystem.{behind_semicolons, accepts-system_words}
+
+-- some system has these tokens
+abbrev pub SystemSpelledBy : List Token → Type 0
+SystemSpelledBy ts = (s : SystemPhrase) × IsSystemPhrase s × (ts ≡ system_words s)
 
 -- the tokens begin with an agent
 record AgentFound (p : Part) (ts : List Token) : Type 0 where

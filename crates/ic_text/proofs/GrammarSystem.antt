@@ -9,9 +9,14 @@ use Rattle.ic_text.specs.Token.{Token, word, mark}
 use Rattle.ic_text.specs.Source.{Source, leaf, node, Sources, no_sources, more_sources, words, argument_words, further_words, phrase_words}
 use Rattle.ic_text.specs.inner.Syntax.{accepts}
 use Rattle.ic_text.specs.SystemSource.{RulePhrase, SystemPhrase, IsRulePhrase, IsSystemPhrase, agent_source, rule_words, rules_words, system_words}
-use Rattle.ic_text.specs.inner.Braces.{split_at_brace}
 use Rattle.ic_text.proofs.Accepted.{at, TakesAgent, IsClosed, accepts-agent_words}
 use Rattle.ic_text.proofs.Grammar.{accepts-phrase_words}
+
+-- the tokens before the first `}`, and those behind it
+abbrev pub split_at_brace : List Token → List Token × List Token
+split_at_brace [] = ([], [])
+split_at_brace (mark RightBrace ∷ ts) = ([], ts)
+split_at_brace (t ∷ ts) = let rest = split_at_brace ts in (t ∷ rest.0, rest.1)
 
 -- tokens in front of those before the first `}`
 abbrev pub in_front : List Token → List Token × List Token → List Token × List Token

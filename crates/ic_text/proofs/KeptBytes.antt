@@ -40,7 +40,7 @@ module _ (b : ℕ) (m : Mark) where
       by_test true same e = let named : x ≡ m = cc in eqb-true b n same ∙ sym is ∙ ap mark_byte named
       by_test false other e = rest e
 
-  byte_of_mark : mark_of b ≡ Some m → b ≡ mark_byte m
+  pub byte_of_mark : mark_of b ≡ Some m → b ≡ mark_byte m
   byte_of_mark =
       pick 123 LeftBrace _ refl (pick 125 RightBrace _ refl (pick 60 Less _ refl (pick 62 Greater _ refl (pick 124 Bar _ refl
       (pick 61 Equals _ refl (pick 44 Comma _ refl (pick 59 Semicolon _ refl (pick 40 Open _ refl (pick 41 Close None refl (λ e. cc))))))))))

@@ -7,6 +7,8 @@ pub mod GrammarSystem
 pub mod FoundSystem
 pub mod Scanning
 pub mod ScanningRules
+pub mod ScanningText
+pub mod SplitText
 pub mod TableLemmas
 pub mod Numbering
 pub mod BuildLemmas

@@ -8,10 +8,9 @@ use Rattle.ic_text.specs.Token.{Token, word, mark}
 use Rattle.ic_text.specs.Source.{Source, leaf, node, Sources, no_sources, more_sources, Sides, Phrase, IsPhrase, words, argument_words, further_words, sides_words, separated, phrase_words}
 use Rattle.ic_text.specs.inner.Syntax.{accepts}
 use Rattle.ic_text.specs.SystemSource.{AgentPhrase, RulePhrase, SystemPhrase, IsRulePhrase, IsSystemPhrase, agent_source, rule_words, rules_words, system_words}
-use Rattle.ic_text.specs.inner.Braces.{split_at_brace}
 use Rattle.ic_text.proofs.Accepted.{at}
 use Rattle.ic_text.proofs.Grammar.{behind_commas, AreSides}
-use Rattle.ic_text.proofs.GrammarSystem.{behind_semicolons, split-rules_words}
+use Rattle.ic_text.proofs.GrammarSystem.{behind_semicolons, split_at_brace, split-rules_words}
 use Rattle.ic_text.proofs.FoundSystem.{SystemSpelledBy-accepts, accepts-SystemSpelledBy}
 use Rattle.ic_text.proofs.OneReading.{phrase_words-injective}
 use Rattle.ic_text.specs.lemmas.ReadOnce.{IsTold}

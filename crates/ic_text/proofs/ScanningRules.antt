@@ -1,7 +1,7 @@
 -- Scanning the tokens of rules from their end gives their prefix notation.
 use Rattle.std.proofs.Common.{◌≡◌, ℕ, ◌+◌, ◌*◌, List, [], ◌∷◌, ◌++◌, map, length, refl, sym, ap, ◌∙◌, append_assoc, arith}
 use Rattle.ic_term.specs.Symbol.{Symbol}
-use Rattle.ic_text.specs.declared.token.Mark.TheVariants.{Less, Greater, Semicolon}
+use Rattle.ic_text.specs.declared.token.Mark.TheVariants.{LeftBrace, Less, Greater, Semicolon}
 use Rattle.ic_text.specs.Token.{Token, mark}
 use Rattle.ic_text.specs.Source.{words}
 use Rattle.ic_text.specs.SystemSource.{RulePhrase, agent_source, rule_words, rules_words}
@@ -36,8 +36,12 @@ rules_behind (r ∷ rs) =
     ∙ ap (made (rules_prefix (r ∷ rs)) [] 0) (two_more rs r)
 
 -- rules, from their end to their beginning
-pub scan-rules_words : (rs : List RulePhrase) → scan (rules_words rs) ≡ made (rules_prefix rs) [] 0 (2 * length rs)
+scan-rules_words : (rs : List RulePhrase) → scan (rules_words rs) ≡ made (rules_prefix rs) [] 0 (2 * length rs)
 scan-rules_words [] = refl
 scan-rules_words (r ∷ rs) =
     rule_scan r (behind_semicolons (map rule_words rs)) (rules_prefix rs) (2 * length rs) (semicolons_are_closed (map rule_words rs)) (rules_behind rs)
     ∙ ap (made (rules_prefix (r ∷ rs)) [] 0) (two_more rs r)
+
+-- and so behind a `{`
+pub scan-rules_inside : (rs : List RulePhrase) → scan (mark LeftBrace ∷ rules_words rs) ≡ made (rules_prefix rs) [] 0 (2 * length rs)
+scan-rules_inside rs = ap (scan_step (mark LeftBrace)) (scan-rules_words rs)

@@ -1,11 +1,10 @@
 -- A system's sense by the prefix notation of its rules and of its configuration.
-use Rattle.std.proofs.Common.{◌≡◌, ℕ, ◌-◌, ◌*◌, List, [], ◌∷◌, ◌++◌, Option, length, take, drop, append-nil, sym, ap, ◌∙◌, arith}
+use Rattle.std.proofs.Common.{◌≡◌, ℕ, ◌*◌, List, [], ◌∷◌, ◌++◌, Option, Some, length, sym, ap, ◌∙◌, subst}
 use Rattle.std.specs.List.{AllByRecursion}
-use Rattle.std.proofs.lemmas.List.{map-append, length-map, take_at}
+use Rattle.std.proofs.lemmas.List.{map-append, length-map}
 use Rattle.ic_text.specs.declared.prefix.Prefix.{Prefix}
-use Rattle.ic_text.specs.declared.token.Token.{Token as Read}
-use Rattle.ic_text.specs.Token.{Token}
-use Rattle.ic_text.specs.inner.Tokens.{tokens_in}
+use Rattle.ic_text.specs.declared.token.Mark.TheVariants.{LeftBrace}
+use Rattle.ic_text.specs.Token.{mark, tokens}
 use Rattle.ic_text.specs.Source.{phrase_words}
 use Rattle.ic_text.specs.SystemSource.{SystemPhrase, IsSystemPhrase, rules_words, system_words}
 use Rattle.ic_text.specs.SystemSense.{system_sense}
@@ -15,24 +14,19 @@ use Rattle.ic_text.specs.Words.{rules_prefix, phrase_prefix, system_prefix}
 use Rattle.ic_text.specs.declared.excess.Excess.{Excess}
 use Rattle.ic_text.specs.inner.Counted.{IsCounted}
 use Rattle.ic_text.specs.inner.Numbered.{IsWord, counted_words}
-use Rattle.ic_text.proofs.GrammarSystem.{split-rules_words}
+use Rattle.ic_text.proofs.GrammarSystem.{in_front, split-rules_words}
 use Rattle.ic_text.proofs.JoinedPhrase.{joined_phrase, prefix-joined, is-joined}
 use Rattle.ic_text.proofs.PrefixWords.{words-phrase_prefix}
 use Rattle.ic_text.proofs.SensingSystem.{finished_system}
 use Rattle.ic_text.proofs.Fitting.{Kept, system-counted}
-
-take-all : (us : List Read) (n : ℕ) → length us ≡ n → take n us ≡ us
-take-all us n e = ap (take n) (sym (append-nil us)) ∙ take_at us [] n e
-
--- the tokens behind the first one
-pub behind_first : (ts : List Read) (t : Token) (rest : List Token) → tokens_in ts ≡ t ∷ rest → tokens_in (take (length ts - 1) (drop 1 ts)) ≡ rest
-behind_first [] t rest e = cc
-behind_first (u ∷ us) t rest e = ap tokens_in (take-all us (length (u ∷ us) - 1) (omega arith)) ∙ ap (drop 1) e
+use Rattle.ic_text.proofs.SplitText.{Splits, split-text}
 
 -- the tokens of the rules and of the configuration
-pub split-system : (ts : List Read) (s : SystemPhrase) → tokens_in ts ≡ system_words s
-    → ◌≡◌ {A = List Token × List Token} (split_at_brace (tokens_in (take (length ts - 1) (drop 1 ts)))) (rules_words s.rules, phrase_words s.config)
-split-system ts s spelled = ap split_at_brace (behind_first ts _ _ spelled) ∙ split-rules_words s.rules (phrase_words s.config)
+pub split-system : (text : List ℕ) (s : SystemPhrase) → tokens text ≡ Some (system_words s)
+    → (tokens (split_at_brace text).0 ≡ Some (mark LeftBrace ∷ rules_words s.rules)) × (tokens (split_at_brace text).1 ≡ Some (phrase_words s.config))
+split-system text s spelled =
+    let parts = ap (in_front (mark LeftBrace ∷ [])) (split-rules_words s.rules (phrase_words s.config)) in
+    subst (Splits [] (split_at_brace text)) parts (split-text text (system_words s) spelled)
 
 -- the words of the rules and of the configuration of a system
 pub record Known (s : SystemPhrase) (rules config : Prefix) : Type 0 where

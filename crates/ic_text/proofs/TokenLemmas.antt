@@ -1,23 +1,7 @@
 -- One byte of the reader's loop over a text.
-use Rattle.std.proofs.Common.{◌≡◌, ℕ, ◌+◌, ◌-◌, ◌<◌, ◌≤◌, Bool, true, false, cond, List, [], ◌∷◌, ◌++◌, Option, None, Some, length, get_or, take, drop, refl, sym, ap, ◌∙◌, append_assoc, arith, length-drop, get_or-drop}
+use Rattle.std.proofs.Common.{◌≡◌, ℕ, ◌+◌, ◌-◌, ◌<◌, ◌≤◌, true, false, List, [], ◌∷◌, ◌++◌, length, get_or, take, drop, refl, sym, ap, ◌∙◌, append_assoc, arith, length-drop, get_or-drop}
 use Rattle.std.proofs.lemmas.List.{drop_more, take_more}
-use Rattle.ic_text.specs.declared.token.Mark.{Mark}
-use Rattle.ic_text.specs.Token.{Token, is_blank, is_word_byte, mark_of, word_of, before, followed, tokens_at, tokens_behind}
-
--- tokens in front of tokens in front of others
-pub before-before : (xs ys : List Token) (o : Option (List Token)) → before xs (before ys o) ≡ before (xs ++ ys) o
-before-before xs ys None = refl
-before-before xs ys (Some ts) = ap Some (sym (append_assoc xs ys ts))
-
-must_be_blank : (ts run all : List Token) (b : ℕ) (o : Option Mark) (left : Option (List Token)) → o ≡ None
-    → before ts (before run (followed (tokens_at b o) left)) ≡ Some all → tokens_at b o ≡ Some []
-must_be_blank ts run all b (Some m) left isnt_mark e = cc
-must_be_blank ts run all b None left isnt_mark e = by_blank (is_blank b) e
-  where
-    by_blank : (t : Bool) → before ts (before run (followed (cond t (Some []) None) left)) ≡ Some all
-        → ◌≡◌ {A = Option (List Token)} (cond t (Some []) None) (Some [])
-    by_blank true e = refl
-    by_blank false e = cc
+use Rattle.ic_text.specs.Token.{is_word_byte, mark_of, word_of, before, followed, tokens_at, tokens_behind}
 
 module _ (text : List ℕ) (start place b : ℕ) (inside : place < length text) (begins : start ≤ place) (here : b ≡ get_or text place 0) where
   rest_here : drop place text ≡ b ∷ drop (place + 1) text
@@ -54,21 +38,3 @@ module _ (text : List ℕ) (start place b : ℕ) (inside : place < length text) 
       let step : tokens_behind run (b ∷ rest) ≡ before (word_of run) (followed (tokens_at b (mark_of b)) (tokens_behind [] rest)) = rw isnt_word refl in
       ap (tokens_behind run) rest_here ∙ step
       ∙ ap (λ r. before (word_of run) (followed (tokens_at b (mark_of b)) (tokens_behind r rest))) (sym empty_here)
-
-  -- so the tokens so far, those of the run and of the byte, and those of what is left are the whole
-  pub ends_run : (ts ws us : List Token) (all : Option (List Token)) → is_word_byte b ≡ false
-      → ws ≡ ts ++ word_of (take (place - start) (drop start text)) → tokens_at b (mark_of b) ≡ Some us
-      → before ts (tokens_behind (take (place - start) (drop start text)) (drop place text)) ≡ all
-      → before (ws ++ us) (tokens_behind (take (place + 1 - (place + 1)) (drop (place + 1) text)) (drop (place + 1) text)) ≡ all
-  ends_run ts ws us all isnt_word ended at so_far =
-      let run = take (place - start) (drop start text) in
-      let left = tokens_behind (take (place + 1 - (place + 1)) (drop (place + 1) text)) (drop (place + 1) text) in
-      sym (before-before ws us left) ∙ ap (λ w. before w (before us left)) ended ∙ sym (before-before ts (word_of run) (before us left))
-      ∙ ap (λ o. before ts (before (word_of run) (followed o left))) (sym at) ∙ ap (before ts) (sym (ended_run isnt_word)) ∙ so_far
-
-  -- where a text has tokens, a byte that is neither of a word nor a mark is a blank
-  pub no_token_here : (ts all : List Token) → is_word_byte b ≡ false → mark_of b ≡ None
-      → before ts (tokens_behind (take (place - start) (drop start text)) (drop place text)) ≡ Some all
-      → tokens_at b (mark_of b) ≡ Some []
-  no_token_here ts all isnt_word isnt_mark so_far =
-      must_be_blank ts _ all b (mark_of b) _ isnt_mark (ap (before ts) (sym (ended_run isnt_word)) ∙ so_far)

@@ -40,14 +40,14 @@ begun-push (x ∷ bs) b within = by_cases (is_word_byte x) within refl (begun-pu
     by_cases false w e next = next false ∙ ap (λ v. begun_words false bs + cond (is_word_byte b && not (ends_within v bs)) 1 0) (sym e)
 
 -- tokens in front of others, where they are some
-record Opened (ws : List Token) (o p : Option (List Token)) (ts : List Token) : Type 0 where
-  here : List Token
-  later : List Token
-  is_here : o ≡ Some here
-  is_later : p ≡ Some later
-  all : ts ≡ ws ++ (here ++ later)
+pub record Opened (ws : List Token) (o p : Option (List Token)) (ts : List Token) : Type 0 where
+  pub here : List Token
+  pub later : List Token
+  pub is_here : o ≡ Some here
+  pub is_later : p ≡ Some later
+  pub all : ts ≡ ws ++ (here ++ later)
 
-opened : (ws : List Token) (o p : Option (List Token)) (ts : List Token) → before ws (followed o p) ≡ Some ts → Opened ws o p ts
+pub opened : (ws : List Token) (o p : Option (List Token)) (ts : List Token) → before ws (followed o p) ≡ Some ts → Opened ws o p ts
 opened ws None p ts e = absurd (none_is_some ts e)
 opened ws (Some us) None ts e = absurd (none_is_some ts e)
 opened ws (Some us) (Some vs) ts e = record { here = us; later = vs; is_here = refl; is_later = refl; all = sym (some-injective (ws ++ (us ++ vs)) ts e) }

@@ -1,6 +1,5 @@
 -- For private functions: how a text is read, step by step. No public clause needs what stands here.
 pub mod Tokens
-pub mod Spelled
 pub mod Syntax
 pub mod Survey
 pub mod Braces

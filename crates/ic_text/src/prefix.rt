@@ -1,14 +1,15 @@
-//! A configuration in prefix notation, made of its tokens without a step into what they nest.
+//! A configuration in prefix notation, made of its bytes without a step into what they nest.
 
-ghost use Rattle.std.specs.Prelude.{◌≡◌, ◌+◌, ◌*◌, ◌<◌, ◌^◌, IfOk, OnOk, List, length};
+ghost use Rattle.std.specs.Prelude.{◌≡◌, ◌+◌, ◌*◌, ◌<◌, ◌^◌, ◌∷◌, IfOk, OnOk, List, Some, length};
 ghost use Rattle.std.specs.List.{AllByRecursion};
+ghost use Rattle.ic_text.specs.declared.token.Mark.TheVariants.{LeftBrace};
+ghost use Rattle.ic_text.specs.Token.{Token, mark, tokens};
 ghost use Rattle.ic_text.specs.Source.{Phrase, phrase_words};
 ghost use Rattle.ic_text.specs.SystemSource.{RulePhrase, rules_words};
-ghost use Rattle.ic_text.specs.inner.Tokens.{token_of, tokens_in};
-ghost use Rattle.ic_text.specs.inner.Prefix.{nodes_of, scan_step, scanned};
+ghost use Rattle.ic_text.specs.inner.Prefix.{mark_scan, nodes_of, scan, scan_run, scanned};
 ghost use Rattle.ic_text.specs.Words.{phrase_prefix, rules_prefix};
 
-use crate::token::{Mark, Token};
+use crate::token::{Mark, is_word_byte, mark_of};
 use std::alloc::{AllocError, Global};
 
 /// A word, and how many arguments stand behind it.
@@ -46,64 +47,91 @@ pub(crate) struct Scan<'a> {
 }
 
 impl<'a> Scan<'a> {
-    /// Takes the token before those that were scanned.
-    fn take(&mut self, token: &Token<'a>) -> Result<(), AllocError>
-        requires counts { AllByRecursion (λ count. count + 1 < 2 ^ 64) (scanned self.old).counts }
-        requires terms { self.old.terms + 1 < 2 ^ 64 }
-        ensures { OnOk result
-            (scanned self.new ≡ scan_step (token_of token.now) (scanned self.old)) }
+    /// Takes the word that a run of word bytes makes, if it has a byte, before what was scanned.
+    fn take_run(&mut self, run: &'a [u8]) -> Result<(), AllocError>
+        requires { self.old.terms + length run.now < 2 ^ 64 }
+        ensures { OnOk result (scanned self.new ≡ scan_run run.now (scanned self.old)) }
     {
+        if run.is_empty() {
+            return Ok(());
+        }
         let arity = self.arity;
         self.arity = 0;
-        match token {
-            Token::Word(text) => {
-                self.nodes.push(Node { text, arity })?;
-                if self.counts.is_empty() {
-                    self.terms += 1;
-                }
-            }
-            Token::Mark(Mark::Open) => self.arity = self.counts.pop().unwrap_or(0),
-            Token::Mark(Mark::Close) => self.counts.push(1)?,
-            Token::Mark(Mark::Comma) => {
+        self.nodes.push(Node { text: run, arity })?;
+        if self.counts.is_empty() {
+            self.terms += 1;
+        }
+        Ok(())
+    }
+
+    /// Takes the mark before what was scanned.
+    fn take_mark(&mut self, mark: Mark) -> Result<(), AllocError>
+        requires { AllByRecursion (λ count. count + 1 < 2 ^ 64) (scanned self.old).counts }
+        ensures { OnOk result (scanned self.new ≡ mark_scan mark (scanned self.old)) }
+    {
+        self.arity = 0;
+        match mark {
+            Mark::Open => self.arity = self.counts.pop().unwrap_or(0),
+            Mark::Close => self.counts.push(1)?,
+            Mark::Comma => {
                 if let Some(count) = self.counts.pop() {
                     self.counts.push(count + 1)?;
                 }
             }
-            Token::Mark(Mark::Bar) => self.terms = 0,
-            Token::Mark(_) => {}
+            Mark::Bar => self.terms = 0,
+            _ => {}
         }
         Ok(())
     }
 }
 
-/// The words of a configuration with these tokens, and its number of terms, or those of rules, and how many agents are
-/// their sides. Takes one pass. Room is made for so many words at first.
-pub(crate) fn prefix_of<'a>(
-    alloc: Global,
-    tokens: &[Token<'a>],
-    words: usize,
-) -> Result<Prefix<'a>, AllocError>
-    ensures nodes { IfOk result (λ found. (p : Phrase) →
-        tokens_in tokens.now ≡ phrase_words p → nodes_of found.nodes.items ≡ phrase_prefix p) }
-    ensures terms { IfOk result (λ found. (p : Phrase) →
-        tokens_in tokens.now ≡ phrase_words p → found.terms ≡ length p.interface) }
-    ensures rules { IfOk result (λ found. (rs : List RulePhrase) →
-        tokens_in tokens.now ≡ rules_words rs → nodes_of found.nodes.items ≡ rules_prefix rs) }
-    ensures agents { IfOk result (λ found. (rs : List RulePhrase) →
-        tokens_in tokens.now ≡ rules_words rs → found.terms ≡ 2 * length rs) }
+/// What is known of the tokens of a text. Takes one pass over its bytes, from their end. Room is made for so many words at
+/// first.
+fn scan_of(alloc: Global, text: &[u8], words: usize) -> Result<Scan, AllocError>
+    requires { (ts : List Token) × (tokens text.now ≡ Some ts) }
+    ensures { IfOk result
+        (λ found. (ts : List Token) → tokens text.now ≡ Some ts → scanned found ≡ scan ts) }
 {
-    let room = Vec::with_capacity(alloc, words)?;
+    let nodes = Vec::with_capacity(alloc, words)?;
     let mut scan = Scan {
-        nodes: room,
+        nodes,
         counts: Vec::new(alloc),
         arity: 0,
         terms: 0,
     };
-    let mut place = tokens.len();
+    let mut place = text.len();
+    let mut end = place;
     while place > 0 {
         place -= 1;
-        scan.take(&tokens[place])?;
+        let byte = text[place];
+        if !is_word_byte(byte) {
+            scan.take_run(&text[place + 1..end])?;
+            end = place;
+            if let Some(mark) = mark_of(byte) {
+                scan.take_mark(mark)?;
+            }
+        }
     }
+    scan.take_run(&text[..end])?;
+    Ok(scan)
+}
+
+/// The words of a configuration that a text spells, and its number of terms, or those of rules behind a `{`, and how many
+/// agents are their sides. Room is made for so many words at first.
+pub(crate) fn prefix_of(alloc: Global, text: &[u8], words: usize) -> Result<Prefix, AllocError>
+    requires { (ts : List Token) × (tokens text.now ≡ Some ts) }
+    ensures nodes { IfOk result (λ found. (p : Phrase) →
+        tokens text.now ≡ Some (phrase_words p) → nodes_of found.nodes.items ≡ phrase_prefix p) }
+    ensures terms { IfOk result (λ found. (p : Phrase) →
+        tokens text.now ≡ Some (phrase_words p) → found.terms ≡ length p.interface) }
+    ensures rules { IfOk result (λ found. (rs : List RulePhrase) →
+        tokens text.now ≡ Some (mark LeftBrace ∷ rules_words rs) →
+        nodes_of found.nodes.items ≡ rules_prefix rs) }
+    ensures agents { IfOk result (λ found. (rs : List RulePhrase) →
+        tokens text.now ≡ Some (mark LeftBrace ∷ rules_words rs) →
+        found.terms ≡ 2 * length rs) }
+{
+    let scan = scan_of(alloc, text, words)?;
     let Scan {
         mut nodes,
         terms,

@@ -8,10 +8,8 @@ ghost use Rattle.ic_text.specs.inner.Survey.{Tells};
 ghost use Rattle.ic_text.specs.Places.{IsPlaced};
 ghost use Rattle.ic_text.specs.Sense.{sense};
 ghost use Rattle.ic_text.specs.Source.{Phrase, IsPhrase, phrase_words};
-ghost use Rattle.ic_text.specs.inner.Spelled.{SpelledBy};
 ghost use Rattle.ic_text.specs.Text.{Reads, Spells};
 ghost use Rattle.ic_text.specs.Words.{written_phrase};
-ghost use Rattle.ic_text.specs.inner.Tokens.{tokens_in};
 
 use crate::blame::refusal_of;
 use crate::build::config_of;
@@ -23,38 +21,24 @@ use crate::number::number_words;
 use crate::prefix::prefix_of;
 use crate::refusal::Refusal;
 use crate::survey::{Counts, survey_config};
-use crate::token::{Token, tokens_of};
 use ic_term::{Config, Symbols};
 use std::alloc::Global;
 
-/// The sense of tokens that are a configuration, of which so many are words. Every limit is tested before a term is built.
-fn sense_of(alloc: Global, tokens: &[Token], words: usize) -> Result<(Symbols, Config), Refusal>
-    requires { SpelledBy (tokens_in tokens.now) }
-    ensures sense { (p : Phrase) → IsPhrase p → tokens_in tokens.now ≡ phrase_words p →
-        Gives (λ v. v) (bare result) (sense p) }
-    ensures over { IfOk result (λ v. IsTrue (is_over v.0 v.1)) }
-    ensures word { (p : Phrase) → IsPhrase p → tokens_in tokens.now ≡ phrase_words p →
-        IfErr result (IsToldIn (written_phrase p)) }
-{
-    let prefix = prefix_of(alloc, tokens, words)?;
-    let excess = excess_of(&prefix.nodes, 0, 0, prefix.terms);
-    let (symbols, items) = number_words(alloc, &prefix.nodes, excess)?;
-    match config_of(alloc, items, prefix.terms) {
-        Ok(config) => Ok((symbols, config)),
-        Err(fault) => Err(refusal_of(fault, &prefix.nodes, 0)),
-    }
-}
-
-/// The sense of a text that spells a configuration of so many words and tokens.
-fn config_in(alloc: Global, text: &[u8], counts: Counts) -> Result<(Symbols, Config), Refusal>
+/// The sense of a text that spells a configuration of so many words. Every limit is tested before a term is built.
+fn sense_of(alloc: Global, text: &[u8], counts: Counts) -> Result<(Symbols, Config), Refusal>
     requires { Tells IsPhrase phrase_words text.now (Some counts) }
     ensures sense { (p : Phrase) → Spells text.now p → Gives (λ v. v) (bare result) (sense p) }
     ensures over { IfOk result (λ v. IsTrue (is_over v.0 v.1)) }
     ensures word { (p : Phrase) → Spells text.now p →
         IfErr result (IsToldIn (written_phrase p)) }
 {
-    let tokens = tokens_of(alloc, text, counts.tokens)?;
-    sense_of(alloc, &tokens, counts.words)
+    let prefix = prefix_of(alloc, text, counts.words)?;
+    let excess = excess_of(&prefix.nodes, 0, 0, prefix.terms);
+    let (symbols, items) = number_words(alloc, &prefix.nodes, excess)?;
+    match config_of(alloc, items, prefix.terms) {
+        Ok(config) => Ok((symbols, config)),
+        Err(fault) => Err(refusal_of(fault, &prefix.nodes, 0)),
+    }
 }
 
 /// The same, with the place of the refusal in the text.
@@ -67,7 +51,7 @@ fn config_at(alloc: Global, text: &[u8], counts: Counts) -> Result<(Symbols, Con
         (λ misread. IsPlaced IsPhrase phrase_words written_phrase text.now misread.fault
         misread.place misread.detail) }
 {
-    match config_in(alloc, text, counts) {
+    match sense_of(alloc, text, counts) {
         Ok(found) => Ok(found),
         Err(refusal) => Err(refusal.in_text(text)),
     }

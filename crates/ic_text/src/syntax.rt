@@ -4,7 +4,7 @@ ghost use Rattle.std.specs.Prelude.{◌≡◌, ◌+◌, ◌<◌, ◌≤◌, ◌^
 ghost use Rattle.ic_text.specs.inner.Braces.{split_at_brace};
 ghost use Rattle.ic_text.specs.inner.Syntax.{agent_spot, word_spot, term_step, end_step, empty_step, part_step};
 ghost use Rattle.ic_text.specs.inner.Syntax.{step, at_beginning};
-ghost use Rattle.ic_text.specs.inner.Tokens.{token_of, tokens_in};
+ghost use Rattle.ic_text.specs.inner.Tokens.{token_of};
 
 use crate::name::is_name;
 use crate::token::{Mark, Token};
@@ -178,15 +178,14 @@ pub(crate) fn step(state: State, token: &Token) -> Option<State>
     }
 }
 
-/// The tokens before the first `}`, and those behind it.
-pub(crate) fn split_at_brace<'t, 'a>(tokens: &'t [Token<'a>]) -> (&'t [Token<'a>], &'t [Token<'a>])
-    ensures { (tokens_in result.0.now, tokens_in result.1.now)
-        ≡ split_at_brace (tokens_in tokens.now) }
+/// The bytes before the first `}`, and those behind it.
+pub(crate) fn split_at_brace(text: &[u8]) -> (&[u8], &[u8])
+    ensures { (result.0.now, result.1.now) ≡ split_at_brace text.now }
 {
-    for (place, token) in tokens.iter().enumerate() {
-        if let Token::Mark(Mark::RightBrace) = token {
-            return (&tokens[..place], &tokens[place + 1..]);
+    for (place, byte) in text.iter().enumerate() {
+        if *byte == b'}' {
+            return (&text[..place], &text[place + 1..]);
         }
     }
-    (tokens, &[])
+    (text, &[])
 }

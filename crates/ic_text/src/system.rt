@@ -7,10 +7,8 @@ ghost use Rattle.ic_text.specs.inner.Survey.{Tells};
 ghost use Rattle.ic_text.specs.Places.{IsPlaced};
 ghost use Rattle.ic_text.specs.SystemSense.{system_sense};
 ghost use Rattle.ic_text.specs.SystemSource.{SystemPhrase, IsSystemPhrase, system_words};
-ghost use Rattle.ic_text.specs.inner.Spelled.{SystemSpelledBy};
 ghost use Rattle.ic_text.specs.SystemText.{SpellsSystem, ReadsSystem};
 ghost use Rattle.ic_text.specs.Words.{written_system};
-ghost use Rattle.ic_text.specs.inner.Tokens.{tokens_in};
 
 use crate::blame::refusal_of;
 use crate::build::system_of;
@@ -23,23 +21,20 @@ use crate::prefix::prefix_of;
 use crate::refusal::Refusal;
 use crate::survey::{Counts, survey_system};
 use crate::syntax::split_at_brace;
-use crate::token::{Token, tokens_of};
 use ic_rules::System;
 use std::alloc::Global;
 
-/// The sense of tokens that are a system, of which so many are words. Every limit is tested before a term is built.
-fn sense_of(alloc: Global, tokens: &[Token], words: usize) -> Result<System, Refusal>
-    requires { SystemSpelledBy (tokens_in tokens.now) }
-    ensures sense { (s : SystemPhrase) → IsSystemPhrase s →
-        tokens_in tokens.now ≡ system_words s →
+/// The sense of a text that spells a system of so many words. Every limit is tested before a term is built.
+fn sense_of(alloc: Global, text: &[u8], counts: Counts) -> Result<System, Refusal>
+    requires { Tells IsSystemPhrase system_words text.now (Some counts) }
+    ensures sense { (s : SystemPhrase) → SpellsSystem text.now s →
         Gives (λ system. system) (bare result) (system_sense s) }
-    ensures word { (s : SystemPhrase) → IsSystemPhrase s →
-        tokens_in tokens.now ≡ system_words s →
+    ensures word { (s : SystemPhrase) → SpellsSystem text.now s →
         IfErr result (IsToldIn (written_system s)) }
 {
-    let (rules, config) = split_at_brace(&tokens[1..]);
-    let mut rules = prefix_of(alloc, rules, words)?;
-    let mut config = prefix_of(alloc, config, words)?;
+    let (rules, config) = split_at_brace(text);
+    let mut rules = prefix_of(alloc, rules, counts.words)?;
+    let mut config = prefix_of(alloc, config, counts.words)?;
     let before = rules.words();
     rules.nodes.append(&mut config.nodes)?;
     let excess = excess_of(&rules.nodes, before, rules.terms, config.terms);
@@ -48,18 +43,6 @@ fn sense_of(alloc: Global, tokens: &[Token], words: usize) -> Result<System, Ref
         Ok(system) => Ok(system),
         Err(fault) => Err(refusal_of(fault, &rules.nodes, before)),
     }
-}
-
-/// The sense of a text that spells a system of so many words and tokens.
-fn system_in(alloc: Global, text: &[u8], counts: Counts) -> Result<System, Refusal>
-    requires { Tells IsSystemPhrase system_words text.now (Some counts) }
-    ensures sense { (s : SystemPhrase) → SpellsSystem text.now s →
-        Gives (λ system. system) (bare result) (system_sense s) }
-    ensures word { (s : SystemPhrase) → SpellsSystem text.now s →
-        IfErr result (IsToldIn (written_system s)) }
-{
-    let tokens = tokens_of(alloc, text, counts.tokens)?;
-    sense_of(alloc, &tokens, counts.words)
 }
 
 /// The same, with the place of the refusal in the text.
@@ -72,7 +55,7 @@ fn system_at(alloc: Global, text: &[u8], counts: Counts) -> Result<System, Misre
         (λ misread. IsPlaced IsSystemPhrase system_words written_system text.now misread.fault
         misread.place misread.detail) }
 {
-    match system_in(alloc, text, counts) {
+    match sense_of(alloc, text, counts) {
         Ok(found) => Ok(found),
         Err(refusal) => Err(refusal.in_text(text)),
     }

@@ -1,10 +1,7 @@
 //! Tokens of a text: words, and marks that stand by themselves.
 
-ghost use Rattle.std.specs.Prelude.{◌≡◌, ◌++◌, List, Some, IfOk, OnOk};
-ghost use Rattle.ic_text.specs.Token.{Token as Spelled, is_blank, is_word_byte, mark_of, word_of, tokens};
-ghost use Rattle.ic_text.specs.inner.Tokens.{tokens_in};
-
-use std::alloc::{AllocError, Global};
+ghost use Rattle.std.specs.Prelude.{◌≡◌};
+ghost use Rattle.ic_text.specs.Token.{is_blank, is_word_byte, mark_of};
 
 /// A byte that is a token by itself.
 #[derive(Clone, Copy)]
@@ -58,39 +55,4 @@ pub(crate) fn mark_of(byte: u8) -> Option<Mark>
         b')' => Some(Mark::Close),
         _ => None,
     }
-}
-
-/// Appends the word that a run of word bytes makes, if the run has a byte.
-fn push_word<'a>(tokens: &mut Vec<Token<'a>>, run: &'a [u8]) -> Result<(), AllocError>
-    ensures { OnOk result
-        (tokens_in tokens.new.items ≡ tokens_in tokens.old.items ++ word_of run.now) }
-{
-    if !run.is_empty() {
-        tokens.push(Token::Word(run))?;
-    }
-    Ok(())
-}
-
-/// The tokens of a text in order, of which there are so many.
-pub(crate) fn tokens_of<'a>(
-    alloc: Global,
-    text: &'a [u8],
-    count: usize,
-) -> Result<Vec<Token<'a>>, AllocError>
-    requires { (ts : List Spelled) × (tokens text.now ≡ Some ts) }
-    ensures { IfOk result (λ found. Some (tokens_in found.items) ≡ tokens text.now) }
-{
-    let mut tokens = Vec::with_capacity(alloc, count)?;
-    let mut start = 0;
-    for (place, byte) in text.iter().enumerate() {
-        if !is_word_byte(*byte) {
-            push_word(&mut tokens, &text[start..place])?;
-            start = place + 1;
-            if let Some(mark) = mark_of(*byte) {
-                tokens.push(Token::Mark(mark))?;
-            }
-        }
-    }
-    push_word(&mut tokens, &text[start..])?;
-    Ok(tokens)
 }

@@ -1,10 +1,8 @@
 -- For private functions: where the rules of a system end.
-use Rattle.std.specs.Prelude.{List, [], ◌∷◌}
-use Rattle.ic_text.specs.declared.token.Mark.TheVariants.{RightBrace}
-use Rattle.ic_text.specs.Token.{Token, mark}
+use Rattle.std.specs.Prelude.{ℕ, ◌==◌, List, [], ◌∷◌, if◌then◌else◌}
 
--- the tokens before the first `}`, and those behind it
-abbrev pub split_at_brace : List Token → List Token × List Token
+-- the bytes before the first `}`, and those behind it
+abbrev pub split_at_brace : List ℕ → List ℕ × List ℕ
 split_at_brace [] = ([], [])
-split_at_brace (mark RightBrace ∷ ts) = ([], ts)
-split_at_brace (t ∷ ts) = let rest = split_at_brace ts in (t ∷ rest.0, rest.1)
+split_at_brace (b ∷ bs) =
+    if b == 125 then ([], bs) else let rest = split_at_brace bs in (b ∷ rest.0, rest.1)

@@ -56,6 +56,11 @@ scan_step (word text) s = record {
 }
 scan_step (mark m) s = mark_scan m s
 
+-- the word that a run of word bytes makes, if it has a byte
+abbrev pub scan_run : List ℕ → Scanned → Scanned
+scan_run [] s = s
+scan_run (b ∷ bs) s = scan_step (word (b ∷ bs)) s
+
 abbrev pub scan : List Token → Scanned
 scan [] = record { nodes = []; counts = []; arity = 0; terms = 0 }
 scan (t ∷ ts) = scan_step t (scan ts)

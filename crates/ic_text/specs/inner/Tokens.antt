@@ -1,5 +1,4 @@
 -- For private functions: what the reader's tokens are, words of which lie in the text.
-use Rattle.std.specs.Prelude.{List, map}
 use Rattle.ic_text.specs.declared.token.Token.{Token as Read}
 use Rattle.ic_text.specs.declared.token.Token.TheVariants.{Word, Mark as Sign}
 use Rattle.ic_text.specs.Token.{Token, word, mark}
@@ -8,7 +7,3 @@ use Rattle.ic_text.specs.Token.{Token, word, mark}
 abbrev pub token_of : Read → Token
 token_of (Word bytes) = word bytes.now
 token_of (Sign m) = mark m
-
--- tokens without where they lie in memory
-abbrev pub tokens_in : List Read → List Token
-tokens_in ts = map token_of ts

@@ -1,11 +1,12 @@
-use Rattle.std.proofs.Common.{◌≡◌, ℕ, true, List, Option, Result, Ok, refl, sym, ap, ◌∙◌, subst}
+use Rattle.std.proofs.Common.{◌≡◌, ℕ, true, List, ◌∷◌, Option, Some, Result, Ok, refl, sym, ap, ◌∙◌, subst}
 use Rattle.std.proofs.lemmas.Result.{err_from_is_err_and}
 use Rattle.ic_term.specs.Symbol.{Symbol}
 use Rattle.ic_text.specs.declared.excess.Excess.{Excess}
 use Rattle.ic_text.specs.declared.fault.TextFault.{TextFault}
 use Rattle.ic_text.specs.declared.number.Item.{Item}
-use Rattle.ic_text.specs.Token.{Token}
-use Rattle.ic_text.specs.inner.Tokens.{tokens_in}
+use Rattle.ic_text.specs.declared.token.Mark.TheVariants.{LeftBrace}
+use Rattle.ic_text.specs.Token.{mark, tokens}
+use Rattle.ic_text.specs.inner.Braces.{split_at_brace}
 use Rattle.ic_text.specs.Source.{phrase_words}
 use Rattle.ic_text.specs.SystemSource.{SystemPhrase, IsSystemPhrase, rules_words, system_words}
 use Rattle.ic_text.specs.SystemSense.{is_system_in_limits, system_sense}
@@ -24,24 +25,38 @@ use Rattle.ic_text.proofs.Stopping.{told_in}
 use Rattle.ic_text.proofs.system.sense_of.Goals as goal
 use Rattle.ic_text.proofs.system.sense_of.Goals.{After-words-before, After-deref-2}
 
--- the tokens were split, so their words are known
-known_here : (c : After-words-before) (s : SystemPhrase) → tokens_in c.args.tokens.now ≡ system_words s → Known s c.in_ok-rules.rules c.in_ok-config.config
+-- the text was split
+parts_here : (text : List ℕ) (front rest : List ℕ) (s : SystemPhrase) → ◌≡◌ {A = List ℕ × List ℕ} (front, rest) (split_at_brace text) → tokens text ≡ Some (system_words s)
+    → (tokens front ≡ Some (mark LeftBrace ∷ rules_words s.rules)) × (tokens rest ≡ Some (phrase_words s.config))
+parts_here text front rest s split spelled =
+    let found = split-system text s spelled in
+    (ap (λ (p : List ℕ × List ℕ). tokens p.0) split ∙ found.0, ap (λ (p : List ℕ × List ℕ). tokens p.1) split ∙ found.1)
+
+-- so its words are known
+known_here : (c : After-words-before) (s : SystemPhrase) → tokens c.args.text.now ≡ Some (system_words s) → Known s c.in_ok-rules.rules c.in_ok-config.config
 known_here c s spelled =
-    let parts : ◌≡◌ {A = List Token × List Token} (tokens_in c.split_at_brace.result.0.now, tokens_in c.split_at_brace.result.1.now) (rules_words s.rules, phrase_words s.config) =
-    c.split_at_brace.ensures ∙ split-system c.args.tokens.now s spelled in
-    let rules = ap (λ (p : List Token × List Token). p.0) parts in
-    let config = ap (λ (p : List Token × List Token). p.1) parts in
+    let parts = parts_here c.args.text.now _ _ s c.split_at_brace.ensures spelled in
     record {
-      rules_are = c.in_ok-rules.ensures.rules s.rules rules;
-      agents_are = c.in_ok-rules.ensures.agents s.rules rules;
-      config_are = c.in_ok-config.ensures.nodes s.config config;
-      terms_are = c.in_ok-config.ensures.terms s.config config;
+      rules_are = c.in_ok-rules.ensures.rules s.rules parts.0;
+      agents_are = c.in_ok-rules.ensures.agents s.rules parts.0;
+      config_are = c.in_ok-config.ensures.nodes s.config parts.1;
+      terms_are = c.in_ok-config.ensures.terms s.config parts.1;
     }
+
+pub prefix_of-requires : goal.prefix_of-requires
+prefix_of-requires c =
+    let s = c.requires.0 in
+    (mark LeftBrace ∷ rules_words s.rules, (parts_here c.args.text.now _ _ s c.split_at_brace.ensures c.requires.1.tokens).0)
+
+pub prefix_of-requires-2 : goal.prefix_of-requires-2
+prefix_of-requires-2 c =
+    let s = c.requires.0 in
+    (phrase_words s.config, (parts_here c.args.text.now _ _ s c.split_at_brace.ensures c.requires.1.tokens).1)
 
 pub excess_of-excess-requires : goal.excess_of-excess-requires
 excess_of-excess-requires c =
     let s = c.requires.0 in
-    let known = known_here (goal.at.excess_of-excess-requires c).After-words-before s c.requires.2 in
+    let known = known_here (goal.at.excess_of-excess-requires c).After-words-before s c.requires.1.tokens in
     let counts = counted s c.in_ok-rules.rules c.in_ok-config.config known in (
       s,
       record {
@@ -69,13 +84,13 @@ words_here c s known = ap nodes_of (c.deref-2.ensures.value ∙ c.in_ok-append.e
 pub number_words-requires-clause-words : goal.number_words-requires-clause-words
 number_words-requires-clause-words c =
     let s = c.requires.0 in
-    let known = known_here (goal.at.number_words-requires-clause-words c).After-words-before s c.requires.2 in
-    rw (c.deref-2.ensures.value, c.in_ok-append.ensures.items) (words_are s c.in_ok-rules.rules c.in_ok-config.config known c.requires.1)
+    let known = known_here (goal.at.number_words-requires-clause-words c).After-words-before s c.requires.1.tokens in
+    rw (c.deref-2.ensures.value, c.in_ok-append.ensures.items) (words_are s c.in_ok-rules.rules c.in_ok-config.config known c.requires.1.phrase)
 
 pub number_words-requires-clause-inside : goal.number_words-requires-clause-inside
 number_words-requires-clause-inside c =
     let s = c.requires.0 in
-    let known = known_here (goal.at.number_words-requires-clause-inside c).After-words-before s c.requires.2 in
+    let known = known_here (goal.at.number_words-requires-clause-inside c).After-words-before s c.requires.1.tokens in
     let here = (goal.at.number_words-requires-clause-inside c).After-deref-2 in
     one_of_words s c.deref-2.result.now c.excess_of-excess.result (kept_here here s known) (words_here here s known)
 
@@ -87,16 +102,16 @@ sense_here c s is known =
     ∙ ap (λ ns. finished_system c.in_ok-rules.rules.terms c.in_ok-config.config.terms (counted_words c.excess_of-excess.result (nodes_of ns))) (sym (c.deref-2.ensures.value ∙ c.in_ok-append.ensures.items))
 
 pub returns-in_err-symbols-clause-sense : goal.returns-in_err-symbols-clause-sense
-returns-in_err-symbols-clause-sense c = λ s is spelled.
+returns-in_err-symbols-clause-sense c = λ s spells.
     let e = err_from_is_err_and c.from_residual-in_err-symbols.result c.from_residual-in_err-symbols.ensures.1 in
-    let known = known_here (goal.at.returns-in_err-symbols-clause-sense c).After-words-before s spelled in
-    rw (e.1, e.2, sense_here (goal.at.returns-in_err-symbols-clause-sense c).After-deref-2 s is known)
+    let known = known_here (goal.at.returns-in_err-symbols-clause-sense c).After-words-before s spells.tokens in
+    rw (e.1, e.2, sense_here (goal.at.returns-in_err-symbols-clause-sense c).After-deref-2 s spells.phrase known)
     (Refuses-through (finished_system c.in_ok-rules.rules.terms c.in_ok-config.config.terms) (λ _. refl) _ _ c.in_err-symbols.ensures.numbers)
 
 pub returns-in_err-symbols-clause-word : goal.returns-in_err-symbols-clause-word
-returns-in_err-symbols-clause-word c = λ s is spelled.
+returns-in_err-symbols-clause-word c = λ s spells.
     let e = err_from_is_err_and c.from_residual-in_err-symbols.result c.from_residual-in_err-symbols.ensures.1 in
-    let known = known_here (goal.at.returns-in_err-symbols-clause-word c).After-words-before s spelled in
+    let known = known_here (goal.at.returns-in_err-symbols-clause-word c).After-words-before s spells.tokens in
     let here = (goal.at.returns-in_err-symbols-clause-word c).After-deref-2 in
     let same = words_here here s known ∙ sym (written-system s) in
     rw (e.1, e.2)
@@ -124,38 +139,38 @@ faulty_here s is agents terms o words v f sense_is number same low refused =
 pub refusal_of-requires : goal.refusal_of-requires
 refusal_of-requires c =
     let s = c.requires.0 in
-    let known = known_here (goal.at.refusal_of-requires c).After-words-before s c.requires.2 in
-    let sense_is = sense_here (goal.at.refusal_of-requires c).After-deref-2 s c.requires.1 known in
+    let known = known_here (goal.at.refusal_of-requires c).After-words-before s c.requires.1.tokens in
+    let sense_is = sense_here (goal.at.refusal_of-requires c).After-deref-2 s c.requires.1.phrase known in
     let same = words_here (goal.at.refusal_of-requires c).After-deref-2 s known in
-    let low = limits_here (goal.at.refusal_of-requires c).After-deref-2 s c.requires.1 known _ c.in_ok-symbols.ensures.numbers in (
+    let low = limits_here (goal.at.refusal_of-requires c).After-deref-2 s c.requires.1.phrase known _ c.in_ok-symbols.ensures.numbers in (
       s,
       record {
         words = ap nodes_of (c.deref-in-Err.ensures.value ∙ c.in_ok-append.ensures.items) ∙ system_words_are s c.in_ok-rules.rules c.in_ok-config.config known;
         before = c.words-before.ensures ∙ rules_before s c.in_ok-rules.rules c.in_ok-config.config known;
-        has = faulty_here s c.requires.1 c.in_ok-rules.rules.terms c.in_ok-config.config.terms c.excess_of-excess.result (nodes_of c.deref-2.result.now) (c.in_ok-symbols.symbols, c.in_ok-symbols.items.items) c.in-Err.fault sense_is c.in_ok-symbols.ensures.numbers same low c.in-Err.ensures;
+        has = faulty_here s c.requires.1.phrase c.in_ok-rules.rules.terms c.in_ok-config.config.terms c.excess_of-excess.result (nodes_of c.deref-2.result.now) (c.in_ok-symbols.symbols, c.in_ok-symbols.items.items) c.in-Err.fault sense_is c.in_ok-symbols.ensures.numbers same low c.in-Err.ensures;
       },
     )
 
 pub returns-clause-sense : goal.returns-clause-sense
-returns-clause-sense c = λ s is spelled.
-    let known = known_here (goal.at.returns-clause-sense c).After-words-before s spelled in
-    let sense_is = sense_here (goal.at.returns-clause-sense c).After-deref-2 s is known in
+returns-clause-sense c = λ s spells.
+    let known = known_here (goal.at.returns-clause-sense c).After-words-before s spells.tokens in
+    let sense_is = sense_here (goal.at.returns-clause-sense c).After-deref-2 s spells.phrase known in
     rw c.refusal_of.ensures.fault (refused_here s c.in_ok-rules.rules.terms c.in_ok-config.config.terms (counted_words c.excess_of-excess.result (nodes_of c.deref-2.result.now)) (c.in_ok-symbols.symbols, c.in_ok-symbols.items.items) c.in-Err.fault sense_is c.in_ok-symbols.ensures.numbers c.in-Err.ensures)
 
 pub returns-clause-word : goal.returns-clause-word
-returns-clause-word c = λ s is spelled.
-    let known = known_here (goal.at.returns-clause-word c).After-words-before s spelled in
-    let sense_is = sense_here (goal.at.returns-clause-word c).After-deref-2 s is known in
+returns-clause-word c = λ s spells.
+    let known = known_here (goal.at.returns-clause-word c).After-words-before s spells.tokens in
+    let sense_is = sense_here (goal.at.returns-clause-word c).After-deref-2 s spells.phrase known in
     let same = words_here (goal.at.returns-clause-word c).After-deref-2 s known in
-    let low = limits_here (goal.at.returns-clause-word c).After-deref-2 s is known _ c.in_ok-symbols.ensures.numbers in
+    let low = limits_here (goal.at.returns-clause-word c).After-deref-2 s spells.phrase known _ c.in_ok-symbols.ensures.numbers in
     c.refusal_of.ensures.word s (record {
       words = ap nodes_of (c.deref-in-Err.ensures.value ∙ c.in_ok-append.ensures.items) ∙ system_words_are s c.in_ok-rules.rules c.in_ok-config.config known;
       before = c.words-before.ensures ∙ rules_before s c.in_ok-rules.rules c.in_ok-config.config known;
-      has = faulty_here s is c.in_ok-rules.rules.terms c.in_ok-config.config.terms c.excess_of-excess.result (nodes_of c.deref-2.result.now) (c.in_ok-symbols.symbols, c.in_ok-symbols.items.items) c.in-Err.fault sense_is c.in_ok-symbols.ensures.numbers same low c.in-Err.ensures;
+      has = faulty_here s spells.phrase c.in_ok-rules.rules.terms c.in_ok-config.config.terms c.excess_of-excess.result (nodes_of c.deref-2.result.now) (c.in_ok-symbols.symbols, c.in_ok-symbols.items.items) c.in-Err.fault sense_is c.in_ok-symbols.ensures.numbers same low c.in-Err.ensures;
     })
 
 pub returns-in-Ok-clause-sense : goal.returns-in-Ok-clause-sense
-returns-in-Ok-clause-sense c = λ s is spelled.
-    let known = known_here (goal.at.returns-in-Ok-clause-sense c).After-words-before s spelled in
+returns-in-Ok-clause-sense c = λ s spells.
+    let known = known_here (goal.at.returns-in-Ok-clause-sense c).After-words-before s spells.tokens in
     let number : Ok (c.in_ok-symbols.symbols, c.in_ok-symbols.items.items) ≡ counted_words c.excess_of-excess.result (nodes_of c.deref-2.result.now) = c.in_ok-symbols.ensures.numbers in
-    rw (sense_here (goal.at.returns-in-Ok-clause-sense c).After-deref-2 s is known ∙ ap (finished_system c.in_ok-rules.rules.terms c.in_ok-config.config.terms) (sym number)) c.in-Ok.ensures
+    rw (sense_here (goal.at.returns-in-Ok-clause-sense c).After-deref-2 s spells.phrase known ∙ ap (finished_system c.in_ok-rules.rules.terms c.in_ok-config.config.terms) (sym number)) c.in-Ok.ensures

@@ -1,0 +1,161 @@
+-- A text is scanned from its end, byte by byte.
+use Rattle.std.proofs.Common.{◌≡◌, ℕ, suc, ◌+◌, ◌-◌, ◌<◌, ◌≤◌, ◌^◌, Bool, true, false, cond, List, [], ◌∷◌, ◌++◌, Option, None, Some, length, take, drop, get_or, refl, sym, ap, ◌∙◌, subst, append_assoc, append-nil, arith, length-append, length-drop}
+use Rattle.std.specs.List.{AllByRecursion}
+use Rattle.std.proofs.Math.Seq.{drop-length}
+use Rattle.std.proofs.lemmas.List.{drop_more, length-take, take-append-drop}
+use Rattle.ic_text.specs.declared.token.Mark.{Mark}
+use Rattle.ic_text.specs.Token.{Token, mark, is_blank, is_word_byte, mark_of, word_of, before, followed, tokens_at, tokens_behind, tokens}
+use Rattle.ic_text.specs.inner.Prefix.{Scanned, mark_scan, scan, scan_run}
+use Rattle.ic_text.specs.lemmas.ReadOnce.{some-injective}
+use Rattle.ic_text.specs.lemmas.WordRuns.{tokens-parted}
+use Rattle.ic_text.proofs.Scanning.{counts_room, scan_fits}
+
+-- Of a text the tokens from `end` on are scanned, and from `place` to `end` stand bytes of one word, the last ones of a
+-- longest run.
+pub record IsScanned (text : List ℕ) (place end : ℕ) (s : Scanned) : Type 0 where
+  pub ts : List Token
+  pub is : s ≡ scan ts
+  pub few : length ts + end ≤ length text
+  pub ordered : place ≤ end
+  pub run : (front : List ℕ) → tokens_behind front (drop place text) ≡ Some (word_of (front ++ take (end - place) (drop place text)) ++ ts)
+
+empty_run : (text : List ℕ) (place : ℕ) → take (place - place) (drop place text) ≡ []
+empty_run text place = let none : place - place ≡ 0 = omega arith in ap (λ n. take n (drop place text)) none
+
+no_more_run : (text front : List ℕ) (place : ℕ) → word_of front ≡ word_of (front ++ take (place - place) (drop place text))
+no_more_run text front place = ap word_of (sym (append-nil front) ∙ ap (λ l. front ++ l) (sym (empty_run text place)))
+
+-- nothing is scanned at the end
+pub nothing_scanned : (text : List ℕ) (s : Scanned) → s ≡ scan [] → IsScanned text (length text) (length text) s
+nothing_scanned text s is = record {
+  ts = [];
+  is = is;
+  few = omega arith;
+  ordered = omega arith;
+  run = λ front.
+      ap (tokens_behind front) (drop-length text) ∙ ap Some (sym (append-nil (word_of front)) ∙ ap (λ l. l ++ []) (no_more_run text front (length text)));
+}
+
+-- a run in front of tokens is scanned as its word
+pub scan-run : (run : List ℕ) (ts : List Token) → scan_run run (scan ts) ≡ scan (word_of run ++ ts)
+scan-run [] ts = refl
+scan-run (b ∷ bs) ts = refl
+
+length-word_of : (run : List ℕ) → length (word_of run) ≤ length run
+length-word_of [] = omega arith
+length-word_of (b ∷ bs) = omega arith
+
+-- no count is above the number of bytes behind
+module _ (text : List ℕ) (place end : ℕ) (s : Scanned) (so_far : IsScanned text place end s) (run : List ℕ) (is_run : run ≡ take (end - place) (drop place text)) where
+  length-run : length run ≤ end - place
+  length-run = omega (arith, ap length is_run, length-take (end - place) (drop place text))
+
+  pub terms_room : length text < 2 ^ 64 → s.terms + length run < 2 ^ 64
+  terms_room fits = omega (arith, ap (λ (x : Scanned). x.terms) so_far.is, (scan_fits so_far.ts).1, so_far.few, length-run, so_far.ordered, fits)
+
+  pub behind_run : (r : Scanned) → r ≡ scan_run run s → r ≡ scan (word_of run ++ so_far.ts)
+  behind_run r is = is ∙ ap (scan_run run) so_far.is ∙ scan-run run so_far.ts
+
+  length-behind : length (word_of run ++ so_far.ts) + place ≤ length text
+  length-behind = omega (arith, length-append (word_of run) so_far.ts, length-word_of run, length-run, so_far.few, so_far.ordered)
+
+  pub counts_room_behind : (r : Scanned) → r ≡ scan_run run s → length text < 2 ^ 64 → 0 < place → AllByRecursion (λ c. c + 1 < 2 ^ 64) r.counts
+  counts_room_behind r is fits some =
+      let ts = word_of run ++ so_far.ts in
+      rw (behind_run r is) (counts_room (length ts) (scan ts).counts (scan_fits ts).0 (omega (arith, length-behind, fits, some)))
+
+-- the byte before a place
+pub one_back : (text : List ℕ) (place end : ℕ) (s : Scanned) → 0 < place → IsScanned text place end s → IsScanned text (place - 1 + 1) end s
+one_back text place end s some so_far =
+    let same : place ≡ place - 1 + 1 = omega (arith, some) in
+    subst (λ n. IsScanned text n end s) same so_far
+
+-- the byte before the run
+module _ (text : List ℕ) (place end : ℕ) (s : Scanned) (inside : place < length text) (so_far : IsScanned text (place + 1) end s) where
+  abbrev here : ℕ
+  here = get_or text place 0
+
+  abbrev behind : List ℕ
+  behind = drop (place + 1) text
+
+  rest_here : drop place text ≡ here ∷ behind
+  rest_here = drop_more text place 0 inside
+
+  -- it is one of the run
+  pub byte_of_run : is_word_byte here ≡ true → IsScanned text place end s
+  byte_of_run is_word = record {
+    ts = so_far.ts;
+    is = so_far.is;
+    few = so_far.few;
+    ordered = omega (arith, so_far.ordered);
+    run = λ front.
+        let run = take (end - (place + 1)) behind in
+        let more : end - place ≡ suc (end - (place + 1)) = omega (arith, so_far.ordered) in
+        let longer : take (end - place) (drop place text) ≡ here ∷ run = ap (take (end - place)) rest_here ∙ ap (λ n. take n (here ∷ behind)) more in
+        let step : tokens_behind front (here ∷ behind) ≡ tokens_behind (front ++ here ∷ []) behind = rw is_word refl in
+        ap (tokens_behind front) rest_here ∙ step ∙ so_far.run (front ++ here ∷ [])
+        ∙ ap (λ l. Some (word_of l ++ so_far.ts)) (append_assoc front (here ∷ []) run ∙ ap (λ l. front ++ l) (sym longer));
+  }
+
+  -- it ends the run, and has these tokens
+  module _ (apart : is_word_byte here ≡ false) (us : List Token) (at : tokens_at here (mark_of here) ≡ Some us) (one : length us ≤ 1) where
+    abbrev word_run : List Token
+    word_run = word_of (take (end - (place + 1)) behind)
+
+    step : (front : List ℕ) → tokens_behind front (here ∷ behind) ≡ before (word_of front) (followed (tokens_at here (mark_of here)) (tokens_behind [] behind))
+    step front = rw apart refl
+
+    pub run_ended : (r : Scanned) → r ≡ scan (us ++ (word_run ++ so_far.ts)) → IsScanned text place place r
+    run_ended r is = record {
+      ts = us ++ (word_run ++ so_far.ts);
+      is = is;
+      few = omega (arith, length-append us (word_run ++ so_far.ts), one, length-behind text (place + 1) end s so_far (take (end - (place + 1)) behind) refl);
+      ordered = omega arith;
+      run = λ front.
+          ap (tokens_behind front) rest_here ∙ step front
+          ∙ (λ i. before (word_of front) (followed (at i) (so_far.run [] i)))
+          ∙ ap (λ l. Some (l ++ (us ++ (word_run ++ so_far.ts)))) (no_more_run text front place);
+    }
+
+-- where a text has tokens, so has each byte of it that is of no word
+followed_some : (a b c : Option (List Token)) (all : List Token) → followed a (followed b c) ≡ Some all → (us : List Token) × (b ≡ Some us)
+followed_some None b c all e = cc
+followed_some (Some ts) None c all e = cc
+followed_some (Some ts) (Some us) c all e = (us, refl)
+
+pub tokens_here : (text : List ℕ) (place : ℕ) (all : List Token) → place < length text → is_word_byte (get_or text place 0) ≡ false → tokens text ≡ Some all
+    → (us : List Token) × (tokens_at (get_or text place 0) (mark_of (get_or text place 0)) ≡ Some us)
+tokens_here text place all inside apart is =
+    let b = get_or text place 0 in
+    let parts : text ≡ take place text ++ b ∷ drop (place + 1) text = sym (take-append-drop place text) ∙ ap (λ l. take place text ++ l) (drop_more text place 0 inside) in
+    followed_some (tokens (take place text)) (tokens_at b (mark_of b)) (tokens (drop (place + 1) text)) all
+    (sym (tokens-parted (take place text) (drop (place + 1) text) b apart) ∙ ap tokens (sym parts) ∙ is)
+
+blank_tokens : (b : ℕ) (o : Option Mark) (us : List Token) → o ≡ None → tokens_at b o ≡ Some us → tokens_at b o ≡ Some []
+blank_tokens b (Some m) us none e = cc
+blank_tokens b None us none e = by_blank (is_blank b) e
+  where
+    by_blank : (t : Bool) → ◌≡◌ {A = Option (List Token)} (cond t (Some []) None) (Some us) → ◌≡◌ {A = Option (List Token)} (cond t (Some []) None) (Some [])
+    by_blank true e = refl
+    by_blank false e = cc
+
+-- a blank has none
+pub no_tokens_here : (text : List ℕ) (place : ℕ) (all : List Token) → place < length text → is_word_byte (get_or text place 0) ≡ false → tokens text ≡ Some all
+    → mark_of (get_or text place 0) ≡ None → tokens_at (get_or text place 0) (mark_of (get_or text place 0)) ≡ Some []
+no_tokens_here text place all inside apart is none =
+    let found = tokens_here text place all inside apart is in
+    blank_tokens (get_or text place 0) (mark_of (get_or text place 0)) found.0 none found.1
+
+-- so all is scanned where the run goes to the beginning
+pub whole_run : (text : List ℕ) (place end : ℕ) → place ≡ 0 → take end text ≡ take (end - place) (drop place text)
+whole_run text place end none =
+    let all : end ≡ end - 0 = omega arith in
+    ap (λ n. take n text) all ∙ ap (λ p. take (end - p) (drop p text)) (sym none)
+
+pub all_scanned : (text : List ℕ) (place end : ℕ) (s r : Scanned) (so_far : IsScanned text place end s) → place ≡ 0 → r ≡ scan_run (take end text) s
+    → (ts : List Token) → tokens text ≡ Some ts → r ≡ scan ts
+all_scanned text place end s r so_far none is ts spelled =
+    let run = whole_run text place end none in
+    let whole : tokens text ≡ tokens_behind [] (drop place text) = ap (λ n. tokens_behind [] (drop n text)) (sym none) in
+    let same = some-injective _ _ (sym (so_far.run []) ∙ sym whole ∙ spelled) in
+    behind_run text place end s so_far (take end text) run r is ∙ ap (λ l. scan (word_of l ++ so_far.ts)) run ∙ ap scan same
