@@ -31,6 +31,7 @@ use Rattle.ic_text.specs.inner.Numbered.{IsWord, item_found, table_with, table_o
 use Rattle.ic_text.specs.inner.Prefix.{node_of, nodes_of}
 use Rattle.ic_text.specs.inner.Refused.{IsRefusedIn, IsWordLimit, Takes, Stops, are_within, limit_of}
 use Rattle.ic_text.proofs.Numbering.{Outcome, kept, limited, clashed, outcome, with_word, go, go_on, go-numbered_words, and_right, not_le}
+use Rattle.ic_text.proofs.Keeping.{kept_before}
 use Rattle.ic_text.proofs.PrefixWords.{symbols_among-append, names_among-append, limits-words, table-words, arities-words}
 use Rattle.ic_text.proofs.TableLemmas.{slice_get-append, number_of_text-append, number_of_text-lt}
 
@@ -313,6 +314,7 @@ module _ (ws : List Symbol) (k : ℕ) (w : Symbol) (old : Numbering) (so_far : S
       guilty = ap are_within stands.front ∙ limit_without the_front w front_within (found_here _ e);
     };
     passed = ap (keeps (limit_of w)) stands.front ∙ passes the_front w front_within (found_here _ e);
+    before = λ b less. ap (keeps b) stands.front ∙ kept_before the_front w front_within b less;
   }
 
   module _ (new : Numbering) where

@@ -1,5 +1,5 @@
 -- The word with which too many are written: of the rules, of the configuration, and of both.
-use Rattle.std.proofs.Common.{◌≡◌, ℕ, ◌+◌, ◌-◌, ◌*◌, ◌<◌, ◌≤◌, ◌⊎◌, inl, inr, Bool, true, false, ◌&&◌, ◌||◌, cond, List, [], Option, None, Some, length, take, refl, ap, ◌∙◌, arith, length-append}
+use Rattle.std.proofs.Common.{◌≡◌, ℕ, ◌+◌, ◌-◌, ◌*◌, ◌<◌, ◌≤◌, ◌⊎◌, inl, inr, Bool, true, false, ◌&&◌, ◌||◌, cond, List, [], Option, None, Some, length, take, refl, ap, ◌∙◌, subst, arith, length-append}
 use Rattle.std.specs.Prelude.{nat_le, nat_lt}
 use Rattle.std.proofs.lemmas.Bool.{and_from, ltb-true, ltb-false}
 use Rattle.std.proofs.lemmas.List.{length-take, length-take-le}
@@ -10,7 +10,7 @@ use Rattle.ic_text.specs.declared.excess.Excess.{Excess}
 use Rattle.ic_text.specs.declared.misread.Limit.{Limit as Bound}
 use Rattle.ic_text.specs.declared.misread.Limit.TheVariants.{TextBytes, SymbolBytes, Arguments, NameNumber, Symbols, Rules, RuleNodes, Interface, Nodes}
 use Rattle.ic_text.specs.Words.{Written, all_words, in_a_row}
-use Rattle.ic_text.specs.WordFaults.{IsFirstWord, config_keeps, count_words, counts_keep, rules_keep}
+use Rattle.ic_text.specs.WordFaults.{IsFirstWord, config_keeps, count_words, counts_keep, rank, rules_keep}
 use Rattle.ic_text.specs.inner.Counted.{IsExcess, IsExcessTest, IsFirstExcess, earlier}
 use Rattle.ic_text.proofs.Counting.{all-few, count-both, le_test, gt_test}
 
@@ -19,7 +19,7 @@ abbrev pub OneOf : (Bound → List Symbol → Bool) → Bound → Bound → Boun
 OneOf keep a b c = (c ≡ a) ⊎ ((c ≡ b) ⊎ ((ws : List Symbol) → keep c ws ≡ true))
 
 -- of two limits the one that is passed first
-module _ (keep : Bound → List Symbol → Bool) (a b : Bound) (others : (c : Bound) → OneOf keep a b c) (ws : List Symbol) where
+module _ (keep : Bound → List Symbol → Bool) (a b : Bound) (others : (c : Bound) → OneOf keep a b c) (ordered : rank a < rank b) (ws : List Symbol) where
   both_kept : (j : ℕ) → keep a (take j ws) ≡ true → keep b (take j ws) ≡ true → (c : Bound) → keep c (take j ws) ≡ true
   both_kept j is_a is_b c = elim (others c) [
     | inl e ↦ ap (λ x. keep x (take j ws)) e ∙ is_a
@@ -29,9 +29,29 @@ module _ (keep : Bound → List Symbol → Bool) (a b : Bound) (others : (c : Bo
     ]
   ]
 
+  -- the limits before the one that is told
+  before_first : (c : Bound) → rank c < rank a → (j : ℕ) → keep c (take j ws) ≡ true
+  before_first c less j = elim (others c) [
+    | inl e ↦ absurd (omega (arith, less, ap rank e))
+    | inr o ↦ elim o [
+      | inl e ↦ absurd (omega (arith, less, ordered, ap rank e))
+      | inr kept ↦ kept (take j ws)
+    ]
+  ]
+
+  before_second : (c : Bound) → rank c < rank b → (j : ℕ) → keep a (take j ws) ≡ true → keep c (take j ws) ≡ true
+  before_second c less j is_a = elim (others c) [
+    | inl e ↦ ap (λ x. keep x (take j ws)) e ∙ is_a
+    | inr o ↦ elim o [
+      | inl e ↦ absurd (omega (arith, less, ap rank e))
+      | inr kept ↦ kept (take j ws)
+    ]
+  ]
+
   this_one : (x : Bound) (e : Excess) → IsFirstWord (keep x) ws e.word → e.limit ≡ x → ((j : ℕ) → j ≤ e.word → (c : Bound) → keep c (take j ws) ≡ true)
-      → IsExcess (λ c j. keep c (take j ws)) (length ws) e
-  this_one x e first is kept = record {
+      → ((c : Bound) → rank c < rank x → keep c (take (e.word + 1) ws) ≡ true) → IsExcess (λ c j. keep c (take j ws)) (length ws) e
+  this_one x e first is kept before = record {
+    first = λ c less. before c (subst (λ y. rank c < rank y) is less);
     inside = first.inside;
     kept = kept;
     passed = ap (λ y. keep y (take (e.word + 1) ws)) is ∙ first.guilty;
@@ -41,15 +61,15 @@ module _ (keep : Bound → List Symbol → Bool) (a b : Bound) (others : (c : Bo
       → IsFirstExcess (λ c j. keep c (take j ws)) (length ws) (cond r (Some f) (Some e))
   by_order e f true less first_e is_e first_f is_f =
       let low = ltb-true f.word e.word less in
-      this_one b f first_f is_f (λ j le. both_kept j (first_e.innocent j (omega (arith, le, low))) (first_f.innocent j le))
+      this_one b f first_f is_f (λ j le. both_kept j (first_e.innocent j (omega (arith, le, low))) (first_f.innocent j le)) (λ c lower. before_second c lower (f.word + 1) (first_e.innocent (f.word + 1) (omega (arith, low))))
   by_order e f false less first_e is_e first_f is_f =
       let low = ltb-false f.word e.word less in
-      this_one a e first_e is_e (λ j le. both_kept j (first_e.innocent j le) (first_f.innocent j (omega (arith, le, low))))
+      this_one a e first_e is_e (λ j le. both_kept j (first_e.innocent j le) (first_f.innocent j (omega (arith, le, low)))) (λ c lower. before_first c lower (e.word + 1))
 
   pub earlier-first : (o p : Option Excess) → IsExcessTest (keep a) a ws o → IsExcessTest (keep b) b ws p → IsFirstExcess (λ c j. keep c (take j ws)) (length ws) (earlier o p)
   earlier-first None None is_o is_p = λ j c. both_kept j (is_o j) (is_p j) c
-  earlier-first None (Some f) is_o is_p = this_one b f is_p.0 is_p.1 (λ j le. both_kept j (is_o j) (is_p.0.innocent j le))
-  earlier-first (Some e) None is_o is_p = this_one a e is_o.0 is_o.1 (λ j le. both_kept j (is_o.0.innocent j le) (is_p j))
+  earlier-first None (Some f) is_o is_p = this_one b f is_p.0 is_p.1 (λ j le. both_kept j (is_o j) (is_p.0.innocent j le)) (λ c lower. before_second c lower (f.word + 1) (is_o (f.word + 1)))
+  earlier-first (Some e) None is_o is_p = this_one a e is_o.0 is_o.1 (λ j le. both_kept j (is_o.0.innocent j le) (is_p j)) (λ c lower. before_first c lower (e.word + 1))
   earlier-first (Some e) (Some f) is_o is_p = by_order e f (nat_lt f.word e.word) refl is_o.0 is_o.1 is_p.0 is_p.1
 
 pub rules_others : (c : Bound) → OneOf rules_keep Rules RuleNodes c
@@ -148,6 +168,9 @@ module _ (w : Written) where
         let none : j - length the_rules ≡ 0 = omega (arith, le, is.inside) in
         and_from (rules_keep b (take j the_rules)) _ (is.kept j le b) (ap (λ n. config_keeps w.terms b (take n w.config)) none ∙ nothing_kept w.terms b);
     passed = ap (λ x. x && config_keeps w.terms e.limit (take (e.word + 1 - length the_rules) w.config)) is.passed;
+    first = λ b less.
+        let none : e.word + 1 - length the_rules ≡ 0 = omega (arith, is.inside) in
+        and_from (rules_keep b (take (e.word + 1) the_rules)) _ (is.first b less) (ap (λ n. config_keeps w.terms b (take n w.config)) none ∙ nothing_kept w.terms b);
   }
 
   module _ (rules_kept : (j : ℕ) (b : Bound) → rules_keep b (take j the_rules) ≡ true) where
@@ -162,6 +185,9 @@ module _ (w : Written) where
               (λ i. rules_keep f.limit (take (f.word + 1) the_rules) && config_keeps w.terms (same i) (take (behind i) w.config))
               ∙ ap (λ x. rules_keep f.limit (take (f.word + 1) the_rules) && x) is.passed
               ∙ and_false (rules_keep f.limit (take (f.word + 1) the_rules));
+          first = λ b less.
+              and_from (rules_keep b (take (f.word + 1) the_rules)) _ (rules_kept (f.word + 1) b)
+              (ap (λ n. config_keeps w.terms b (take n w.config)) behind ∙ is.first b (subst (λ y. rank b < rank y) same less));
         }
 
     pub no_excess : ((j : ℕ) (b : Bound) → config_keeps w.terms b (take j w.config) ≡ true) → IsFirstExcess (λ b j. counts_keep b w j) (length (all_words w)) None

@@ -52,11 +52,11 @@ module _ (s : SystemPhrase) where
       let ws = rules_prefix s.rules in
       let us = phrase_prefix s.config in
       let rules : IsFirstExcess (λ b j. rules_keep b (take j ws)) (length ws) None =
-      earlier-first rules_keep Rules RuleNodes rules_others ws None None
+      earlier-first rules_keep Rules RuleNodes rules_others (omega arith) ws None None
       (rules_fit ws (2 * length s.rules) (sym (count-rules s.rules)) (omega (arith, leb-true (length s.rules) MAX_RULES r.0)))
       (within_fit ws (2 * length s.rules) (length ws) (sym (count-rules s.rules)) refl (omega (arith, length-rules_prefix s.rules, leb-true (sum_by rule_nodes s.rules) MAX_RULE_NODES r.1))) in
       let config : IsFirstExcess (λ b j. config_keeps (length s.config.interface) b (take j us)) (length us) None =
-      earlier-first (config_keeps (length s.config.interface)) Interface Nodes (config_others (length s.config.interface)) us None None
+      earlier-first (config_keeps (length s.config.interface)) Interface Nodes (config_others (length s.config.interface)) (omega arith) us None None
       (interface_fits (length s.config.interface) us (leb-true (length s.config.interface) MAX_INTERFACE k.1))
       (nodes_fit (length s.config.interface) us (omega (arith, length-phrase_prefix s.config, leb-true (phrase_nodes s.config) MAX_NODES k.0))) in
       no_excess (written_system s) (λ j b. ap (λ vs. rules_keep b (take j vs)) rules_row ∙ rules j b) config

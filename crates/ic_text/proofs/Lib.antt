@@ -53,3 +53,4 @@ pub mod OnePlace
 pub mod Ending
 pub mod Heads
 pub mod PassedLimits
+pub mod Keeping

@@ -10,10 +10,10 @@ use Rattle.ic_text.specs.declared.fault.TextFault.TheVariants.{Syntax, Limit, Ar
 use Rattle.ic_text.specs.declared.misread.Detail.{Detail}
 use Rattle.ic_text.specs.declared.misread.Detail.TheVariants.{Nothing, Passed, Arities}
 use Rattle.ic_text.specs.declared.misread.Limit.{Limit as Bound}
-use Rattle.ic_text.specs.declared.misread.Limit.TheVariants.{TextBytes}
+use Rattle.ic_text.specs.declared.misread.Limit.TheVariants.{TextBytes, SymbolBytes, Arguments, NameNumber, Symbols, Rules, RuleNodes, Interface, Nodes}
 use Rattle.ic_text.specs.Token.{Token, is_word_byte}
 use Rattle.ic_text.specs.Words.{Written, all_words}
-use Rattle.ic_text.specs.WordFaults.{IsFaultWord, IsLimitWord, IsMiscount, IsThirdWord, agree, at_most_twice, is_miscounted}
+use Rattle.ic_text.specs.WordFaults.{IsFaultWord, IsLimitWord, IsMiscount, IsThirdWord, agree, at_most_twice, is_miscounted, keeps_so_far, rank}
 use Rattle.ic_text.specs.Places.{IsPlaced, IsPlacedWord, IsWordPlace, is_between}
 use Rattle.ic_text.specs.lemmas.ReadOnce.{IsTold, one_phrase}
 use Rattle.ic_text.proofs.FirstWords.{one_first}
@@ -30,6 +30,38 @@ limit_before a b w j k is_j is_k less = false≢true (sym is_j.passed ∙ is_k.i
 
 pub one_limit : (a b : Bound) (w : Written) (j k : ℕ) → IsLimitWord a w j → IsLimitWord b w k → j ≡ k
 one_limit a b w j k is_j is_k = neither_less j k (limit_before a b w j k is_j is_k) (limit_before b a w k j is_k is_j)
+
+-- and it is one limit that is told
+abbrev limit_of_rank : ℕ → Bound
+limit_of_rank n =
+    cond (eqb n 0) TextBytes
+    (cond (eqb n 1) Rules
+    (cond (eqb n 2) RuleNodes
+    (cond (eqb n 3) Interface
+    (cond (eqb n 4) Nodes
+    (cond (eqb n 5) SymbolBytes
+    (cond (eqb n 6) Arguments
+    (cond (eqb n 7) NameNumber Symbols)))))))
+
+of_its_rank : (a : Bound) → limit_of_rank (rank a) ≡ a
+of_its_rank TextBytes = refl
+of_its_rank Rules = refl
+of_its_rank RuleNodes = refl
+of_its_rank Interface = refl
+of_its_rank Nodes = refl
+of_its_rank SymbolBytes = refl
+of_its_rank Arguments = refl
+of_its_rank NameNumber = refl
+of_its_rank Symbols = refl
+
+rank_before : (a b : Bound) (w : Written) (j k : ℕ) → IsLimitWord a w j → IsLimitWord b w k → rank a < rank b → ⊥
+rank_before a b w j k is_j is_k less =
+    let same = one_limit a b w j k is_j is_k in
+    false≢true (sym is_j.passed ∙ ap (λ n. keeps_so_far a w (n + 1)) same ∙ is_k.first a less)
+
+pub one_bound : (a b : Bound) (w : Written) (j k : ℕ) → IsLimitWord a w j → IsLimitWord b w k → a ≡ b
+one_bound a b w j k is_j is_k =
+    sym (of_its_rank a) ∙ ap limit_of_rank (neither_less (rank a) (rank b) (rank_before a b w j k is_j is_k) (rank_before b a w k j is_k is_j)) ∙ of_its_rank b
 
 one_third : (n : ℕ) (w : Written) (j k : ℕ) → IsThirdWord n w j → IsThirdWord n w k → j ≡ k
 one_third n w j k is_j is_k = omega (arith, is_j.place, is_k.place, one_first (at_most_twice n) w.config is_j.before is_k.before is_j.first is_k.first)

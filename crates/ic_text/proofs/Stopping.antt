@@ -2,7 +2,7 @@
 use Rattle.std.proofs.Common.{◌≡◌, ℕ, ◌+◌, ◌<◌, ◌≤◌, inl, inr, Bool, true, false, ◌&&◌, cond, eqb, List, [], ◌∷◌, Option, None, Some, Result, Err, length, take, get_or, refl, sym, ap, ◌∙◌, subst, arith}
 use Rattle.std.specs.Prelude.{IfSome, nat_le}
 use Rattle.std.specs.List.{list_all}
-use Rattle.std.proofs.lemmas.Bool.{and_parts, and_from}
+use Rattle.std.proofs.lemmas.Bool.{false≢true, and_parts, and_from}
 use Rattle.std.proofs.lemmas.Bool.Decides.{nat_tests}
 use Rattle.ic_term.specs.Symbol.{Symbol, fits_limits}
 use Rattle.ic_term.specs.declared.limits.TheConstants.{MAX_SYMBOLS, MAX_SYMBOL_TEXT, MAX_ARITY}
@@ -19,10 +19,11 @@ use Rattle.ic_text.specs.declared.number.Item.{Item}
 use Rattle.ic_text.specs.declared.prefix.Node.{Node}
 use Rattle.ic_text.specs.declared.refusal.Refusal.{Refusal}
 use Rattle.ic_text.specs.Words.{Written, all_words, names_among, symbols_among}
-use Rattle.ic_text.specs.WordFaults.{IsLimitWord, counts_keep, keeps, word_table}
+use Rattle.ic_text.specs.WordFaults.{IsLimitWord, counts_keep, keeps, rank}
 use Rattle.ic_text.specs.inner.Counted.{IsExcess, IsFirstExcess, limit_at}
 use Rattle.ic_text.specs.inner.Numbered.{Refuses, counted_words, numbered_words}
 use Rattle.ic_text.specs.inner.Prefix.{node_of, nodes_of}
+use Rattle.ic_text.proofs.Keeping.{keeps_each}
 use Rattle.ic_text.specs.inner.Refused.{IsBefore, IsExcessAt, IsStoppedIn, IsToldIn, IsToldWord, IsWordIn, IsWordLimit, Stops, are_within}
 
 equal : (n m : ℕ) → eqb n m ≡ true → n ≡ m
@@ -90,36 +91,32 @@ pub none_behind : (o : Option Excess) (size k : ℕ) → size ≤ k → IfSome o
 none_behind None size k end inside before = refl
 none_behind (Some x) size k end inside before = absurd (omega (arith, end, inside, before))
 
--- words within all limits keep each
-all_of : (p q : Symbol → Bool) → ((s : Symbol) → p s ≡ true → q s ≡ true) → (ws : List Symbol) → list_all p ws ≡ true → list_all q ws ≡ true
-all_of p q each [] all = refl
-all_of p q each (w ∷ ws) all =
-    let parts = and_parts (p w) (list_all p ws) all in
-    and_from (q w) _ (each w parts.0) (all_of p q each ws parts.1)
-
-module _ (ws : List Symbol) (within : are_within ws ≡ true) where
-  limits : (list_all (λ (s : Symbol). fits_limits s.text s.arity) (symbols_among ws) && list_all (λ n. nat_le n MAX_NAME) (names_among ws)) ≡ true
-  limits = (and_parts _ (nat_le (length (word_table ws)) MAX_SYMBOLS) within).0
-
-  symbols : list_all (λ (s : Symbol). fits_limits s.text s.arity) (symbols_among ws) ≡ true
-  symbols = (and_parts _ (list_all (λ n. nat_le n MAX_NAME) (names_among ws)) limits).0
-
-  pub keeps_each : (b : Bound) → keeps b ws ≡ true
-  keeps_each SymbolBytes =
-      all_of (λ s. fits_limits s.text s.arity) (λ s. nat_le (length s.text) MAX_SYMBOL_TEXT) (λ s is. (and_parts (nat_le (length s.text) MAX_SYMBOL_TEXT) (nat_le s.arity MAX_ARITY) is).0) (symbols_among ws) symbols
-  keeps_each Arguments =
-      all_of (λ s. fits_limits s.text s.arity) (λ s. nat_le s.arity MAX_ARITY) (λ s is. (and_parts (nat_le (length s.text) MAX_SYMBOL_TEXT) (nat_le s.arity MAX_ARITY) is).1) (symbols_among ws) symbols
-  keeps_each NameNumber = (and_parts (list_all (λ (s : Symbol). fits_limits s.text s.arity) (symbols_among ws)) (list_all (λ n. nat_le n MAX_NAME) (names_among ws)) limits).1
-  keeps_each Symbols = (and_parts (list_all (λ (s : Symbol). fits_limits s.text s.arity) (symbols_among ws) && list_all (λ n. nat_le n MAX_NAME) (names_among ws)) (nat_le (length (word_table ws)) MAX_SYMBOLS) within).1
-  keeps_each TextBytes = refl
-  keeps_each Rules = refl
-  keeps_each RuleNodes = refl
-  keeps_each Interface = refl
-  keeps_each Nodes = refl
-
 and_false : (x : Bool) → (x && false) ≡ false
 and_false true = refl
 and_false false = refl
+
+-- the limits of counts come before those of words
+no_word_limit : (b : Bound) (ws : List Symbol) → rank b < 5 → keeps b ws ≡ true
+no_word_limit TextBytes ws less = refl
+no_word_limit Rules ws less = refl
+no_word_limit RuleNodes ws less = refl
+no_word_limit Interface ws less = refl
+no_word_limit Nodes ws less = refl
+no_word_limit SymbolBytes ws less = absurd (omega (arith, less))
+no_word_limit Arguments ws less = absurd (omega (arith, less))
+no_word_limit NameNumber ws less = absurd (omega (arith, less))
+no_word_limit Symbols ws less = absurd (omega (arith, less))
+
+of_counts : (w : Written) (j : ℕ) (b : Bound) → counts_keep b w j ≡ false → rank b ≤ 4
+of_counts w j TextBytes e = omega arith
+of_counts w j Rules e = omega arith
+of_counts w j RuleNodes e = omega arith
+of_counts w j Interface e = omega arith
+of_counts w j Nodes e = omega arith
+of_counts w j SymbolBytes e = absurd (false≢true (sym e))
+of_counts w j Arguments e = absurd (false≢true (sym e))
+of_counts w j NameNumber e = absurd (false≢true (sym e))
+of_counts w j Symbols e = absurd (false≢true (sym e))
 
 -- a refusal of words is one of what is written
 module _ (w : Written) where
@@ -130,11 +127,16 @@ module _ (w : Written) where
   counts_kept None first k before j le b = first j b
   counts_kept (Some x) first k before j le b = first.kept j (omega (arith, le, before)) b
 
+  counts_on : (o : Option Excess) → Counts o → (k : ℕ) → IsBefore o (Some k) → (b : Bound) → counts_keep b w (k + 1) ≡ true
+  counts_on None first k before b = first (k + 1) b
+  counts_on (Some x) first k before b = first.kept (k + 1) (omega (arith, before)) b
+
   word_limit : (o : Option Excess) → Counts o → (bound : Bound) (k : ℕ) → IsWordLimit bound (all_words w) k → IsBefore o (Some k) → IsLimitWord bound w k
   word_limit o first bound k is before = record {
     inside = is.first.inside;
     innocent = λ j le b. and_from (keeps b (take j (all_words w))) _ (keeps_each (take j (all_words w)) (is.first.innocent j le) b) (counts_kept o first k before j le b);
     passed = ap (λ x. x && counts_keep bound w (k + 1)) is.passed;
+    first = λ b less. and_from (keeps b (take (k + 1) (all_words w))) _ (is.before b less) (counts_on o first k before b);
   }
 
   count_limit : (x : Excess) → IsExcess (λ b j. counts_keep b w j) (length (all_words w)) x → ((j : ℕ) → j ≤ x.word → are_within (take j (all_words w)) ≡ true) → IsLimitWord x.limit w x.word
@@ -142,6 +144,8 @@ module _ (w : Written) where
     inside = is.inside;
     innocent = λ j le b. and_from (keeps b (take j (all_words w))) _ (keeps_each (take j (all_words w)) (within j le) b) (is.kept j le b);
     passed = ap (λ y. keeps x.limit (take (x.word + 1) (all_words w)) && y) is.passed ∙ and_false (keeps x.limit (take (x.word + 1) (all_words w)));
+    first = λ b less.
+        and_from (keeps b (take (x.word + 1) (all_words w))) _ (no_word_limit b (take (x.word + 1) (all_words w)) (omega (arith, less, of_counts w (x.word + 1) x.limit is.passed))) (is.first b less);
   }
 
   told_word : (o : Option Excess) → Counts o → (f : TextFault) (k : Option ℕ) (d : Detail) → IsWordIn (all_words w) f k d → IsBefore o k → IsToldWord w f k d

@@ -11,7 +11,7 @@ use Rattle.ic_text.specs.declared.fault.TextFault.TheVariants.{Limit, Arity, Nam
 use Rattle.ic_text.specs.declared.misread.Detail.{Detail}
 use Rattle.ic_text.specs.declared.misread.Detail.TheVariants.{Nothing, Passed, Arities}
 use Rattle.ic_text.specs.declared.misread.Limit.{Limit as Bound}
-use Rattle.ic_text.specs.declared.misread.Limit.TheVariants.{SymbolBytes, Arguments, NameNumber, Symbols, Rules, RuleNodes, Interface, Nodes}
+use Rattle.ic_text.specs.declared.misread.Limit.TheVariants.{TextBytes, SymbolBytes, Arguments, NameNumber, Symbols, Rules, RuleNodes, Interface, Nodes}
 use Rattle.ic_text.specs.Name.{is_name, name_text}
 use Rattle.ic_text.specs.Sense.{symbols_after, has_its_arity}
 use Rattle.ic_text.specs.Words.{Written, all_words, in_a_row, symbols_among, names_among}
@@ -84,12 +84,25 @@ pub record IsFirstWord (is_innocent : List Symbol → Bool) (ws : List Symbol) (
   pub innocent : (j : ℕ) → j ≤ k → IsTrue (is_innocent (take j ws))
   pub guilty : is_innocent (take (k + 1) ws) ≡ false
 
--- The first word with which a limit is passed, and the limit: so many words stand before it, and as
--- far as these every limit is kept.
+-- the order in which limits are told where one word passes several (this project's choice)
+abbrev pub rank : Bound → ℕ
+rank TextBytes = 0
+rank Rules = 1
+rank RuleNodes = 2
+rank Interface = 3
+rank Nodes = 4
+rank SymbolBytes = 5
+rank Arguments = 6
+rank NameNumber = 7
+rank Symbols = 8
+
+-- The first word with which a limit is passed, and the first limit that it passes: so many words stand
+-- before it, and as far as these every limit is kept.
 pub record IsLimitWord (bound : Bound) (w : Written) (k : ℕ) : Type 0 where
   pub inside : k < length (all_words w)
   pub innocent : (j : ℕ) → j ≤ k → (b : Bound) → IsTrue (keeps_so_far b w j)
   pub passed : keeps_so_far bound w (k + 1) ≡ false
+  pub first : (b : Bound) → rank b < rank bound → IsTrue (keeps_so_far b w (k + 1))
 
 -- the first word that is a symbol with another arity than before: those of its first use, and of this
 pub record IsSecondUse (before here : ℕ) (ws : List Symbol) (k : ℕ) : Type 0 where

@@ -22,7 +22,7 @@ ghost use Rattle.ic_text.specs.Text.{Spells, Reads, phrase_of, printed, text_of,
 ghost use Rattle.ic_text.specs.FaultNumber.{all_faults, fault_number};
 ghost use Rattle.ic_text.specs.Places.{GoesOn, IsPlaced, IsSyntaxPlace};
 ghost use Rattle.ic_text.specs.Sense.{symbols_after};
-ghost use Rattle.ic_text.specs.WordFaults.{IsFirstWord, IsLimitWord, IsMiscount, keeps_so_far, uses};
+ghost use Rattle.ic_text.specs.WordFaults.{IsFirstWord, IsLimitWord, IsMiscount, keeps_so_far, rank, uses};
 ghost use Rattle.ic_text.specs.Words.{Written, all_words, names_among, phrase_prefix, prefix, rules_prefix, symbols_among, system_prefix, written_phrase, written_system};
 ghost use Rattle.ic_text.specs.Token.{Token, word, mark, is_blank, is_word_byte, mark_byte, mark_of, tokens_at, followed, tokens, words_among};
 ghost use Rattle.ic_text.specs.declared.token.Mark.{Mark};
@@ -100,12 +100,21 @@ pub fn the_text_before_a_refusal_wants_more()
         length (take at text) ≤ MAX_TEXT }
 {}
 
-/// What is written passes limits first with one word; as far as any word before it, it keeps them all.
+/// What is written passes limits first with one word, of which one limit is told; as far as any word before it, it keeps
+/// them all. Where the word passes several, that of rules, of their nodes, of the interface or of nodes is told, else that
+/// of a symbol's bytes, of its arguments, of a name's number or of symbols.
 pub fn words_before_a_passed_limit_are_innocent()
     ensures one { (a b : Bound) (w : Written) (j k : ℕ) →
         IsLimitWord a w j → IsLimitWord b w k → j ≡ k }
+    ensures told { (a b : Bound) (w : Written) (j k : ℕ) →
+        IsLimitWord a w j → IsLimitWord b w k → a ≡ b }
     ensures kept { (a b : Bound) (w : Written) (j k : ℕ) →
         IsLimitWord a w k → j ≤ k → IsTrue (keeps_so_far b w j) }
+    ensures order { map rank (Rules ∷ RuleNodes ∷ Interface ∷ Nodes
+        ∷ SymbolBytes ∷ Arguments ∷ NameNumber ∷ Symbols ∷ [])
+        ≡ 1 ∷ 2 ∷ 3 ∷ 4 ∷ 5 ∷ 6 ∷ 7 ∷ 8 ∷ [] }
+    ensures first { (a b : Bound) (w : Written) (k : ℕ) → IsLimitWord a w k → rank b < rank a →
+        IsTrue (keeps_so_far b w (k + 1)) }
 {}
 
 /// A limit that is told is one that is passed, and its word the first one too many. That of rules is the first word of

@@ -5,7 +5,7 @@ use Rattle.ic_text.specs.declared.misread.Limit.{Limit}
 use Rattle.ic_text.specs.declared.excess.Excess.{Excess}
 use Rattle.ic_text.specs.SystemSource.{SystemPhrase}
 use Rattle.ic_text.specs.Words.{rules_prefix, system_prefix}
-use Rattle.ic_text.specs.WordFaults.{IsFirstWord, due_behind}
+use Rattle.ic_text.specs.WordFaults.{IsFirstWord, due_behind, rank}
 
 -- which of two words comes first, if there is one
 abbrev pub earlier : Option Excess → Option Excess → Option Excess
@@ -34,6 +34,7 @@ pub record IsExcess (keep : Limit → ℕ → Bool) (size : ℕ) (excess : Exces
   pub inside : excess.word < size
   pub kept : (j : ℕ) → j ≤ excess.word → (b : Limit) → keep b j ≡ true
   pub passed : keep excess.limit (excess.word + 1) ≡ false
+  pub first : (b : Limit) → rank b < rank excess.limit → keep b (excess.word + 1) ≡ true
 
 -- the same, if there is one
 abbrev pub IsFirstExcess : (Limit → ℕ → Bool) → ℕ → Option Excess → Type 0

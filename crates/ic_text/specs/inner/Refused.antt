@@ -25,7 +25,7 @@ use Rattle.ic_text.specs.Places.{IsWordPlace}
 use Rattle.ic_text.specs.Token.{Token, tokens, words_among}
 use Rattle.ic_text.specs.SystemSource.{RulePhrase, SystemPhrase}
 use Rattle.ic_text.specs.Words.{Written, names_among, phrase_prefix, rule_prefix, rules_prefix, symbols_among, system_prefix}
-use Rattle.ic_text.specs.WordFaults.{IsFaultWord, IsFirstWord, IsSecondUse, is_miscounted, keeps, uses, word_table}
+use Rattle.ic_text.specs.WordFaults.{IsFaultWord, IsFirstWord, IsSecondUse, is_miscounted, keeps, rank, uses, word_table}
 
 -- a text has a word behind so many others
 abbrev pub HasWord : List ℕ → ℕ → Type 0
@@ -44,10 +44,11 @@ are_within ws =
     && list_all (λ n. nat_le n MAX_NAME) (names_among ws)
     && nat_le (length (word_table ws)) MAX_SYMBOLS
 
--- the first word with which a limit of words is passed, and the limit
+-- the first word with which a limit of words is passed, and the first limit that it passes
 pub record IsWordLimit (bound : Limit) (ws : List Symbol) (k : ℕ) : Type 0 where
   pub first : IsFirstWord are_within ws k
   pub passed : keeps bound (take (k + 1) ws) ≡ false
+  pub before : (b : Limit) → rank b < rank bound → keeps b (take (k + 1) ws) ≡ true
 
 -- the word of a refusal by limits of words, arities or memory, where one is told
 abbrev pub IsWordIn : List Symbol → TextFault → Option ℕ → Detail → Type 0

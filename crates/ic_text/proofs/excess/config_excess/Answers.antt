@@ -1,3 +1,4 @@
+use Rattle.std.proofs.Common.{arith}
 use Rattle.ic_text.specs.declared.misread.Limit.TheVariants.{Interface, Nodes}
 use Rattle.ic_text.specs.WordFaults.{config_keeps}
 use Rattle.ic_text.specs.inner.Prefix.{nodes_of}
@@ -7,4 +8,4 @@ use Rattle.ic_text.proofs.excess.config_excess.Goals as goal
 pub returns : goal.returns
 returns c =
     rw c.earlier.ensures
-    (earlier-first (config_keeps c.args.terms) Interface Nodes (config_others c.args.terms) (nodes_of c.args.nodes.now) _ _ c.too_many_terms.ensures (c.too_many_nodes.ensures c.args.terms))
+    (earlier-first (config_keeps c.args.terms) Interface Nodes (config_others c.args.terms) (omega arith) (nodes_of c.args.nodes.now) _ _ c.too_many_terms.ensures (c.too_many_nodes.ensures c.args.terms))
