@@ -94,12 +94,11 @@ TellsOf IsOne words written kind text fault lines =
     × (lines ≡ told_lines kind text fault place detail)
 
 -- What a fault of a stream appends to what is told: of a text that is refused the lines of its
--- place, and else nothing. Where memory was wanted nothing is said.
+-- place, and else nothing, so that nothing half told is left where memory was wanted.
 abbrev pub AppendedAt : {P : Type 0} → (P → Type 0) → (P → List Token) → (P → Written) → Kind
     → List ℕ → StreamFault → (before after : List ℕ) → Type 0
 AppendedAt IsOne words written kind text (Text fault) before after =
     (lines : List ℕ) × TellsOf IsOne words written kind text fault lines × (after ≡ before ++ lines)
-AppendedAt IsOne words written kind text Memory before after = Unit {0}
 AppendedAt IsOne words written kind text fault before after = after ≡ before
 
 -- the same of the text that was taken from a reader, where one was taken

@@ -18,7 +18,7 @@ use ic_flat_round::{FlatRules, round};
 use ic_round::{RoundFault, settle};
 use ic_streams::{StreamFault, config_line, read_text, write_line};
 use ic_term::Config;
-use ic_text::{Misread, find_config, find_system};
+use ic_text::{Misread, TextFault, find_config, find_system};
 use std::alloc::Global;
 use std::io::{Read, Write};
 
@@ -74,7 +74,7 @@ pub fn once_telling<R: Read, W: Write>(
     write_line(writer, &line)
 }
 
-/// The fault of a stream whose text is refused, of which `told` gets the lines.
+/// The fault of a stream whose text is refused, of which `told` gets the lines. Where memory is wanted it gets nothing.
 pub fn refused(
     alloc: Global,
     kind: Kind,
@@ -87,7 +87,11 @@ pub fn refused(
     ensures told { result ≢ StreamFault.Memory → told.new.items
         ≡ told.old.items
         ++ told_lines kind text.now misread.fault misread.place misread.detail }
+    ensures unsaid { result ≡ StreamFault.Memory → told.new.items ≡ told.old.items }
 {
+    if misread.fault == TextFault::Memory {
+        return StreamFault::Memory;
+    }
     match told_lines(alloc, kind, text, misread) {
         Ok(lines) => match told.extend_from_slice(&lines) {
             Ok(()) => StreamFault::from(misread.fault),
