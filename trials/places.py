@@ -223,7 +223,7 @@ def told(text, kind):
         return b""
     _, at, sentence = fault
     line, column = text[:at].count(b"\n") + 1, text[:at].split(b"\n")[-1]
-    behind = re.split(rb"[\r\n]", text[at:])[0]
+    behind = re.split(rb"\r?\n", text[at:])[0]
     before = shown(column) if len(column) <= 60 else b"..." + shown(column[-57:])
     behind = shown(behind) if len(behind) <= 20 else shown(behind[:17]) + b"..."
     characters = sum(not 128 <= it < 192 for it in column)

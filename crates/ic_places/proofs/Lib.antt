@@ -1,2 +1,4 @@
 pub mod LastLine
 pub mod LineLaws
+pub mod ColumnLaws
+pub mod ShownLaws

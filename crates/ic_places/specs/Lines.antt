@@ -1,7 +1,7 @@
 -- To be believed: how a place of a text is told: its line and column, the line with a mark under the
 -- place, and a sentence (this project's choice).
-use Rattle.std.specs.Prelude.{ℕ, ◌+◌, ◌-◌, ◌==◌, List, [], ◌∷◌, ◌++◌, Bool, ◌&&◌, ◌||◌, not, codes, map, length, take, drop, replicate, nat_le, nat_lt, if◌then◌else◌}
-use Rattle.std.specs.List.{concat, count_by, list_any}
+use Rattle.std.specs.Prelude.{◌≡◌, ℕ, ◌+◌, ◌-◌, ◌==◌, List, [], ◌∷◌, ◌++◌, Bool, true, false, ◌&&◌, ◌||◌, codes, map, length, take, drop, replicate, nat_le, nat_lt, if◌then◌else◌}
+use Rattle.std.specs.List.{concat, count_by, list_all, list_any}
 use Rattle.std.specs.Fmt.{decimal}
 use Rattle.ic_text.specs.Token.{is_blank}
 
@@ -18,14 +18,19 @@ abbrev pub last_line : List ℕ → List ℕ
 last_line [] = []
 last_line (b ∷ bs) = if list_any is_feed (b ∷ bs) then last_line bs else b ∷ bs
 
--- where a line ends: at a carriage return before a line feed too
-abbrev pub is_end : ℕ → Bool
-is_end b = b == 10 || b == 13
+abbrev pub begins_with_feed : List ℕ → Bool
+begins_with_feed [] = false
+begins_with_feed (b ∷ bs) = is_feed b
 
--- the line with which a text begins: what stands before its first line feed or carriage return
+-- a line ends before a line feed, or before a carriage return with a line feed behind it
+abbrev pub ends_line : List ℕ → Bool
+ends_line [] = false
+ends_line (b ∷ bs) = is_feed b || (b == 13 && begins_with_feed bs)
+
+-- the line with which a text begins: what stands before its first end of a line
 abbrev pub first_line : List ℕ → List ℕ
 first_line [] = []
-first_line (b ∷ bs) = if is_end b then [] else b ∷ first_line bs
+first_line (b ∷ bs) = if ends_line (b ∷ bs) then [] else b ∷ first_line bs
 
 -- a byte of ASCII; the first byte of a character of UTF-8, or a byte that is of none
 abbrev pub is_ascii : ℕ → Bool
@@ -38,9 +43,13 @@ begins_character b = is_ascii b || nat_le 192 b
 abbrev pub column : List ℕ → ℕ
 column line = count_by begins_character line + 1
 
--- a byte as it is shown: itself where it is printable ASCII, else a space or `?`
+-- a printable byte of ASCII, the space among them
+abbrev pub is_printable : ℕ → Bool
+is_printable b = nat_le 32 b && nat_lt b 127
+
+-- a byte as it is shown: a blank as a space, one that is printable as itself, and any other as `?`
 abbrev pub shown : ℕ → ℕ
-shown b = if nat_lt 32 b && nat_lt b 127 then b else (if is_blank b then 32 else 63)
+shown b = if is_blank b then 32 else (if is_printable b then b else 63)
 
 -- a line before the place, of which the last 57 bytes are shown where it has more than 60
 abbrev pub shown_before : List ℕ → List ℕ
@@ -75,3 +84,12 @@ picture_of before behind = concat (margin ∷ shown_before before ∷ shown_behi
 abbrev pub place_lines : List ℕ → ℕ → List ℕ → List ℕ
 place_lines text at sentence = concat (head_of (take at text)
     ∷ picture_of (last_line (take at text)) (first_line (drop at text)) ∷ sentence ∷ feed ∷ [])
+
+-- A mark under a place: two lines, of which the first has these bytes before the place and those from
+-- it on, and the second nothing but the mark, behind as many spaces as bytes stand before the place.
+pub record IsMarked (before behind picture : List ℕ) : Type 0 where
+  pub spaces : List ℕ
+  pub lines : picture ≡ concat (before ∷ behind ∷ feed ∷ spaces ∷ codes "^" ∷ feed ∷ [])
+  pub one_line : list_any is_feed (before ++ behind) ≡ false
+  pub blank : list_all (λ b. b == 32) spaces ≡ true
+  pub under : length spaces ≡ length before

@@ -1,26 +1,80 @@
 //! What is proved of the definitions alone: each law is the contract of a function that does nothing.
 
-ghost use Rattle.std.specs.Prelude.{◌≡◌, ◌+◌, ℕ, List, ◌∷◌, ◌++◌, false, true, length};
+ghost use Rattle.std.specs.Prelude.{◌≡◌, ◌≢◌, ◌⊎◌, ◌<◌, ◌≤◌, ◌+◌, ℕ, List, [], ◌∷◌, ◌++◌, false, true, Some, codes, length, map, min, slice_get};
 ghost use Rattle.std.specs.List.{list_any, list_all};
-ghost use Rattle.ic_places.specs.Lines.{is_feed, is_end, is_ascii, line_number, last_line, first_line, column};
+ghost use Rattle.std.specs.Str.{IsUtf8, chars};
+ghost use Rattle.ic_text.specs.Token.{is_blank};
+ghost use Rattle.ic_places.specs.Lines.{IsMarked, begins_with_feed, column, first_line, is_ascii, is_feed, is_printable, last_line, line_number, margin, picture_of, shown, shown_before, shown_behind};
 
 /// A line feed ends a line and begins one. The last line is what stands behind the last line feed.
 pub fn lines_stand_between_line_feeds()
+    ensures one { (a : List ℕ) → list_any is_feed a ≡ false → line_number a ≡ 1 }
     ensures number { (a b : List ℕ) →
         line_number (a ++ 10 ∷ b) ≡ line_number a + line_number b }
     ensures alone { (b : List ℕ) → list_any is_feed b ≡ false → last_line b ≡ b }
     ensures last { (a b : List ℕ) → list_any is_feed b ≡ false → last_line (a ++ 10 ∷ b) ≡ b }
 {}
 
-/// The first line ends at a line feed, or at a carriage return, before it.
+/// The first line ends at a line feed, and before a carriage return that stands right before one. A carriage return alone
+/// ends no line.
 pub fn the_first_line_ends_so()
-    ensures alone { (a : List ℕ) → list_any is_end a ≡ false → first_line a ≡ a }
-    ensures feed { (a b : List ℕ) → list_any is_end a ≡ false → first_line (a ++ 10 ∷ b) ≡ a }
-    ensures both { (a b : List ℕ) → list_any is_end a ≡ false →
+    ensures alone { (a : List ℕ) → list_any is_feed a ≡ false → first_line a ≡ a }
+    ensures none { (b : List ℕ) → first_line (10 ∷ b) ≡ [] }
+    ensures feed { (a b : List ℕ) (c : ℕ) → list_any is_feed (a ++ c ∷ []) ≡ false → c ≢ 13 →
+        first_line (a ++ c ∷ 10 ∷ b) ≡ a ++ c ∷ [] }
+    ensures both { (a b : List ℕ) → list_any is_feed a ≡ false →
         first_line (a ++ 13 ∷ 10 ∷ b) ≡ a }
+    ensures lone { (a b : List ℕ) → list_any is_feed a ≡ false → begins_with_feed b ≡ false →
+        first_line (a ++ 13 ∷ b) ≡ a ++ 13 ∷ first_line b }
 {}
 
-/// In a line of ASCII the column counts the bytes.
-pub fn columns_of_ascii_count_bytes()
-    ensures { (line : List ℕ) → list_all is_ascii line ≡ true → column line ≡ length line + 1 }
+/// In a line of UTF-8 the column counts the characters before it, one for each first byte, and none for the bytes that
+/// continue a character.
+pub fn columns_count_characters()
+    ensures characters { (line : List ℕ) → IsUtf8 line →
+        column line ≡ length (chars line) + 1 }
+    ensures ascii { (line : List ℕ) → list_all is_ascii line ≡ true →
+        column line ≡ length line + 1 }
+    ensures first { (line : List ℕ) (b : ℕ) → (b < 128) ⊎ (192 ≤ b) →
+        column (line ++ b ∷ []) ≡ column line + 1 }
+    ensures continued { (line : List ℕ) (b : ℕ) → 128 ≤ b → b < 192 →
+        column (line ++ b ∷ []) ≡ column line }
+{}
+
+/// A printable byte is shown as itself, a blank as a space, and any other byte as `?`.
+pub fn bytes_are_shown_so()
+    ensures printable { (b : ℕ) → 32 ≤ b → b < 127 → shown b ≡ b }
+    ensures blank { (b : ℕ) → is_blank b ≡ true → shown b ≡ 32 }
+    ensures other { (b : ℕ) → (b < 32) ⊎ (127 ≤ b) → is_blank b ≡ false → shown b ≡ 63 }
+{}
+
+/// What is shown of a line is printable ASCII, and as long as what it shows, up to 60 bytes before the place and 20 from it
+/// on.
+pub fn what_is_shown_is_printable()
+    ensures before { (line : List ℕ) → list_all is_printable (shown_before line) ≡ true }
+    ensures behind { (line : List ℕ) → list_all is_printable (shown_behind line) ≡ true }
+    ensures before_length { (line : List ℕ) →
+        length (shown_before line) ≡ min (length line) 60 }
+    ensures behind_length { (line : List ℕ) →
+        length (shown_behind line) ≡ min (length line) 20 }
+{}
+
+/// A short line is shown whole. Of a longer one the last 57 bytes before the place and the first 17 from it on are shown, and
+/// dots stand for the rest.
+pub fn lines_are_cut_around_the_place()
+    ensures short_before { (line : List ℕ) → length line ≤ 60 →
+        shown_before line ≡ map shown line }
+    ensures short_behind { (line : List ℕ) → length line ≤ 20 →
+        shown_behind line ≡ map shown line }
+    ensures long_before { (a b : List ℕ) → 60 < length (a ++ b) → length b ≡ 57 →
+        shown_before (a ++ b) ≡ codes "..." ++ map shown b }
+    ensures long_behind { (a b : List ℕ) → 20 < length (a ++ b) → length a ≡ 17 →
+        shown_behind (a ++ b) ≡ map shown a ++ codes "..." }
+{}
+
+/// The mark stands under the byte of the place: behind as many spaces as bytes are shown before it.
+pub fn the_mark_stands_under_the_place()
+    ensures mark { (before behind : List ℕ) → IsMarked (margin ++ shown_before before)
+        (shown_behind behind) (picture_of before behind) }
+    ensures under { (b : ℕ) (bs : List ℕ) → slice_get (shown_behind (b ∷ bs)) 0 ≡ Some (shown b) }
 {}

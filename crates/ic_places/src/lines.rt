@@ -1,7 +1,7 @@
 //! A place of a text told in lines.
 
 ghost use Rattle.std.specs.Prelude.{◌≡◌, ◌≤◌, ◌++◌, IfOk, OnOk, length};
-ghost use Rattle.ic_places.specs.Lines.{line_number, last_line, first_line, column, head_of, picture_of, place_lines};
+ghost use Rattle.ic_places.specs.Lines.{line_number, last_line, begins_with_feed, ends_line, first_line, column, head_of, picture_of, place_lines};
 
 use crate::shown::{shown_before, shown_behind};
 use std::alloc::{AllocError, Global};
@@ -30,12 +30,32 @@ pub fn last_line(front: &[u8]) -> &[u8]
     &front[start..]
 }
 
+/// Whether a text begins with a line feed.
+fn begins_with_feed(text: &[u8]) -> bool
+    ensures { result ≡ begins_with_feed text.now }
+{
+    match text.first() {
+        Some(byte) => *byte == b'\n',
+        None => false,
+    }
+}
+
+/// Whether a line ends where a text goes on so: at LF, or at CR and LF.
+fn ends_line(text: &[u8]) -> bool
+    ensures { result ≡ ends_line text.now }
+{
+    match text.split_first() {
+        Some((byte, rest)) => *byte == b'\n' || (*byte == b'\r' && begins_with_feed(rest)),
+        None => false,
+    }
+}
+
 /// The line with which a text begins.
 fn first_line(rest: &[u8]) -> &[u8]
     ensures { result.now ≡ first_line rest.now }
 {
-    for (place, byte) in rest.iter().enumerate() {
-        if *byte == b'\n' || *byte == b'\r' {
+    for place in 0..rest.len() {
+        if ends_line(&rest[place..]) {
             return &rest[..place];
         }
     }

@@ -19,10 +19,10 @@ const DOTS: &[u8] = b"...";
 fn shown(byte: u8) -> u8
     ensures { result ≡ shown byte }
 {
-    if byte > 32 && byte < 127 {
-        byte
-    } else if is_blank(byte) {
+    if is_blank(byte) {
         b' '
+    } else if byte >= 32 && byte < 127 {
+        byte
     } else {
         b'?'
     }

@@ -1,10 +1,6 @@
-use Rattle.std.proofs.Common.{◌∷◌, refl}
-use Rattle.ic_places.proofs.LineLaws.{first_alone, first_front}
+use Rattle.std.proofs.Common.{refl}
+use Rattle.ic_places.proofs.LineLaws.{first-alone, first-feed, first-both, first-lone}
 use Rattle.ic_places.proofs.laws.the_first_line_ends_so.Goals as goal
 
 pub returns : goal.returns
-returns c = record {
-  alone = first_alone;
-  feed = λ a b none. first_front a b 10 refl none;
-  both = λ a b none. first_front a (10 ∷ b) 13 refl none;
-}
+returns c = record { alone = first-alone; none = λ b. refl; feed = first-feed; both = first-both; lone = first-lone }
