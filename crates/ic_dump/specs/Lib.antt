@@ -5,4 +5,5 @@ pub mod Telling
 pub mod Alike
 pub mod Filling
 pub mod Dumping
+pub mod DiskDumping
 pub mod inner

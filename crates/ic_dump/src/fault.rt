@@ -1,7 +1,8 @@
-//! Why a table isn't dumped.
+//! Why a table isn't dumped, or that of a disk.
 
 ghost use Rattle.std.specs.Prelude.{◌≡◌};
 
+use ic_frames::OpenCause;
 use ic_rules::JobName;
 use std::alloc::{AllocError, AllocFailed};
 
@@ -16,6 +17,15 @@ pub enum DumpFault {
     Memory,
     /// 4: the output can't be written.
     Write,
+}
+
+/// Why the table of a disk isn't dumped.
+#[derive(Clone, Copy, Debug)]
+pub enum DiskDumpFault {
+    /// The disk isn't opened.
+    Open(OpenCause),
+    /// The table that it holds isn't dumped.
+    Dump(DumpFault),
 }
 
 impl DumpFault {
