@@ -45,7 +45,7 @@ def fault_line(file, text, fault, found, number=None):
     if not found:
         return f"{file}: {fault}" if number is None else f"{file}:{number}: {fault}"
     _, at, sentence = found
-    line, column = spot(text, at)
+    line, column = spot(text, places.told_at(text, at))
     return f"{file}:{number or line}:{column}: {fault}: {sentence}"
 
 

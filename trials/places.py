@@ -210,6 +210,11 @@ def found(text, kind):
     return fault_of_words(reader)
 
 
+def told_at(text, at):
+    """Where a place is told: one at the end of a text behind its last byte that is no blank."""
+    return len(text.rstrip(b" \t\r\n")) if at == len(text) else at
+
+
 def shown(data):
     return bytes(it if 32 < it < 127 else 32 if it in b" \t\r\n" else 63 for it in data)
 
@@ -222,6 +227,7 @@ def told(text, kind):
     if fault is None:
         return b""
     _, at, sentence = fault
+    at = told_at(text, at)
     line, column = text[:at].count(b"\n") + 1, text[:at].split(b"\n")[-1]
     behind = re.split(rb"\r?\n", text[at:])[0]
     before = shown(column) if len(column) <= 60 else b"..." + shown(column[-57:])

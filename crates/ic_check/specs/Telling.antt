@@ -6,7 +6,7 @@ use Rattle.ic_text.specs.declared.fault.TextFault.{TextFault}
 use Rattle.ic_text.specs.declared.misread.Detail.{Detail}
 use Rattle.ic_text.specs.Text.{fault_text}
 use Rattle.ic_places.specs.declared.telling.Kind.{Kind}
-use Rattle.ic_places.specs.Lines.{column, last_line, line_number}
+use Rattle.ic_places.specs.Lines.{column, last_line, line_number, told_at}
 use Rattle.ic_places.specs.Telling.{opening, sentence}
 
 abbrev pub colon : List ℕ
@@ -25,7 +25,7 @@ spot_text file before front = concat (file ∷ codes ":" ∷ decimal (before + l
 -- `FILE:LINE:COLUMN: bad ..: SENTENCE`
 abbrev pub placed_line : List ℕ → ℕ → Kind → List ℕ → ℕ → TextFault → Detail → List ℕ
 placed_line file before kind text at fault detail =
-    concat (spot_text file before (take at text) ∷ colon ∷ fault_text fault ∷ colon
+    concat (spot_text file before (take (told_at text at) text) ∷ colon ∷ fault_text fault ∷ colon
     ∷ sentence kind fault detail (at == length text) (opening text at) ∷ (10 ∷ []) ∷ [])
 
 -- `FILE:LINE: bad ..`

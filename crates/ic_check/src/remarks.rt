@@ -4,7 +4,7 @@ ghost use Rattle.std.specs.Prelude.{◌≡◌, ◌≢◌, ◌≤◌, ◌++◌, I
 ghost use Rattle.ic_check.specs.Checking.{before, told_fault};
 ghost use Rattle.ic_check.specs.Telling.{fault_line, place_text, placed_line, spot_text};
 
-use ic_places::{Kind, column, last_line, line_number, opening, sentence};
+use ic_places::{Kind, column, last_line, line_number, opening, sentence, told_at};
 use ic_text::{Misread, TextFault, print_fault, put_decimal};
 use std::alloc::{AllocError, Global};
 
@@ -68,7 +68,7 @@ fn put_placed(
     ensures { OnOk result (out.new.items ≡ out.old.items ++ placed_line file.now (before line)
         kind text.now at misread.fault misread.detail) }
 {
-    put_spot(alloc, file, before(line), &text[..at], out)?;
+    put_spot(alloc, file, before(line), &text[..told_at(text, at)], out)?;
     out.extend_from_slice(b": ")?;
     out.extend_from_slice(&print_fault(alloc, &misread.fault)?)?;
     out.extend_from_slice(b": ")?;

@@ -2,3 +2,4 @@ pub mod LastLine
 pub mod LineLaws
 pub mod ColumnLaws
 pub mod ShownLaws
+pub mod Trimmed

@@ -80,10 +80,24 @@ abbrev pub picture_of : (before behind : List ℕ) → List ℕ
 picture_of before behind = concat (margin ∷ shown_before before ∷ shown_behind behind ∷ feed
     ∷ margin ∷ replicate (length (shown_before before)) 32 ∷ codes "^" ∷ feed ∷ [])
 
+-- a text as far as its last byte that is no blank
+abbrev pub trimmed : List ℕ → List ℕ
+trimmed [] = []
+trimmed (b ∷ bs) = if list_all is_blank (b ∷ bs) then [] else b ∷ trimmed bs
+
+-- Where a place is told: one at the end of a text behind its last byte that is no blank, so that it
+-- is on a line that has something; and any other where it is.
+abbrev pub told_at : List ℕ → ℕ → ℕ
+told_at text at = if at == length text then length (trimmed text) else at
+
+-- a place of a text where it is, told in lines
+abbrev pub lines_at : List ℕ → ℕ → List ℕ → List ℕ
+lines_at text at sentence = concat (head_of (take at text)
+    ∷ picture_of (last_line (take at text)) (first_line (drop at text)) ∷ sentence ∷ feed ∷ [])
+
 -- a place of a text, told in lines
 abbrev pub place_lines : List ℕ → ℕ → List ℕ → List ℕ
-place_lines text at sentence = concat (head_of (take at text)
-    ∷ picture_of (last_line (take at text)) (first_line (drop at text)) ∷ sentence ∷ feed ∷ [])
+place_lines text at sentence = lines_at text (told_at text at) sentence
 
 -- A mark under a place: two lines, of which the first has these bytes before the place and those from
 -- it on, and the second nothing but the mark, behind as many spaces as bytes stand before the place.

@@ -4,7 +4,7 @@ ghost use Rattle.std.specs.Prelude.{◌≡◌, ◌≢◌, ◌⊎◌, ◌<◌, �
 ghost use Rattle.std.specs.List.{list_any, list_all};
 ghost use Rattle.std.specs.Str.{IsUtf8, chars};
 ghost use Rattle.ic_text.specs.Token.{is_blank};
-ghost use Rattle.ic_places.specs.Lines.{IsMarked, begins_with_feed, column, first_line, is_ascii, is_feed, is_printable, last_line, line_number, margin, picture_of, shown, shown_before, shown_behind};
+ghost use Rattle.ic_places.specs.Lines.{IsMarked, begins_with_feed, column, first_line, is_ascii, is_feed, is_printable, last_line, line_number, margin, picture_of, shown, shown_before, shown_behind, told_at};
 
 /// A line feed ends a line and begins one. The last line is what stands behind the last line feed.
 pub fn lines_stand_between_line_feeds()
@@ -77,4 +77,14 @@ pub fn the_mark_stands_under_the_place()
     ensures mark { (before behind : List ℕ) → IsMarked (margin ++ shown_before before)
         (shown_behind behind) (picture_of before behind) }
     ensures under { (b : ℕ) (bs : List ℕ) → slice_get (shown_behind (b ∷ bs)) 0 ≡ Some (shown b) }
+{}
+
+/// The end of a text is told behind its last byte that is no blank, and any other place where it is.
+pub fn an_end_is_told_behind_what_stands_last()
+    ensures end { (a blanks : List ℕ) (b : ℕ) → is_blank b ≡ false →
+        list_all is_blank blanks ≡ true →
+        told_at (a ++ b ∷ blanks) (length (a ++ b ∷ blanks)) ≡ length a + 1 }
+    ensures blank { (blanks : List ℕ) → list_all is_blank blanks ≡ true →
+        told_at blanks (length blanks) ≡ 0 }
+    ensures inner { (text : List ℕ) (at : ℕ) → at < length text → told_at text at ≡ at }
 {}

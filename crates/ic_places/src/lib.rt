@@ -11,6 +11,6 @@ mod shown;
 mod stream;
 mod telling;
 
-pub use lines::{column, last_line, line_number, place_lines};
+pub use lines::{column, last_line, line_number, place_lines, told_at};
 pub use stream::{once_telling, refused, settle_telling};
 pub use telling::{Kind, opening, sentence, told_lines};

@@ -1,9 +1,10 @@
 //! A place of a text told in lines.
 
 ghost use Rattle.std.specs.Prelude.{◌≡◌, ◌≤◌, ◌++◌, IfOk, OnOk, length};
-ghost use Rattle.ic_places.specs.Lines.{line_number, last_line, begins_with_feed, ends_line, first_line, column, head_of, picture_of, place_lines};
+ghost use Rattle.ic_places.specs.Lines.{line_number, last_line, begins_with_feed, ends_line, first_line, column, head_of, picture_of, place_lines, told_at, trimmed};
 
 use crate::shown::{shown_before, shown_behind};
+use ic_text::is_blank;
 use std::alloc::{AllocError, Global};
 
 /// In which line a text ends, from 1.
@@ -108,6 +109,33 @@ fn put_picture(
     Ok(())
 }
 
+/// A text as far as its last byte that is no blank.
+pub(crate) fn trimmed(text: &[u8]) -> &[u8]
+    ensures { result.now ≡ trimmed text.now }
+{
+    let mut end = text.len();
+    while end > 0 {
+        if !is_blank(text[end - 1]) {
+            return &text[..end];
+        }
+        end -= 1;
+    }
+    &text[..0]
+}
+
+/// Where a place is told: one at the end of a text behind its last byte that is no blank, any other where it is.
+pub fn told_at(text: &[u8], at: usize) -> usize
+    requires { at ≤ length text.now }
+    ensures place { result ≡ told_at text.now at }
+    ensures within { result ≤ length text.now }
+{
+    if at == text.len() {
+        trimmed(text).len()
+    } else {
+        at
+    }
+}
+
 /// A place of a text, told in lines: its line and column, as editors count them; the line, with a mark under the place;
 /// and a sentence. A line end is LF or CR and LF, and a character is one of UTF-8.
 pub fn place_lines(
@@ -119,6 +147,7 @@ pub fn place_lines(
     requires { at ≤ length text.now }
     ensures { IfOk result (λ lines. lines.items ≡ place_lines text.now at sentence.now) }
 {
+    let at = told_at(text, at);
     let front = &text[..at];
     let mut lines = Vec::new(alloc);
     put_head(alloc, front, &mut lines)?;
