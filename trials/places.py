@@ -14,6 +14,8 @@ MOST_RULES, MOST_RULE_NODES, MOST_TERMS, MOST_NODES = 256, 2048, 64, 8192
 TOKEN = re.compile(rb"[A-Za-z0-9-]+|[^ \t\r\n]")
 NAME = re.compile(rb"[a-z]([1-9][0-9]*)?")
 SYMBOL = re.compile(rb"[A-Z0-9][A-Za-z0-9]*")
+COMMANDS = (b"submit", b"pause", b"resume", b"cancel", b"fetch", b"list", b"run", b"copy")
+NAMES = "a name is a letter a to z, maybe with a number from 1 on, and a symbol begins with A to Z or 0 to 9"
 
 
 class NoText(Exception):
@@ -113,7 +115,7 @@ def limit_at(word, symbols):
         return f"a symbol has at most {MOST_SYMBOL_BYTES} bytes"
     if arguments > MOST_ARGUMENTS:
         return f"a symbol has at most {MOST_ARGUMENTS} arguments"
-    return f"a text has at most {MOST_SYMBOLS} symbols" if len(symbols | {text}) > MOST_SYMBOLS else None
+    return f"a text has at most {MOST_SYMBOLS} different symbols" if len(symbols | {text}) > MOST_SYMBOLS else None
 
 
 def too_many(reader):
@@ -122,7 +124,7 @@ def too_many(reader):
     inner = [word for sides in reader.sides for side in sides for word in side[1:]]
     counts = (
         (rules, MOST_RULES, f"a system has at most {MOST_RULES} rules"),
-        (inner, MOST_RULE_NODES, f"in their arguments all rules have at most {MOST_RULE_NODES} nodes"),
+        (inner, MOST_RULE_NODES, f"the arguments of all rules together have at most {MOST_RULE_NODES} nodes"),
         (reader.terms, MOST_TERMS, f"an interface has at most {MOST_TERMS} terms"),
         (reader.words[reader.before :], MOST_NODES, f"a configuration has at most {MOST_NODES} nodes"),
     )
@@ -184,15 +186,19 @@ def fault_of_words(reader):
 
 
 def sentence_of_syntax(text, at, kind):
-    """What is said at the place of a fault of syntax. A text that begins otherwise may be of another kind."""
+    """What is said at the place of a fault of syntax. A text that begins otherwise may be of another kind, and a word with a small
+    letter where a term may stand was to be a name."""
     if at == len(text):
         return f"the text ends before its {kind} does"
     mark, other, of = ("<", b"{", "a system") if kind == "configuration" else ("{", b"<", "a configuration")
-    if not text[:at].strip(b" \t\r\n"):
+    front, word = text[:at].strip(b" \t\r\n"), re.match(rb"[A-Za-z0-9-]*", text[at:]).group()
+    if not front:
         if text[at : at + 1] == other:
             return f"a {kind} begins with {mark}, and this is {of}"
-        if text[at : at + 1].islower():
+        if word in COMMANDS:
             return f"a {kind} begins with {mark}, and commands are served"
+    elif front[-1:] in b"{<|=,;(" and word[:1].islower() and not NAME.fullmatch(word):
+        return NAMES
     return f"no {kind} goes on with this"
 
 

@@ -1,5 +1,5 @@
 -- To be believed: how a fault is told (this project's choice).
-use Rattle.std.specs.Prelude.{ℕ, ◌+◌, ◌-◌, ◌==◌, List, [], ◌∷◌, ◌++◌, Option, None, Some, codes, length, take}
+use Rattle.std.specs.Prelude.{ℕ, ◌+◌, List, [], ◌∷◌, ◌++◌, Option, None, Some, codes, take}
 use Rattle.std.specs.Fmt.{decimal}
 use Rattle.std.specs.List.{concat}
 use Rattle.ic_text.specs.declared.fault.TextFault.{TextFault}
@@ -7,7 +7,7 @@ use Rattle.ic_text.specs.declared.misread.Detail.{Detail}
 use Rattle.ic_text.specs.Text.{fault_text}
 use Rattle.ic_places.specs.declared.telling.Kind.{Kind}
 use Rattle.ic_places.specs.Lines.{column, last_line, line_number, told_at}
-use Rattle.ic_places.specs.Telling.{opening, sentence}
+use Rattle.ic_places.specs.Telling.{sentence}
 
 abbrev pub colon : List ℕ
 colon = codes ": "
@@ -26,7 +26,7 @@ spot_text file before front = concat (file ∷ codes ":" ∷ decimal (before + l
 abbrev pub placed_line : List ℕ → ℕ → Kind → List ℕ → ℕ → TextFault → Detail → List ℕ
 placed_line file before kind text at fault detail =
     concat (spot_text file before (take (told_at text at) text) ∷ colon ∷ fault_text fault ∷ colon
-    ∷ sentence kind fault detail (at == length text) (opening text at) ∷ (10 ∷ []) ∷ [])
+    ∷ sentence kind text fault at detail ∷ (10 ∷ []) ∷ [])
 
 -- `FILE:LINE: bad ..`
 abbrev pub fault_line : List ℕ → TextFault → List ℕ

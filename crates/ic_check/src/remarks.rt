@@ -4,7 +4,7 @@ ghost use Rattle.std.specs.Prelude.{◌≡◌, ◌≢◌, ◌≤◌, ◌++◌, I
 ghost use Rattle.ic_check.specs.Checking.{before, told_fault};
 ghost use Rattle.ic_check.specs.Telling.{fault_line, place_text, placed_line, spot_text};
 
-use ic_places::{Kind, column, last_line, line_number, opening, sentence, told_at};
+use ic_places::{Kind, column, last_line, line_number, sentence, told_at};
 use ic_text::{Misread, TextFault, print_fault, put_decimal};
 use std::alloc::{AllocError, Global};
 
@@ -72,8 +72,7 @@ fn put_placed(
     out.extend_from_slice(b": ")?;
     out.extend_from_slice(&print_fault(alloc, &misread.fault)?)?;
     out.extend_from_slice(b": ")?;
-    let first = opening(text, at);
-    let words = sentence(alloc, kind, misread, at == text.len(), first)?;
+    let words = sentence(alloc, kind, text, at, misread)?;
     out.extend_from_slice(&words)?;
     out.push(b'\n')?;
     Ok(())

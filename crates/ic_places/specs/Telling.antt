@@ -1,15 +1,14 @@
 -- To be believed: what is told of a refused text beside its refusal (this project's choice).
-use Rattle.std.specs.Prelude.{◌≡◌, ℕ, ◌==◌, List, [], ◌∷◌, ◌++◌, Bool, true, false, Option, None, Some, codes, length, slice_get, take, if◌then◌else◌}
+use Rattle.std.specs.Prelude.{◌≡◌, ℕ, List, [], ◌∷◌, ◌++◌, Option, None, Some, codes}
 use Rattle.std.specs.Fmt.{decimal}
-use Rattle.std.specs.Char.{is_ascii_lowercase}
-use Rattle.std.specs.List.{concat, list_all}
+use Rattle.std.specs.List.{concat}
 use Rattle.ic_text.specs.declared.fault.TextFault.{TextFault}
 use Rattle.ic_text.specs.declared.fault.TextFault.TheVariants.{NameCount, Name, Twice, Lopsided}
 use Rattle.ic_text.specs.declared.misread.Detail.{Detail}
 use Rattle.ic_text.specs.declared.misread.Detail.TheVariants.{Nothing, Passed, Arities}
 use Rattle.ic_text.specs.declared.misread.Limit.{Limit}
 use Rattle.ic_text.specs.declared.misread.Limit.TheVariants.{TextBytes, SymbolBytes, Arguments, NameNumber, Symbols, Rules, RuleNodes, Interface, Nodes}
-use Rattle.ic_text.specs.Token.{Token, is_blank}
+use Rattle.ic_text.specs.Token.{Token}
 use Rattle.ic_text.specs.Words.{Written}
 use Rattle.ic_text.specs.Places.{IsPlaced}
 use Rattle.ic_streams.specs.Streams.{TakesIt}
@@ -17,45 +16,44 @@ use Rattle.ic_streams.specs.declared.fault.StreamFault.{StreamFault}
 use Rattle.ic_streams.specs.declared.fault.StreamFault.TheVariants.{Read, Text, Round, Memory, Write}
 use Rattle.ic_places.specs.declared.telling.Kind.{Kind}
 use Rattle.ic_places.specs.declared.telling.Kind.TheVariants.{Config, System}
+use Rattle.ic_places.specs.declared.sights.Sight.{Sight}
+use Rattle.ic_places.specs.declared.sights.Sight.TheVariants.{End, SystemMark, ConfigMark, CommandWord, NoName, Other}
 use Rattle.ic_places.specs.Lines.{place_lines}
+use Rattle.ic_places.specs.Sights.{sight_at}
 
--- the byte at a place before which only blanks stand
-abbrev pub opening : List ℕ → ℕ → Option ℕ
-opening text at = if list_all is_blank (take at text) then slice_get text at else None
+-- what names and symbols are, where a word is neither
+abbrev pub name_sentence : List ℕ
+name_sentence = codes "a name is a letter a to z, maybe with a number from 1 on, and a symbol begins with A to Z or 0 to 9"
 
--- what is amiss where a configuration doesn't go on so: the text may be of another kind, a system
--- or lines of commands
-abbrev pub config_sentence : Option ℕ → List ℕ
-config_sentence None = codes "no configuration goes on with this"
-config_sentence (Some b) =
-    if b == 123 then codes "a configuration begins with <, and this is a system"
-    else (if is_ascii_lowercase b then codes "a configuration begins with <, and commands are served"
-    else codes "no configuration goes on with this")
+-- what is amiss where a configuration doesn't go on, by what stands there: the text may be of another
+-- kind, a system or lines of commands
+abbrev pub config_sentence : Sight → List ℕ
+config_sentence End = codes "the text ends before its configuration does"
+config_sentence SystemMark = codes "a configuration begins with <, and this is a system"
+config_sentence CommandWord = codes "a configuration begins with <, and commands are served"
+config_sentence NoName = name_sentence
+config_sentence sight = codes "no configuration goes on with this"
 
 -- the same of a system, where the text may be a configuration or lines of commands
-abbrev pub system_sentence : Option ℕ → List ℕ
-system_sentence None = codes "no system goes on with this"
-system_sentence (Some b) =
-    if b == 60 then codes "a system begins with {, and this is a configuration"
-    else (if is_ascii_lowercase b then codes "a system begins with {, and commands are served"
-    else codes "no system goes on with this")
+abbrev pub system_sentence : Sight → List ℕ
+system_sentence End = codes "the text ends before its system does"
+system_sentence ConfigMark = codes "a system begins with {, and this is a configuration"
+system_sentence CommandWord = codes "a system begins with {, and commands are served"
+system_sentence NoName = name_sentence
+system_sentence sight = codes "no system goes on with this"
 
--- what is amiss at the place, which is at the end of the text or before it
-abbrev pub syntax_sentence : Kind → Bool → Option ℕ → List ℕ
-syntax_sentence Config true first = codes "the text ends before its configuration does"
-syntax_sentence Config false first = config_sentence first
-syntax_sentence System true first = codes "the text ends before its system does"
-syntax_sentence System false first = system_sentence first
+abbrev pub syntax_sentence : Kind → Sight → List ℕ
+syntax_sentence Config sight = config_sentence sight
+syntax_sentence System sight = system_sentence sight
 
 -- what is amiss at the place of a refusal of which no more is known
-abbrev pub plain_sentence : Kind → TextFault → Bool → Option ℕ → List ℕ
-plain_sentence kind (NameCount i) at_end first = codes "in a rule each name stands exactly twice"
-plain_sentence kind (Name n) at_end first = codes "in a configuration a name stands at most twice"
-plain_sentence kind (Twice i) at_end first =
-    codes "a rule before this one is of the same two symbols"
-plain_sentence kind (Lopsided i) at_end first =
+abbrev pub plain_sentence : Kind → TextFault → Sight → List ℕ
+plain_sentence kind (NameCount i) sight = codes "in a rule each name stands exactly twice"
+plain_sentence kind (Name n) sight = codes "in a configuration a name stands at most twice"
+plain_sentence kind (Twice i) sight = codes "a rule before this one is of the same two symbols"
+plain_sentence kind (Lopsided i) sight =
     codes "a rule of a symbol with itself reads the same from both sides"
-plain_sentence kind fault at_end first = syntax_sentence kind at_end first
+plain_sentence kind fault sight = syntax_sentence kind sight
 
 -- what is amiss where a limit is passed
 abbrev pub limit_sentence : Limit → List ℕ
@@ -63,9 +61,10 @@ limit_sentence TextBytes = codes "a text has at most 262144 bytes"
 limit_sentence SymbolBytes = codes "a symbol has at most 32 bytes"
 limit_sentence Arguments = codes "a symbol has at most 15 arguments"
 limit_sentence NameNumber = codes "the number of a name is at most 4294967295"
-limit_sentence Symbols = codes "a text has at most 64 symbols"
+limit_sentence Symbols = codes "a text has at most 64 different symbols"
 limit_sentence Rules = codes "a system has at most 256 rules"
-limit_sentence RuleNodes = codes "in their arguments all rules have at most 2048 nodes"
+limit_sentence RuleNodes =
+    codes "the arguments of all rules together have at most 2048 nodes"
 limit_sentence Interface = codes "an interface has at most 64 terms"
 limit_sentence Nodes = codes "a configuration has at most 8192 nodes"
 
@@ -74,16 +73,20 @@ abbrev pub arity_sentence : (before here : ℕ) → List ℕ
 arity_sentence before here = concat (codes "a symbol has one arity: this one has " ∷ decimal here
     ∷ codes " here and " ∷ decimal before ∷ codes " where it stands first" ∷ [])
 
-abbrev pub sentence : Kind → TextFault → Detail → Bool → Option ℕ → List ℕ
-sentence kind fault Nothing at_end first = plain_sentence kind fault at_end first
-sentence kind fault (Passed limit) at_end first = limit_sentence limit
-sentence kind fault (Arities before here) at_end first = arity_sentence before here
+-- what is amiss at the place of a refusal, by what stands there
+abbrev pub sight_sentence : Kind → TextFault → Detail → Sight → List ℕ
+sight_sentence kind fault Nothing sight = plain_sentence kind fault sight
+sight_sentence kind fault (Passed limit) sight = limit_sentence limit
+sight_sentence kind fault (Arities before here) sight = arity_sentence before here
+
+abbrev pub sentence : Kind → List ℕ → TextFault → ℕ → Detail → List ℕ
+sentence kind text fault at detail = sight_sentence kind fault detail (sight_at text at)
 
 -- the lines that tell of a refusal, where its place is told
 abbrev pub told_lines : Kind → List ℕ → TextFault → Option ℕ → Detail → List ℕ
 told_lines kind text fault None detail = []
 told_lines kind text fault (Some at) detail =
-    place_lines text at (sentence kind fault detail (at == length text) (opening text at))
+    place_lines text at (sentence kind text fault at detail)
 
 -- what is told of a refusal of a text: the lines of its place
 abbrev pub TellsOf : {P : Type 0} → (P → Type 0) → (P → List Token) → (P → Written) → Kind

@@ -8,9 +8,11 @@
 pub mod laws;
 mod lines;
 mod shown;
+mod sights;
 mod stream;
 mod telling;
 
 pub use lines::{column, last_line, line_number, place_lines, told_at};
+pub use sights::Sight;
 pub use stream::{once_telling, refused, settle_telling};
-pub use telling::{Kind, opening, sentence, told_lines};
+pub use telling::{Kind, sentence, told_lines};
