@@ -4,3 +4,7 @@ pub mod Warned
 pub mod Told
 pub mod Split
 pub mod Reached
+pub mod Stuck
+pub mod Once
+pub mod Placed
+pub mod Numbered

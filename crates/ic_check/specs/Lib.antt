@@ -4,4 +4,5 @@ pub mod Reach
 pub mod Warnings
 pub mod Telling
 pub mod Checking
+pub mod Meanings
 pub mod inner

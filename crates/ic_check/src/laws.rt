@@ -1,15 +1,60 @@
-//! What is proved of the definitions alone: each law is the contract of a function that does nothing.
+//! What is proved of the definitions alone: each law is the contract of a function that does nothing, or calls the laws
+//! that it comes of.
 
-ghost use Rattle.std.specs.Prelude.{◌≡◌, ◌≢◌, ℕ, List, [], Bool, Some, IsTrue, slice_get};
-ghost use Rattle.std.specs.List.{AllByRecursion};
+ghost use Rattle.std.specs.Prelude.{◌≡◌, ◌≢◌, ◌≤◌, ◌+◌, ◌∷◌, ◌++◌, ℕ, List, [], Bool, Some, IsTrue, codes, length, slice_get, take, drop, false, true};
+ghost use Rattle.std.specs.Fmt.{decimal};
+ghost use Rattle.std.specs.List.{AllByRecursion, concat, flat_map};
 ghost use Rattle.ic_term.specs.Configuration.{Configuration};
-ghost use Rattle.ic_term.specs.Symbol.{is_over};
+ghost use Rattle.ic_term.specs.Symbol.{Symbol, is_over};
+ghost use Rattle.ic_term.specs.Tree.{Pair};
 ghost use Rattle.ic_rules.specs.Rule.{Rule};
 ghost use Rattle.ic_rules.specs.RuleSet.{IsRuleSet, Rules};
 ghost use Rattle.ic_round.specs.Rounds.{iterate};
-ghost use Rattle.ic_check.specs.Symbols.{config_symbols};
+ghost use Rattle.ic_round.specs.Steps.{Interaction, Steps};
+ghost use Rattle.ic_lines.specs.Lines.{ended, has_feed, lines};
+ghost use Rattle.ic_text.specs.declared.fault.TextFault.{TextFault};
+ghost use Rattle.ic_text.specs.declared.misread.Detail.{Detail};
+ghost use Rattle.ic_places.specs.Lines.{column};
+ghost use Rattle.ic_check.specs.Checking.{IsLinePlace, TellsLine, TellsLines, before, front_of};
+ghost use Rattle.ic_check.specs.Meanings.{HasNoRule, IsToldAt, StandsOnce, faces, facing};
 ghost use Rattle.ic_check.specs.Reach.{AllAmong, IsReach, IsTakenBy};
-ghost use Rattle.ic_check.specs.Warnings.{unused_line};
+ghost use Rattle.ic_check.specs.Symbols.{config_symbols};
+ghost use Rattle.ic_check.specs.Telling.{place_text, spot_text};
+ghost use Rattle.ic_check.specs.Warnings.{Warns, once_line, once_lines, pair_text, ruleless_line, unused_line, warning_line};
+
+/// An equation is told as one without a rule exactly where both sides are agents and no rule is of their two symbols.
+/// Then it is stuck: no interaction takes it, in whatever configuration it stands, and no step takes away an equation
+/// of two such agents, so none of them is lost in any number of rounds.
+pub fn pairs_without_a_rule_are_stuck()
+    ensures told { (place : List ℕ) (rs : Rules) (p : Pair) (a b : ℕ) → faces a b p ≡ true
+        → HasNoRule rs.rules a b → ruleless_line place rs p.left p.right
+        ≡ warning_line place (codes "no rule for " ++ pair_text rs.symbols a b) }
+    ensures silent { (place : List ℕ) (rs : Rules) (p : Pair)
+        → ((a b : ℕ) → faces a b p ≡ true → ¬ HasNoRule rs.rules a b)
+        → ruleless_line place rs p.left p.right ≡ [] }
+    ensures idle { (rs : List Rule) (c d : Configuration) (i a b : ℕ) (p : Pair)
+        → faces a b p ≡ true → HasNoRule rs a b → slice_get c.equations i ≡ Some p
+        → ¬ Interaction rs c d i }
+    ensures stays { (rs : List Rule) (c d : Configuration) (a b : ℕ) → HasNoRule rs a b
+        → Steps rs c d → facing a b c.equations ≤ facing a b d.equations }
+    ensures rounds { (rs : List Rule) (c : Configuration) (a b n : ℕ) → HasNoRule rs a b
+        → facing a b c.equations ≤ facing a b (iterate rs n c).equations }
+{
+    ic_round::laws::rounds_are_steps();
+}
+
+/// A symbol is told to stand only once exactly where it stands at just one place among the symbols that are gone
+/// through, and each symbol of a table is asked for by its own number and told by its own text.
+pub fn symbols_told_once_stand_at_one_place()
+    ensures told { (place all : List ℕ) (s : ℕ) (text : List ℕ) → StandsOnce s all
+        → once_line place all s text ≡ warning_line place (text ++ codes " stands only once") }
+    ensures silent { (place all : List ℕ) (s : ℕ) (text : List ℕ) → ¬ StandsOnce s all
+        → once_line place all s text ≡ [] }
+    ensures each { (place all : List ℕ) (ss : List Symbol) (i : ℕ) (s : Symbol)
+        → slice_get ss i ≡ Some s → once_lines place all 0 ss
+        ≡ once_lines place all 0 (take i ss) ++ once_line place all i s.text
+        ++ once_lines place all (i + 1) (drop (i + 1) ss) }
+{}
 
 /// A rule that is told as never used is used by no round: after any number of rounds no equation is active by it. The
 /// symbols that may come to stand in the configuration are all that ever do, and which they are is settled.
@@ -24,3 +69,36 @@ pub fn unused_rules_are_never_used()
     ensures one { (rs : List Rule) (c : Configuration) (among other : ℕ → Bool)
         → IsReach rs c among → IsReach rs c other → (s : ℕ) → among s ≡ other s }
 {}
+
+/// Warnings are lines, each of which begins with the place of what it warns of: the file's name where a system is the
+/// whole file, and of a line the file's name and the number of this line in the file.
+pub fn warnings_are_told_with_their_place()
+    ensures whole { (file told : List ℕ) (rs : Rules) (c : Configuration) → Warns file rs c told
+        → (words : List (List ℕ)) × (told ≡ flat_map (warning_line file) words) }
+    ensures line { (file line told : List ℕ) (number : ℕ) → TellsLine file number line told false
+        → (words : List (List ℕ))
+        × (told ≡ flat_map (warning_line (place_text file (Some number))) words) }
+    ensures number { (file line told : List ℕ) (above below : List (List ℕ)) (faulty : Bool)
+        → TellsLines file 1 (above ++ line ∷ below) told faulty
+        → IsToldAt file (length above + 1) line told }
+{}
+
+/// The place that is told of a line's fault is one of this line, behind its front. It is told by the line's number and
+/// by the column in the line alone, and that is the place in the whole file: where the lines above, each with its line
+/// feed, and the front of the line stand before it.
+pub fn places_of_lines_are_places_of_the_file()
+    ensures within { (line : List ℕ) (fault : TextFault) (at : ℕ) (detail : Detail)
+        → IsLinePlace line fault (Some at) detail
+        → (length (front_of line) ≤ at) × (at ≤ length line) }
+    ensures own { (file line : List ℕ) (number at : ℕ) → has_feed line ≡ false
+        → spot_text file (before (Some (number + 1))) (take at line)
+        ≡ concat (file ∷ codes ":" ∷ decimal (number + 1)
+        ∷ codes ":" ∷ decimal (column (take at line)) ∷ []) }
+    ensures file { (file text : List ℕ) (above : List (List ℕ)) (line : List ℕ)
+        (below : List (List ℕ)) (at : ℕ) → lines text ≡ above ++ line ∷ below
+        → (rest : List ℕ) × (text ≡ flat_map ended above ++ (line ++ rest))
+        × (spot_text file (before (Some (length above + 1))) (take at line)
+        ≡ spot_text file 0 (flat_map ended above ++ take at line)) }
+{
+    ic_lines::laws::lines_are_parted_by_line_feeds();
+}

@@ -1,0 +1,34 @@
+-- To be believed: what is told, in words of the calculus and of files.
+use Rattle.std.specs.Prelude.{◌≡◌, ℕ, ◌==◌, List, ◌++◌, Bool, false, ◌&&◌, Some, slice_get}
+use Rattle.std.specs.List.{count_by, list_any}
+use Rattle.ic_term.specs.Tree.{Tree, name, agent, Pair}
+use Rattle.ic_rules.specs.Rule.{Rule}
+use Rattle.ic_rules.specs.RuleSet.{has_pair}
+use Rattle.ic_check.specs.Checking.{TellsLine}
+
+-- a term is an agent of this symbol
+abbrev pub is_of : ℕ → Tree → Bool
+is_of s (name n) = false
+is_of s (agent t ts) = t == s
+
+-- an equation is of agents of these two symbols, whatever their arguments are
+abbrev pub faces : ℕ → ℕ → Pair → Bool
+faces a b p = is_of a p.left && is_of b p.right
+
+-- how many equations are of agents of these two symbols
+abbrev pub facing : ℕ → ℕ → List Pair → ℕ
+facing a b es = count_by (faces a b) es
+
+-- no rule is of these two symbols
+abbrev pub HasNoRule : List Rule → ℕ → ℕ → Type 0
+HasNoRule rs a b = list_any (has_pair a b) rs ≡ false
+
+-- a symbol stands at one place among these, and at no other
+abbrev pub StandsOnce : ℕ → List ℕ → Type 0
+StandsOnce s all = (i : ℕ) × (slice_get all i ≡ Some s)
+    × ((j : ℕ) → slice_get all j ≡ Some s → j ≡ i)
+
+-- among what is told of lines stands what is told of this line, by this number
+abbrev pub IsToldAt : (file : List ℕ) (number : ℕ) (line told : List ℕ) → Type 0
+IsToldAt file number line told = (first : List ℕ) × (this : List ℕ) × (rest : List ℕ)
+    × (faulty : Bool) × TellsLine file number line this faulty × (told ≡ first ++ (this ++ rest))
