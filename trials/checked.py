@@ -2,12 +2,15 @@
 and sentences are those of `places`, faults and meanings those of `model`."""
 
 import functools
+import re
 from collections import Counter
 
 import model
 import places
 
 MOST_BYTES = 16_777_216
+# Two words, and one more that begins with a digit, with the blanks around them.
+FRONT = re.compile(rb"[ \t\r\n]*[A-Za-z0-9-]*[ \t\r\n]*[A-Za-z0-9-]*[ \t\r\n]*(?:[0-9][A-Za-z0-9-]*[ \t\r\n]*)?")
 READERS = {"system": model.read_system, "configuration": model.read_configuration}
 
 
@@ -50,14 +53,17 @@ def fault_line(file, text, fault, found, number=None):
 
 
 def found_in_line(line, fault):
-    """The place of a line's fault, where it stands in its system: what stands before the first brace begins a submit then."""
-    front = line.partition(b"{")[0]
+    """The place of a line's fault, where it stands in its system, or where one was to begin: behind a submit's name and budget."""
+    front = FRONT.match(line).group()
     if refusal(model.read_line, front + b"{}<|>")[0]:
         return None
     system = line[len(front) :]
     inner, _ = refusal(model.read_system, system)
     found = inner and kind_of(inner) == kind_of(fault) and places.found(system, "system")
-    return (found[0], len(front) + found[1], found[2]) if found else None
+    if not found:
+        return None
+    at = len(front) + found[1]
+    return found[0], at, places.sentence_of_syntax(line, at, "system") if found[0] == "syntax" else found[2]
 
 
 def symbols_in(terms):

@@ -111,6 +111,15 @@ class Check(Trial):
             lines = [draws.spoilt(drawn, as_bytes(it)) if drawn.random() < 0.5 else as_bytes(it) for it in lines]
             self.tells(self.put(drawn.choice([b"\n", b"\r\n"]).join(lines) + drawn.choice([b"", b"\n", b"\r\n", b"\n\n"])))
 
+    def test_submits_without_a_brace_have_the_place_where_the_system_was_to_begin(self):
+        columns = {"submit two Add(x)": 12, " submit\ttwo  5 Add": 16, "submit two 5": 13, "submit a b {} <|>": 10, "submit a <|>": 10}
+        for line, column in columns.items():
+            ((path, _),) = files = self.put(f"list\n{line}\n")
+            self.equals(line, "its place", True, self.tells(files).startswith(f"{path}:2:{column}: bad syntax: "))
+        for line in ("submit", "submit Two Add", "submit two 05 Add", "fetch one two", "copy a b {} <|>"):
+            ((path, _),) = files = self.put(line)
+            self.equals(line, "what is told", f"{path}:1: bad syntax\n", self.tells(files))
+
     def test_files_that_are_no_text(self):
         blank = [b"", b"\n", b" \t\r\n"]
         others = [b"\0", b"\xff\xfe<|>", b"\xef\xbb\xbf{} <|>", b"# a comment\n<|>", b"{", b"<", b"\n\n<", b"\r{}\r\n<\r"]

@@ -1,9 +1,9 @@
 -- Lines, and fronts of lines.
 use Rattle.std.proofs.Common.{◌≡◌, ℕ, suc, ◌+◌, ◌-◌, ◌<◌, ◌≤◌, ◌==◌, Bool, true, false, if◌then◌else◌, List, [], ◌∷◌, ◌++◌, Option, None, Some, length, take, drop, drop-cons, get_or, add-one, refl, sym, ap, ◌∙◌, arith, length-drop, length-append, inl, inr}
 use Rattle.std.specs.Cmp.{unsigned_Decides}
-use Rattle.std.proofs.lemmas.List.{take-append-drop, take_all}
+use Rattle.std.proofs.lemmas.List.{length-take, take-append-drop, take_all}
 use Rattle.ic_lines.specs.Lines.{has_feed, lines}
-use Rattle.ic_check.specs.Checking.{front_of, system_of}
+use Rattle.ic_check.specs.Checking.{behind_budget, behind_first, front_of, system_of}
 
 pub at_feed : (text : List ℕ) (place : ℕ) → place < length text → get_or text place 0 ≡ 10 → drop place text ≡ 10 ∷ drop (place + 1) text
 at_feed text place below feed = rw add-one (drop-cons text place 0 below ∙ ap (λ b. b ∷ drop (suc place) text) feed)
@@ -19,12 +19,9 @@ split_first law text place below feed none =
 
 -- a front is no longer than its line
 pub front_short : (line : List ℕ) → length (front_of line) ≤ length line
-front_short [] = omega arith
-front_short (b ∷ bs) = by (b == 123) (front_short bs)
-  where
-    by : (is : Bool) → length (front_of bs) ≤ length bs → length (if is then [] else b ∷ front_of bs) ≤ length (b ∷ bs)
-    by true rest = omega arith
-    by false rest = omega (arith, rest)
+front_short line =
+    let most = length-take (length line - length (behind_budget (behind_first (behind_first line)))) line in
+    omega (arith, most)
 
 pub empty : (text : List ℕ) → (length text == 0) ≡ true → text ≡ []
 empty [] is = refl

@@ -1,5 +1,6 @@
 -- To be believed: what is told of a text (this project's choice).
-use Rattle.std.specs.Prelude.{◌≡◌, ◌⊎◌, ℕ, ◌+◌, ◌-◌, ◌==◌, List, [], ◌∷◌, ◌++◌, Bool, true, false, ◌&&◌, ◌||◌, not, Option, None, Some, Result, Ok, Err, codes, length, drop, option_map, if◌then◌else◌}
+use Rattle.std.specs.Prelude.{◌≡◌, ◌⊎◌, ℕ, ◌+◌, ◌-◌, ◌==◌, List, [], ◌∷◌, ◌++◌, Bool, true, false, ◌&&◌, ◌||◌, not, Option, None, Some, Result, Ok, Err, codes, length, take, drop, option_map, if◌then◌else◌}
+use Rattle.std.specs.Char.{is_ascii_digit}
 use Rattle.ic_term.specs.Symbol.{Symbol}
 use Rattle.ic_term.specs.Configuration.{Configuration}
 use Rattle.ic_rules.specs.System.{SystemParts}
@@ -15,7 +16,7 @@ use Rattle.ic_text.specs.Source.{IsPhrase, phrase_words}
 use Rattle.ic_text.specs.SystemSource.{IsSystemPhrase, system_words}
 use Rattle.ic_text.specs.SystemText.{ReadsSystem}
 use Rattle.ic_text.specs.Text.{Reads}
-use Rattle.ic_text.specs.Token.{is_blank}
+use Rattle.ic_text.specs.Token.{is_blank, is_word_byte}
 use Rattle.ic_text.specs.Words.{written_phrase, written_system}
 use Rattle.ic_text.specs.declared.fault.TextFault.{TextFault}
 use Rattle.ic_text.specs.declared.misread.Detail.{Detail}
@@ -61,10 +62,29 @@ TellsSystem file text told faulty = (answer : Result SystemParts TextFault)
     × IsPlaced IsSystemPhrase system_words written_system text fault place detail
     × (told ≡ told_fault file None System text place fault detail)) answer told faulty
 
--- what stands before the first brace of a line, and the rest, which begins with it
+-- a text behind the blanks with which it begins, and behind the word
+abbrev pub behind_blanks : List ℕ → List ℕ
+behind_blanks [] = []
+behind_blanks (b ∷ bs) = if is_blank b then behind_blanks bs else b ∷ bs
+
+abbrev pub behind_word : List ℕ → List ℕ
+behind_word [] = []
+behind_word (b ∷ bs) = if is_word_byte b then behind_word bs else b ∷ bs
+
+-- behind its first word and the blanks around it
+abbrev pub behind_first : List ℕ → List ℕ
+behind_first text = behind_blanks (behind_word (behind_blanks text))
+
+-- the same where a budget stands first, which a digit tells
+abbrev pub behind_budget : List ℕ → List ℕ
+behind_budget [] = []
+behind_budget (b ∷ bs) = if is_ascii_digit b then behind_first (b ∷ bs) else b ∷ bs
+
+-- What stands in a submit before its system, or before what stands in the place of one: the word
+-- `submit`, the name and the budget, if there is one. Then the rest.
 abbrev pub front_of : List ℕ → List ℕ
-front_of [] = []
-front_of (b ∷ bs) = if b == 123 then [] else b ∷ front_of bs
+front_of line =
+    take (length line - length (behind_budget (behind_first (behind_first line)))) line
 
 abbrev pub system_of : List ℕ → List ℕ
 system_of line = drop (length (front_of line)) line

@@ -3,7 +3,7 @@
 ghost use Rattle.std.specs.Prelude.{◌≡◌, ◌==◌, ◌<◌, ◌≤◌, ◌+◌, ◌^◌, ◌∷◌, ◌++◌, ℕ, List, None, IfOk, IfSome, OnOk, length, option_map, if◌then◌else◌};
 ghost use Rattle.ic_text.specs.FaultNumber.{fault_number};
 ghost use Rattle.ic_lines.specs.Lines.{lines};
-ghost use Rattle.ic_check.specs.Checking.{IsLinePlace, TellsLine, TellsLines, WarnsOf, front_of};
+ghost use Rattle.ic_check.specs.Checking.{IsLinePlace, TellsLine, TellsLines, WarnsOf, behind_blanks, behind_budget, behind_first, behind_word, front_of};
 ghost use Rattle.ic_check.specs.inner.Fronts.{IsFront};
 
 use crate::remarks::{known, place_text, put_fault};
@@ -11,7 +11,7 @@ use crate::warnings::put_warnings;
 use ic_commands::{Line, read_command};
 use ic_jobs::Command;
 use ic_places::Kind;
-use ic_text::{Detail, Misread, TextFault, find_system};
+use ic_text::{Detail, Misread, TextFault, find_system, is_blank, is_word_byte};
 use std::alloc::{AllocError, Global};
 
 /// The first line of a text, and what stands behind its line feed.
@@ -29,20 +29,66 @@ fn split_line(text: &[u8]) -> (&[u8], &[u8])
     (text, &text[text.len()..])
 }
 
-/// What stands before the first brace of a line.
+/// A text behind the blanks with which it begins.
+fn behind_blanks(text: &[u8]) -> &[u8]
+    ensures rest { result.now ≡ behind_blanks text.now }
+    ensures shorter { length result.now ≤ length text.now }
+{
+    for (place, byte) in text.iter().enumerate() {
+        if !is_blank(*byte) {
+            return &text[place..];
+        }
+    }
+    &text[text.len()..]
+}
+
+/// A text behind the word with which it begins.
+fn behind_word(text: &[u8]) -> &[u8]
+    ensures rest { result.now ≡ behind_word text.now }
+    ensures shorter { length result.now ≤ length text.now }
+{
+    for (place, byte) in text.iter().enumerate() {
+        if !is_word_byte(*byte) {
+            return &text[place..];
+        }
+    }
+    &text[text.len()..]
+}
+
+/// A text behind its first word and the blanks around it.
+fn behind_first(text: &[u8]) -> &[u8]
+    ensures rest { result.now ≡ behind_first text.now }
+    ensures shorter { length result.now ≤ length text.now }
+{
+    behind_blanks(behind_word(behind_blanks(text)))
+}
+
+/// A text behind the budget with which it begins, if it does.
+fn behind_budget(text: &[u8]) -> &[u8]
+    ensures rest { result.now ≡ behind_budget text.now }
+    ensures shorter { length result.now ≤ length text.now }
+{
+    match text.first() {
+        Some(byte) => {
+            if byte.is_ascii_digit() {
+                behind_first(text)
+            } else {
+                text
+            }
+        }
+        None => text,
+    }
+}
+
+/// What stands in a submit before its system, or before what stands in the place of one.
 fn front_of(line: &[u8]) -> &[u8]
     ensures { result.now ≡ front_of line.now }
 {
-    for (place, byte) in line.iter().enumerate() {
-        if *byte == b'{' {
-            return &line[..place];
-        }
-    }
-    line
+    let system = behind_budget(behind_first(behind_first(line)));
+    &line[..line.len() - system.len()]
 }
 
-/// Whether a line is one, once the empty system stands in the place of what it has from its first brace on: this is its
-/// front.
+/// Whether a line is one, once the empty system stands behind its front, which is this.
 fn is_front(alloc: Global, front: &[u8]) -> Result<bool, AllocError>
     ensures { IfOk result (λ known. IsFront front.now known) }
 {
