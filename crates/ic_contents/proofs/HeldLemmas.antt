@@ -19,7 +19,7 @@ use Rattle.ic_contents.specs.declared.seen.Body.{Body}
 use Rattle.ic_contents.specs.declared.seen.Body.TheVariants.{TooLong, CutShort, NoTable, Holds}
 use Rattle.ic_contents.specs.declared.seen.Seen.{Seen}
 use Rattle.ic_contents.specs.Seeing.{IsBodySeen, IsSlotSeen, IsSeen}
-use Rattle.ic_contents.specs.Held.{open_number, newer, newest_by, newest_of, held_by_body, held_by_slot, held_by, held_of}
+use Rattle.ic_contents.specs.Held.{open_number, newest_by, newest_of, held_by_body, held_by_slot, held_by, held_of}
 
 -- a slot is open with this number, or it isn't open
 abbrev OpenAs : Slot → Option ℕ → List ℕ → Type 0

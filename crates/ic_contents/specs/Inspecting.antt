@@ -26,16 +26,10 @@ abbrev pub IsFrontOf : List ℕ → Option (List ℕ) → Type 0
 IsFrontOf bytes None = Unit {0}
 IsFrontOf bytes (Some all) = bytes ≡ take LIMIT all
 
--- this is so of the first bytes that a reader has, or where it doesn't tell them, of some
-abbrev pub OfFront : Option (List ℕ) → (List ℕ → Type 0) → Type 0
-OfFront None what = (file : List ℕ) × what file
-OfFront (Some all) what = what (take LIMIT all)
-
--- two readers have different first bytes, where both tell them
-abbrev pub Differ : Option (List ℕ) → Option (List ℕ) → Type 0
-Differ None other = Unit {0}
-Differ (Some all) None = Unit {0}
-Differ (Some all) (Some others) = ¬ (take LIMIT all ≡ take LIMIT others)
+-- these aren't the first bytes that a reader has, where it tells them
+abbrev pub IsOtherThan : List ℕ → Option (List ℕ) → Type 0
+IsOtherThan bytes None = Unit {0}
+IsOtherThan bytes (Some all) = ¬ (bytes ≡ take LIMIT all)
 
 -- the lasting numbers of the faults
 abbrev pub inspect_fault_number : InspectFault → ℕ

@@ -1,7 +1,6 @@
--- What a reader of the public contracts must believe, and `inner`, which is for private functions.
+-- What a reader of the public contracts must believe.
 pub mod Seeing
 pub mod Held
 pub mod Report
 pub mod Inspecting
 pub mod Moments
-pub mod inner

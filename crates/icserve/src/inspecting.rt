@@ -2,7 +2,7 @@
 
 use crate::stand_ins;
 use ic_causes::{FileCall, NotedFile, NotedFiles, Notes};
-use ic_contents::InspectFault;
+use ic_contents::{InspectFault, read_front};
 use ic_disk::DiskFault;
 use ic_endings::Failure;
 use std::fs::{self, OpenOptions};
@@ -22,16 +22,22 @@ pub(crate) fn inspect(rt: &HostRuntime, path: &str, notes: &Notes) -> Result<(),
     Err(Failure::Inspect(InspectFault::Changed))
 }
 
-/// Reads the file twice and prints what it holds, if both times are alike.
+/// Reads the file twice, one time after the other, and prints what it holds, if both times are alike.
 fn look(rt: &HostRuntime, path: &str, notes: &Notes) -> Result<bool, Failure> {
-    let mut file = open_to_read(rt, path, notes)?;
+    let first = read_once(rt, path, notes)?;
     let mut again = open_to_read(rt, path, notes)?;
     let mut output = io::writer(rt);
-    match ic_contents::inspect(rt.alloc(), &mut file, &mut again, &mut output) {
+    match ic_contents::inspect(rt.alloc(), &first, &mut again, &mut output) {
         Ok(()) => Ok(true),
         Err(InspectFault::Changed) => Ok(false),
         Err(fault) => Err(Failure::Inspect(fault)),
     }
+}
+
+/// What the file of this path has now, in as many bytes as `inspect` looks at.
+fn read_once(rt: &HostRuntime, path: &str, notes: &Notes) -> Result<Vec<u8>, Failure> {
+    let mut file = open_to_read(rt, path, notes)?;
+    read_front(rt.alloc(), &mut file).map_err(Failure::Inspect)
 }
 
 /// Opens the file of this path, which has to be a plain one, since others may keep who reads waiting.

@@ -1,7 +1,7 @@
 //! What is told of the bytes of a disk.
 
 use crate::streams::{Broken, SlowReader};
-use ic_contents::{InspectFault, inspect, told};
+use ic_contents::{InspectFault, inspect, read_front, told};
 use ic_notation::Trouble;
 use std::alloc::Global;
 use std::io::Read;
@@ -30,8 +30,12 @@ fn told_by<R: Read, S: Read>(
     reader: &mut R,
     again: &mut S,
 ) -> Result<Vec<u8>, Trouble> {
+    let first = match read_front(alloc, reader) {
+        Ok(first) => first,
+        Err(fault) => return fault_line(alloc, fault),
+    };
     let mut lines = Vec::new(alloc);
-    match inspect(alloc, reader, again, &mut lines) {
+    match inspect(alloc, &first, again, &mut lines) {
         Ok(()) => Ok(lines),
         Err(fault) if lines.is_empty() => fault_line(alloc, fault),
         Err(_) => Err(Trouble("a refusal wrote something")),
@@ -74,8 +78,8 @@ fn unwritten(alloc: Global, bytes: &[u8]) -> Result<Vec<u8>, Trouble> {
 }
 
 fn unwritten_by(alloc: Global, bytes: &[u8], mut output: Broken) -> Result<Vec<u8>, Trouble> {
-    let (mut reader, mut again) = (bytes, bytes);
-    match inspect(alloc, &mut reader, &mut again, &mut output) {
+    let mut again = bytes;
+    match inspect(alloc, bytes, &mut again, &mut output) {
         Ok(()) => Err(Trouble("nothing is written")),
         Err(fault) => fault_line(alloc, fault),
     }

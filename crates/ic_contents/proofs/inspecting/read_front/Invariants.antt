@@ -5,4 +5,4 @@ use Rattle.ic_contents.proofs.inspecting.read_front.Given as goal
 
 -- the bytes so far were taken from the reader, and are no more than are read
 abbrev pub invariant-loop : goal.invariant-loop
-invariant-loop g l = Consumes (g.R.Read.remaining l.fn.reader) (g.R.Read.remaining l.reader) l.file.items × (length l.file.items ≤ LIMIT)
+invariant-loop g l = Consumes (g.R.Read.remaining l.fn.reader) (g.R.Read.remaining l.reader) l.front.items × (length l.front.items ≤ LIMIT)
