@@ -4,3 +4,5 @@ pub mod HeldLemmas
 pub mod FrontLemmas
 pub mod ReadLemmas
 pub mod MomentLemmas
+pub mod StepLemmas
+pub mod PhaseLemmas

@@ -25,7 +25,7 @@ same_again s a b c p q = record {
   body_is = q.body_is ∙ p.body_is;
 }
 
-same_self : (s : Slot) (a : List ℕ) → IsSameSlot s a a
+pub same_self : (s : Slot) (a : List ℕ) → IsSameSlot s a a
 same_self s a = record { opened = refl; number_is = refl; size_is = refl; whole_is = refl; body_is = refl }
 
 -- ---- a slot that was open with a number n is the same, or some slot is open with a greater one, and itself never again with n

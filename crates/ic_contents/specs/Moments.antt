@@ -1,6 +1,6 @@
 -- To be believed: a file that a server writes while it is read, as it stands at each moment (this
 -- project's choice).
-use Rattle.std.specs.Prelude.{◌≡◌, ◌⊎◌, ◌+◌, ◌<◌, ◌≤◌, ℕ, List, false, length, slice_index}
+use Rattle.std.specs.Prelude.{◌≡◌, ◌⊎◌, ◌+◌, ◌<◌, ◌≤◌, ℕ, List, true, false, length, slice_index}
 use Rattle.ic_frames.specs.declared.frame.TheConstants.{HEAD}
 use Rattle.ic_frames.specs.declared.slot.Slot.{Slot}
 use Rattle.ic_frames.specs.declared.slot.Slot.TheVariants.{First, Second}
@@ -29,6 +29,11 @@ pub record IsServerStep (old new : List ℕ) : Type 0 where
   pub stays : IsSameSlot newest old new
   pub beside : (is_open (place (other newest)) new ≡ false)
       ⊎ (IsSameSlot (other newest) old new ⊎ OpensAbove (other newest) old new)
+
+-- a slot is the newest of a file, and its body is whole
+pub record IsWholeNewest (slot : Slot) (file : List ℕ) : Type 0 where
+  pub is_newest : IsNewest slot file
+  pub whole : is_whole (place slot) file ≡ true
 
 -- a file over time, as a server writes it
 abbrev pub IsServed : (ℕ → List ℕ) → Type 0

@@ -1,17 +1,29 @@
 //! Laws of the definitions that the contracts of this crate cite.
 
-ghost use Rattle.std.specs.Prelude.{◌≡◌, ◌≤◌, ℕ, List, [], ◌∷◌, Option, Contains, map, take};
+ghost use Rattle.std.specs.Prelude.{◌≡◌, ◌+◌, ◌<◌, ◌≤◌, ℕ, List, [], ◌∷◌, Option, Contains, OnOk, drop, length, map, take, true};
+ghost use Rattle.ic_disk.specs.Images.{Torn};
 ghost use Rattle.ic_jobs.specs.Job.{JobParts};
+ghost use Rattle.ic_frames.specs.declared.frame.TheConstants.{HEAD, MAX_BODY};
 ghost use Rattle.ic_frames.specs.declared.slot.Slot.{Slot};
 ghost use Rattle.ic_frames.specs.declared.slot.Slot.TheVariants.{First, Second};
+ghost use Rattle.ic_frames.specs.Fields.{number, is_open, IsMade};
+ghost use Rattle.ic_frames.specs.Frames.{content_of, target_of, number_of, is_closed, is_staged, KeepsModel};
+ghost use Rattle.ic_frames.specs.Held.{IsClosedIn};
+ghost use Rattle.ic_frames.specs.Opened.{IsOnNewest};
+ghost use Rattle.ic_frames.specs.Places.{place, other};
+ghost use Rattle.ic_frames.specs.Staged.{IsStaged};
 ghost use Rattle.ic_slots.specs.Held.{Held, IsHeld, the_table};
 ghost use Rattle.ic_contents.specs.declared.fault.InspectFault.{InspectFault};
 ghost use Rattle.ic_contents.specs.declared.inspecting.TheConstants.{LIMIT};
 ghost use Rattle.ic_contents.specs.declared.seen.Seen.{Seen};
 ghost use Rattle.ic_contents.specs.Seeing.{IsSeen};
 ghost use Rattle.ic_contents.specs.Held.{held_of};
-ghost use Rattle.ic_contents.specs.Moments.{IsServed, IsReadTwice};
+ghost use Rattle.ic_contents.specs.Moments.{IsServed, IsServerStep, IsReadTwice, IsWholeNewest};
 ghost use Rattle.ic_contents.specs.Inspecting.{Tells, all_inspect_faults, inspect_fault_number};
+
+use ic_disk::Disk;
+use ic_frames::laws::{one_body_is_kept, the_newest_slot_is_held};
+use ic_frames::{Frames, KeepFault};
 
 /// What is told as held is what the file holds: the table that an opening of the disk finds, or why it finds none.
 pub fn what_is_told_as_held_is_held()
@@ -22,7 +34,7 @@ pub fn what_is_told_as_held_is_held()
         → held ≡ held_of first second }
 {
     ic_frames::laws::a_slot_is_open_or_whole();
-    ic_frames::laws::the_newest_slot_is_held();
+    the_newest_slot_is_held();
     ic_slots::laws::the_newest_table_is_held();
     ic_slots::laws::one_is_held();
 }
@@ -44,8 +56,75 @@ pub fn a_table_that_is_shown_stood()
         → (m : ℕ) × (twice.first ≤ m) × (m ≤ twice.second_again) × IsHeld (the_table t) (at m) }
 {
     ic_frames::laws::a_slot_is_open_or_whole();
-    ic_frames::laws::the_newest_slot_is_held();
+    the_newest_slot_is_held();
     ic_slots::laws::the_newest_table_is_held();
+}
+
+/// What a keep writes beside a newest slot that is whole is a step of a server, and so is what stands in the midst of it:
+/// any bytes in the range that is written.
+pub fn the_writes_of_a_keep_are_steps()
+    ensures closing { (target : Slot) (old new : List ℕ) → IsWholeNewest (other target) old
+        → is_open (place target) old ≡ true → length new ≡ length old
+        → Torn (place target) 1 old new → IsServerStep old new }
+
+    // Behind a closed gate each file in the midst of a write goes to each other one, the last too.
+    ensures writing { (target : Slot) (count : ℕ) (old amid later : List ℕ)
+        → IsWholeNewest (other target) old → IsClosedIn target old → IsMade old
+        → count < HEAD + MAX_BODY → Torn (place target + 1) count old amid
+        → Torn (place target + 1) count old later → IsServerStep amid later }
+
+    ensures opening { (target : Slot) (n : ℕ) (next old new : List ℕ)
+        → IsWholeNewest (other target) old → IsClosedIn target old → IsStaged target n next old
+        → number (place (other target)) old < n
+        → Torn (place target) 1 old new → IsServerStep old new }
+{}
+
+/// The first phase of a keep is one step of a server, and leaves the frames on the newest slot.
+pub fn closing_a_gate_is_a_step<D: Disk>(frames: &mut Frames<D>) -> Result<(), KeepFault>
+    ensures step { KeepsModel frames.old → IsOnNewest frames.old (content_of frames.old)
+        → OnOk result (IsServerStep (content_of frames.old) (content_of frames.new)) }
+    ensures newest { KeepsModel frames.old → IsOnNewest frames.old (content_of frames.old)
+        → OnOk result (IsOnNewest frames.new (content_of frames.new)) }
+{
+    one_body_is_kept(frames);
+    the_newest_slot_is_held();
+    frames.close_gate()
+}
+
+/// The second phase is one step too, also on a disk that isn't made. Behind it the next body is staged.
+pub fn writing_a_body_is_a_step<D: Disk>(
+    frames: &mut Frames<D>,
+    frame: &mut [u8],
+) -> Result<(), KeepFault>
+    requires closed { is_closed frames.old ≡ true }
+    requires head { 13 ≤ length frame.old }
+    requires short { length frame.old ≤ 13 + MAX_BODY }
+    ensures step { KeepsModel frames.old → IsOnNewest frames.old (content_of frames.old)
+        → OnOk result (IsServerStep (content_of frames.old) (content_of frames.new)) }
+    ensures newest { KeepsModel frames.old → IsOnNewest frames.old (content_of frames.old)
+        → OnOk result (IsOnNewest frames.new (content_of frames.new)) }
+    ensures staged { KeepsModel frames.old → OnOk result
+        (IsStaged (target_of frames.new) (number_of frames.new + 1) (drop 13 frame.old)
+        (content_of frames.new)) }
+{
+    one_body_is_kept(frames);
+    the_newest_slot_is_held();
+    frames.write_body(frame)
+}
+
+/// The third phase is one step too, and leaves the frames on the slot that it opens.
+pub fn opening_a_gate_is_a_step<D: Disk>(frames: &mut Frames<D>) -> Result<(), KeepFault>
+    requires staged { is_staged frames.old ≡ true }
+    ensures step { (next : List ℕ) → KeepsModel frames.old → is_closed frames.old ≡ true
+        → IsOnNewest frames.old (content_of frames.old)
+        → IsStaged (target_of frames.old) (number_of frames.old + 1) next (content_of frames.old)
+        → OnOk result (IsServerStep (content_of frames.old) (content_of frames.new)) }
+    ensures newest { KeepsModel frames.old
+        → OnOk result (IsOnNewest frames.new (content_of frames.new)) }
+{
+    one_body_is_kept(frames);
+    the_newest_slot_is_held();
+    frames.open_gate()
 }
 
 /// The lasting numbers of the faults, which are all that there are.
