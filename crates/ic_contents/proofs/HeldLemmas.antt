@@ -1,5 +1,5 @@
 -- What is seen of the two slots says what the file holds.
-use Rattle.std.proofs.Common.{◌≡◌, ◌≢◌, ◌↔◌, inl, ℕ, ◌+◌, ◌<◌, ◌≤◌, ◌==◌, Bool, true, false, cond, List, Option, None, Some, length, refl, sym, ◌∙◌, arith}
+use Rattle.std.proofs.Common.{◌≡◌, ◌≢◌, ◌↔◌, inl, ℕ, ◌+◌, ◌<◌, ◌≤◌, ◌==◌, Bool, true, false, cond, List, [], Option, None, Some, length, refl, sym, ap, subst, ◌∙◌, arith}
 use Rattle.std.specs.Prelude.{nat_lt, slice_index}
 use Rattle.std.proofs.lemmas.Bool.{eqb-true, eqb-false, ltb-true, ltb-false, false_from_ne_true, false≢true}
 use Rattle.ic_jobs.specs.Job.{JobParts}
@@ -12,14 +12,14 @@ use Rattle.ic_frames.specs.Fields.{number, size, body, is_open, is_whole}
 use Rattle.ic_frames.specs.Held.{body_held, IsNewest, IsShut, HasTwoAlike}
 use Rattle.ic_frames.specs.Held.{damaged as damaged_slot}
 use Rattle.ic_frames.specs.Places.{place}
-use Rattle.ic_slots.specs.Held.{IsHeld, the_table, no_slot, two_alike, damaged}
+use Rattle.ic_slots.specs.Held.{Held, IsHeld, the_table, no_slot, two_alike, damaged}
 use Rattle.ic_contents.specs.declared.choosing.Newest.{Newest}
 use Rattle.ic_contents.specs.declared.choosing.Newest.TheVariants.{NoSlot, TwoAlike, First, Second}
 use Rattle.ic_contents.specs.declared.seen.Body.{Body}
 use Rattle.ic_contents.specs.declared.seen.Body.TheVariants.{TooLong, CutShort, NoTable, Holds}
 use Rattle.ic_contents.specs.declared.seen.Seen.{Seen}
 use Rattle.ic_contents.specs.Seeing.{IsBodySeen, IsSlotSeen, IsSeen}
-use Rattle.ic_contents.specs.Held.{open_number, newest_by, newest_of, held_by_body, held_by_slot, held_by, held_of}
+use Rattle.ic_contents.specs.Held.{open_number, newest_by, newest_of, held_by_body, held_by_slot, held_by, held_of, as_newest}
 
 -- a slot is open with this number, or it isn't open
 abbrev OpenAs : Slot → Option ℕ → List ℕ → Type 0
@@ -87,3 +87,51 @@ module _ (opened : (at : ℕ) (file : List ℕ) → (is_open at file ≡ true) �
     pub seen_held : (file : List ℕ) (first second : Option Seen) → IsSeen slot.First first file → IsSeen slot.Second second file → IsHeld (held_of first second) file
     seen_held file first second p q =
         held_as (newest_of first second) first second file (newest_as (open_number first) (open_number second) file (open_as slot.First first file p) (open_as slot.Second second file q)) p q
+
+-- ---- a table that is told as held stands in the slot that is told as the newest
+abbrev table_in : Held → List JobParts
+table_in (the_table t) = t
+table_in no_slot = []
+table_in two_alike = []
+table_in damaged = []
+
+abbrev IsTableTold : Held → Type 0
+IsTableTold (the_table t) = Unit {0}
+IsTableTold no_slot = ⊥
+IsTableTold two_alike = ⊥
+IsTableTold damaged = ⊥
+
+no_table : {A : Type 0} (held : Held) (t : List JobParts) → held ≡ the_table t → (IsTableTold held → ⊥) → A
+no_table held t is none = absurd (none (subst IsTableTold (sym is) tt))
+
+abbrev HasFormOf : Slot → List JobParts → List ℕ → Type 0
+HasFormOf s t file = (is_whole (place s) file ≡ true) × IsTable t × IsFormOf t (body (place s) file)
+
+body_has : (s : Slot) (b : Body) (file : List ℕ) (t : List JobParts) → IsBodySeen (place s) b file → held_by_body b ≡ the_table t → HasFormOf s t file
+body_has s (Holds u) file t seen is = subst (λ (v : List JobParts). HasFormOf s v file) (ap table_in is) seen
+body_has s TooLong file t seen is = no_table damaged t is (λ no. no)
+body_has s CutShort file t seen is = no_table damaged t is (λ no. no)
+body_has s NoTable file t seen is = no_table damaged t is (λ no. no)
+
+slot_has : (s : Slot) (seen : Option Seen) (file : List ℕ) (t : List JobParts) → IsSeen s seen file → held_by_slot seen ≡ the_table t → HasFormOf s t file
+slot_has s None file t short is = no_table damaged t is (λ no. no)
+slot_has s (Some seen) file t seen_is is = body_has s seen.body file t seen_is.body_is is
+
+-- the newest slot of a file has a form of this table
+abbrev pub NewestHas : Newest → List JobParts → List ℕ → Type 0
+NewestHas n t file = (s : Slot) × (n ≡ as_newest s) × IsNewest s file × HasFormOf s t file
+
+newest_has : (n : Newest) (first second : Option Seen) (file : List ℕ) (t : List JobParts) → IsNewestAs n file → IsSeen slot.First first file → IsSeen slot.Second second file
+    → held_by n first second ≡ the_table t → NewestHas n t file
+newest_has NoSlot first second file t newest p q is = no_table no_slot t is (λ no. no)
+newest_has TwoAlike first second file t newest p q is = no_table two_alike t is (λ no. no)
+newest_has First first second file t newest p q is = (slot.First, refl, newest, slot_has slot.First first file t p is)
+newest_has Second first second file t newest p q is = (slot.Second, refl, newest, slot_has slot.Second second file t q is)
+
+pub told_newest : ((at : ℕ) (file : List ℕ) → (is_open at file ≡ true) ↔ ((at + HEAD ≤ length file) × (slice_index file at ≡ 1)))
+    → ((at : ℕ) (file : List ℕ) → (is_whole at file ≡ true) ↔ ((size at file ≤ MAX_BODY) × (at + HEAD + size at file ≤ length file)))
+    → (file : List ℕ) (first second : Option Seen) (t : List JobParts) → IsSeen slot.First first file → IsSeen slot.Second second file → held_of first second ≡ the_table t
+    → NewestHas (newest_of first second) t file
+told_newest opened whole file first second t p q is =
+    newest_has (newest_of first second) first second file t
+    (newest_as (open_number first) (open_number second) file (open_as opened whole slot.First first file p) (open_as opened whole slot.Second second file q)) p q is

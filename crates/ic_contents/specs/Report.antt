@@ -70,26 +70,27 @@ sizes_text j =
 abbrev pub job_line : JobParts → List ℕ
 job_line j = line (standing_text j ++ sizes_text j)
 
--- `held: slot 1`, and the lines of the table's jobs
-abbrev pub table_lines : ℕ → List JobParts → List ℕ
-table_lines digit t = line (codes "held: slot " ++ digit ∷ []) ++ flat_map job_line t
+-- which slot is the newest, or why none is
+abbrev pub newest_text : Newest → List ℕ
+newest_text First = codes "slot 1"
+newest_text Second = codes "slot 2"
+newest_text NoSlot = codes "no slot"
+newest_text TwoAlike = codes "two alike"
 
--- the lines of what is held: of a table those of its jobs, behind the digit of its slot
-abbrev pub told_held : ℕ → Held → List ℕ
-told_held digit (the_table t) = table_lines digit t
-told_held digit no_slot = line (codes "held: no slot")
-told_held digit two_alike = line (codes "held: two alike")
-told_held digit damaged = line (codes "held: damaged")
+-- `held: ` and these words, and the lines of the table's jobs
+abbrev pub table_lines : List ℕ → List JobParts → List ℕ
+table_lines words t = line (codes "held: " ++ words) ++ flat_map job_line t
 
--- the digit of the newest slot; where none is, it isn't told
-abbrev pub digit_of : Newest → ℕ
-digit_of First = 49
-digit_of Second = 50
-digit_of NoSlot = 49
-digit_of TwoAlike = 49
+-- the lines of what is held: of a table those of its jobs, behind the words of its slot
+abbrev pub told_held : List ℕ → Held → List ℕ
+told_held words (the_table t) = table_lines words t
+told_held words no_slot = line (codes "held: no slot")
+told_held words two_alike = line (codes "held: two alike")
+told_held words damaged = line (codes "held: damaged")
 
 abbrev pub held_lines : Option Seen → Option Seen → List ℕ
-held_lines first second = told_held (digit_of (newest_of first second)) (held_of first second)
+held_lines first second =
+    told_held (newest_text (newest_of first second)) (held_of first second)
 
 -- a line for each slot, and what is held
 abbrev pub report : Option Seen → Option Seen → List ℕ

@@ -1,14 +1,16 @@
 //! Laws of the definitions that the contracts of this crate cite.
 
-ghost use Rattle.std.specs.Prelude.{◌≡◌, ◌+◌, ◌<◌, ◌≤◌, ℕ, List, [], ◌∷◌, Option, Contains, OnOk, drop, length, map, take, true};
+ghost use Rattle.std.specs.Prelude.{◌≡◌, ◌+◌, ◌<◌, ◌≤◌, ℕ, List, [], ◌∷◌, Option, Contains, OnOk, codes, drop, length, map, take, true};
 ghost use Rattle.ic_disk.specs.Images.{Torn};
+ghost use Rattle.ic_codec.specs.Tables.{IsFormOf};
 ghost use Rattle.ic_jobs.specs.Job.{JobParts};
+ghost use Rattle.ic_jobs.specs.Table.{IsTable};
 ghost use Rattle.ic_frames.specs.declared.frame.TheConstants.{HEAD, MAX_BODY};
 ghost use Rattle.ic_frames.specs.declared.slot.Slot.{Slot};
 ghost use Rattle.ic_frames.specs.declared.slot.Slot.TheVariants.{First, Second};
-ghost use Rattle.ic_frames.specs.Fields.{number, is_open, IsMade};
+ghost use Rattle.ic_frames.specs.Fields.{number, body, is_open, is_whole, IsMade};
 ghost use Rattle.ic_frames.specs.Frames.{content_of, target_of, number_of, is_closed, is_staged, KeepsModel};
-ghost use Rattle.ic_frames.specs.Held.{IsClosedIn};
+ghost use Rattle.ic_frames.specs.Held.{IsClosedIn, IsNewest};
 ghost use Rattle.ic_frames.specs.Opened.{IsOnNewest};
 ghost use Rattle.ic_frames.specs.Places.{place, other};
 ghost use Rattle.ic_frames.specs.Staged.{IsStaged};
@@ -17,7 +19,8 @@ ghost use Rattle.ic_contents.specs.declared.fault.InspectFault.{InspectFault};
 ghost use Rattle.ic_contents.specs.declared.inspecting.TheConstants.{LIMIT};
 ghost use Rattle.ic_contents.specs.declared.seen.Seen.{Seen};
 ghost use Rattle.ic_contents.specs.Seeing.{IsSeen};
-ghost use Rattle.ic_contents.specs.Held.{held_of};
+ghost use Rattle.ic_contents.specs.Held.{as_newest, held_of, newest_of};
+ghost use Rattle.ic_contents.specs.Report.{newest_text};
 ghost use Rattle.ic_contents.specs.Moments.{IsServed, IsServerStep, IsReadTwice, IsWholeNewest};
 ghost use Rattle.ic_contents.specs.Inspecting.{Tells, all_inspect_faults, inspect_fault_number};
 
@@ -37,6 +40,19 @@ pub fn what_is_told_as_held_is_held()
     the_newest_slot_is_held();
     ic_slots::laws::the_newest_table_is_held();
     ic_slots::laws::one_is_held();
+}
+
+/// Where a table is told as held, the slot that is told with it is the newest of the file, and has a form of that table.
+pub fn a_table_is_told_of_its_slot()
+    ensures newest { (file : List ℕ) (first second : Option Seen) (t : List JobParts)
+        → IsSeen First first file → IsSeen Second second file
+        → held_of first second ≡ the_table t
+        → (slot : Slot) × (newest_of first second ≡ as_newest slot) × IsNewest slot file
+        × (is_whole (place slot) file ≡ true) × IsTable t × IsFormOf t (body (place slot) file) }
+    ensures first { newest_text (as_newest First) ≡ codes "slot 1" }
+    ensures second { newest_text (as_newest Second) ≡ codes "slot 2" }
+{
+    ic_frames::laws::a_slot_is_open_or_whole();
 }
 
 /// What is seen of the first 8,388,608 bytes of a file is seen of the file, and so are their lines.

@@ -87,37 +87,39 @@ fn put_held(
     match newest_of(first, second) {
         Newest::NoSlot => out.extend_from_slice(b"held: no slot\n"),
         Newest::TwoAlike => out.extend_from_slice(b"held: two alike\n"),
-        Newest::First => put_slot_held(b'1', first, out),
-        Newest::Second => put_slot_held(b'2', second, out),
+        Newest::First => put_slot_held(b"slot 1", first, out),
+        Newest::Second => put_slot_held(b"slot 2", second, out),
     }
 }
 
-/// Appends what the newest slot holds.
-fn put_slot_held(digit: u8, seen: &Option<Seen>, out: &mut Vec<u8>) -> Result<(), AllocError>
-    ensures { OnOk result (out.new.items ≡ out.old.items ++ told_held digit (held_by_slot seen.now)) }
+/// Appends what the newest slot holds, which has these words.
+fn put_slot_held(words: &[u8], seen: &Option<Seen>, out: &mut Vec<u8>) -> Result<(), AllocError>
+    ensures { OnOk result
+        (out.new.items ≡ out.old.items ++ told_held words.now (held_by_slot seen.now)) }
 {
     match seen {
-        Some(seen) => put_body_held(digit, &seen.body, out),
+        Some(seen) => put_body_held(words, &seen.body, out),
         None => out.extend_from_slice(b"held: damaged\n"),
     }
 }
 
 /// Appends what the body of the newest slot holds.
-fn put_body_held(digit: u8, body: &Body, out: &mut Vec<u8>) -> Result<(), AllocError>
-    ensures { OnOk result (out.new.items ≡ out.old.items ++ told_held digit (held_by_body body.now)) }
+fn put_body_held(words: &[u8], body: &Body, out: &mut Vec<u8>) -> Result<(), AllocError>
+    ensures { OnOk result
+        (out.new.items ≡ out.old.items ++ told_held words.now (held_by_body body.now)) }
 {
     match body {
-        Body::Holds(table) => put_table(digit, table, out),
+        Body::Holds(table) => put_table(words, table, out),
         Body::TooLong | Body::CutShort | Body::NoTable => out.extend_from_slice(b"held: damaged\n"),
     }
 }
 
 /// Appends the lines of a table that a slot holds.
-fn put_table(digit: u8, table: &Table, out: &mut Vec<u8>) -> Result<(), AllocError>
-    ensures { OnOk result (out.new.items ≡ out.old.items ++ table_lines digit table.now) }
+fn put_table(words: &[u8], table: &Table, out: &mut Vec<u8>) -> Result<(), AllocError>
+    ensures { OnOk result (out.new.items ≡ out.old.items ++ table_lines words.now table.now) }
 {
-    out.extend_from_slice(b"held: slot ")?;
-    out.push(digit)?;
+    out.extend_from_slice(b"held: ")?;
+    out.extend_from_slice(words)?;
     out.push(b'\n')?;
     put_jobs(table.jobs(), out)
 }
