@@ -8,3 +8,4 @@ pub mod Stuck
 pub mod Once
 pub mod Placed
 pub mod Numbered
+pub mod Looks

@@ -5,4 +5,6 @@ pub mod Warnings
 pub mod Telling
 pub mod Checking
 pub mod Meanings
+pub mod Content
+pub mod Files
 pub mod inner

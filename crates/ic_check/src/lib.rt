@@ -2,11 +2,13 @@
 //!
 //! `check` tells in lines what a file holds: a system, a configuration, or lines for a server, by its form. Faults are told
 //! as compilers do, and lines behind a faulty one are looked at, too. Of a system without a fault it warns of pairs that no
-//! rule takes apart, of symbols that stand only once, and of rules that are never used. `laws` says in other words what
+//! rule takes apart, of symbols that stand only once, and of rules that are never used. `check_files` does so of files, one
+//! after the other, whatever gives them. `laws` says in other words what
 //! the warnings are.
 #![tactic(auto)]
 
 mod checking;
+mod files;
 pub mod laws;
 mod lines;
 mod reach;
@@ -16,3 +18,4 @@ mod texts;
 mod warnings;
 
 pub use checking::{Form, check};
+pub use files::{Given, Source, Verdict, check_files};

@@ -1,0 +1,122 @@
+-- Looks at files, joined in their order.
+use Rattle.std.proofs.Common.{◌≡◌, ℕ, ◌+◌, ◌<◌, ◌≤◌, Bool, true, false, ◌||◌, List, [], ◌∷◌, ◌++◌, Option, None, Some, length, get_or, take, refl, sym, ap, subst, ◌∙◌, append-nil, append_assoc}
+use Rattle.std.specs.Prelude.{map, if◌then◌else◌}
+use Rattle.std.specs.List.{flat_map, list_any}
+use Rattle.std.specs.Io.KnownBytes.{Appends, Keeps}
+use Rattle.std.proofs.lemmas.List.{map-append, take-map, take_more, take_all}
+use Rattle.std.proofs.lemmas.List.Concat.{flat_map-append}
+use Rattle.std.proofs.lemmas.List.Folds.{list_any-append}
+use Rattle.ic_causes.specs.Causes.{shown_path}
+use Rattle.ic_check.specs.Checking.{Tells}
+use Rattle.ic_check.specs.Content.{Content, text, unread}
+use Rattle.ic_check.specs.Files.{AreLooks, Look, told, refused, LooksOver, LooksOverFront, is_faulty, is_refused, lines_of, reasons_of, verdict_of}
+use Rattle.ic_check.specs.declared.files.Verdict.{Verdict}
+use Rattle.ic_check.specs.declared.files.Verdict.TheVariants.{Fine, Faulty, Unread}
+use Rattle.ic_check.specs.inner.Verdicts.{verdict_by, worse}
+
+pub appends_none : (c : Option (List ℕ)) → Appends c c []
+appends_none None = tt
+appends_none (Some xs) = sym (append-nil xs)
+
+pub appends_kept : (old mid new : Option (List ℕ)) (a : List ℕ) → Appends old mid a → Keeps mid new → Appends old new a
+appends_kept None mid new a p q = tt
+appends_kept (Some xs) None new a p q = absurd p
+appends_kept (Some xs) (Some ys) None a p q = absurd q
+appends_kept (Some xs) (Some ys) (Some zs) a p q = q ∙ p
+
+appends_more : (old mid new : Option (List ℕ)) (a b : List ℕ) → Appends old mid a → Appends mid new b → Appends old new (a ++ b)
+appends_more None mid new a b p q = tt
+appends_more (Some xs) None new a b p q = absurd p
+appends_more (Some xs) (Some ys) None a b p q = absurd q
+appends_more (Some xs) (Some ys) (Some zs) a b p q = q ∙ ap (λ c. c ++ b) p ∙ append_assoc xs a b
+
+looks_join : (Gives : List ℕ → Content → Type 0) (ps : List (List ℕ)) (ls : List Look) (qs : List (List ℕ)) (ms : List Look)
+    → AreLooks Gives ps ls → AreLooks Gives qs ms → AreLooks Gives (ps ++ qs) (ls ++ ms)
+looks_join Gives [] [] qs ms one two = two
+looks_join Gives [] (l ∷ ls) qs ms one two = absurd one
+looks_join Gives (p ∷ ps) [] qs ms one two = absurd one
+looks_join Gives (p ∷ ps) (l ∷ ls) qs ms one two = (one.0, looks_join Gives ps ls qs ms one.1 two)
+
+-- what is found, by whether one isn't looked over and whether one has a fault
+abbrev found_by : (is_unread has_fault : Bool) → Verdict
+found_by r f = if r then Unread else (if f then Faulty else Fine)
+
+found_join : (r s f g : Bool) → found_by (r || s) (f || g) ≡ worse (found_by r f) (found_by s g)
+found_join true s f g = refl
+found_join false true true g = refl
+found_join false true false g = refl
+found_join false false true true = refl
+found_join false false true false = refl
+found_join false false false g = refl
+
+verdict_join : (ls ms : List Look) → verdict_of (ls ++ ms) ≡ worse (verdict_of ls) (verdict_of ms)
+verdict_join ls ms =
+    (λ i. found_by (list_any-append is_refused ls ms i) (list_any-append is_faulty ls ms i))
+    ∙ found_join (list_any is_refused ls) (list_any is_refused ms) (list_any is_faulty ls) (list_any is_faulty ms)
+
+one_text : (lines : List ℕ) (faulty : Bool) → verdict_by faulty ≡ verdict_of (told lines faulty ∷ [])
+one_text lines true = refl
+one_text lines false = refl
+
+module _ (Gives : List ℕ → Content → Type 0) where
+  -- one file of which a text is given, and one of which none is
+  pub over_told : (path bytes lines : List ℕ) (faulty : Bool) (old new : Option (List ℕ)) (a : List ℕ)
+      → Gives path (text bytes) → Tells (shown_path path) bytes lines faulty → Appends old new lines → LooksOver Gives (path ∷ []) old new a a (verdict_by faulty)
+  over_told path bytes lines faulty old new a given tells written = record {
+    looks = told lines faulty ∷ [];
+    each = ((bytes, given, tells), tt);
+    written = subst (Appends old new) (sym (append-nil lines)) written;
+    beside = sym (append-nil a);
+    found = one_text lines faulty;
+  }
+
+  pub over_refused : (path why : List ℕ) (c : Option (List ℕ)) (a b : List ℕ)
+      → Gives path (unread why) → b ≡ a ++ why → LooksOver Gives (path ∷ []) c c a b Unread
+  over_refused path why c a b given put = record {
+    looks = refused why ∷ [];
+    each = (given, tt);
+    written = appends_none c;
+    beside = put ∙ ap (λ (l : List ℕ). a ++ l) (sym (append-nil why));
+    found = refl;
+  }
+
+  pub over_none : (c : Option (List ℕ)) (a : List ℕ) → LooksOver Gives [] c c a a Fine
+  over_none c a = record { looks = []; each = tt; written = appends_none c; beside = sym (append-nil a); found = refl }
+
+  over_join : (ps qs : List (List ℕ)) (old mid new : Option (List ℕ)) (a b c : List ℕ) (v w : Verdict)
+      → LooksOver Gives ps old mid a b v → LooksOver Gives qs mid new b c w → LooksOver Gives (ps ++ qs) old new a c (worse v w)
+  over_join ps qs old mid new a b c v w one two = record {
+    looks = one.looks ++ two.looks;
+    each = looks_join Gives ps one.looks qs two.looks one.each two.each;
+    written = subst (Appends old new) (sym (flat_map-append lines_of one.looks two.looks))
+        (appends_more old mid new (flat_map lines_of one.looks) (flat_map lines_of two.looks) one.written two.written);
+    beside = two.beside ∙ ap (λ (l : List ℕ). l ++ flat_map reasons_of two.looks) one.beside
+        ∙ append_assoc a (flat_map reasons_of one.looks) (flat_map reasons_of two.looks)
+        ∙ ap (λ (l : List ℕ). a ++ l) (sym (flat_map-append reasons_of one.looks two.looks));
+    found = (λ i. worse (one.found i) (two.found i)) ∙ sym (verdict_join one.looks two.looks);
+  }
+
+  -- one file more
+  pub over_more : {X : Type 0} (f : X → List ℕ) (xs : List X) (i : ℕ) (x : X) (old mid new : Option (List ℕ)) (a b c : List ℕ) (v w : Verdict) → i < length xs → x ≡ get_or xs i x
+      → LooksOver Gives (map f (take i xs)) old mid a b v → LooksOver Gives (f x ∷ []) mid new b c w
+      → LooksOver Gives (map f (take (i + 1) xs)) old new a c (worse v w)
+  over_more f xs i x old mid new a b c v w below is one two =
+      subst (λ (ps : List (List ℕ)). LooksOver Gives ps old new a c (worse v w))
+      (sym (ap (map f) (take_more xs i x below ∙ ap (λ y. take i xs ++ y ∷ []) (sym is)) ∙ map-append f (take i xs) (x ∷ [])))
+      (over_join (map f (take i xs)) (f x ∷ []) old mid new a b c v w one two)
+
+  -- all files
+  pub over_all : {X : Type 0} (f : X → List ℕ) (xs : List X) (i : ℕ) (old new : Option (List ℕ)) (a b : List ℕ) (v : Verdict) → length xs ≤ i
+      → LooksOver Gives (map f (take i xs)) old new a b v → LooksOver Gives (map f xs) old new a b v
+  over_all f xs i old new a b v past one =
+      subst (λ (ps : List (List ℕ)). LooksOver Gives ps old new a b v) (ap (map f) (take_all i xs past)) one
+
+  -- those so far, where nothing more is written
+  pub over_front : {X : Type 0} (f : X → List ℕ) (xs : List X) (i : ℕ) (old mid new : Option (List ℕ)) (a b : List ℕ) (v : Verdict)
+      → LooksOver Gives (map f (take i xs)) old mid a b v → Keeps mid new → LooksOverFront Gives (map f xs) old new
+  over_front f xs i old mid new a b v one kept = record {
+    many = i;
+    looks = one.looks;
+    each = subst (λ (ps : List (List ℕ)). AreLooks Gives ps one.looks) (sym (take-map f i xs)) one.each;
+    written = appends_kept old mid new (flat_map lines_of one.looks) one.written kept;
+  }

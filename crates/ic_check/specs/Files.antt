@@ -1,0 +1,76 @@
+-- To be believed: what is told of files (this project's choice).
+use Rattle.std.specs.Prelude.{◌≡◌, ℕ, List, [], ◌∷◌, ◌++◌, Bool, true, false, Option, length, take, if◌then◌else◌}
+use Rattle.std.specs.List.{flat_map, list_any}
+use Rattle.std.specs.Io.KnownBytes.{Appends}
+use Rattle.ic_causes.specs.Causes.{shown_path}
+use Rattle.ic_check.specs.Checking.{Tells}
+use Rattle.ic_check.specs.Content.{Content, text, unread}
+use Rattle.ic_check.specs.declared.files.Given.{Given}
+use Rattle.ic_check.specs.declared.files.Given.TheVariants as given
+use Rattle.ic_check.specs.declared.files.Verdict.{Verdict}
+use Rattle.ic_check.specs.declared.files.Verdict.TheVariants.{Fine, Faulty, Unread}
+
+abbrev pub content_of : Given → Content
+content_of (given.Text bytes) = text bytes.items
+content_of (given.Unread why) = unread why.items
+
+-- what came of a file: what is told of its text, and whether that has a fault; or why it isn't looked
+-- over
+pub data Look : Type 0 where
+  told : List ℕ → Bool → Look
+  refused : List ℕ → Look
+
+-- this came of the file of a path
+abbrev pub IsLook : (Gives : List ℕ → Content → Type 0) → (path : List ℕ) → Look → Type 0
+IsLook Gives path (told lines faulty) =
+    (bytes : List ℕ) × Gives path (text bytes) × Tells (shown_path path) bytes lines faulty
+IsLook Gives path (refused why) = Gives path (unread why)
+
+-- these came of the files of some paths, one of each, in their order
+abbrev pub AreLooks : (Gives : List ℕ → Content → Type 0) → List (List ℕ) → List Look → Type 0
+AreLooks Gives [] [] = Unit {0}
+AreLooks Gives [] (look ∷ looks) = ⊥
+AreLooks Gives (path ∷ paths) [] = ⊥
+AreLooks Gives (path ∷ paths) (look ∷ looks) = IsLook Gives path look × AreLooks Gives paths looks
+
+-- what is written of a file
+abbrev pub lines_of : Look → List ℕ
+lines_of (told lines faulty) = lines
+lines_of (refused why) = []
+
+-- what is told beside it
+abbrev pub reasons_of : Look → List ℕ
+reasons_of (told lines faulty) = []
+reasons_of (refused why) = why
+
+abbrev pub is_faulty : Look → Bool
+is_faulty (told lines faulty) = faulty
+is_faulty (refused why) = false
+
+abbrev pub is_refused : Look → Bool
+is_refused (told lines faulty) = false
+is_refused (refused why) = true
+
+-- what is found: that one isn't looked over, or else that one has a fault, or nothing
+abbrev pub verdict_of : List Look → Verdict
+verdict_of looks =
+    if list_any is_refused looks then Unread
+    else (if list_any is_faulty looks then Faulty else Fine)
+
+-- The files of some paths are looked over: what is written of each stands behind what was written, in
+-- their order, and so does what is told beside it.
+pub record LooksOver (Gives : List ℕ → Content → Type 0) (paths : List (List ℕ))
+    (old new : Option (List ℕ)) (before after : List ℕ) (verdict : Verdict) : Type 0 where
+  pub looks : List Look
+  pub each : AreLooks Gives paths looks
+  pub written : Appends old new (flat_map lines_of looks)
+  pub beside : after ≡ before ++ flat_map reasons_of looks
+  pub found : verdict ≡ verdict_of looks
+
+-- a front of the files is looked over, and nothing else is written
+pub record LooksOverFront (Gives : List ℕ → Content → Type 0) (paths : List (List ℕ))
+    (old new : Option (List ℕ)) : Type 0 where
+  pub many : ℕ
+  pub looks : List Look
+  pub each : AreLooks Gives (take many paths) looks
+  pub written : Appends old new (flat_map lines_of looks)

@@ -1,0 +1,17 @@
+-- For private functions: what is found, file by file.
+use Rattle.std.specs.Prelude.{Bool, true, false}
+use Rattle.ic_check.specs.declared.files.Verdict.{Verdict}
+use Rattle.ic_check.specs.declared.files.Verdict.TheVariants.{Fine, Faulty, Unread}
+
+-- the worse of two
+abbrev pub worse : Verdict → Verdict → Verdict
+worse Fine other = other
+worse Faulty Fine = Faulty
+worse Faulty Faulty = Faulty
+worse Faulty Unread = Unread
+worse Unread other = Unread
+
+-- of a text by whether it has a fault
+abbrev pub verdict_by : Bool → Verdict
+verdict_by true = Faulty
+verdict_by false = Fine

@@ -1,0 +1,139 @@
+//! Looking over files, one after the other.
+
+ghost use Rattle.std.specs.Prelude.{◌≡◌, ◌≢◌, ◌⊎◌, [], ◌∷◌, ℕ, List, IfOk, IfErr, map, string_bytes};
+ghost use Rattle.std.specs.Io.KnownBytes.{Appends, Keeps};
+ghost use Rattle.ic_causes.specs.Causes.{shown_path};
+ghost use Rattle.ic_check.specs.Checking.{Tells};
+ghost use Rattle.ic_check.specs.Content.{Content};
+ghost use Rattle.ic_check.specs.Files.{LooksOver, LooksOverFront, content_of};
+ghost use Rattle.ic_check.specs.inner.Verdicts.{verdict_by, worse};
+
+use crate::checking::check;
+use ic_causes::shown_path;
+use ic_streams::{StreamFault, write_line};
+use std::alloc::{AllocError, Global};
+use std::io::Write;
+
+/// What a file gives.
+#[derive(Debug, Drop)]
+pub enum Given {
+    Text(Vec<u8>),
+    /// It isn't looked over: the lines that say why.
+    Unread(Vec<u8>),
+}
+
+/// What was found of files, the worst last.
+#[derive(Clone, Copy, Debug, PartialEq, Eq)]
+pub enum Verdict {
+    Fine,
+    Faulty,
+    /// One isn't looked over.
+    Unread,
+}
+
+/// What gives files, each when it is asked for.
+pub trait Source {
+    /// What the file of a path gives, as far as that can be said.
+    ghost gives: { Self → List ℕ → Content → Type 0 };
+
+    /// What the file of this path gives.
+    fn give(&self, alloc: Global, path: &str) -> Result<Given, AllocError>
+        ensures given { IfOk result (λ given. gives self.now path.now (content_of given)) };
+}
+
+/// Writes the faults and warnings of the files of these paths, in their order, each file's at once. One that isn't given
+/// doesn't keep the others from being looked over; why it isn't is appended to `told`.
+pub fn check_files<S: Source, W: Write>(
+    alloc: Global,
+    source: &S,
+    paths: &[String],
+    writer: &mut W,
+    told: &mut Vec<u8>,
+) -> Result<Verdict, StreamFault>
+    ensures looked { IfOk result (λ verdict.
+        LooksOver (S.gives source.now) (map string_bytes paths.now)
+        (W.contents writer.old) (W.contents writer.new) told.old.items told.new.items verdict) }
+    ensures stopped { IfErr result (λ fault. fault ≢ StreamFault.Write
+        → LooksOverFront (S.gives source.now) (map string_bytes paths.now)
+        (W.contents writer.old) (W.contents writer.new)) }
+    ensures sort { IfErr result
+        (λ fault. (fault ≡ StreamFault.Memory) ⊎ (fault ≡ StreamFault.Write)) }
+{
+    let mut worst = Verdict::Fine;
+    for path in paths {
+        let verdict = check_file(alloc, source, path.as_str(), writer, told)?;
+        worst = worse(worst, verdict);
+    }
+    Ok(worst)
+}
+
+/// The worse of two.
+fn worse(one: Verdict, other: Verdict) -> Verdict
+    ensures { result ≡ worse one other }
+{
+    match (one, other) {
+        (Verdict::Unread, _) | (_, Verdict::Unread) => Verdict::Unread,
+        (Verdict::Faulty, _) | (_, Verdict::Faulty) => Verdict::Faulty,
+        (Verdict::Fine, Verdict::Fine) => Verdict::Fine,
+    }
+}
+
+/// Writes the faults and warnings of the file of this path. Where it isn't given, why is appended to `told`.
+fn check_file<S: Source, W: Write>(
+    alloc: Global,
+    source: &S,
+    path: &str,
+    writer: &mut W,
+    told: &mut Vec<u8>,
+) -> Result<Verdict, StreamFault>
+    ensures looked { IfOk result (λ verdict. LooksOver (S.gives source.now) (path.now ∷ [])
+        (W.contents writer.old) (W.contents writer.new) told.old.items told.new.items verdict) }
+    ensures silent { IfErr result (λ fault. fault ≢ StreamFault.Write
+        → Keeps (W.contents writer.old) (W.contents writer.new)) }
+    ensures sort { IfErr result
+        (λ fault. (fault ≡ StreamFault.Memory) ⊎ (fault ≡ StreamFault.Write)) }
+{
+    match source.give(alloc, path)? {
+        Given::Text(text) => {
+            let is_faulty = check_text(alloc, path.as_bytes(), &text, writer)?;
+            Ok(verdict_of(is_faulty))
+        }
+        Given::Unread(why) => {
+            told.extend_from_slice(&why)?;
+            Ok(Verdict::Unread)
+        }
+    }
+}
+
+/// What is found of a text, by whether it has a fault.
+fn verdict_of(is_faulty: bool) -> Verdict
+    ensures { result ≡ verdict_by is_faulty }
+{
+    if is_faulty {
+        Verdict::Faulty
+    } else {
+        Verdict::Fine
+    }
+}
+
+/// Writes the faults and warnings of the text in the file of this path, and tells whether it has a fault.
+fn check_text<W: Write>(
+    alloc: Global,
+    path: &[u8],
+    text: &[u8],
+    writer: &mut W,
+) -> Result<bool, StreamFault>
+    ensures told { IfOk result (λ faulty. (lines : List ℕ)
+        × Tells (shown_path path.now) text.now lines faulty
+        × Appends (W.contents writer.old) (W.contents writer.new) lines) }
+    ensures silent { IfErr result (λ fault. fault ≢ StreamFault.Write
+        → Keeps (W.contents writer.old) (W.contents writer.new)) }
+    ensures sort { IfErr result
+        (λ fault. (fault ≡ StreamFault.Memory) ⊎ (fault ≡ StreamFault.Write)) }
+{
+    let file = shown_path(alloc, path)?;
+    let mut lines = Vec::new(alloc);
+    let is_faulty = check(alloc, &file, text, &mut lines)?;
+    write_line(writer, &lines)?;
+    Ok(is_faulty)
+}
