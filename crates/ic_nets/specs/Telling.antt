@@ -19,10 +19,9 @@ told_by false = AppendedAt IsPhrase phrase_words written_phrase Config
 abbrev pub ToldAt : List ℕ → StreamFault → (before after : List ℕ) → Type 0
 ToldAt text = told_by (has_rules text) text
 
--- The same of the text that was taken from a reader. Where none is refused, nothing is told; where
--- memory was wanted nothing is said.
+-- The same of the text that was taken from a reader. Where none is refused, nothing is told, and so
+-- where memory was wanted.
 abbrev pub Told : (old new : Option (List ℕ)) → StreamFault → (before after : List ℕ) → Type 0
 Told old new (Text fault) before after =
     (text : List ℕ) × TakesIt text old new × ToldAt text (Text fault) before after
-Told old new Memory before after = Unit {0}
 Told old new fault before after = after ≡ before
