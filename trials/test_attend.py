@@ -129,16 +129,21 @@ class Attend(Attending):
                 ran = self.refuses(*self.attends(self.paths[0], path, disk=disk), line=line, status=1)
         self.leaves(ran.command)
 
-    def test_a_script_that_cant_be_read_is_read(self):
-        for path in (self.room / "missing", self.room):
-            ran = self.refuses(*self.attends(self.paths[0], path), line="read", status=4)
+    def test_of_the_first_script_that_cant_be_read_the_path_and_the_cause_are_told(self):
+        missing = (self.room / "missing", "open: no such file or folder")
+        folder = (self.room, "read: is a folder")
+        within = (self.paths[0] / "more", "open: a name on the way to it is no folder's")
+        for bad in ([missing], [folder], [within], [folder, missing]):
+            err = ["icserve: read", f"{bad[0][0]}: {bad[0][1]}"]
+            ran = self.runs(*self.attends(self.paths[0], *(path for path, _ in bad)), err=err, status=4)
         self.leaves(ran.command)
 
-    def test_a_script_that_may_not_be_read_is_read(self):
+    def test_a_script_that_may_not_be_read_is_told(self):
         how = self.without_rights()
         os.chmod(self.jobs, 0o666)
         os.chmod(self.paths[1], 0)
-        ran = self.refuses(*self.attends(*self.paths), line="read", status=4, **how)
+        err = ["icserve: read", f"{self.paths[1]}: open: no rights"]
+        ran = self.runs(*self.attends(*self.paths), err=err, status=4, **how)
         self.leaves(ran.command)
 
     def test_a_disk_that_cant_be_opened_ends_with_status_3(self):

@@ -1,5 +1,5 @@
 -- What the program makes of its failures, by cases over all of them (this project's choice).
-use Rattle.std.specs.Prelude.{ℕ, List, [], ◌∷◌, ◌++◌, codes, string_bytes}
+use Rattle.std.specs.Prelude.{ℕ, List, [], ◌∷◌, ◌++◌, Result, Ok, Err, codes, string_bytes}
 use Rattle.std.specs.Fmt.{decimal}
 use Rattle.ic_text.specs.Text.{fault_text}
 use Rattle.ic_round.specs.declared.round_fault.RoundFault.{RoundFault}
@@ -18,6 +18,10 @@ use Rattle.ic_scripts.specs.declared.fault.ScriptsFault.{ScriptsFault}
 use Rattle.ic_scripts.specs.declared.fault.ScriptsFault.TheVariants as scripts
 use Rattle.ic_dump.specs.declared.fault.DumpFault.{DumpFault}
 use Rattle.ic_dump.specs.declared.fault.DumpFault.TheVariants as dump
+use Rattle.ic_dump.specs.declared.fault.DiskDumpFault.{DiskDumpFault}
+use Rattle.ic_dump.specs.declared.fault.DiskDumpFault.TheVariants as disk_dump
+use Rattle.ic_check.specs.declared.files.Verdict.{Verdict}
+use Rattle.ic_check.specs.declared.files.Verdict.TheVariants as verdict
 use Rattle.ic_contents.specs.declared.fault.InspectFault.{InspectFault}
 use Rattle.ic_contents.specs.declared.fault.InspectFault.TheVariants as inspect
 use Rattle.ic_words.specs.declared.words.WordsFault.TheVariants as words
@@ -165,3 +169,14 @@ failure_line NotDone = told (codes "not done")
 -- the line that tells a stuck pair
 abbrev pub stuck_line : List ℕ → List ℕ
 stuck_line pair = told (codes "stuck " ++ pair)
+
+-- why the jobs of a disk aren't dumped
+abbrev pub failure_of_dump : DiskDumpFault → Failure
+failure_of_dump (disk_dump.Open cause) = Open cause
+failure_of_dump (disk_dump.Dump fault) = Dump fault
+
+-- how the program ends where files were looked over: one that can't be read comes before a fault
+abbrev pub check_ending : Verdict → Result (Unit {0}) Failure
+check_ending verdict.Fine = Ok tt
+check_ending verdict.Faulty = Err Faults
+check_ending verdict.Unread = Err (Stream stream.Read)

@@ -2,12 +2,13 @@
 
 ghost use Rattle.std.specs.Prelude.{◌≡◌, ◌++◌, IfOk};
 ghost use Rattle.ic_endings.specs.Endings.{status_of, scripts_status, failure_line, told};
-ghost use Rattle.ic_endings.specs.Endings.{stream_word, round_word, create_word, open_word, serve_word, stuck_line};
+ghost use Rattle.ic_endings.specs.Endings.{check_ending, stream_word, round_word, create_word, open_word, serve_word, stuck_line};
 ghost use Rattle.ic_endings.specs.Endings.{dump_status, dump_word, inspect_status, inspect_word, scripts_word, script_words};
 
+use ic_check::Verdict;
 use ic_contents::InspectFault;
 use ic_disk::DiskFault;
-use ic_dump::DumpFault;
+use ic_dump::{DiskDumpFault, DumpFault};
 use ic_lines::ScriptFault;
 use ic_round::RoundFault;
 use ic_rules::JobName;
@@ -89,6 +90,30 @@ impl Failure {
             Failure::Faults => told(alloc, b"faults"),
             Failure::NotDone => told(alloc, b"not done"),
         }
+    }
+}
+
+impl From<DiskDumpFault> for Failure {
+    ghost use Rattle.ic_endings.specs.Endings.{failure_of_dump};
+
+    ghost from_gives = { λ fault e. e ≡ failure_of_dump fault };
+
+    fn from(fault: DiskDumpFault) -> Failure {
+        match fault {
+            DiskDumpFault::Open(cause) => Failure::Open(cause),
+            DiskDumpFault::Dump(refused) => Failure::Dump(refused),
+        }
+    }
+}
+
+/// How the program ends where files were looked over, by what was found.
+pub fn check_ending(verdict: Verdict) -> Result<(), Failure>
+    ensures { result ≡ check_ending verdict }
+{
+    match verdict {
+        Verdict::Fine => Ok(()),
+        Verdict::Faulty => Err(Failure::Faults),
+        Verdict::Unread => Err(Failure::Stream(StreamFault::Read)),
     }
 }
 

@@ -6,4 +6,4 @@ mod behind;
 mod failure;
 pub mod laws;
 
-pub use failure::{Failure, stuck_line};
+pub use failure::{Failure, check_ending, stuck_line};

@@ -2,17 +2,15 @@
 
 use crate::open_disk;
 use ic_causes::Notes;
-use ic_dump::dump_jobs;
+use ic_dump::dump_disk;
 use ic_endings::Failure;
-use ic_jobs::Table;
 use ic_rules::JobName;
-use ic_slots::Keeper;
 use ic_words::WordsFault;
 use std::alloc::{AllocError, Global};
 use std::io;
 
 /// Prints the line of each job of these names, or of each job where there are none, that the disk in
-/// the file of this path holds. The disk stays as it is.
+/// the file of this path holds. The disk stays as it is, and is locked until all is printed.
 pub(crate) fn dump(
     rt: &HostRuntime,
     path: &str,
@@ -20,21 +18,10 @@ pub(crate) fn dump(
     notes: &Notes,
 ) -> Result<(), Failure> {
     let names = names_of(rt.alloc(), words).map_err(Failure::Words)?;
-    let table = table_of(rt, path, notes)?;
-    let mut output = io::writer(rt);
-    dump_jobs(rt.alloc(), &table, &names, &mut output).map_err(Failure::Dump)
-}
-
-/// The table that the disk in the file of this path holds.
-fn table_of(rt: &HostRuntime, path: &str, notes: &Notes) -> Result<Table, Failure> {
     let disk = open_disk(rt, path, false, notes)?;
-    match Keeper::open(rt.alloc(), disk) {
-        Ok((keeper, table)) => {
-            keeper.close();
-            Ok(table)
-        }
-        Err(fault) => Err(Failure::Open(fault.cause)),
-    }
+    let mut output = io::writer(rt);
+    let (_disk, dumped) = dump_disk(rt.alloc(), disk, &names, &mut output);
+    dumped.map_err(Failure::from)
 }
 
 /// The names that words are, or the refusal of the first that is none.

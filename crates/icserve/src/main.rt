@@ -6,6 +6,7 @@ mod dumping;
 mod inspecting;
 mod looking;
 mod progress;
+mod scripts;
 
 use crate::progress::{Progress, WipedFirst};
 use ic_causes::{NotedFile, NotedFiles, Notes};
@@ -15,12 +16,12 @@ use ic_endings::Failure;
 use ic_inspect::is_unused;
 use ic_jobs::Command;
 use ic_places::{once_telling, settle_telling};
-use ic_scripts::{ScriptsFault, add_script, attend_scripts};
+use ic_scripts::{ScriptsFault, attend_scripts};
 use ic_serving::{ServeFault, serve_watched};
 use ic_streams::StreamFault;
 use ic_words::{Task, WordsFault, read_words};
 use std::env;
-use std::fs::{self, File};
+use std::fs::File;
 use std::io::{self, BufWriter, ErrorKind, Write};
 use std::process::ExitCode;
 use std::sync::Wait;
@@ -71,8 +72,8 @@ fn path_of(task: &Task) -> &str {
 }
 
 /// Does a task on standard input and output, but for `create`, and but for the input of `attend` and
-/// of `check`. The lines that tell the place of a fault in a text, and those that tell why a text
-/// can't be read, are appended to `told`.
+/// of `check`. The lines that tell the place of a fault in a text, and those that tell why a text or a
+/// script can't be read, are appended to `told`.
 fn run<T: Threads + Wait + Sync>(
     rt: &HostRuntime,
     threads: &T,
@@ -105,7 +106,7 @@ fn run<T: Threads + Wait + Sync>(
             workers,
             scripts,
         } => {
-            let scripts = read_scripts(rt, &scripts).map_err(Failure::Attend)?;
+            let scripts = scripts::read_scripts(rt, &scripts, told).map_err(Failure::Attend)?;
             let disk = open_disk(rt, disk.as_str(), false, notes)?;
             let numbers = [runners, turns, workers];
             give(rt, threads, disk, scripts, numbers).map_err(Failure::Attend)
@@ -222,25 +223,6 @@ fn serve<T: Threads + Wait>(
     progress.wipe();
     book.close();
     served.and(flushed)
-}
-
-/// Reads the scripts in the files of these paths, in their order.
-fn read_scripts(rt: &HostRuntime, paths: &[String]) -> Result<Vec<Vec<Command>>, ScriptsFault> {
-    let mut scripts = Vec::new(rt.alloc());
-    for path in paths {
-        let text = read_file(rt, path.as_str())?;
-        add_script(rt.alloc(), &text, &mut scripts)?;
-    }
-    Ok(scripts)
-}
-
-/// The bytes of the file of this path.
-fn read_file(rt: &HostRuntime, path: &str) -> Result<Vec<u8>, ScriptsFault> {
-    match fs::read(rt, path) {
-        Ok(text) => Ok(text),
-        Err(error) if error.kind() == ErrorKind::OutOfMemory => Err(ScriptsFault::Memory),
-        Err(_) => Err(ScriptsFault::Read),
-    }
 }
 
 /// Gives the scripts to the disk, with so many runners, turns and workers, and writes what their
