@@ -1,9 +1,9 @@
 -- No proper front of a phrase is a phrase, and before the place of a refusal a proper front stands.
-use Rattle.std.proofs.Common.{◌≡◌, ◌≢◌, ℕ, zero, suc, ◌+◌, ◌-◌, ◌<◌, ◌≤◌, Bool, true, false, cond, eqb, List, [], ◌∷◌, ◌++◌, Option, None, Some, Result, Ok, Err, length, length-append, take, drop, get_or, refl, sym, ap, ◌∙◌, subst, arith, append_assoc, append-nil, IsTrue}
+use Rattle.std.proofs.Common.{◌≡◌, ◌≢◌, ℕ, zero, suc, ◌+◌, ◌<◌, ◌≤◌, Bool, true, false, cond, eqb, List, [], ◌∷◌, ◌++◌, Option, None, Some, Result, Err, length, take, drop, get_or, refl, sym, ap, ◌∙◌, subst, arith, append_assoc, append-nil}
 use Rattle.std.proofs.lemmas.Bool.{false≢true}
 use Rattle.std.proofs.lemmas.List.{drop_more, take_more, take_all, take-append-drop, length-take-le, length-take}
 use Rattle.ic_text.specs.declared.token.Mark.{Mark}
-use Rattle.ic_text.specs.declared.token.Mark.TheVariants.{LeftBrace, RightBrace, Less, Greater, Bar, Equals, Comma, Semicolon, Open, Close}
+use Rattle.ic_text.specs.declared.token.Mark.TheVariants.{LeftBrace, RightBrace, Less, Greater, Bar, Equals, Comma, Semicolon, Close}
 use Rattle.ic_text.specs.declared.syntax.Part.{Part}
 use Rattle.ic_text.specs.declared.syntax.Part.TheVariants.{Start, RuleLeft, Turn, RuleRight, Begin, Interface, Left, Right, End}
 use Rattle.ic_text.specs.declared.syntax.Spot.{Spot}
@@ -13,13 +13,13 @@ use Rattle.ic_text.specs.declared.fault.TextFault.{TextFault}
 use Rattle.ic_text.specs.declared.fault.TextFault.TheVariants.{Syntax, Limit}
 use Rattle.ic_text.specs.declared.limits.TheConstants.{MAX_TEXT}
 use Rattle.ic_text.specs.declared.misread.Detail.{Detail}
-use Rattle.ic_text.specs.declared.misread.Detail.TheVariants.{Nothing, Passed}
+use Rattle.ic_text.specs.declared.misread.Detail.TheVariants.{Passed}
 use Rattle.ic_text.specs.declared.misread.Limit.TheVariants.{TextBytes}
 use Rattle.ic_text.specs.Token.{Token, word, mark, is_word_byte, mark_of, tokens_at, followed, tokens, words_among}
 use Rattle.ic_text.specs.Words.{Written}
 use Rattle.ic_text.specs.Reading.{IsSpelling, IsReading}
-use Rattle.ic_text.specs.Places.{IsPlaced, IsPlacedWord, IsSyntaxPlace, IsWordPlace, GoesOn, is_between}
-use Rattle.ic_text.specs.inner.Syntax.{term_step, part_step, end_step, empty_step, either_step, step, is_end, at_beginning, accepts}
+use Rattle.ic_text.specs.Places.{IsPlaced, IsPlacedWord, IsSyntaxPlace, IsWordPlace, is_between}
+use Rattle.ic_text.specs.inner.Syntax.{term_step, either_step, step, is_end, at_beginning, accepts}
 use Rattle.ic_text.specs.lemmas.ReadOnce.{IsTold, reads_none, some-injective, none_is_some}
 use Rattle.ic_text.specs.lemmas.WordRuns.{tokens-parted}
 use Rattle.ic_text.proofs.OnePlace.{apart_before, begins_one, begun-append}

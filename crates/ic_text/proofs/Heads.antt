@@ -1,6 +1,5 @@
 -- Where terms that no other holds begin among words in prefix notation, and with which word they get too many.
-use Rattle.std.proofs.Common.{◌≡◌, ℕ, zero, suc, ◌+◌, ◌-◌, ◌*◌, ◌<◌, ◌≤◌, true, false, List, [], ◌∷◌, ◌++◌, length, take, drop, get_or, refl, sym, ap, ◌∙◌, subst, arith, append_assoc, append-nil, length-append, ⊎_elim}
-use Rattle.std.specs.Prelude.{sum_by}
+use Rattle.std.proofs.Common.{◌≡◌, ℕ, ◌+◌, ◌<◌, ◌≤◌, true, List, [], ◌∷◌, ◌++◌, length, take, drop, get_or, refl, sym, ap, ◌∙◌, arith, append_assoc, append-nil, length-append, ⊎_elim}
 use Rattle.std.specs.List.{flat_map}
 use Rattle.std.proofs.lemmas.Bool.{cases_lt}
 use Rattle.std.proofs.lemmas.Grind.{flat_map-append}
@@ -9,7 +8,7 @@ use Rattle.ic_term.specs.Symbol.{Symbol}
 use Rattle.ic_text.specs.Source.{Source, leaf, node, source_nodes}
 use Rattle.ic_text.specs.Words.{prefix}
 use Rattle.ic_text.specs.WordFaults.{count_words}
-use Rattle.ic_text.proofs.Counting.{count-both, count-take, count-terms}
+use Rattle.ic_text.proofs.Counting.{count-take, count-terms}
 use Rattle.ic_text.proofs.PrefixWords.{length-prefix}
 
 some_node : (t : Source) → 1 ≤ source_nodes t

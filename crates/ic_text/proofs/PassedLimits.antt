@@ -1,5 +1,5 @@
 -- What the word is with which a limit is passed, and that the limit is passed by what is written.
-use Rattle.std.proofs.Common.{◌≡◌, ℕ, zero, suc, ◌+◌, ◌-◌, ◌*◌, ◌<◌, ◌≤◌, Bool, true, false, ◌&&◌, ◌||◌, cond, List, [], ◌∷◌, ◌++◌, Some, length, map, take, drop, get_or, refl, sym, ap, ◌∙◌, subst, arith, append-nil, append_assoc, length-append, ⊎_elim}
+use Rattle.std.proofs.Common.{◌≡◌, ℕ, zero, suc, ◌+◌, ◌-◌, ◌*◌, ◌<◌, ◌≤◌, Bool, true, false, ◌&&◌, ◌||◌, cond, List, [], ◌∷◌, ◌++◌, Some, length, map, take, drop, get_or, refl, sym, ap, ◌∙◌, subst, arith, append-nil, length-append, ⊎_elim}
 use Rattle.std.specs.Prelude.{nat_le, sum_by}
 use Rattle.std.specs.List.{Contains, flat_map, list_all, slice_get}
 use Rattle.std.specs.Option.{option_map}
@@ -22,12 +22,12 @@ use Rattle.ic_text.specs.Source.{Sides, phrase_nodes, nodes_of_sources}
 use Rattle.ic_text.specs.SystemSource.{AgentPhrase, RulePhrase, SystemPhrase, IsSystemPhrase, agent_source, rule_nodes, system_names, system_symbols}
 use Rattle.ic_text.specs.SystemSense.{system_table}
 use Rattle.ic_text.specs.Words.{all_words, in_a_row, names_among, phrase_prefix, prefix, rules_prefix, symbols_among, system_prefix, written_system}
-use Rattle.ic_text.specs.WordFaults.{IsLimitWord, config_keeps, count_words, counts_keep, keeps, keeps_so_far, rules_keep}
+use Rattle.ic_text.specs.WordFaults.{IsLimitWord, count_words, counts_keep, keeps, keeps_so_far}
 use Rattle.ic_text.specs.lemmas.NameLemmas.{name_text-name_number}
 use Rattle.ic_text.proofs.Blaming.{Standing}
-use Rattle.ic_text.proofs.Counting.{count-both, count-rules, count-take, count-terms}
+use Rattle.ic_text.proofs.Counting.{count-both, count-rules, count-take}
 use Rattle.ic_text.proofs.Fitting.{rules_row}
-use Rattle.ic_text.proofs.Heads.{at_term, behind_term, heads, more_heads, one_too_many, within_term, words_before}
+use Rattle.ic_text.proofs.Heads.{behind_term, heads, more_heads, one_too_many, within_term, words_before}
 use Rattle.ic_text.proofs.JoinedPhrase.{is-joined, joined_phrase, length-rules_prefix, length-sides_of_rules, names-joined, prefix-joined, sides_of_rules, sides_through, symbols-joined}
 use Rattle.ic_text.proofs.PrefixWords.{length-phrase_prefix, length-prefix, names_among-append, names_among-phrase, symbols_among-append, symbols_among-phrase}
 use Rattle.ic_text.proofs.Refusing.{written-system}

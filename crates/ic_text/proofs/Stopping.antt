@@ -1,13 +1,10 @@
 -- Numbering stops at the word with which too many are written.
-use Rattle.std.proofs.Common.{◌≡◌, ℕ, ◌+◌, ◌<◌, ◌≤◌, inl, inr, Bool, true, false, ◌&&◌, cond, eqb, List, [], ◌∷◌, Option, None, Some, Result, Err, length, take, get_or, refl, sym, ap, ◌∙◌, subst, arith}
-use Rattle.std.specs.Prelude.{IfSome, nat_le}
-use Rattle.std.specs.List.{list_all}
-use Rattle.std.proofs.lemmas.Bool.{false≢true, and_parts, and_from}
+use Rattle.std.proofs.Common.{◌≡◌, ℕ, ◌+◌, ◌<◌, ◌≤◌, inl, inr, Bool, true, false, ◌&&◌, cond, eqb, List, Option, None, Some, Result, Err, length, take, get_or, refl, sym, ap, ◌∙◌, subst, arith}
+use Rattle.std.specs.Prelude.{IfSome}
+use Rattle.std.proofs.lemmas.Bool.{false≢true, and_from}
 use Rattle.std.proofs.lemmas.Bool.Decides.{nat_tests}
-use Rattle.ic_term.specs.Symbol.{Symbol, fits_limits}
-use Rattle.ic_term.specs.declared.limits.TheConstants.{MAX_SYMBOLS, MAX_SYMBOL_TEXT, MAX_ARITY}
+use Rattle.ic_term.specs.Symbol.{Symbol}
 use Rattle.ic_term.specs.declared.symbols.SymbolFault.{SymbolFault}
-use Rattle.ic_text.specs.declared.limits.TheConstants.{MAX_NAME}
 use Rattle.ic_text.specs.declared.excess.Excess.{Excess}
 use Rattle.ic_text.specs.declared.fault.TextFault.{TextFault}
 use Rattle.ic_text.specs.declared.fault.TextFault.TheVariants.{Limit, Arity, Memory}
@@ -18,7 +15,7 @@ use Rattle.ic_text.specs.declared.misread.Limit.TheVariants.{TextBytes, SymbolBy
 use Rattle.ic_text.specs.declared.number.Item.{Item}
 use Rattle.ic_text.specs.declared.prefix.Node.{Node}
 use Rattle.ic_text.specs.declared.refusal.Refusal.{Refusal}
-use Rattle.ic_text.specs.Words.{Written, all_words, names_among, symbols_among}
+use Rattle.ic_text.specs.Words.{Written, all_words}
 use Rattle.ic_text.specs.WordFaults.{IsLimitWord, counts_keep, keeps, rank}
 use Rattle.ic_text.specs.inner.Counted.{IsExcess, IsFirstExcess, limit_at}
 use Rattle.ic_text.specs.inner.Numbered.{Refuses, counted_words, numbered_words}
