@@ -112,10 +112,10 @@ accepts-taken (t ∷ ts) us p = by_step (step p.state t) (accepts-taken ts us)
     by_step : (o : Option State)
         → ((q : Progress) → accepts (Some q.state) (ts ++ us) ≡ accepts (state_in (taken (Some q) ts)) us)
         → accepts o (ts ++ us)
-        ≡ accepts (state_in (taken (option_map (λ s. record { state = s; counts = record { words = p.counts.words + length (words_among (t ∷ [])); tokens = p.counts.tokens + 1 } }) o) ts)) us
+        ≡ accepts (state_in (taken (option_map (λ s. record { state = s; counts = record { words = p.counts.words + length (words_among (t ∷ [])) } }) o) ts)) us
     by_step None next = ap (λ o. accepts (state_in o) us) (sym (taken-none ts))
     by_step (Some s) next =
-        next (record { state = s; counts = record { words = p.counts.words + length (words_among (t ∷ [])); tokens = p.counts.tokens + 1 } })
+        next (record { state = s; counts = record { words = p.counts.words + length (words_among (t ∷ [])) } })
 
 pub none_isnt : (p : Progress) → None ≡ Some p → ⊥
 none_isnt p e = cc

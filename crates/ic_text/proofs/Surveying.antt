@@ -40,23 +40,22 @@ behind-none (Some ts) = taken-none ts
 
 -- the counts of tokens that the grammar takes, behind what was counted
 abbrev counts_behind : Progress → List Token → Counts
-counts_behind p ts = record { words = p.counts.words + length (words_among ts); tokens = p.counts.tokens + length ts }
+counts_behind p ts = record { words = p.counts.words + length (words_among ts) }
 
 counts-none : (p : Progress) → p.counts ≡ counts_behind p []
-counts-none p = let w : p.counts.words ≡ p.counts.words + 0 = omega arith in let t : p.counts.tokens ≡ p.counts.tokens + 0 = omega arith in
-    λ i. record { words = w i; tokens = t i }
+counts-none p =
+    let words : p.counts.words ≡ p.counts.words + 0 = omega arith in
+    λ i. record { words = words i }
 
 counts-one : (p : Progress) (s : State) (t : Token) (ts : List Token)
-    → counts_behind (record { state = s; counts = record { words = p.counts.words + length (words_among (t ∷ [])); tokens = p.counts.tokens + 1 } }) ts
+    → counts_behind (record { state = s; counts = record { words = p.counts.words + length (words_among (t ∷ [])) } }) ts
     ≡ counts_behind p (t ∷ ts)
 counts-one p s (word w) ts =
     let words : p.counts.words + 1 + length (words_among ts) ≡ p.counts.words + length (w ∷ words_among ts) = omega arith in
-    let tokens : p.counts.tokens + 1 + length ts ≡ p.counts.tokens + length (word w ∷ ts) = omega arith in
-    λ i. record { words = words i; tokens = tokens i }
+    λ i. record { words = words i }
 counts-one p s (mark m) ts =
     let words : p.counts.words + 0 + length (words_among ts) ≡ p.counts.words + length (words_among ts) = omega arith in
-    let tokens : p.counts.tokens + 1 + length ts ≡ p.counts.tokens + length (mark m ∷ ts) = omega arith in
-    λ i. record { words = words i; tokens = tokens i }
+    λ i. record { words = words i }
 
 -- what is counted is what the grammar takes
 counted-taken : (ts : List Token) (p : Progress) → counted (taken (Some p) ts) ≡ cond (accepts (Some p.state) ts) (Some (counts_behind p ts)) None
@@ -65,16 +64,16 @@ counted-taken (t ∷ ts) p = by_step (step p.state t) (counted-taken ts)
   where
     by_step : (o : Option State)
         → ((q : Progress) → counted (taken (Some q) ts) ≡ cond (accepts (Some q.state) ts) (Some (counts_behind q ts)) None)
-        → counted (taken (option_map (λ s. record { state = s; counts = record { words = p.counts.words + length (words_among (t ∷ [])); tokens = p.counts.tokens + 1 } }) o) ts)
+        → counted (taken (option_map (λ s. record { state = s; counts = record { words = p.counts.words + length (words_among (t ∷ [])) } }) o) ts)
         ≡ cond (accepts o ts) (Some (counts_behind p (t ∷ ts))) None
     by_step None next = ap counted (taken-none ts)
     by_step (Some s) next =
-        next (record { state = s; counts = record { words = p.counts.words + length (words_among (t ∷ [])); tokens = p.counts.tokens + 1 } })
+        next (record { state = s; counts = record { words = p.counts.words + length (words_among (t ∷ [])) } })
         ∙ ap (λ c. cond (accepts (Some s) ts) (Some c) None) (counts-one p s t ts)
 
 pub surveyed-tokens : (part : Part) (ts : List Token)
-    → surveyed part (Some ts) ≡ cond (accepts (Some (at_beginning part)) ts) (Some (record { words = 0 + length (words_among ts); tokens = 0 + length ts })) None
-surveyed-tokens part ts = counted-taken ts (record { state = at_beginning part; counts = record { words = 0; tokens = 0 } })
+    → surveyed part (Some ts) ≡ cond (accepts (Some (at_beginning part)) ts) (Some (record { words = 0 + length (words_among ts) })) None
+surveyed-tokens part ts = counted-taken ts (record { state = at_beginning part; counts = record { words = 0 } })
 
 -- one byte of the pass
 module _ (text : List ℕ) (start place b : ℕ) (inside : place < length text) (begins : start ≤ place) (here : b ≡ get_or text place 0)
@@ -119,7 +118,7 @@ module _ {P : Type 0} (IsOne : P → Type 0) (words : P → List Token) (told : 
   by_tokens text (Some ts) e = rw surveyed-tokens (by_test (accepts (Some (at_beginning part)) ts) refl)
     where
       by_test : (b : Bool) → accepts (Some (at_beginning part)) ts ≡ b
-          → Tells IsOne words text (cond b (Some (record { words = 0 + length (words_among ts); tokens = 0 + length ts })) None)
+          → Tells IsOne words text (cond b (Some (record { words = 0 + length (words_among ts) })) None)
       by_test true is =
           let s = told.found ts (tested ts ∙ is) in
           (s.0, record { phrase = s.1; tokens = e ∙ ap Some s.2 }, omega (arith, ap (λ us. length (words_among us)) s.2))

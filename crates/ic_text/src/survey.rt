@@ -1,5 +1,5 @@
-//! A first pass over the bytes of a text: whether they are a phrase of the grammar, and of how many words and tokens. It
-//! takes no memory, so that a text that is no phrase fills none.
+//! A first pass over the bytes of a text: whether they are a phrase of the grammar, and of how many words. It takes
+//! no memory, so that a text that is no phrase fills none.
 
 ghost use Rattle.std.specs.Prelude.{◌≡◌, ◌≤◌, ◌-◌, ◌^◌, [], ◌∷◌, Some, None, IfErr, length};
 ghost use Rattle.std.specs.Bool.{OnTrue, OnFalse};
@@ -16,11 +16,10 @@ use crate::limits::MAX_TEXT;
 use crate::syntax::{Part, State, step};
 use crate::token::{Token, is_blank, is_word_byte, mark_of};
 
-/// How many words and tokens a text has.
+/// How many words a text has.
 #[derive(Clone, Copy)]
 pub(crate) struct Counts {
     pub words: usize,
-    pub tokens: usize,
 }
 
 /// A check of syntax that is on its way over a text, and what it has counted so far. It is changed in place, since a byte
@@ -44,7 +43,6 @@ impl Progress {
             return false;
         };
         self.state = state;
-        self.counts.tokens += 1;
         if let Token::Word(_) = token {
             self.counts.words += 1;
         }
@@ -82,7 +80,7 @@ impl Progress {
     }
 }
 
-/// The words and tokens of a text that leads from the beginning of a part to the end, or the place from where on the
+/// How many words a text has that leads from the beginning of a part to the end, or the place from where on the
 /// grammar has no such text. Takes one pass, and no memory.
 fn survey(part: Part, text: &[u8]) -> Result<Counts, usize>
     requires { length text.now ≤ MAX_TEXT }
@@ -91,10 +89,7 @@ fn survey(part: Part, text: &[u8]) -> Result<Counts, usize>
 {
     let mut progress = Progress {
         state: State::new(part),
-        counts: Counts {
-            words: 0,
-            tokens: 0,
-        },
+        counts: Counts { words: 0 },
     };
     let mut start = 0;
     for (place, byte) in text.iter().enumerate() {
@@ -117,7 +112,7 @@ fn survey(part: Part, text: &[u8]) -> Result<Counts, usize>
     }
 }
 
-/// The words and tokens of a configuration, or where a text that spells none has its fault.
+/// How many words a configuration has, or where a text that spells none has its fault.
 pub(crate) fn survey_config(text: &[u8]) -> Result<Counts, usize>
     requires { length text.now ≤ MAX_TEXT }
     ensures counts { Tells IsPhrase phrase_words text.now (counts_in result) }
@@ -126,7 +121,7 @@ pub(crate) fn survey_config(text: &[u8]) -> Result<Counts, usize>
     survey(Part::Begin, text)
 }
 
-/// The words and tokens of a system, or where a text that spells none has its fault.
+/// How many words a system has, or where a text that spells none has its fault.
 pub(crate) fn survey_system(text: &[u8]) -> Result<Counts, usize>
     requires { length text.now ≤ MAX_TEXT }
     ensures counts { Tells IsSystemPhrase system_words text.now (counts_in result) }

@@ -1,5 +1,5 @@
 -- For private functions: the first pass over a text, which checks its syntax and counts its words
--- and tokens as they come.
+-- as they come.
 use Rattle.std.specs.Prelude.{◌≡◌, ℕ, ◌+◌, ◌≤◌, List, [], ◌∷◌, Option, None, Some, Result, Ok, Err, length, if◌then◌else◌, option_and_then}
 use Rattle.std.specs.Option.{option_map}
 use Rattle.ic_text.specs.declared.syntax.Part.{Part}
@@ -12,13 +12,11 @@ use Rattle.ic_text.specs.inner.Syntax.{step, is_end, at_beginning}
 -- no count is above a number
 pub record IsWithin (most : ℕ) (p : Progress) : Type 0 where
   pub words : p.counts.words ≤ most
-  pub tokens : p.counts.tokens ≤ most
   pub depth : p.state.depth ≤ most
 
 -- no count has risen by more than a number
 pub record HasRisen (most : ℕ) (old new : Progress) : Type 0 where
   pub words : new.counts.words ≤ old.counts.words + most
-  pub tokens : new.counts.tokens ≤ old.counts.tokens + most
   pub depth : new.state.depth ≤ old.state.depth + most
 
 -- the check behind one more token
@@ -27,7 +25,6 @@ take_one p t = option_map (λ s. record {
   state = s;
   counts = record {
     words = p.counts.words + length (words_among (t ∷ []));
-    tokens = p.counts.tokens + 1;
   };
 }) (step p.state t)
 
@@ -52,7 +49,7 @@ counted (Some p) = if is_end p.state.part then Some p.counts else None
 
 -- a check of a part in front of all tokens
 abbrev pub begun : Part → Progress
-begun part = record { state = at_beginning part; counts = record { words = 0; tokens = 0 } }
+begun part = record { state = at_beginning part; counts = record { words = 0 } }
 
 -- what a check of a part counts in tokens
 abbrev pub surveyed : Part → Option (List Token) → Option Counts

@@ -71,7 +71,6 @@ loop-place-preserved c =
             begins = omega arith;
             within = record {
               words = omega (arith, short, run.words, byte.words, within.words);
-              tokens = omega (arith, short, run.tokens, byte.tokens, within.tokens);
               depth = omega (arith, short, run.depth, byte.depth, within.depth);
             };
             same = goes_on text start place b (omega arith) begins refl c.loop-place.progress _ c.loop-place.invariant.same w.take_run.new.self w.take_byte.new.self apart w.if-not-take_run.ensures.taken w.if-not-take_byte.ensures.taken;
