@@ -26,12 +26,18 @@ class AttendFaults(Attending):
             call = f"{what} {number} {how}"
             ran = self.attended(words, env=shimmed(call, self.log))
             left = left - 1 if not was_refused(self.log) else spared
-            lines, end = ran.out.decode().splitlines(), (ran.status, ran.err.decode()[9:-1])
+            lines, end = ran.out.decode().splitlines(), self.end_of(ran)
             if end not in ends and (ran.status, lines, ran.err) != (0, TOLD, b""):
                 self.told(ran.command, f"the end, where it went wrong: {call}", f"one of {ends}, or all as ever", ran[1:])
             self.holds_what_was_answered(ran)
             self.came |= {end, *(it for it in lines if it.startswith("stopped "))}
         return number
+
+    def end_of(self, ran):
+        """The status and the word of an end. Behind `read` stand the path of a script and the cause."""
+        word, _, behind = ran.err.decode()[9:-1].partition("\n")
+        is_of_script = word == "read" and any(behind.startswith(f"{it}: ") for it in self.paths)
+        return ran.status, word if is_of_script else ran.err.decode()[9:-1]
 
     def have_come(self, *ends):
         """Fails unless each of these ends, and lines to clients, has come."""
