@@ -1,6 +1,6 @@
 //! Laws of the definitions that the contracts of this crate cite.
 
-ghost use Rattle.std.specs.Prelude.{◌≡◌, ◌+◌, ◌<◌, ◌≤◌, ℕ, List, [], ◌∷◌, Option, Contains, OnOk, codes, drop, length, map, take, true};
+ghost use Rattle.std.specs.Prelude.{◌≡◌, ◌+◌, ◌++◌, ◌<◌, ◌≤◌, ℕ, List, [], ◌∷◌, Option, Contains, OnOk, codes, drop, length, map, take, true};
 ghost use Rattle.ic_disk.specs.Images.{Torn};
 ghost use Rattle.ic_codec.specs.Tables.{IsFormOf};
 ghost use Rattle.ic_jobs.specs.Job.{JobParts};
@@ -20,7 +20,7 @@ ghost use Rattle.ic_contents.specs.declared.inspecting.TheConstants.{LIMIT};
 ghost use Rattle.ic_contents.specs.declared.seen.Seen.{Seen};
 ghost use Rattle.ic_contents.specs.Seeing.{IsSeen};
 ghost use Rattle.ic_contents.specs.Held.{as_newest, held_of, newest_of};
-ghost use Rattle.ic_contents.specs.Report.{newest_text};
+ghost use Rattle.ic_contents.specs.Report.{newest_text, report, slot_line, table_lines};
 ghost use Rattle.ic_contents.specs.Moments.{IsServed, IsServerStep, IsReadTwice, IsWholeNewest};
 ghost use Rattle.ic_contents.specs.Inspecting.{Tells, all_inspect_faults, inspect_fault_number};
 
@@ -43,12 +43,17 @@ pub fn what_is_told_as_held_is_held()
 }
 
 /// Where a table is told as held, the slot that is told with it is the newest of the file, and has a form of that table.
+/// The lines of this table stand behind the words of this slot.
 pub fn a_table_is_told_of_its_slot()
     ensures newest { (file : List ℕ) (first second : Option Seen) (t : List JobParts)
         → IsSeen First first file → IsSeen Second second file
         → held_of first second ≡ the_table t
         → (slot : Slot) × (newest_of first second ≡ as_newest slot) × IsNewest slot file
         × (is_whole (place slot) file ≡ true) × IsTable t × IsFormOf t (body (place slot) file) }
+    ensures told { (first second : Option Seen) (t : List JobParts) (slot : Slot)
+        → newest_of first second ≡ as_newest slot → held_of first second ≡ the_table t
+        → report first second ≡ slot_line 49 first ++ slot_line 50 second
+        ++ table_lines (newest_text (as_newest slot)) t }
     ensures first { newest_text (as_newest First) ≡ codes "slot 1" }
     ensures second { newest_text (as_newest Second) ≡ codes "slot 2" }
 {
