@@ -1,9 +1,15 @@
 //! What is proved of the definitions alone: each law is the contract of a function that does nothing.
 
 ghost use Rattle.std.specs.Prelude.{◌≡◌, ◌≢◌, ◌⊎◌, ◌<◌, ◌≤◌, ◌+◌, ℕ, List, [], ◌∷◌, ◌++◌, false, true, Some, codes, length, map, min, slice_get};
+ghost use Rattle.std.specs.Fmt.{decimal};
 ghost use Rattle.std.specs.List.{list_any, list_all};
 ghost use Rattle.std.specs.Str.{IsUtf8, chars};
 ghost use Rattle.ic_text.specs.Token.{is_blank};
+ghost use Rattle.ic_term.specs.declared.limits.TheConstants.{MAX_ARITY, MAX_INTERFACE, MAX_NODES, MAX_SYMBOLS, MAX_SYMBOL_TEXT};
+ghost use Rattle.ic_rules.specs.declared.limits.TheConstants.{MAX_RULES, MAX_RULE_NODES};
+ghost use Rattle.ic_text.specs.declared.limits.TheConstants.{MAX_NAME, MAX_TEXT};
+ghost use Rattle.ic_text.specs.declared.misread.Limit.TheVariants.{TextBytes, SymbolBytes, Arguments, NameNumber, Symbols, Rules, RuleNodes, Interface, Nodes};
+ghost use Rattle.ic_places.specs.Telling.{limit_sentence};
 ghost use Rattle.ic_places.specs.Lines.{IsMarked, begins_with_feed, column, first_line, is_ascii, is_feed, is_printable, last_line, line_number, margin, picture_of, shown, shown_before, shown_behind, told_at};
 
 /// A line feed ends a line and begins one. The last line is what stands behind the last line feed.
@@ -87,4 +93,27 @@ pub fn an_end_is_told_behind_what_stands_last()
     ensures blank { (blanks : List ℕ) → list_all is_blank blanks ≡ true →
         told_at blanks (length blanks) ≡ 0 }
     ensures inner { (text : List ℕ) (at : ℕ) → at < length text → told_at text at ≡ at }
+{}
+
+/// The sentence of each limit tells its number.
+pub fn limits_are_told_with_their_numbers()
+    ensures text { limit_sentence TextBytes
+        ≡ codes "a text has at most " ++ decimal MAX_TEXT ++ codes " bytes" }
+    ensures symbol_bytes { limit_sentence SymbolBytes
+        ≡ codes "a symbol has at most " ++ decimal MAX_SYMBOL_TEXT ++ codes " bytes" }
+    ensures arguments { limit_sentence Arguments
+        ≡ codes "a symbol has at most " ++ decimal MAX_ARITY ++ codes " arguments" }
+    ensures name_number { limit_sentence NameNumber
+        ≡ codes "the number of a name is at most " ++ decimal MAX_NAME }
+    ensures symbols { limit_sentence Symbols
+        ≡ codes "a text has at most " ++ decimal MAX_SYMBOLS ++ codes " different symbols" }
+    ensures rules { limit_sentence Rules
+        ≡ codes "a system has at most " ++ decimal MAX_RULES ++ codes " rules" }
+    ensures rule_nodes { limit_sentence RuleNodes
+        ≡ codes "the arguments of all rules together have at most " ++ decimal MAX_RULE_NODES
+        ++ codes " nodes" }
+    ensures interface { limit_sentence Interface
+        ≡ codes "an interface has at most " ++ decimal MAX_INTERFACE ++ codes " terms" }
+    ensures nodes { limit_sentence Nodes
+        ≡ codes "a configuration has at most " ++ decimal MAX_NODES ++ codes " nodes" }
 {}
