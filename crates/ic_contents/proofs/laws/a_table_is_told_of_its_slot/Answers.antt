@@ -13,6 +13,6 @@ returns-clause-newest c = λ file first second t p q is.
 pub returns-clause-told : goal.returns-clause-told
 returns-clause-told c = λ first second t slot n is.
     ap (λ held. slot_line 49 first ++ slot_line 50 second
-        ++ told_held (newest_text (newest_of first second)) held) is
+    ++ told_held (newest_text (newest_of first second)) held) is
     ∙ ap (λ newest. slot_line 49 first ++ slot_line 50 second
-        ++ table_lines (newest_text newest) t) n
+    ++ table_lines (newest_text newest) t) n
