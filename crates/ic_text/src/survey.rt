@@ -1,20 +1,19 @@
 //! A first pass over the bytes of a text: whether they are a phrase of the grammar, and of how many words. It takes
 //! no memory, so that a text that is no phrase fills none.
 
-ghost use Rattle.std.specs.Prelude.{◌≡◌, ◌≤◌, ◌-◌, ◌^◌, [], ◌∷◌, Some, None, IfErr, length};
+ghost use Rattle.std.specs.Prelude.{◌≡◌, ◌≤◌, ◌+◌, ◌-◌, ◌^◌, [], ◌∷◌, Some, None, IfErr, length};
 ghost use Rattle.std.specs.Bool.{OnTrue, OnFalse};
 ghost use Rattle.ic_text.specs.inner.Survey.{IsWithin, HasRisen, taken, taken_at, counted, surveyed, Leads, Tells};
 ghost use Rattle.ic_text.specs.inner.Survey.{counts_in};
-ghost use Rattle.ic_text.specs.inner.Tokens.{token_of};
 ghost use Rattle.ic_text.specs.Places.{IsLastPlace, IsSyntaxPlace};
 ghost use Rattle.ic_text.specs.Source.{IsPhrase, phrase_words};
 ghost use Rattle.ic_text.specs.SystemSource.{SystemPhrase, IsSystemPhrase, system_words};
 ghost use Rattle.ic_text.specs.SystemText.{SpellsSystem};
-ghost use Rattle.ic_text.specs.Token.{word_of, tokens};
+ghost use Rattle.ic_text.specs.Token.{word, word_of, tokens};
 
 use crate::limits::MAX_TEXT;
-use crate::syntax::{Part, State, step};
-use crate::token::{Token, is_blank, is_word_byte, mark_of};
+use crate::syntax::{Part, State};
+use crate::token::{Mark, is_blank, is_word_byte, mark_of};
 
 /// How many words a text has.
 #[derive(Clone, Copy)]
@@ -31,44 +30,56 @@ pub(crate) struct Progress {
 }
 
 impl Progress {
-    /// Takes one more token, if the grammar has such a token there.
-    fn take(&mut self, token: &Token) -> bool
+    /// Takes a word, if the grammar has such a word there.
+    #[inline(always)]
+    fn take_word(&mut self, text: &[u8]) -> bool
         requires { IsWithin (2 ^ 64 - 2) self.old }
-        ensures taken { OnTrue result
-            (Some self.new ≡ taken (Some self.old) (token_of token.now ∷ [])) }
-        ensures refused { OnFalse result (None ≡ taken (Some self.old) (token_of token.now ∷ [])) }
-        ensures risen { OnTrue result (HasRisen 1 self.old self.new) }
+        ensures taken { OnTrue result (Some self.new ≡ taken (Some self.old) (word text.now ∷ [])) }
+        ensures refused { OnFalse result (None ≡ taken (Some self.old) (word text.now ∷ [])) }
+        ensures words { self.new.counts.words ≡ self.old.counts.words + 1 }
+        ensures depth { self.new.state.depth ≡ self.old.state.depth }
     {
-        let Some(state) = step(self.state, token) else {
-            return false;
-        };
-        self.state = state;
-        if let Token::Word(_) = token {
-            self.counts.words += 1;
-        }
-        true
+        self.counts.words += 1;
+        self.state.take_word(text)
     }
 
     /// Takes the word that a run of word bytes makes, if it has a byte.
+    #[inline(always)]
     fn take_run(&mut self, run: &[u8]) -> bool
         requires { IsWithin (2 ^ 64 - 2) self.old }
         ensures taken { OnTrue result (Some self.new ≡ taken (Some self.old) (word_of run.now)) }
         ensures refused { OnFalse result (None ≡ taken (Some self.old) (word_of run.now)) }
         ensures risen { OnTrue result (HasRisen (length run.now) self.old self.new) }
     {
-        run.is_empty() || self.take(&Token::Word(run))
+        run.is_empty() || self.take_word(run)
     }
 
     /// Takes a byte that is no word byte: a mark or a blank.
-    fn take_byte(&mut self, byte: u8) -> bool
+    fn take_other(&mut self, byte: u8) -> bool
         requires { IsWithin (2 ^ 64 - 2) self.old }
         ensures taken { OnTrue result (Some self.new ≡ taken_at self.old byte) }
         ensures refused { OnFalse result (None ≡ taken_at self.old byte) }
         ensures risen { OnTrue result (HasRisen 1 self.old self.new) }
     {
         match mark_of(byte) {
-            Some(mark) => self.take(&Token::Mark(mark)),
+            Some(mark) => self.state.take_mark(mark),
             None => is_blank(byte),
+        }
+    }
+
+    /// The same, the marks of terms first: these are most.
+    #[inline(always)]
+    fn take_byte(&mut self, byte: u8) -> bool
+        requires { IsWithin (2 ^ 64 - 2) self.old }
+        ensures taken { OnTrue result (Some self.new ≡ taken_at self.old byte) }
+        ensures refused { OnFalse result (None ≡ taken_at self.old byte) }
+        ensures risen { OnTrue result (HasRisen 1 self.old self.new) }
+    {
+        match byte {
+            b'(' => self.state.take_mark(Mark::Open),
+            b')' => self.state.take_mark(Mark::Close),
+            b',' => self.state.take_mark(Mark::Comma),
+            _ => self.take_other(byte),
         }
     }
 

@@ -1,13 +1,13 @@
 //! The grammar: what may come next in a configuration or a system, without a stack of what is open.
 
-ghost use Rattle.std.specs.Prelude.{◌≡◌, ◌+◌, ◌<◌, ◌≤◌, ◌^◌, IfSome};
+ghost use Rattle.std.specs.Prelude.{◌≡◌, ◌+◌, ◌<◌, ◌≤◌, ◌^◌, Some, None};
+ghost use Rattle.std.specs.Bool.{OnTrue, OnFalse};
 ghost use Rattle.ic_text.specs.inner.Braces.{split_at_brace};
-ghost use Rattle.ic_text.specs.inner.Syntax.{agent_spot, word_spot, term_step, end_step, empty_step, part_step};
-ghost use Rattle.ic_text.specs.inner.Syntax.{step, at_beginning};
-ghost use Rattle.ic_text.specs.inner.Tokens.{token_of};
+ghost use Rattle.ic_text.specs.inner.Syntax.{agent_spot, word_spot, end_step, empty_step, part_step};
+ghost use Rattle.ic_text.specs.inner.Syntax.{word_step, inner_step, mark_step, at_beginning};
 
 use crate::name::is_name;
-use crate::token::{Mark, Token};
+use crate::token::Mark;
 use ic_term::is_symbol;
 
 /// The part of a system or a configuration that comes next.
@@ -76,26 +76,6 @@ fn word_spot(text: &[u8]) -> Option<Spot>
     }
 }
 
-/// A token within a term.
-fn term_step(spot: Spot, depth: usize, token: &Token) -> Option<(Spot, usize)>
-    requires { depth + 1 < 2 ^ 64 }
-    ensures value { result ≡ term_step spot depth (token_of token.now) }
-    ensures rises { IfSome result (λ next. next.1 ≤ depth + 1) }
-{
-    match (spot, token) {
-        (Spot::First | Spot::Due, Token::Word(text)) => Some((word_spot(text)?, depth)),
-        (Spot::FirstAgent | Spot::DueAgent, Token::Word(text)) => Some((agent_spot(text)?, depth)),
-        (Spot::Symbol, Token::Mark(Mark::Open)) => Some((Spot::Due, depth + 1)),
-        (Spot::Symbol | Spot::After, Token::Mark(Mark::Comma)) if depth > 0 => {
-            Some((Spot::Due, depth))
-        }
-        (Spot::Symbol | Spot::After, Token::Mark(Mark::Close)) if depth > 0 => {
-            Some((Spot::After, depth - 1))
-        }
-        _ => None,
-    }
-}
-
 /// What follows a term outside all parentheses.
 fn end_step(part: Part, mark: Mark) -> Option<(Part, Spot)>
     ensures { result ≡ end_step part mark }
@@ -150,31 +130,82 @@ impl State {
             depth: 0,
         }
     }
-}
 
-/// The next token: within a term, or outside all parentheses.
-pub(crate) fn step(state: State, token: &Token) -> Option<State>
-    requires { state.depth + 1 < 2 ^ 64 }
-    ensures value { result ≡ step state (token_of token.now) }
-    ensures rises { IfSome result (λ next. next.depth ≤ state.depth + 1) }
-{
-    if let Some((spot, depth)) = term_step(state.spot, state.depth, token) {
-        return Some(State {
-            spot,
-            depth,
-            ..state
-        });
+    /// Takes a word, if the grammar has such a word here.
+    #[inline(always)]
+    pub(crate) fn take_word(&mut self, text: &[u8]) -> bool
+        ensures taken { OnTrue result (Some self.new ≡ word_step self.old text.now) }
+        ensures refused { OnFalse result (None ≡ word_step self.old text.now) }
+        ensures depth { self.new.depth ≡ self.old.depth }
+    {
+        let found = match self.spot {
+            Spot::First | Spot::Due => word_spot(text),
+            Spot::FirstAgent | Spot::DueAgent => agent_spot(text),
+            Spot::Symbol | Spot::After => None,
+        };
+        let Some(spot) = found else {
+            return false;
+        };
+        self.spot = spot;
+        true
     }
-    match token {
-        Token::Mark(mark) if state.depth == 0 => {
-            let (part, spot) = part_step(state.part, state.spot, *mark)?;
-            Some(State {
-                part,
-                spot,
-                depth: 0,
-            })
+
+    /// Takes a mark, if a term has such a mark here: `(` behind its symbol, `,` or `)` within parentheses.
+    #[inline(always)]
+    fn take_inside(&mut self, mark: Mark) -> bool
+        requires { self.old.depth + 1 < 2 ^ 64 }
+        ensures taken { OnTrue result
+            (Some (self.new.spot, self.new.depth) ≡ inner_step self.old mark) }
+        ensures refused { OnFalse result (None ≡ inner_step self.old mark) }
+        ensures left { OnFalse result (self.new ≡ self.old) }
+        ensures part { self.new.part ≡ self.old.part }
+        ensures rises { self.new.depth ≤ self.old.depth + 1 }
+    {
+        match (self.spot, mark) {
+            (Spot::Symbol, Mark::Open) => {
+                self.spot = Spot::Due;
+                self.depth += 1;
+                true
+            }
+            (Spot::Symbol | Spot::After, Mark::Comma) if self.depth > 0 => {
+                self.spot = Spot::Due;
+                true
+            }
+            (Spot::Symbol | Spot::After, Mark::Close) if self.depth > 0 => {
+                self.spot = Spot::After;
+                self.depth -= 1;
+                true
+            }
+            _ => false,
         }
-        _ => None,
+    }
+
+    /// Takes a mark outside all parentheses, if the grammar has such a mark here.
+    #[inline(always)]
+    fn take_outside(&mut self, mark: Mark) -> bool
+        requires { self.old.depth ≡ 0 }
+        ensures taken { OnTrue result
+            (Some (self.new.part, self.new.spot) ≡ part_step self.old.part self.old.spot mark) }
+        ensures refused { OnFalse result (None ≡ part_step self.old.part self.old.spot mark) }
+        ensures depth { self.new.depth ≡ 0 }
+    {
+        let Some((part, spot)) = part_step(self.part, self.spot, mark) else {
+            return false;
+        };
+        self.part = part;
+        self.spot = spot;
+        true
+    }
+
+    /// Takes a mark, if the grammar has such a mark here: within a term, or outside all parentheses.
+    #[inline(always)]
+    pub(crate) fn take_mark(&mut self, mark: Mark) -> bool
+        requires { self.old.depth + 1 < 2 ^ 64 }
+        ensures taken { OnTrue result (Some self.new ≡ mark_step self.old mark) }
+        ensures refused { OnFalse result (None ≡ mark_step self.old mark) }
+        ensures rises { self.new.depth ≤ self.old.depth + 1 }
+    {
+        self.take_inside(mark) || (self.depth == 0 && self.take_outside(mark))
     }
 }
 

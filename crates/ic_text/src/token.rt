@@ -1,4 +1,4 @@
-//! Tokens of a text: words, and marks that stand by themselves.
+//! Bytes of a text: those of words, marks that stand by themselves, and blanks.
 
 ghost use Rattle.std.specs.Prelude.{◌≡◌};
 ghost use Rattle.ic_text.specs.Token.{is_blank, is_word_byte, mark_of};
@@ -16,13 +16,6 @@ pub(crate) enum Mark {
     Semicolon,
     Open,
     Close,
-}
-
-/// A token. A word borrows the text that it stands in.
-#[derive(Clone, Copy)]
-pub(crate) enum Token<'a> {
-    Word(&'a [u8]),
-    Mark(Mark),
 }
 
 /// Whether a byte is dropped between words: a space, a tab, a line feed or a carriage return.

@@ -90,6 +90,17 @@ either_step p s depth (mark m) None = if depth == 0 then outside (part_step p s 
 abbrev pub step : State → Token → Option State
 step st t = either_step st.part st.spot st.depth t (term_step st.spot st.depth t)
 
+-- the check behind a word, and behind a mark
+abbrev pub word_step : State → List ℕ → Option State
+word_step st text = step st (word text)
+
+abbrev pub mark_step : State → Mark → Option State
+mark_step st m = step st (mark m)
+
+-- a mark within a term
+abbrev pub inner_step : State → Mark → Option (Spot × ℕ)
+inner_step st m = term_step st.spot st.depth (mark m)
+
 -- where the check of a part begins, in front of its first mark
 abbrev pub at_beginning : Part → State
 at_beginning p = record { part = p; spot = After; depth = 0 }
