@@ -54,3 +54,5 @@ pub mod Ending
 pub mod Heads
 pub mod PassedLimits
 pub mod Keeping
+pub mod Cutting
+pub mod Fronts

@@ -1,11 +1,11 @@
 -- A text is scanned from its end, byte by byte.
-use Rattle.std.proofs.Common.{◌≡◌, ℕ, suc, ◌+◌, ◌-◌, ◌<◌, ◌≤◌, ◌^◌, Bool, true, false, cond, List, [], ◌∷◌, ◌++◌, Option, None, Some, length, take, drop, get_or, refl, sym, ap, ◌∙◌, subst, append_assoc, append-nil, arith, length-append, length-drop}
+use Rattle.std.proofs.Common.{◌≡◌, ℕ, suc, ◌+◌, ◌-◌, ◌<◌, ◌≤◌, ◌^◌, Bool, true, false, cond, List, [], ◌∷◌, ◌++◌, Option, None, Some, length, take, drop, get_or, refl, sym, ap, ◌∙◌, subst, append_assoc, append-nil, arith, length-append}
 use Rattle.std.specs.List.{AllByRecursion}
 use Rattle.std.proofs.Math.Seq.{drop-length}
 use Rattle.std.proofs.lemmas.List.{drop_more, length-take, take-append-drop}
 use Rattle.ic_text.specs.declared.token.Mark.{Mark}
-use Rattle.ic_text.specs.Token.{Token, mark, is_blank, is_word_byte, mark_of, word_of, before, followed, tokens_at, tokens_behind, tokens}
-use Rattle.ic_text.specs.inner.Prefix.{Scanned, mark_scan, scan, scan_run}
+use Rattle.ic_text.specs.Token.{Token, is_blank, is_word_byte, mark_of, word_of, before, followed, tokens_at, tokens_behind, tokens}
+use Rattle.ic_text.specs.inner.Prefix.{Scanned, scan, scan_run}
 use Rattle.ic_text.specs.lemmas.ReadOnce.{some-injective}
 use Rattle.ic_text.specs.lemmas.WordRuns.{tokens-parted}
 use Rattle.ic_text.proofs.Scanning.{counts_room, scan_fits}

@@ -146,7 +146,7 @@ fn too_many_nodes(nodes: &[Node]) -> Option<Excess>
 }
 
 /// The word with which a configuration passes a limit, the first one if there is one.
-fn config_excess(nodes: &[Node], terms: usize) -> Option<Excess>
+pub(crate) fn config_excess(nodes: &[Node], terms: usize) -> Option<Excess>
     requires { sum_by (λ w. w.arity) (nodes_of nodes.now) < 2 ^ 64 }
     ensures { IsFirstExcess (λ bound j. config_keeps terms bound (take j (nodes_of nodes.now)))
         (length (nodes_of nodes.now)) result }

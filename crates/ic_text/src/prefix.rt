@@ -1,15 +1,16 @@
 //! A configuration in prefix notation, made of its bytes without a step into what they nest.
 
-ghost use Rattle.std.specs.Prelude.{◌≡◌, ◌+◌, ◌*◌, ◌<◌, ◌^◌, ◌∷◌, IfOk, OnOk, List, Some, length};
+ghost use Rattle.std.specs.Prelude.{◌≡◌, ◌+◌, ◌-◌, ◌*◌, ◌<◌, ◌^◌, ◌∷◌, IfOk, OnOk, List, Some, length, take};
 ghost use Rattle.std.specs.List.{AllByRecursion};
 ghost use Rattle.ic_text.specs.declared.token.Mark.TheVariants.{LeftBrace};
-ghost use Rattle.ic_text.specs.Token.{Token, mark, tokens};
+ghost use Rattle.ic_text.specs.Token.{Token, mark, mark_of, tokens};
 ghost use Rattle.ic_text.specs.Source.{Phrase, phrase_words};
 ghost use Rattle.ic_text.specs.SystemSource.{RulePhrase, rules_words};
-ghost use Rattle.ic_text.specs.inner.Prefix.{mark_scan, nodes_of, scan, scan_run, scanned};
+ghost use Rattle.ic_text.specs.inner.Prefix.{IsEnough, cut_at, cut_from, cut_of, cut_run, nodes_of, scan, scanned};
 ghost use Rattle.ic_text.specs.Words.{phrase_prefix, rules_prefix};
 
 use crate::token::{Mark, is_word_byte, mark_of};
+use ic_term::MAX_NODES;
 use std::alloc::{AllocError, Global};
 
 /// A word, and how many arguments stand behind it.
@@ -36,11 +37,13 @@ impl Prefix<'_> {
     }
 }
 
-/// What is known of tokens that are scanned from their end: the words, the arguments so far of each list that
-/// is open, those of the list that just opened, and the terms outside all parentheses before a `|`.
+/// What is known of tokens that are scanned from their end: their words but for the last ones, and how many more of those
+/// are left out. Then the arguments so far of each list that is open, those of the list that just opened, and the terms
+/// outside all parentheses before a `|`.
 #[derive(Drop)]
 pub(crate) struct Scan<'a> {
     nodes: Vec<Node<'a>>,
+    skip: usize,
     counts: Vec<usize>,
     arity: usize,
     terms: usize,
@@ -48,16 +51,21 @@ pub(crate) struct Scan<'a> {
 
 impl<'a> Scan<'a> {
     /// Takes the word that a run of word bytes makes, if it has a byte, before what was scanned.
+    #[inline(always)]
     fn take_run(&mut self, run: &'a [u8]) -> Result<(), AllocError>
         requires { self.old.terms + length run.now < 2 ^ 64 }
-        ensures { OnOk result (scanned self.new ≡ scan_run run.now (scanned self.old)) }
+        ensures { OnOk result (cut_of self.new ≡ cut_run run.now (cut_of self.old)) }
     {
         if run.is_empty() {
             return Ok(());
         }
         let arity = self.arity;
         self.arity = 0;
-        self.nodes.push(Node { text: run, arity })?;
+        if self.skip == 0 {
+            self.nodes.push(Node { text: run, arity })?;
+        } else {
+            self.skip -= 1;
+        }
         if self.counts.is_empty() {
             self.terms += 1;
         }
@@ -65,9 +73,10 @@ impl<'a> Scan<'a> {
     }
 
     /// Takes the mark before what was scanned.
+    #[inline(always)]
     fn take_mark(&mut self, mark: Mark) -> Result<(), AllocError>
         requires { AllByRecursion (λ count. count + 1 < 2 ^ 64) (scanned self.old).counts }
-        ensures { OnOk result (scanned self.new ≡ mark_scan mark (scanned self.old)) }
+        ensures { OnOk result (cut_of self.new ≡ cut_at (Some mark) (cut_of self.old)) }
     {
         self.arity = 0;
         match mark {
@@ -83,18 +92,46 @@ impl<'a> Scan<'a> {
         }
         Ok(())
     }
+
+    /// Takes a byte that is no word byte before what was scanned: a mark, or else a blank.
+    fn take_other(&mut self, byte: u8) -> Result<(), AllocError>
+        requires { AllByRecursion (λ count. count + 1 < 2 ^ 64) (scanned self.old).counts }
+        ensures { OnOk result (cut_of self.new ≡ cut_at (mark_of byte) (cut_of self.old)) }
+    {
+        match mark_of(byte) {
+            Some(mark) => self.take_mark(mark),
+            None => Ok(()),
+        }
+    }
+
+    /// The same, with the commonest bytes tested first.
+    #[inline(always)]
+    fn take_byte(&mut self, byte: u8) -> Result<(), AllocError>
+        requires { AllByRecursion (λ count. count + 1 < 2 ^ 64) (scanned self.old).counts }
+        ensures { OnOk result (cut_of self.new ≡ cut_at (mark_of byte) (cut_of self.old)) }
+    {
+        match byte {
+            b'(' => self.take_mark(Mark::Open),
+            b')' => self.take_mark(Mark::Close),
+            b',' => self.take_mark(Mark::Comma),
+            b'=' => self.take_mark(Mark::Equals),
+            b' ' => Ok(()),
+            _ => self.take_other(byte),
+        }
+    }
 }
 
-/// What is known of the tokens of a text. Takes one pass over its bytes, from their end. Room is made for so many words at
-/// first.
-fn scan_of(alloc: Global, text: &[u8], words: usize) -> Result<Scan, AllocError>
+/// What is known of the tokens of a text, without its last words, so many as `skip`. Takes one pass over its bytes, from
+/// their end. Room is made for so many words at first.
+fn scan_of(alloc: Global, text: &[u8], words: usize, skip: usize) -> Result<Scan, AllocError>
     requires { (ts : List Token) × (tokens text.now ≡ Some ts) }
-    ensures { IfOk result
-        (λ found. (ts : List Token) → tokens text.now ≡ Some ts → scanned found ≡ scan ts) }
+    ensures { IfOk result (λ found. (ts : List Token) → tokens text.now ≡ Some ts →
+        cut_of found ≡ cut_from skip (scan ts)) }
 {
     let nodes = Vec::with_capacity(alloc, words)?;
     let mut scan = Scan {
         nodes,
+        skip,
         counts: Vec::new(alloc),
         arity: 0,
         terms: 0,
@@ -107,13 +144,46 @@ fn scan_of(alloc: Global, text: &[u8], words: usize) -> Result<Scan, AllocError>
         if !is_word_byte(byte) {
             scan.take_run(&text[place + 1..end])?;
             end = place;
-            if let Some(mark) = mark_of(byte) {
-                scan.take_mark(mark)?;
-            }
+            scan.take_byte(byte)?;
         }
     }
     scan.take_run(&text[..end])?;
     Ok(scan)
+}
+
+/// The words of a text in prefix notation without the last ones, so many as `skip`. Room is made for so many words at
+/// first.
+pub(crate) fn front_of(
+    alloc: Global,
+    text: &[u8],
+    words: usize,
+    skip: usize,
+) -> Result<Prefix, AllocError>
+    requires { (ts : List Token) × (tokens text.now ≡ Some ts) }
+    ensures nodes { IfOk result (λ found. (ts : List Token) → tokens text.now ≡ Some ts →
+        nodes_of found.nodes.items ≡ take (length (scan ts).nodes - skip) (scan ts).nodes) }
+    ensures terms { IfOk result (λ found. (ts : List Token) → tokens text.now ≡ Some ts →
+        found.terms ≡ (scan ts).terms) }
+{
+    let scan = scan_of(alloc, text, words, skip)?;
+    let Scan {
+        mut nodes,
+        terms,
+        ..
+    } = scan;
+    nodes.reverse();
+    Ok(Prefix { nodes, terms })
+}
+
+/// How many of the words of a configuration are kept, which has so many: with the first one too many it is refused.
+pub(crate) fn enough_of(words: usize) -> usize
+    ensures { IsEnough result words }
+{
+    if words as u64 > MAX_NODES {
+        MAX_NODES as usize + 1
+    } else {
+        words
+    }
 }
 
 /// The words of a configuration that a text spells, and its number of terms, or those of rules behind a `{`, and how many
@@ -131,12 +201,5 @@ pub(crate) fn prefix_of(alloc: Global, text: &[u8], words: usize) -> Result<Pref
         tokens text.now ≡ Some (mark LeftBrace ∷ rules_words rs) →
         found.terms ≡ 2 * length rs) }
 {
-    let scan = scan_of(alloc, text, words)?;
-    let Scan {
-        mut nodes,
-        terms,
-        ..
-    } = scan;
-    nodes.reverse();
-    Ok(Prefix { nodes, terms })
+    front_of(alloc, text, words, 0)
 }

@@ -13,18 +13,19 @@ ghost use Rattle.ic_text.specs.Words.{written_phrase};
 
 use crate::blame::refusal_of;
 use crate::build::config_of;
-use crate::excess::excess_of;
+use crate::excess::config_excess;
 use crate::fault::TextFault;
 use crate::limits::MAX_TEXT;
 use crate::misread::{Detail, Limit, Misread};
 use crate::number::number_words;
-use crate::prefix::prefix_of;
+use crate::prefix::{enough_of, front_of};
 use crate::refusal::Refusal;
 use crate::survey::{Counts, survey_config};
 use ic_term::{Config, Symbols};
 use std::alloc::Global;
 
-/// The sense of a text that spells a configuration of so many words. Every limit is tested before a term is built.
+/// The sense of a text that spells a configuration of so many words. Every limit is tested before a term is built. Of too
+/// many words only the first ones are kept: no later one can be refused.
 fn sense_of(alloc: Global, text: &[u8], counts: Counts) -> Result<(Symbols, Config), Refusal>
     requires { Tells IsPhrase phrase_words text.now (Some counts) }
     ensures sense { (p : Phrase) → Spells text.now p → Gives (λ v. v) (bare result) (sense p) }
@@ -32,8 +33,9 @@ fn sense_of(alloc: Global, text: &[u8], counts: Counts) -> Result<(Symbols, Conf
     ensures word { (p : Phrase) → Spells text.now p →
         IfErr result (IsToldIn (written_phrase p)) }
 {
-    let prefix = prefix_of(alloc, text, counts.words)?;
-    let excess = excess_of(&prefix.nodes, 0, 0, prefix.terms);
+    let kept = enough_of(counts.words);
+    let prefix = front_of(alloc, text, kept, counts.words - kept)?;
+    let excess = config_excess(&prefix.nodes, prefix.terms);
     let (symbols, items) = number_words(alloc, &prefix.nodes, excess)?;
     match config_of(alloc, items, prefix.terms) {
         Ok(config) => Ok((symbols, config)),

@@ -67,7 +67,7 @@ impl Progress {
         }
     }
 
-    /// The same, the marks of terms first: these are most.
+    /// The same, with the commonest bytes tested first.
     #[inline(always)]
     fn take_byte(&mut self, byte: u8) -> bool
         requires { IsWithin (2 ^ 64 - 2) self.old }
@@ -79,6 +79,8 @@ impl Progress {
             b'(' => self.state.take_mark(Mark::Open),
             b')' => self.state.take_mark(Mark::Close),
             b',' => self.state.take_mark(Mark::Comma),
+            b'=' => self.state.take_mark(Mark::Equals),
+            b' ' => true,
             _ => self.take_other(byte),
         }
     }

@@ -25,11 +25,17 @@ pub fn is_blank(byte: u8) -> bool
     byte == b' ' || byte == b'\t' || byte == b'\n' || byte == b'\r'
 }
 
-/// Whether a byte is of a word: a letter, a digit or `-`.
+/// Whether a byte is of a word: a letter, a digit or `-`, below which stand most marks and blanks.
 pub fn is_word_byte(byte: u8) -> bool
     ensures { result ≡ is_word_byte byte }
 {
-    byte.is_ascii_alphanumeric() || byte == b'-'
+    if byte < b'-' {
+        return false;
+    }
+    if byte < b'A' {
+        return byte.is_ascii_digit() || byte == b'-';
+    }
+    byte.is_ascii_alphabetic()
 }
 
 pub(crate) fn mark_of(byte: u8) -> Option<Mark>
