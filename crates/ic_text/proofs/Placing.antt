@@ -1,9 +1,9 @@
 -- A pass over a text that stops where the grammar takes no more.
-use Rattle.std.proofs.Common.{◌≡◌, ℕ, zero, suc, ◌+◌, ◌-◌, ◌<◌, ◌≤◌, Bool, true, false, not, ◌&&◌, ◌||◌, eqb, List, [], ◌∷◌, ◌++◌, Option, None, Some, length, get_or, take, drop, refl, sym, ap, ◌∙◌, append_assoc, append-nil, arith, ⊎_elim}
+use Rattle.std.proofs.Common.{◌≡◌, ℕ, suc, ◌+◌, ◌-◌, ◌<◌, ◌≤◌, Bool, true, false, not, ◌&&◌, ◌||◌, eqb, List, [], ◌∷◌, ◌++◌, Option, None, Some, length, get_or, take, drop, refl, sym, ap, ◌∙◌, append_assoc, append-nil, arith, ⊎_elim}
 use Rattle.std.specs.List.{list_all}
 use Rattle.std.proofs.lemmas.Bool.{false≢true, cases_lt}
 use Rattle.std.proofs.lemmas.Bool.Decides.{nat_tests}
-use Rattle.std.proofs.lemmas.List.{drop_more, take_more, take-append-drop, take-take, take_all, drop-take, get_or_past}
+use Rattle.std.proofs.lemmas.List.{drop_more, take_more, take-append-drop, take-take, drop-take, get_or_past}
 use Rattle.std.proofs.lemmas.List.Folds.{list_all-append}
 use Rattle.ic_text.specs.declared.syntax.Part.{Part}
 use Rattle.ic_text.specs.declared.survey.Progress.{Progress}
@@ -12,7 +12,7 @@ use Rattle.ic_text.specs.Places.{is_between, IsLastPlace}
 use Rattle.ic_text.specs.inner.Survey.{taken, taken_behind, taken_at, begun, Leads}
 use Rattle.ic_text.specs.lemmas.WordRuns.{tokens-parted, tokens-run}
 use Rattle.ic_text.proofs.TokenLemmas.{run_here}
-use Rattle.ic_text.proofs.Surveying.{behind-before, behind-followed, behind-none}
+use Rattle.ic_text.proofs.Surveying.{behind-followed, behind-none}
 use Rattle.ic_text.proofs.Going.{none_isnt}
 
 before_nothing : (o : Option (List Token)) → before [] o ≡ o

@@ -1,24 +1,22 @@
 -- Where the rules and the configuration of a system stand among its words, and where they are refused.
-use Rattle.std.proofs.Common.{◌≡◌, ℕ, zero, suc, ◌+◌, ◌-◌, ◌*◌, ◌<◌, ◌≤◌, false, List, [], ◌∷◌, ◌++◌, Option, None, Some, length, take, drop, map, get_or, refl, sym, ap, ◌∙◌, subst, arith, append_assoc, append-nil, length-append, length-drop}
-use Rattle.std.specs.Prelude.{sum_by}
-use Rattle.std.specs.List.{flat_map, slice_get}
+use Rattle.std.proofs.Common.{◌≡◌, ℕ, zero, suc, ◌+◌, ◌-◌, ◌<◌, ◌≤◌, List, [], ◌∷◌, ◌++◌, Some, length, take, drop, sym, ap, ◌∙◌, subst, arith, append_assoc, append-nil, length-append, length-drop}
+use Rattle.std.specs.List.{slice_get}
 use Rattle.std.specs.Option.{option_map}
 use Rattle.std.proofs.lemmas.Grind.{flat_map-append}
 use Rattle.std.proofs.lemmas.List.{length-map, take-map, drop-map, take_at, drop_at, take_all, take-append-drop}
 use Rattle.std.proofs.lemmas.List.Folds.{flat_map-map}
 use Rattle.std.proofs.lemmas.Option.{slice_get-map}
 use Rattle.ic_term.specs.Symbol.{Symbol}
-use Rattle.ic_rules.specs.Renaming.{are_paired}
 use Rattle.ic_text.specs.declared.fault.TextFault.{TextFault}
 use Rattle.ic_text.specs.declared.fault.TextFault.TheVariants.{NameCount, Name, Twice, Lopsided}
 use Rattle.ic_text.specs.declared.limits.TheConstants.{MAX_NAME}
 use Rattle.ic_text.specs.declared.prefix.Node.{Node}
 use Rattle.ic_text.specs.Name.{name_text}
-use Rattle.ic_text.specs.SystemSource.{RulePhrase, SystemPhrase, agent_source, rule_nodes}
-use Rattle.ic_text.specs.Words.{all_words, in_a_row, names_among, phrase_prefix, prefix, rule_prefix, rules_prefix, system_prefix, written_system}
+use Rattle.ic_text.specs.SystemSource.{RulePhrase, SystemPhrase, agent_source}
+use Rattle.ic_text.specs.Words.{in_a_row, phrase_prefix, prefix, rule_prefix, rules_prefix, system_prefix, written_system}
 use Rattle.ic_text.specs.WordFaults.{IsFirstWord, IsMiscount, IsRuleWord, IsThirdWord, at_most_twice, uses, words_before}
 use Rattle.ic_text.specs.inner.Prefix.{node_of, nodes_of}
-use Rattle.ic_text.specs.inner.Refused.{BeginsWith, HasFault, IsFaultyIn, IsFirstMiscounted, IsMiscountedRule, IsMiscountedWord}
+use Rattle.ic_text.specs.inner.Refused.{BeginsWith, HasFault, IsFaultyIn, IsMiscountedRule, IsMiscountedWord}
 use Rattle.ic_text.proofs.JoinedPhrase.{length-rules_prefix}
 use Rattle.ic_text.proofs.Refusing.{written-system}
 

@@ -1,12 +1,11 @@
 -- How the words of rules are passed one by one: behind each so many terms of its rule are due.
-use Rattle.std.proofs.Common.{◌≡◌, ℕ, zero, suc, ◌+◌, ◌-◌, ◌*◌, ◌<◌, ◌≤◌, ◌^◌, List, [], ◌∷◌, ◌++◌, length, take, drop, get_or, map, refl, sym, ap, ◌∙◌, subst, arith, append_assoc, append-nil, length-append, length-drop}
-use Rattle.std.specs.Prelude.{sum_by}
+use Rattle.std.proofs.Common.{◌≡◌, ℕ, ◌+◌, ◌-◌, ◌<◌, ◌≤◌, ◌^◌, List, [], ◌∷◌, ◌++◌, length, take, drop, get_or, refl, sym, ap, ◌∙◌, arith, append_assoc, append-nil, length-append, length-drop}
 use Rattle.std.specs.List.{flat_map}
 use Rattle.std.proofs.lemmas.Grind.{flat_map-append}
 use Rattle.std.proofs.lemmas.List.{drop_more, length-map, take-append-drop, take_all}
 use Rattle.ic_term.specs.Symbol.{Symbol}
 use Rattle.ic_text.specs.Source.{Source, leaf, node, Sources, no_sources, more_sources, count_of}
-use Rattle.ic_text.specs.SystemSource.{RulePhrase, agent_source, rule_nodes}
+use Rattle.ic_text.specs.SystemSource.{RulePhrase, agent_source}
 use Rattle.ic_text.specs.Words.{prefix, prefix_of_sources, rules_prefix}
 use Rattle.ic_text.specs.declared.prefix.Node.{Node}
 use Rattle.ic_text.specs.inner.Prefix.{node_of, nodes_of}

@@ -3,7 +3,7 @@ use Rattle.std.proofs.Common.{◌≡◌, ℕ, Bool, true, false, cond, eqb, List
 use Rattle.std.proofs.lemmas.Bool.{false≢true, eqb-true}
 use Rattle.ic_text.specs.declared.token.Mark.{Mark}
 use Rattle.ic_text.specs.declared.token.Mark.TheVariants.{LeftBrace, RightBrace, Less, Greater, Bar, Equals, Comma, Semicolon, Open, Close}
-use Rattle.ic_text.specs.Token.{Token, word, mark, is_blank, is_word_byte, mark_of, word_of, before, followed, tokens_at, tokens_behind, tokens}
+use Rattle.ic_text.specs.Token.{Token, mark, is_blank, is_word_byte, mark_of, word_of, before, followed, tokens_at, tokens_behind, tokens}
 use Rattle.ic_text.specs.inner.Braces.{split_at_brace}
 use Rattle.ic_text.specs.lemmas.ReadOnce.{some-injective, none_is_some}
 use Rattle.ic_text.proofs.GrammarSystem.{in_front, split_at_brace as split_tokens}

@@ -1,14 +1,13 @@
 -- How often a text stands among words, and a name among names.
-use Rattle.std.proofs.Common.{◌≡◌, ℕ, zero, suc, ◌+◌, ◌<◌, ◌≤◌, ◌==◌, Bool, true, false, cond, List, [], ◌∷◌, ◌++◌, Option, None, Some, length, take, drop, map, get_or, refl, sym, ap, ◌∙◌, arith}
+use Rattle.std.proofs.Common.{◌≡◌, ℕ, ◌+◌, ◌<◌, ◌≤◌, ◌==◌, Bool, true, false, cond, List, [], ◌∷◌, ◌++◌, None, Some, length, take, drop, get_or, refl, sym, ap, ◌∙◌, arith}
 use Rattle.std.specs.Prelude.{nat_le}
-use Rattle.std.specs.List.{count_by}
 use Rattle.std.specs.Str.{bytes_eq}
 use Rattle.std.specs.Bool.{Decides}
 use Rattle.std.specs.Cmp.{unsigned_Decides}
 use Rattle.std.proofs.lemmas.Bool.{false≢true, le-leb}
 use Rattle.std.proofs.lemmas.Bool.Decides.{same_from_decides}
 use Rattle.std.proofs.lemmas.Slice.Eq.{bytes_eq-Decides}
-use Rattle.std.proofs.lemmas.List.{take_more, drop_more, take-append-drop, take-take, take_all}
+use Rattle.std.proofs.lemmas.List.{take_more, drop_more, take-append-drop, take-take}
 use Rattle.std.proofs.lemmas.List.Sums.{sum_by-append, sum_by-cons}
 use Rattle.std.proofs.lemmas.Option.{slice_get-get_or}
 use Rattle.ic_term.specs.Symbol.{Symbol}
@@ -17,8 +16,6 @@ use Rattle.ic_text.specs.declared.limits.TheConstants.{MAX_NAME}
 use Rattle.ic_text.specs.Name.{is_name, name_number, name_text, up_to}
 use Rattle.ic_text.specs.Words.{names_among}
 use Rattle.ic_text.specs.WordFaults.{uses, at_most_twice, IsFirstWord}
-use Rattle.ic_text.specs.declared.prefix.Node.{Node}
-use Rattle.ic_text.specs.inner.Prefix.{node_of, nodes_of}
 use Rattle.ic_text.specs.lemmas.NameLemmas.{is_name-name_text, name_number-name_text, name_text-name_number}
 use Rattle.ic_text.proofs.Blaming.{Standing}
 use Rattle.ic_text.proofs.Numbering.{not_le}

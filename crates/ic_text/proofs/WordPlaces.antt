@@ -1,9 +1,9 @@
 -- Where the words of a text begin.
-use Rattle.std.proofs.Common.{◌≡◌, ℕ, zero, suc, ◌+◌, ◌-◌, ◌<◌, ◌≤◌, Bool, true, false, not, ◌&&◌, cond, List, [], ◌∷◌, ◌++◌, Option, None, Some, length, take, drop, get_or, refl, sym, ap, ◌∙◌, arith, length-append}
+use Rattle.std.proofs.Common.{◌≡◌, ℕ, zero, suc, ◌+◌, ◌<◌, ◌≤◌, Bool, true, false, not, ◌&&◌, cond, List, [], ◌∷◌, ◌++◌, Option, None, Some, length, take, drop, get_or, refl, sym, ap, ◌∙◌, arith, length-append}
 use Rattle.std.proofs.lemmas.Bool.{false≢true, and_parts}
 use Rattle.std.proofs.lemmas.List.{take_more, take_all, take-append-drop}
 use Rattle.ic_text.specs.declared.token.Mark.{Mark}
-use Rattle.ic_text.specs.Token.{Token, word, mark, is_blank, is_word_byte, mark_of, word_of, before, tokens_at, followed, tokens_behind, tokens, words_among}
+use Rattle.ic_text.specs.Token.{Token, mark, is_blank, is_word_byte, mark_of, word_of, before, tokens_at, followed, tokens_behind, tokens, words_among}
 use Rattle.ic_text.specs.Places.{is_between, IsWordPlace}
 use Rattle.ic_text.specs.lemmas.ReadOnce.{some-injective, none_is_some}
 use Rattle.ic_text.proofs.InTextOrder.{words_among-append}

@@ -7,7 +7,7 @@ use Rattle.std.proofs.lemmas.Bool.{and_parts, false≢true}
 use Rattle.std.proofs.lemmas.Option.{slice_get_within}
 use Rattle.std.proofs.lemmas.List.{drop_more, drop-drop, length-drop, length-map, take-map, drop-map, take_at, drop_at, reverse-append, reverse-reverse}
 use Rattle.std.proofs.lemmas.Grind.{flat_map-append}
-use Rattle.ic_term.specs.Tree.{Tree, name, agent, trees_of, Pair}
+use Rattle.ic_term.specs.Tree.{Tree, agent, trees_of}
 use Rattle.ic_term.specs.Symbol.{Symbol, symbol_text, has_arity}
 use Rattle.ic_term.specs.Configuration.{Configuration}
 use Rattle.ic_flat.specs.declared.word.Word.{Word}

@@ -1,5 +1,5 @@
 -- The place that is told of a refusal is one of the text.
-use Rattle.std.proofs.Common.{◌≡◌, ℕ, ◌<◌, ◌≤◌, List, Option, None, Some, length, arith}
+use Rattle.std.proofs.Common.{ℕ, ◌≤◌, List, Option, None, Some, length, arith}
 use Rattle.std.specs.Prelude.{IfSome}
 use Rattle.ic_text.specs.declared.fault.TextFault.{TextFault}
 use Rattle.ic_text.specs.declared.fault.TextFault.TheVariants.{Syntax, Limit}

@@ -1,6 +1,5 @@
-use Rattle.std.proofs.Common.{◌≤◌, ◌+◌, length, refl, sym, ap, ◌∙◌, subst, arith}
+use Rattle.std.proofs.Common.{◌≤◌, ◌+◌, refl, sym, subst, arith}
 use Rattle.ic_text.specs.Name.{name_text}
-use Rattle.ic_text.specs.Words.{phrase_prefix}
 use Rattle.ic_text.specs.WordFaults.{IsFirstWord, at_most_twice, uses}
 use Rattle.ic_text.specs.inner.Prefix.{nodes_of}
 use Rattle.ic_text.proofs.RulePlaces.{begins_so, config_behind, has_lopsided, has_miscounted, has_third, has_twice, miscount, rule_word, third_of}

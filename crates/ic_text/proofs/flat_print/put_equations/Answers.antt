@@ -1,4 +1,4 @@
-use Rattle.std.proofs.Common.{◌≡◌, ◌+◌, ◌*◌, ◌≤◌, ◌<◌, ◌++◌, length, take, drop, ap, ◌∙◌, arith, length-drop, drop-drop, take_all}
+use Rattle.std.proofs.Common.{◌++◌, length, drop, ap, ◌∙◌, arith, length-drop, drop-drop, take_all}
 use Rattle.ic_flat.specs.Words.{forest}
 use Rattle.ic_flat.specs.Flat.{pairs_of}
 use Rattle.ic_text.specs.Source.{sides_words}

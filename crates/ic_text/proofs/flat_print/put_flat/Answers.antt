@@ -1,7 +1,7 @@
-use Rattle.std.proofs.Common.{◌≡◌, ◌+◌, ◌*◌, ◌≤◌, ◌++◌, length, take, drop, sym, ap, subst, ◌∙◌, arith}
+use Rattle.std.proofs.Common.{◌++◌, length, sym, ap, subst, ◌∙◌, arith}
 use Rattle.std.specs.List.{list_all}
 use Rattle.ic_flat.specs.Words.{forest, IsWhole, is_word_over}
-use Rattle.ic_flat.specs.Flat.{pairs_of, sides}
+use Rattle.ic_flat.specs.Flat.{pairs_of}
 use Rattle.ic_flat.specs.lemmas.WordLaws.{whole-words}
 use Rattle.ic_flat.specs.lemmas.FlatLaws.{all_terms, length-sides, pairs_of-sides, counted-configuration_words, over-words}
 use Rattle.ic_text.specs.inner.Printing.{terms_text, equations_text}

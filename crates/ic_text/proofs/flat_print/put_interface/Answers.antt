@@ -1,4 +1,4 @@
-use Rattle.std.proofs.Common.{◌≡◌, ◌+◌, ◌≤◌, ◌<◌, ◌++◌, length, drop, ap, ◌∙◌, arith, length-drop, drop-drop}
+use Rattle.std.proofs.Common.{◌++◌, length, drop, ap, ◌∙◌, arith, length-drop, drop-drop}
 use Rattle.ic_flat.specs.Words.{forest}
 use Rattle.ic_text.specs.Source.{words}
 use Rattle.ic_text.specs.Text.{source_of}

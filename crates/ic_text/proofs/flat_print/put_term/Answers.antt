@@ -1,4 +1,4 @@
-use Rattle.std.proofs.Common.{reverse, rules, arith}
+use Rattle.std.proofs.Common.{reverse, rules}
 use Rattle.ic_flat.specs.declared.word.Word.TheVariants.{Name}
 use Rattle.ic_text.proofs.WordTextLemmas.{IsPrinting-start, IsPrinting-within, IsPrinting-next, IsPrinting-text, IsPrinting-rest, IsPrinting-none}
 use Rattle.ic_text.proofs.flat_print.put_term.Goals as goal
