@@ -1,3 +1,4 @@
 pub mod Weighs
+pub mod Crossings
 pub mod Puts
 pub mod Matches

@@ -4,5 +4,6 @@ pub mod Dealing
 pub mod Answers
 pub mod Matching
 pub mod Crews
+pub mod Teams
 pub mod lemmas
 pub mod inner

@@ -3,7 +3,8 @@
 //! `Crew::new` makes a crew and a `Post` for each of its workers. Whoever makes it starts the
 //! threads, each with `stand` at its post. `Crew::play` makes the round of a flight: `deal` divides
 //! its works among the workers, each sends back an `Answer` for each of its works, and
-//! `match_answers` compares them with what was asked for. Dropping the crew ends its workers.
+//! `match_answers` compares them with what was asked for. Dropping the crew ends its workers. A `Team`
+//! is a crew with its threads, which it starts at its first round and joins at its end.
 #![tactic(auto)]
 
 mod answers;
@@ -16,6 +17,8 @@ mod parts;
 mod posts;
 mod sizes;
 mod standing;
+mod teams;
+mod threads;
 mod weighing;
 
 pub use answers::Answer;
@@ -25,3 +28,4 @@ pub use matching::match_answers;
 pub use posts::Post;
 pub use sizes::MAX_SIZE;
 pub use standing::stand;
+pub use teams::Team;

@@ -1,0 +1,77 @@
+//! A crew with its threads, as one value.
+
+use crate::threads::Standing;
+use ic_pool::{Flight, Played, PoolFault, play_alone};
+use std::alloc::Global;
+use std::marker::Model;
+use std::sync::Wait;
+use std::thread::Threads;
+
+/// A crew that stands in threads of its own. They are started at the first round that it makes, and
+/// `finish` joins them. Contracts see how many workers stand.
+#[derive(Drop)]
+pub struct Team {
+    standing: Option<Standing>,
+}
+
+impl Model for Team {
+    ghost use Rattle.std.specs.Prelude.{ℕ};
+    ghost use Rattle.ic_crew.specs.Teams.{workers_of};
+
+    ghost Value = { ℕ };
+
+    ghost view = { λ t. workers_of t.standing };
+}
+
+impl Team {
+    ghost use Rattle.std.specs.Prelude.{◌≡◌, IfOk, OnOk};
+    ghost use Rattle.ic_pool.specs.Played.{round_of};
+    ghost use Rattle.ic_pool.specs.Workers.{ByWorkers, played_by};
+    ghost use Rattle.ic_crew.specs.Teams.{standing_behind};
+
+    /// A team of which nobody stands yet.
+    pub fn new() -> Team
+        ensures { result ≡ 0 }
+    {
+        Team { standing: None }
+    }
+
+    /// The round of a flight, made by the workers that stand. Where none do, so many are started
+    /// first, but no more than 64. It is the same round for every number of workers and in whatever
+    /// order they work.
+    ///
+    /// Its faults are those of `ic_pool::play`: at `NoThread` the threads that were started are
+    /// joined, as they are at `Memory`, `Lost` and `Stranger`, after which nobody stands.
+    pub fn play<R: Threads + Wait + Copy + Send + 'static>(
+        &mut self,
+        rt: &R,
+        alloc: Global,
+        flight: &Flight,
+        workers: usize,
+    ) -> Result<Played, PoolFault>
+        ensures any_workers { IfOk result (λ played. played ≡ round_of flight.now) }
+        ensures answer { ByWorkers result (played_by workers flight.now) }
+        ensures stands { OnOk result (self.new ≡ standing_behind self.old workers) }
+    {
+        if workers == 0 {
+            return Err(PoolFault::NoWorkers);
+        }
+        ic_pool::laws::blocked_flights_are_refused();
+        let standing = match self.standing.take() {
+            Some(standing) => standing,
+            // It needs no workers to be refused.
+            None if flight.blocked() => return play_alone(alloc, flight),
+            None => Standing::start(rt, alloc, workers)?,
+        };
+        let (standing, played) = standing.play(rt, alloc, flight);
+        self.standing = standing;
+        played
+    }
+
+    /// Ends the workers that stand, and joins their threads.
+    pub fn finish<R: Threads>(self, rt: &R) {
+        if let Some(standing) = self.standing {
+            standing.finish(rt);
+        }
+    }
+}
