@@ -46,6 +46,10 @@ STILL = Ends("{} <|x=x>", ("<|x=x>",))
 WIDE_ROUNDS = tuple("<|" + ",".join([it] * 1000) + ">" for it in ("A=B,A=B,A=B,Q=R", "Q=R"))
 WIDE = Ends("{A><B} " + WIDE_ROUNDS[0], WIDE_ROUNDS)
 
+# Two such rounds.
+WAVES_ROUNDS = tuple("<|" + ",".join(it + ["Q=R"] * 3940) + ">" for it in (["D(C)=F(C)"] * 60, ["C=C"] * 60, []))
+WAVES = Ends("{D(x)><F(x);C><C} " + WAVES_ROUNDS[0], WAVES_ROUNDS)
+
 
 class Job(NamedTuple):
     name: str
@@ -123,7 +127,7 @@ def answered(table, line, every):
     if line == "list":
         return [], table, listed(table)
     if words[0] == "submit":
-        system = next(it for it in (LOOP, TWO, STILL, WIDE) if it.text == words[2])
+        system = next(it for it in (LOOP, TWO, STILL, WIDE, WAVES) if it.text == words[2])
         after, answer = submitted(table, words[1], system)
     else:
         after, answer = commanded(table, words[0], words[1])

@@ -162,6 +162,13 @@ class Server:
         self.send(line)
         return self.answer()
 
+    def threads(self):
+        """The numbers of the program's threads. A trial that asks for them is skipped where the system has no /proc."""
+        tasks = Path(f"/proc/{self.process.pid}/task")
+        if not tasks.is_dir():
+            raise unittest.SkipTest(f"there is no {tasks}, which tells the threads of a program")
+        return sorted(int(it.name) for it in tasks.iterdir())
+
     def said(self):
         """The command as a failed trial prints it, with what was given so far."""
         return said_of(self.command, self.given)

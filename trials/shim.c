@@ -14,7 +14,7 @@
    SHIM_LOG=PATH: a line is appended to this file for each call that changes a file, syncs it, writes answers or goes wrong,
    as "KIND AT LENGTH\n" and, of a write, its bytes. KIND is W (written), T (cut or made longer), S (synced), O (written to
    standard output), E (gone wrong, with the call's number in place of AT), C (at the end:
-   how many calls of WHAT there were). */
+   how many calls of WHAT there were), and where SHIM is set B (a thread begun) and J (one joined). */
 #define _GNU_SOURCE
 #include <dlfcn.h>
 #include <errno.h>
@@ -89,7 +89,15 @@ void *realloc(void *old, size_t size) { return outcome_of("growth", ENOMEM) == M
 
 int pthread_create(pthread_t *thread, const pthread_attr_t *attributes, void *(*body)(void *), void *argument) {
     if (outcome_of("thread", EAGAIN) != MADE) return EAGAIN;
-    return NEXT(pthread_create)(thread, attributes, body, argument);
+    int answer = NEXT(pthread_create)(thread, attributes, body, argument);
+    if (is_set && !answer) note('B', 0, 0, NULL);
+    return answer;
+}
+
+int pthread_join(pthread_t thread, void **result) {
+    int answer = NEXT(pthread_join)(thread, result);
+    if (is_set && !answer) note('J', 0, 0, NULL);
+    return answer;
 }
 
 int open(const char *path, int flags, ...) {

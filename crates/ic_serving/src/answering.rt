@@ -18,12 +18,12 @@ ghost use Rattle.ic_serving.specs.Moments.{FaultLeaves, Leaves, IsKeptInLine};
 ghost use Rattle.ic_serving.specs.Faults.{ComesInLine};
 
 use crate::fault::ServeFault;
+use crate::makers::Makers;
 use crate::rounds::make_room;
 use crate::running::run;
 use ic_commands::{Line, print_reply, read_command};
 use ic_desk::Book;
 use ic_disk::Disk;
-use ic_flat_round::Workspace;
 use ic_jobs::Command;
 use ic_pool::{Gate, OpenGate};
 use ic_text::{TextFault, print_fault, put_decimal};
@@ -35,9 +35,10 @@ use std::thread::Threads;
 /// all is kept, unless nothing has changed: so no byte of an answer is there before what its line
 /// leaves is kept. At `Err` some of the line's events may stand in the book.
 ///
-/// Rounds are made by so many workers, and kept after each `every` of them and at the end. The line
-/// is given without its line feed. A refused line is answered by its refusal, a blank one by nothing.
-pub fn answer_line<T: Threads + Wait, D: Disk>(
+/// Rounds are made by so many workers, and kept after each `every` of them and at the end. Workers
+/// that stand for large rounds are joined before it returns. The line is given without its line feed.
+/// A refused line is answered by its refusal, a blank one by nothing.
+pub fn answer_line<T: Threads + Wait + Copy + Send + 'static, D: Disk>(
     rt: &T,
     alloc: Global,
     book: &mut Book<D>,
@@ -55,8 +56,8 @@ pub fn answer_line<T: Threads + Wait, D: Disk>(
     ensures crash { Leaves book.old book.new
         (IsKeptInLine (table_of book.old) (last_kept book.old) line.now) }
 {
-    let mut workspace = Workspace::new(alloc);
-    answer_watched(
+    let mut makers = Makers::new(alloc);
+    let answered = answer_watched(
         rt,
         alloc,
         book,
@@ -64,12 +65,14 @@ pub fn answer_line<T: Threads + Wait, D: Disk>(
         workers,
         every,
         &OpenGate,
-        &mut workspace,
-    )
+        &mut makers,
+    );
+    makers.finish(rt);
+    answered
 }
 
-/// The same, watched by a gate, in lists for rounds that are kept from line to line.
-pub(crate) fn answer_watched<T: Threads + Wait, D: Disk, G: Gate>(
+/// The same, watched by a gate, by makers of rounds that are kept from line to line.
+pub(crate) fn answer_watched<T: Threads + Wait + Copy + Send + 'static, D: Disk, G: Gate>(
     rt: &T,
     alloc: Global,
     book: &mut Book<D>,
@@ -77,7 +80,7 @@ pub(crate) fn answer_watched<T: Threads + Wait, D: Disk, G: Gate>(
     workers: usize,
     every: u64,
     gate: &G,
-    workspace: &mut Workspace,
+    makers: &mut Makers,
 ) -> Result<Vec<u8>, ServeFault>
     requires workers { 1 ≤ workers }
     requires every { 1 ≤ every }
@@ -92,9 +95,7 @@ pub(crate) fn answer_watched<T: Threads + Wait, D: Disk, G: Gate>(
     match read_command(alloc, line) {
         Ok(Line::Blank) => Ok(Vec::new(alloc)),
         Ok(Line::Command(command)) => answer_command(alloc, book, command),
-        Ok(Line::Run(count)) => {
-            answer_run(rt, alloc, book, count, workers, every, gate, workspace)
-        }
+        Ok(Line::Run(count)) => { answer_run(rt, alloc, book, count, workers, every, gate, makers) }
         Err(TextFault::Memory) => Err(ServeFault::Memory),
         Err(fault) => answer_refused(alloc, fault),
     }
@@ -135,7 +136,7 @@ fn answer_command<D: Disk>(
     Ok(ended(print_reply(alloc, &reply)?)?)
 }
 
-fn answer_run<T: Threads + Wait, D: Disk, G: Gate>(
+fn answer_run<T: Threads + Wait + Copy + Send + 'static, D: Disk, G: Gate>(
     rt: &T,
     alloc: Global,
     book: &mut Book<D>,
@@ -143,7 +144,7 @@ fn answer_run<T: Threads + Wait, D: Disk, G: Gate>(
     workers: usize,
     every: u64,
     gate: &G,
-    workspace: &mut Workspace,
+    makers: &mut Makers,
 ) -> Result<Vec<u8>, ServeFault>
     requires workers { 1 ≤ workers }
     requires every { 1 ≤ every }
@@ -161,7 +162,7 @@ fn answer_run<T: Threads + Wait, D: Disk, G: Gate>(
     ensures crash { Leaves book.old book.new (IsKeptWithin (table_of book.old)
         (last_kept book.old) (turns count 0 (table_of book.old))) }
 {
-    let made = run(rt, alloc, book, count, workers, every, gate, workspace)?;
+    let made = run(rt, alloc, book, count, workers, every, gate, makers)?;
     book.facts();
     let mut line = b"ran ".to_vec(alloc)?;
     put_decimal(made, &mut line)?;

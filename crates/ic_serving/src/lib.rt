@@ -10,6 +10,7 @@ mod answering;
 mod fault;
 pub mod laws;
 mod limits;
+mod makers;
 mod rounds;
 mod running;
 mod serving;

@@ -5,8 +5,6 @@ ghost use Rattle.ic_jobs.specs.declared.event.Event.TheVariants.{Round};
 ghost use Rattle.ic_jobs.specs.declared.reply.Reply.{Reply};
 ghost use Rattle.ic_jobs.specs.declared.limits.TheConstants.{MAX_JOBS};
 ghost use Rattle.ic_jobs.specs.Landing.{due, Awaits};
-ghost use Rattle.ic_pool.specs.Played.{round_of};
-ghost use Rattle.ic_pool.specs.Workers.{ByWorkers, played_by};
 ghost use Rattle.ic_desk.specs.declared.limits.TheConstants.{MAX_ENTRIES};
 ghost use Rattle.ic_desk.specs.Book.{is_broken, start_of, table_of, log_of, keeper_of, IsUnchanged};
 ghost use Rattle.ic_desk.specs.Entries.{round_entry};
@@ -19,11 +17,10 @@ ghost use Rattle.ic_serving.specs.Grown.{IsSamePage};
 ghost use Rattle.ic_serving.specs.Moments.{FaultLeaves, Leaves, IsKeptOrNow};
 
 use crate::fault::ServeFault;
-use crate::limits::FEW;
+use crate::makers::Makers;
 use ic_desk::{Book, MAX_ENTRIES};
 use ic_disk::Disk;
-use ic_flat_round::Workspace;
-use ic_pool::{Flight, Gate, Played, PoolFault, play, play_in};
+use ic_pool::Flight;
 use std::alloc::Global;
 use std::sync::Wait;
 use std::thread::Threads;
@@ -63,14 +60,13 @@ pub(crate) fn keep_all<D: Disk>(book: &mut Book<D>) -> Result<(), ServeFault>
 
 /// Makes the round of the job that is due from a place on, or halts it where it can't make one. Its
 /// place, or none where nothing is due.
-pub(crate) fn make_round<T: Threads + Wait, D: Disk, G: Gate>(
+pub(crate) fn make_round<T: Threads + Wait + Copy + Send + 'static, D: Disk>(
     rt: &T,
     alloc: Global,
     book: &mut Book<D>,
     after: usize,
     workers: usize,
-    gate: &G,
-    workspace: &mut Workspace,
+    makers: &mut Makers,
 ) -> Result<Option<usize>, ServeFault>
     requires { 1 ≤ workers }
     ensures idle { IfOk result (λ place. IfNone place (due (table_of book.old) after ≡ None)) }
@@ -91,19 +87,18 @@ pub(crate) fn make_round<T: Threads + Wait, D: Disk, G: Gate>(
     };
     make_room(alloc, book)?;
     let place = flight.place();
-    land_or_halt(rt, alloc, book, &flight, workers, gate, workspace)?;
+    land_or_halt(rt, alloc, book, &flight, workers, makers)?;
     Ok(Some(place))
 }
 
 /// Makes a round that the book awaits and lands it, or halts its job where it can't be made.
-fn land_or_halt<T: Threads + Wait, D: Disk, G: Gate>(
+fn land_or_halt<T: Threads + Wait + Copy + Send + 'static, D: Disk>(
     rt: &T,
     alloc: Global,
     book: &mut Book<D>,
     flight: &Flight,
     workers: usize,
-    gate: &G,
-    workspace: &mut Workspace,
+    makers: &mut Makers,
 ) -> Result<(), ServeFault>
     requires workers { 1 ≤ workers }
     requires room { length (log_of book.old) < MAX_ENTRIES }
@@ -120,7 +115,7 @@ fn land_or_halt<T: Threads + Wait, D: Disk, G: Gate>(
 {
     book.facts();
     ic_pool::laws::refused_flights_are_blocked();
-    let played = match play_flight(rt, alloc, flight, workers, gate, workspace) {
+    let played = match makers.play(rt, alloc, flight, workers) {
         Ok(played) => played,
         Err(fault) => {
             if !fault.is_of_flight() {
@@ -132,26 +127,4 @@ fn land_or_halt<T: Threads + Wait, D: Disk, G: Gate>(
     };
     book.land_awaited(played)?;
     Ok(())
-}
-
-/// The round of a flight. One thread makes it on words, in lists that are kept; several make one of
-/// many equations on terms.
-fn play_flight<T: Threads + Wait, G: Gate>(
-    rt: &T,
-    alloc: Global,
-    flight: &Flight,
-    workers: usize,
-    gate: &G,
-    workspace: &mut Workspace,
-) -> Result<Played, PoolFault>
-    requires { 1 ≤ workers }
-    ensures answer { ByWorkers result (played_by workers flight.now) }
-    ensures round { IfOk result (λ played. played ≡ round_of flight.now) }
-{
-    if workers == 1 || flight.config().equations_len() < FEW {
-        ic_pool::laws::workers_answer_so();
-        ic_pool::laws::refusals_come_in_order();
-        return play_in(alloc, flight, workspace);
-    }
-    play(rt, alloc, flight, workers, gate)
 }

@@ -12,10 +12,10 @@ ghost use Rattle.ic_serving.specs.Grown.{IsSamePage, GoesOn, HasRoom};
 ghost use Rattle.ic_serving.specs.Moments.{FaultLeaves, Leaves, IsKeptOrNow};
 
 use crate::fault::ServeFault;
+use crate::makers::Makers;
 use crate::rounds::{keep_all, make_round};
 use ic_desk::Book;
 use ic_disk::Disk;
-use ic_flat_round::Workspace;
 use ic_jobs::{Job, State};
 use ic_pool::Gate;
 use std::alloc::Global;
@@ -24,7 +24,7 @@ use std::thread::Threads;
 
 /// Makes at most so many rounds of running jobs in turn, and keeps what they leave: after each
 /// `every` rounds and halts, and at the end. How many there were. The gate is told of each.
-pub(crate) fn run<T: Threads + Wait, D: Disk, G: Gate>(
+pub(crate) fn run<T: Threads + Wait + Copy + Send + 'static, D: Disk, G: Gate>(
     rt: &T,
     alloc: Global,
     book: &mut Book<D>,
@@ -32,7 +32,7 @@ pub(crate) fn run<T: Threads + Wait, D: Disk, G: Gate>(
     workers: usize,
     every: u64,
     gate: &G,
-    workspace: &mut Workspace,
+    makers: &mut Makers,
 ) -> Result<u64, ServeFault>
     requires workers { 1 ≤ workers }
     requires every { 1 ≤ every }
@@ -50,13 +50,13 @@ pub(crate) fn run<T: Threads + Wait, D: Disk, G: Gate>(
     ensures crash { Leaves book.old book.new (IsKeptWithin (table_of book.old)
         (last_kept book.old) (turns count 0 (table_of book.old))) }
 {
-    let made = make_rounds(rt, alloc, book, count, workers, every, gate, workspace)?;
+    let made = make_rounds(rt, alloc, book, count, workers, every, gate, makers)?;
     keep_all(book)?;
     Ok(made)
 }
 
 /// The same, without the keep at the end.
-fn make_rounds<T: Threads + Wait, D: Disk, G: Gate>(
+fn make_rounds<T: Threads + Wait + Copy + Send + 'static, D: Disk, G: Gate>(
     rt: &T,
     alloc: Global,
     book: &mut Book<D>,
@@ -64,7 +64,7 @@ fn make_rounds<T: Threads + Wait, D: Disk, G: Gate>(
     workers: usize,
     every: u64,
     gate: &G,
-    workspace: &mut Workspace,
+    makers: &mut Makers,
 ) -> Result<u64, ServeFault>
     requires workers { 1 ≤ workers }
     requires every { 1 ≤ every }
@@ -83,7 +83,7 @@ fn make_rounds<T: Threads + Wait, D: Disk, G: Gate>(
     book.facts();
     let mut place = 0;
     for made in 0..count {
-        match make_round(rt, alloc, book, place, workers, gate, workspace)? {
+        match make_round(rt, alloc, book, place, workers, makers)? {
             None => return Ok(made),
             Some(last) => place = last + 1,
         }

@@ -10,10 +10,10 @@ ghost use Rattle.ic_serving.specs.Serving.{IsServing};
 use crate::answering::answer_watched;
 use crate::fault::ServeFault;
 use crate::limits::MAX_LINES;
+use crate::makers::Makers;
 use crate::writing::write_answer;
 use ic_desk::Book;
 use ic_disk::Disk;
-use ic_flat_round::Workspace;
 use ic_lines::{LineBuffer, LineFault};
 use ic_pool::{Gate, OpenGate};
 use std::alloc::Global;
@@ -23,11 +23,11 @@ use std::thread::Threads;
 
 /// Serves the lines of the reader over the book. Rounds are made by so many workers and kept after
 /// each `every` of them; what a line leaves is kept before the line is answered. An answer is flushed
-/// before the reader is waited for.
+/// before the reader is waited for. Workers that stand for large rounds are joined before it returns.
 ///
 /// At a fault the lines before are answered, but for a fault of the writer; the line at which it came
 /// isn't, though some of its events may stand in the book.
-pub fn serve_lines<T: Threads + Wait, D: Disk, R: Read, W: Write>(
+pub fn serve_lines<T: Threads + Wait + Copy + Send + 'static, D: Disk, R: Read, W: Write>(
     rt: &T,
     alloc: Global,
     book: &mut Book<D>,
@@ -46,9 +46,15 @@ pub fn serve_lines<T: Threads + Wait, D: Disk, R: Read, W: Write>(
     serve_watched(rt, alloc, book, reader, writer, workers, every, &OpenGate)
 }
 
-/// `serve_lines`, watched by a gate: it is told of each round that lands and each halt, and passed by
-/// the works of rounds that threads of their own make.
-pub fn serve_watched<T: Threads + Wait, D: Disk, R: Read, W: Write, G: Gate>(
+/// `serve_lines`, watched by a gate: it is told of each round that lands and each halt. Workers stand
+/// with a gate of their own, which is open.
+pub fn serve_watched<
+    T: Threads + Wait + Copy + Send + 'static,
+    D: Disk,
+    R: Read,
+    W: Write,
+    G: Gate,
+>(
     rt: &T,
     alloc: Global,
     book: &mut Book<D>,
@@ -64,26 +70,50 @@ pub fn serve_watched<T: Threads + Wait, D: Disk, R: Read, W: Write, G: Gate>(
         book.old book.new (W.contents writer.old) (W.contents writer.new)) }
     ensures fault { FaultLeaves MayCome result book.old book.new }
 {
+    let mut makers = Makers::new(alloc);
+    let served = serve_with(
+        rt,
+        alloc,
+        book,
+        reader,
+        writer,
+        workers,
+        every,
+        gate,
+        &mut makers,
+    );
+    makers.finish(rt);
+    served
+}
+
+/// The same, by makers of rounds that outlast it.
+fn serve_with<T: Threads + Wait + Copy + Send + 'static, D: Disk, R: Read, W: Write, G: Gate>(
+    rt: &T,
+    alloc: Global,
+    book: &mut Book<D>,
+    reader: &mut R,
+    writer: &mut W,
+    workers: usize,
+    every: u64,
+    gate: &G,
+    makers: &mut Makers,
+) -> Result<(), ServeFault>
+    requires workers { 1 ≤ workers }
+    requires every { 1 ≤ every }
+    ensures serving { OfLines (R.remaining reader.old) (λ ls. IsServing result ls
+        book.old book.new (W.contents writer.old) (W.contents writer.new)) }
+    ensures fault { FaultLeaves MayCome result book.old book.new }
+{
     ic_commands::laws::one_line_reading();
     ic_lines::laws::lines_are_served_in_one_way();
     book.facts();
     let mut lines = LineBuffer::new(alloc);
-    let mut workspace = Workspace::new(alloc);
     for _ in 0..MAX_LINES {
         book.facts();
         if !lines.take_line(reader, writer)? {
             return Ok(());
         }
-        let answer = answer_watched(
-            rt,
-            alloc,
-            book,
-            lines.line(),
-            workers,
-            every,
-            gate,
-            &mut workspace,
-        )?;
+        let answer = answer_watched(rt, alloc, book, lines.line(), workers, every, gate, makers)?;
         book.facts();
         write_answer(writer, &answer)?;
     }

@@ -37,7 +37,11 @@ use std::sync::Wait;
 use std::thread::Threads;
 
 /// What is answered to a row.
-pub fn answer<R: Threads + Wait>(rt: &R, alloc: Global, row: &Row<'_>) -> Result<Vec<u8>, Trouble> {
+pub fn answer<R: Threads + Wait + Copy + Send + 'static>(
+    rt: &R,
+    alloc: Global,
+    row: &Row<'_>,
+) -> Result<Vec<u8>, Trouble> {
     match row.kind {
         "times" => times(&Server::new(rt, alloc, 1, 1), row.text),
         "feeds" => feeds(&Server::new(rt, alloc, 1, 1), row.text),
@@ -50,7 +54,11 @@ pub fn answer<R: Threads + Wait>(rt: &R, alloc: Global, row: &Row<'_>) -> Result
 }
 
 /// What is answered to a row that begins with the number of workers and after how many rounds is kept.
-fn by_server<R: Threads + Wait>(rt: &R, alloc: Global, row: &Row<'_>) -> Result<Vec<u8>, Trouble> {
+fn by_server<R: Threads + Wait + Copy + Send + 'static>(
+    rt: &R,
+    alloc: Global,
+    row: &Row<'_>,
+) -> Result<Vec<u8>, Trouble> {
     let (server, text) = server_of(rt, alloc, row.text);
     match failing_of(row.kind) {
         Some(failing) => cut(&server, failing, Choice::Synced, text),
@@ -80,7 +88,7 @@ fn first_word(text: &str) -> (&str, &str) {
 }
 
 /// The server of a row that begins with the number of workers and after how many rounds is kept, and what stands behind these.
-fn server_of<'a, 'b, R: Threads + Wait>(
+fn server_of<'a, 'b, R: Threads + Wait + Copy + Send + 'static>(
     rt: &'a R,
     alloc: Global,
     text: &'b str,
@@ -91,7 +99,7 @@ fn server_of<'a, 'b, R: Threads + Wait>(
 }
 
 /// What is answered where nothing fails.
-fn served<R: Threads + Wait>(
+fn served<R: Threads + Wait + Copy + Send + 'static>(
     server: &Server<'_, R>,
     kind: &str,
     text: &str,
@@ -104,13 +112,16 @@ fn served<R: Threads + Wait>(
 }
 
 /// What is written for a text as it stands.
-fn streamed<R: Threads + Wait>(server: &Server<'_, R>, text: &str) -> Result<Vec<u8>, Trouble> {
+fn streamed<R: Threads + Wait + Copy + Send + 'static>(
+    server: &Server<'_, R>,
+    text: &str,
+) -> Result<Vec<u8>, Trouble> {
     let written = server.on_new_disk(&expanded(server.alloc, text)?)?;
     or_nothing(server.alloc, written)
 }
 
 /// What is written for lines, or for several parts of them.
-fn written<R: Threads + Wait>(
+fn written<R: Threads + Wait + Copy + Send + 'static>(
     server: &Server<'_, R>,
     kind: &str,
     text: &str,
@@ -122,7 +133,7 @@ fn written<R: Threads + Wait>(
 }
 
 /// What is written for lines that are served once.
-fn served_once<R: Threads + Wait>(
+fn served_once<R: Threads + Wait + Copy + Send + 'static>(
     server: &Server<'_, R>,
     kind: &str,
     lines: &[u8],
@@ -137,7 +148,7 @@ fn served_once<R: Threads + Wait>(
 }
 
 /// What is answered to lines before ` + `, and to those behind it.
-fn twice<R: Threads + Wait>(
+fn twice<R: Threads + Wait + Copy + Send + 'static>(
     server: &Server<'_, R>,
     kind: &str,
     text: &str,
@@ -153,7 +164,7 @@ fn twice<R: Threads + Wait>(
 }
 
 /// What comes of it where each call fails in turn.
-fn cut<R: Threads + Wait>(
+fn cut<R: Threads + Wait + Copy + Send + 'static>(
     server: &Server<'_, R>,
     failing: Failing,
     choice: Choice,
@@ -175,7 +186,11 @@ fn choice_of(word: &str) -> Option<Choice> {
 }
 
 /// What comes of it where each call to the disk fails in turn.
-fn device<R: Threads + Wait>(rt: &R, alloc: Global, text: &str) -> Result<Vec<u8>, Trouble> {
+fn device<R: Threads + Wait + Copy + Send + 'static>(
+    rt: &R,
+    alloc: Global,
+    text: &str,
+) -> Result<Vec<u8>, Trouble> {
     let (blow, rest) = first_word(text);
     let (then, rest) = first_word(rest);
     let (choice, rest) = first_word(rest);
@@ -197,7 +212,11 @@ fn device<R: Threads + Wait>(rt: &R, alloc: Global, text: &str) -> Result<Vec<u8
 }
 
 /// What is answered over a book that one failed call to the disk breaks.
-fn broken_by<R: Threads + Wait>(rt: &R, alloc: Global, text: &str) -> Result<Vec<u8>, Trouble> {
+fn broken_by<R: Threads + Wait + Copy + Send + 'static>(
+    rt: &R,
+    alloc: Global,
+    text: &str,
+) -> Result<Vec<u8>, Trouble> {
     let (call, rest) = first_word(text);
     let (server, text) = server_of(rt, alloc, rest);
     let (before, behind) = parted(alloc, text)?;
@@ -206,7 +225,11 @@ fn broken_by<R: Threads + Wait>(rt: &R, alloc: Global, text: &str) -> Result<Vec
 }
 
 /// What is answered over a book of which so many rounds aren't kept.
-fn unkept<R: Threads + Wait>(rt: &R, alloc: Global, text: &str) -> Result<Vec<u8>, Trouble> {
+fn unkept<R: Threads + Wait + Copy + Send + 'static>(
+    rt: &R,
+    alloc: Global,
+    text: &str,
+) -> Result<Vec<u8>, Trouble> {
     let (rounds, rest) = first_word(text);
     let (server, text) = server_of(rt, alloc, rest);
     let (before, behind) = parted(alloc, text)?;
@@ -215,7 +238,10 @@ fn unkept<R: Threads + Wait>(rt: &R, alloc: Global, text: &str) -> Result<Vec<u8
 }
 
 /// The answer that a line has each of so many times.
-fn times<R: Threads + Wait>(server: &Server<'_, R>, text: &str) -> Result<Vec<u8>, Trouble> {
+fn times<R: Threads + Wait + Copy + Send + 'static>(
+    server: &Server<'_, R>,
+    text: &str,
+) -> Result<Vec<u8>, Trouble> {
     let alloc = server.alloc;
     let (count, line) = first_word(text);
     let count = number(count);
@@ -236,7 +262,10 @@ fn repeated_answer(alloc: Global, written: &[u8], count: usize) -> Result<Vec<u8
 }
 
 /// What is written for so many line feeds, and a text behind them.
-fn feeds<R: Threads + Wait>(server: &Server<'_, R>, text: &str) -> Result<Vec<u8>, Trouble> {
+fn feeds<R: Threads + Wait + Copy + Send + 'static>(
+    server: &Server<'_, R>,
+    text: &str,
+) -> Result<Vec<u8>, Trouble> {
     let alloc = server.alloc;
     let (count, rest) = first_word(text);
     let mut text = repeated(alloc, b"\n", number(count))?;

@@ -106,7 +106,7 @@ impl Failing {
     }
 
     /// Serves a text on a new disk, where the call of this number fails. Where it is a read, written is what was flushed.
-    fn cut<R: Threads + Wait>(
+    fn cut<R: Threads + Wait + Copy + Send + 'static>(
         self,
         server: &Server<'_, R>,
         text: &[u8],
@@ -156,7 +156,7 @@ fn on_fused_disk(
 }
 
 /// Serves a text on a new disk, of which the call of this number behind the opening fails.
-fn fused<R: Threads + Wait>(
+fn fused<R: Threads + Wait + Copy + Send + 'static>(
     server: &Server<'_, R>,
     text: &[u8],
     call: u64,
@@ -174,7 +174,7 @@ fn fused<R: Threads + Wait>(
 
 /// What is written for a text on a new disk, of which this call behind the opening fails, and then for another over the same
 /// book.
-pub fn broken<R: Threads + Wait>(
+pub fn broken<R: Threads + Wait + Copy + Send + 'static>(
     server: &Server<'_, R>,
     call: u64,
     text: &[u8],
@@ -186,7 +186,7 @@ pub fn broken<R: Threads + Wait>(
 
 /// What comes of a text where each call of a kind fails in turn, until none is left that fails. Behind each of these servings
 /// a crash leaves what it may by this choice, and another text is served on the opened disk.
-pub fn cut_everywhere<R: Threads + Wait>(
+pub fn cut_everywhere<R: Threads + Wait + Copy + Send + 'static>(
     server: &Server<'_, R>,
     failing: Failing,
     choice: Choice,
@@ -199,7 +199,7 @@ pub fn cut_everywhere<R: Threads + Wait>(
 }
 
 /// Tells what comes of a text where each call of a kind fails in turn, until none fails.
-fn tell_cuts<R: Threads + Wait>(
+fn tell_cuts<R: Threads + Wait + Copy + Send + 'static>(
     server: &Server<'_, R>,
     failing: Failing,
     choice: Choice,
@@ -221,7 +221,7 @@ fn tell_cuts<R: Threads + Wait>(
 }
 
 /// Tells what comes of a serving that was cut short, and of another text behind a crash.
-fn tell_cut<R: Threads + Wait>(
+fn tell_cut<R: Threads + Wait + Copy + Send + 'static>(
     server: &Server<'_, R>,
     choice: Choice,
     cut: Cut,

@@ -22,7 +22,7 @@ pub struct Server<'a, R> {
     every: u64,
 }
 
-impl<'a, R: Threads + Wait> Server<'a, R> {
+impl<'a, R: Threads + Wait + Copy + Send + 'static> Server<'a, R> {
     pub fn new(rt: &'a R, alloc: Global, workers: usize, every: usize) -> Server<'a, R> {
         Server {
             rt,

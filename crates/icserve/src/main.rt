@@ -45,7 +45,7 @@ fn main(rt: HostRuntime) -> ExitCode {
 
 /// Does what the words after the program's name ask for. It hands out the path of the disk's file,
 /// notes the calls to it that fail, and appends to `told` where a text is refused.
-fn begin<T: Threads + Wait + Sync>(
+fn begin<T: Threads + Wait + Copy + Send + Sync + 'static>(
     rt: &HostRuntime,
     threads: &T,
     path: &mut String,
@@ -74,7 +74,7 @@ fn path_of(task: &Task) -> &str {
 /// Does a task on standard input and output, but for `create`, and but for the input of `attend` and
 /// of `check`. The lines that tell the place of a fault in a text, and those that tell why a text or a
 /// script can't be read, are appended to `told`.
-fn run<T: Threads + Wait + Sync>(
+fn run<T: Threads + Wait + Copy + Send + Sync + 'static>(
     rt: &HostRuntime,
     threads: &T,
     task: Task,
@@ -193,7 +193,7 @@ fn open<'a>(
 
 /// Serves the lines of standard input over the book, and closes it. Answers to lines that were read together are
 /// written together; every answer is flushed before the input is waited for, and also where the serving ended at a fault.
-fn serve<T: Threads + Wait>(
+fn serve<T: Threads + Wait + Copy + Send + 'static>(
     rt: &HostRuntime,
     threads: &T,
     mut book: Book<NotedDisk<'_>>,

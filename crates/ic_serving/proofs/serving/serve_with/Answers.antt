@@ -16,7 +16,7 @@ use Rattle.ic_serving.specs.lemmas.Reaching.{kept_all, kept_or_same}
 use Rattle.ic_serving.proofs.TurnLemmas.{turns_more}
 use Rattle.ic_serving.proofs.ServeLemmas.{under_first, under_more, ahead, is_ahead, first_more, taken, ended_at, cut_behind, kept_part, left_within, says_book, not_taken, none_behind, not_write, counts_behind, ready_behind}
 use Rattle.ic_serving.proofs.StopLemmas.{stops_first, stops_more, stops_longer, serving_over, serving_err, serving_untaken, fault_behind, fault_untaken, fault_unwritten, still_all, still_last}
-use Rattle.ic_serving.proofs.serving.serve_watched.Goals as goal
+use Rattle.ic_serving.proofs.serving.serve_with.Goals as goal
 
 pub loop-init : goal.loop-init
 loop-init g c = record {

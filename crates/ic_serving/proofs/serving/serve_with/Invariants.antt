@@ -1,6 +1,6 @@
 use Rattle.ic_lines.specs.Taking.{to_come}
 use Rattle.ic_serving.proofs.StopLemmas.{Serves}
-use Rattle.ic_serving.proofs.serving.serve_watched.Given as goal
+use Rattle.ic_serving.proofs.serving.serve_with.Given as goal
 
 abbrev pub invariant-loop : goal.invariant-loop
 invariant-loop g l = Serves (g.R.Read.remaining l.fn.reader) (to_come l.lines (g.R.Read.remaining l.reader)) l.counter

@@ -1,0 +1,94 @@
+"""Workers stand from a serving's first round of 4,000 equations on, for all such rounds, and are joined at its end."""
+
+import signal
+import time
+
+from disks import EMPTY, put, slot
+from known import LOOP, TWO, WAVES, WIDE
+from program import Server, heeds_signals
+from shim import noted, shimmed
+from stops import Stops
+
+# Three rounds of 4,000 equations, of two jobs, with smaller ones between.
+LINES = [f"submit two {TWO.text}", "run 5", f"submit a {WAVES.text}", "run 1", f"submit loop {LOOP.text}"]
+LINES += [f"submit b {WIDE.text}", "run 3", "list", "run 20"]
+SMALL = [f"submit two {TWO.text}", "run 5", f"submit loop {LOOP.text}", "run 100", "list"]
+
+
+class Standing(Stops):
+    seconds = 10
+
+    def asked(self, server, lines):
+        """Gives lines to a server that runs, and fails unless they are answered as the small model has it. The numbers of its
+        threads behind each answer."""
+        threads = []
+        for line, answer in zip(lines, self.answers_to(lines, 100)):
+            self.answers(server, line, answer)
+            threads.append(server.threads())
+        return threads
+
+    def test_the_same_workers_stand_between_two_rounds_and_none_before(self):
+        for workers in (2, 3, 7, 64):
+            with Server(self.disk(f"{workers}.disk"), "--workers", workers) as server:
+                threads = self.asked(server, LINES)
+                self.equals(server.said(), "threads before a round of 4,000 equations", [[server.process.pid]] * 3, threads[:3])
+                self.equals(server.said(), "threads behind it", workers + 1, len(threads[3]))
+                self.equals(server.said(), "threads from then on", [threads[3]] * (len(LINES) - 3), threads[3:])
+                self.ends(server)
+
+    def test_a_serving_without_such_rounds_starts_no_thread(self):
+        for lines, words in ((SMALL, ("--workers", 64)), (LINES, ("--workers", 1))):
+            with Server(self.disk(f"{len(lines)}.disk"), *words) as server:
+                threads = self.asked(server, lines)
+                self.equals(server.said(), "threads behind each answer", [[server.process.pid]] * len(lines), threads)
+                self.ends(server)
+
+    def begun_and_joined(self, refused, workers, *ends):
+        """How many threads a serving of the lines has begun and joined, in which a call goes wrong."""
+        disk, log = self.room / "jobs.disk", self.room / "log"
+        put(disk, slot(1, EMPTY))
+        with Server(disk, "--workers", workers, env=shimmed(refused, log)) as server:
+            for line in LINES:
+                server.send(line)
+                if server.answer() is None:
+                    break
+            ran = server.end()
+        if (ran.status, ran.err) not in ends:
+            self.told(ran.command, f"the end, where it went wrong: {refused}", ends, (ran.status, ran.err))
+        kinds = [it.kind for it in noted(log)]
+        self.found(ran, disk, self.may_be_left(ran, LINES, (), 100, ahead=1))
+        return kinds.count("B"), kinds.count("J")
+
+    def test_each_thread_is_begun_once_and_joined_at_the_end(self):
+        """Also where the serving ends at a fault: of the writer, of the disk, of memory, or of a thread itself."""
+        well, write, device = (0, b""), (4, b"icserve: write\n"), (4, b"icserve: device\n")
+        pool, memory = (4, b"icserve: pool\n"), (4, b"icserve: memory\n")
+        for workers in (2, 5, 64):
+            all_of_them = (workers, workers)
+            came = self.begun_and_joined(f"thread {10**9} once", workers, well)
+            self.equals(f"{workers} workers", "threads begun and joined", all_of_them, came)
+            for answer in range(4, len(LINES) + 1):
+                came = self.begun_and_joined(f"write {answer} on", workers, write)
+                self.equals(f"{workers} workers, the write {answer}", "threads begun and joined", all_of_them, came)
+            for thread in range(1, workers + 1, 1 + workers // 5):
+                came = self.begun_and_joined(f"thread {thread} on", workers, pool)
+                self.equals(f"{workers} workers, the thread {thread}", "threads begun and joined", (thread - 1,) * 2, came)
+        opening = [(3, b"icserve: device\n"), (3, b"icserve: memory\n")]
+        for what, calls, ends in (("disk", 60, (well, device)), ("growth", 4000, (well, pool, memory))):
+            for call in sorted(self.draws(what).sample(range(20, calls), 25)):
+                begun, joined = self.begun_and_joined(f"{what} {call} once", 3, *ends, *opening)
+                self.equals(f"{what} {call} once", "threads joined, of those that were begun", begun, joined)
+
+    def test_kills_while_workers_stand_lose_nothing_that_was_answered(self):
+        draw = self.draws()
+        for number in range(40):
+            every, workers = draw.choice((1, 3, 100)), draw.choice((2, 3, 16))
+            disk, lines = self.disk(f"{number}.disk"), [*LINES, f"submit c {WAVES.text}", "run 30", "run 30"]
+            with Server(disk, "--every", every, "--workers", workers, preexec_fn=heeds_signals) as server:
+                self.equals(server.said(), "threads", workers + 1, len(self.asked(server, lines[:4])[3]))
+                server.send(lines[4:])
+                time.sleep(draw.random() * 0.03)
+                sign = draw.choice((signal.SIGKILL, signal.SIGTERM))
+                ran = server.stop(sign)
+            self.equals(ran.command, "status and standard error", (-sign, b""), (ran.status, ran.err))
+            self.found(ran, disk, self.may_be_left(ran, lines, (), every))
