@@ -1,0 +1,2 @@
+-- What a reader of the public contracts must believe.
+pub mod Output

@@ -1,0 +1,10 @@
+-- To be believed: what stands in an output whose writer has failed.
+use Rattle.std.specs.Prelude.{◌≡◌, ℕ, List, ◌++◌, Option}
+use Rattle.std.specs.Io.KnownBytes.{Appends}
+
+-- these bytes were written, and behind them a front of these
+pub record AppendsFront (old new : Option (List ℕ)) (before behind : List ℕ) : Type 0 where
+  pub sent : List ℕ
+  pub unsent : List ℕ
+  pub parted : behind ≡ sent ++ unsent
+  pub written : Appends old new (before ++ sent)
