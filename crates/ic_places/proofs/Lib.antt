@@ -3,3 +3,4 @@ pub mod LineLaws
 pub mod ColumnLaws
 pub mod ShownLaws
 pub mod Trimmed
+pub mod Arities

@@ -9,8 +9,10 @@ use Rattle.ic_text.specs.declared.misread.Detail.TheVariants.{Nothing, Passed, A
 use Rattle.ic_text.specs.declared.misread.Limit.{Limit}
 use Rattle.ic_text.specs.declared.misread.Limit.TheVariants.{TextBytes, SymbolBytes, Arguments, NameNumber, Symbols, Rules, RuleNodes, Interface, Nodes}
 use Rattle.ic_text.specs.Token.{Token}
-use Rattle.ic_text.specs.Words.{Written}
-use Rattle.ic_text.specs.Places.{IsPlaced}
+use Rattle.ic_text.specs.Reading.{IsSpelling}
+use Rattle.ic_text.specs.WordFaults.{IsSecondUse}
+use Rattle.ic_text.specs.Words.{Written, all_words}
+use Rattle.ic_text.specs.Places.{IsPlaced, IsWordPlace}
 use Rattle.ic_streams.specs.Streams.{TakesIt}
 use Rattle.ic_streams.specs.declared.fault.StreamFault.{StreamFault}
 use Rattle.ic_streams.specs.declared.fault.StreamFault.TheVariants.{Read, Text, Round, Memory, Write}
@@ -23,7 +25,8 @@ use Rattle.ic_places.specs.Sights.{sight_at}
 
 -- what names and symbols are, where a word is neither
 abbrev pub name_sentence : List ℕ
-name_sentence = codes "a name is a letter a to z, maybe with a number from 1 on, and a symbol begins with A to Z or 0 to 9"
+name_sentence = codes "a name is a letter a to z, maybe with a number from 1 on, "
+    ++ codes "and a symbol begins with A to Z or 0 to 9"
 
 -- what is amiss where a configuration doesn't go on, by what stands there: the text may be of another
 -- kind, a system or lines of commands
@@ -72,6 +75,14 @@ limit_sentence Nodes = codes "a configuration has at most 8192 nodes"
 abbrev pub arity_sentence : (before here : ℕ) → List ℕ
 arity_sentence before here = concat (codes "a symbol has one arity: this one has " ∷ decimal here
     ∷ codes " here and " ∷ decimal before ∷ codes " where it stands first" ∷ [])
+
+-- A place of a text is that of the first symbol which has another arity than where it stands first:
+-- that one, and the one that it has here.
+abbrev pub IsOfArities : {P : Type 0} → (P → Type 0) → (P → List Token) → (P → Written) → List ℕ
+    → (at before here : ℕ) → Type 0
+IsOfArities {P} IsOne words written text at before here =
+    (phrase : P) × IsSpelling IsOne words text phrase × (word : ℕ) × IsWordPlace text word at
+    × IsSecondUse before here (all_words (written phrase)) word
 
 -- what is amiss at the place of a refusal, by what stands there
 abbrev pub sight_sentence : Kind → TextFault → Detail → Sight → List ℕ

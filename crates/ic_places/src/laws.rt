@@ -8,8 +8,15 @@ ghost use Rattle.ic_text.specs.Token.{is_blank};
 ghost use Rattle.ic_term.specs.declared.limits.TheConstants.{MAX_ARITY, MAX_INTERFACE, MAX_NODES, MAX_SYMBOLS, MAX_SYMBOL_TEXT};
 ghost use Rattle.ic_rules.specs.declared.limits.TheConstants.{MAX_RULES, MAX_RULE_NODES};
 ghost use Rattle.ic_text.specs.declared.limits.TheConstants.{MAX_NAME, MAX_TEXT};
+ghost use Rattle.ic_text.specs.declared.fault.TextFault.TheVariants.{Arity};
+ghost use Rattle.ic_text.specs.declared.misread.Detail.{Detail};
 ghost use Rattle.ic_text.specs.declared.misread.Limit.TheVariants.{TextBytes, SymbolBytes, Arguments, NameNumber, Symbols, Rules, RuleNodes, Interface, Nodes};
-ghost use Rattle.ic_places.specs.Telling.{limit_sentence};
+ghost use Rattle.ic_text.specs.Places.{IsPlaced};
+ghost use Rattle.ic_text.specs.Source.{IsPhrase, phrase_words};
+ghost use Rattle.ic_text.specs.SystemSource.{IsSystemPhrase, system_words};
+ghost use Rattle.ic_text.specs.Words.{written_phrase, written_system};
+ghost use Rattle.ic_places.specs.declared.telling.Kind.{Kind};
+ghost use Rattle.ic_places.specs.Telling.{IsOfArities, arity_sentence, limit_sentence, sentence};
 ghost use Rattle.ic_places.specs.Lines.{IsMarked, begins_with_feed, column, first_line, is_ascii, is_feed, is_printable, last_line, line_number, margin, picture_of, shown, shown_before, shown_behind, told_at};
 
 /// A line feed ends a line and begins one. The last line is what stands behind the last line feed.
@@ -116,4 +123,23 @@ pub fn limits_are_told_with_their_numbers()
         ≡ codes "an interface has at most " ++ decimal MAX_INTERFACE ++ codes " terms" }
     ensures nodes { limit_sentence Nodes
         ≡ codes "a configuration has at most " ++ decimal MAX_NODES ++ codes " nodes" }
+{}
+
+/// Of a symbol with two arities the sentence tells the one that it has at the place, and then the one with which it stands
+/// first.
+pub fn two_arities_are_told()
+    ensures fewer { arity_sentence 2 1
+        ≡ codes "a symbol has one arity: this one has 1 here and 2 where it stands first" }
+    ensures more { arity_sentence 0 15
+        ≡ codes "a symbol has one arity: this one has 15 here and 0 where it stands first" }
+    ensures config { (kind : Kind) (text : List ℕ) (at : ℕ) (detail : Detail)
+        → IsPlaced IsPhrase phrase_words written_phrase text Arity (Some at) detail
+        → (before : ℕ) × (here : ℕ)
+        × IsOfArities IsPhrase phrase_words written_phrase text at before here
+        × (sentence kind text Arity at detail ≡ arity_sentence before here) }
+    ensures system { (kind : Kind) (text : List ℕ) (at : ℕ) (detail : Detail)
+        → IsPlaced IsSystemPhrase system_words written_system text Arity (Some at) detail
+        → (before : ℕ) × (here : ℕ)
+        × IsOfArities IsSystemPhrase system_words written_system text at before here
+        × (sentence kind text Arity at detail ≡ arity_sentence before here) }
 {}
