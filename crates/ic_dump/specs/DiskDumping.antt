@@ -7,7 +7,7 @@ use Rattle.ic_slots.specs.Held.{IsHeld, the_table}
 use Rattle.ic_slots.specs.Opening.{Says}
 use Rattle.ic_dump.specs.declared.fault.DiskDumpFault.{DiskDumpFault}
 use Rattle.ic_dump.specs.declared.fault.DiskDumpFault.TheVariants.{Open, Dump}
-use Rattle.ic_dump.specs.Dumping.{FaultOf, WritesDump}
+use Rattle.ic_dump.specs.Dumping.{FaultOf, WritesDump, WritesDumpPart}
 
 -- a table that is found on a disk of which reads give this file: the one that the file holds, where the
 -- disk keeps the model
@@ -15,9 +15,16 @@ abbrev pub IsFound : Bool → (file : List ℕ) → List JobParts → Type 0
 IsFound keeps file t = IsTable t × (IsTrue keeps → IsHeld (the_table t) file)
 
 -- the dump of the table that is found is appended to what was written
-abbrev pub WritesFound : List (List ℕ) → Bool → (file : List ℕ) → (old new : Option (List ℕ)) → Type 0
+abbrev pub WritesFound : List (List ℕ) → Bool → (file : List ℕ) → (old new : Option (List ℕ))
+    → Type 0
 WritesFound names keeps file old new =
     (t : List JobParts) × IsFound keeps file t × WritesDump names t old new
+
+-- a front of it is, where the writer fails
+abbrev pub WritesFoundPart : List (List ℕ) → Bool → (file : List ℕ) → (old new : Option (List ℕ))
+    → Type 0
+WritesFoundPart names keeps file old new =
+    (t : List JobParts) × IsFound keeps file t × WritesDumpPart names t old new
 
 -- what a fault says: what the file holds in the place of a table, or that a table is found of which
 -- this is the fault

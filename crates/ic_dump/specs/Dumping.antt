@@ -2,6 +2,7 @@
 use Rattle.std.specs.Prelude.{◌≡◌, ℕ, List, [], ◌∷◌, ◌++◌, Bool, true, not, is_some, Option, None, Some, Result, Ok, Err, filter, find}
 use Rattle.std.specs.List.{flat_map, list_any}
 use Rattle.std.specs.Io.KnownBytes.{Appends}
+use Rattle.ic_output.specs.Output.{AppendsFront}
 use Rattle.ic_jobs.specs.Job.{JobParts}
 use Rattle.ic_jobs.specs.Table.{is_named, job_named}
 use Rattle.ic_dump.specs.declared.fault.DumpFault.{DumpFault}
@@ -47,6 +48,12 @@ dumped names t =
 abbrev pub WritesDump : List (List ℕ) → List JobParts → Option (List ℕ) → Option (List ℕ) → Type 0
 WritesDump names t old new =
     (lines : List ℕ) × (dumped names t ≡ Ok lines) × Appends old new lines
+
+-- the writer fails at the lines of a dump: a front of them is appended to what was written
+abbrev pub WritesDumpPart : List (List ℕ) → List JobParts → Option (List ℕ) → Option (List ℕ)
+    → Type 0
+WritesDumpPart names t old new =
+    (lines : List ℕ) × (dumped names t ≡ Ok lines) × AppendsFront old new [] lines
 
 -- what a fault says of a dump: its refusal, or that there are lines, or nothing
 abbrev pub FaultOf : List (List ℕ) → List JobParts → DumpFault → Type 0

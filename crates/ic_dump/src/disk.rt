@@ -1,10 +1,10 @@
 //! Dumping the table that a disk holds.
 
-ghost use Rattle.std.specs.Prelude.{◌≢◌, IfErr, OnOk};
+ghost use Rattle.std.specs.Prelude.{◌≡◌, ◌≢◌, IfErr, OnOk};
 ghost use Rattle.std.specs.Io.KnownBytes.{Keeps};
 ghost use Rattle.ic_frames.specs.Faults.{CountsOpen};
 ghost use Rattle.ic_frames.specs.Opening.{LeavesAsFound};
-ghost use Rattle.ic_dump.specs.DiskDumping.{SaysOf, WritesFound, opening_of};
+ghost use Rattle.ic_dump.specs.DiskDumping.{SaysOf, WritesFound, WritesFoundPart, opening_of};
 
 use crate::dumping::dump_jobs;
 use crate::fault::{DiskDumpFault, DumpFault};
@@ -18,7 +18,7 @@ use std::io::Write;
 /// Writes the line of each job of these names, or of each job where no name is given, of the table that a disk holds.
 ///
 /// The disk is opened as by `Keeper::open`, and handed back with nothing changed but for a sync. Nothing is written before
-/// all lines are made.
+/// all lines are made, and a front of them where the writer fails.
 pub fn dump_disk<D: Disk, W: Write>(
     alloc: Global,
     disk: D,
@@ -31,6 +31,9 @@ pub fn dump_disk<D: Disk, W: Write>(
     ensures refused { IfErr result.1 (SaysOf names.now (D.keeps disk) (D.content disk)) }
     ensures silent { IfErr result.1 (λ fault. fault ≢ DiskDumpFault.Dump DumpFault.Write
         → Keeps (W.contents writer.old) (W.contents writer.new)) }
+    ensures cut { IfErr result.1 (λ fault. fault ≡ DiskDumpFault.Dump DumpFault.Write
+        → WritesFoundPart names.now (D.keeps disk) (D.content disk)
+        (W.contents writer.old) (W.contents writer.new)) }
 
     // The disk stays as it is.
     ensures crash { LeavesAsFound D.keeps D.content D.image D.clock D.left

@@ -1,15 +1,17 @@
 //! Dumping a table, or some jobs of it.
 
-ghost use Rattle.std.specs.Prelude.{◌≡◌, ◌≢◌, ◌++◌, ◌∷◌, [], ◌<◌, ◌≤◌, IfOk, IfErr, OnOk, Ok, length};
+ghost use Rattle.std.specs.Prelude.{◌≡◌, ◌≢◌, ◌++◌, ◌∷◌, [], ◌<◌, ◌≤◌, IfOk, IfErr, OnOk, OnErr, Ok, length};
 ghost use Rattle.std.specs.List.{list_any};
 ghost use Rattle.std.specs.Io.KnownBytes.{Appends, Keeps};
+ghost use Rattle.ic_output.specs.Output.{AppendsFront};
 ghost use Rattle.ic_jobs.specs.Table.{is_named};
 ghost use Rattle.ic_dump.specs.Telling.{job_line};
-ghost use Rattle.ic_dump.specs.Dumping.{is_chosen, first_missing, dumped, WritesDump, FaultOf};
+ghost use Rattle.ic_dump.specs.Dumping.{is_chosen, first_missing, dumped, WritesDump, WritesDumpPart, FaultOf};
 
 use crate::fault::DumpFault;
 use crate::telling::job_line;
 use ic_jobs::{Job, Table};
+use ic_output::write_flushed;
 use ic_rules::JobName;
 use ic_text::MAX_TEXT;
 use std::alloc::Global;
@@ -18,7 +20,7 @@ use std::io::Write;
 /// Writes the line of each job of these names, or of each job where no name is given, in the order of the table.
 ///
 /// Nothing is written before all lines are made: where no job has one of the names, or one of the lines is longer than a
-/// line may be, nothing is.
+/// line may be, nothing is. Where the writer fails a front of the lines is written.
 pub fn dump_jobs<W: Write>(
     alloc: Global,
     table: &Table,
@@ -30,6 +32,9 @@ pub fn dump_jobs<W: Write>(
     ensures refused { IfErr result (FaultOf names.now table.now) }
     ensures silent { IfErr result (λ fault. fault ≢ DumpFault.Write
         → Keeps (W.contents writer.old) (W.contents writer.new)) }
+    ensures cut { IfErr result (λ fault. fault ≡ DumpFault.Write
+        → WritesDumpPart names.now table.now
+        (W.contents writer.old) (W.contents writer.new)) }
 {
     let lines = dumped(alloc, table, names)?;
     write(writer, &lines)
@@ -106,8 +111,9 @@ fn put_line(alloc: Global, job: &Job, lines: &mut Vec<u8>) -> Result<(), DumpFau
 fn write<W: Write>(writer: &mut W, lines: &[u8]) -> Result<(), DumpFault>
     ensures written { OnOk result
         (Appends (W.contents writer.old) (W.contents writer.new) lines.now) }
+    ensures cut { OnErr result
+        (AppendsFront (W.contents writer.old) (W.contents writer.new) [] lines.now) }
     ensures refused { IfErr result (λ fault. fault ≡ DumpFault.Write) }
 {
-    writer.write_all(lines).map_err(|_| DumpFault::Write)?;
-    writer.flush().map_err(|_| DumpFault::Write)
+    write_flushed(writer, lines).map_err(|_| DumpFault::Write)
 }
