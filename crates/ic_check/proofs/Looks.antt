@@ -9,10 +9,10 @@ use Rattle.std.proofs.lemmas.List.Folds.{list_any-append}
 use Rattle.ic_causes.specs.Causes.{shown_path}
 use Rattle.ic_check.specs.Checking.{Tells}
 use Rattle.ic_check.specs.Content.{Content, text, unread}
-use Rattle.ic_check.specs.Files.{AreLooks, Look, told, refused, LooksOver, LooksOverFront, is_faulty, is_refused, lines_of, reasons_of, verdict_of}
+use Rattle.ic_check.specs.Files.{AreLooks, Look, told, refused, LooksOver, LooksOverFront, LooksOverPart, is_faulty, is_refused, lines_of, reasons_of, verdict_of}
 use Rattle.ic_check.specs.declared.files.Verdict.{Verdict}
 use Rattle.ic_check.specs.declared.files.Verdict.TheVariants.{Fine, Faulty, Unread}
-use Rattle.ic_check.specs.inner.Verdicts.{verdict_by, worse}
+use Rattle.ic_check.specs.inner.Verdicts.{WritesPart, verdict_by, worse}
 
 pub appends_none : (c : Option (List ℕ)) → Appends c c []
 appends_none None = tt
@@ -111,12 +111,37 @@ module _ (Gives : List ℕ → Content → Type 0) where
   over_all f xs i old new a b v past one =
       subst (λ (ps : List (List ℕ)). LooksOver Gives ps old new a b v) (ap (map f) (take_all i xs past)) one
 
-  -- those so far, where nothing more is written
-  pub over_front : {X : Type 0} (f : X → List ℕ) (xs : List X) (i : ℕ) (old mid new : Option (List ℕ)) (a b : List ℕ) (v : Verdict)
-      → LooksOver Gives (map f (take i xs)) old mid a b v → Keeps mid new → LooksOverFront Gives (map f xs) old new
-  over_front f xs i old mid new a b v one kept = record {
+  -- those so far, where nothing more is written or told
+  pub over_front : {X : Type 0} (f : X → List ℕ) (xs : List X) (i : ℕ) (old mid new : Option (List ℕ)) (a b c : List ℕ) (v : Verdict)
+      → LooksOver Gives (map f (take i xs)) old mid a b v → Keeps mid new → c ≡ b → LooksOverFront Gives (map f xs) old new a c
+  over_front f xs i old mid new a b c v one kept same = record {
     many = i;
     looks = one.looks;
     each = subst (λ (ps : List (List ℕ)). AreLooks Gives ps one.looks) (sym (take-map f i xs)) one.each;
     written = appends_kept old mid new (flat_map lines_of one.looks) one.written kept;
+    beside = same ∙ one.beside;
   }
+
+  -- those so far, and a front of what is told of the next one
+  pub over_part : {X : Type 0} (f : X → List ℕ) (xs : List X) (i : ℕ) (x : X) (old mid new : Option (List ℕ)) (a b c : List ℕ) (v : Verdict) → i < length xs → x ≡ get_or xs i x
+      → LooksOver Gives (map f (take i xs)) old mid a b v → WritesPart Gives (f x) mid new → c ≡ b → LooksOverPart Gives (map f xs) old new a c
+  over_part f xs i x old mid new a b c v below is one part same =
+      let last = told part.0 part.1 in
+      let front = part.3 in
+      let more : take (i + 1) (map f xs) ≡ map f (take i xs) ++ f x ∷ [] =
+      take-map f (i + 1) xs ∙ ap (map f) (take_more xs i x below ∙ ap (λ y. take i xs ++ y ∷ []) (sym is)) ∙ map-append f (take i xs) (x ∷ []) in
+      record {
+        many = i + 1;
+        looks = one.looks;
+        lines = part.0;
+        faulty = part.1;
+        each = subst (λ (ps : List (List ℕ)). AreLooks Gives ps (one.looks ++ last ∷ [])) (sym more)
+            (looks_join Gives (map f (take i xs)) one.looks (f x ∷ []) (last ∷ []) one.each (part.2, tt));
+        written = record {
+          sent = front.sent;
+          unsent = front.unsent;
+          parted = front.parted;
+          written = appends_more old mid new (flat_map lines_of one.looks) front.sent one.written front.written;
+        };
+        beside = same ∙ one.beside;
+      }

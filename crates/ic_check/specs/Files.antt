@@ -2,6 +2,7 @@
 use Rattle.std.specs.Prelude.{◌≡◌, ℕ, List, [], ◌∷◌, ◌++◌, Bool, true, false, Option, length, take, if◌then◌else◌}
 use Rattle.std.specs.List.{flat_map, list_any}
 use Rattle.std.specs.Io.KnownBytes.{Appends}
+use Rattle.ic_output.specs.Output.{AppendsFront}
 use Rattle.ic_causes.specs.Causes.{shown_path}
 use Rattle.ic_check.specs.Checking.{Tells}
 use Rattle.ic_check.specs.Content.{Content, text, unread}
@@ -67,10 +68,23 @@ pub record LooksOver (Gives : List ℕ → Content → Type 0) (paths : List (Li
   pub beside : after ≡ before ++ flat_map reasons_of looks
   pub found : verdict ≡ verdict_of looks
 
--- a front of the files is looked over, and nothing else is written
+-- a front of the files is looked over, and nothing else is written or told beside it
 pub record LooksOverFront (Gives : List ℕ → Content → Type 0) (paths : List (List ℕ))
-    (old new : Option (List ℕ)) : Type 0 where
+    (old new : Option (List ℕ)) (before after : List ℕ) : Type 0 where
   pub many : ℕ
   pub looks : List Look
   pub each : AreLooks Gives (take many paths) looks
   pub written : Appends old new (flat_map lines_of looks)
+  pub beside : after ≡ before ++ flat_map reasons_of looks
+
+-- The writer fails at the lines of a text: the files before that one are looked over, and a front of
+-- its lines stands behind theirs.
+pub record LooksOverPart (Gives : List ℕ → Content → Type 0) (paths : List (List ℕ))
+    (old new : Option (List ℕ)) (before after : List ℕ) : Type 0 where
+  pub many : ℕ
+  pub looks : List Look
+  pub lines : List ℕ
+  pub faulty : Bool
+  pub each : AreLooks Gives (take many paths) (looks ++ told lines faulty ∷ [])
+  pub written : AppendsFront old new (flat_map lines_of looks) lines
+  pub beside : after ≡ before ++ flat_map reasons_of looks

@@ -1,16 +1,18 @@
 //! Looking over files, one after the other.
 
-ghost use Rattle.std.specs.Prelude.{◌≡◌, ◌≢◌, ◌⊎◌, [], ◌∷◌, ℕ, List, IfOk, IfErr, map, string_bytes};
+ghost use Rattle.std.specs.Prelude.{◌≡◌, ◌≢◌, ◌⊎◌, [], ◌∷◌, ℕ, List, Bool, IfOk, IfErr, OnOk, OnErr, map, string_bytes};
 ghost use Rattle.std.specs.Io.KnownBytes.{Appends, Keeps};
+ghost use Rattle.ic_output.specs.Output.{AppendsFront};
 ghost use Rattle.ic_causes.specs.Causes.{shown_path};
 ghost use Rattle.ic_check.specs.Checking.{Tells};
 ghost use Rattle.ic_check.specs.Content.{Content};
-ghost use Rattle.ic_check.specs.Files.{LooksOver, LooksOverFront, content_of};
-ghost use Rattle.ic_check.specs.inner.Verdicts.{verdict_by, worse};
+ghost use Rattle.ic_check.specs.Files.{LooksOver, LooksOverFront, LooksOverPart, content_of};
+ghost use Rattle.ic_check.specs.inner.Verdicts.{WritesPart, verdict_by, worse};
 
 use crate::checking::check;
 use ic_causes::shown_path;
-use ic_streams::{StreamFault, write_line};
+use ic_output::write_flushed;
+use ic_streams::StreamFault;
 use std::alloc::{AllocError, Global};
 use std::io::Write;
 
@@ -42,7 +44,7 @@ pub trait Source {
 }
 
 /// Writes the faults and warnings of the files of these paths, in their order, each file's at once. One that isn't given
-/// doesn't keep the others from being looked over; why it isn't is appended to `told`.
+/// doesn't keep the others from being looked over; why it isn't is appended to `told`, also where a fault comes later.
 pub fn check_files<S: Source, W: Write>(
     alloc: Global,
     source: &S,
@@ -55,7 +57,10 @@ pub fn check_files<S: Source, W: Write>(
         (W.contents writer.old) (W.contents writer.new) told.old.items told.new.items verdict) }
     ensures stopped { IfErr result (λ fault. fault ≢ StreamFault.Write
         → LooksOverFront (S.gives source.now) (map string_bytes paths.now)
-        (W.contents writer.old) (W.contents writer.new)) }
+        (W.contents writer.old) (W.contents writer.new) told.old.items told.new.items) }
+    ensures cut { IfErr result (λ fault. fault ≡ StreamFault.Write
+        → LooksOverPart (S.gives source.now) (map string_bytes paths.now)
+        (W.contents writer.old) (W.contents writer.new) told.old.items told.new.items) }
     ensures sort { IfErr result
         (λ fault. (fault ≡ StreamFault.Memory) ⊎ (fault ≡ StreamFault.Write)) }
 {
@@ -88,8 +93,12 @@ fn check_file<S: Source, W: Write>(
 ) -> Result<Verdict, StreamFault>
     ensures looked { IfOk result (λ verdict. LooksOver (S.gives source.now) (path.now ∷ [])
         (W.contents writer.old) (W.contents writer.new) told.old.items told.new.items verdict) }
+    ensures untold { OnErr result (told.new.items ≡ told.old.items) }
     ensures silent { IfErr result (λ fault. fault ≢ StreamFault.Write
         → Keeps (W.contents writer.old) (W.contents writer.new)) }
+    ensures cut { IfErr result (λ fault. fault ≡ StreamFault.Write
+        → WritesPart (S.gives source.now) path.now
+        (W.contents writer.old) (W.contents writer.new)) }
     ensures sort { IfErr result
         (λ fault. (fault ≡ StreamFault.Memory) ⊎ (fault ≡ StreamFault.Write)) }
 {
@@ -128,12 +137,26 @@ fn check_text<W: Write>(
         × Appends (W.contents writer.old) (W.contents writer.new) lines) }
     ensures silent { IfErr result (λ fault. fault ≢ StreamFault.Write
         → Keeps (W.contents writer.old) (W.contents writer.new)) }
+    ensures cut { IfErr result (λ fault. fault ≡ StreamFault.Write
+        → (lines : List ℕ) × (faulty : Bool) × Tells (shown_path path.now) text.now lines faulty
+        × AppendsFront (W.contents writer.old) (W.contents writer.new) [] lines) }
     ensures sort { IfErr result
         (λ fault. (fault ≡ StreamFault.Memory) ⊎ (fault ≡ StreamFault.Write)) }
 {
     let file = shown_path(alloc, path)?;
     let mut lines = Vec::new(alloc);
     let is_faulty = check(alloc, &file, text, &mut lines)?;
-    write_line(writer, &lines)?;
+    write(writer, &lines)?;
     Ok(is_faulty)
+}
+
+/// Writes lines and flushes them.
+fn write<W: Write>(writer: &mut W, lines: &[u8]) -> Result<(), StreamFault>
+    ensures written { OnOk result
+        (Appends (W.contents writer.old) (W.contents writer.new) lines.now) }
+    ensures cut { OnErr result
+        (AppendsFront (W.contents writer.old) (W.contents writer.new) [] lines.now) }
+    ensures refused { IfErr result (λ fault. fault ≡ StreamFault.Write) }
+{
+    write_flushed(writer, lines).map_err(|_| StreamFault::Write)
 }

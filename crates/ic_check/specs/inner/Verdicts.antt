@@ -1,5 +1,8 @@
--- For private functions: what is found, file by file.
-use Rattle.std.specs.Prelude.{Bool, true, false}
+-- For private functions: what is found and written, file by file.
+use Rattle.std.specs.Prelude.{ℕ, List, [], Bool, true, false, Option}
+use Rattle.ic_output.specs.Output.{AppendsFront}
+use Rattle.ic_check.specs.Content.{Content}
+use Rattle.ic_check.specs.Files.{IsLook, told}
 use Rattle.ic_check.specs.declared.files.Verdict.{Verdict}
 use Rattle.ic_check.specs.declared.files.Verdict.TheVariants.{Fine, Faulty, Unread}
 
@@ -15,3 +18,9 @@ worse Unread other = Unread
 abbrev pub verdict_by : Bool → Verdict
 verdict_by true = Faulty
 verdict_by false = Fine
+
+-- a front of the lines of the text of a path's file is written
+abbrev pub WritesPart : (Gives : List ℕ → Content → Type 0) → (path : List ℕ)
+    → (old new : Option (List ℕ)) → Type 0
+WritesPart Gives path old new = (lines : List ℕ) × (faulty : Bool)
+    × IsLook Gives path (told lines faulty) × AppendsFront old new [] lines

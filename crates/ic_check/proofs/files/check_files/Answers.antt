@@ -2,7 +2,8 @@ use Rattle.std.proofs.Common.{◌≡◌, ◌∷◌, [], List, ℕ, subst, sym}
 use Rattle.std.proofs.lemmas.Result.{err_from_is_err_and}
 use Rattle.std.specs.Prelude.{string_bytes}
 use Rattle.ic_check.specs.Files.{LooksOver}
-use Rattle.ic_check.proofs.Looks.{over_all, over_front, over_more, over_none}
+use Rattle.ic_check.specs.inner.Verdicts.{WritesPart}
+use Rattle.ic_check.proofs.Looks.{over_all, over_front, over_more, over_none, over_part}
 use Rattle.ic_check.proofs.files.check_files.Goals as goal
 
 pub returns-in_err-verdict-clause-stopped : goal.returns-in_err-verdict-clause-stopped
@@ -12,8 +13,21 @@ returns-in_err-verdict-clause-stopped g c =
     let old = g.W.Write.contents c.args.writer.now in
     let mid = g.W.Write.contents c.loop-path.writer in
     let new = g.W.Write.contents c.check_file.new.writer in
-    rw (e.1, e.2) (λ other. over_front Gives string_bytes c.args.paths.now c.loop-path.path-index old mid new c.args.told.now.items c.loop-path.told.items c.loop-path.worst c.loop-path.invariant
-    (c.in_err-verdict.ensures.silent other))
+    rw (e.1, e.2) (λ other. over_front Gives string_bytes c.args.paths.now c.loop-path.path-index old mid new c.args.told.now.items c.loop-path.told.items c.check_file.new.told.items c.loop-path.worst
+    c.loop-path.invariant (c.in_err-verdict.ensures.silent other) c.in_err-verdict.ensures.untold)
+
+pub returns-in_err-verdict-clause-cut : goal.returns-in_err-verdict-clause-cut
+returns-in_err-verdict-clause-cut g c =
+    let e = err_from_is_err_and c.from_residual.result c.from_residual.ensures.1 in
+    let Gives = g.S.Source.gives c.args.source.now in
+    let old = g.W.Write.contents c.args.writer.now in
+    let mid = g.W.Write.contents c.loop-path.writer in
+    let new = g.W.Write.contents c.check_file.new.writer in
+    let path = c.path-item.result in
+    rw (e.1, e.2) (λ cut.
+    let part : WritesPart Gives (string_bytes path) mid new = subst (λ (p : List ℕ). WritesPart Gives p mid new) c.as_str.ensures.value (c.in_err-verdict.ensures.cut cut) in
+    over_part Gives string_bytes c.args.paths.now c.loop-path.path-index path old mid new c.args.told.now.items c.loop-path.told.items c.check_file.new.told.items c.loop-path.worst
+    c.loop-path-test.true c.path-item.is c.loop-path.invariant part c.in_err-verdict.ensures.untold)
 
 pub loop-path-preserved : goal.loop-path-preserved
 loop-path-preserved g c =
