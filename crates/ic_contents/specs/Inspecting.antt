@@ -1,6 +1,7 @@
 -- To be believed: what is told of a file, and what is read of it (this project's choice).
 use Rattle.std.specs.Prelude.{◌≡◌, ℕ, List, [], ◌∷◌, Option, None, Some, take}
 use Rattle.std.specs.Io.KnownBytes.{Appends}
+use Rattle.ic_output.specs.Output.{AppendsFront}
 use Rattle.ic_frames.specs.declared.slot.Slot.TheVariants.{First, Second}
 use Rattle.ic_contents.specs.declared.fault.InspectFault.{InspectFault}
 use Rattle.ic_contents.specs.declared.fault.InspectFault.TheVariants.{Read, Changed, Memory, Write}
@@ -20,6 +21,11 @@ pub record Tells (file lines : List ℕ) : Type 0 where
 -- the lines of a file are appended to what was written
 abbrev pub WritesTold : List ℕ → Option (List ℕ) → Option (List ℕ) → Type 0
 WritesTold file old new = (lines : List ℕ) × Tells file lines × Appends old new lines
+
+-- a front of them is, where the writer fails
+abbrev pub WritesToldPart : List ℕ → Option (List ℕ) → Option (List ℕ) → Type 0
+WritesToldPart file old new =
+    (lines : List ℕ) × Tells file lines × AppendsFront old new [] lines
 
 -- these are the first bytes that a reader has, where it tells them
 abbrev pub IsFrontOf : List ℕ → Option (List ℕ) → Type 0

@@ -1,14 +1,16 @@
 //! Showing what a file holds.
 
-ghost use Rattle.std.specs.Prelude.{◌≡◌, ◌≢◌, ◌⊎◌, IfOk, IfErr, OnOk};
+ghost use Rattle.std.specs.Prelude.{◌≡◌, ◌≢◌, ◌⊎◌, [], IfOk, IfErr, OnOk, OnErr};
 ghost use Rattle.std.specs.Io.KnownBytes.{Appends, Consumes, Keeps};
 ghost use Rattle.std.specs.Str.{bytes_eq};
-ghost use Rattle.ic_contents.specs.Inspecting.{Tells, WritesTold, IsFrontOf, IsOtherThan};
+ghost use Rattle.ic_output.specs.Output.{AppendsFront};
+ghost use Rattle.ic_contents.specs.Inspecting.{Tells, WritesTold, WritesToldPart, IsFrontOf, IsOtherThan};
 
 use crate::fault::InspectFault;
 use crate::looking::see;
 use crate::telling::report;
 use ic_frames::Slot;
+use ic_output::write_flushed;
 use std::alloc::{AllocError, Global};
 use std::io::{ErrorKind, Read, Write};
 
@@ -47,7 +49,7 @@ pub fn read_front<R: Read>(alloc: Global, reader: &mut R) -> Result<Vec<u8>, Ins
 /// held, and the jobs of its table.
 ///
 /// The bytes are what a first reading gave, so it has ended before the second one begins. Where that gives other bytes the
-/// file was written meanwhile, and nothing is written.
+/// file was written meanwhile, and nothing is written. Where the writer fails a front of the lines is written.
 pub fn inspect<R: Read, W: Write>(
     alloc: Global,
     first: &[u8],
@@ -61,6 +63,10 @@ pub fn inspect<R: Read, W: Write>(
         → IsOtherThan first.now (R.remaining again.old)) }
     ensures silent { IfErr result (λ fault. fault ≢ InspectFault.Write
         → Keeps (W.contents writer.old) (W.contents writer.new)) }
+    ensures cut { IfErr result (λ fault. fault ≡ InspectFault.Write
+        → WritesToldPart first.now (W.contents writer.old) (W.contents writer.new)) }
+    ensures again_at_cut { IfErr result (λ fault. fault ≡ InspectFault.Write
+        → IsFrontOf first.now (R.remaining again.old)) }
 {
     read_again(alloc, first, again)?;
     let lines = told(alloc, first)?;
@@ -102,8 +108,9 @@ fn are_same(file: &[u8], later: &[u8]) -> bool
 fn write<W: Write>(writer: &mut W, lines: &[u8]) -> Result<(), InspectFault>
     ensures written { OnOk result
         (Appends (W.contents writer.old) (W.contents writer.new) lines.now) }
+    ensures cut { OnErr result
+        (AppendsFront (W.contents writer.old) (W.contents writer.new) [] lines.now) }
     ensures refused { IfErr result (λ fault. fault ≡ InspectFault.Write) }
 {
-    writer.write_all(lines).map_err(|_| InspectFault::Write)?;
-    writer.flush().map_err(|_| InspectFault::Write)
+    write_flushed(writer, lines).map_err(|_| InspectFault::Write)
 }
