@@ -6,3 +6,4 @@ pub mod ReadLemmas
 pub mod MomentLemmas
 pub mod StepLemmas
 pub mod PhaseLemmas
+pub mod ReadingLemmas

@@ -55,6 +55,17 @@ abbrev pub IsBodyAmid : Slot → (ℕ → List ℕ) → (from until : ℕ) → L
 IsBodyAmid slot at from until read = (k : ℕ) → k < size (place slot) read
     → (m : ℕ) × (from ≤ m) × (m ≤ until) × IsByteOf (place slot + HEAD + k) read (at m)
 
+-- These bytes were read of the file between two moments: the head of each slot at one moment, that of
+-- the first slot first, and each body byte by byte behind its head.
+pub record IsReading (at : ℕ → List ℕ) (from until : ℕ) (read : List ℕ) : Type 0 where
+  pub first : ℕ
+  pub second : ℕ
+  pub in_order : (from ≤ first) × (first ≤ second) × (second ≤ until)
+  pub first_head : IsHeadOf First read (at first)
+  pub second_head : IsHeadOf Second read (at second)
+  pub first_body : IsBodyAmid First at first until read
+  pub second_body : IsBodyAmid Second at second until read
+
 -- These bytes were read twice, one reading behind the other: the head of each slot at one moment each
 -- time, and each body of the first reading byte by byte behind its head.
 pub record IsReadTwice (at : ℕ → List ℕ) (read : List ℕ) : Type 0 where
@@ -69,3 +80,8 @@ pub record IsReadTwice (at : ℕ → List ℕ) (read : List ℕ) : Type 0 where
   pub second_head_again : IsHeadOf Second read (at second_again)
   pub first_body : IsBodyAmid First at first first_again read
   pub second_body : IsBodyAmid Second at second second_again read
+
+-- they were, between these two moments
+abbrev pub IsReadTwiceBetween : (ℕ → List ℕ) → (from until : ℕ) → List ℕ → Type 0
+IsReadTwiceBetween at from until read =
+    (twice : IsReadTwice at read) × (from ≤ twice.first) × (twice.second_again ≤ until)

@@ -1,6 +1,7 @@
 //! Laws of the definitions that the contracts of this crate cite.
 
-ghost use Rattle.std.specs.Prelude.{◌≡◌, ◌+◌, ◌++◌, ◌<◌, ◌≤◌, ℕ, List, [], ◌∷◌, Option, Contains, OnOk, codes, drop, length, map, take, true};
+ghost use Rattle.std.specs.Prelude.{◌≡◌, ◌+◌, ◌++◌, ◌<◌, ◌≤◌, ℕ, List, [], ◌∷◌, Option, None, Some, Contains, OnOk, codes, drop, length, map, take, false, true};
+ghost use Rattle.std.specs.Fmt.{decimal};
 ghost use Rattle.ic_disk.specs.Images.{Torn};
 ghost use Rattle.ic_codec.specs.Tables.{IsFormOf};
 ghost use Rattle.ic_jobs.specs.Job.{JobParts};
@@ -17,16 +18,21 @@ ghost use Rattle.ic_frames.specs.Staged.{IsStaged};
 ghost use Rattle.ic_slots.specs.Held.{Held, IsHeld, the_table};
 ghost use Rattle.ic_contents.specs.declared.fault.InspectFault.{InspectFault};
 ghost use Rattle.ic_contents.specs.declared.inspecting.TheConstants.{LIMIT};
+ghost use Rattle.ic_contents.specs.declared.seen.Body.TheVariants.{TooLong, CutShort, NoTable, Holds};
 ghost use Rattle.ic_contents.specs.declared.seen.Seen.{Seen};
 ghost use Rattle.ic_contents.specs.Seeing.{IsSeen};
 ghost use Rattle.ic_contents.specs.Held.{as_newest, held_of, newest_of};
-ghost use Rattle.ic_contents.specs.Report.{newest_text, report, slot_line, table_lines};
-ghost use Rattle.ic_contents.specs.Moments.{IsServed, IsServerStep, IsReadTwice, IsWholeNewest};
-ghost use Rattle.ic_contents.specs.Inspecting.{Tells, all_inspect_faults, inspect_fault_number};
+ghost use Rattle.ic_contents.specs.Report.{line, newest_text, report, slot_line, table_lines};
+ghost use Rattle.ic_contents.specs.Moments.{IsReading, IsServed, IsServerStep, IsReadTwice, IsReadTwiceBetween, IsWholeNewest};
+ghost use Rattle.ic_contents.specs.Inspecting.{Tells, WritesTold, all_inspect_faults, inspect_fault_number};
 
+use crate::fault::InspectFault;
+use crate::inspecting::{inspect, read_front};
 use ic_disk::Disk;
 use ic_frames::laws::{one_body_is_kept, the_newest_slot_is_held};
 use ic_frames::{Frames, KeepFault};
+use std::alloc::Global;
+use std::io::{Read, Write};
 
 /// What is told as held is what the file holds: the table that an opening of the disk finds, or why it finds none.
 pub fn what_is_told_as_held_is_held()
@@ -60,6 +66,44 @@ pub fn a_table_is_told_of_its_slot()
     ic_frames::laws::a_slot_is_open_or_whole();
 }
 
+/// The line of a slot, word for word.
+pub fn slots_are_told_so()
+    ensures first_cut_off { slot_line 49 None ≡ line (codes "slot 1: cut off") }
+    ensures second_cut_off { slot_line 50 None ≡ line (codes "slot 2: cut off") }
+    ensures open_table { (n size : ℕ) (t : List JobParts)
+        → slot_line 49 (Some (record { opened = true; number = n; size = size; body = Holds t }))
+        ≡ line (codes "slot 1: open, number " ++ decimal n ++ codes ", body " ++ decimal size
+        ++ codes ", a table") }
+    ensures closed_table { (n size : ℕ) (t : List JobParts)
+        → slot_line 50 (Some (record { opened = false; number = n; size = size; body = Holds t }))
+        ≡ line (codes "slot 2: closed, number " ++ decimal n ++ codes ", body " ++ decimal size
+        ++ codes ", a table") }
+    ensures open_no_table { (n size : ℕ)
+        → slot_line 49 (Some (record { opened = true; number = n; size = size; body = NoTable }))
+        ≡ line (codes "slot 1: open, number " ++ decimal n ++ codes ", body " ++ decimal size
+        ++ codes ", no table") }
+    ensures closed_no_table { (n size : ℕ)
+        → slot_line 50 (Some (record { opened = false; number = n; size = size; body = NoTable }))
+        ≡ line (codes "slot 2: closed, number " ++ decimal n ++ codes ", body " ++ decimal size
+        ++ codes ", no table") }
+    ensures open_cut_short { (n size : ℕ)
+        → slot_line 49 (Some (record { opened = true; number = n; size = size; body = CutShort }))
+        ≡ line (codes "slot 1: open, number " ++ decimal n ++ codes ", body " ++ decimal size
+        ++ codes ", cut short") }
+    ensures closed_cut_short { (n size : ℕ)
+        → slot_line 50 (Some (record { opened = false; number = n; size = size; body = CutShort }))
+        ≡ line (codes "slot 2: closed, number " ++ decimal n ++ codes ", body " ++ decimal size
+        ++ codes ", cut short") }
+    ensures open_too_long { (n size : ℕ)
+        → slot_line 49 (Some (record { opened = true; number = n; size = size; body = TooLong }))
+        ≡ line (codes "slot 1: open, number " ++ decimal n ++ codes ", body " ++ decimal size
+        ++ codes ", too long") }
+    ensures closed_too_long { (n size : ℕ)
+        → slot_line 50 (Some (record { opened = false; number = n; size = size; body = TooLong }))
+        ≡ line (codes "slot 2: closed, number " ++ decimal n ++ codes ", body " ++ decimal size
+        ++ codes ", too long") }
+{}
+
 /// What is seen of the first 8,388,608 bytes of a file is seen of the file, and so are their lines.
 pub fn the_front_is_seen_as_the_file()
     ensures seen { (slot : Slot) (seen : Option Seen) (file : List ℕ)
@@ -79,6 +123,26 @@ pub fn a_table_that_is_shown_stood()
     ic_frames::laws::a_slot_is_open_or_whole();
     the_newest_slot_is_held();
     ic_slots::laws::the_newest_table_is_held();
+}
+
+/// Two readings of a file over time, of which the second begins where the first has ended: what is told is told of the bytes
+/// of the first, and these were read twice. So a table of them stood in the file meanwhile, as `a_table_that_is_shown_stood`
+/// says.
+pub fn what_is_inspected_was_read_twice<R: Read, S: Read, W: Write>(
+    alloc: Global,
+    reader: &mut R,
+    again: &mut S,
+    writer: &mut W,
+) -> Result<(), InspectFault>
+    ensures told { (all : List ℕ) → R.remaining reader.old ≡ Some all → OnOk result
+        (WritesTold (take LIMIT all) (W.contents writer.old) (W.contents writer.new)) }
+    ensures twice { (at : ℕ → List ℕ) (from between later until : ℕ) (all others : List ℕ)
+        → R.remaining reader.old ≡ Some all → IsReading at from between (take LIMIT all)
+        → S.remaining again.old ≡ Some others → IsReading at later until (take LIMIT others)
+        → between ≤ later → OnOk result (IsReadTwiceBetween at from until (take LIMIT all)) }
+{
+    let first = read_front(alloc, reader)?;
+    inspect(alloc, &first, again, writer)
 }
 
 /// What a keep writes beside a newest slot that is whole is a step of a server, and so is what stands in the midst of it:
