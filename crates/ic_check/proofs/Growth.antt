@@ -1,13 +1,13 @@
 -- Symbols that grow by what rules make of them.
-use Rattle.std.proofs.Common.{◌≡◌, ◌⊎◌, inl, inr, ℕ, zero, suc, ◌+◌, ◌<◌, ◌==◌, List, [], ◌∷◌, ◌++◌, Bool, true, false, ◌≤◌, ◌||◌, IsTrue, length, take, drop, drop-cons, get_or, add-one, append-nil, append_assoc, refl, sym, ap, ◌∙◌, subst, arith, slice_index_or, if◌then◌else◌}
+use Rattle.std.proofs.Common.{◌≡◌, ◌⊎◌, inl, inr, ℕ, zero, suc, ◌+◌, ◌<◌, ◌==◌, List, [], ◌∷◌, ◌++◌, Bool, true, false, ◌≤◌, ◌||◌, IsTrue, length, drop, drop-cons, get_or, add-one, append-nil, append_assoc, refl, sym, ap, ◌∙◌, subst, arith, slice_index_or, if◌then◌else◌}
 use Rattle.std.specs.Cmp.{unsigned_Decides}
-use Rattle.std.specs.List.{AllByRecursion, list_any, remove}
+use Rattle.std.specs.List.{AllByRecursion, remove}
 use Rattle.std.proofs.lemmas.List.{drop_all, get_or_read}
 use Rattle.std.proofs.lemmas.List.Folds.{list_any-append}
 use Rattle.ic_rules.specs.Rule.{Rule}
 use Rattle.ic_term.specs.Configuration.{Configuration}
-use Rattle.ic_check.specs.Symbols.{config_symbols, made_symbols}
-use Rattle.ic_check.specs.Reach.{AllAmong, IsClosed, IsKeptBy, IsReach}
+use Rattle.ic_check.specs.Symbols.{config_symbols}
+use Rattle.ic_check.specs.Reach.{AllAmong, IsKeptBy, IsReach}
 use Rattle.ic_check.specs.inner.Growing.{AreMakings, Grows, HasNoReady, IsKept, IsMaking, IsReady, IsReadyAt, Joins, holds, with_symbol}
 use Rattle.ic_check.specs.declared.reach.Making.{Making}
 use Rattle.ic_check.proofs.Listing.{from_place}

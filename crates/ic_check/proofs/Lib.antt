@@ -9,3 +9,6 @@ pub mod Once
 pub mod Placed
 pub mod Numbered
 pub mod Looks
+pub mod OneLine
+pub mod ToldLines
+pub mod CommandWords

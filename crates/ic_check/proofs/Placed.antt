@@ -1,6 +1,6 @@
 -- Warnings are lines, each of which begins with its place.
 use Rattle.std.proofs.Common.{◌≡◌, ℕ, ◌+◌, ◌==◌, ◌&&◌, Bool, true, false, if◌then◌else◌, List, [], ◌∷◌, ◌++◌, Some, Result, Ok, Err, codes, is_some, length, refl, sym, ap, ◌∙◌, append_assoc, append-nil, subst, arith}
-use Rattle.std.specs.List.{flat_map}
+use Rattle.std.specs.List.{AllByRecursion, flat_map}
 use Rattle.ic_term.specs.Configuration.{Configuration}
 use Rattle.ic_term.specs.Symbol.{Symbol}
 use Rattle.ic_term.specs.Tree.{Tree, name, agent, Pair}
@@ -16,15 +16,9 @@ use Rattle.ic_check.specs.Telling.{place_text}
 use Rattle.ic_check.specs.Symbols.{text_symbols}
 use Rattle.ic_check.specs.Warnings.{Warns, count_of, once_line, once_lines, pair_text, ruleless_line, ruleless_lines, unused_line, unused_lines, unused_words, warning_line}
 
--- these are lines of warnings of this place
-abbrev pub AreOf : List ℕ → List ℕ → Type 0
-AreOf place told = (words : List (List ℕ)) × (told ≡ flat_map (warning_line place) words)
-
-pub none_of : (place : List ℕ) → AreOf place []
-none_of place = ([], refl)
-
-one_of : (place words : List ℕ) → AreOf place (warning_line place words)
-one_of place words = (words ∷ [], sym (append-nil (warning_line place words)))
+-- these are lines of warnings of this place, of words of which this holds
+abbrev pub AreOf : (List ℕ → Type 0) → List ℕ → List ℕ → Type 0
+AreOf Holds place told = (words : List (List ℕ)) × AllByRecursion Holds words × (told ≡ flat_map (warning_line place) words)
 
 lines_append : (place : List ℕ) (a b : List (List ℕ)) → flat_map (warning_line place) (a ++ b) ≡ flat_map (warning_line place) a ++ flat_map (warning_line place) b
 lines_append place [] b = refl
@@ -32,54 +26,87 @@ lines_append place (w ∷ ws) b =
     let f : List (List ℕ) → List ℕ = λ l. flat_map (warning_line place) l in
     ap (λ (l : List ℕ). warning_line place w ++ l) (lines_append place ws b) ∙ sym (append_assoc (warning_line place w) (f ws) (f b))
 
-both_of : (place a b : List ℕ) → AreOf place a → AreOf place b → AreOf place (a ++ b)
-both_of place a b first second = (first.0 ++ second.0, (λ i. first.1 i ++ second.1 i) ∙ sym (lines_append place first.0 second.0))
+all_of_both : (Holds : List ℕ → Type 0) (a b : List (List ℕ)) → AllByRecursion Holds a → AllByRecursion Holds b → AllByRecursion Holds (a ++ b)
+all_of_both Holds [] b first second = second
+all_of_both Holds (w ∷ ws) b first second = (first.0, all_of_both Holds ws b first.1 second)
 
-either_of : (place words : List ℕ) (quiet : Bool) → AreOf place (if quiet then [] else warning_line place words)
-either_of place words true = none_of place
-either_of place words false = one_of place words
+-- this holds of the words of each warning of a system
+pub record OfAllWords (Holds : List ℕ → Type 0) (rs : Rules) : Type 0 where
+  pub ruleless : (a b : ℕ) → Holds (codes "no rule for " ++ pair_text rs.symbols a b)
+  pub once : AllByRecursion (λ s. Holds (s.text ++ codes " stands only once")) rs.symbols
+  pub unused : (i : ℕ) (r : Rule) → Holds (unused_words rs.symbols i r)
 
-told_of : (place words : List ℕ) (told : Bool) → AreOf place (if told then warning_line place words else [])
-told_of place words true = one_of place words
-told_of place words false = none_of place
+module _ (Holds : List ℕ → Type 0) (place : List ℕ) where
+  none_of : AreOf Holds place []
+  none_of = ([], tt, refl)
 
-ruleless_of : (place : List ℕ) (rs : Rules) (t u : Tree) → AreOf place (ruleless_line place rs t u)
-ruleless_of place rs (name n) u = none_of place
-ruleless_of place rs (agent a ts) (name n) = none_of place
-ruleless_of place rs (agent a ts) (agent b us) = either_of place (codes "no rule for " ++ pair_text rs.symbols a b) (is_some (rule_for rs.rules a b))
+  one_of : (words : List ℕ) → Holds words → AreOf Holds place (warning_line place words)
+  one_of words is = (words ∷ [], (is, tt), sym (append-nil (warning_line place words)))
 
-all_ruleless_of : (place : List ℕ) (rs : Rules) (es : List Pair) → AreOf place (ruleless_lines place rs es)
-all_ruleless_of place rs [] = none_of place
-all_ruleless_of place rs (e ∷ es) = both_of place (ruleless_line place rs e.left e.right) (ruleless_lines place rs es) (ruleless_of place rs e.left e.right) (all_ruleless_of place rs es)
+  both_of : (a b : List ℕ) → AreOf Holds place a → AreOf Holds place b → AreOf Holds place (a ++ b)
+  both_of a b first second =
+      (first.0 ++ second.0, all_of_both Holds first.0 second.0 first.1 second.1, (λ i. first.2 i ++ second.2 i) ∙ sym (lines_append place first.0 second.0))
 
-all_once_of : (place all : List ℕ) (i : ℕ) (ss : List Symbol) → AreOf place (once_lines place all i ss)
-all_once_of place all i [] = none_of place
-all_once_of place all i (s ∷ ss) =
-    both_of place (once_line place all i s.text) (once_lines place all (i + 1) ss) (told_of place (s.text ++ codes " stands only once") (count_of all i == 1))
-    (all_once_of place all (i + 1) ss)
+  either_of : (words : List ℕ) → Holds words → (quiet : Bool) → AreOf Holds place (if quiet then [] else warning_line place words)
+  either_of words is true = none_of
+  either_of words is false = one_of words is
 
-all_unused_of : (place : List ℕ) (among : ℕ → Bool) (ss : List Symbol) (i : ℕ) (rs : List Rule) → AreOf place (unused_lines place among ss i rs)
-all_unused_of place among ss i [] = none_of place
-all_unused_of place among ss i (r ∷ rs) =
-    both_of place (unused_line place among ss i r) (unused_lines place among ss (i + 1) rs) (either_of place (unused_words ss i r) (among r.left && among r.right))
-    (all_unused_of place among ss (i + 1) rs)
+  told_of : (words : List ℕ) → Holds words → (told : Bool) → AreOf Holds place (if told then warning_line place words else [])
+  told_of words is true = one_of words is
+  told_of words is false = none_of
 
-pub warnings_of : (place : List ℕ) (rs : Rules) (c : Configuration) (told : List ℕ) → Warns place rs c told → AreOf place told
-warnings_of place rs c told is =
-    let among = is.0 in
-    let one = ruleless_lines place rs c.equations in
-    let two = once_lines place (text_symbols rs.rules c) 0 rs.symbols in
-    let three = unused_lines place among rs.symbols 0 rs.rules in
-    subst (AreOf place) (sym is.2)
-    (both_of place (one ++ two) three (both_of place one two (all_ruleless_of place rs c.equations) (all_once_of place (text_symbols rs.rules c) 0 rs.symbols))
-    (all_unused_of place among rs.symbols 0 rs.rules))
+  module _ (rs : Rules) (of : OfAllWords Holds rs) where
+    ruleless_of : (t u : Tree) → AreOf Holds place (ruleless_line place rs t u)
+    ruleless_of (name n) u = none_of
+    ruleless_of (agent a ts) (name n) = none_of
+    ruleless_of (agent a ts) (agent b us) = either_of (codes "no rule for " ++ pair_text rs.symbols a b) (of.ruleless a b) (is_some (rule_for rs.rules a b))
+
+    all_ruleless_of : (es : List Pair) → AreOf Holds place (ruleless_lines place rs es)
+    all_ruleless_of [] = none_of
+    all_ruleless_of (e ∷ es) = both_of (ruleless_line place rs e.left e.right) (ruleless_lines place rs es) (ruleless_of e.left e.right) (all_ruleless_of es)
+
+    all_unused_of : (among : ℕ → Bool) (i : ℕ) (ls : List Rule) → AreOf Holds place (unused_lines place among rs.symbols i ls)
+    all_unused_of among i [] = none_of
+    all_unused_of among i (r ∷ ls) =
+        both_of (unused_line place among rs.symbols i r) (unused_lines place among rs.symbols (i + 1) ls)
+        (either_of (unused_words rs.symbols i r) (of.unused i r) (among r.left && among r.right)) (all_unused_of among (i + 1) ls)
+
+  all_once_of : (all : List ℕ) (i : ℕ) (ss : List Symbol) → AllByRecursion (λ s. Holds (s.text ++ codes " stands only once")) ss → AreOf Holds place (once_lines place all i ss)
+  all_once_of all i [] of = none_of
+  all_once_of all i (s ∷ ss) of =
+      both_of (once_line place all i s.text) (once_lines place all (i + 1) ss) (told_of (s.text ++ codes " stands only once") of.0 (count_of all i == 1)) (all_once_of all (i + 1) ss of.1)
+
+  pub lines_of_warnings : (rs : Rules) (c : Configuration) (told : List ℕ) → OfAllWords Holds rs → Warns place rs c told → AreOf Holds place told
+  lines_of_warnings rs c told of is =
+      let among = is.0 in
+      let one = ruleless_lines place rs c.equations in
+      let two = once_lines place (text_symbols rs.rules c) 0 rs.symbols in
+      let three = unused_lines place among rs.symbols 0 rs.rules in
+      subst (AreOf Holds place) (sym is.2)
+      (both_of (one ++ two) three (both_of one two (all_ruleless_of rs of c.equations) (all_once_of (text_symbols rs.rules c) 0 rs.symbols of.once))
+      (all_unused_of rs of among 0 rs.rules))
+
+-- ---- whatever their words are
+
+abbrev pub AreLinesOf : List ℕ → List ℕ → Type 0
+AreLinesOf place told = (words : List (List ℕ)) × (told ≡ flat_map (warning_line place) words)
+
+any_words : (rs : Rules) → OfAllWords (λ w. Unit {0}) rs
+any_words rs = record { ruleless = λ a b. tt; once = each rs.symbols; unused = λ i r. tt }
+  where
+    each : (ss : List Symbol) → AllByRecursion (λ s. Unit {0}) ss
+    each [] = tt
+    each (s ∷ ss) = (tt, each ss)
+
+pub warnings_of : (place : List ℕ) (rs : Rules) (c : Configuration) (told : List ℕ) → Warns place rs c told → AreLinesOf place told
+warnings_of place rs c told is = let all = lines_of_warnings (λ w. Unit {0}) place rs c told (any_words rs) is in (all.0, all.2)
 
 -- ---- of a line
 
-nothing_of : (place told : List ℕ) → told ≡ [] → AreOf place told
+nothing_of : (place told : List ℕ) → told ≡ [] → AreLinesOf place told
 nothing_of place told none = ([], none)
 
-asked_of : (place : List ℕ) (asked : Line) (told : List ℕ) → WarnsOf place asked told → AreOf place told
+asked_of : (place : List ℕ) (asked : Line) (told : List ℕ) → WarnsOf place asked told → AreLinesOf place told
 asked_of place Blank told is = nothing_of place told is
 asked_of place (Run k) told is = nothing_of place told is
 asked_of place (Asks (command.Submit job s budget)) told is = warnings_of place s.rules s.config told is
@@ -90,11 +117,11 @@ asked_of place (Asks (command.Cancel job)) told is = nothing_of place told is
 asked_of place (Asks (command.Fetch job)) told is = nothing_of place told is
 asked_of place (Asks command.List) told is = nothing_of place told is
 
-warned_of : (place told : List ℕ) (OfFault : TextFault → List ℕ → Type 0) (answer : Result Line TextFault) → TellsAnswer (WarnsOf place) OfFault answer told false → AreOf place told
+warned_of : (place told : List ℕ) (OfFault : TextFault → List ℕ → Type 0) (answer : Result Line TextFault) → TellsAnswer (WarnsOf place) OfFault answer told false → AreLinesOf place told
 warned_of place told OfFault (Ok asked) is = asked_of place asked told is.0
 warned_of place told OfFault (Err fault) is = let bad : false ≡ true = is.1 in cc
 
-pub line_warnings_of : (file line told : List ℕ) (number : ℕ) → TellsLine file number line told false → AreOf (place_text file (Some number)) told
+pub line_warnings_of : (file line told : List ℕ) (number : ℕ) → TellsLine file number line told false → AreLinesOf (place_text file (Some number)) told
 line_warnings_of file line told number is = warned_of (place_text file (Some number)) told _ is.0 is.2
 
 -- ---- each line of a file is told by its own number

@@ -1,5 +1,5 @@
 -- The symbols of a configuration stay among those that rules reach, whatever number of rounds is made.
-use Rattle.std.proofs.Common.{◌≡◌, ◌≢◌, if◌then◌else◌, ◌⊎◌, inl, inr, ℕ, zero, suc, ◌+◌, ◌==◌, ◌&&◌, List, [], ◌∷◌, ◌++◌, Bool, true, false, Option, None, Some, IsTrue, length, map, slice_get, refl, sym, ap, ◌∙◌, subst, arith}
+use Rattle.std.proofs.Common.{◌≡◌, ◌≢◌, if◌then◌else◌, inl, inr, ℕ, zero, suc, ◌+◌, ◌==◌, ◌&&◌, List, [], ◌∷◌, ◌++◌, Bool, true, false, Option, None, Some, length, map, slice_get, refl, sym, ap, ◌∙◌, subst, arith}
 use Rattle.std.specs.Cmp.{unsigned_Decides}
 use Rattle.std.specs.List.{AllByRecursion, flat_map, list_all}
 use Rattle.std.specs.Option.{option_map, option_map_or}
@@ -14,7 +14,7 @@ use Rattle.ic_rules.specs.RuleSet.{IsRuleOver, IsRuleSet, Rules, first_unfit}
 use Rattle.ic_rules.specs.lemmas.FitLaws.{rule_over_at}
 use Rattle.ic_round.specs.Instance.{inst}
 use Rattle.ic_round.specs.Firing.{Active, active_pair, against, arguments, fired, fired_from, fired_pair, names_taken, oriented, products_by, rule_of_sides}
-use Rattle.ic_round.specs.Rounds.{iterate, round}
+use Rattle.ic_round.specs.Rounds.{iterate}
 use Rattle.ic_round.specs.Works.{is_agent_of}
 use Rattle.ic_round.specs.lemmas.ActiveRules.{FitsRule, oriented_rule, sides_fit}
 use Rattle.ic_round.specs.lemmas.FiredNames.{SidesOf, active_sides_of}

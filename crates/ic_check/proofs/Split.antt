@@ -1,9 +1,9 @@
 -- Lines, and fronts of lines.
-use Rattle.std.proofs.Common.{◌≡◌, ℕ, suc, ◌+◌, ◌-◌, ◌<◌, ◌≤◌, ◌==◌, Bool, true, false, if◌then◌else◌, List, [], ◌∷◌, ◌++◌, Option, None, Some, length, take, drop, drop-cons, get_or, add-one, refl, sym, ap, ◌∙◌, arith, length-drop, length-append, inl, inr}
+use Rattle.std.proofs.Common.{◌≡◌, ℕ, suc, ◌+◌, ◌-◌, ◌<◌, ◌≤◌, ◌==◌, true, false, List, [], ◌∷◌, ◌++◌, length, take, drop, drop-cons, get_or, add-one, refl, sym, ap, ◌∙◌, arith, length-drop}
 use Rattle.std.specs.Cmp.{unsigned_Decides}
 use Rattle.std.proofs.lemmas.List.{length-take, take-append-drop, take_all}
 use Rattle.ic_lines.specs.Lines.{has_feed, lines}
-use Rattle.ic_check.specs.Checking.{behind_budget, behind_first, front_of, system_of}
+use Rattle.ic_check.specs.Checking.{behind_budget, behind_first, front_of}
 
 pub at_feed : (text : List ℕ) (place : ℕ) → place < length text → get_or text place 0 ≡ 10 → drop place text ≡ 10 ∷ drop (place + 1) text
 at_feed text place below feed = rw add-one (drop-cons text place 0 below ∙ ap (λ b. b ∷ drop (suc place) text) feed)

@@ -1,5 +1,5 @@
 -- What is told of texts.
-use Rattle.std.proofs.Common.{◌≡◌, ◌≢◌, ◌≤◌, ◌<◌, ℕ, ◌+◌, ◌||◌, List, [], ◌∷◌, ◌++◌, Bool, true, false, Option, None, Some, Result, Ok, Err, IfOk, OnOk, length, refl, sym, ap, ◌∙◌, subst, append-nil, append_assoc}
+use Rattle.std.proofs.Common.{◌≡◌, ◌≢◌, ℕ, ◌+◌, ◌||◌, List, [], ◌∷◌, ◌++◌, Bool, true, false, Option, None, Result, Ok, Err, IfOk, OnOk, refl, sym, ap, ◌∙◌, subst, append-nil, append_assoc}
 use Rattle.ic_term.specs.Configuration.{Configuration}
 use Rattle.ic_term.specs.Symbol.{Symbol}
 use Rattle.ic_rules.specs.RuleSet.{Rules}

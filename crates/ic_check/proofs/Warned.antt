@@ -1,5 +1,5 @@
 -- Warnings that are written one after the other.
-use Rattle.std.proofs.Common.{◌≡◌, ◌⊎◌, inl, inr, ℕ, ◌+◌, ◌<◌, ◌≤◌, List, [], ◌∷◌, ◌++◌, Bool, false, Option, None, Some, Result, Ok, Err, OnOk, codes, is_some, length, drop, get_or, slice_get, refl, sym, ap, ◌∙◌, subst, arith, append-nil, append_assoc}
+use Rattle.std.proofs.Common.{◌≡◌, inl, inr, ℕ, ◌+◌, ◌<◌, ◌≤◌, List, [], ◌++◌, Bool, false, Option, Some, Result, Ok, Err, OnOk, codes, is_some, length, drop, get_or, refl, sym, ap, ◌∙◌, arith, append-nil, append_assoc}
 use Rattle.std.specs.Option.{option_map}
 use Rattle.std.proofs.lemmas.List.{drop_all}
 use Rattle.std.proofs.lemmas.Option.{slice_get_cases}

@@ -1,14 +1,13 @@
 -- To be believed: what is told of a text (this project's choice).
-use Rattle.std.specs.Prelude.{◌≡◌, ◌⊎◌, ℕ, ◌+◌, ◌-◌, ◌==◌, List, [], ◌∷◌, ◌++◌, Bool, true, false, ◌&&◌, ◌||◌, not, Option, None, Some, Result, Ok, Err, codes, length, take, drop, option_map, if◌then◌else◌}
+use Rattle.std.specs.Prelude.{◌≡◌, ◌⊎◌, ℕ, ◌+◌, ◌-◌, ◌==◌, List, [], ◌∷◌, ◌++◌, Bool, true, false, ◌||◌, Option, None, Some, Result, Ok, Err, codes, length, take, drop, option_map, if◌then◌else◌}
 use Rattle.std.specs.Char.{is_ascii_digit}
 use Rattle.ic_term.specs.Symbol.{Symbol}
 use Rattle.ic_term.specs.Configuration.{Configuration}
 use Rattle.ic_rules.specs.System.{SystemParts}
-use Rattle.ic_jobs.specs.declared.command.Command.{Command}
 use Rattle.ic_jobs.specs.declared.command.Command.TheVariants as command
 use Rattle.ic_commands.specs.LineText.{ReadsLine}
 use Rattle.ic_commands.specs.declared.line.Line.{Line}
-use Rattle.ic_commands.specs.declared.line.Line.TheVariants.{Blank, Command as Asks, Run}
+use Rattle.ic_commands.specs.declared.line.Line.TheVariants.{Command as Asks}
 use Rattle.ic_lines.specs.Lines.{lines}
 use Rattle.ic_text.specs.FaultNumber.{fault_number}
 use Rattle.ic_text.specs.Places.{IsPlaced}

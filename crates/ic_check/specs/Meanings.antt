@@ -1,9 +1,12 @@
 -- To be believed: what is told, in words of the calculus and of files.
-use Rattle.std.specs.Prelude.{◌≡◌, ℕ, ◌==◌, List, ◌++◌, Bool, false, ◌&&◌, Some, slice_get}
-use Rattle.std.specs.List.{count_by, list_any}
+use Rattle.std.specs.Prelude.{◌≡◌, ℕ, ◌==◌, List, ◌∷◌, ◌++◌, Bool, false, ◌&&◌, Some, slice_get}
+use Rattle.std.specs.List.{AllByRecursion, count_by, flat_map, list_any}
 use Rattle.ic_term.specs.Tree.{Tree, name, agent, Pair}
 use Rattle.ic_rules.specs.Rule.{Rule}
 use Rattle.ic_rules.specs.RuleSet.{has_pair}
+use Rattle.ic_commands.specs.LinePlain.{phrase_texts}
+use Rattle.ic_commands.specs.LineSource.{IsLine, LinePhrase}
+use Rattle.ic_lines.specs.Lines.{ended, has_feed}
 use Rattle.ic_check.specs.Checking.{TellsLine}
 
 -- a term is an agent of this symbol
@@ -32,3 +35,17 @@ StandsOnce s all = (i : ℕ) × (slice_get all i ≡ Some s)
 abbrev pub IsToldAt : (file : List ℕ) (number : ℕ) (line told : List ℕ) → Type 0
 IsToldAt file number line told = (first : List ℕ) × (this : List ℕ) × (rest : List ℕ)
     × (faulty : Bool) × TellsLine file number line this faulty × (told ≡ first ++ (this ++ rest))
+
+-- this is one line: no line feed stands in it but the one that ends it
+abbrev pub IsOneLine : List ℕ → Type 0
+IsOneLine told = (line : List ℕ) × (has_feed line ≡ false) × (told ≡ ended line)
+
+-- these are lines, each with its line feed
+abbrev pub AreLines : List ℕ → Type 0
+AreLines told =
+    (ls : List (List ℕ)) × AllByRecursion (λ l. has_feed l ≡ false) ls × (told ≡ flat_map ended ls)
+
+-- some line for a server begins with this word
+abbrev pub BeginsLine : List ℕ → Type 0
+BeginsLine word = (p : LinePhrase) × IsLine p
+    × (rest : List (List ℕ)) × (phrase_texts p ≡ word ∷ rest)

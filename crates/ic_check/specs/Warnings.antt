@@ -1,9 +1,9 @@
 -- To be believed: what is legal in a system and mostly a mistake, told in lines (this project's
 -- choice).
-use Rattle.std.specs.Prelude.{◌≡◌, ℕ, ◌+◌, ◌==◌, List, [], ◌∷◌, ◌++◌, Bool, true, false, ◌&&◌, not, codes, is_some, slice_get, if◌then◌else◌}
+use Rattle.std.specs.Prelude.{◌≡◌, ℕ, ◌+◌, ◌==◌, List, [], ◌∷◌, ◌++◌, Bool, ◌&&◌, codes, is_some, slice_get, if◌then◌else◌}
 use Rattle.std.specs.Fmt.{decimal}
 use Rattle.std.specs.List.{concat, count_by, flat_map}
-use Rattle.ic_term.specs.Tree.{Tree, name, agent, Pair}
+use Rattle.ic_term.specs.Tree.{Tree, agent, Pair}
 use Rattle.ic_term.specs.Configuration.{Configuration}
 use Rattle.ic_term.specs.Symbol.{Symbol}
 use Rattle.ic_rules.specs.Rule.{Rule}

@@ -1,11 +1,11 @@
 //! What is proved of the definitions alone: each law is the contract of a function that does nothing, or calls the laws
 //! that it comes of.
 
-ghost use Rattle.std.specs.Prelude.{◌≡◌, ◌≢◌, ◌≤◌, ◌+◌, ◌∷◌, ◌++◌, ℕ, List, [], Bool, Some, IsTrue, codes, length, slice_get, take, drop, false, true};
+ghost use Rattle.std.specs.Prelude.{◌≡◌, ◌≢◌, ◌≤◌, ◌+◌, ◌∷◌, ◌++◌, ℕ, List, [], Bool, Option, Some, IsTrue, codes, length, slice_get, take, drop, false, true};
 ghost use Rattle.std.specs.Fmt.{decimal};
 ghost use Rattle.std.specs.List.{AllByRecursion, concat, flat_map};
 ghost use Rattle.ic_term.specs.Configuration.{Configuration};
-ghost use Rattle.ic_term.specs.Symbol.{Symbol, is_over};
+ghost use Rattle.ic_term.specs.Symbol.{Symbol, is_over, is_symbol_text};
 ghost use Rattle.ic_term.specs.Tree.{Pair};
 ghost use Rattle.ic_rules.specs.Rule.{Rule};
 ghost use Rattle.ic_rules.specs.RuleSet.{IsRuleSet, Rules};
@@ -14,9 +14,12 @@ ghost use Rattle.ic_round.specs.Steps.{Interaction, Steps};
 ghost use Rattle.ic_lines.specs.Lines.{ended, has_feed, lines};
 ghost use Rattle.ic_text.specs.declared.fault.TextFault.{TextFault};
 ghost use Rattle.ic_text.specs.declared.misread.Detail.{Detail};
+ghost use Rattle.ic_causes.specs.Causes.{shown_path};
 ghost use Rattle.ic_places.specs.Lines.{column};
-ghost use Rattle.ic_check.specs.Checking.{IsLinePlace, TellsLine, TellsLines, before, front_of};
-ghost use Rattle.ic_check.specs.Meanings.{HasNoRule, IsToldAt, StandsOnce, faces, facing};
+ghost use Rattle.ic_places.specs.Sights.{is_command};
+ghost use Rattle.ic_places.specs.declared.telling.Kind.{Kind};
+ghost use Rattle.ic_check.specs.Checking.{IsLinePlace, Tells, TellsLine, TellsLines, before, front_of, told_fault};
+ghost use Rattle.ic_check.specs.Meanings.{AreLines, BeginsLine, HasNoRule, IsOneLine, IsToldAt, StandsOnce, faces, facing};
 ghost use Rattle.ic_check.specs.Reach.{AllAmong, IsReach, IsTakenBy};
 ghost use Rattle.ic_check.specs.Symbols.{config_symbols};
 ghost use Rattle.ic_check.specs.Telling.{place_text, spot_text};
@@ -82,6 +85,32 @@ pub fn warnings_are_told_with_their_place()
         → TellsLines file 1 (above ++ line ∷ below) told faulty
         → IsToldAt file (length above + 1) line told }
 {}
+
+/// Faults and warnings are told one a line, where the file's name has no line feed and each symbol is a symbol, as those of
+/// a text are. The name under which `check_files` tells of a path has none. So all that is told of a file is lines.
+pub fn faults_and_warnings_are_one_line_each()
+    ensures fault { (file text : List ℕ) (line place : Option ℕ) (kind : Kind) (fault : TextFault)
+        (detail : Detail) → has_feed file ≡ false
+        → IsOneLine (told_fault file line kind text place fault detail) }
+    ensures warnings { (file told : List ℕ) (line : Option ℕ) (rs : Rules) (c : Configuration)
+        → AllByRecursion (λ s. IsTrue (is_symbol_text s.text)) rs.symbols → has_feed file ≡ false
+        → Warns (place_text file line) rs c told → (words : List (List ℕ))
+        × AllByRecursion (λ w. IsOneLine (warning_line (place_text file line) w)) words
+        × (told ≡ flat_map (warning_line (place_text file line)) words) }
+    ensures path { (path : List ℕ) → has_feed (shown_path path) ≡ false }
+    ensures told { (file text told : List ℕ) (faulty : Bool) → has_feed file ≡ false
+        → Tells file text told faulty → AreLines told }
+{
+    ic_commands::laws::command_words_are();
+}
+
+/// The words by which a text is taken for lines for a server are those with which such lines begin, and no others.
+pub fn lines_begin_with_command_words()
+    ensures each { (word : List ℕ) → BeginsLine word → is_command word ≡ true }
+    ensures others { (word : List ℕ) → is_command word ≡ true → BeginsLine word }
+{
+    ic_commands::laws::command_words_are();
+}
 
 /// The place that is told of a line's fault is one of this line, behind its front. It is told by the line's number and
 /// by the column in the line alone, and that is the place in the whole file: where the lines above, each with its line

@@ -1,10 +1,9 @@
-use Rattle.std.proofs.Common.{◌≡◌, ◌∙◌, ◌++◌, List, ℕ, ap, subst}
+use Rattle.std.proofs.Common.{◌∙◌, ◌++◌, List, ℕ, ap, subst}
 use Rattle.ic_causes.specs.Causes.{shown_path}
 use Rattle.ic_check.specs.Checking.{Tells}
 use Rattle.ic_check.specs.Content.{text, unread}
-use Rattle.ic_check.specs.Files.{LooksOver, content_of}
+use Rattle.ic_check.specs.Files.{content_of}
 use Rattle.ic_check.specs.declared.files.Given.{Given}
-use Rattle.ic_check.specs.declared.files.Verdict.{Verdict}
 use Rattle.ic_check.proofs.Looks.{over_refused, over_told}
 use Rattle.ic_check.proofs.files.check_file.Goals as goal
 

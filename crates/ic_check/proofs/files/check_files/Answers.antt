@@ -1,9 +1,9 @@
-use Rattle.std.proofs.Common.{◌≡◌, ◌∷◌, [], List, ℕ, subst, sym}
+use Rattle.std.proofs.Common.{◌∷◌, [], List, ℕ, subst}
 use Rattle.std.proofs.lemmas.Result.{err_from_is_err_and}
 use Rattle.std.specs.Prelude.{string_bytes}
 use Rattle.ic_check.specs.Files.{LooksOver}
 use Rattle.ic_check.specs.inner.Verdicts.{WritesPart}
-use Rattle.ic_check.proofs.Looks.{over_all, over_front, over_more, over_none, over_part}
+use Rattle.ic_check.proofs.Looks.{over_front, over_more, over_part}
 use Rattle.ic_check.proofs.files.check_files.Goals as goal
 
 pub returns-in_err-verdict-clause-stopped : goal.returns-in_err-verdict-clause-stopped

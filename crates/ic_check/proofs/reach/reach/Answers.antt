@@ -1,4 +1,4 @@
-use Rattle.std.proofs.Common.{◌≡◌, ◌++◌, ◌∙◌, ℕ, List, [], ap, subst, sym}
+use Rattle.std.proofs.Common.{◌≡◌, ◌++◌, ◌∙◌, ℕ, List, [], ap, subst}
 use Rattle.ic_check.specs.Symbols.{config_symbols}
 use Rattle.ic_check.specs.inner.Growing.{Joins}
 use Rattle.ic_check.proofs.Growth.{is_reach}

@@ -1,0 +1,246 @@
+-- What is told is told one a line.
+use Rattle.std.proofs.Common.{◌≡◌, ℕ, zero, suc, ◌+◌, ◌/◌, ◌%◌, Bool, true, false, ◌||◌, List, [], ◌∷◌, ◌++◌, Option, None, Some, IsTrue, codes, map, refl, sym, ap, ◌∙◌, append_assoc, arith, subst}
+use Rattle.std.specs.Prelude.{◌==◌, nat_lt, slice_get, take, if◌then◌else◌}
+use Rattle.std.specs.Char.{is_ascii_alphanumeric, is_ascii_digit, is_ascii_uppercase}
+use Rattle.std.specs.Cmp.{unsigned_Decides}
+use Rattle.std.specs.Fmt.{decimal, digits, digits_onto, digit_glyph}
+use Rattle.std.specs.Int.Digits.{digits_of}
+use Rattle.std.specs.List.{AllByRecursion, concat, list_all}
+use Rattle.std.proofs.lemmas.Bool.{and_parts, or_from, false_from_ne_true, false≢true}
+use Rattle.std.proofs.lemmas.List.Folds.{list_any-append}
+use Rattle.ic_term.specs.Symbol.{Symbol, is_symbol_text}
+use Rattle.ic_rules.specs.Rule.{Rule}
+use Rattle.ic_rules.specs.RuleSet.{Rules}
+use Rattle.ic_term.specs.Configuration.{Configuration}
+use Rattle.ic_lines.specs.Lines.{ended, has_feed}
+use Rattle.ic_text.specs.Name.{name_text}
+use Rattle.ic_text.specs.Text.{fault_text, text_or_none}
+use Rattle.ic_text.specs.declared.fault.TextFault.{TextFault}
+use Rattle.ic_text.specs.declared.fault.TextFault.TheVariants.{Syntax, Limit, Arity, NameCount, Name, Twice, Lopsided, Memory}
+use Rattle.ic_text.specs.declared.misread.Detail.{Detail}
+use Rattle.ic_text.specs.declared.misread.Detail.TheVariants.{Nothing, Passed, Arities}
+use Rattle.ic_text.specs.declared.misread.Limit.{Limit as Bound}
+use Rattle.ic_text.specs.declared.misread.Limit.TheVariants as bound
+use Rattle.ic_causes.specs.Causes.{shown_byte, shown_path}
+use Rattle.ic_places.specs.Lines.{column, last_line, line_number, told_at}
+use Rattle.ic_places.specs.Sights.{sight_at}
+use Rattle.ic_places.specs.Telling.{config_sentence, limit_sentence, plain_sentence, sentence, sight_sentence, syntax_sentence, system_sentence}
+use Rattle.ic_places.specs.declared.sights.Sight.{Sight}
+use Rattle.ic_places.specs.declared.sights.Sight.TheVariants.{End, SystemMark, ConfigMark, CommandWord, NoName, Other}
+use Rattle.ic_places.specs.declared.telling.Kind.{Kind}
+use Rattle.ic_places.specs.declared.telling.Kind.TheVariants.{Config, System}
+use Rattle.ic_check.specs.Checking.{before, told_fault}
+use Rattle.ic_check.specs.Meanings.{IsOneLine}
+use Rattle.ic_check.specs.Telling.{colon, place_text, spot_text}
+use Rattle.ic_check.specs.Warnings.{Warns, pair_text, symbol_text, unused_words, warning_line}
+use Rattle.ic_check.proofs.Placed.{AreOf, OfAllWords, lines_of_warnings}
+
+-- ---- texts without a line feed
+
+pub both_free : (a b : List ℕ) → has_feed a ≡ false → has_feed b ≡ false → has_feed (a ++ b) ≡ false
+both_free a b p q = list_any-append (λ x. x == 10) a b ∙ or_from (has_feed a) (has_feed b) p q
+
+all_free : (parts : List (List ℕ)) → AllByRecursion (λ p. has_feed p ≡ false) parts → has_feed (concat parts) ≡ false
+all_free [] are = refl
+all_free (p ∷ ps) are = both_free p (concat ps) are.0 (all_free ps are.1)
+
+-- a byte that a test lets through is no line feed, where the test doesn't let that through
+no_feed_by : (P : ℕ → Bool) → P 10 ≡ false → (b : ℕ) → P b ≡ true → (b == 10) ≡ false
+no_feed_by P at b e = false_from_ne_true (b == 10) (λ same. false≢true (sym at ∙ ap P (sym ((unsigned_Decides b 10).0 same)) ∙ e))
+
+-- ---- numbers and names
+glyph_free : (d : ℕ) (small : Bool) → ((if small then 48 + d else 87 + d) == 10) ≡ false
+glyph_free d true = false_from_ne_true ((48 + d) == 10) (λ same. omega (arith, (unsigned_Decides (48 + d) 10).0 same))
+glyph_free d false = false_from_ne_true ((87 + d) == 10) (λ same. omega (arith, (unsigned_Decides (87 + d) 10).0 same))
+
+more_free : (n : ℕ) (acc : List ℕ) → has_feed acc ≡ false → has_feed (digit_glyph false (n % 10) ∷ acc) ≡ false
+more_free n acc free = or_from (digit_glyph false (n % 10) == 10) (has_feed acc) (glyph_free (n % 10) (nat_lt (n % 10) 10)) free
+
+either_free : (last : Bool) (a b : List ℕ) → has_feed a ≡ false → has_feed b ≡ false → has_feed (if last then a else b) ≡ false
+either_free true a b p q = p
+either_free false a b p q = q
+
+onto_free : (k n : ℕ) (acc : List ℕ) → has_feed acc ≡ false → has_feed (digits_onto k 10 false n acc) ≡ false
+onto_free zero n acc free = free
+onto_free (suc k) n acc free =
+    let d = digit_glyph false (n % 10) in
+    let more = more_free n acc free in
+    either_free (n / 10 == 0) (d ∷ acc) (digits_onto k 10 false (n / 10) (d ∷ acc)) more (onto_free k (n / 10) (d ∷ acc) more)
+
+pub decimal_free : (n : ℕ) → has_feed (decimal n) ≡ false
+unfolding digits
+decimal_free n = onto_free 64 n [] refl
+
+glyphs_free : (ds : List ℕ) → has_feed (map (λ d. 48 + d) ds) ≡ false
+glyphs_free [] = refl
+glyphs_free (d ∷ ds) = or_from ((48 + d) == 10) (has_feed (map (λ x. 48 + x) ds)) (glyph_free d true) (glyphs_free ds)
+
+name_free : (n : ℕ) → has_feed (name_text n) ≡ false
+name_free n =
+    or_from ((97 + n % 26) == 10) (has_feed (map (λ d. 48 + d) (digits_of 10 (n / 26))))
+    (false_from_ne_true ((97 + n % 26) == 10) (λ same. omega (arith, (unsigned_Decides (97 + n % 26) 10).0 same))) (glyphs_free (digits_of 10 (n / 26)))
+
+-- ---- symbols
+further_free : (bs : List ℕ) → list_all is_ascii_alphanumeric bs ≡ true → has_feed bs ≡ false
+further_free [] are = refl
+further_free (b ∷ bs) are =
+    let parts = and_parts (is_ascii_alphanumeric b) _ are in
+    or_from (b == 10) (has_feed bs) (no_feed_by is_ascii_alphanumeric refl b parts.0) (further_free bs parts.1)
+
+pub symbol_free : (text : List ℕ) → is_symbol_text text ≡ true → has_feed text ≡ false
+symbol_free [] is = refl
+symbol_free (b ∷ bs) is =
+    let parts = and_parts (is_ascii_uppercase b || is_ascii_digit b) _ is in
+    or_from (b == 10) (has_feed bs) (no_feed_by (λ x. is_ascii_uppercase x || is_ascii_digit x) refl b parts.0) (further_free bs parts.1)
+
+-- ---- sentences and refusals
+config_free : (sight : Sight) → has_feed (config_sentence sight) ≡ false
+config_free End = refl
+config_free SystemMark = refl
+config_free ConfigMark = refl
+config_free CommandWord = refl
+config_free NoName = refl
+config_free Other = refl
+
+system_free : (sight : Sight) → has_feed (system_sentence sight) ≡ false
+system_free End = refl
+system_free SystemMark = refl
+system_free ConfigMark = refl
+system_free CommandWord = refl
+system_free NoName = refl
+system_free Other = refl
+
+syntax_free : (kind : Kind) (sight : Sight) → has_feed (syntax_sentence kind sight) ≡ false
+syntax_free Config sight = config_free sight
+syntax_free System sight = system_free sight
+
+plain_free : (kind : Kind) (fault : TextFault) (sight : Sight) → has_feed (plain_sentence kind fault sight) ≡ false
+plain_free kind Syntax sight = syntax_free kind sight
+plain_free kind Limit sight = syntax_free kind sight
+plain_free kind Arity sight = syntax_free kind sight
+plain_free kind (NameCount i) sight = refl
+plain_free kind (Name n) sight = refl
+plain_free kind (Twice i) sight = refl
+plain_free kind (Lopsided i) sight = refl
+plain_free kind Memory sight = syntax_free kind sight
+
+limit_free : (limit : Bound) → has_feed (limit_sentence limit) ≡ false
+limit_free bound.TextBytes = refl
+limit_free bound.SymbolBytes = refl
+limit_free bound.Arguments = refl
+limit_free bound.NameNumber = refl
+limit_free bound.Symbols = refl
+limit_free bound.Rules = refl
+limit_free bound.RuleNodes = refl
+limit_free bound.Interface = refl
+limit_free bound.Nodes = refl
+
+sight_free : (kind : Kind) (fault : TextFault) (detail : Detail) (sight : Sight) → has_feed (sight_sentence kind fault detail sight) ≡ false
+sight_free kind fault Nothing sight = plain_free kind fault sight
+sight_free kind fault (Passed limit) sight = limit_free limit
+sight_free kind fault (Arities first here) sight =
+    all_free (codes "a symbol has one arity: this one has " ∷ decimal here ∷ codes " here and " ∷ decimal first ∷ codes " where it stands first" ∷ [])
+    (refl, (decimal_free here, (refl, (decimal_free first, (refl, tt)))))
+
+fault_free : (fault : TextFault) → has_feed (fault_text fault) ≡ false
+fault_free Syntax = refl
+fault_free Limit = refl
+fault_free Arity = refl
+fault_free (NameCount i) = both_free (codes "bad namecount ") (decimal (i + 1)) refl (decimal_free (i + 1))
+fault_free (Name n) = both_free (codes "bad name ") (name_text n) refl (name_free n)
+fault_free (Twice i) = both_free (codes "bad twice ") (decimal (i + 1)) refl (decimal_free (i + 1))
+fault_free (Lopsided i) = both_free (codes "bad lopsided ") (decimal (i + 1)) refl (decimal_free (i + 1))
+fault_free Memory = refl
+
+-- ---- the line of a fault
+ends_so : (parts : List (List ℕ)) → concat (parts ++ (10 ∷ []) ∷ []) ≡ ended (concat parts)
+ends_so [] = refl
+ends_so (p ∷ ps) = ap (λ (l : List ℕ). p ++ l) (ends_so ps) ∙ sym (append_assoc p (concat ps) (10 ∷ []))
+
+one_of_parts : (parts : List (List ℕ)) → AllByRecursion (λ p. has_feed p ≡ false) parts → IsOneLine (concat (parts ++ (10 ∷ []) ∷ []))
+one_of_parts parts are = (concat parts, all_free parts are, ends_so parts)
+
+pub place_free : (file : List ℕ) (line : Option ℕ) → has_feed file ≡ false → has_feed (place_text file line) ≡ false
+place_free file None free = free
+place_free file (Some line) free = both_free (file ++ codes ":") (decimal line) (both_free file (codes ":") free refl) (decimal_free line)
+
+spot_free : (file : List ℕ) (lines : ℕ) (front : List ℕ) → has_feed file ≡ false → has_feed (spot_text file lines front) ≡ false
+spot_free file lines front free =
+    let row = lines + line_number front in
+    let at = column (last_line front) in
+    all_free (file ∷ codes ":" ∷ decimal row ∷ codes ":" ∷ decimal at ∷ []) (free, (refl, (decimal_free row, (refl, (decimal_free at, tt)))))
+
+pub one_fault : (file : List ℕ) (line : Option ℕ) (kind : Kind) (text : List ℕ) (place : Option ℕ) (fault : TextFault) (detail : Detail) → has_feed file ≡ false
+    → IsOneLine (told_fault file line kind text place fault detail)
+one_fault file line kind text None fault detail free =
+    one_of_parts (place_text file line ∷ colon ∷ fault_text fault ∷ []) (place_free file line free, (refl, (fault_free fault, tt)))
+one_fault file line kind text (Some at) fault detail free =
+    let spot = spot_text file (before line) (take (told_at text at) text) in
+    let words = sentence kind text fault at detail in
+    one_of_parts (spot ∷ colon ∷ fault_text fault ∷ colon ∷ words ∷ [])
+    (spot_free file (before line) (take (told_at text at) text) free, (refl, (fault_free fault, (refl, (sight_free kind fault detail (sight_at text at), tt)))))
+
+-- ---- the lines of warnings
+text_free : (o : Option Symbol) → ((s : Symbol) → o ≡ Some s → has_feed s.text ≡ false) → has_feed (text_or_none o) ≡ false
+text_free None each = refl
+text_free (Some s) each = each s refl
+
+same_symbol : (s t : Symbol) → Some s ≡ Some t → s ≡ t
+same_symbol s t e = cc
+
+none_there : (t : Symbol) → None ≡ Some t → ⊥
+none_there t e = cc
+
+all_texts : (ss : List Symbol) → AllByRecursion (λ s. has_feed s.text ≡ false) ss → (i : ℕ) (s : Symbol) → slice_get ss i ≡ Some s → has_feed s.text ≡ false
+all_texts [] are i s is = absurd (none_there s is)
+all_texts (t ∷ ss) are zero s is = subst (λ (u : Symbol). has_feed u.text ≡ false) (same_symbol t s is) are.0
+all_texts (t ∷ ss) are (suc i) s is = all_texts ss are.1 i s is
+
+module _ (ss : List Symbol) (are : AllByRecursion (λ s. has_feed s.text ≡ false) ss) where
+  symbol_text_free : (i : ℕ) → has_feed (symbol_text ss i) ≡ false
+  symbol_text_free i = text_free (slice_get ss i) (all_texts ss are i)
+
+  pair_free : (a b : ℕ) → has_feed (pair_text ss a b) ≡ false
+  pair_free a b = both_free (symbol_text ss a ++ codes "><") (symbol_text ss b) (both_free (symbol_text ss a) (codes "><") (symbol_text_free a) refl) (symbol_text_free b)
+
+  unused_free : (i : ℕ) (r : Rule) → has_feed (unused_words ss i r) ≡ false
+  unused_free i r =
+      let pair = pair_text ss r.left r.right in
+      let number = codes "rule " ++ decimal (i + 1) in
+      both_free ((number ++ codes ", ") ++ pair) (codes ", is never used")
+      (both_free (number ++ codes ", ") pair (both_free number (codes ", ") (both_free (codes "rule ") (decimal (i + 1)) refl (decimal_free (i + 1))) refl) (pair_free r.left r.right)) refl
+
+one_warning : (place words : List ℕ) → has_feed place ≡ false → has_feed words ≡ false → IsOneLine (warning_line place words)
+one_warning place words free words_free = one_of_parts (place ∷ codes ": warning: " ∷ words ∷ []) (free, (refl, (words_free, tt)))
+
+each_once : (place : List ℕ) → has_feed place ≡ false → (ss : List Symbol) → AllByRecursion (λ s. has_feed s.text ≡ false) ss
+    → AllByRecursion (λ s. IsOneLine (warning_line place (s.text ++ codes " stands only once"))) ss
+each_once place free [] are = tt
+each_once place free (s ∷ ss) are =
+    (one_warning place (s.text ++ codes " stands only once") free (both_free s.text (codes " stands only once") are.0 refl), each_once place free ss are.1)
+
+pub free_texts : (ss : List Symbol) → AllByRecursion (λ s. IsTrue (is_symbol_text s.text)) ss → AllByRecursion (λ s. has_feed s.text ≡ false) ss
+free_texts [] are = tt
+free_texts (s ∷ ss) are = (symbol_free s.text are.0, free_texts ss are.1)
+
+pub one_each : (file told : List ℕ) (line : Option ℕ) (rs : Rules) (c : Configuration) → AllByRecursion (λ s. IsTrue (is_symbol_text s.text)) rs.symbols → has_feed file ≡ false
+    → Warns (place_text file line) rs c told → AreOf (λ w. IsOneLine (warning_line (place_text file line) w)) (place_text file line) told
+one_each file told line rs c are free warns =
+    let place = place_text file line in
+    let open_place = place_free file line free in
+    let texts = free_texts rs.symbols are in
+    let words : OfAllWords (λ w. IsOneLine (warning_line place w)) rs = record {
+      ruleless = λ a b. one_warning place (codes "no rule for " ++ pair_text rs.symbols a b) open_place (both_free (codes "no rule for ") (pair_text rs.symbols a b) refl (pair_free rs.symbols texts a b));
+      once = each_once place open_place rs.symbols texts;
+      unused = λ i r. one_warning place (unused_words rs.symbols i r) open_place (unused_free rs.symbols texts i r);
+    } in
+    lines_of_warnings (λ w. IsOneLine (warning_line place w)) place rs c told words warns
+
+-- ---- paths
+shown_free : (b : ℕ) (moves : Bool) → (nat_lt b 32 || b == 127) ≡ moves → ((if moves then 63 else b) == 10) ≡ false
+shown_free b true is = refl
+shown_free b false is = false_from_ne_true (b == 10) (λ same. false≢true (sym is ∙ ap (λ (x : ℕ). nat_lt x 32 || x == 127) ((unsigned_Decides b 10).0 same)))
+
+pub path_free : (path : List ℕ) → has_feed (shown_path path) ≡ false
+path_free [] = refl
+path_free (b ∷ bs) = or_from (shown_byte b == 10) (has_feed (shown_path bs)) (shown_free b (nat_lt b 32 || b == 127) refl) (path_free bs)

@@ -1,0 +1,23 @@
+use Rattle.std.proofs.Common.{◌≡◌, List, ℕ, Option}
+use Rattle.ic_rules.specs.System.{SystemParts}
+use Rattle.ic_jobs.specs.declared.command.Command.TheVariants as command
+use Rattle.ic_commands.specs.LineSense.{asked}
+use Rattle.ic_check.proofs.CommandWords.{each_of_four}
+use Rattle.ic_check.proofs.OneLine.{one_each, one_fault, path_free}
+use Rattle.ic_check.proofs.ToldLines.{told_lines}
+use Rattle.ic_check.proofs.laws.faults_and_warnings_are_one_line_each.Goals as goal
+
+pub returns-clause-fault : goal.returns-clause-fault
+returns-clause-fault c = λ file text line place kind fault detail free. one_fault file line kind text place fault detail free
+
+pub returns-clause-warnings : goal.returns-clause-warnings
+returns-clause-warnings c = one_each
+
+pub returns-clause-path : goal.returns-clause-path
+returns-clause-path c = path_free
+
+pub returns-clause-told : goal.returns-clause-told
+returns-clause-told c =
+    let no_submit = each_of_four (λ verb. (w name : List ℕ) (s : SystemParts) (budget : Option ℕ) → asked verb w ≡ command.Submit name s budget → ⊥) _ _ _ _ c.command_words_are.ensures.all_verbs
+    (λ w name s budget e. cc) (λ w name s budget e. cc) (λ w name s budget e. cc) (λ w name s budget e. cc) in
+    λ file text told faulty free. told_lines no_submit file free text told faulty
