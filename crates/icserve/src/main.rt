@@ -164,17 +164,27 @@ pub(crate) fn open_disk<'a>(
 /// overwritten only where that is asked for.
 fn create(rt: &HostRuntime, path: &str, overwrite: bool, notes: &Notes) -> Result<(), Failure> {
     let disk = open_disk(rt, path, true, notes)?;
-    let mut disk = if overwrite { disk } else { unused(rt, disk)? };
-    ic_slots::create(rt.alloc(), &mut disk).map_err(Failure::Create)
+    let mut disk = may_be_lost(rt, disk, overwrite)?;
+    match ic_slots::create(rt.alloc(), &mut disk) {
+        Ok(()) => Ok(()),
+        Err(fault) => Err(Failure::Create(fault)),
+    }
 }
 
-/// The disk, where nothing is lost if it is made anew.
-fn unused<'a>(rt: &HostRuntime, disk: NotedDisk<'a>) -> Result<NotedDisk<'a>, Failure> {
+/// The disk, where nothing is lost if it is made anew, or may be.
+fn may_be_lost<'a>(
+    rt: &HostRuntime,
+    disk: NotedDisk<'a>,
+    overwrite: bool,
+) -> Result<NotedDisk<'a>, Failure> {
+    if overwrite {
+        return Ok(disk);
+    }
     let (disk, unused) = is_unused(rt.alloc(), disk);
-    if unused.map_err(Failure::Create)? {
-        Ok(disk)
-    } else {
-        Err(Failure::NotEmpty)
+    match unused {
+        Ok(true) => Ok(disk),
+        Ok(false) => Err(Failure::NotEmpty),
+        Err(fault) => Err(Failure::Create(fault)),
     }
 }
 
@@ -251,10 +261,11 @@ fn give<T: Threads + Wait + Sync>(
         &progress,
         &mut output,
     );
-    let flushed = output.flush().map_err(|_| ScriptsFault::Write);
+    let flushed = output.flush().is_ok();
     progress.wipe();
     match given {
-        Ok(_disk) => flushed,
+        Ok(_disk) if flushed => Ok(()),
+        Ok(_disk) => Err(ScriptsFault::Write),
         Err(fault) => Err(fault),
     }
 }

@@ -109,9 +109,14 @@ impl<'a> Progress<'a> {
             return;
         };
         if shown.is_some_and(|shown| shown.is_line) {
-            let _ = self.rt.stderr().write_all(WIPED);
+            self.put_wiped();
         }
         *shown = None;
+    }
+
+    /// Wipes what stands in the line.
+    fn put_wiped(&self) {
+        let _ = self.rt.stderr().write_all(WIPED);
     }
 }
 
