@@ -1,5 +1,5 @@
 -- Which headings bytes begin with, and when they begin with none.
-use Rattle.std.proofs.Common.{◌≡◌, ◌≢◌, ℕ, ◌^◌, ◌<◌, ◌≤◌, true, Option, None, Some, IfSome, List, ◌∷◌, ◌++◌, length, sym, ap, subst, ◌∙◌, arith}
+use Rattle.std.proofs.Common.{◌≡◌, ◌≢◌, ℕ, ◌^◌, ◌<◌, ◌≤◌, true, Option, None, Some, List, ◌∷◌, ◌++◌, length, sym, ap, subst, ◌∙◌, arith}
 use Rattle.std.proofs.lemmas.List.{length-append}
 use Rattle.ic_rules.specs.JobName.{is_job_name}
 use Rattle.ic_jobs.specs.declared.state.State.{State}

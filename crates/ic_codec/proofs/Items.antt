@@ -57,6 +57,12 @@ module _ {X : Type 0} where
     counted = omega (arith, begins.counted, next.counted, sum_by_push size xs x);
   }
 
+  -- the same as the list of them is written
+  pub many_more_as : {V : X → Type 0} {spell : X → List ℕ} {size : X → ℕ} {count budget left left' : ℕ} {bytes rest rest' : List ℕ} {xs : List X} {x : X} (ys : List X)
+      → ys ≡ xs ++ x ∷ [] → BeginsWithMany V spell size count budget bytes xs left rest → BeginsWithOne V spell size left rest x left' rest'
+      → BeginsWithMany V spell size (count + 1) budget bytes ys left' rest'
+  many_more_as ys grown begins next = rw grown (many_more begins next)
+
   none_behind : (V : X → Type 0) (spell : X → List ℕ) (size : X → ℕ) → Tells V spell → (xs ys : List X) (left : ℕ) (rest rest' : List ℕ)
       → AllByRecursion V xs → AllByRecursion V ys → length xs < length ys → sum_by size ys ≤ sum_by size xs + left
       → BeginsWithNoOne V spell size left rest → flat_map spell xs ++ rest ≢ flat_map spell ys ++ rest'

@@ -1,5 +1,5 @@
 -- A table's bytes tell the table, and where they end.
-use Rattle.std.proofs.Common.{◌≡◌, ◌≢◌, ◌⊎◌, inl, inr, ℕ, List, [], ◌∷◌, ◌++◌, length, get_or, refl, sym, ap, ◌∙◌, append_assoc, arith}
+use Rattle.std.proofs.Common.{◌≡◌, ◌≢◌, inl, inr, ℕ, List, [], ◌∷◌, ◌++◌, length, get_or, refl, sym, ap, ◌∙◌, append_assoc, arith}
 use Rattle.std.specs.List.{flat_map, AllByRecursion}
 use Rattle.std.proofs.lemmas.List.{append-nil}
 use Rattle.ic_term.specs.Symbol.{Symbol, is_over}
@@ -12,9 +12,9 @@ use Rattle.ic_codec.specs.Symbols.{symbols_bytes}
 use Rattle.ic_codec.specs.Rules.{rules_bytes}
 use Rattle.ic_codec.specs.Configurations.{configuration_bytes}
 use Rattle.ic_codec.specs.Form.{form_head, heading_bytes, heading_of}
-use Rattle.ic_codec.specs.inner.Forms.{HasBudgetBytes, HasHeadingBytes, HasJobBytes, HasTableBytes}
+use Rattle.ic_codec.specs.inner.Forms.{HasHeadingBytes, HasJobBytes, HasTableBytes}
 use Rattle.ic_codec.specs.Jobs.{job_bytes}
-use Rattle.ic_codec.specs.Tables.{table_bytes_in, table_bytes, old_table_bytes, HasNoBudgets, IsOldFormOf, IsFormOf}
+use Rattle.ic_codec.specs.Tables.{table_bytes_in, table_bytes, old_table_bytes, HasNoBudgets, IsFormOf}
 use Rattle.ic_codec.specs.inner.Fronts.{IsRuleSetOver, IsConfigurationOver}
 use Rattle.ic_codec.proofs.Items.{Tells, items_front}
 use Rattle.ic_codec.proofs.Unique.{heading_tells, symbols_front, set_tells, configuration_tells}

@@ -16,7 +16,7 @@ use Rattle.ic_codec.specs.inner.Forms.{HasBytes, HasRuleBytes}
 use Rattle.ic_codec.specs.Rules.{rule_bytes}
 use Rattle.ic_codec.specs.inner.Fronts.{BeginsWithTrees, BeginsWithNoTrees, BeginsWith, BeginsWithNone, BeginsWithOne, BeginsWithNoOne, BeginsWithMany, BeginsWithNoMany, IsRuleSetOver, set_bytes}
 use Rattle.ic_codec.proofs.NumberLemmas.{length-two_bytes}
-use Rattle.ic_codec.proofs.TermLemmas.{one_arity}
+use Rattle.ic_codec.proofs.TermLemmas.{known_below, one_arity}
 use Rattle.ic_codec.proofs.TermReading.{arity_known}
 use Rattle.ic_codec.proofs.Sizes.{few_rules}
 use Rattle.ic_codec.proofs.Items.{items_front}
@@ -55,6 +55,19 @@ same_symbols l r bytes b c q rest first second e =
     let same : l ∷ r ∷ c ≡ q.left ∷ q.right ∷ (flat_map tree_bytes q.left_args ++ (flat_map tree_bytes q.right_args ++ rest)) =
     sym (first ∙ ap (λ (bs : List ℕ). l ∷ bs) second) ∙ e ∙ rule_spread q rest in
     record { left = cc (same); right = cc (same); behind = cc (same) }
+
+-- where no known symbol stands first, or second, there is no rule
+pub none_left : (ss : List Symbol) (budget : ℕ) (bytes : List ℕ) → ((s : ℕ) (rest : List ℕ) → s < length ss → bytes ≢ s ∷ rest)
+    → BeginsWithNoOne (HasRuleBytes ss) rule_bytes rule_nodes budget bytes
+none_left ss budget bytes none q rest has within e =
+    none q.left (q.right ∷ (flat_map tree_bytes q.left_args ++ (flat_map tree_bytes q.right_args ++ rest))) (known_below ss q.left (length q.left_args) (slice_get ss q.left) refl has.over.left) (e ∙ rule_spread q rest)
+
+pub none_right : (ss : List Symbol) (budget l : ℕ) (bytes b : List ℕ) → bytes ≡ l ∷ b → ((s : ℕ) (rest : List ℕ) → s < length ss → b ≢ s ∷ rest)
+    → BeginsWithNoOne (HasRuleBytes ss) rule_bytes rule_nodes budget bytes
+none_right ss budget l bytes b first none q rest has within e =
+    let args = flat_map tree_bytes q.left_args ++ (flat_map tree_bytes q.right_args ++ rest) in
+    let same : l ∷ b ≡ q.left ∷ q.right ∷ args = sym first ∙ e ∙ rule_spread q rest in
+    none q.right args (known_below ss q.right (length q.right_args) (slice_get ss q.right) refl has.over.right) (cc (same))
 
 -- the number of arguments is the symbol's arity
 same_count : (ss : List Symbol) (s a : ℕ) (n k : ℕ) → symbol_arity ss s ≡ Some a → s ≡ k → has_arity n (slice_get ss k) ≡ true → n ≡ a

@@ -21,7 +21,7 @@ use ic_rules::JobName;
 pub const MAX_BYTES: usize = 3_036_677;
 
 /// The forms by the letters that they begin with. `Ict2` is written, and both are read.
-#[derive(Clone, Copy, Debug)]
+#[derive(Clone, Copy)]
 pub(crate) enum Form {
     /// The form of before, in which no job has a budget.
     Ict1,
@@ -55,7 +55,7 @@ pub(crate) fn form_at(bytes: &[u8]) -> Result<(Form, &[u8]), CodecFault>
 }
 
 /// A job's name, state, rounds and budget, and the number from which its fresh names are taken.
-#[derive(Clone, Copy, Debug)]
+#[derive(Clone, Copy)]
 pub(crate) struct Heading {
     pub(crate) name: JobName,
     pub(crate) state: State,

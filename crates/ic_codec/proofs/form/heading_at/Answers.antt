@@ -1,5 +1,5 @@
 use Rattle.std.proofs.lemmas.Result.{err_from_is_err_and}
-use Rattle.ic_codec.proofs.HeadingReading.{none_such_name, none_state, none_rounds, none_budget, none_next, heading_parts}
+use Rattle.ic_codec.proofs.HeadingReading.{none_such_name, none_state, none_rounds, none_budget, none_next}
 use Rattle.ic_codec.proofs.form.heading_at.Goals as goal
 
 pub returns-in_err-name-clause-refused : goal.returns-in_err-name-clause-refused

@@ -1,4 +1,4 @@
-use Rattle.std.proofs.Common.{◌≡◌, ◌≤◌, inl, inr, List, ℕ, length, sym, subst}
+use Rattle.std.proofs.Common.{◌≤◌, inl, inr, List, ℕ, length, sym, subst}
 use Rattle.ic_jobs.specs.Job.{JobParts}
 use Rattle.ic_jobs.specs.Table.{IsTable}
 use Rattle.ic_codec.specs.declared.form.Form.TheVariants.{Ict1, Ict2}

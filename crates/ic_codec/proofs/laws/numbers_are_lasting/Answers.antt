@@ -1,4 +1,4 @@
-use Rattle.std.proofs.Common.{◌≡◌, refl, arith}
+use Rattle.std.proofs.Common.{refl, arith}
 use Rattle.std.specs.List.{Contains}
 use Rattle.ic_codec.specs.declared.fault.CodecFault.{CodecFault}
 use Rattle.ic_codec.specs.declared.fault.CodecFault.TheVariants.{NotATable, Memory}

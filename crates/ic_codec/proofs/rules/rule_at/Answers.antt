@@ -2,8 +2,18 @@ use Rattle.std.proofs.Common.{map, sym, ◌∙◌}
 use Rattle.std.proofs.lemmas.Bool.{false≢true}
 use Rattle.std.proofs.lemmas.Result.{err_from_is_err_and}
 use Rattle.ic_term.specs.Term.{tree}
-use Rattle.ic_codec.proofs.RuleReading.{none_left_args, none_right_args, none_numbered, rule_begins}
+use Rattle.ic_codec.proofs.RuleReading.{none_left, none_right, none_left_args, none_right_args, none_numbered, rule_begins}
 use Rattle.ic_codec.proofs.rules.rule_at.Goals as goal
+
+pub returns-in_err-left-clause-refused : goal.returns-in_err-left-clause-refused
+returns-in_err-left-clause-refused c =
+    let e = err_from_is_err_and c.from_residual.result c.from_residual.ensures.1 in
+    rw (e.1, e.2) (λ same. none_left c.args.symbols.now c.args.budget c.args.bytes.now (c.in_err-left.ensures.refused same))
+
+pub returns-in_err-right-clause-refused : goal.returns-in_err-right-clause-refused
+returns-in_err-right-clause-refused c =
+    let e = err_from_is_err_and c.from_residual-in_err-right.result c.from_residual-in_err-right.ensures.1 in
+    rw (e.1, e.2) (λ same. none_right c.args.symbols.now c.args.budget c.in_ok-left.left c.args.bytes.now c.in_ok-left.rest.now c.in_ok-left.ensures.read (c.in_err-right.ensures.refused same))
 
 pub returns-in_err-left_args-clause-refused : goal.returns-in_err-left_args-clause-refused
 returns-in_err-left_args-clause-refused c =

@@ -1,9 +1,10 @@
-use Rattle.std.proofs.Common.{◌∷◌, map, sym, ap, subst, ◌∙◌, arith}
+use Rattle.std.proofs.Common.{[], ◌∷◌, map, sym, ap, subst, ◌∙◌, arith}
+use Rattle.std.proofs.lemmas.List.{map-append}
 use Rattle.std.proofs.lemmas.Result.{err_from_is_err_and}
 use Rattle.ic_term.specs.Term.{tree}
 use Rattle.ic_term.specs.Tree.{Tree}
 use Rattle.ic_codec.specs.inner.Fronts.{BeginsWithTree}
-use Rattle.ic_codec.proofs.TermReading.{agent_begins, none_without_budget, none_without_bytes, none_without_number, none_without_symbol, none_without_arguments, none_more}
+use Rattle.ic_codec.proofs.TermReading.{agent_begins, none_without_budget, none_without_bytes, none_without_number, none_without_symbol, none_without_arguments, none_more, one_more}
 use Rattle.ic_codec.proofs.terms.+read.Goals as goal
 
 pub term_at-returns-then-budget-eq0-clause-refused : goal.term_at-returns-then-budget-eq0-clause-refused
@@ -44,3 +45,9 @@ terms_at-returns-in_err-term-clause-refused t c =
     let e = err_from_is_err_and c.from_residual.result c.from_residual.ensures.1 in
     rw (e.1, e.2) (λ same. none_more c.args.symbols.now c.args.count c.loop.counter c.args.budget c.args.bytes.now (map tree c.loop.terms.items) c.loop.left c.loop.rest.now
     c.requires (omega arith) c.loop.invariant (c.in_err-term.ensures.refused same))
+
+pub terms_at-loop-preserved : goal.terms_at-loop-preserved
+terms_at-loop-preserved t c =
+    rw (ap (map tree) c.in_ok-push.ensures.items ∙ map-append tree c.loop.terms.items (c.in_ok-term.term ∷ []))
+    (one_more c.args.symbols.now c.loop.counter c.args.budget c.args.bytes.now (map tree c.loop.terms.items) c.loop.left c.loop.rest.now (tree c.in_ok-term.term) c.in_ok-term.now_left
+    c.in_ok-term.now_rest.now c.loop.invariant c.in_ok-term.ensures.read)
