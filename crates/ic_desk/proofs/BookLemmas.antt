@@ -56,19 +56,34 @@ module _ {D : Type 0} {ghosts : Ghosts D} where
   pub unchanged : ((disk : D) (file : List ℕ) → LeftSince (ghosts.left disk) (ghosts.clock disk) file → ghosts.image disk file) → (book : Book D ghosts) → LeavesKeptOrAll (log_of book) book book
   unchanged law book = still law (log_of book) book book refl (either_of book)
 
+  -- nothing has come to the log
+  pub nothing_came : ((disk : D) (file : List ℕ) → LeftSince (ghosts.left disk) (ghosts.clock disk) file → ghosts.image disk file) → (old new : Book D ghosts) → keeper_of new ≡ keeper_of old
+      → log_of new ≡ log_of old → LeavesKeptOrAll (log_of new) old new
+  nothing_came law old new same log =
+      still law (log_of new) old new same (subst (λ (es : List Entry). EachOnMade old (HoldsKeptOrAll (start_of old) es (kept_of old))) (sym log) (either_of old))
+
   -- the table that is kept stays the same
   on_disk_still : (book : Book D ghosts) (log : List Entry) (n : ℕ) → is_broken book ≡ false → table_kept (start_of book) log n ≡ last_kept book
       → IsTrue (ghosts.keeps (disk_of book)) → IsOnDisk (ghosts.content (disk_of book)) (ghosts.image (disk_of book)) (start_of book) log n (is_broken book)
   on_disk_still book log n ready same keeps = DiskLemmas.same_kept (ghosts.content (disk_of book)) (ghosts.image (disk_of book)) (start_of book) (log_of book) (kept_of book) (is_broken book)
       (book.on_disk keeps) ready (start_of book) log n same
 
-  -- where all is kept the table begins a new history
+  -- where all is kept the table that is kept is the table now
+  all_is_kept : (book : Book D ghosts) → kept_of book ≡ length (log_of book) → last_kept book ≡ table_of book
+  all_is_kept book all =
+      ap (λ (n : ℕ). replay (start_of book) (take n (log_of book))) all ∙ ap (λ (es : List Entry). replay (start_of book) es) (take_all (length (log_of book)) (log_of book) (omega arith)) ∙ book.history.replayed
+
+  -- reads give it
+  pub held_all : (book : Book D ghosts) → is_broken book ≡ false → kept_of book ≡ length (log_of book) → IsTrue (ghosts.keeps (disk_of book))
+      → IsHeld (the_table (table_of book)) (ghosts.content (disk_of book))
+  held_all book ready all keeps = subst (λ (t : List JobParts). IsHeld (the_table t) (ghosts.content (disk_of book))) (all_is_kept book all) ((book.on_disk keeps).held ready)
+
+  -- and it begins a new history
   pub begun_on_disk : (book : Book D ghosts) (start : List JobParts) (log : List Entry) → is_broken book ≡ false → kept_of book ≡ length (log_of book) → start ≡ table_of book
       → IsTrue (ghosts.keeps (disk_of book)) → IsOnDisk (ghosts.content (disk_of book)) (ghosts.image (disk_of book)) start log 0 (is_broken book)
   begun_on_disk book start log ready all is keeps =
-      let kept : last_kept book ≡ table_of book =
-      ap (λ (n : ℕ). replay (start_of book) (take n (log_of book))) all ∙ ap (λ (es : List Entry). replay (start_of book) es) (take_all (length (log_of book)) (log_of book) (omega arith)) ∙ book.history.replayed in
-      DiskLemmas.same_kept (ghosts.content (disk_of book)) (ghosts.image (disk_of book)) (start_of book) (log_of book) (kept_of book) (is_broken book) (book.on_disk keeps) ready start log 0 (is ∙ sym kept)
+      DiskLemmas.same_kept (ghosts.content (disk_of book)) (ghosts.image (disk_of book)) (start_of book) (log_of book) (kept_of book) (is_broken book) (book.on_disk keeps) ready start log 0
+      (is ∙ sym (all_is_kept book all))
 
   -- ---- a round that comes: one entry more, or nothing
 
@@ -124,6 +139,11 @@ module _ {D : Type 0} {ghosts : Ghosts D} where
           left = HistoryLemmas.left_unkept (start_of book) (log_of book) log (table_of book) table (kept_of book) (is_broken book) e book.history may.0 adds may.1 sent;
           kept = HistoryLemmas.all_kept_after (start_of book) (log_of book) log (table_of book) table (kept_of book) (is_broken book) e book.history may.0 adds may.1 sent;
         }
+
+    -- until it is kept a crash leaves what was kept
+    pub still_added : EachOnMade book (HoldsKeptOrAll (start_of book) log (kept_of book))
+    still_added keeps made = DiskLemmas.kept_alone (ghosts.content (disk_of book)) (ghosts.image (disk_of book)) (start_of book) (log_of book) (kept_of book) (is_broken book)
+        (book.on_disk keeps) may.0 made log stands_added.same
 
     pub one_longer : length log ≡ length (log_of book) + 1
     one_longer = HistoryLemmas.length_after (start_of book) (log_of book) log (table_of book) table (kept_of book) (is_broken book) (command_entry who command reply) book.history may.0 adds may.1

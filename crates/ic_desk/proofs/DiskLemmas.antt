@@ -1,5 +1,5 @@
 -- What a book keeps on its disk, as its calls change it, and what a crash in them leaves.
-use Rattle.std.proofs.Common.{◌≡◌, ◌⊎◌, inl, inr, ⊎_elim, ℕ, ◌≤◌, List, Bool, true, false, refl, sym, ◌∙◌, ap, subst}
+use Rattle.std.proofs.Common.{◌≡◌, inl, inr, ⊎_elim, ℕ, ◌≤◌, List, Bool, true, false, sym, ◌∙◌, subst}
 use Rattle.std.specs.Coded.{le_prop}
 use mathlib.Core.Logic.{∥∥₁_elim}
 use Rattle.ic_disk.specs.Images.{Only, Within}

@@ -1,5 +1,5 @@
 -- Calls of a book as steps of a server.
-use Rattle.std.proofs.Common.{◌≡◌, ◌≢◌, ◌∙◌, inl, inr, Bool, true, false, IsErr, IsErrOf, ℕ, ◌≤◌, List, [], ◌∷◌, ◌++◌, Result, Ok, Err, length, refl, sym, ap, subst, arith}
+use Rattle.std.proofs.Common.{◌≡◌, ◌≢◌, ◌∙◌, inl, inr, Bool, true, false, IsErr, IsErrOf, ℕ, List, [], ◌∷◌, ◌++◌, Result, Ok, Err, length, refl, sym, ap, subst}
 use Rattle.std.proofs.lemmas.List.{append-nil}
 use Rattle.ic_disk.specs.declared.disk.Disk.{Ghosts}
 use Rattle.ic_disk.specs.Time.{LeftSince}
@@ -11,11 +11,11 @@ use Rattle.ic_jobs.specs.declared.reply.Reply.{Reply}
 use Rattle.ic_desk.specs.declared.book.Book.{Book}
 use Rattle.ic_desk.specs.declared.fault.BookFault.{BookFault}
 use Rattle.ic_desk.specs.declared.fault.BookFault.TheVariants.{Broken, LogFull, Worn, Memory, Device}
-use Rattle.ic_desk.specs.Book.{start_of, log_of, table_of, kept_of, disk_of, is_broken}
+use Rattle.ic_desk.specs.Book.{start_of, log_of, table_of, kept_of, is_broken}
 use Rattle.ic_desk.specs.Calls.{LeavesKeptOrAll}
 use Rattle.ic_desk.specs.Entries.{AddsCommand, command_entry, round_entry}
 use Rattle.ic_desk.specs.inner.Entering.{EntersRound}
-use Rattle.ic_desk.specs.Moves.{Move, answers, fails, rounds, keeps, stays, brings, round_move, keep_move}
+use Rattle.ic_desk.specs.Moves.{keeps, stays, round_move, keep_move}
 use Rattle.ic_desk.specs.Server.{up, Does, Step, StepsByCommand}
 use Rattle.ic_desk.proofs.BookLemmas.{unchanged}
 
@@ -47,6 +47,15 @@ module _ {D : Type 0} {ghosts : Ghosts D} where
       → kept_of new ≡ length (log_of new) → LeavesKeptOrAll (log_of old) old new → is_broken old ≡ false → is_broken new ≡ false → Does keeps old new
   keeps_page old new start log table all crash was whole = record {
     page = (inl (record { start = start; log = log; table = table }), all, whole);
+    broken = λ broke. absurd (not-both (is_broken old) was broke);
+    crash = crash_with old new (log_of old) [] (sym (append-nil (log_of old))) crash;
+  }
+
+  -- all is kept, and a new page begins
+  pub turns_page : (old new : Book D ghosts) → start_of new ≡ table_of old → log_of new ≡ [] → table_of new ≡ table_of old
+      → kept_of new ≡ 0 → LeavesKeptOrAll (log_of old) old new → is_broken old ≡ false → is_broken new ≡ false → Does keeps old new
+  turns_page old new start log table kept crash was whole = record {
+    page = (inr (record { start = start; log = log; table = table }), kept ∙ sym (ap length log), whole);
     broken = λ broke. absurd (not-both (is_broken old) was broke);
     crash = crash_with old new (log_of old) [] (sym (append-nil (log_of old))) crash;
   }

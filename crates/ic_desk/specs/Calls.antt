@@ -1,6 +1,6 @@
 -- What the calls of a book leave: where a crash comes, where a call is refused, where a round comes
 -- and where all is kept. This project's choice.
-use Rattle.std.specs.Prelude.{◌≡◌, ◌≢◌, ◌↔◌, ℕ, ◌+◌, ◌-◌, ◌^◌, ◌<◌, ◌≤◌, List, true, false, length, Result, IsTrue, IsErr, IsErrOf, IfOk, IfErr, OnOk, OnErr}
+use Rattle.std.specs.Prelude.{◌≡◌, ◌≢◌, ◌↔◌, ◌+◌, ◌-◌, ◌^◌, ◌<◌, ◌≤◌, List, true, false, length, Result, IsTrue, IsErr, IsErrOf, IfOk, IfErr, OnOk, OnErr}
 use Rattle.ic_disk.specs.declared.disk.Disk.{Ghosts}
 use Rattle.ic_disk.specs.Images.{Within}
 use Rattle.ic_disk.specs.Time.{LeavesOnly}

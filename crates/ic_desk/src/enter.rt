@@ -3,6 +3,7 @@
 ghost use Rattle.std.specs.Prelude.{◌≡◌, ◌<◌, ◌++◌, ◌∷◌, [], Ok, IfOk, OnErr, IsTrue, vec_len, vec_capacity};
 ghost use Rattle.ic_pool.specs.Flight.{is_blocked};
 ghost use Rattle.ic_jobs.specs.Landing.{Awaits};
+ghost use Rattle.ic_jobs.specs.declared.event.Event.TheVariants.{Command as by_command};
 ghost use Rattle.ic_jobs.specs.declared.landed.Landed.TheVariants.{Moved};
 ghost use Rattle.ic_jobs.specs.declared.reply.Reply.TheVariants as reply;
 ghost use Rattle.ic_desk.specs.Entries.{AddsCommand, round_entry};
@@ -26,8 +27,26 @@ pub(crate) fn enter_command(
     ensures same_log { OnErr result (log.new.items ≡ log.old.items) }
     ensures same_table { OnErr result (table.new ≡ table.old) }
 {
-    let event = Event::Command(command.copy(alloc)?);
     log.reserve(1)?;
+    let event = Event::Command(command.copy(alloc)?);
+    answer_in_room(log, table, who, event, command)
+}
+
+// Does what a command asks, and puts its event with the reply in a log that has room.
+fn answer_in_room(
+    log: &mut Vec<Entry>,
+    table: &mut Table,
+    who: u64,
+    event: Event,
+    command: Command,
+) -> Result<Reply, AllocError>
+    requires room { vec_len log.old < vec_capacity log.old }
+    requires asked { event ≡ by_command command }
+    ensures added { IfOk result (λ reply. AddsCommand who command reply
+        log.old.items log.new.items table.old table.new) }
+    ensures same_log { OnErr result (log.new.items ≡ log.old.items) }
+    ensures same_table { OnErr result (table.new ≡ table.old) }
+{
     let answer = table.apply(command)?;
     let reply = answer.copy()?;
     log.push_reserved(Entry { who, event, reply });

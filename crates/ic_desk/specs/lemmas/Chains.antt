@@ -9,7 +9,7 @@ use Rattle.ic_desk.specs.declared.book.Book.{Book}
 use Rattle.ic_desk.specs.declared.fault.BookFault.{BookFault}
 use Rattle.ic_desk.specs.Book.{disk_of}
 use Rattle.ic_desk.specs.Moves.{Move, opens, refuses, answers, fails, rounds, keeps, stays, closes, stops, round_move, keep_move}
-use Rattle.ic_desk.specs.Server.{up, Does, IsFound, Step}
+use Rattle.ic_desk.specs.Server.{up, Does, Step}
 use Rattle.ic_desk.specs.ByCalls.{IsOnMadeDisk, Calls, IsByCalls, IsStoppedWithin}
 
 module _ {D : Type 0} {ghosts : Ghosts D} where

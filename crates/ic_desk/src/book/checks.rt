@@ -1,6 +1,6 @@
 //! What refuses a call before it begins.
 
-ghost use Rattle.std.specs.Prelude.{◌≡◌, ◌≢◌, ◌-◌, ◌^◌, ◌<◌, true, false, length, OnOk, IfErr};
+ghost use Rattle.std.specs.Prelude.{◌≡◌, ◌≢◌, ◌↔◌, ◌-◌, ◌^◌, ◌<◌, true, false, length, IsErrOf, OnOk, IfErr};
 ghost use Rattle.ic_desk.specs.declared.limits.TheConstants.{MAX_ENTRIES};
 ghost use Rattle.ic_desk.specs.Book.{log_of, kept_of, is_broken, number_of};
 ghost use Rattle.ic_desk.specs.Calls.{TellsBroken, TellsFull, TellsWorn};
@@ -24,6 +24,25 @@ impl<D: Disk> Book<D> {
         }
         if self.log.len() >= MAX_ENTRIES {
             return Err(BookFault::LogFull);
+        }
+        Ok(())
+    }
+
+    // Whether a command can come: it isn't broken, the log has room, and what comes can be kept.
+    pub(super) fn check_command(&self) -> Result<(), BookFault>
+        ensures broken { TellsBroken result self.now }
+        ensures full { TellsFull result self.now }
+        ensures worn { IsErrOf result BookFault.Worn
+            ↔ ((is_broken self.now ≡ false) × (length (log_of self.now) < MAX_ENTRIES)
+            × (number_of self.now ≡ 2 ^ 64 - 1)) }
+        ensures ok { OnOk result ((is_broken self.now ≡ false)
+            × (length (log_of self.now) < MAX_ENTRIES)) }
+        ensures fresh { OnOk result (number_of self.now ≢ 2 ^ 64 - 1) }
+        ensures others { IfErr result (λ fault. fault ≢ BookFault.Device) }
+    {
+        self.check_room()?;
+        if self.keeper.worn() {
+            return Err(BookFault::Worn);
         }
         Ok(())
     }

@@ -50,10 +50,7 @@ impl<D: Disk> Book<D> {
             → IfOk result (λ answer. IsTrue (leaves_table answer)
             → keeper_of self.new ≡ keeper_of self.old) }
     {
-        self.check_room()?;
-        if self.keeper.worn() {
-            return Err(BookFault::Worn);
-        }
+        self.check_command()?;
         let answer = enter_command(alloc, &mut self.log, &mut self.table, who, command)?;
         let kept_before = self.kept + 1 == self.log.len();
         if kept_before && leaves_table(&answer) {

@@ -7,6 +7,15 @@ use Rattle.ic_desk.proofs.book.Book.keep.Goals as goal
 pub returns-in_err-check_keepable-clause-crash : goal.returns-in_err-check_keepable-clause-crash
 returns-in_err-check_keepable-clause-crash g c = unchanged g.met.D.Disk.left_is_image c.args.self.now
 
+pub returns-then-self-len-clause-crash : goal.returns-then-self-len-clause-crash
+returns-then-self-len-clause-crash g c = unchanged g.met.D.Disk.left_is_image c.args.self.now
+
+pub returns-then-self-len-clause-step : goal.returns-then-self-len-clause-step
+returns-then-self-len-clause-step g c =
+    let book = c.args.self.now in
+    let ready = c.in_ok-check_keepable.ensures.ok in
+    keeps_page book book refl refl refl (omega (arith, c.if-self-len.true, c.len.ensures)) (unchanged g.met.D.Disk.left_is_image book) ready ready
+
 pub invariant_of-self : goal.invariant_of-self
 invariant_of-self g c =
     let book = c.args.self.now in

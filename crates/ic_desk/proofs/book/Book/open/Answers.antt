@@ -1,6 +1,4 @@
-use Rattle.std.proofs.Common.{sym, ◌∙◌, ap, List, ℕ, subst}
-use Rattle.ic_slots.specs.Held.{IsHeld, the_table}
-use Rattle.ic_disk.specs.Images.{Only}
+use Rattle.std.proofs.Common.{sym, ◌∙◌}
 use Rattle.ic_desk.proofs.DiskLemmas.{found_now}
 use Rattle.ic_desk.proofs.book.Book.open.Goals as goal
 

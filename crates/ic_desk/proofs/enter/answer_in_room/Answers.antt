@@ -1,6 +1,6 @@
 use Rattle.std.proofs.Common.{Result, Ok, Err, OnErr}
 use Rattle.ic_desk.proofs.AnswerLemmas.{shown_stays}
-use Rattle.ic_desk.proofs.enter.enter_command.Goals as goal
+use Rattle.ic_desk.proofs.enter.answer_in_room.Goals as goal
 
 -- what holds anyhow holds at Err
 on_err : {T E : Type 0} (r : Result T E) (P : Type 0) → P → OnErr r P
