@@ -6,6 +6,7 @@ use Rattle.std.specs.List.{cons_option}
 use Rattle.std.proofs.Math.Seq.{drop-cons, get_or-append_seam}
 use Rattle.std.proofs.lemmas.Bool.{cases_lt}
 use Rattle.std.proofs.lemmas.List.{get_or_default, length_push, length-append, length-take-le, take-append-drop}
+use Rattle.std.proofs.lemmas.Option.{slice_get_read}
 use Rattle.ic_disk.specs.declared.disk.Disk.{Ghosts}
 use Rattle.ic_jobs.specs.declared.command.Command.{Command}
 use Rattle.ic_jobs.specs.declared.event.Event.{Event}
@@ -37,6 +38,20 @@ one_more P xs i e within before here k d below =
       | inr h ↦
           let same : i ≡ k = omega (arith, h, below) in
           subst (λ (n : ℕ). P (slice_index_or xs n d)) same (subst P (get_or_default xs i e d within) here)
+    ]
+
+-- the same where an index has its element
+pub one_more_at : {X : Type 0} (P : ℕ → X → Type 0) (xs : List X) (n i : ℕ) (e : X) → n ≡ length xs → i < n → e ≡ slice_index_or xs i e
+    → ((k : ℕ) (x : X) → k < i → slice_get xs k ≡ Some x → P k x) → P i e
+    → (k : ℕ) (x : X) → k < i + 1 → slice_get xs k ≡ Some x → P k x
+one_more_at P xs n i e count within item before here k x below is =
+    elim (cases_lt k i) [
+      | inl h ↦ before k x h is
+      | inr h ↦
+          let same : i ≡ k = omega (arith, h, below) in
+          let both : Some e ≡ Some x = sym (slice_get_read xs n i e count within item) ∙ ap (slice_get xs) same ∙ is in
+          let one : e ≡ x = cc in
+          subst (λ (m : ℕ). P m x) same (subst (P i) one here)
     ]
 
 -- an event that is no round is a command's

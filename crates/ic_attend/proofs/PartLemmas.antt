@@ -1,10 +1,11 @@
 -- Parts of a history.
 use Rattle.std.proofs.Common.{◌≡◌, ◌≢◌, ℕ, ◌+◌, ◌-◌, ◌<◌, ◌≤◌, ◌==◌, ◌&&◌, not, suc, arith, subst, List, [], ◌∷◌, ◌++◌, Bool, true, false, Option, None, Some, length, take, drop, refl, sym, ap, ◌∙◌, if◌then◌else◌}
-use Rattle.std.specs.Prelude.{slice_index_or}
+use Rattle.std.specs.Prelude.{IfSome, slice_index_or}
 use Rattle.std.specs.Cmp.{unsigned_Decides}
-use Rattle.std.specs.List.{cons_option, AllZip}
+use Rattle.std.specs.List.{All, cons_option, AllZip}
+use Rattle.std.specs.Option.{unwrap_or}
 use Rattle.std.proofs.lemmas.List.{append-nil, length_push, take_at, take_more, take-append-drop, take-take}
-use Rattle.std.proofs.lemmas.List.Elements.{filter_map-append}
+use Rattle.std.proofs.lemmas.List.Elements.{All-push, filter_map-append}
 use Rattle.ic_jobs.specs.declared.command.Command.{Command}
 use Rattle.ic_jobs.specs.declared.event.Event.{Event}
 use Rattle.ic_jobs.specs.declared.event.Event.TheVariants.{Command as by_command, Round}
@@ -14,7 +15,10 @@ use Rattle.ic_desk.specs.Entries.{is_round, command_entry, AreRounds}
 use Rattle.ic_attend.specs.declared.attended.ClientRun.{ClientRun}
 use Rattle.ic_attend.specs.Parts.{answered, answer_to, part}
 use Rattle.ic_attend.specs.declared.client.Speech.{Speech}
+use Rattle.ic_attend.specs.declared.attended.RunnerEnd.{RunnerEnd}
+use Rattle.ic_attend.specs.declared.attended.RunnerEnd.TheVariants.{Idle}
 use Rattle.ic_attend.specs.Clients.{KeepsTo}
+use Rattle.ic_attend.specs.Ends.{EndMayBe}
 use Rattle.ic_attend.specs.inner.Speech.{Speaks}
 
 pub part-snoc : (who : ℕ) (es : List Entry) (e : Entry) → part who (es ++ e ∷ []) ≡ part who es ++ cons_option (answer_to who e) []
@@ -234,3 +238,13 @@ pub keeps_to : (a b : List Command) (speech : Speech) → a ≡ b → Speaks a s
 keeps_to a b speech same speaks on =
     let s = subst (λ (l : List Command). Speaks l speech) same speaks in
     record { follows = s.follows; finished = s.finished (not_true speech.stopped on) }
+
+-- a runner whose thread wasn't started is idle
+may_be_or_idle : (workers : ℕ) (end : Option RunnerEnd) → IfSome end (EndMayBe workers) → EndMayBe workers (unwrap_or end Idle)
+may_be_or_idle workers None may = tt
+may_be_or_idle workers (Some end) may = may
+
+pub ends_more : (workers : ℕ) (old new : List RunnerEnd) (end : Option RunnerEnd) → new ≡ old ++ unwrap_or end Idle ∷ [] → All (EndMayBe workers) old → IfSome end (EndMayBe workers)
+    → All (EndMayBe workers) new
+ends_more workers old new end grown all may =
+    subst (λ (ends : List RunnerEnd). All (EndMayBe workers) ends) (sym grown) (All-push (EndMayBe workers) old (unwrap_or end Idle) all (may_be_or_idle workers end may))

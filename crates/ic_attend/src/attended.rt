@@ -6,7 +6,7 @@ use ic_jobs::{Command, Reply};
 use ic_pool::PoolFault;
 
 /// What a client was answered.
-#[derive(Debug, Drop)]
+#[derive(Drop)]
 pub struct ClientRun {
     /// Its commands that were answered, in order, each with its reply.
     pub answers: Vec<(Command, Reply)>,
@@ -17,7 +17,7 @@ pub struct ClientRun {
 }
 
 /// How a runner ended.
-#[derive(Clone, Copy, Debug, PartialEq, Eq)]
+#[derive(Clone, Copy)]
 pub enum RunnerEnd {
     /// Nothing was due, once all scripts had ended.
     Idle,

@@ -16,7 +16,7 @@ use std::thread::Threads;
 
 /// What each runner is to do: so many turns once all scripts have ended, each round by so many
 /// workers.
-#[derive(Clone, Copy, Debug)]
+#[derive(Clone, Copy)]
 pub(crate) struct Duty {
     pub turns: usize,
     pub workers: usize,
@@ -24,7 +24,7 @@ pub(crate) struct Duty {
 
 /// A runner's way round the table, lap after lap: where it looks next, how many running jobs it has
 /// met on this lap, and how many on the one before.
-#[derive(Clone, Copy, Debug)]
+#[derive(Drop)]
 struct Laps {
     next: usize,
     met: usize,
