@@ -1,9 +1,12 @@
 //! Laws of the definitions that the contracts of this crate cite.
 
-ghost use Rattle.std.specs.Prelude.{◌≡◌, ◌≤◌, ◌<◌, ℕ, List, IsPermutation, IsTrue, ◌↔◌, length};
+ghost use Rattle.std.specs.Prelude.{◌≡◌, ◌≤◌, ◌<◌, ◌⊎◌, ℕ, List, IsPermutation, IsTrue, ◌↔◌, length};
 ghost use Rattle.std.specs.List.{AllByRecursion};
 ghost use Rattle.ic_rules.specs.Rule.{Rule};
 ghost use Rattle.ic_round.specs.Works.{PlainWork};
+ghost use Rattle.ic_pool.specs.declared.fault.PoolFault.{PoolFault};
+ghost use Rattle.ic_pool.specs.declared.fault.PoolFault.TheVariants.{Memory, Lost, Stranger};
+ghost use Rattle.ic_crew.specs.Crews.{is_spending};
 ghost use Rattle.ic_crew.specs.Dealing.{IsDealing, joined};
 ghost use Rattle.ic_crew.specs.Matching.{work_eq};
 
@@ -22,4 +25,10 @@ pub fn dealing_is_fair()
 /// The test of equality tells exactly whether two works are the same.
 pub fn equality_is_exact()
     ensures { (v w : PlainWork) → IsTrue (work_eq v w) ↔ (v ≡ w) }
+{}
+
+/// A crew is spent by want of memory and by results that are lost or strange, and by no other fault.
+pub fn crews_are_spent_so()
+    ensures { (fault : PoolFault) → IsTrue (is_spending fault)
+        ↔ ((fault ≡ Memory) ⊎ ((fault ≡ Lost) ⊎ (fault ≡ Stranger))) }
 {}

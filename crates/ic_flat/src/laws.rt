@@ -1,12 +1,12 @@
 //! Laws of the definitions that the contracts of this crate cite.
 
-ghost use Rattle.std.specs.Prelude.{◌≡◌, ℕ, ◌+◌, ◌*◌, List, ◌∷◌, ◌++◌, length, drop, sum_by};
+ghost use Rattle.std.specs.Prelude.{◌≡◌, ◌↔◌, ℕ, ◌+◌, ◌*◌, IsTrue, List, ◌∷◌, ◌++◌, length, drop, sum_by};
 ghost use Rattle.std.specs.List.{flat_map, list_all};
 ghost use Rattle.ic_term.specs.Tree.{Tree, nodes};
 ghost use Rattle.ic_term.specs.Configuration.{Configuration, configuration_names, configuration_nodes};
 ghost use Rattle.ic_term.specs.Symbol.{Symbol, is_over};
 ghost use Rattle.ic_flat.specs.declared.word.Word.{Word};
-ghost use Rattle.ic_flat.specs.Words.{forest, IsWhole, tree_words, word_names, is_word_over};
+ghost use Rattle.ic_flat.specs.Words.{forest, IsWhole, tree_words, word_eq, word_names, is_word_over};
 ghost use Rattle.ic_flat.specs.Flat.{configuration_of, configuration_words};
 
 /// The words of terms write exactly these terms, and whole words are those of the terms that they write. So whole words
@@ -46,4 +46,9 @@ pub fn words_say_what_their_configuration_says()
         → length (configuration_words c) ≡ configuration_nodes c }
     ensures over { (ss : List Symbol) (c : Configuration)
         → list_all (is_word_over ss) (configuration_words c) ≡ is_over ss c }
+{}
+
+/// The test of equality tells exactly whether two words are the same.
+pub fn equality_is_exact()
+    ensures { (v w : Word) → IsTrue (word_eq v w) ↔ (v ≡ w) }
 {}
