@@ -1,8 +1,9 @@
-//! A runtime for tests, whose files take and give one byte at a time, and whose writes and syncs
+//! A runtime whose files take and give one byte at a time, and whose writes and syncs
 //! fail when they are told to.
 
+use crate::told::Told;
 use ic_disk::DiskFile;
-use std::alloc::Allocator;
+use std::alloc::{AllocError, Allocator};
 use std::cell::Cell;
 use std::fs::{File, Metadata, OpenFile, OpenOptions};
 use std::io;
@@ -12,14 +13,14 @@ use std::rt::Files;
 /// What has come of the files of a runtime, and whether they refuse to be written or synced.
 #[derive(Drop)]
 pub struct Log<'a> {
-    pub folder: &'a str,
-    pub folders_opened: Cell<u32>,
+    folder: &'a str,
+    folders_opened: Cell<u32>,
     /// Syncs of a file with all that the system keeps of it, of folders too.
-    pub whole_syncs: Cell<u32>,
+    whole_syncs: Cell<u32>,
     /// Syncs of a file's bytes and length.
-    pub data_syncs: Cell<u32>,
-    pub refuses: Cell<bool>,
-    pub is_full: Cell<bool>,
+    data_syncs: Cell<u32>,
+    refuses: Cell<bool>,
+    is_full: Cell<bool>,
 }
 
 impl<'a> Log<'a> {
@@ -33,6 +34,25 @@ impl<'a> Log<'a> {
             refuses: Cell::new(false),
             is_full: Cell::new(false),
         }
+    }
+
+    /// Has its files refuse, or no more; or tells what has come of them.
+    pub fn word(&self, told: &mut Told, verb: &str) -> Result<(), AllocError> {
+        match verb {
+            "refuse" => self.refuses.set(true),
+            "allow" => self.refuses.set(false),
+            "fill" => self.is_full.set(true),
+            "empty" => self.is_full.set(false),
+            _ => return self.tell(told),
+        }
+        Ok(())
+    }
+
+    /// Tells the whole syncs, those of data alone, and how often the folder was opened.
+    fn tell(&self, told: &mut Told) -> Result<(), AllocError> {
+        told.number(u64::from(self.whole_syncs.get()))?;
+        told.number(u64::from(self.data_syncs.get()))?;
+        told.number(u64::from(self.folders_opened.get()))
     }
 }
 

@@ -1,0 +1,21 @@
+//! The worked rows of the disks and of the two slots, in memory and in files. `answers` says what a row may ask.
+#![tactic(auto)]
+
+mod answers;
+mod bench;
+mod calls;
+mod files;
+mod laws;
+mod memory;
+mod place;
+mod slow_files;
+mod told;
+mod words;
+
+use crate::answers::Kinds;
+use ic_notation::check_rows;
+use std::io;
+
+fn main(rt: HostRuntime) -> io::Result<()> {
+    check_rows(&rt, rt.alloc(), &Kinds { rt: &rt })
+}
