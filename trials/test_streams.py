@@ -124,10 +124,10 @@ class Closed(Trial):
 class Long(Trial):
     seconds = 20
 
-    def fed(self, block, times, answer_of_block):
+    def fed(self, block, times, answer_of_block, disk=None):
         """Feeds a block of lines many times, and looks at the memory of the server on the way: the figures, in kilobytes."""
         figures, wanted = [], len(answer_of_block) * times
-        with Server(self.disk()) as server:
+        with Server(disk or self.disk()) as server:
             came = [0, True]
 
             def take():
@@ -193,6 +193,17 @@ class Long(Trial):
         config = "<|P=" + "C(" * 8180 + "D" + ")" * 8180 + ">"
         answers = [f"big done 0 {config}"] * 1000
         self.takes_at_most(15_000, [f"submit big {{}} {config}"], ["fetch big"] * 1000, answers)
+
+    def test_65_536_fetches_of_32_large_jobs_copy_none(self):
+        """A whole page of fetches of jobs of 8,192 nodes. A copy for each would take 8 GB."""
+        config = b"<|P=" + b"C(" * 8190 + b"D" + b")" * 8190 + b">"
+        jobs = [b"j%d" % it for it in range(32)]
+        disk = self.disk()
+        self.serves(disk, b"".join(b"submit %s {} %s\n" % (it, config) for it in jobs), ["accepted"] * 32)
+        fetches = b"".join(b"fetch %s\n" % it for it in jobs)
+        shown = b"".join(b"%s done 0 %s\n" % (it, config) for it in jobs)
+        figures = self.fed(fetches, 2_048, shown, disk)
+        self.equals("icserve serve", f"at most 64,000 kilobytes, came {figures}", True, figures[-1] < 64_000)
 
     def test_65_000_lists_over_32_jobs_share_one_list(self):
         """docs/speed.md: 13 MB. Copies of the list would take some 90."""
