@@ -215,6 +215,16 @@ class Faults(Stops):
         self.have_come((3, "memory"), (4, "memory"))
         self.holds(disk, before)
 
+    def growths_of(self, *words, given):
+        """How many growths a run asks for."""
+        run(*words, given=given, env=shimmed(f"growth {10**9} once", self.log))
+        return next(it.at for it in noted(self.log) if it.kind == "C")
+
+    def test_rounds_of_reduce_use_one_another_s_lists(self):
+        """A thousand rounds more ask for no memory. A round with lists of its own asks for some."""
+        few, many = (self.growths_of("reduce", "--rounds", it, given=LOOP.text) for it in ("1000", "2000"))
+        self.equals(f"icserve reduce, {LOOP.text}", "growths of 1,000 and of 2,000 rounds", few, many)
+
     def test_each_call_of_a_serving_on_the_disk_fails_in_turn(self):
         for lines in (LOOPING, SUMS):
             self.are(50, self.served(lines, ("once", "on", "done", "half"), "disk", (4, "device"), (3, "device")))
