@@ -16,3 +16,4 @@ pub mod Submitting
 pub mod Filling
 pub mod Feeds
 pub mod Served
+pub mod Choosing

@@ -1,10 +1,7 @@
 -- Writing tokens one behind the other.
-use Rattle.std.proofs.Common.{◌≡◌, ℕ, zero, suc, ◌+◌, ◌/◌, ◌%◌, ◌<◌, ◌≤◌, ◌^◌, true, Bool, List, [], ◌∷◌, ◌++◌, Option, None, Some, length, map, get_or, drop, drop-cons, add-one, IsTrue, refl, sym, ap, subst, ◌∙◌, append_assoc, arith}
+use Rattle.std.proofs.Common.{◌≡◌, ℕ, zero, suc, ◌+◌, ◌<◌, ◌≤◌, true, Bool, List, [], ◌∷◌, ◌++◌, Option, None, Some, length, map, get_or, drop, drop-cons, add-one, IsTrue, refl, sym, ap, subst, ◌∙◌, append_assoc, arith}
 use Rattle.std.specs.Prelude.{option_map}
 use Rattle.std.specs.List.{slice_get, AllByRecursion}
-use Rattle.std.specs.Fmt.{decimal}
-use Rattle.std.specs.Int.Digits.{digits_of}
-use Rattle.std.proofs.lemmas.Fmt.{decimal-digits_of}
 use Rattle.std.proofs.lemmas.Option.{slice_get_within}
 use Rattle.std.proofs.lemmas.Bool.{and_parts, false≢true}
 use Rattle.std.proofs.lemmas.Grind.{flat_map-append}
@@ -14,7 +11,6 @@ use Rattle.ic_term.specs.declared.term.Cell.{Cell, out-Cell, fold_out-Cell}
 use Rattle.ic_term.specs.Tree.{Tree, agent, Trees, list_of, trees_of}
 use Rattle.ic_term.specs.declared.term.Term.{Term}
 use Rattle.ic_text.specs.Token.{Token, token_text}
-use Rattle.ic_text.specs.Name.{name_text}
 use Rattle.ic_text.specs.Source.{Source, Sources, more_sources, words, argument_words, further_words}
 use Rattle.ic_text.specs.Text.{text_or_none, source_of, sources_of, text_of}
 use Rattle.ic_text.specs.SystemSource.{RulePhrase, rule_words, rules_words}

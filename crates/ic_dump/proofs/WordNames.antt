@@ -6,7 +6,7 @@ use Rattle.ic_term.specs.Tree.{Tree, name, agent, Trees, no_trees, more_trees, l
 use Rattle.ic_term.specs.Configuration.{Configuration, IsConfiguration, configuration_names}
 use Rattle.ic_rules.specs.Renaming.{renamed, renamed_trees, first_occurrences, number_among}
 use Rattle.ic_flat.specs.declared.word.Word.{Word}
-use Rattle.ic_flat.specs.declared.word.Word.TheVariants.{Name, Agent}
+use Rattle.ic_flat.specs.declared.word.Word.TheVariants.{Agent}
 use Rattle.ic_flat.specs.Words.{tree_words, trees_words}
 use Rattle.ic_flat.specs.Flat.{sides, configuration_of, configuration_words, IsFlat}
 use Rattle.ic_flat.specs.lemmas.FlatLaws.{IsFlat-configuration_words, configuration_of-words}

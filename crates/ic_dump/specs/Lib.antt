@@ -4,6 +4,7 @@ pub mod Writing
 pub mod Telling
 pub mod Alike
 pub mod Filling
+pub mod Missing
 pub mod Dumping
 pub mod DiskDumping
 pub mod inner

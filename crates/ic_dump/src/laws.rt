@@ -1,7 +1,7 @@
 //! What is proved of the definitions alone: each law is the contract of a function that does nothing, or calls the laws
 //! that it comes of.
 
-ghost use Rattle.std.specs.Prelude.{◌≡◌, ◌≤◌, ℕ, List, [], ◌∷◌, Contains, Ok, length, map, true};
+ghost use Rattle.std.specs.Prelude.{◌≡◌, ◌↔◌, ◌⊎◌, ◌≤◌, ℕ, List, [], ◌∷◌, Contains, None, Some, Ok, length, map, true, false};
 ghost use Rattle.std.specs.List.{flat_map, fold};
 ghost use Rattle.ic_term.specs.Configuration.{Configuration};
 ghost use Rattle.ic_jobs.specs.Job.{JobParts, IsJob};
@@ -13,8 +13,9 @@ ghost use Rattle.ic_dump.specs.declared.fault.DumpFault.{DumpFault};
 ghost use Rattle.ic_dump.specs.Alike.{Submits};
 ghost use Rattle.ic_lines.specs.Lines.{lines};
 ghost use Rattle.ic_lines.specs.Serving.{IsServed};
-ghost use Rattle.ic_dump.specs.Dumping.{all_dump_faults, chosen, dump_fault_number, dumped};
+ghost use Rattle.ic_dump.specs.Dumping.{all_dump_faults, chosen, dump_fault_number, dumped, first_missing, is_chosen};
 ghost use Rattle.ic_dump.specs.Filling.{accepted, begun_again, read_again, submit_of, table_after};
+ghost use Rattle.ic_dump.specs.Missing.{AreHad, IsFirstMissing};
 ghost use Rattle.ic_dump.specs.Naming.{has_names_of_texts, told};
 ghost use Rattle.ic_dump.specs.Telling.{job_line, told_system};
 ghost use Rattle.ic_dump.specs.Writing.{system_of};
@@ -78,6 +79,27 @@ pub fn names_of_texts_are_kept()
 /// Where no name is given, all jobs are asked for.
 pub fn all_jobs_are_asked_for_without_names()
     ensures { (t : List JobParts) → chosen [] t ≡ t }
+{}
+
+/// A job is asked for exactly where it has one of the names, or no name is given. The jobs that are asked for stand in the
+/// order of the table: going through it, each is taken once, and every other job is passed over.
+pub fn jobs_are_asked_for_by_their_names()
+    ensures asked { (names : List (List ℕ)) (j : JobParts) →
+        (is_chosen names j ≡ true) ↔ ((names ≡ []) ⊎ Contains names j.name) }
+    ensures none { (names : List (List ℕ)) → chosen names [] ≡ [] }
+    ensures taken { (names : List (List ℕ)) (j : JobParts) (t : List JobParts) →
+        is_chosen names j ≡ true → chosen names (j ∷ t) ≡ j ∷ chosen names t }
+    ensures passed { (names : List (List ℕ)) (j : JobParts) (t : List JobParts) →
+        is_chosen names j ≡ false → chosen names (j ∷ t) ≡ chosen names t }
+{}
+
+/// A name is refused exactly where it is the first of those given that no job of the table has: it is one of them, and each
+/// name before it is a job's. None is refused exactly where each is a job's.
+pub fn the_first_missing_name_is_told()
+    ensures first { (names : List (List ℕ)) (t : List JobParts) (name : List ℕ) →
+        (first_missing names t ≡ Some name) ↔ IsFirstMissing names t name }
+    ensures none { (names : List (List ℕ)) (t : List JobParts) →
+        (first_missing names t ≡ None) ↔ AreHad t names }
 {}
 
 /// The lasting numbers of the faults, which are all that there are.
