@@ -19,11 +19,11 @@ class Causes(Trial):
         """Fails unless a run ended with this line on standard error, and this one behind it."""
         self.equals(ran.command, "standard error", (f"icserve: {line}\n", behind + "\n"), (ran.err.decode(), ran.behind.decode()))
 
-    def serve(self, path, cause, **how):
-        """Fails unless the disk of this path isn't served, with `device` and this cause."""
-        for words in (["serve", "--disk", path], ["attend", "--disk", path]):
-            ran = run(*words, given="list", **how)
-            self.equals(ran.command, "status", 3, ran.status)
+    def isnt_opened(self, path, cause, **how):
+        """Fails unless the disk of this path is neither served nor dumped, with `device` and this cause, and nothing is printed."""
+        for word in ("serve", "attend", "dump"):
+            ran = run(word, "--disk", path, given="list", **how)
+            self.equals(ran.command, "status and standard output", (3, b""), (ran.status, ran.out))
             self.tells(ran, "device", f"{path}: {cause}")
 
     def create(self, path, cause, **how):
@@ -33,27 +33,27 @@ class Causes(Trial):
         self.tells(ran, "device", f"{path}: {cause}")
 
     def test_a_file_or_a_folder_is_missing(self):
-        self.serve(self.room / "missing", "open: no such file or folder")
-        self.serve("", "open: no such file or folder")
+        self.isnt_opened(self.room / "missing", "open: no such file or folder")
+        self.isnt_opened("", "open: no such file or folder")
         self.create(self.room / "no/folder", "open: no such file or folder")
 
     def test_a_folder(self):
-        self.serve(self.room, "open: is a folder")
+        self.isnt_opened(self.room, "open: is a folder")
         self.create(self.room, "open: is a folder")
 
     def test_a_name_that_is_no_folders_or_too_long_or_a_link_to_itself(self):
         disk = self.disk()
-        self.serve(disk / "more", "open: a name on the way to it is no folder's")
+        self.isnt_opened(disk / "more", "open: a name on the way to it is no folder's")
         self.create(self.room / ("x" * 300), "open: the name is too long")
         os.symlink(self.room / "link", self.room / "link")
-        self.serve(self.room / "link", "open: too many symbolic links")
+        self.isnt_opened(self.room / "link", "open: too many symbolic links")
 
     def test_no_rights(self):
         how = self.without_rights()
         path = self.disk()
         for mode in (0o444, 0o222, 0o000):
             os.chmod(path, mode)
-            self.serve(path, "open: no rights", **how)
+            self.isnt_opened(path, "open: no rights", **how)
             self.create(path, "open: no rights", **how)
 
     def test_a_folder_that_cant_be_read_is_named(self):
@@ -68,7 +68,7 @@ class Causes(Trial):
         path = self.disk()
         with Server(path) as server:
             self.answers(server, "list", "jobs")
-            self.serve(path, "lock: another server has it open")
+            self.isnt_opened(path, "lock: another server has it open")
             self.create(path, "lock: another server has it open")
             self.ends(server)
         self.serves(path, "list", ["jobs"])
@@ -76,14 +76,14 @@ class Causes(Trial):
     def test_a_device_and_a_pipe_cant_be_synced(self):
         os.mkfifo(self.room / "pipe")
         for path in ("/dev/full", "/dev/null", self.room / "pipe"):
-            self.serve(path, "sync: not possible with such a file")
+            self.isnt_opened(path, "sync: not possible with such a file")
             self.create(path, "sync: not possible with such a file")
 
     def test_a_program_that_runs(self):
         program = shutil.copy(PROGRAM, self.room / "icserve")
         with Server(self.disk(), program=program) as server:
             self.answers(server, "list", "jobs")
-            self.serve(program, "open: is a program that runs")
+            self.isnt_opened(program, "open: is a program that runs")
             self.ends(server)
 
     def test_a_file_that_may_grow_no_further(self):
@@ -121,15 +121,15 @@ class Causes(Trial):
         path = self.room / "file"
         for data in (b"", b"a text\n", bytes(5_000_000)):
             path.write_bytes(data)
-            self.tells(run("serve", "--disk", path, given="list"), "no slot", f"{path}: {NO_DISK}")
-            self.tells(run("attend", "--disk", path), "no slot", f"{path}: {NO_DISK}")
+            for word in ("serve", "attend", "dump"):
+                self.tells(run(word, "--disk", path, given="list"), "no slot", f"{path}: {NO_DISK}")
 
     def test_a_disk_that_something_else_has_changed(self):
         path = self.room / "file"
-        path.write_bytes(disk_of(slot(1, EMPTY), slot(1, EMPTY)))
-        self.tells(run("serve", "--disk", path, given="list"), "two alike", f"{path}: {NOT_AS_LEFT}")
-        path.write_bytes(disk_of(slot(1, EMPTY), slot(2, b"no table")))
-        self.tells(run("serve", "--disk", path, given="list"), "damaged", f"{path}: {NOT_AS_LEFT}")
+        for line, second in (("two alike", slot(1, EMPTY)), ("damaged", slot(2, b"no table"))):
+            path.write_bytes(disk_of(slot(1, EMPTY), second))
+            for word in ("serve", "attend", "dump"):
+                self.tells(run(word, "--disk", path, given="list"), line, f"{path}: {NOT_AS_LEFT}")
 
     def test_nothing_is_told_behind_other_lines(self):
         path = self.disk()
