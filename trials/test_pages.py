@@ -93,8 +93,6 @@ class Pages(Trial):
                     # Graphviz isn't needed for the rest: trials of the word itself look at what it prints.
                     continue
                 with self.subTest(page=str(page), command=command):
-                    if not wanted and "examples/addition.session" in command:
-                        wanted = (TOP / "examples/addition.answers").read_text().splitlines()
                     self.typed(page, [command], wanted)
 
     def test_each_line_of_a_session_on_a_page_has_the_answer_behind_it(self):
