@@ -1,8 +1,7 @@
 -- What is told of a symbol with two arities.
-use Rattle.std.proofs.Common.{◌≡◌, ℕ, List, Option, Some, refl}
-use Rattle.ic_text.specs.Places.{IsPlaced, IsPlacedWord}
+use Rattle.std.proofs.Common.{◌≡◌, ℕ, List, Some, refl}
+use Rattle.ic_text.specs.Places.{IsPlaced}
 use Rattle.ic_text.specs.Token.{Token}
-use Rattle.ic_text.specs.WordFaults.{IsFaultWord}
 use Rattle.ic_text.specs.Words.{Written}
 use Rattle.ic_text.specs.declared.fault.TextFault.TheVariants.{Arity}
 use Rattle.ic_text.specs.declared.misread.Detail.{Detail}

@@ -1,6 +1,6 @@
 -- The column counts characters.
-use Rattle.std.proofs.Common.{◌≡◌, ◌⊎◌, ℕ, ◌+◌, ◌/◌, ◌%◌, ◌<◌, ◌≤◌, Bool, true, false, cond, ◌||◌, List, [], ◌∷◌, ◌++◌, length, IsUtf8, chars, encode_utf8, encode_utf8_all, refl, sym, ap, subst, ◌∙◌, ltb, lt-ltb, le-ltb, le-leb, ltb-true, inl, inr, arith}
-use Rattle.std.specs.List.{count_by, list_any, list_all}
+use Rattle.std.proofs.Common.{◌≡◌, ◌⊎◌, ℕ, ◌+◌, ◌/◌, ◌%◌, ◌<◌, ◌≤◌, Bool, true, false, cond, ◌||◌, List, [], ◌∷◌, ◌++◌, length, IsUtf8, chars, encode_utf8, encode_utf8_all, refl, ap, subst, ◌∙◌, ltb, lt-ltb, le-ltb, le-leb, ltb-true, inl, inr, arith}
+use Rattle.std.specs.List.{count_by, list_all}
 use Rattle.std.proofs.lemmas.Bool.{and_parts, cond_both, lt-leb}
 use Rattle.std.proofs.lemmas.List.Sums.{sum_by-append, sum_by-cons}
 use Rattle.std.proofs.Math.Utf8.{encode}

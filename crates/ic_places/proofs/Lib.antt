@@ -4,3 +4,4 @@ pub mod ColumnLaws
 pub mod ShownLaws
 pub mod Trimmed
 pub mod Arities
+pub mod FirstShown

@@ -1,6 +1,6 @@
 -- To be believed: what stands where a text doesn't go on, as far as it tells what is amiss (this
 -- project's choice).
-use Rattle.std.specs.Prelude.{ℕ, ◌-◌, ◌==◌, List, [], ◌∷◌, Bool, true, false, ◌&&◌, not, Option, None, Some, codes, length, slice_get, take, drop, if◌then◌else◌}
+use Rattle.std.specs.Prelude.{ℕ, ◌-◌, ◌==◌, List, [], ◌∷◌, Bool, false, ◌&&◌, not, Option, None, Some, codes, length, slice_get, take, drop, if◌then◌else◌}
 use Rattle.std.specs.Char.{is_ascii_lowercase}
 use Rattle.std.specs.List.{list_all, list_any}
 use Rattle.std.specs.Str.{bytes_eq}

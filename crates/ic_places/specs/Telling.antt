@@ -15,11 +15,11 @@ use Rattle.ic_text.specs.Words.{Written, all_words}
 use Rattle.ic_text.specs.Places.{IsPlaced, IsWordPlace}
 use Rattle.ic_streams.specs.Streams.{TakesIt}
 use Rattle.ic_streams.specs.declared.fault.StreamFault.{StreamFault}
-use Rattle.ic_streams.specs.declared.fault.StreamFault.TheVariants.{Read, Text, Round, Memory, Write}
+use Rattle.ic_streams.specs.declared.fault.StreamFault.TheVariants.{Text}
 use Rattle.ic_places.specs.declared.telling.Kind.{Kind}
 use Rattle.ic_places.specs.declared.telling.Kind.TheVariants.{Config, System}
 use Rattle.ic_places.specs.declared.sights.Sight.{Sight}
-use Rattle.ic_places.specs.declared.sights.Sight.TheVariants.{End, SystemMark, ConfigMark, CommandWord, NoName, Other}
+use Rattle.ic_places.specs.declared.sights.Sight.TheVariants.{End, SystemMark, ConfigMark, CommandWord, NoName}
 use Rattle.ic_places.specs.Lines.{place_lines}
 use Rattle.ic_places.specs.Sights.{sight_at}
 

@@ -1,9 +1,9 @@
 //! A place of a text told in lines.
 
 ghost use Rattle.std.specs.Prelude.{◌≡◌, ◌≤◌, ◌++◌, IfOk, OnOk, length};
-ghost use Rattle.ic_places.specs.Lines.{line_number, last_line, begins_with_feed, ends_line, first_line, column, head_of, picture_of, place_lines, told_at, trimmed};
+ghost use Rattle.ic_places.specs.Lines.{line_number, last_line, begins_with_feed, ends_line, first_line, column, head_of, picture_of, place_lines, shown_behind, told_at, trimmed};
 
-use crate::shown::{shown_before, shown_behind};
+use crate::shown::{SHOWN_BEHIND, shown_before, shown_behind};
 use ic_text::is_blank;
 use std::alloc::{AllocError, Global};
 
@@ -61,6 +61,13 @@ fn first_line(rest: &[u8]) -> &[u8]
         }
     }
     rest
+}
+
+/// As much of the line with which a text begins as is shown of it.
+fn line_behind(rest: &[u8]) -> &[u8]
+    ensures { shown_behind result.now ≡ shown_behind (first_line rest.now) }
+{
+    first_line(&rest[..rest.len().min(SHOWN_BEHIND + 2)])
 }
 
 /// At which character behind a front of its line a place is, from 1.
@@ -151,7 +158,12 @@ pub fn place_lines(
     let front = &text[..at];
     let mut lines = Vec::new(alloc);
     put_head(alloc, front, &mut lines)?;
-    put_picture(alloc, last_line(front), first_line(&text[at..]), &mut lines)?;
+    put_picture(
+        alloc,
+        last_line(front),
+        line_behind(&text[at..]),
+        &mut lines,
+    )?;
     lines.extend_from_slice(sentence)?;
     lines.push(b'\n')?;
     Ok(lines)

@@ -10,7 +10,7 @@ use std::alloc::{AllocError, Global};
 const BEFORE: usize = 60;
 
 /// How many bytes from the place on are shown.
-const BEHIND: usize = 20;
+pub(crate) const SHOWN_BEHIND: usize = 20;
 
 /// What stands where bytes are left out.
 const DOTS: &[u8] = b"...";
@@ -57,10 +57,10 @@ pub(crate) fn shown_behind(alloc: Global, line: &[u8]) -> Result<Vec<u8>, AllocE
     ensures { IfOk result (λ behind. behind.items ≡ shown_behind line.now) }
 {
     let mut behind = Vec::new(alloc);
-    if line.len() <= BEHIND {
+    if line.len() <= SHOWN_BEHIND {
         put_shown(line, &mut behind)?;
     } else {
-        put_shown(&line[..BEHIND - 3], &mut behind)?;
+        put_shown(&line[..SHOWN_BEHIND - 3], &mut behind)?;
         behind.extend_from_slice(DOTS)?;
     }
     Ok(behind)
