@@ -11,10 +11,10 @@ use Rattle.ic_text.specs.inner.Prefix.{Scanned, Cut, cut_at, cut_from, cut_run, 
 use Rattle.ic_text.specs.lemmas.ReadOnce.{some-injective}
 use Rattle.ic_text.proofs.ScanningText.{IsScanned, all_scanned, behind_run, byte_of_run, counts_room_behind, one_back, run_ended, terms_room, tokens_here}
 
-none_left : (n : ℕ) → eqb n 0 ≡ true → n ≡ 0
+pub none_left : (n : ℕ) → eqb n 0 ≡ true → n ≡ 0
 none_left n e = grind (arith, nat_tests)
 
-some_left : (n : ℕ) → eqb n 0 ≡ false → 0 < n
+pub some_left : (n : ℕ) → eqb n 0 ≡ false → 0 < n
 some_left n e = grind (arith, nat_tests)
 
 -- of no tokens nothing is kept
@@ -52,7 +52,7 @@ pub cut-run : (run : List ℕ) (skip : ℕ) (s : Scanned) → cut_run run (cut_f
 cut-run [] skip s = refl
 cut-run (b ∷ bs) skip s = cut-word b bs skip s (eqb (skip - length s.nodes) 0) refl
 
-cut-mark : (m : Mark) (skip : ℕ) (s : Scanned) → cut_at (Some m) (cut_from skip s) ≡ cut_from skip (mark_scan m s)
+pub cut-mark : (m : Mark) (skip : ℕ) (s : Scanned) → cut_at (Some m) (cut_from skip s) ≡ cut_from skip (mark_scan m s)
 cut-mark LeftBrace skip s = refl
 cut-mark RightBrace skip s = refl
 cut-mark Less skip s = refl

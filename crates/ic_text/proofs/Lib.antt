@@ -55,4 +55,7 @@ pub mod Heads
 pub mod PassedLimits
 pub mod Keeping
 pub mod Cutting
+pub mod TailSteps
+pub mod TailBytes
+pub mod TailCut
 pub mod Fronts

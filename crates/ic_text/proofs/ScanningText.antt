@@ -19,10 +19,10 @@ pub record IsScanned (text : List ℕ) (place end : ℕ) (s : Scanned) : Type 0 
   pub ordered : place ≤ end
   pub run : (front : List ℕ) → tokens_behind front (drop place text) ≡ Some (word_of (front ++ take (end - place) (drop place text)) ++ ts)
 
-empty_run : (text : List ℕ) (place : ℕ) → take (place - place) (drop place text) ≡ []
+pub empty_run : (text : List ℕ) (place : ℕ) → take (place - place) (drop place text) ≡ []
 empty_run text place = let none : place - place ≡ 0 = omega arith in ap (λ n. take n (drop place text)) none
 
-no_more_run : (text front : List ℕ) (place : ℕ) → word_of front ≡ word_of (front ++ take (place - place) (drop place text))
+pub no_more_run : (text front : List ℕ) (place : ℕ) → word_of front ≡ word_of (front ++ take (place - place) (drop place text))
 no_more_run text front place = ap word_of (sym (append-nil front) ∙ ap (λ l. front ++ l) (sym (empty_run text place)))
 
 -- nothing is scanned at the end
@@ -41,7 +41,7 @@ pub scan-run : (run : List ℕ) (ts : List Token) → scan_run run (scan ts) ≡
 scan-run [] ts = refl
 scan-run (b ∷ bs) ts = refl
 
-length-word_of : (run : List ℕ) → length (word_of run) ≤ length run
+pub length-word_of : (run : List ℕ) → length (word_of run) ≤ length run
 length-word_of [] = omega arith
 length-word_of (b ∷ bs) = omega arith
 

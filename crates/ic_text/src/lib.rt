@@ -27,6 +27,7 @@ mod refusal;
 mod survey;
 mod syntax;
 mod system;
+mod tail;
 mod token;
 
 pub use fault::TextFault;

@@ -1,14 +1,17 @@
 //! A configuration in prefix notation, made of its bytes without a step into what they nest.
 
-ghost use Rattle.std.specs.Prelude.{◌≡◌, ◌+◌, ◌-◌, ◌*◌, ◌<◌, ◌^◌, ◌∷◌, IfOk, OnOk, List, Some, length, take};
+ghost use Rattle.std.specs.Prelude.{◌≡◌, ◌+◌, ◌-◌, ◌*◌, ◌<◌, ◌≤◌, ◌^◌, [], ◌∷◌, IfOk, OnOk, List, Some, length, take};
 ghost use Rattle.std.specs.List.{AllByRecursion};
 ghost use Rattle.ic_text.specs.declared.token.Mark.TheVariants.{LeftBrace};
 ghost use Rattle.ic_text.specs.Token.{Token, mark, mark_of, tokens};
 ghost use Rattle.ic_text.specs.Source.{Phrase, phrase_words};
 ghost use Rattle.ic_text.specs.SystemSource.{RulePhrase, rules_words};
-ghost use Rattle.ic_text.specs.inner.Prefix.{IsEnough, cut_at, cut_from, cut_of, cut_run, nodes_of, scan, scanned};
+ghost use Rattle.ic_text.specs.inner.Prefix.{IsBegunAt, IsEnough, cut_at, cut_from, cut_of, cut_run, nodes_of, scan, scanned};
+ghost use Rattle.ic_text.specs.inner.Tail.{passed};
+ghost use Rattle.ic_text.specs.inner.TailScan.{cut_behind_mark};
 ghost use Rattle.ic_text.specs.Words.{phrase_prefix, rules_prefix};
 
+use crate::tail::{Tail, tail_behind};
 use crate::token::{Mark, is_word_byte, mark_of};
 use ic_term::MAX_NODES;
 use std::alloc::{AllocError, Global};
@@ -121,6 +124,55 @@ impl<'a> Scan<'a> {
     }
 }
 
+/// The scan behind a mark, with what was found there.
+fn scan_behind<'a>(nodes: Vec<Node<'a>>, skip: usize, tail: Tail) -> Scan<'a>
+    requires none { nodes.items ≡ [] }
+    requires few { tail.words ≤ skip }
+    ensures { cut_of result ≡ cut_behind_mark (passed tail) skip }
+{
+    let Tail {
+        mut closed,
+        words,
+        terms,
+        ..
+    } = tail;
+    closed.reverse();
+    Scan {
+        nodes,
+        skip: skip - words,
+        counts: closed,
+        arity: 0,
+        terms,
+    }
+}
+
+/// A scan of a text that is begun: at a mark behind the words that are kept, where what stands behind it was gone over, or
+/// else at the end. Room is made for so many words at first.
+fn begun(alloc: Global, text: &[u8], words: usize, skip: usize) -> Result<(Scan, usize), AllocError>
+    requires { (ts : List Token) × (tokens text.now ≡ Some ts) }
+    ensures { IfOk result (λ v. IsBegunAt text.now skip v.1 (cut_of v.0)) }
+{
+    let tail = tail_behind(alloc, text, words, skip)?;
+    let nodes = Vec::with_capacity(alloc, words)?;
+    match tail {
+        Some((tail, place)) => {
+            let mut scan = scan_behind(nodes, skip, tail);
+            scan.take_byte(text[place])?;
+            Ok((scan, place))
+        }
+        None => {
+            let scan = Scan {
+                nodes,
+                skip,
+                counts: Vec::new(alloc),
+                arity: 0,
+                terms: 0,
+            };
+            Ok((scan, text.len()))
+        }
+    }
+}
+
 /// What is known of the tokens of a text, without its last words, so many as `skip`. Takes one pass over its bytes, from
 /// their end. Room is made for so many words at first.
 fn scan_of(alloc: Global, text: &[u8], words: usize, skip: usize) -> Result<Scan, AllocError>
@@ -128,15 +180,7 @@ fn scan_of(alloc: Global, text: &[u8], words: usize, skip: usize) -> Result<Scan
     ensures { IfOk result (λ found. (ts : List Token) → tokens text.now ≡ Some ts →
         cut_of found ≡ cut_from skip (scan ts)) }
 {
-    let nodes = Vec::with_capacity(alloc, words)?;
-    let mut scan = Scan {
-        nodes,
-        skip,
-        counts: Vec::new(alloc),
-        arity: 0,
-        terms: 0,
-    };
-    let mut place = text.len();
+    let (mut scan, mut place) = begun(alloc, text, words, skip)?;
     let mut end = place;
     while place > 0 {
         place -= 1;

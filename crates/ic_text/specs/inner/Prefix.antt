@@ -1,12 +1,12 @@
 -- For private functions: how words are found in tokens that are scanned from their end.
-use Rattle.std.specs.Prelude.{ℕ, ◌+◌, ◌-◌, ◌==◌, ◌⊎◌, ◌≡◌, ◌<◌, ◌≤◌, List, [], ◌∷◌, Option, None, Some, length, map, reverse, take, if◌then◌else◌}
+use Rattle.std.specs.Prelude.{ℕ, ◌+◌, ◌-◌, ◌==◌, ◌⊎◌, ◌≡◌, ◌<◌, ◌≤◌, List, [], ◌∷◌, Option, None, Some, drop, false, get_or, length, map, reverse, take, if◌then◌else◌}
 use Rattle.ic_term.specs.Symbol.{Symbol}
 use Rattle.ic_term.specs.declared.limits.TheConstants.{MAX_NODES}
 use Rattle.ic_text.specs.declared.token.Mark.{Mark}
 use Rattle.ic_text.specs.declared.token.Mark.TheVariants.{Bar, Comma, Open, Close}
 use Rattle.ic_text.specs.declared.prefix.Node.{Node}
 use Rattle.ic_text.specs.declared.prefix.Scan.{Scan}
-use Rattle.ic_text.specs.Token.{Token, word, mark}
+use Rattle.ic_text.specs.Token.{Token, is_word_byte, mark, tokens, word}
 
 -- What is known of tokens that were scanned from their end: the words, the arguments so far of each
 -- list that is open, those of the list that just opened, and the terms outside all parentheses
@@ -106,6 +106,13 @@ cut_run (b ∷ bs) c =
 
 abbrev pub cut_at : Option Mark → Cut → Cut
 cut_at o c = record { seen = scan_at o c.seen; skip = c.skip }
+
+-- A scan begins at the end of a text, or before a byte of no word, with all behind it scanned.
+abbrev pub IsBegunAt : List ℕ → (skip place : ℕ) → Cut → Type 0
+IsBegunAt text skip place c =
+    ((place ≡ length text) × (c ≡ cut_from skip (scan [])))
+    ⊎ ((place < length text) × (is_word_byte (get_or text place 0) ≡ false)
+    × ((ts : List Token) → tokens (drop place text) ≡ Some ts → c ≡ cut_from skip (scan ts)))
 
 -- so many of the words of a configuration are all of them, or more than one may have
 abbrev pub IsEnough : ℕ → ℕ → Type 0

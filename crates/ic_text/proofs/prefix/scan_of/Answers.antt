@@ -1,17 +1,14 @@
-use Rattle.std.proofs.Common.{◌+◌, ◌-◌, ◌<◌, [], length, reverse, sym, ◌∙◌, refl, arith}
-use Rattle.ic_text.specs.inner.Prefix.{cut_of, nodes_of, scan}
-use Rattle.ic_text.proofs.Cutting.{all_cut, counts_here, cut_along, cut_back, cut_behind, cut_nothing, terms_here}
-use Rattle.ic_text.proofs.ScanningText.{nothing_scanned, whole_run}
+use Rattle.std.proofs.Common.{◌+◌, ◌-◌, ◌<◌, length, sym, ◌∙◌, refl, arith}
+use Rattle.ic_text.specs.inner.Prefix.{cut_of}
+use Rattle.ic_text.proofs.Cutting.{all_cut, counts_here, cut_along, cut_back, cut_behind, terms_here}
+use Rattle.ic_text.proofs.ScanningText.{whole_run}
+use Rattle.ic_text.proofs.TailCut.{begun-is-cut}
 use Rattle.ic_text.proofs.prefix.scan_of.Goals as goal
 
 pub loop-place-init : goal.loop-place-init
 loop-place-init c = record {
   fits = omega arith;
-  so_far = record {
-    all = scan [];
-    so_far = nothing_scanned c.args.text.now (scan []) refl;
-    is = (λ i. record { seen = record { nodes = reverse (nodes_of (c.in_ok-nodes.ensures.items i)); counts = reverse (c.new.ensures.items i); arity = 0; terms = 0 }; skip = c.args.skip }) ∙ cut_nothing c.args.skip;
-  };
+  so_far = begun-is-cut c.args.text.now c.args.skip _ _ c.requires.0 c.requires.1 c.in_ok-scan.ensures;
 }
 
 pub take_run-requires : goal.take_run-requires

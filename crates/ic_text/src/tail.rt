@@ -1,0 +1,151 @@
+//! The end of a text, whose words are left out. It is gone over from its beginning, so that no list is kept of what opens
+//! there.
+
+ghost use Rattle.std.specs.Prelude.{◌≡◌, ◌+◌, ◌<◌, ◌≤◌, ◌^◌, IfOk, IfSome, OnOk, IsSome, IsTrue, drop, false, length, get_or};
+ghost use Rattle.ic_text.specs.Token.{is_word_byte, mark_of};
+ghost use Rattle.ic_text.specs.inner.Tail.{IsTailOf, nothing_passed, pass_byte, pass_close, pass_word, passed, passed_over};
+
+use crate::token::{is_word_byte, mark_of};
+use std::alloc::{AllocError, Global};
+
+/// What is known of tokens that were gone over: how many lists opened here and are open; the commas in the list around
+/// them; the arguments of each list that was open before and is closed, the first one first; the words; and the terms
+/// outside all parentheses before a `|`, and whether there was one.
+#[derive(Drop)]
+pub(crate) struct Tail {
+    deep: usize,
+    commas: usize,
+    pub closed: Vec<usize>,
+    pub words: usize,
+    pub terms: usize,
+    barred: bool,
+}
+
+impl Tail {
+    /// Takes a word.
+    #[inline(always)]
+    fn take_word(&mut self)
+        requires words { self.old.words + 1 < 2 ^ 64 }
+        requires terms { self.old.terms + 1 < 2 ^ 64 }
+        ensures { passed self.new ≡ pass_word (passed self.old) }
+    {
+        self.words += 1;
+        if self.deep == 0 && !self.barred {
+            self.terms += 1;
+        }
+    }
+
+    /// Takes a `)`.
+    #[inline(always)]
+    fn take_close(&mut self) -> Result<(), AllocError>
+        requires { self.old.commas + 1 < 2 ^ 64 }
+        ensures { OnOk result (passed self.new ≡ pass_close (passed self.old)) }
+    {
+        if self.deep == 0 {
+            self.closed.push(self.commas + 1)?;
+            self.commas = 0;
+            self.terms = 0;
+        } else {
+            self.deep -= 1;
+        }
+        Ok(())
+    }
+
+    /// Takes a byte that is no word byte.
+    #[inline(always)]
+    fn take_byte(&mut self, byte: u8) -> Result<(), AllocError>
+        requires deep { self.old.deep + 1 < 2 ^ 64 }
+        requires commas { self.old.commas + 1 < 2 ^ 64 }
+        ensures { OnOk result (passed self.new ≡ pass_byte byte (passed self.old)) }
+    {
+        if byte == b'(' {
+            self.deep += 1;
+        } else if byte == b')' {
+            self.take_close()?;
+        } else if byte == b',' {
+            if self.deep == 0 {
+                self.commas += 1;
+            }
+        } else if byte == b'|' {
+            self.barred = true;
+        }
+        Ok(())
+    }
+}
+
+/// Goes over a text.
+fn tail_of(alloc: Global, text: &[u8]) -> Result<Tail, AllocError>
+    ensures { IfOk result (λ tail. passed tail ≡ passed_over nothing_passed false text.now) }
+{
+    let mut tail = Tail {
+        deep: 0,
+        commas: 0,
+        closed: Vec::new(alloc),
+        words: 0,
+        terms: 0,
+        barred: false,
+    };
+    let mut within = false;
+    for byte in text {
+        if is_word_byte(*byte) {
+            within = true;
+        } else {
+            if within {
+                tail.take_word();
+            }
+            within = false;
+            tail.take_byte(*byte)?;
+        }
+    }
+    if within {
+        tail.take_word();
+    }
+    Ok(tail)
+}
+
+/// The first mark behind so many words, if there is one.
+fn mark_behind(text: &[u8], words: usize) -> Option<usize>
+    ensures inside { IfSome result (λ place. place < length text.now) }
+    ensures apart { IfSome result (λ place. is_word_byte (get_or text.now place 0) ≡ false) }
+    ensures mark { IfSome result (λ place. IsSome (mark_of (get_or text.now place 0))) }
+{
+    let mut left = words;
+    let mut within = false;
+    for (place, byte) in text.iter().enumerate() {
+        if is_word_byte(*byte) {
+            within = true;
+        } else {
+            if within {
+                left = left.saturating_sub(1);
+            }
+            within = false;
+            if left == 0 && mark_of(*byte).is_some() {
+                return Some(place);
+            }
+        }
+    }
+    None
+}
+
+/// A mark behind so many words, and what stands behind it, if each list that opens there is closed and no more words
+/// stand there than are left out.
+pub(crate) fn tail_behind(
+    alloc: Global,
+    text: &[u8],
+    words: usize,
+    skip: usize,
+) -> Result<Option<(Tail, usize)>, AllocError>
+    ensures { IfOk result (λ found. IfSome found (λ v. IsTailOf text.now skip v.1 (passed v.0))) }
+{
+    if skip == 0 {
+        return Ok(None);
+    }
+    let Some(place) = mark_behind(text, words) else {
+        return Ok(None);
+    };
+    let tail = tail_of(alloc, &text[place + 1..])?;
+    if tail.deep > 0 || tail.words > skip {
+        return Ok(None);
+    }
+    Ok(Some((tail, place)))
+}
