@@ -1,1 +1,2 @@
 pub mod UnusedLemmas
+pub mod BegunLemmas

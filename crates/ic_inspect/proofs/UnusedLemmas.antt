@@ -1,10 +1,17 @@
 -- What a stopped `create` leaves has no open slot, and what is unused holds no job.
-use Rattle.std.proofs.Common.{◌≡◌, ◌∙◌, ◌↔◌, ℕ, suc, ◌+◌, ◌≤◌, ◌<◌, Bool, true, false, ◌==◌, List, [], ◌∷◌, length, ⊎_elim, ne_eqb, refl, ap, arith}
+use Rattle.std.proofs.Common.{◌≡◌, ◌∙◌, ◌↔◌, ℕ, suc, ◌+◌, ◌≤◌, ◌<◌, Bool, true, false, ◌==◌, List, [], ◌∷◌, length, ⊎_elim, ne_eqb, refl, sym, subst, ap, arith}
 use Rattle.std.proofs.lemmas.List.{get_or_past, take_all}
-use Rattle.std.specs.Prelude.{slice_index}
+use Rattle.std.specs.Prelude.{IsErrOf, IsTrue, OnOk, Result, Ok, Err, slice_index}
 use Rattle.ic_codec.specs.Tables.{old_table_bytes, table_bytes}
 use Rattle.ic_disk.specs.Content.{bytes_at}
+use Rattle.ic_disk.specs.DiskCalls.{ChangesNothing}
+use Rattle.ic_disk.specs.Images.{Only, Within}
+use Rattle.ic_disk.specs.Time.{LeavesOnly, LeftSince}
+use Rattle.ic_disk.specs.lemmas.Moments.{goes_on, started, then_runs}
 use Rattle.ic_frames.specs.Fields.{is_open}
+use Rattle.ic_frames.specs.Opening.{LeavesAsFound}
+use Rattle.ic_frames.specs.declared.faults.OpenCause.{OpenCause}
+use Rattle.ic_frames.specs.declared.faults.OpenCause.TheVariants as cause
 use Rattle.ic_frames.specs.Held.{IsShut}
 use Rattle.ic_jobs.specs.Job.{JobParts}
 use Rattle.ic_slots.specs.Held.{Held, IsHeld, the_table, no_slot, two_alike, damaged}
@@ -99,3 +106,43 @@ module _ (one : (file : List ℕ) (this that : Held) → IsHeld this file → Is
       (λ empty. table_not_damaged [] (one file (the_table []) damaged empty held))
       (λ begun. none_not_damaged (one file no_slot damaged (shut file begun) held))
       unused
+
+-- ---- what a look leaves of a disk
+
+not_device : {T : Type 0} (a : Result T OpenCause) → a ≡ Err cause.NoSlot → ¬ IsErrOf a cause.Device
+not_device a is = subst (λ x. ¬ IsErrOf x cause.Device) (sym is) (λ e. cc)
+
+pub isnt_device : {T : Type 0} (c : OpenCause) → c ≡ cause.NoSlot → ¬ IsErrOf {T = T} (Err c) cause.Device
+isnt_device c is = not_device (Err c) (ap Err is)
+
+on-any : {U E : Type 0} (b : Result U E) (P : Type 0) → P → OnOk b P
+on-any (Ok u) P p = p
+on-any (Err e) P p = tt
+
+module _ {D : Type 0} (clock : D → ℕ) (left : D → ℕ → List ℕ → Type 0) (image : D → List ℕ → Type 0) (content : D → List ℕ) where
+  -- one call that changes nothing, and then others
+  pub then-looks : (old mid new : D) → ((file : List ℕ) → LeftSince (left old) (clock old) file → image old file) → ChangesNothing content image clock left old mid
+      → LeavesOnly clock left mid new (image mid) → LeavesOnly clock left old new (image old)
+  then-looks old mid new is_image call rest =
+      let first = goes_on clock left old old mid (image old) (image old) (started clock left old (image old) is_image) call.time (λ file is. is) in
+      then_runs clock left old mid new (image old) (image mid) first rest call.images
+
+  -- an opening that finds no slot, and then a look
+  pub opened-and-looked : {T U : Type 0} (keeps : D → Bool) (a : Result T OpenCause) (b : Result U OpenCause) (old mid new : D)
+      → LeavesAsFound keeps content image clock left a old mid → ¬ IsErrOf a cause.Device
+      → keeps new ≡ keeps mid
+      → ((file : List ℕ) → image mid file → clock old ≤ clock mid → LeftSince (left mid) (clock old) file)
+      → (IsTrue (keeps mid) → content new ≡ content mid)
+      → (IsTrue (keeps mid) → Within (image new) (image mid))
+      → (IsTrue (keeps mid) → LeavesOnly clock left mid new (image mid))
+      → LeavesAsFound keeps content image clock left b old new
+  opened-and-looked keeps a b old mid new found healthy same_keeps reaches same images leaves =
+      let kept : IsTrue (keeps old) → IsTrue (keeps mid) = λ k. found.keeps ∙ k in
+      let settled : IsTrue (keeps old) → Only (content old) (image new) = λ k. record { no_other = λ file is. (found.synced k healthy).no_other file (images (kept k) file is) } in
+      record {
+        keeps = same_keeps ∙ found.keeps;
+        any_moment = λ k. then_runs clock left old mid new (image old) (image mid) (found.any_moment k) (leaves (kept k)) (λ file is. (found.any_moment k).each file (reaches file is (found.any_moment k).later));
+        same = λ k. same (kept k) ∙ found.same k;
+        settled = λ k. on-any b (Only (content old) (image new)) (settled k);
+        synced = λ k _. settled k;
+      }

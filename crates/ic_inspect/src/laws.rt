@@ -1,9 +1,13 @@
 //! Laws of the definitions that the contracts of this crate cite.
 
-ghost use Rattle.std.specs.Prelude.{◌≡◌, ℕ, List, []};
+ghost use Rattle.std.specs.Prelude.{◌≡◌, ◌+◌, ◌≤◌, ℕ, List, [], length, replicate, slice_index};
+ghost use Rattle.ic_codec.specs.Tables.{table_bytes};
+ghost use Rattle.ic_disk.specs.Content.{laid};
+ghost use Rattle.ic_frames.specs.declared.frame.TheConstants.{HEAD};
+ghost use Rattle.ic_frames.specs.declared.slot.TheConstants.{SECOND_AT};
 ghost use Rattle.ic_jobs.specs.Job.{JobParts};
 ghost use Rattle.ic_slots.specs.Held.{IsHeld, the_table, no_slot};
-ghost use Rattle.ic_inspect.specs.Unused.{IsBegun, IsUnused};
+ghost use Rattle.ic_inspect.specs.Unused.{IsBegun, IsUnused, first_bytes};
 
 use ic_frames::laws::{a_slot_is_open_or_whole, the_newest_slot_is_held};
 use ic_slots::laws::one_is_held;
@@ -27,3 +31,19 @@ pub fn no_job_is_lost()
     one_is_held();
     what_is_begun_is_shut();
 }
+
+/// What a stopped `create` leaves ends with the head of the second slot at the latest, is closed, and has
+/// zeros behind the 18 bytes of an empty table.
+pub fn what_is_begun_is_nearly_empty()
+    ensures short { (file : List ℕ) → IsBegun file → length file ≤ SECOND_AT + HEAD }
+    ensures closed { (file : List ℕ) → IsBegun file → slice_index file 0 ≡ 0 }
+    ensures zeros { (file : List ℕ) (i : ℕ) → IsBegun file → 18 ≤ i → slice_index file i ≡ 0 }
+{}
+
+/// Behind each write of a `create` of an empty file, but for the last one, which opens the gate, the
+/// file is what a stopped `create` leaves: behind that of the second head, and of the first slot.
+pub fn each_write_of_create_is_begun()
+    ensures head { IsBegun (laid SECOND_AT (replicate HEAD 0) []) }
+    ensures slot { IsBegun (laid 0 (first_bytes (table_bytes []))
+        (laid SECOND_AT (replicate HEAD 0) [])) }
+{}

@@ -2,8 +2,11 @@
 
 ghost use Rattle.std.specs.Prelude.{◌≡◌, ◌↔◌, IsTrue, IfOk, length};
 ghost use Rattle.ic_disk.specs.Content.{bytes_at};
+ghost use Rattle.ic_disk.specs.Images.{Within};
+ghost use Rattle.ic_disk.specs.Time.{LeavesOnly};
+ghost use Rattle.ic_frames.specs.Opening.{LeavesAsFound};
 ghost use Rattle.ic_slots.specs.Faults.{CountsCreate};
-ghost use Rattle.ic_inspect.specs.Unused.{IsBegun, IsUnused};
+ghost use Rattle.ic_inspect.specs.Unused.{IsBegun, IsUnused, looking_of};
 
 use crate::first::is_first;
 use crate::laws::what_is_begun_is_shut;
@@ -20,6 +23,9 @@ pub fn is_unused<D: Disk>(alloc: Global, disk: D) -> (D, Result<bool, CreateFaul
     ensures same { IsTrue (D.keeps disk) → D.content result.0 ≡ D.content disk }
     ensures unused { IsTrue (D.keeps disk) → IfOk result.1 (λ unused.
         IsTrue unused ↔ IsUnused (D.content disk)) }
+    // A crash at any moment leaves what it may have left before, and at Ok it leaves what reads give.
+    ensures crash { LeavesAsFound D.keeps D.content D.image D.clock D.left
+        (looking_of result.1) disk result.0 }
     ensures counted { CountsCreate result.1 (D.failures disk) (D.failures result.0) }
 {
     one_is_held();
@@ -46,6 +52,9 @@ pub fn is_unused<D: Disk>(alloc: Global, disk: D) -> (D, Result<bool, CreateFaul
 fn is_begun<D: Disk>(alloc: Global, disk: &mut D) -> Result<bool, CreateFault>
     ensures keeps { D.keeps disk.new ≡ D.keeps disk.old }
     ensures same { IsTrue (D.keeps disk.old) → D.content disk.new ≡ D.content disk.old }
+    ensures images { IsTrue (D.keeps disk.old) → Within (D.image disk.new) (D.image disk.old) }
+    ensures leaves { IsTrue (D.keeps disk.old)
+        → LeavesOnly D.clock D.left disk.old disk.new (D.image disk.old) }
     ensures begun { IsTrue (D.keeps disk.old) → IfOk result (λ begun.
         IsTrue begun ↔ IsBegun (D.content disk.old)) }
     ensures counted { CountsCreate result (D.failures disk.old) (D.failures disk.new) }
@@ -63,6 +72,9 @@ fn read_whole<D: Disk>(alloc: Global, disk: &mut D, len: usize) -> Result<Vec<u8
     requires { IsTrue (D.keeps disk.old) → len ≡ length (D.content disk.old) }
     ensures keeps { D.keeps disk.new ≡ D.keeps disk.old }
     ensures same { IsTrue (D.keeps disk.old) → D.content disk.new ≡ D.content disk.old }
+    ensures images { IsTrue (D.keeps disk.old) → Within (D.image disk.new) (D.image disk.old) }
+    ensures leaves { IsTrue (D.keeps disk.old)
+        → LeavesOnly D.clock D.left disk.old disk.new (D.image disk.old) }
     ensures bytes { IsTrue (D.keeps disk.old) → IfOk result (λ bytes.
         bytes.items ≡ bytes_at 0 len (D.content disk.old)) }
     ensures counted { CountsCreate result (D.failures disk.old) (D.failures disk.new) }

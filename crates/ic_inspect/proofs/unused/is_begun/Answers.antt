@@ -1,6 +1,6 @@
 use Rattle.std.proofs.Common.{◌≡◌, ◌∙◌, ℕ, ◌≤◌, List, length, sym, subst, arith}
 use Rattle.ic_inspect.specs.Unused.{IsFirst}
-use Rattle.ic_inspect.proofs.UnusedLemmas.{whole_bytes}
+use Rattle.ic_inspect.proofs.UnusedLemmas.{then-looks, whole_bytes}
 use Rattle.ic_inspect.proofs.unused.is_begun.Goals as goal
 
 pub returns-clause-begun : goal.returns-clause-begun
@@ -16,3 +16,13 @@ returns-clause-begun g c keeps =
       λ is. (short, subst (λ (l : List ℕ). IsFirst l) same (c.is_first.ensures.0 is)),
       λ begun. c.is_first.ensures.1 (subst (λ (l : List ℕ). IsFirst l) (sym same) begun.1),
     )
+
+pub returns-in_err-bytes-clause-leaves : goal.returns-in_err-bytes-clause-leaves
+returns-in_err-bytes-clause-leaves g c keeps =
+    then-looks g.D.Disk.clock g.D.Disk.left g.D.Disk.image g.D.Disk.content c.args.disk.now c.len.new.self c.read_whole.new.disk
+    (g.met.D.Disk.left_is_image c.args.disk.now) (c.len.ensures.unchanged keeps) (c.read_whole.ensures.leaves (c.len.ensures.keeps ∙ keeps))
+
+pub returns-clause-leaves : goal.returns-clause-leaves
+returns-clause-leaves g c keeps =
+    then-looks g.D.Disk.clock g.D.Disk.left g.D.Disk.image g.D.Disk.content c.args.disk.now c.len.new.self c.read_whole.new.disk
+    (g.met.D.Disk.left_is_image c.args.disk.now) (c.len.ensures.unchanged keeps) (c.read_whole.ensures.leaves (c.len.ensures.keeps ∙ keeps))

@@ -1,7 +1,8 @@
-use Rattle.std.proofs.Common.{◌≡◌, ◌∙◌, inl, List, false, refl, sym, subst}
+use Rattle.std.proofs.Common.{inl, List, false, refl, sym, subst}
+use Rattle.ic_inspect.specs.Unused.{looking_of}
 use Rattle.ic_jobs.specs.Job.{JobParts}
 use Rattle.ic_slots.specs.Held.{IsHeld, the_table}
-use Rattle.ic_inspect.proofs.UnusedLemmas.{no_elements, some_element, not_both, unused_table, used_damaged, used_twice}
+use Rattle.ic_inspect.proofs.UnusedLemmas.{isnt_device, opened-and-looked, no_elements, some_element, not_both, unused_table, used_damaged, used_twice}
 use Rattle.ic_inspect.proofs.unused.is_unused.Goals as goal
 
 pub returns-in-Ok-clause-unused : goal.returns-in-Ok-clause-unused
@@ -31,3 +32,11 @@ returns-in-Damaged-clause-unused g c keeps =
       λ wrong. absurd (not_both false refl wrong),
       λ unused. absurd (used_damaged c.one_is_held.ensures c.what_is_begun_is_shut.ensures file held unused),
     )
+
+pub returns-in-NoSlot-clause-crash : goal.returns-in-NoSlot-clause-crash
+returns-in-NoSlot-clause-crash g c =
+    let disk = g.D.Disk in
+    let mid = c.in-Err.field-0.disk in
+    opened-and-looked disk.clock disk.left disk.image disk.content disk.keeps _ (looking_of c.is_begun-begun.result) c.args.disk mid c.is_begun-begun.new.disk
+    c.in-Err.ensures.crash (isnt_device c.in-Err.field-0.cause c.in-NoSlot.is) c.is_begun-begun.ensures.keeps (λ file is later. g.met.D.Disk.image_is_left mid (disk.clock c.args.disk) file later is)
+    c.is_begun-begun.ensures.same c.is_begun-begun.ensures.images c.is_begun-begun.ensures.leaves

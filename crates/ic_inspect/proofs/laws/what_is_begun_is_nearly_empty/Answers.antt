@@ -1,0 +1,14 @@
+use Rattle.std.proofs.Common.{refl}
+use Rattle.ic_inspect.proofs.BegunLemmas.{begun-zero, behind-zero}
+use Rattle.ic_inspect.proofs.laws.what_is_begun_is_nearly_empty.Goals as goal
+
+pub returns-clause-short : goal.returns-clause-short
+returns-clause-short c file begun = begun.0
+
+pub returns-clause-closed : goal.returns-clause-closed
+returns-clause-closed c file begun = begun-zero file begun 0 refl refl
+
+pub returns-clause-zeros : goal.returns-clause-zeros
+returns-clause-zeros c file i begun past =
+    let zeros = behind-zero i past in
+    begun-zero file begun i zeros.0 zeros.1
