@@ -1,7 +1,12 @@
 //! Laws of the definitions that the contracts of this crate cite.
 
-ghost use Rattle.std.specs.Prelude.{◌≡◌, ◌+◌, ◌++◌, ◌<◌, ◌≤◌, ℕ, List, [], ◌∷◌, Option, None, Some, Contains, OnOk, codes, drop, length, map, take, false, true};
+ghost use Rattle.std.specs.Prelude.{◌≡◌, ◌+◌, ◌++◌, ◌<◌, ◌≤◌, ℕ, List, [], ◌∷◌, Option, None, Some, Contains, IsSome, OnOk, codes, drop, length, map, take, false, true};
 ghost use Rattle.std.specs.Fmt.{decimal};
+ghost use Rattle.std.specs.List.{flat_map};
+ghost use Rattle.ic_term.specs.Configuration.{Configuration};
+ghost use Rattle.ic_term.specs.Tree.{Pair};
+ghost use Rattle.ic_rules.specs.Rule.{Rule};
+ghost use Rattle.ic_round.specs.Firing.{rule_of_sides};
 ghost use Rattle.ic_disk.specs.Images.{Torn};
 ghost use Rattle.ic_codec.specs.Tables.{IsFormOf};
 ghost use Rattle.ic_jobs.specs.Job.{JobParts};
@@ -15,14 +20,14 @@ ghost use Rattle.ic_frames.specs.Held.{IsClosedIn, IsNewest};
 ghost use Rattle.ic_frames.specs.Opened.{IsOnNewest};
 ghost use Rattle.ic_frames.specs.Places.{place, other};
 ghost use Rattle.ic_frames.specs.Staged.{IsStaged};
-ghost use Rattle.ic_slots.specs.Held.{Held, IsHeld, the_table};
+ghost use Rattle.ic_slots.specs.Held.{Held, IsHeld, the_table, no_slot, two_alike, damaged};
 ghost use Rattle.ic_contents.specs.declared.fault.InspectFault.{InspectFault};
 ghost use Rattle.ic_contents.specs.declared.inspecting.TheConstants.{LIMIT};
 ghost use Rattle.ic_contents.specs.declared.seen.Body.TheVariants.{TooLong, CutShort, NoTable, Holds};
 ghost use Rattle.ic_contents.specs.declared.seen.Seen.{Seen};
 ghost use Rattle.ic_contents.specs.Seeing.{IsSeen};
 ghost use Rattle.ic_contents.specs.Held.{as_newest, held_of, newest_of};
-ghost use Rattle.ic_contents.specs.Report.{line, newest_text, report, slot_line, table_lines};
+ghost use Rattle.ic_contents.specs.Report.{active_pairs, counts_text, job_line, line, newest_text, report, slot_line, table_lines, told_held};
 ghost use Rattle.ic_contents.specs.Moments.{IsReading, IsServed, IsServerStep, IsReadTwice, IsReadTwiceBetween, IsWholeNewest};
 ghost use Rattle.ic_contents.specs.Inspecting.{Tells, WritesTold, all_inspect_faults, inspect_fault_number};
 
@@ -102,6 +107,32 @@ pub fn slots_are_told_so()
         → slot_line 50 (Some (record { opened = false; number = n; size = size; body = TooLong }))
         ≡ line (codes "slot 2: closed, number " ++ decimal n ++ codes ", body " ++ decimal size
         ++ codes ", too long") }
+{}
+
+/// What is held is told word for word.
+pub fn what_is_held_is_told_so()
+    ensures table { (words : List ℕ) (t : List JobParts) → told_held words (the_table t)
+        ≡ line (codes "held: " ++ words) ++ flat_map job_line t }
+    ensures no_slot { (words : List ℕ) → told_held words no_slot
+        ≡ line (codes "held: no slot") }
+    ensures two_alike { (words : List ℕ) → told_held words two_alike
+        ≡ line (codes "held: two alike") }
+    ensures damaged { (words : List ℕ) → told_held words damaged
+        ≡ line (codes "held: damaged") }
+    ensures counts { (nodes pairs : ℕ) → counts_text nodes pairs
+        ≡ codes ", nodes " ++ decimal nodes ++ codes ", active pairs " ++ decimal pairs }
+{}
+
+/// The active pairs of a job are its equations that a rule fires, each counted once.
+pub fn pairs_with_a_rule_are_counted()
+    ensures none { (rs : List Rule) (c : Configuration) → c.equations ≡ []
+        → active_pairs rs c ≡ 0 }
+    ensures active { (rs : List Rule) (c d : Configuration) (e : Pair)
+        → c.equations ≡ e ∷ d.equations → IsSome (rule_of_sides rs e.left e.right)
+        → active_pairs rs c ≡ active_pairs rs d + 1 }
+    ensures inert { (rs : List Rule) (c d : Configuration) (e : Pair)
+        → c.equations ≡ e ∷ d.equations → ¬ IsSome (rule_of_sides rs e.left e.right)
+        → active_pairs rs c ≡ active_pairs rs d }
 {}
 
 /// What is seen of the first 8,388,608 bytes of a file is seen of the file, and so are their lines.
