@@ -98,9 +98,11 @@ class Causes(Trial):
         self.equals(ran.command, "status", 4, ran.status)
         self.tells(ran, "device", f"{path}: write: the file may grow no further")
 
-    def test_control_bytes_of_a_path_are_shown_as_question_marks(self):
-        ran = run("serve", "--disk", self.room / "\x1b[31m\n\x7fä", given="list")
-        self.tells(ran, "device", f"{self.room}/?[31m??ä: open: no such file or folder")
+    def test_bytes_of_a_path_that_are_not_printable_are_shown_as_question_marks(self):
+        """The third name has a C1 control, CSI, which some terminals act on."""
+        for name, shown in (("\x1b[31m\n\x7f", "?[31m??"), ("ä~", "??~"), ("\x9b2J\x80\x9f", "??2J????")):
+            ran = run("serve", "--disk", self.room / name, given="list")
+            self.tells(ran, "device", f"{self.room}/{shown}: open: no such file or folder")
 
     def test_each_call_that_goes_wrong_is_told_with_its_reason(self):
         """The shim lets the n-th call fail: a write for want of room, all others by an error of input or output."""

@@ -183,9 +183,9 @@ class Check(Trial):
             self.runs("check", path, err=["icserve: read", f"{path}: it has more than {MOST_BYTES} bytes"], status=4)
 
     def test_a_path_with_bytes_that_are_not_shown(self):
-        path = self.room / "a\nb\x7f\u00e9.ic"
+        path = self.room / "a\nb\x7f\u00e9\x9b.ic"
         path.write_text("<|")
-        told = f"{self.room}/a?b?\u00e9.ic:1:3: bad syntax: the text ends before its configuration does"
+        told = f"{self.room}/a?b?????.ic:1:3: bad syntax: the text ends before its configuration does"
         self.refuses("check", path, out=[told], line="faults", status=1)
 
     def test_files_stay_as_they_are(self):

@@ -1,5 +1,5 @@
 -- To be believed: why a call to a file has failed, in words (this project's choice).
-use Rattle.std.specs.Prelude.{ℕ, Bool, true, false, List, [], ◌∷◌, ◌++◌, ◌==◌, ◌||◌, nat_lt, if◌then◌else◌}
+use Rattle.std.specs.Prelude.{ℕ, Bool, true, false, List, [], ◌∷◌, ◌++◌, ◌&&◌, nat_le, nat_lt, if◌then◌else◌}
 use Rattle.std.specs.Prelude.{Option, None, Some, codes, map}
 use Rattle.std.specs.Fmt.{decimal}
 use Rattle.ic_causes.specs.declared.cause.FileCall.{FileCall}
@@ -48,9 +48,14 @@ cause_words (Some cause) =
     folder_words cause.of_folder ++ call_word cause.call ++ codes ": " ++ reason_words cause.reason
 cause_words None = codes "a call to it has failed"
 
--- a byte as a line shows it: in place of one that moves a terminal stands a question mark
+-- a printable byte of ASCII
+abbrev pub is_printable : ℕ → Bool
+is_printable byte = nat_le 32 byte && nat_lt byte 127
+
+-- a byte as a line shows it: a question mark stands for one that isn't printable, so that none moves
+-- a terminal
 abbrev pub shown_byte : ℕ → ℕ
-shown_byte byte = if nat_lt byte 32 || byte == 127 then 63 else byte
+shown_byte byte = if is_printable byte then byte else 63
 
 abbrev pub shown_path : List ℕ → List ℕ
 shown_path path = map shown_byte path

@@ -1,5 +1,5 @@
 -- The reason of an error of the system, by its kind and its number (this project's choice).
-use Rattle.std.specs.Prelude.{ℕ, ℤ, ◌==◌, if◌then◌else◌, Option, None, Some, unsigned_abs}
+use Rattle.std.specs.Prelude.{ℤ, ◌==◌, if◌then◌else◌, Option, None, Some, unsigned_abs}
 use Rattle.std.specs.declared.io.ErrorKind.{ErrorKind}
 use Rattle.std.specs.declared.io.ErrorKind.TheVariants as kind
 use Rattle.ic_causes.specs.declared.cause.Reason.{Reason}

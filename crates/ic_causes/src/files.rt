@@ -1,4 +1,4 @@
-//! The files of a runtime, of which each call that fails is noted.
+//! The files of a runtime, of which calls that fail are noted.
 
 ghost use Rattle.std.specs.Prelude.{◌≡◌};
 
@@ -9,8 +9,8 @@ use std::fs::{File, Metadata, OpenFile, OpenOptions};
 use std::io::{self, Read, Seek, SeekFrom, Write};
 use std::rt::Files;
 
-/// The files of a runtime, while the disk in the file of this path is opened. Each call to a file
-/// that fails is noted; what is opened by another path is the folder of that file.
+/// The files of a runtime, while the disk in the file of this path is opened. A call to a file
+/// that fails is noted as `Notes` says; what is opened by another path is the folder of that file.
 #[derive(Drop)]
 pub struct NotedFiles<'a, 'n, R> {
     pub rt: &'a R,
@@ -31,9 +31,7 @@ impl NotedFile<'_> {
     fn noted<T: Drop>(&self, call: FileCall, answer: io::Result<T>) -> io::Result<T>
         ensures { result ≡ answer }
     {
-        if let Err(error) = &answer {
-            self.notes.note(self.is_folder, call, error);
-        }
+        self.notes.note(self.is_folder, call, &answer);
         answer
     }
 }
@@ -95,17 +93,13 @@ impl<'n, R: Files<File = File>> Files for NotedFiles<'_, 'n, R> {
 
     fn open_file(&self, how: &OpenOptions, path: &str) -> io::Result<NotedFile<'n>> {
         let is_folder = path != self.path;
-        match self.rt.open_file(how, path) {
-            Ok(file) => Ok(NotedFile {
-                file,
-                is_folder,
-                notes: self.notes,
-            }),
-            Err(error) => {
-                self.notes.note(is_folder, FileCall::Open, &error);
-                Err(error)
-            }
-        }
+        let answer = self.rt.open_file(how, path);
+        self.notes.note(is_folder, FileCall::Open, &answer);
+        Ok(NotedFile {
+            file: answer?,
+            is_folder,
+            notes: self.notes,
+        })
     }
 
     fn open_dir(&self, path: &str) -> io::Result<R::Dir> {

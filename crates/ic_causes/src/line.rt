@@ -18,7 +18,7 @@ pub fn cause_line(alloc: Global, path: &[u8], cause: Option<Cause>) -> Result<Ve
     Ok(line)
 }
 
-/// A path as a line shows it.
+/// A path as a line shows it: a byte for each byte, all of them printable.
 pub fn shown_path(alloc: Global, path: &[u8]) -> Result<Vec<u8>, AllocError>
     ensures { IfOk result (λ shown. shown.items ≡ shown_path path.now) }
 {
@@ -29,7 +29,7 @@ pub fn shown_path(alloc: Global, path: &[u8]) -> Result<Vec<u8>, AllocError>
 fn shown_byte(byte: u8) -> u8
     ensures { result ≡ shown_byte byte }
 {
-    if byte < 32 || byte == 127 { b'?' } else { byte }
+    if byte >= 32 && byte < 127 { byte } else { b'?' }
 }
 
 /// The call that failed, and why.

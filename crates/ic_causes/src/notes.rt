@@ -1,5 +1,8 @@
 //! The last call to a file that has failed.
 
+ghost use Rattle.std.specs.Prelude.{◌≡◌};
+ghost use Rattle.ic_causes.specs.Noted.{cause_of, noted_after};
+
 use crate::{Cause, FileCall, Reason};
 use std::io::{self, ErrorKind};
 use std::sync::Mutex;
@@ -26,17 +29,39 @@ impl Notes {
         }
     }
 
-    /// Notes a call that has failed, but for one that was interrupted and is made again.
-    pub fn note(&self, of_folder: bool, call: FileCall, error: &io::Error) {
-        if error.kind() == ErrorKind::Interrupted {
-            return;
-        }
+    /// Notes what is to be noted of the answer of a call.
+    pub fn note<T: Drop>(&self, of_folder: bool, call: FileCall, answer: &io::Result<T>) {
+        let cause = cause_of(of_folder, call, answer);
         if let Some(mut last) = self.last.try_lock() {
-            *last = Some(Cause {
-                of_folder,
-                call,
-                reason: Reason::of(error),
-            });
+            *last = noted_after(*last, cause);
         }
+    }
+}
+
+/// What is noted of the answer of a call: nothing where it is made again, since it was interrupted,
+/// nor where it has succeeded.
+pub fn cause_of<T: Drop>(of_folder: bool, call: FileCall, answer: &io::Result<T>) -> Option<Cause>
+    ensures { result ≡ cause_of of_folder call answer.now }
+{
+    let Err(error) = answer else {
+        return None;
+    };
+    match error.kind() {
+        ErrorKind::Interrupted => None,
+        _ => Some(Cause {
+            of_folder,
+            call,
+            reason: Reason::of(error),
+        }),
+    }
+}
+
+/// What stands noted behind a call of which this is noted.
+fn noted_after(before: Option<Cause>, cause: Option<Cause>) -> Option<Cause>
+    ensures { result ≡ noted_after before cause }
+{
+    match cause {
+        Some(cause) => Some(cause),
+        None => before,
     }
 }

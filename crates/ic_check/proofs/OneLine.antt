@@ -21,7 +21,7 @@ use Rattle.ic_text.specs.declared.misread.Detail.{Detail}
 use Rattle.ic_text.specs.declared.misread.Detail.TheVariants.{Nothing, Passed, Arities}
 use Rattle.ic_text.specs.declared.misread.Limit.{Limit as Bound}
 use Rattle.ic_text.specs.declared.misread.Limit.TheVariants as bound
-use Rattle.ic_causes.specs.Causes.{shown_byte, shown_path}
+use Rattle.ic_causes.specs.Causes.{is_printable, shown_byte, shown_path}
 use Rattle.ic_places.specs.Lines.{column, last_line, line_number, told_at}
 use Rattle.ic_places.specs.Sights.{sight_at}
 use Rattle.ic_places.specs.Telling.{config_sentence, limit_sentence, plain_sentence, sentence, sight_sentence, syntax_sentence, system_sentence}
@@ -237,10 +237,10 @@ one_each file told line rs c are free warns =
     lines_of_warnings (λ w. IsOneLine (warning_line place w)) place rs c told words warns
 
 -- ---- paths
-shown_free : (b : ℕ) (moves : Bool) → (nat_lt b 32 || b == 127) ≡ moves → ((if moves then 63 else b) == 10) ≡ false
-shown_free b true is = refl
-shown_free b false is = false_from_ne_true (b == 10) (λ same. false≢true (sym is ∙ ap (λ (x : ℕ). nat_lt x 32 || x == 127) ((unsigned_Decides b 10).0 same)))
+shown_free : (b : ℕ) (shows : Bool) → is_printable b ≡ shows → ((if shows then b else 63) == 10) ≡ false
+shown_free b false is = refl
+shown_free b true is = false_from_ne_true (b == 10) (λ same. false≢true (ap is_printable (sym ((unsigned_Decides b 10).0 same)) ∙ is))
 
 pub path_free : (path : List ℕ) → has_feed (shown_path path) ≡ false
 path_free [] = refl
-path_free (b ∷ bs) = or_from (shown_byte b == 10) (has_feed (shown_path bs)) (shown_free b (nat_lt b 32 || b == 127) refl) (path_free bs)
+path_free (b ∷ bs) = or_from (shown_byte b == 10) (has_feed (shown_path bs)) (shown_free b (is_printable b) refl) (path_free bs)

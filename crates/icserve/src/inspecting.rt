@@ -50,8 +50,8 @@ pub(crate) fn open_to_read<'a>(
     let _stand_ins = stand_ins(rt).map_err(|_| Failure::Disk(DiskFault))?;
     if let Ok(about) = fs::metadata(rt, path) {
         if !about.is_file() && !about.is_dir() {
-            let error = io::Error::from(ErrorKind::InvalidInput);
-            notes.note(false, FileCall::Open, &error);
+            let refused: io::Result<()> = Err(io::Error::from(ErrorKind::InvalidInput));
+            notes.note(false, FileCall::Open, &refused);
             return Err(Failure::Disk(DiskFault));
         }
     }
