@@ -7,6 +7,10 @@ pub mod Reached
 pub mod Stuck
 pub mod Once
 pub mod Placed
+pub mod EachTold
+pub mod EachSymbol
+pub mod Forms
+pub mod LinePlaces
 pub mod Numbered
 pub mod Looks
 pub mod OneLine

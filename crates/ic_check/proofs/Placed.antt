@@ -20,7 +20,7 @@ use Rattle.ic_check.specs.Warnings.{Warns, count_of, once_line, once_lines, pair
 abbrev pub AreOf : (List ℕ → Type 0) → List ℕ → List ℕ → Type 0
 AreOf Holds place told = (words : List (List ℕ)) × AllByRecursion Holds words × (told ≡ flat_map (warning_line place) words)
 
-lines_append : (place : List ℕ) (a b : List (List ℕ)) → flat_map (warning_line place) (a ++ b) ≡ flat_map (warning_line place) a ++ flat_map (warning_line place) b
+pub lines_append : (place : List ℕ) (a b : List (List ℕ)) → flat_map (warning_line place) (a ++ b) ≡ flat_map (warning_line place) a ++ flat_map (warning_line place) b
 lines_append place [] b = refl
 lines_append place (w ∷ ws) b =
     let f : List (List ℕ) → List ℕ = λ l. flat_map (warning_line place) l in
@@ -43,35 +43,35 @@ module _ (Holds : List ℕ → Type 0) (place : List ℕ) where
   one_of : (words : List ℕ) → Holds words → AreOf Holds place (warning_line place words)
   one_of words is = (words ∷ [], (is, tt), sym (append-nil (warning_line place words)))
 
-  both_of : (a b : List ℕ) → AreOf Holds place a → AreOf Holds place b → AreOf Holds place (a ++ b)
+  pub both_of : (a b : List ℕ) → AreOf Holds place a → AreOf Holds place b → AreOf Holds place (a ++ b)
   both_of a b first second =
       (first.0 ++ second.0, all_of_both Holds first.0 second.0 first.1 second.1, (λ i. first.2 i ++ second.2 i) ∙ sym (lines_append place first.0 second.0))
 
-  either_of : (words : List ℕ) → Holds words → (quiet : Bool) → AreOf Holds place (if quiet then [] else warning_line place words)
+  pub either_of : (words : List ℕ) → Holds words → (quiet : Bool) → AreOf Holds place (if quiet then [] else warning_line place words)
   either_of words is true = none_of
   either_of words is false = one_of words is
 
-  told_of : (words : List ℕ) → Holds words → (told : Bool) → AreOf Holds place (if told then warning_line place words else [])
+  pub told_of : (words : List ℕ) → Holds words → (told : Bool) → AreOf Holds place (if told then warning_line place words else [])
   told_of words is true = one_of words is
   told_of words is false = none_of
 
   module _ (rs : Rules) (of : OfAllWords Holds rs) where
-    ruleless_of : (t u : Tree) → AreOf Holds place (ruleless_line place rs t u)
+    pub ruleless_of : (t u : Tree) → AreOf Holds place (ruleless_line place rs t u)
     ruleless_of (name n) u = none_of
     ruleless_of (agent a ts) (name n) = none_of
     ruleless_of (agent a ts) (agent b us) = either_of (codes "no rule for " ++ pair_text rs.symbols a b) (of.ruleless a b) (is_some (rule_for rs.rules a b))
 
-    all_ruleless_of : (es : List Pair) → AreOf Holds place (ruleless_lines place rs es)
+    pub all_ruleless_of : (es : List Pair) → AreOf Holds place (ruleless_lines place rs es)
     all_ruleless_of [] = none_of
     all_ruleless_of (e ∷ es) = both_of (ruleless_line place rs e.left e.right) (ruleless_lines place rs es) (ruleless_of e.left e.right) (all_ruleless_of es)
 
-    all_unused_of : (among : ℕ → Bool) (i : ℕ) (ls : List Rule) → AreOf Holds place (unused_lines place among rs.symbols i ls)
+    pub all_unused_of : (among : ℕ → Bool) (i : ℕ) (ls : List Rule) → AreOf Holds place (unused_lines place among rs.symbols i ls)
     all_unused_of among i [] = none_of
     all_unused_of among i (r ∷ ls) =
         both_of (unused_line place among rs.symbols i r) (unused_lines place among rs.symbols (i + 1) ls)
         (either_of (unused_words rs.symbols i r) (of.unused i r) (among r.left && among r.right)) (all_unused_of among (i + 1) ls)
 
-  all_once_of : (all : List ℕ) (i : ℕ) (ss : List Symbol) → AllByRecursion (λ s. Holds (s.text ++ codes " stands only once")) ss → AreOf Holds place (once_lines place all i ss)
+  pub all_once_of : (all : List ℕ) (i : ℕ) (ss : List Symbol) → AllByRecursion (λ s. Holds (s.text ++ codes " stands only once")) ss → AreOf Holds place (once_lines place all i ss)
   all_once_of all i [] of = none_of
   all_once_of all i (s ∷ ss) of =
       both_of (once_line place all i s.text) (once_lines place all (i + 1) ss) (told_of (s.text ++ codes " stands only once") of.0 (count_of all i == 1)) (all_once_of all (i + 1) ss of.1)
@@ -91,7 +91,7 @@ module _ (Holds : List ℕ → Type 0) (place : List ℕ) where
 abbrev pub AreLinesOf : List ℕ → List ℕ → Type 0
 AreLinesOf place told = (words : List (List ℕ)) × (told ≡ flat_map (warning_line place) words)
 
-any_words : (rs : Rules) → OfAllWords (λ w. Unit {0}) rs
+pub any_words : (rs : Rules) → OfAllWords (λ w. Unit {0}) rs
 any_words rs = record { ruleless = λ a b. tt; once = each rs.symbols; unused = λ i r. tt }
   where
     each : (ss : List Symbol) → AllByRecursion (λ s. Unit {0}) ss

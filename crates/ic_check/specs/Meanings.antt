@@ -1,13 +1,14 @@
 -- To be believed: what is told, in words of the calculus and of files.
-use Rattle.std.specs.Prelude.{◌≡◌, ℕ, ◌==◌, List, ◌∷◌, ◌++◌, Bool, false, ◌&&◌, Some, slice_get}
+use Rattle.std.specs.Prelude.{◌≡◌, ◌⊎◌, ℕ, ◌==◌, List, ◌∷◌, ◌++◌, Bool, false, ◌&&◌, Some, slice_get}
 use Rattle.std.specs.List.{AllByRecursion, count_by, flat_map, list_any}
-use Rattle.ic_term.specs.Tree.{Tree, name, agent, Pair}
+use Rattle.ic_term.specs.Tree.{Tree, name, agent, Trees, no_trees, more_trees, Pair}
 use Rattle.ic_rules.specs.Rule.{Rule}
 use Rattle.ic_rules.specs.RuleSet.{has_pair}
 use Rattle.ic_commands.specs.LinePlain.{phrase_texts}
 use Rattle.ic_commands.specs.LineSource.{IsLine, LinePhrase}
 use Rattle.ic_lines.specs.Lines.{ended, has_feed}
 use Rattle.ic_check.specs.Checking.{TellsLine}
+use Rattle.ic_check.specs.Warnings.{warning_line}
 
 -- a term is an agent of this symbol
 abbrev pub is_of : ℕ → Tree → Bool
@@ -35,6 +36,25 @@ StandsOnce s all = (i : ℕ) × (slice_get all i ≡ Some s)
 abbrev pub IsToldAt : (file : List ℕ) (number : ℕ) (line told : List ℕ) → Type 0
 IsToldAt file number line told = (first : List ℕ) × (this : List ℕ) × (rest : List ℕ)
     × (faulty : Bool) × TellsLine file number line this faulty × (told ≡ first ++ (this ++ rest))
+
+-- what is told are warnings of this place, and one of them has these words
+abbrev pub IsWarned : (place words told : List ℕ) → Type 0
+IsWarned place words told = (before : List (List ℕ)) × (behind : List (List ℕ))
+    × (told ≡ flat_map (warning_line place) (before ++ words ∷ behind))
+
+-- an agent of a symbol stands in a term: it is the term, or stands in an argument
+abbrev mutual
+  pub StandsIn : ℕ → Tree → Type 0
+  StandsIn s (name n) = ⊥
+  StandsIn s (agent t ts) = (t ≡ s) ⊎ StandsInSome s ts
+
+  pub StandsInSome : ℕ → Trees → Type 0
+  StandsInSome s no_trees = ⊥
+  StandsInSome s (more_trees t ts) = StandsIn s t ⊎ StandsInSome s ts
+
+-- a symbol is among these
+abbrev pub is_among : ℕ → List ℕ → Bool
+is_among s all = list_any (λ t. t == s) all
 
 -- this is one line: no line feed stands in it but the one that ends it
 abbrev pub IsOneLine : List ℕ → Type 0

@@ -1,12 +1,12 @@
 //! What is proved of the definitions alone: each law is the contract of a function that does nothing, or calls the laws
 //! that it comes of.
 
-ghost use Rattle.std.specs.Prelude.{◌≡◌, ◌≢◌, ◌≤◌, ◌+◌, ◌∷◌, ◌++◌, ℕ, List, [], Bool, Option, Some, IsTrue, codes, length, slice_get, take, drop, false, true};
+ghost use Rattle.std.specs.Prelude.{◌≡◌, ◌≢◌, ◌≤◌, ◌⊎◌, ◌+◌, ◌==◌, ◌&&◌, ◌∷◌, ◌++◌, ℕ, List, [], Bool, Option, None, Some, Ok, Err, IsTrue, codes, length, option_map, slice_get, take, drop, false, true};
 ghost use Rattle.std.specs.Fmt.{decimal};
-ghost use Rattle.std.specs.List.{AllByRecursion, concat, flat_map};
+ghost use Rattle.std.specs.List.{AllByRecursion, concat, flat_map, list_all};
 ghost use Rattle.ic_term.specs.Configuration.{Configuration};
 ghost use Rattle.ic_term.specs.Symbol.{Symbol, is_over, is_symbol_text};
-ghost use Rattle.ic_term.specs.Tree.{Pair};
+ghost use Rattle.ic_term.specs.Tree.{Pair, Tree};
 ghost use Rattle.ic_rules.specs.Rule.{Rule};
 ghost use Rattle.ic_rules.specs.RuleSet.{IsRuleSet, Rules};
 ghost use Rattle.ic_round.specs.Rounds.{iterate};
@@ -18,10 +18,15 @@ ghost use Rattle.ic_causes.specs.Causes.{shown_path};
 ghost use Rattle.ic_places.specs.Lines.{column};
 ghost use Rattle.ic_places.specs.Sights.{is_command};
 ghost use Rattle.ic_places.specs.declared.telling.Kind.{Kind};
-ghost use Rattle.ic_check.specs.Checking.{IsLinePlace, Tells, TellsLine, TellsLines, before, front_of, told_fault};
-ghost use Rattle.ic_check.specs.Meanings.{AreLines, BeginsLine, HasNoRule, IsOneLine, IsToldAt, StandsOnce, faces, facing};
+ghost use Rattle.ic_check.specs.Checking.{IsLinePlace, IsSystemFault, Tells, TellsLine, TellsLines, before, form_of, front_of, system_of, told_fault, with_no_system};
+ghost use Rattle.ic_commands.specs.LineText.{ReadsLine};
+ghost use Rattle.ic_commands.specs.declared.line.Line.{Line};
+ghost use Rattle.ic_text.specs.SystemText.{ReadsSystem};
+ghost use Rattle.ic_check.specs.declared.checking.Form.TheVariants as form;
+ghost use Rattle.ic_text.specs.Token.{is_blank};
+ghost use Rattle.ic_check.specs.Meanings.{AreLines, BeginsLine, HasNoRule, IsOneLine, IsToldAt, IsWarned, StandsIn, StandsOnce, faces, facing, is_among};
 ghost use Rattle.ic_check.specs.Reach.{AllAmong, IsReach, IsTakenBy};
-ghost use Rattle.ic_check.specs.Symbols.{config_symbols};
+ghost use Rattle.ic_check.specs.Symbols.{config_symbols, text_symbols};
 ghost use Rattle.ic_check.specs.Telling.{place_text, spot_text};
 ghost use Rattle.ic_check.specs.Warnings.{Warns, once_line, once_lines, pair_text, ruleless_line, unused_line, warning_line};
 
@@ -57,6 +62,67 @@ pub fn symbols_told_once_stand_at_one_place()
         → slice_get ss i ≡ Some s → once_lines place all 0 ss
         ≡ once_lines place all 0 (take i ss) ++ once_line place all i s.text
         ++ once_lines place all (i + 1) (drop (i + 1) ss) }
+{}
+
+/// Each warning has its line in what is told of a system: each equation of two agents that no rule is of, each symbol
+/// that stands at just one place, and each rule whose symbols can't both come to stand in the configuration. All that is
+/// told are lines that begin with the place: the file's name, and of a line its number.
+pub fn each_warning_is_told()
+    ensures begins { (place words : List ℕ)
+        → warning_line place words ≡ place ++ codes ": warning: " ++ words ++ 10 ∷ [] }
+    ensures ruleless { (place told : List ℕ) (rs : Rules) (c : Configuration) (i a b : ℕ) (p : Pair)
+        → Warns place rs c told → slice_get c.equations i ≡ Some p → faces a b p ≡ true
+        → HasNoRule rs.rules a b
+        → IsWarned place (codes "no rule for " ++ pair_text rs.symbols a b) told }
+    ensures once { (place told : List ℕ) (rs : Rules) (c : Configuration) (i : ℕ) (s : Symbol)
+        → Warns place rs c told → slice_get rs.symbols i ≡ Some s
+        → StandsOnce i (text_symbols rs.rules c)
+        → IsWarned place (s.text ++ codes " stands only once") told }
+    ensures unused { (place told : List ℕ) (rs : Rules) (c : Configuration) (among : ℕ → Bool)
+        (i : ℕ) (r : Rule) → Warns place rs c told → IsReach rs.rules c among
+        → slice_get rs.rules i ≡ Some r → (among r.left && among r.right) ≡ false
+        → IsWarned place (codes "rule " ++ decimal (i + 1) ++ codes ", "
+        ++ pair_text rs.symbols r.left r.right ++ codes ", is never used") told }
+{}
+
+/// The symbols that are gone through, of which one may stand only once, are those of the whole text: of both sides of
+/// each rule, of their arguments, of the interface and of the equations, however deep they stand.
+pub fn each_symbol_of_a_text_is_gone_through()
+    ensures sides { (rs : List Rule) (c : Configuration) (i : ℕ) (r : Rule)
+        → slice_get rs i ≡ Some r → (is_among r.left (text_symbols rs c) ≡ true)
+        × (is_among r.right (text_symbols rs c) ≡ true) }
+    ensures arguments { (rs : List Rule) (c : Configuration) (i j s : ℕ) (r : Rule) (t : Tree)
+        → slice_get rs i ≡ Some r
+        → (slice_get r.left_args j ≡ Some t) ⊎ (slice_get r.right_args j ≡ Some t)
+        → StandsIn s t → is_among s (text_symbols rs c) ≡ true }
+    ensures interface { (rs : List Rule) (c : Configuration) (j s : ℕ) (t : Tree)
+        → slice_get c.interface j ≡ Some t → StandsIn s t
+        → is_among s (text_symbols rs c) ≡ true }
+    ensures equations { (rs : List Rule) (c : Configuration) (j s : ℕ) (p : Pair)
+        → slice_get c.equations j ≡ Some p → StandsIn s p.left ⊎ StandsIn s p.right
+        → is_among s (text_symbols rs c) ≡ true }
+{}
+
+/// A file is a system where `{` stands behind the blanks with which it begins, a configuration where `<` does, and lines
+/// for a server in all other cases, also where nothing but blanks stands there.
+pub fn forms_are_told_by_their_first_byte()
+    ensures system { (blanks rest : List ℕ) → list_all is_blank blanks ≡ true
+        → form_of (blanks ++ codes "{" ++ rest) ≡ form.System }
+    ensures config { (blanks rest : List ℕ) → list_all is_blank blanks ≡ true
+        → form_of (blanks ++ codes "<" ++ rest) ≡ form.Config }
+    ensures lines { (blanks rest : List ℕ) (b : ℕ) → list_all is_blank blanks ≡ true
+        → is_blank b ≡ false → (b == 123) ≡ false → (b == 60) ≡ false
+        → form_of (blanks ++ b ∷ rest) ≡ form.Lines }
+    ensures empty { (blanks : List ℕ) → list_all is_blank blanks ≡ true
+        → form_of blanks ≡ form.Lines }
+{}
+
+/// What stands in a submit before its system is the word, the name and the budget, with the blanks behind them.
+pub fn a_system_stands_behind_the_name_and_the_budget()
+    ensures plain { front_of (codes "submit two {} <r|r=r>") ≡ codes "submit two " }
+    ensures budget { front_of (codes "submit two  17 {} <r|r=r>") ≡ codes "submit two  17 " }
+    ensures none { front_of (codes "submit two A(x)") ≡ codes "submit two " }
+    ensures system { system_of (codes "submit two 17 {} <r|r=r>") ≡ codes "{} <r|r=r>" }
 {}
 
 /// A rule that is told as never used is used by no round: after any number of rounds no equation is active by it. The
@@ -110,6 +176,22 @@ pub fn lines_begin_with_command_words()
     ensures others { (word : List ℕ) → is_command word ≡ true → BeginsLine word }
 {
     ic_commands::laws::command_words_are();
+}
+
+/// A line is told a place wherever its front is that of a submit and its system has the line's fault: it is the place of
+/// that fault in the system, behind the front. Where the front itself is refused, or the system alone is none, no place is told.
+pub fn a_submit_is_told_where_its_system_is_refused()
+    ensures told { (line : List ℕ) (fault : TextFault) (place : Option ℕ) (detail : Detail)
+        (asked : Line) → IsLinePlace line fault place detail
+        → ReadsLine (with_no_system line) (Ok asked) → ReadsSystem (system_of line) (Err fault)
+        → (inner : Option ℕ) × IsSystemFault line fault inner detail
+        × (place ≡ option_map (λ at. length (front_of line) + at) inner) }
+    ensures front { (line : List ℕ) (fault other : TextFault) (place : Option ℕ)
+        (detail : Detail) → IsLinePlace line fault place detail
+        → ReadsLine (with_no_system line) (Err other) → place ≡ None }
+{
+    ic_commands::laws::one_line_reading();
+    ic_text::laws::one_system_reading();
 }
 
 /// The place that is told of a line's fault is one of this line, behind its front. It is told by the line's number and

@@ -1,0 +1,147 @@
+-- Each warning has its line in what is told.
+use Rattle.std.proofs.Common.{◌≡◌, ℕ, zero, suc, ◌+◌, ◌&&◌, ◌==◌, Bool, true, false, List, [], ◌∷◌, ◌++◌, Some, codes, slice_get, refl, sym, ap, ◌∙◌, append_assoc, append-nil, subst, arith}
+use Rattle.std.specs.List.{AllByRecursion, flat_map}
+use Rattle.ic_term.specs.Configuration.{Configuration}
+use Rattle.ic_term.specs.Symbol.{Symbol}
+use Rattle.ic_term.specs.Tree.{Pair}
+use Rattle.ic_rules.specs.Rule.{Rule}
+use Rattle.ic_rules.specs.RuleSet.{Rules}
+use Rattle.ic_check.specs.Meanings.{HasNoRule, IsWarned, StandsOnce, faces}
+use Rattle.ic_check.specs.Reach.{IsReach}
+use Rattle.ic_check.specs.Symbols.{text_symbols}
+use Rattle.ic_check.specs.Warnings.{Warns, count_of, once_line, once_lines, pair_text, ruleless_line, ruleless_lines, unused_line, unused_lines, unused_words, warning_line}
+use Rattle.ic_check.proofs.Once.{once_told}
+use Rattle.ic_check.proofs.Placed.{AreOf, all_once_of, all_ruleless_of, all_unused_of, any_words, both_of, either_of, lines_append, ruleless_of, told_of}
+use Rattle.ic_check.proofs.Reached.{one_reach}
+use Rattle.ic_check.proofs.Stuck.{stuck_told}
+
+one : {T : Type 0} (x y : T) → Some x ≡ Some y → x ≡ y
+one x y e = cc
+
+-- lines of warnings, whatever their words are
+abbrev Any : List ℕ → Type 0
+Any w = Unit {0}
+
+module _ (place words : List ℕ) where
+  alone : (told : List ℕ) → told ≡ warning_line place words → IsWarned place words told
+  alone told is = ([], [], is ∙ sym (append-nil (warning_line place words)))
+
+  behind : (a b : List ℕ) → AreOf Any place a → IsWarned place words b → IsWarned place words (a ++ b)
+  behind a b (ws, any, first) (before, after, is) = (
+    ws ++ before,
+    after,
+    (λ i. first i ++ is i) ∙ sym (lines_append place ws (before ++ words ∷ after))
+        ∙ ap (λ (l : List (List ℕ)). flat_map (warning_line place) l) (sym (append_assoc ws before (words ∷ after))),
+  )
+
+  ahead : (a b : List ℕ) → IsWarned place words a → AreOf Any place b → IsWarned place words (a ++ b)
+  ahead a b (before, after, is) (ws, any, last) = (
+    before,
+    after ++ ws,
+    (λ i. is i ++ last i) ∙ sym (lines_append place (before ++ words ∷ after) ws)
+        ∙ ap (λ (l : List (List ℕ)). flat_map (warning_line place) l) (append_assoc before (words ∷ after) ws),
+  )
+
+each_ruleless : (place : List ℕ) (rs : Rules) (es : List Pair) (i a b : ℕ) (p : Pair) → slice_get es i ≡ Some p → faces a b p ≡ true → HasNoRule rs.rules a b
+    → IsWarned place (codes "no rule for " ++ pair_text rs.symbols a b) (ruleless_lines place rs es)
+each_ruleless place rs [] zero a b p at is none = cc
+each_ruleless place rs [] (suc i) a b p at is none = cc
+each_ruleless place rs (e ∷ es) zero a b p at is none =
+    let words = codes "no rule for " ++ pair_text rs.symbols a b in
+    let same : e ≡ p = one e p at in
+    let told : ruleless_line place rs e.left e.right ≡ warning_line place words = ap (λ (q : Pair). ruleless_line place rs q.left q.right) same ∙ stuck_told place rs p a b is none in
+    ahead place words (ruleless_line place rs e.left e.right) (ruleless_lines place rs es) (alone place words (ruleless_line place rs e.left e.right) told)
+    (all_ruleless_of Any place rs (any_words rs) es)
+each_ruleless place rs (e ∷ es) (suc i) a b p at is none =
+    behind place (codes "no rule for " ++ pair_text rs.symbols a b) (ruleless_line place rs e.left e.right) (ruleless_lines place rs es)
+    (ruleless_of Any place rs (any_words rs) e.left e.right) (each_ruleless place rs es i a b p at is none)
+
+any_once : (place all : List ℕ) (k : ℕ) (ss : List Symbol) → AreOf Any place (once_lines place all k ss)
+any_once place all k ss = all_once_of Any place all k ss (each ss)
+  where
+    each : (ss : List Symbol) → AllByRecursion (λ s. Unit {0}) ss
+    each [] = tt
+    each (s ∷ ss) = (tt, each ss)
+
+each_once : (place all : List ℕ) (ss : List Symbol) (k i n : ℕ) (s : Symbol) → n ≡ k + i → slice_get ss i ≡ Some s → StandsOnce n all
+    → IsWarned place (s.text ++ codes " stands only once") (once_lines place all k ss)
+each_once place all [] k zero n s is at once = cc
+each_once place all [] k (suc i) n s is at once = cc
+each_once place all (x ∷ xs) k zero n s is at once =
+    let words = s.text ++ codes " stands only once" in
+    let same : x ≡ s = one x s at in
+    let number : k ≡ n = omega (arith, is) in
+    let told : once_line place all k x.text ≡ warning_line place words = (λ i. once_line place all (number i) (same i).text) ∙ once_told place all n s.text once in
+    ahead place words (once_line place all k x.text) (once_lines place all (k + 1) xs) (alone place words (once_line place all k x.text) told) (any_once place all (k + 1) xs)
+each_once place all (x ∷ xs) k (suc i) n s is at once =
+    behind place (s.text ++ codes " stands only once") (once_line place all k x.text) (once_lines place all (k + 1) xs)
+    (told_of Any place (x.text ++ codes " stands only once") tt (count_of all k == 1)) (each_once place all xs (k + 1) i n s (omega (arith, is)) at once)
+
+each_unused : (place : List ℕ) (among : ℕ → Bool) (rs : Rules) (ls : List Rule) (k i n : ℕ) (r : Rule) → n ≡ k + i → slice_get ls i ≡ Some r → (among r.left && among r.right) ≡ false
+    → IsWarned place (unused_words rs.symbols n r) (unused_lines place among rs.symbols k ls)
+each_unused place among rs [] k zero n r is at not = cc
+each_unused place among rs [] k (suc i) n r is at not = cc
+each_unused place among rs (x ∷ xs) k zero n r is at not =
+    let words = unused_words rs.symbols n r in
+    let same : x ≡ r = one x r at in
+    let number : k ≡ n = omega (arith, is) in
+    let silent : unused_line place among rs.symbols n r ≡ warning_line place words = rw not refl in
+    let told : unused_line place among rs.symbols k x ≡ warning_line place words = (λ i. unused_line place among rs.symbols (number i) (same i)) ∙ silent in
+    ahead place words (unused_line place among rs.symbols k x) (unused_lines place among rs.symbols (k + 1) xs)
+    (alone place words (unused_line place among rs.symbols k x) told) (all_unused_of Any place rs (any_words rs) among (k + 1) xs)
+each_unused place among rs (x ∷ xs) k (suc i) n r is at not =
+    behind place (unused_words rs.symbols n r) (unused_line place among rs.symbols k x) (unused_lines place among rs.symbols (k + 1) xs)
+    (either_of Any place (unused_words rs.symbols k x) tt (among x.left && among x.right)) (each_unused place among rs xs (k + 1) i n r (omega (arith, is)) at not)
+
+-- ---- among all warnings of a system
+
+module _ (place : List ℕ) (rs : Rules) (c : Configuration) (told : List ℕ) (among : ℕ → Bool) where
+  abbrev first : List ℕ
+  first = ruleless_lines place rs c.equations
+
+  abbrev second : List ℕ
+  second = once_lines place (text_symbols rs.rules c) 0 rs.symbols
+
+  abbrev third : List ℕ
+  third = unused_lines place among rs.symbols 0 rs.rules
+
+  second_any : AreOf Any place second
+  second_any = any_once place (text_symbols rs.rules c) 0 rs.symbols
+
+  third_any : AreOf Any place third
+  third_any = all_unused_of Any place rs (any_words rs) among 0 rs.rules
+
+  first_any : AreOf Any place first
+  first_any = all_ruleless_of Any place rs (any_words rs) c.equations
+
+  in_first : (words : List ℕ) → told ≡ first ++ second ++ third → IsWarned place words first → IsWarned place words told
+  in_first words is there = subst (IsWarned place words) (sym is) (ahead place words (first ++ second) third (ahead place words first second there second_any) third_any)
+
+  in_second : (words : List ℕ) → told ≡ first ++ second ++ third → IsWarned place words second → IsWarned place words told
+  in_second words is there = subst (IsWarned place words) (sym is) (ahead place words (first ++ second) third (behind place words first second first_any there) third_any)
+
+  in_third : (words : List ℕ) → told ≡ first ++ second ++ third → IsWarned place words third → IsWarned place words told
+  in_third words is there = subst (IsWarned place words) (sym is)
+      (behind place words (first ++ second) third (both_of Any place first second first_any second_any) there)
+
+pub begins : (place words : List ℕ) → warning_line place words ≡ place ++ codes ": warning: " ++ words ++ 10 ∷ []
+begins place words =
+    ap (λ (l : List ℕ). place ++ (codes ": warning: " ++ (words ++ l))) (append-nil (10 ∷ []))
+    ∙ sym (append_assoc (place ++ codes ": warning: ") words (10 ∷ []) ∙ append_assoc place (codes ": warning: ") (words ++ 10 ∷ []))
+
+pub ruleless_told : (place told : List ℕ) (rs : Rules) (c : Configuration) (i a b : ℕ) (p : Pair) → Warns place rs c told → slice_get c.equations i ≡ Some p → faces a b p ≡ true
+    → HasNoRule rs.rules a b → IsWarned place (codes "no rule for " ++ pair_text rs.symbols a b) told
+ruleless_told place told rs c i a b p is at faced none =
+    in_first place rs c told is.0 (codes "no rule for " ++ pair_text rs.symbols a b) is.2 (each_ruleless place rs c.equations i a b p at faced none)
+
+pub once_is_told : (place told : List ℕ) (rs : Rules) (c : Configuration) (i : ℕ) (s : Symbol) → Warns place rs c told → slice_get rs.symbols i ≡ Some s
+    → StandsOnce i (text_symbols rs.rules c) → IsWarned place (s.text ++ codes " stands only once") told
+once_is_told place told rs c i s is at once =
+    in_second place rs c told is.0 (s.text ++ codes " stands only once") is.2 (each_once place (text_symbols rs.rules c) rs.symbols 0 i i s (omega arith) at once)
+
+pub unused_told : (place told : List ℕ) (rs : Rules) (c : Configuration) (among : ℕ → Bool) (i : ℕ) (r : Rule) → Warns place rs c told → IsReach rs.rules c among
+    → slice_get rs.rules i ≡ Some r → (among r.left && among r.right) ≡ false → IsWarned place (unused_words rs.symbols i r) told
+unused_told place told rs c among i r is reach at not =
+    let same = one_reach rs.rules c is.0 among is.1 reach in
+    let here : (is.0 r.left && is.0 r.right) ≡ false = (λ j. same r.left j && same r.right j) ∙ not in
+    in_third place rs c told is.0 (unused_words rs.symbols i r) is.2 (each_unused place is.0 rs rs.rules 0 i i r (omega arith) at here)
