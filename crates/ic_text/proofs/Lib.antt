@@ -59,3 +59,5 @@ pub mod TailSteps
 pub mod TailBytes
 pub mod TailCut
 pub mod Fronts
+pub mod PlaceWords
+pub mod ToldWords

@@ -10,7 +10,7 @@ use Rattle.ic_text.specs.Sense.{symbols_after}
 use Rattle.ic_text.proofs.TableLemmas.{position-cons, slice_get-next}
 
 -- whether one of the symbols has this text
-abbrev has_text : List ℕ → List Symbol → Bool
+abbrev pub has_text : List ℕ → List Symbol → Bool
 has_text text ss = list_any (λ s. bytes_eq text s.text) ss
 
 some-map : (o : Option ℕ) → is_some (option_map (λ k. 1 + k) o) ≡ is_some o
@@ -18,7 +18,7 @@ some-map None = refl
 some-map (Some k) = refl
 
 -- a text has a number exactly where a symbol has it
-found : (ss : List Symbol) (text : List ℕ) → is_some (number_of_text ss text) ≡ has_text text ss
+pub found : (ss : List Symbol) (text : List ℕ) → is_some (number_of_text ss text) ≡ has_text text ss
 found [] text = refl
 found (s ∷ ss) text = ap is_some (position-cons (bytes_eq text) s.text (texts ss)) ∙ by_test (bytes_eq text s.text) (found ss text)
   where
@@ -50,7 +50,7 @@ texts_with text seen s = by_known (is_some (number_of_text seen s.text)) refl
     by_known false e = any-append text seen (s ∷ []) ∙ ap (λ b. has_text text seen || b) (or-false (bytes_eq text s.text))
 
 -- the texts of a table are those of its symbols
-texts_after : (text : List ℕ) (ss seen : List Symbol) → has_text text (symbols_after seen ss) ≡ (has_text text seen || has_text text ss)
+pub texts_after : (text : List ℕ) (ss seen : List Symbol) → has_text text (symbols_after seen ss) ≡ (has_text text seen || has_text text ss)
 texts_after text [] seen = sym (or-false (has_text text seen))
 texts_after text (s ∷ ss) seen =
     texts_after text ss (with_symbol seen s.text s.arity)
@@ -76,19 +76,25 @@ grows (s ∷ ss) seen =
     let rest = grows ss (with_symbol seen s.text s.arity) in
     (first.0 ++ rest.0, rest.1 ∙ ap (λ t. t ++ rest.0) first.1 ∙ append_assoc seen first.0 rest.0)
 
-known_is : (before : List Symbol) (s : Symbol) (b : Bool) → has_text s.text before ≡ b → is_some (number_of_text (symbols_after [] before) s.text) ≡ b
+pub known_is : (before : List Symbol) (s : Symbol) (b : Bool) → has_text s.text before ≡ b → is_some (number_of_text (symbols_after [] before) s.text) ≡ b
 known_is before s b e = found (symbols_after [] before) s.text ∙ texts_after s.text before [] ∙ e
+
+-- a symbol whose text none before has stands behind the table of those before
+pub added : (before after : List Symbol) (s : Symbol) → has_text s.text before ≡ false
+    → (more : List Symbol) × (symbols_after [] (before ++ s ∷ after) ≡ symbols_after [] before ++ s ∷ more)
+added before after s new =
+    let table = symbols_after [] before in
+    let one : with_symbol table s.text s.arity ≡ table ++ s ∷ [] = rw (known_is before s false new) refl in
+    let rest = grows after (table ++ s ∷ []) in
+    (rest.0, symbols_after-append before (s ∷ after) [] ∙ ap (λ t. symbols_after t after) one ∙ rest.1 ∙ append_assoc table (s ∷ []) rest.0)
 
 -- a text that no symbol before has gets the next number
 pub first_is_next : (before after : List Symbol) (s : Symbol) → has_text s.text before ≡ false
     → slice_get (symbols_after [] (before ++ s ∷ after)) (length (symbols_after [] before)) ≡ Some s
 first_is_next before after s new =
     let table = symbols_after [] before in
-    let added : with_symbol table s.text s.arity ≡ table ++ s ∷ [] = rw (known_is before s false new) refl in
-    let rest = grows after (table ++ s ∷ []) in
-    let whole : symbols_after [] (before ++ s ∷ after) ≡ table ++ s ∷ rest.0 =
-    symbols_after-append before (s ∷ after) [] ∙ ap (λ t. symbols_after t after) added ∙ rest.1 ∙ append_assoc table (s ∷ []) rest.0 in
-    ap (λ t. slice_get t (length table)) whole ∙ slice_get-next table s rest.0
+    let whole = added before after s new in
+    ap (λ t. slice_get t (length table)) whole.1 ∙ slice_get-next table s whole.0
 
 -- one that a symbol before has adds nothing
 pub later_is_known : (before : List Symbol) (s : Symbol) → has_text s.text before ≡ true → symbols_after [] (before ++ s ∷ []) ≡ symbols_after [] before

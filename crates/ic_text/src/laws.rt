@@ -1,6 +1,6 @@
 //! What is proved of the definitions alone: each law is the contract of a function that does nothing.
 
-ghost use Rattle.std.specs.Prelude.{◌≡◌, ◌≢◌, ◌↔◌, ◌<◌, ◌≤◌, ◌+◌, ◌*◌, ◌^◌, ◌&&◌, ◌||◌, ◌==◌, ℕ, Bool, List, [], ◌∷◌, ◌++◌, Result, Ok, Err, Some, None, true, false, length, map, codes, not, slice_get, nat_le, take, Contains, IsTrue, sum_by};
+ghost use Rattle.std.specs.Prelude.{◌≡◌, ◌≢◌, ◌⊎◌, ◌↔◌, ◌<◌, ◌≤◌, ◌+◌, ◌*◌, ◌^◌, ◌&&◌, ◌||◌, ◌==◌, ℕ, Bool, List, [], ◌∷◌, ◌++◌, Result, Ok, Err, Some, None, true, false, length, map, codes, not, slice_get, nat_le, take, drop, get_or, Contains, IsTrue, sum_by};
 ghost use Rattle.std.specs.List.{filter, flat_map, list_any, list_all, AllByRecursion};
 ghost use Rattle.std.specs.Str.{bytes_eq};
 ghost use Rattle.std.specs.Char.{is_ascii_alphanumeric, is_ascii_lowercase, is_ascii_digit};
@@ -14,15 +14,15 @@ ghost use Rattle.ic_term.specs.Symbol.{Symbol, texts};
 ghost use Rattle.ic_term.specs.declared.limits.TheConstants.{MAX_SYMBOLS, MAX_SYMBOL_TEXT, MAX_ARITY, MAX_INTERFACE, MAX_NODES};
 ghost use Rattle.ic_text.specs.Agents.{agents, nodes_within};
 ghost use Rattle.ic_text.specs.Name.{is_name, name_number, name_text, number_in};
-ghost use Rattle.ic_text.specs.Source.{Phrase, IsPhrase, phrase_nodes, phrase_words, phrase_symbols, phrase_names, source_symbols};
-ghost use Rattle.ic_text.specs.SystemSource.{SystemPhrase, IsSystemPhrase, system_words, system_symbols, system_names, rule_symbols, rule_nodes};
+ghost use Rattle.ic_text.specs.Source.{Phrase, IsPhrase, count_of, phrase_nodes, phrase_words, phrase_symbols, phrase_names, source_symbols};
+ghost use Rattle.ic_text.specs.SystemSource.{RulePhrase, SystemPhrase, IsSystemPhrase, system_words, system_symbols, system_names, rule_symbols, rule_nodes};
 ghost use Rattle.ic_text.specs.SystemSense.{system_table};
 ghost use Rattle.ic_text.specs.SystemText.{SpellsSystem, ReadsSystem};
 ghost use Rattle.ic_text.specs.Text.{Spells, Reads, phrase_of, printed, text_of, fault_text};
 ghost use Rattle.ic_text.specs.FaultNumber.{all_faults, fault_number};
-ghost use Rattle.ic_text.specs.Places.{GoesOn, IsPlaced, IsSyntaxPlace};
+ghost use Rattle.ic_text.specs.Places.{GoesOn, IsPlaced, IsSyntaxPlace, IsWordPlace};
 ghost use Rattle.ic_text.specs.Sense.{symbols_after};
-ghost use Rattle.ic_text.specs.WordFaults.{IsFirstWord, IsLimitWord, IsMiscount, keeps_so_far, rank, uses};
+ghost use Rattle.ic_text.specs.WordFaults.{IsFirstWord, IsLimitWord, IsMiscount, IsRuleWord, IsSecondUse, IsThirdWord, keeps_so_far, rank, uses};
 ghost use Rattle.ic_text.specs.Words.{Written, all_words, names_among, phrase_prefix, prefix, rules_prefix, symbols_among, system_prefix, written_phrase, written_system};
 ghost use Rattle.ic_text.specs.Token.{Token, word, mark, is_blank, is_word_byte, mark_byte, mark_of, tokens_at, followed, tokens, words_among};
 ghost use Rattle.ic_text.specs.declared.token.Mark.{Mark};
@@ -170,6 +170,46 @@ pub fn words_are_those_of_tokens()
         symbols_among (system_prefix s) ≡ system_symbols s }
     ensures names { (s : SystemPhrase) → IsSystemPhrase s →
         names_among (system_prefix s) ≡ system_names s }
+{}
+
+/// A word of a text stands at its place: the word bytes from there on, as far as they go, are this word.
+pub fn words_stand_at_their_places()
+    ensures { (text : List ℕ) (ts : List Token) (k at : ℕ) →
+        tokens text ≡ Some ts → IsWordPlace text k at →
+        (w : List ℕ) × (rest : List ℕ) × (drop at text ≡ w ++ rest)
+        × (list_all is_word_byte w ≡ true) × (is_word_byte (get_or rest 0 0) ≡ false)
+        × (slice_get (words_among ts) k ≡ Some w) }
+{}
+
+/// The symbol that is told with two arities has them: its first use, before the word told, has the first one, and the
+/// word told is a use with the second one, which is another.
+pub fn two_arities_that_are_told_differ()
+    ensures { (before here : ℕ) (ws : List Symbol) (k : ℕ) → IsSecondUse before here ws k →
+        (text : List ℕ) × (j : ℕ) × (j < k) × (before ≢ here) × (is_name text ≡ false)
+        × (slice_get ws j ≡ Some (record { text = text; arity = before }))
+        × (slice_get ws k ≡ Some (record { text = text; arity = here }))
+        × (uses text (take j ws) ≡ 0) }
+{}
+
+/// The word told of a name of the configuration is this name, for the third time; that told of a rule's names is a name
+/// of the rule that stands only there in it, or there for the third time.
+pub fn names_that_are_told_are_miscounted()
+    ensures config { (n : ℕ) (w : Written) (k : ℕ) → IsThirdWord n w k →
+        (before : ℕ) × (v : Symbol) × (slice_get (all_words w) k ≡ Some v)
+        × (slice_get w.config before ≡ Some v) × (v.text ≡ name_text n)
+        × (uses (name_text n) (take before w.config) ≡ 2) }
+    ensures rule { (i : ℕ) (w : Written) (k : ℕ) (is : IsMiscount i w k) →
+        (v : Symbol) × (slice_get (all_words w) k ≡ Some v)
+        × (slice_get is.words is.before ≡ Some v) × IsTrue (is_name v.text)
+        × ((uses v.text is.words ≡ 1) ⊎ (uses v.text (take is.before is.words) ≡ 2)) }
+{}
+
+/// The word told of a rule is the symbol of its agent on the left.
+pub fn rules_are_told_at_their_left_symbols()
+    ensures { (i : ℕ) (s : SystemPhrase) (k : ℕ) → IsRuleWord i (written_system s) k →
+        (r : RulePhrase) × (slice_get s.rules i ≡ Some r)
+        × (slice_get (system_prefix s) k
+        ≡ Some (record { text = r.left.text; arity = count_of r.left.arguments })) }
 {}
 
 /// Before the first name that stands in a rule only once, or for the third time, no name stands there three times, and
