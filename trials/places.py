@@ -181,7 +181,7 @@ def fault_of_words(reader):
             return "limit", at, passed
         if form is SYMBOL and symbols.setdefault(text, arguments) != arguments and not clash:
             first = symbols[text]
-            clash = ("arity", at, f"a symbol has one arity: this one has {arguments} here and {first} where it stands first")
+            clash = ("arity", at, f"a symbol has one arity: {text.decode()} has {arguments} here and {first} where it stands first")
     return clash or fault_of_names_and_rules(reader)
 
 

@@ -1,6 +1,6 @@
 -- What is told is told one a line.
 use Rattle.std.proofs.Common.{◌≡◌, ℕ, zero, suc, ◌+◌, ◌/◌, ◌%◌, Bool, true, false, ◌||◌, List, [], ◌∷◌, ◌++◌, Option, None, Some, IsTrue, codes, map, refl, sym, ap, ◌∙◌, append_assoc, arith, subst}
-use Rattle.std.specs.Prelude.{◌==◌, nat_lt, slice_get, take, if◌then◌else◌}
+use Rattle.std.specs.Prelude.{◌==◌, nat_lt, slice_get, take, drop, if◌then◌else◌}
 use Rattle.std.specs.Char.{is_ascii_alphanumeric, is_ascii_digit, is_ascii_uppercase}
 use Rattle.std.specs.Cmp.{unsigned_Decides}
 use Rattle.std.specs.Fmt.{decimal, digits, digits_onto, digit_glyph}
@@ -15,6 +15,7 @@ use Rattle.ic_term.specs.Configuration.{Configuration}
 use Rattle.ic_lines.specs.Lines.{ended, has_feed}
 use Rattle.ic_text.specs.Name.{name_text}
 use Rattle.ic_text.specs.Text.{fault_text, text_or_none}
+use Rattle.ic_text.specs.Token.{is_word_byte}
 use Rattle.ic_text.specs.declared.fault.TextFault.{TextFault}
 use Rattle.ic_text.specs.declared.fault.TextFault.TheVariants.{Syntax, Limit, Arity, NameCount, Name, Twice, Lopsided, Memory}
 use Rattle.ic_text.specs.declared.misread.Detail.{Detail}
@@ -23,7 +24,7 @@ use Rattle.ic_text.specs.declared.misread.Limit.{Limit as Bound}
 use Rattle.ic_text.specs.declared.misread.Limit.TheVariants as bound
 use Rattle.ic_causes.specs.Causes.{is_printable, shown_byte, shown_path}
 use Rattle.ic_places.specs.Lines.{column, last_line, line_number, told_at}
-use Rattle.ic_places.specs.Sights.{sight_at}
+use Rattle.ic_places.specs.Sights.{first_word, sight_at}
 use Rattle.ic_places.specs.Telling.{config_sentence, limit_sentence, plain_sentence, sentence, sight_sentence, syntax_sentence, system_sentence}
 use Rattle.ic_places.specs.declared.sights.Sight.{Sight}
 use Rattle.ic_places.specs.declared.sights.Sight.TheVariants.{End, SystemMark, ConfigMark, CommandWord, NoName, Other}
@@ -135,12 +136,21 @@ limit_free bound.RuleNodes = refl
 limit_free bound.Interface = refl
 limit_free bound.Nodes = refl
 
-sight_free : (kind : Kind) (fault : TextFault) (detail : Detail) (sight : Sight) → has_feed (sight_sentence kind fault detail sight) ≡ false
-sight_free kind fault Nothing sight = plain_free kind fault sight
-sight_free kind fault (Passed limit) sight = limit_free limit
-sight_free kind fault (Arities first here) sight =
-    all_free (codes "a symbol has one arity: this one has " ∷ decimal here ∷ codes " here and " ∷ decimal first ∷ codes " where it stands first" ∷ [])
-    (refl, (decimal_free here, (refl, (decimal_free first, (refl, tt)))))
+-- the word with which a text begins has none
+word_free : (text : List ℕ) → has_feed (first_word text) ≡ false
+word_free [] = refl
+word_free (b ∷ bs) = by_byte (is_word_byte b) refl (word_free bs)
+  where
+    by_byte : (is : Bool) → is_word_byte b ≡ is → has_feed (first_word bs) ≡ false → has_feed (if is then b ∷ first_word bs else []) ≡ false
+    by_byte true is free = or_from (b == 10) (has_feed (first_word bs)) (no_feed_by is_word_byte refl b is) free
+    by_byte false is free = refl
+
+sight_free : (kind : Kind) (fault : TextFault) (detail : Detail) (text : List ℕ) (sight : Sight) → has_feed (sight_sentence kind fault detail (first_word text) sight) ≡ false
+sight_free kind fault Nothing text sight = plain_free kind fault sight
+sight_free kind fault (Passed limit) text sight = limit_free limit
+sight_free kind fault (Arities first here) text sight =
+    all_free (codes "a symbol has one arity: " ∷ first_word text ∷ codes " has " ∷ decimal here ∷ codes " here and " ∷ decimal first ∷ codes " where it stands first" ∷ [])
+    (refl, (word_free text, (refl, (decimal_free here, (refl, (decimal_free first, (refl, tt)))))))
 
 fault_free : (fault : TextFault) → has_feed (fault_text fault) ≡ false
 fault_free Syntax = refl
@@ -178,7 +188,7 @@ one_fault file line kind text (Some at) fault detail free =
     let spot = spot_text file (before line) (take (told_at text at) text) in
     let words = sentence kind text fault at detail in
     one_of_parts (spot ∷ colon ∷ fault_text fault ∷ colon ∷ words ∷ [])
-    (spot_free file (before line) (take (told_at text at) text) free, (refl, (fault_free fault, (refl, (sight_free kind fault detail (sight_at text at), tt)))))
+    (spot_free file (before line) (take (told_at text at) text) free, (refl, (fault_free fault, (refl, (sight_free kind fault detail (drop at text) (sight_at text at), tt)))))
 
 -- ---- the lines of warnings
 text_free : (o : Option Symbol) → ((s : Symbol) → o ≡ Some s → has_feed s.text ≡ false) → has_feed (text_or_none o) ≡ false

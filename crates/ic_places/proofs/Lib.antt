@@ -5,3 +5,4 @@ pub mod ShownLaws
 pub mod Trimmed
 pub mod Arities
 pub mod FirstShown
+pub mod ToldTexts

@@ -1,5 +1,5 @@
 -- To be believed: what is told of a refused text beside its refusal (this project's choice).
-use Rattle.std.specs.Prelude.{◌≡◌, ℕ, List, [], ◌∷◌, ◌++◌, Option, None, Some, codes}
+use Rattle.std.specs.Prelude.{◌≡◌, ℕ, List, [], ◌∷◌, ◌++◌, Option, None, Some, codes, drop, slice_get}
 use Rattle.std.specs.Fmt.{decimal}
 use Rattle.std.specs.List.{concat}
 use Rattle.ic_text.specs.declared.fault.TextFault.{TextFault}
@@ -21,7 +21,7 @@ use Rattle.ic_places.specs.declared.telling.Kind.TheVariants.{Config, System}
 use Rattle.ic_places.specs.declared.sights.Sight.{Sight}
 use Rattle.ic_places.specs.declared.sights.Sight.TheVariants.{End, SystemMark, ConfigMark, CommandWord, NoName}
 use Rattle.ic_places.specs.Lines.{place_lines}
-use Rattle.ic_places.specs.Sights.{sight_at}
+use Rattle.ic_places.specs.Sights.{first_word, sight_at}
 
 -- what names and symbols are, where a word is neither
 abbrev pub name_sentence : List ℕ
@@ -72,26 +72,30 @@ limit_sentence Interface = codes "an interface has at most 64 terms"
 limit_sentence Nodes = codes "a configuration has at most 8192 nodes"
 
 -- what is amiss where a symbol has another arity than at its first use
-abbrev pub arity_sentence : (before here : ℕ) → List ℕ
-arity_sentence before here = concat (codes "a symbol has one arity: this one has " ∷ decimal here
-    ∷ codes " here and " ∷ decimal before ∷ codes " where it stands first" ∷ [])
+abbrev pub arity_sentence : (symbol : List ℕ) → (before here : ℕ) → List ℕ
+arity_sentence symbol before here = concat (codes "a symbol has one arity: " ∷ symbol
+    ∷ codes " has " ∷ decimal here ∷ codes " here and " ∷ decimal before
+    ∷ codes " where it stands first" ∷ [])
 
 -- A place of a text is that of the first symbol which has another arity than where it stands first:
--- that one, and the one that it has here.
+-- the symbol, that one, and the one that it has here.
 abbrev pub IsOfArities : {P : Type 0} → (P → Type 0) → (P → List Token) → (P → Written) → List ℕ
-    → (at before here : ℕ) → Type 0
-IsOfArities {P} IsOne words written text at before here =
+    → (at : ℕ) → (symbol : List ℕ) → (before here : ℕ) → Type 0
+IsOfArities {P} IsOne words written text at symbol before here =
     (phrase : P) × IsSpelling IsOne words text phrase × (word : ℕ) × IsWordPlace text word at
     × IsSecondUse before here (all_words (written phrase)) word
+    × (slice_get (all_words (written phrase)) word
+    ≡ Some (record { text = symbol; arity = here }))
 
--- what is amiss at the place of a refusal, by what stands there
-abbrev pub sight_sentence : Kind → TextFault → Detail → Sight → List ℕ
-sight_sentence kind fault Nothing sight = plain_sentence kind fault sight
-sight_sentence kind fault (Passed limit) sight = limit_sentence limit
-sight_sentence kind fault (Arities before here) sight = arity_sentence before here
+-- what is amiss at the place of a refusal, by the word that stands there, and by what else does
+abbrev pub sight_sentence : Kind → TextFault → Detail → List ℕ → Sight → List ℕ
+sight_sentence kind fault Nothing word sight = plain_sentence kind fault sight
+sight_sentence kind fault (Passed limit) word sight = limit_sentence limit
+sight_sentence kind fault (Arities before here) word sight = arity_sentence word before here
 
 abbrev pub sentence : Kind → List ℕ → TextFault → ℕ → Detail → List ℕ
-sentence kind text fault at detail = sight_sentence kind fault detail (sight_at text at)
+sentence kind text fault at detail =
+    sight_sentence kind fault detail (first_word (drop at text)) (sight_at text at)
 
 -- the lines that tell of a refusal, where its place is told
 abbrev pub told_lines : Kind → List ℕ → TextFault → Option ℕ → Detail → List ℕ

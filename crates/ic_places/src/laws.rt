@@ -1,23 +1,26 @@
 //! What is proved of the definitions alone: each law is the contract of a function that does nothing.
 
-ghost use Rattle.std.specs.Prelude.{◌≡◌, ◌≢◌, ◌⊎◌, ◌<◌, ◌≤◌, ◌+◌, ℕ, List, [], ◌∷◌, ◌++◌, false, true, Some, codes, length, map, min, slice_get};
+ghost use Rattle.std.specs.Prelude.{◌≡◌, ◌≢◌, ◌⊎◌, ◌<◌, ◌≤◌, ◌+◌, ℕ, List, [], ◌∷◌, ◌++◌, false, true, Some, codes, get_or, length, map, min, slice_get};
 ghost use Rattle.std.specs.Fmt.{decimal};
-ghost use Rattle.std.specs.List.{list_any, list_all};
+ghost use Rattle.std.specs.List.{AllByRecursion, concat, list_any, list_all};
 ghost use Rattle.std.specs.Str.{IsUtf8, chars};
-ghost use Rattle.ic_text.specs.Token.{is_blank};
+ghost use Rattle.ic_text.specs.Token.{is_blank, is_word_byte};
 ghost use Rattle.ic_term.specs.declared.limits.TheConstants.{MAX_ARITY, MAX_INTERFACE, MAX_NODES, MAX_SYMBOLS, MAX_SYMBOL_TEXT};
 ghost use Rattle.ic_rules.specs.declared.limits.TheConstants.{MAX_RULES, MAX_RULE_NODES};
 ghost use Rattle.ic_text.specs.declared.limits.TheConstants.{MAX_NAME, MAX_TEXT};
-ghost use Rattle.ic_text.specs.declared.fault.TextFault.TheVariants.{Arity};
+ghost use Rattle.ic_text.specs.declared.fault.TextFault.TheVariants.{Arity, Syntax};
 ghost use Rattle.ic_text.specs.declared.misread.Detail.{Detail};
+ghost use Rattle.ic_text.specs.declared.misread.Detail.TheVariants.{Nothing};
 ghost use Rattle.ic_text.specs.declared.misread.Limit.TheVariants.{TextBytes, SymbolBytes, Arguments, NameNumber, Symbols, Rules, RuleNodes, Interface, Nodes};
 ghost use Rattle.ic_text.specs.Places.{IsPlaced};
 ghost use Rattle.ic_text.specs.Source.{IsPhrase, phrase_words};
 ghost use Rattle.ic_text.specs.SystemSource.{IsSystemPhrase, system_words};
 ghost use Rattle.ic_text.specs.Words.{written_phrase, written_system};
 ghost use Rattle.ic_places.specs.declared.telling.Kind.{Kind};
+ghost use Rattle.ic_places.specs.declared.telling.Kind.TheVariants.{Config, System};
+ghost use Rattle.ic_places.specs.Sights.{command_words};
 ghost use Rattle.ic_places.specs.Telling.{IsOfArities, arity_sentence, limit_sentence, sentence};
-ghost use Rattle.ic_places.specs.Lines.{IsMarked, begins_with_feed, column, first_line, is_ascii, is_feed, is_printable, last_line, line_number, margin, picture_of, shown, shown_before, shown_behind, told_at};
+ghost use Rattle.ic_places.specs.Lines.{IsMarked, begins_with_feed, column, feed, first_line, head_of, is_ascii, is_feed, is_printable, last_line, line_number, margin, picture_of, place_lines, shown, shown_before, shown_behind, told_at};
 
 /// A line feed ends a line and begins one. The last line is what stands behind the last line feed.
 pub fn lines_stand_between_line_feeds()
@@ -102,6 +105,37 @@ pub fn an_end_is_told_behind_what_stands_last()
     ensures inner { (text : List ℕ) (at : ℕ) → at < length text → told_at text at ≡ at }
 {}
 
+/// A place is told in its parts: its line and its column by what stands before it, then the line with the mark, then the
+/// sentence.
+pub fn places_are_told_in_parts()
+    ensures parts { (a b sentence : List ℕ) (c : ℕ) → place_lines (a ++ c ∷ b) (length a) sentence
+        ≡ concat (head_of a ∷ picture_of (last_line a) (first_line (c ∷ b)) ∷ sentence ∷ feed ∷ []) }
+    ensures one { place_lines (codes "<r|r==Z>") 5 (codes "so")
+        ≡ concat (codes "line 1, column 6" ∷ feed ∷ codes "    <r|r==Z>" ∷ feed
+        ∷ codes "         ^" ∷ feed ∷ codes "so" ∷ feed ∷ []) }
+{}
+
+/// A text that begins with the mark of the other kind, or with the word of a command, is told so, and so is one that ends.
+pub fn other_texts_are_told_so()
+    ensures system { (blanks rest : List ℕ) → list_all is_blank blanks ≡ true →
+        sentence Config (blanks ++ 123 ∷ rest) Syntax (length blanks) Nothing
+        ≡ codes "a configuration begins with <, and this is a system" }
+    ensures config { (blanks rest : List ℕ) → list_all is_blank blanks ≡ true →
+        sentence System (blanks ++ 60 ∷ rest) Syntax (length blanks) Nothing
+        ≡ codes "a system begins with {, and this is a configuration" }
+    ensures commands { (blanks rest : List ℕ) → list_all is_blank blanks ≡ true →
+        is_word_byte (get_or rest 0 0) ≡ false → AllByRecursion (λ word.
+        (sentence Config (blanks ++ (word ++ rest)) Syntax (length blanks) Nothing
+        ≡ codes "a configuration begins with <, and commands are served")
+        × (sentence System (blanks ++ (word ++ rest)) Syntax (length blanks) Nothing
+        ≡ codes "a system begins with {, and commands are served")) command_words }
+    ensures end { (text : List ℕ) →
+        (sentence Config text Syntax (length text) Nothing
+        ≡ codes "the text ends before its configuration does")
+        × (sentence System text Syntax (length text) Nothing
+        ≡ codes "the text ends before its system does") }
+{}
+
 /// The sentence of each limit tells its number.
 pub fn limits_are_told_with_their_numbers()
     ensures text { limit_sentence TextBytes
@@ -125,21 +159,24 @@ pub fn limits_are_told_with_their_numbers()
         ≡ codes "a configuration has at most " ++ decimal MAX_NODES ++ codes " nodes" }
 {}
 
-/// Of a symbol with two arities the sentence tells the one that it has at the place, and then the one with which it stands
-/// first.
+/// Of a symbol with two arities the sentence tells the symbol, the one that it has at the place, and then the one with which
+/// it stands first.
 pub fn two_arities_are_told()
-    ensures fewer { arity_sentence 2 1
-        ≡ codes "a symbol has one arity: this one has 1 here and 2 where it stands first" }
-    ensures more { arity_sentence 0 15
-        ≡ codes "a symbol has one arity: this one has 15 here and 0 where it stands first" }
+    ensures fewer { arity_sentence (codes "Add") 2 1
+        ≡ codes "a symbol has one arity: Add has 1 here and 2 where it stands first" }
+    ensures more { arity_sentence (codes "0") 0 15
+        ≡ codes "a symbol has one arity: 0 has 15 here and 0 where it stands first" }
     ensures config { (kind : Kind) (text : List ℕ) (at : ℕ) (detail : Detail)
         → IsPlaced IsPhrase phrase_words written_phrase text Arity (Some at) detail
-        → (before : ℕ) × (here : ℕ)
-        × IsOfArities IsPhrase phrase_words written_phrase text at before here
-        × (sentence kind text Arity at detail ≡ arity_sentence before here) }
+        → (symbol : List ℕ) × (before : ℕ) × (here : ℕ)
+        × IsOfArities IsPhrase phrase_words written_phrase text at symbol before here
+        × (sentence kind text Arity at detail ≡ arity_sentence symbol before here) }
     ensures system { (kind : Kind) (text : List ℕ) (at : ℕ) (detail : Detail)
         → IsPlaced IsSystemPhrase system_words written_system text Arity (Some at) detail
-        → (before : ℕ) × (here : ℕ)
-        × IsOfArities IsSystemPhrase system_words written_system text at before here
-        × (sentence kind text Arity at detail ≡ arity_sentence before here) }
-{}
+        → (symbol : List ℕ) × (before : ℕ) × (here : ℕ)
+        × IsOfArities IsSystemPhrase system_words written_system text at symbol before here
+        × (sentence kind text Arity at detail ≡ arity_sentence symbol before here) }
+{
+    ic_text::laws::words_stand_at_their_places();
+    ic_text::laws::words_are_those_of_tokens();
+}

@@ -26,7 +26,7 @@ pub enum Sight {
 }
 
 /// The word with which a text begins, or nothing.
-fn first_word(text: &[u8]) -> &[u8]
+pub(crate) fn first_word(text: &[u8]) -> &[u8]
     ensures { result.now ≡ first_word text.now }
 {
     for (place, byte) in text.iter().enumerate() {

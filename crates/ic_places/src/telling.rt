@@ -4,7 +4,7 @@ ghost use Rattle.std.specs.Prelude.{◌≡◌, ◌≤◌, IfOk, IfSome, length};
 ghost use Rattle.ic_places.specs.Telling.{arity_sentence, config_sentence, limit_sentence, plain_sentence, sentence, syntax_sentence, system_sentence, told_lines};
 
 use crate::lines::place_lines;
-use crate::sights::{Sight, sight_at};
+use crate::sights::{Sight, first_word, sight_at};
 use ic_text::{Detail, Limit, Misread, TextFault};
 use std::alloc::{AllocError, Global};
 
@@ -88,13 +88,20 @@ fn limit_sentence(limit: Limit) -> &'static [u8]
 }
 
 /// What is amiss where a symbol has another arity than at its first use.
-fn arity_sentence(alloc: Global, before: usize, here: usize) -> Result<Vec<u8>, AllocError>
-    ensures { IfOk result (λ sentence. sentence.items ≡ arity_sentence before here) }
+fn arity_sentence(
+    alloc: Global,
+    symbol: &[u8],
+    before: usize,
+    here: usize,
+) -> Result<Vec<u8>, AllocError>
+    ensures { IfOk result
+        (λ sentence. sentence.items ≡ arity_sentence symbol.now before here) }
 {
-    let text = format!(in alloc;
-        "a symbol has one arity: this one has {here} here and {before} where it stands first"
-    )?;
-    Vec::from_slice(alloc, text.as_bytes())
+    let mut sentence = Vec::from_slice(alloc, b"a symbol has one arity: ")?;
+    sentence.extend_from_slice(symbol)?;
+    let counts = format!(in alloc; " has {here} here and {before} where it stands first")?;
+    sentence.extend_from_slice(counts.as_bytes())?;
+    Ok(sentence)
 }
 
 /// What is amiss at a place of a text that is refused there.
@@ -115,7 +122,9 @@ pub fn sentence(
             Vec::from_slice(alloc, plain_sentence(kind, misread.fault, sight))
         }
         Detail::Passed(limit) => Vec::from_slice(alloc, limit_sentence(limit)),
-        Detail::Arities(before, here) => arity_sentence(alloc, before, here),
+        Detail::Arities(before, here) => {
+            arity_sentence(alloc, first_word(&text[at..]), before, here)
+        }
     }
 }
 

@@ -1,5 +1,6 @@
-use Rattle.std.proofs.Common.{refl}
+use Rattle.std.proofs.Common.{refl, sym, ap, ◌∙◌}
 use Rattle.std.specs.Fmt.{digits}
+use Rattle.ic_term.specs.Symbol.{texts}
 use Rattle.ic_text.specs.Source.{IsPhrase, phrase_words}
 use Rattle.ic_text.specs.SystemSource.{IsSystemPhrase, system_words}
 use Rattle.ic_text.specs.Words.{written_phrase, written_system}
@@ -15,7 +16,9 @@ unfolding digits
 returns-clause-more c = refl
 
 pub returns-clause-config : goal.returns-clause-config
-returns-clause-config c = arities_told IsPhrase phrase_words written_phrase
+returns-clause-config c = arities_told c.words_stand_at_their_places.ensures IsPhrase phrase_words written_phrase c.words_are_those_of_tokens.ensures.config
 
 pub returns-clause-system : goal.returns-clause-system
-returns-clause-system c = arities_told IsSystemPhrase system_words written_system
+returns-clause-system c =
+    arities_told c.words_stand_at_their_places.ensures IsSystemPhrase system_words written_system
+    (λ s. c.words_are_those_of_tokens.ensures.system s ∙ ap texts (sym (c.words_are_those_of_tokens.ensures.whole s)))
