@@ -17,6 +17,13 @@ SYMBOL = re.compile(rb"[A-Z0-9][A-Za-z0-9]*")
 COMMANDS = (b"submit", b"pause", b"resume", b"cancel", b"fetch", b"list", b"run", b"copy")
 NAMES = "a name is a letter a to z, maybe with a number from 1 on, and a symbol begins with A to Z or 0 to 9"
 
+TERM = "a term is looked for here"
+BEHIND = {"(": TERM, ",": TERM, "=": TERM, "|": "a term or > is looked for here"}
+BEHIND_OF = {
+    "configuration": {"<": "a term or | is looked for here", ">": "nothing is looked for behind a configuration"},
+    "system": {"{": "a symbol or } is looked for here", ";": "a symbol is looked for here", "}": "< is looked for here"},
+}
+
 
 class NoText(Exception):
     """No text goes on from here."""
@@ -187,19 +194,20 @@ def fault_of_words(reader):
 
 def sentence_of_syntax(text, at, kind):
     """What is said at the place of a fault of syntax. A text that begins otherwise may be of another kind, and a word with a small
-    letter where a term may stand was to be a name."""
+    letter where a term may stand was to be a name. Behind a mark that settles it the sentence tells what is looked for."""
     if at == len(text):
         return f"the text ends before its {kind} does"
     mark, other, of = ("<", b"{", "a system") if kind == "configuration" else ("{", b"<", "a configuration")
-    front, word = text[:at].strip(b" \t\r\n"), re.match(rb"[A-Za-z0-9-]*", text[at:]).group()
+    front, word = text[:at].strip(b" \t\r\n").decode("latin-1"), re.match(rb"[A-Za-z0-9-]*", text[at:]).group()
     if not front:
         if text[at : at + 1] == other:
             return f"a {kind} begins with {mark}, and this is {of}"
         if word in COMMANDS:
             return f"a {kind} begins with {mark}, and commands are served"
-    elif front[-1:] in b"{<|=,;(" and word[:1].islower() and not NAME.fullmatch(word):
+        return f"a {kind} begins with {mark}"
+    if front[-1] in "{<|=,;(" and word[:1].islower() and not NAME.fullmatch(word):
         return NAMES
-    return f"no {kind} goes on with this"
+    return (BEHIND | BEHIND_OF[kind]).get(front[-1], f"no {kind} goes on with this")
 
 
 def found(text, kind):

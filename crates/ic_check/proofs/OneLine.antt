@@ -25,9 +25,9 @@ use Rattle.ic_text.specs.declared.misread.Limit.TheVariants as bound
 use Rattle.ic_causes.specs.Causes.{is_printable, shown_byte, shown_path}
 use Rattle.ic_places.specs.Lines.{column, last_line, line_number, told_at}
 use Rattle.ic_places.specs.Sights.{first_word, sight_at}
-use Rattle.ic_places.specs.Telling.{config_sentence, limit_sentence, plain_sentence, sentence, sight_sentence, syntax_sentence, system_sentence}
+use Rattle.ic_places.specs.Telling.{behind_in_config, behind_in_system, behind_mark, config_sentence, limit_sentence, plain_sentence, sentence, sight_sentence, syntax_sentence, system_sentence, wants_term}
 use Rattle.ic_places.specs.declared.sights.Sight.{Sight}
-use Rattle.ic_places.specs.declared.sights.Sight.TheVariants.{End, SystemMark, ConfigMark, CommandWord, NoName, Other}
+use Rattle.ic_places.specs.declared.sights.Sight.TheVariants.{End, SystemMark, ConfigMark, CommandWord, NoName, Front, Behind}
 use Rattle.ic_places.specs.declared.telling.Kind.{Kind}
 use Rattle.ic_places.specs.declared.telling.Kind.TheVariants.{Config, System}
 use Rattle.ic_check.specs.Checking.{before, told_fault}
@@ -95,13 +95,35 @@ symbol_free (b ∷ bs) is =
     or_from (b == 10) (has_feed bs) (no_feed_by (λ x. is_ascii_uppercase x || is_ascii_digit x) refl b parts.0) (further_free bs parts.1)
 
 -- ---- sentences and refusals
+behind_mark_free : (other : List ℕ) (b : ℕ) → has_feed other ≡ false → has_feed (behind_mark other b) ≡ false
+behind_mark_free other b free =
+    let more = codes "a term or > is looked for here" in
+    either_free (wants_term b) (codes "a term is looked for here") (if b == 124 then more else other) refl (either_free (b == 124) more other refl free)
+
+in_config_free : (b : ℕ) → has_feed (behind_in_config b) ≡ false
+in_config_free b =
+    let other = codes "no configuration goes on with this" in
+    let over = codes "nothing is looked for behind a configuration" in
+    either_free (b == 60) (codes "a term or | is looked for here") (if b == 62 then over else behind_mark other b) refl
+    (either_free (b == 62) over (behind_mark other b) refl (behind_mark_free other b refl))
+
+in_system_free : (b : ℕ) → has_feed (behind_in_system b) ≡ false
+in_system_free b =
+    let other = codes "no system goes on with this" in
+    let symbol = codes "a symbol is looked for here" in
+    let less = codes "< is looked for here" in
+    let last = if b == 125 then less else behind_mark other b in
+    either_free (b == 123) (codes "a symbol or } is looked for here") (if b == 59 then symbol else last) refl
+    (either_free (b == 59) symbol last refl (either_free (b == 125) less (behind_mark other b) refl (behind_mark_free other b refl)))
+
 config_free : (sight : Sight) → has_feed (config_sentence sight) ≡ false
 config_free End = refl
 config_free SystemMark = refl
 config_free ConfigMark = refl
 config_free CommandWord = refl
 config_free NoName = refl
-config_free Other = refl
+config_free Front = refl
+config_free (Behind b) = in_config_free b
 
 system_free : (sight : Sight) → has_feed (system_sentence sight) ≡ false
 system_free End = refl
@@ -109,7 +131,8 @@ system_free SystemMark = refl
 system_free ConfigMark = refl
 system_free CommandWord = refl
 system_free NoName = refl
-system_free Other = refl
+system_free Front = refl
+system_free (Behind b) = in_system_free b
 
 syntax_free : (kind : Kind) (sight : Sight) → has_feed (syntax_sentence kind sight) ≡ false
 syntax_free Config sight = config_free sight

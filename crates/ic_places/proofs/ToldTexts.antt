@@ -7,7 +7,7 @@ use Rattle.ic_text.specs.Token.{is_blank, is_word_byte}
 use Rattle.ic_text.specs.declared.misread.Detail.TheVariants.{Nothing}
 use Rattle.ic_text.specs.declared.fault.TextFault.TheVariants.{Syntax}
 use Rattle.ic_places.specs.declared.sights.Sight.{Sight}
-use Rattle.ic_places.specs.declared.sights.Sight.TheVariants.{End, SystemMark, ConfigMark, CommandWord, Other}
+use Rattle.ic_places.specs.declared.sights.Sight.TheVariants.{End, SystemMark, ConfigMark, CommandWord, Front}
 use Rattle.ic_places.specs.declared.telling.Kind.{Kind}
 use Rattle.ic_places.specs.declared.telling.Kind.TheVariants.{Config, System}
 use Rattle.ic_places.specs.Lines.{feed, first_line, head_of, last_line, picture_of, place_lines, told_at}
@@ -59,7 +59,7 @@ command_front (b ∷ bs) rest is stops =
     by_marks (b == 123) (b == 60) is.1 (ap is_command (run_is_first (b ∷ bs) rest is.2 stops) ∙ is.0)
   where
     by_marks : (m n : Bool) → cond m false (cond n false true) ≡ true → is_command (first_word (b ∷ bs ++ rest)) ≡ true
-        → cond m SystemMark (cond n ConfigMark (cond (is_command (first_word (b ∷ bs ++ rest))) CommandWord Other)) ≡ CommandWord
+        → cond m SystemMark (cond n ConfigMark (cond (is_command (first_word (b ∷ bs ++ rest))) CommandWord Front)) ≡ CommandWord
     by_marks true n e command = absurd (false≢true e)
     by_marks false true e command = absurd (false≢true e)
     by_marks false false e command = rw command refl

@@ -1,5 +1,5 @@
 -- To be believed: what is told of a refused text beside its refusal (this project's choice).
-use Rattle.std.specs.Prelude.{◌≡◌, ℕ, List, [], ◌∷◌, ◌++◌, Option, None, Some, codes, drop, slice_get}
+use Rattle.std.specs.Prelude.{◌≡◌, ℕ, List, [], ◌∷◌, ◌++◌, Option, None, Some, codes, drop, slice_get, ◌==◌, Bool, ◌||◌, if◌then◌else◌}
 use Rattle.std.specs.Fmt.{decimal}
 use Rattle.std.specs.List.{concat}
 use Rattle.ic_text.specs.declared.fault.TextFault.{TextFault}
@@ -19,7 +19,7 @@ use Rattle.ic_streams.specs.declared.fault.StreamFault.TheVariants.{Text}
 use Rattle.ic_places.specs.declared.telling.Kind.{Kind}
 use Rattle.ic_places.specs.declared.telling.Kind.TheVariants.{Config, System}
 use Rattle.ic_places.specs.declared.sights.Sight.{Sight}
-use Rattle.ic_places.specs.declared.sights.Sight.TheVariants.{End, SystemMark, ConfigMark, CommandWord, NoName}
+use Rattle.ic_places.specs.declared.sights.Sight.TheVariants.{End, SystemMark, ConfigMark, CommandWord, NoName, Behind}
 use Rattle.ic_places.specs.Lines.{place_lines}
 use Rattle.ic_places.specs.Sights.{first_word, sight_at}
 
@@ -28,6 +28,29 @@ abbrev pub name_sentence : List ℕ
 name_sentence = codes "a name is a letter a to z, maybe with a number from 1 on, "
     ++ codes "and a symbol begins with A to Z or 0 to 9"
 
+-- a mark behind which nothing but a term goes on: `(`, `,` or `=`
+abbrev pub wants_term : ℕ → Bool
+wants_term b = b == 40 || b == 44 || b == 61
+
+-- what is looked for behind `(`, `,`, `=` or `|`, of either kind; behind other bytes that is another
+abbrev pub behind_mark : (other : List ℕ) → ℕ → List ℕ
+behind_mark other b = if wants_term b then codes "a term is looked for here"
+    else (if b == 124 then codes "a term or > is looked for here" else other)
+
+-- what is looked for in a configuration behind a byte: behind `<`, behind `>`, with which it ends, or
+-- behind such a mark; behind a term it isn't told
+abbrev pub behind_in_config : ℕ → List ℕ
+behind_in_config b = if b == 60 then codes "a term or | is looked for here"
+    else (if b == 62 then codes "nothing is looked for behind a configuration"
+    else behind_mark (codes "no configuration goes on with this") b)
+
+-- the same of a system, behind `{`, `;`, `}` or such a mark; behind a term, `<` or `>` it isn't told
+abbrev pub behind_in_system : ℕ → List ℕ
+behind_in_system b = if b == 123 then codes "a symbol or } is looked for here"
+    else (if b == 59 then codes "a symbol is looked for here"
+    else (if b == 125 then codes "< is looked for here"
+    else behind_mark (codes "no system goes on with this") b))
+
 -- what is amiss where a configuration doesn't go on, by what stands there: the text may be of another
 -- kind, a system or lines of commands
 abbrev pub config_sentence : Sight → List ℕ
@@ -35,7 +58,8 @@ config_sentence End = codes "the text ends before its configuration does"
 config_sentence SystemMark = codes "a configuration begins with <, and this is a system"
 config_sentence CommandWord = codes "a configuration begins with <, and commands are served"
 config_sentence NoName = name_sentence
-config_sentence sight = codes "no configuration goes on with this"
+config_sentence (Behind b) = behind_in_config b
+config_sentence sight = codes "a configuration begins with <"
 
 -- the same of a system, where the text may be a configuration or lines of commands
 abbrev pub system_sentence : Sight → List ℕ
@@ -43,7 +67,8 @@ system_sentence End = codes "the text ends before its system does"
 system_sentence ConfigMark = codes "a system begins with {, and this is a configuration"
 system_sentence CommandWord = codes "a system begins with {, and commands are served"
 system_sentence NoName = name_sentence
-system_sentence sight = codes "no system goes on with this"
+system_sentence (Behind b) = behind_in_system b
+system_sentence sight = codes "a system begins with {"
 
 abbrev pub syntax_sentence : Kind → Sight → List ℕ
 syntax_sentence Config sight = config_sentence sight

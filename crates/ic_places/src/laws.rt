@@ -136,6 +136,25 @@ pub fn other_texts_are_told_so()
         ≡ codes "the text ends before its system does") }
 {}
 
+/// Behind a mark the sentence tells what is looked for there.
+pub fn what_is_looked_for_is_told()
+    ensures term { AllByRecursion (λ text.
+        sentence Config (text ++ codes "=Z>") Syntax (length text) Nothing
+        ≡ codes "a term is looked for here") (codes "<r|r=" ∷ codes "<r|r=S( " ∷ codes "<r," ∷ []) }
+    ensures config { sentence Config (codes "<;") Syntax 1 Nothing
+        ≡ codes "a term or | is looked for here" }
+    ensures equations { sentence Config (codes "<| ;") Syntax 3 Nothing
+        ≡ codes "a term or > is looked for here" }
+    ensures over { sentence Config (codes "<|>Z") Syntax 3 Nothing
+        ≡ codes "nothing is looked for behind a configuration" }
+    ensures rules { sentence System (codes "{,") Syntax 1 Nothing
+        ≡ codes "a symbol or } is looked for here" }
+    ensures rule { sentence System (codes "{A><B;}") Syntax 6 Nothing
+        ≡ codes "a symbol is looked for here" }
+    ensures behind_rules { sentence System (codes "{} |") Syntax 3 Nothing
+        ≡ codes "< is looked for here" }
+{}
+
 /// The sentence of each limit tells its number.
 pub fn limits_are_told_with_their_numbers()
     ensures text { limit_sentence TextBytes

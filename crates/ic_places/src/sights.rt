@@ -3,7 +3,7 @@
 ghost use Rattle.std.specs.Prelude.{◌≡◌, ◌≤◌, length};
 ghost use Rattle.std.specs.List.{list_all};
 ghost use Rattle.ic_text.specs.Token.{is_blank};
-ghost use Rattle.ic_places.specs.Sights.{first_word, front_sight, inner_sight, is_command, is_misnamed, is_term_due, opens_term, sight_at};
+ghost use Rattle.ic_places.specs.Sights.{behind, first_word, front_sight, inner_sight, is_command, is_misnamed, is_term_due, last_byte, opens_term, sight_at};
 
 use crate::lines::trimmed;
 use ic_text::{is_blank, is_numeral, is_word_byte};
@@ -21,8 +21,10 @@ pub enum Sight {
     CommandWord,
     /// Where a term may stand, a word that begins as a name does and isn't one.
     NoName,
-    /// Anything else.
-    Other,
+    /// At the front, anything else.
+    Front,
+    /// Further on anything else, behind this byte, which is the last one before it that is no blank.
+    Behind(u8),
 }
 
 /// The word with which a text begins, or nothing.
@@ -79,11 +81,28 @@ fn opens_term(byte: Option<u8>) -> bool
     }
 }
 
+/// The last byte of a text that is no blank.
+fn last_byte(front: &[u8]) -> Option<u8>
+    ensures { result ≡ last_byte front.now }
+{
+    trimmed(front).last().copied()
+}
+
 /// Whether a term may stand behind a text.
 fn is_term_due(front: &[u8]) -> bool
     ensures { result ≡ is_term_due front.now }
 {
-    opens_term(trimmed(front).last().copied())
+    opens_term(last_byte(front))
+}
+
+/// Anything behind this byte.
+fn behind(byte: Option<u8>) -> Sight
+    ensures { result ≡ behind byte }
+{
+    match byte {
+        Some(byte) => Sight::Behind(byte),
+        None => Sight::Front,
+    }
 }
 
 /// What stands at the front of a text.
@@ -91,14 +110,14 @@ fn front_sight(text: &[u8]) -> Sight
     ensures { result ≡ front_sight text.now }
 {
     match text.first() {
-        None => Sight::Other,
+        None => Sight::Front,
         Some(b'{') => Sight::SystemMark,
         Some(b'<') => Sight::ConfigMark,
         Some(_) => {
             if is_command(first_word(text)) {
                 Sight::CommandWord
             } else {
-                Sight::Other
+                Sight::Front
             }
         }
     }
@@ -111,7 +130,7 @@ fn inner_sight(front: &[u8], rest: &[u8]) -> Sight
     if is_term_due(front) && is_misnamed(first_word(rest)) {
         Sight::NoName
     } else {
-        Sight::Other
+        behind(last_byte(front))
     }
 }
 

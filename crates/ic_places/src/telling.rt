@@ -1,7 +1,7 @@
 //! What is told of a refused text beside its refusal.
 
 ghost use Rattle.std.specs.Prelude.{◌≡◌, ◌≤◌, IfOk, IfSome, length};
-ghost use Rattle.ic_places.specs.Telling.{arity_sentence, config_sentence, limit_sentence, plain_sentence, sentence, syntax_sentence, system_sentence, told_lines};
+ghost use Rattle.ic_places.specs.Telling.{arity_sentence, behind_in_config, behind_in_system, behind_mark, config_sentence, limit_sentence, plain_sentence, sentence, syntax_sentence, system_sentence, told_lines};
 
 use crate::lines::place_lines;
 use crate::sights::{Sight, first_word, sight_at};
@@ -19,6 +19,47 @@ pub enum Kind {
 const NAMES: &[u8] =
     b"a name is a letter a to z, maybe with a number from 1 on, and a symbol begins with A to Z or 0 to 9";
 
+/// What is looked for behind a mark of either kind of text, or else the other sentence.
+fn behind_mark(other: &'static [u8], byte: u8) -> &'static [u8]
+    ensures { result.now ≡ behind_mark other.now byte }
+{
+    if byte == b'(' || byte == b',' || byte == b'=' {
+        b"a term is looked for here"
+    } else if byte == b'|' {
+        b"a term or > is looked for here"
+    } else {
+        other
+    }
+}
+
+/// What is looked for in a configuration behind a byte, as far as it is told.
+fn behind_in_config(byte: u8) -> &'static [u8]
+    ensures { result.now ≡ behind_in_config byte }
+{
+    if byte == b'<' {
+        b"a term or | is looked for here"
+    } else if byte == b'>' {
+        b"nothing is looked for behind a configuration"
+    } else {
+        behind_mark(b"no configuration goes on with this", byte)
+    }
+}
+
+/// What is looked for in a system behind a byte, as far as it is told.
+fn behind_in_system(byte: u8) -> &'static [u8]
+    ensures { result.now ≡ behind_in_system byte }
+{
+    if byte == b'{' {
+        b"a symbol or } is looked for here"
+    } else if byte == b';' {
+        b"a symbol is looked for here"
+    } else if byte == b'}' {
+        b"< is looked for here"
+    } else {
+        behind_mark(b"no system goes on with this", byte)
+    }
+}
+
 /// What is amiss where a configuration doesn't go on, by what stands there.
 fn config_sentence(sight: Sight) -> &'static [u8]
     ensures { result.now ≡ config_sentence sight }
@@ -28,7 +69,8 @@ fn config_sentence(sight: Sight) -> &'static [u8]
         Sight::SystemMark => b"a configuration begins with <, and this is a system",
         Sight::CommandWord => b"a configuration begins with <, and commands are served",
         Sight::NoName => NAMES,
-        Sight::ConfigMark | Sight::Other => b"no configuration goes on with this",
+        Sight::Behind(byte) => behind_in_config(byte),
+        Sight::ConfigMark | Sight::Front => b"a configuration begins with <",
     }
 }
 
@@ -41,7 +83,8 @@ fn system_sentence(sight: Sight) -> &'static [u8]
         Sight::ConfigMark => b"a system begins with {, and this is a configuration",
         Sight::CommandWord => b"a system begins with {, and commands are served",
         Sight::NoName => NAMES,
-        Sight::SystemMark | Sight::Other => b"no system goes on with this",
+        Sight::Behind(byte) => behind_in_system(byte),
+        Sight::SystemMark | Sight::Front => b"a system begins with {",
     }
 }
 
