@@ -15,7 +15,7 @@ use ic_pool::Flight;
 use std::alloc::Global;
 
 /// Events of a history.
-const EVENTS: u32 = 200;
+const EVENTS: u32 = 80;
 
 /// Behind so many events a book is opened anew, so that no stop plays all of them again.
 const PART: usize = 20;
