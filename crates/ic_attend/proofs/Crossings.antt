@@ -12,11 +12,10 @@ use Rattle.ic_jobs.proofs.budget.Budget.TheSendSync as budget
 use Rattle.ic_jobs.proofs.shown.JobList.TheSendSync as list
 use Rattle.ic_jobs.proofs.state.State.TheSendSync as state
 use Rattle.ic_jobs.proofs.reply.Refusal.TheSendSync as refusal
-use Rattle.ic_term.specs.contracts.config.Config as Config
 use Rattle.ic_rules.specs.contracts.rule.Rule as Rule
 use Rattle.ic_rules.specs.contracts.rule_set.RuleSet as RuleSet
-use Rattle.ic_rules.specs.contracts.system.System as System
 use Rattle.ic_flat.specs.contracts.flat.Flat as Flat
+use Rattle.ic_flat.specs.contracts.system.FlatSystem as FlatSystem
 use Rattle.ic_flat_round.specs.contracts.flat_rules.FlatRules as FlatRules
 use Rattle.ic_jobs.specs.contracts.command.Command as Command
 use Rattle.ic_jobs.specs.contracts.event.Event as Event
@@ -31,9 +30,6 @@ use Rattle.ic_desk.specs.contracts.book.Book as Book
 use Rattle.ic_attend.specs.contracts.desk.Desk as Desk
 use Rattle.ic_attend.specs.contracts.attended.ClientRun as ClientRun
 use Rattle.ic_attend.specs.contracts.client.Speech as Speech
-
-Config_send : IsSend Config.the_field.row
-Config_send = search (sendable, crosses, terms) depth 40
 
 Rule_send : IsSend Rule.the_field.row
 Rule_send = search (sendable, crosses, terms) depth 40
@@ -59,11 +55,11 @@ FlatRules_send = search (RuleSet_send, RuleSet_sync, word.the_field_send, sendab
 FlatRules_sync : IsSync FlatRules.the_field.row
 FlatRules_sync = search (RuleSet_send, RuleSet_sync, word.the_field_sync, sendable, crosses) depth 40
 
-System_send : IsSend System.the_field.row
-System_send = search (Config_send, RuleSet_send, RuleSet_sync, sendable, crosses) depth 40
+FlatSystem_send : IsSend FlatSystem.the_field.row
+FlatSystem_send = search (Flat_send, RuleSet_send, RuleSet_sync, sendable, crosses) depth 40
 
 pub Command_send : IsSend Command.the_field.row
-Command_send = search (System_send, name.the_send, budget.the_send, sendable, crosses) depth 40
+Command_send = search (FlatSystem_send, name.the_send, budget.the_send, sendable, crosses) depth 40
 
 ShownJob_send : IsSend ShownJob.the_field.row
 ShownJob_send = search (Flat_send, Flat_sync, FlatRules_send, FlatRules_sync, name.the_send, state.the_field_send, sendable, crosses) depth 40
@@ -93,7 +89,7 @@ Book_send : (D : RattleType) (g : Ghosts D.Denot) → IsSend D → IsSend (Book.
 Book_send D g s = let k = keeper.the_field_send D g s in search (Table_send, Entry_send, sendable, crosses) depth 40
 
 pub Command_row_send : IsSend Command.the_row
-Command_row_send = search (System_send, name.the_send, budget.the_send, sendable, crosses) depth 40
+Command_row_send = search (FlatSystem_send, name.the_send, budget.the_send, sendable, crosses) depth 40
 
 pub Desk_row_sync : (D : RattleType) (g : Ghosts D.Denot) → IsSend D → IsSync (Desk.the_row D g)
 Desk_row_sync D g s = let b = Book_send D g s in search (sendable, crosses) depth 40

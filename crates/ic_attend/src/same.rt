@@ -3,8 +3,9 @@
 ghost use Rattle.std.specs.Prelude.{◌≡◌, ◌↔◌, IsTrue};
 ghost use Rattle.ic_jobs.specs.declared.state.State.{State as JobState};
 
+use ic_flat::FlatSystem;
 use ic_jobs::{Budget, Command, Reply, ShownJob, State};
-use ic_rules::{JobName, System};
+use ic_rules::JobName;
 
 fn same_name(left: &JobName, right: &JobName) -> bool
     ensures { IsTrue result ↔ (left.now ≡ right.now) }
@@ -12,7 +13,7 @@ fn same_name(left: &JobName, right: &JobName) -> bool
     left.as_bytes() == right.as_bytes()
 }
 
-fn same_system(left: &System, right: &System) -> bool
+fn same_system(left: &FlatSystem, right: &FlatSystem) -> bool
     ensures { IsTrue result ↔ (left.now ≡ right.now) }
 {
     ic_term::laws::equality_is_exact();

@@ -6,10 +6,11 @@ use ic_attend::{Attended, ClientRun, RunnerEnd};
 use ic_commands::print_reply;
 use ic_desk::{Book, BookFault};
 use ic_disk::Disk;
+use ic_flat::FlatSystem;
 use ic_jobs::{Budget, Command, Entry, Event, Landed, Reply, State, Table};
 use ic_notation::{Trouble, decimal, printed};
 use ic_pool::{Flight, PoolFault, play_alone};
-use ic_rules::{JobName, System};
+use ic_rules::JobName;
 use std::alloc::Global;
 
 /// What was attended: on which table, which scripts, and how.
@@ -337,7 +338,7 @@ fn copy_words(alloc: Global, old: &JobName, new: &JobName) -> Result<Vec<u8>, Tr
 fn submit_words(
     alloc: Global,
     name: &JobName,
-    system: &System,
+    system: &FlatSystem,
     budget: &Option<Budget>,
 ) -> Result<Vec<u8>, Trouble> {
     let mut words = about(alloc, b"submit ", name)?;
@@ -345,6 +346,6 @@ fn submit_words(
         words.push(b' ')?;
         decimal(&mut words, budget.rounds())?;
     }
-    words.append(&mut printed(alloc, system.rules(), system.config())?)?;
+    words.append(&mut printed(alloc, system.rules(), &system.config().to_config(alloc)?)?)?;
     Ok(words)
 }

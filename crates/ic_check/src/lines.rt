@@ -11,7 +11,7 @@ use crate::warnings::put_warnings;
 use ic_commands::{Line, read_command};
 use ic_jobs::Command;
 use ic_places::Kind;
-use ic_text::{Detail, Misread, TextFault, find_system, is_blank, is_word_byte};
+use ic_text::{Detail, Misread, TextFault, find_flat_system, is_blank, is_word_byte};
 use std::alloc::{AllocError, Global};
 
 /// The first line of a text, and what stands behind its line feed.
@@ -119,7 +119,7 @@ fn misread_of(alloc: Global, line: &[u8], fault: TextFault) -> Result<Misread, A
         return Ok(untold);
     }
     let (_, system) = line.split_at(front.len());
-    let other = match find_system(alloc, system) {
+    let other = match find_flat_system(alloc, system) {
         Ok(_) => return Ok(untold),
         Err(other) => known(other)?,
     };
@@ -152,7 +152,8 @@ fn put_asked(alloc: Global, place: &[u8], asked: &Line, out: &mut Vec<u8>) -> Re
 {
     match asked {
         Line::Command(Command::Submit(_, system, _)) => {
-            put_warnings(alloc, place, system.rules(), system.config(), out)
+            let config = system.config().to_config(alloc)?;
+            put_warnings(alloc, place, system.rules(), &config, out)
         }
         _ => Ok(()),
     }

@@ -16,7 +16,7 @@ use crate::line::{Line, Opening, Verb};
 use crate::word::{is_nothing, only_word, split_word};
 use ic_jobs::{Budget, Command};
 use ic_rules::{JobName, is_job_word};
-use ic_text::{MAX_TEXT, TextFault, is_numeral, is_system, number_in, read_system};
+use ic_text::{MAX_TEXT, TextFault, is_numeral, is_system, number_in, read_flat_system};
 use std::alloc::Global;
 
 /// Whether a word is `0`, or digits without a leading zero.
@@ -121,7 +121,7 @@ fn read_submit(alloc: Global, rest: &[u8]) -> Result<Line, TextFault>
         }
         return Err(TextFault::Limit);
     };
-    let system = read_system(alloc, source)?;
+    let system = read_flat_system(alloc, source)?;
     Ok(Line::Command(Command::Submit(name, system, budget)))
 }
 
@@ -241,7 +241,7 @@ fn line_of(alloc: Global, text: &[u8]) -> Result<Line, TextFault>
 }
 
 /// What a command line asks, or the first refusal over the whole line. Its end, if it stands there, is a blank and counts
-/// as a byte. The system of a submit is read as `read_system` reads it, and nothing else is given the allocator. Takes
+/// as a byte. The system of a submit is read as `read_flat_system` reads it, and nothing else is given the allocator. Takes
 /// n log n steps.
 pub fn read_command(alloc: Global, text: &[u8]) -> Result<Line, TextFault>
     ensures read { IfOk result (λ line. ReadsLine text.now (Ok line)) }

@@ -1,8 +1,9 @@
-//! Configurations in flat form: all their words in one list.
+//! Configurations and systems in flat form: all words of a configuration in one list.
 //!
 //! A term is written in prefix order, an agent's symbol before its arguments, so that no parentheses are needed. A `Flat`
 //! keeps the words of the interface and behind them those of the equations, and stands for the same configuration as a
-//! `Config`. Nothing here recurses on the depth of a term.
+//! `Config`; a `FlatSystem` has one beside its rules, and stands for the same as a `System`. Nothing here recurses on the
+//! depth of a term.
 #![tactic(auto)]
 
 mod arities;
@@ -11,6 +12,7 @@ mod flat;
 pub mod laws;
 mod places;
 mod reading;
+mod system;
 mod testing;
 mod word;
 mod writing;
@@ -18,5 +20,7 @@ mod writing;
 pub use arities::over;
 pub use flat::Flat;
 pub use places::end_of_term;
+pub use reading::terms_of;
+pub use system::FlatSystem;
 pub use word::{Word, terms_in};
 pub use writing::write_terms;

@@ -1,6 +1,6 @@
 //! Terms made of their words, from the last word to the first, on a stack.
 
-ghost use Rattle.std.specs.Prelude.{◌≡◌, IfOk, OnOk, map, take, drop};
+ghost use Rattle.std.specs.Prelude.{◌≡◌, IfOk, OnOk, map, reverse, take, drop};
 ghost use Rattle.ic_term.specs.Term.{tree, pair};
 ghost use Rattle.ic_flat.specs.Words.{forest, with_word};
 ghost use Rattle.ic_flat.specs.Flat.{pairs_of};
@@ -60,9 +60,9 @@ fn put_word(alloc: Global, stack: &mut Vec<Term>, word: Word) -> Result<(), Allo
     Ok(())
 }
 
-/// The terms that words write, on a stack, the first one on top.
-pub(crate) fn terms_of(alloc: Global, words: &[Word]) -> Result<Vec<Term>, AllocError>
-    ensures { IfOk result (λ stack. upright stack.items ≡ forest words.now) }
+/// The terms that words write, on a stack: the last one first, so that the first one is on top.
+pub fn terms_of(alloc: Global, words: &[Word]) -> Result<Vec<Term>, AllocError>
+    ensures { IfOk result (λ stack. reverse (map tree stack.items) ≡ forest words.now) }
 {
     let mut stack = Vec::new(alloc);
     for i in (0..words.len()).rev() {

@@ -1,9 +1,10 @@
 //! Command lines, as they are read.
 
 use ic_commands::{Line, print_reply, read_command};
+use ic_flat::FlatSystem;
 use ic_jobs::{Budget, Command, Reply};
 use ic_notation::{Trouble, decimal, printed};
-use ic_rules::{JobName, System};
+use ic_rules::JobName;
 use ic_text::print_fault;
 use std::alloc::Global;
 
@@ -50,7 +51,7 @@ fn copied(alloc: Global, old: &JobName, new: &JobName) -> Result<Vec<u8>, Troubl
 fn submitted(
     alloc: Global,
     name: &JobName,
-    system: &System,
+    system: &FlatSystem,
     budget: &Option<Budget>,
 ) -> Result<Vec<u8>, Trouble> {
     let mut line = about(alloc, b"submit ", name)?;
@@ -59,7 +60,7 @@ fn submitted(
         decimal(&mut line, budget.rounds())?;
         line.push(b' ')?;
     }
-    line.append(&mut printed(alloc, system.rules(), system.config())?)?;
+    line.append(&mut printed(alloc, system.rules(), &system.config().to_config(alloc)?)?)?;
     Ok(line)
 }
 

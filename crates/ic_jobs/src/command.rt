@@ -5,7 +5,8 @@ ghost use Rattle.ic_rules.specs.JobName.{is_job_name};
 ghost use Rattle.ic_jobs.specs.Commands.{IsSubmit};
 
 use crate::budget::{Budget, is_within};
-use ic_rules::{JobName, System};
+use ic_flat::FlatSystem;
+use ic_rules::JobName;
 use std::alloc::{AllocError, Global};
 
 /// What a client asks of a job table.
@@ -13,7 +14,7 @@ use std::alloc::{AllocError, Global};
 pub enum Command {
     /// A new job of this name, with this system, which makes at most as many rounds as its budget
     /// says.
-    Submit(JobName, System, Option<Budget>),
+    Submit(JobName, FlatSystem, Option<Budget>),
     /// A new job of the second name, which begins with the rules and the configuration that the job
     /// of the first name has, and with no budget.
     CopyJob(JobName, JobName),
@@ -63,7 +64,7 @@ fn keeps_name(name: &JobName)
 }
 
 /// A submit keeps what the types of its parts keep.
-fn keeps_submit(name: &JobName, system: &System, budget: &Option<Budget>)
+fn keeps_submit(name: &JobName, system: &FlatSystem, budget: &Option<Budget>)
     ensures { IsSubmit name.now system.now budget.now }
 {
     // Read for the proof: what each type keeps is known once a part of it was read.

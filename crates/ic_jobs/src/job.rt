@@ -7,10 +7,10 @@ ghost use Rattle.ic_jobs.specs.Job.{open_state, state_after};
 use crate::budget::{Budget, is_used_up, is_within};
 use crate::shown::ShownJob;
 use crate::state::State;
-use ic_flat::{Flat, over};
+use ic_flat::{Flat, FlatSystem, over};
 use ic_flat_round::{FlatRules, quiet};
 use ic_pool::{Flight, MAX_ROUNDS};
-use ic_rules::{JobName, RuleSet, System};
+use ic_rules::{JobName, RuleSet};
 use std::alloc::{AllocError, Global};
 use std::marker::Model;
 use std::sync::Arc;
@@ -135,11 +135,11 @@ impl Job {
         }
     }
 
-    /// A job as it begins. It shares the rules of the system, and has its configuration in words.
+    /// A job as it begins. It shares the rules of the system, and has its configuration.
     pub(crate) fn begin(
         alloc: Global,
         name: JobName,
-        system: System,
+        system: FlatSystem,
         budget: Option<Budget>,
     ) -> Result<Job, AllocError>
         ensures job { IfOk result (λ job. job ≡ begun name system budget) }
@@ -148,7 +148,6 @@ impl Job {
         let (rules, config) = system.into_parts();
         let rules = FlatRules::new(alloc, rules)?;
         let rules = Arc::new(alloc, rules)?;
-        let config = Flat::from_config(alloc, &config)?;
         let config = Arc::new(alloc, config)?;
         Ok(Job::begun(name, rules, config, budget))
     }

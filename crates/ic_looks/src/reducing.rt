@@ -28,7 +28,7 @@ pub fn reduce<M: Maker>(
     alloc: Global,
     maker: &M,
     rules: &FlatRules,
-    config: Config,
+    config: Flat,
     most: u64,
 ) -> Result<Reduced, RoundFault>
     requires { IsTrue (is_over rules.now.symbols config) }
@@ -42,8 +42,7 @@ pub fn reduce<M: Maker>(
     ensures refused { IfErr result (λ fault. fault ≢ RoundFault.Memory
         → (rounds : ℕ) × IsRefusedAfter rules.now.rules config most rounds fault) }
 {
-    let start = Flat::from_config(alloc, &config)?;
-    let (end, rounds) = make_rounds(alloc, maker, rules, start, most)?;
+    let (end, rounds) = make_rounds(alloc, maker, rules, config, most)?;
     let config = end.to_config(alloc)?;
     let is_quiet = quiet(rules.rules(), &end);
     Ok(Reduced {

@@ -23,7 +23,7 @@ use ic_flat_round::FlatRules;
 use ic_places::{Kind, refused};
 use ic_rules::RuleSet;
 use ic_streams::{StreamFault, config_line, read_text, write_line};
-use ic_text::find_system;
+use ic_text::{find_flat_system, find_system};
 use std::alloc::{AllocError, Global};
 use std::io::{Read, Write};
 
@@ -140,7 +140,7 @@ fn reduced_line<M: Maker>(
     ensures sort { IfErr result
         (λ fault. (fault ≢ StreamFault.Write) × (fault ≢ StreamFault.Read)) }
 {
-    let system = match find_system(alloc, text) {
+    let system = match find_flat_system(alloc, text) {
         Ok(found) => found,
         Err(misread) => return Err(refused(alloc, Kind::System, text, misread, told)),
     };

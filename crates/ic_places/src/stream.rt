@@ -18,7 +18,7 @@ use ic_flat_round::{FlatRules, round};
 use ic_round::{RoundFault, settle};
 use ic_streams::{StreamFault, config_line, read_text, write_line};
 use ic_term::Config;
-use ic_text::{Misread, TextFault, find_config, find_system};
+use ic_text::{Misread, TextFault, find_config, find_flat_system};
 use std::alloc::Global;
 use std::io::{Read, Write};
 
@@ -129,7 +129,7 @@ fn once_line(alloc: Global, text: &[u8], told: &mut Vec<u8>) -> Result<Vec<u8>, 
     ensures sort { IfErr result
         (λ fault. (fault ≢ StreamFault.Write) × (fault ≢ StreamFault.Read)) }
 {
-    let system = match find_system(alloc, text) {
+    let system = match find_flat_system(alloc, text) {
         Ok(found) => found,
         Err(misread) => return Err(refused(alloc, Kind::System, text, misread, told)),
     };
@@ -140,13 +140,12 @@ fn once_line(alloc: Global, text: &[u8], told: &mut Vec<u8>) -> Result<Vec<u8>, 
 }
 
 /// The configuration after one round, which is made in flat form.
-fn round_of(alloc: Global, rules: &FlatRules, config: &Config) -> Result<Config, RoundFault>
+fn round_of(alloc: Global, rules: &FlatRules, config: &Flat) -> Result<Config, RoundFault>
     requires { IsTrue (is_over rules.now.symbols config.now) }
     ensures round { Answers result
         (unless_unfit rules.now.rules config.now (round rules.now.rules config.now)) }
     ensures over { IfOk result (λ after. IsTrue (is_over rules.now.symbols after)) }
 {
-    let before = Flat::from_config(alloc, config)?;
-    let after = round(alloc, rules, &before)?;
+    let after = round(alloc, rules, config)?;
     Ok(after.to_config(alloc)?)
 }

@@ -1,7 +1,7 @@
 //! What is read of a text: printed again, or the line of its refusal.
 
 use ic_notation::{Trouble, printed};
-use ic_text::{print_config, print_fault, read_config, read_system};
+use ic_text::{print_config, print_fault, read_config, read_flat_system, read_system};
 use std::alloc::Global;
 
 /// The configuration that a text means as it is printed, or the line of the refusal.
@@ -13,11 +13,31 @@ fn read_alone(alloc: Global, text: &[u8]) -> Result<Vec<u8>, Trouble> {
 }
 
 /// The same of the configuration of a system.
-pub fn system(alloc: Global, text: &[u8]) -> Result<Vec<u8>, Trouble> {
+fn read_behind_rules(alloc: Global, text: &[u8]) -> Result<Vec<u8>, Trouble> {
     match read_system(alloc, text) {
         Ok(system) => printed(alloc, system.rules(), system.config()),
         Err(fault) => Ok(print_fault(alloc, &fault)?),
     }
+}
+
+/// The same where the system is read in flat form.
+fn read_flat(alloc: Global, text: &[u8]) -> Result<Vec<u8>, Trouble> {
+    match read_flat_system(alloc, text) {
+        Ok(system) => {
+            let config = system.config().to_config(alloc)?;
+            printed(alloc, system.rules(), &config)
+        }
+        Err(fault) => Ok(print_fault(alloc, &fault)?),
+    }
+}
+
+/// What both readers of systems answer.
+pub fn system(alloc: Global, text: &[u8]) -> Result<Vec<u8>, Trouble> {
+    let line = read_behind_rules(alloc, text)?;
+    if read_flat(alloc, text)?.as_slice() != line.as_slice() {
+        return Err(Trouble("the two forms differ"));
+    }
+    Ok(line)
 }
 
 /// What both readers answer: of the text, and of the text behind an empty list of rules.

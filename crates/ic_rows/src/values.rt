@@ -1,5 +1,6 @@
 //! Values made by calls, out of parts that texts have, and what is answered where no text could ask for them.
 
+use ic_flat::{Flat, FlatSystem};
 use ic_notation::{Trouble, decimal, system_of};
 use ic_rules::{Rule, RuleFault, RuleSet, System};
 use ic_term::{
@@ -121,16 +122,24 @@ fn line_of_rules(alloc: Global, fault: RuleFault) -> Result<Vec<u8>, Trouble> {
 pub fn paired(alloc: Global, text: &[u8], other: &[u8]) -> Result<Vec<u8>, Trouble> {
     let (_, config) = system_of(alloc, other)?.into_parts();
     let (rules, _) = system_of(alloc, text)?.into_parts();
-    match System::new(rules, config) {
-        Some(system) => line_of_copy(alloc, &system),
-        None => Ok(Vec::from_slice(alloc, b"none")?),
+    let flat = FlatSystem::new(rules.clone()?, Flat::from_config(alloc, &config)?);
+    match (System::new(rules, config), flat) {
+        (Some(system), Some(flat)) => line_of_copies(alloc, &system, &flat),
+        (None, None) => Ok(Vec::from_slice(alloc, b"none")?),
+        _ => Err(Trouble("the two forms differ")),
     }
 }
 
-/// Whether a copy of a system is the same.
-fn line_of_copy(alloc: Global, system: &System) -> Result<Vec<u8>, Trouble> {
-    let copy = system.copy(alloc)?;
-    let same = **copy.rules() == **system.rules() && copy.config() == system.config();
+fn are_same(left: &System, right: &System) -> bool {
+    **left.rules() == **right.rules() && left.config() == right.config()
+}
+
+/// Whether copies of a system and of one in flat form, and the system in flat form, are the same as the first.
+fn line_of_copies(alloc: Global, system: &System, flat: &FlatSystem) -> Result<Vec<u8>, Trouble> {
+    let made = FlatSystem::from_system(alloc, system)?;
+    let same = are_same(&system.copy(alloc)?, system)
+        && are_same(&flat.copy(alloc)?.to_system(alloc)?, system)
+        && are_same(&made.to_system(alloc)?, system);
     let line = if same { "a system" } else { "another copy" };
     Ok(Vec::from_slice(alloc, line.as_bytes())?)
 }

@@ -45,6 +45,14 @@ impl System {
         Some(System { rules, config })
     }
 
+    /// The system of parts that are known to fit.
+    pub fn from_parts(rules: Arc<RuleSet>, config: Config) -> System
+        requires { IsTrue (is_over (arc_value rules).symbols config) }
+        ensures { result ≡ record { rules = arc_value rules; config = config } }
+    {
+        System { rules, config }
+    }
+
     pub fn rules(&self) -> &Arc<RuleSet>
         ensures rules { arc_value result.now ≡ self.now.rules }
         ensures sound { IsTrue (is_over self.now.rules.symbols self.now.config) }

@@ -18,8 +18,8 @@ use Rattle.ic_text.specs.declared.misread.Detail.TheVariants.{Passed}
 use Rattle.ic_text.specs.declared.misread.Limit.{Limit as Bound}
 use Rattle.ic_text.specs.declared.misread.Limit.TheVariants.{NameNumber, Symbols}
 use Rattle.ic_text.specs.declared.number.Clash.{Clash}
-use Rattle.ic_text.specs.declared.number.Item.{Item}
-use Rattle.ic_text.specs.declared.number.Item.TheVariants.{Name, Symbol as Agent}
+use Rattle.ic_flat.specs.declared.word.Word.{Word}
+use Rattle.ic_flat.specs.declared.word.Word.TheVariants.{Name, Agent}
 use Rattle.ic_text.specs.declared.number.Numbering.{Numbering}
 use Rattle.ic_text.specs.declared.prefix.Node.{Node}
 use Rattle.ic_text.specs.declared.refusal.Refusal.{Refusal}
@@ -99,7 +99,7 @@ module _ (front : List Symbol) (w : Symbol) (within : are_within front ≡ true)
   joins : is_word_in_limits w ≡ true → nat_le (length (table_with table w)) MAX_SYMBOLS ≡ true → are_within more ≡ true
   joins low few = within_more ∙ and_from _ _ (and_from _ _ words_within (and_from _ _ low refl)) few
 
-  pub kept_within : (item : Item) → item_found table w ≡ Ok item → are_within more ≡ true
+  pub kept_within : (item : Word) → item_found table w ≡ Ok item → are_within more ≡ true
   kept_within item e = by_outcome what
     where
       by_outcome : Outcome table w [] → are_within more ≡ true
@@ -110,7 +110,7 @@ module _ (front : List Symbol) (w : Symbol) (within : are_within front ≡ true)
       by_outcome (limited found beyond) = cc
       by_outcome (clashed n found is over same) = cc
 
-  pub kept_agree : (item : Item) → item_found table w ≡ Ok item → agree front ≡ true → agree more ≡ true
+  pub kept_agree : (item : Word) → item_found table w ≡ Ok item → agree front ≡ true → agree more ≡ true
   kept_agree item e so_far = by_outcome what
     where
       by_outcome : Outcome table w [] → agree more ≡ true
@@ -297,7 +297,7 @@ module _ (ws : List Symbol) (k : ℕ) (w : Symbol) (old : Numbering) (so_far : S
   front_within : are_within the_front ≡ true
   front_within = so_far.within k (omega arith)
 
-  found_here : (r : Result Item SymbolFault) → item_found old.symbols w ≡ r → item_found (table_over [] the_front) w ≡ r
+  found_here : (r : Result Word SymbolFault) → item_found old.symbols w ≡ r → item_found (table_over [] the_front) w ≡ r
   found_here r e = ap (λ t. item_found t w) (sym so_far.table) ∙ e
 
   going : go_on (item_found old.symbols w) (λ item. go (table_with old.symbols w) (is_some old.clash) (old.items.items ++ item ∷ []) (drop (k + 1) ws)) (go old.symbols true old.items.items (drop (k + 1) ws)) ≡ numbered_words ws
@@ -318,12 +318,12 @@ module _ (ws : List Symbol) (k : ℕ) (w : Symbol) (old : Numbering) (so_far : S
   }
 
   module _ (new : Numbering) where
-    kept_clash : (item : Item) → item_found old.symbols w ≡ Ok item → (c : Option Clash) → ClashIn ws k c → ClashIn ws (k + 1) c
+    kept_clash : (item : Word) → item_found old.symbols w ≡ Ok item → (c : Option Clash) → ClashIn ws k c → ClashIn ws (k + 1) c
     kept_clash item e None agrees =
         one_more ws k agree agrees (ap agree stands.front ∙ kept_agree the_front w front_within item (found_here _ e) (agrees k (omega arith)))
     kept_clash item e (Some c) is = is
 
-    went_on : (item : Item) → item_found old.symbols w ≡ Ok item → Takes k w (Ok item) old new → SoFar ws (k + 1) new
+    went_on : (item : Word) → item_found old.symbols w ≡ Ok item → Takes k w (Ok item) old new → SoFar ws (k + 1) new
     went_on item e took = record {
       table = took.0 ∙ ap (λ t. table_with t w) so_far.table ∙ sym table_on;
       within = one_more ws k are_within so_far.within (ap are_within stands.front ∙ kept_within the_front w front_within item (found_here _ e));
@@ -373,7 +373,7 @@ module _ (ws : List Symbol) (k : ℕ) (w : Symbol) (old : Numbering) (so_far : S
     pub goes_on : Takes k w (item_found old.symbols w) old new → SoFar ws (k + 1) new
     goes_on took = by_found (item_found old.symbols w) refl took
       where
-        by_found : (r : Result Item SymbolFault) → item_found old.symbols w ≡ r → Takes k w r old new → SoFar ws (k + 1) new
+        by_found : (r : Result Word SymbolFault) → item_found old.symbols w ≡ r → Takes k w r old new → SoFar ws (k + 1) new
         by_found (Ok item) e took = went_on item e took
         by_found (Err OverLimit) e took = absurd took
         by_found (Err (OtherArity n)) e took = clashed_on n e took
@@ -391,11 +391,11 @@ module _ (ws : List Symbol) (k : ℕ) (w : Symbol) (old : Numbering) (so_far : S
       (ap (λ r. go_on r (λ x. go (table_with old.symbols w) (is_some old.clash) (old.items.items ++ x ∷ []) (drop (k + 1) ws)) (go old.symbols true old.items.items (drop (k + 1) ws))) (sym limit.0) ∙ going)
 
 -- what one word does, by what was found of it
-pub takes_item : (k : ℕ) (w : Symbol) (found : Result Item SymbolFault) (item : Item) (old new : Numbering) → Ok item ≡ found
+pub takes_item : (k : ℕ) (w : Symbol) (found : Result Word SymbolFault) (item : Word) (old new : Numbering) → Ok item ≡ found
     → new.symbols ≡ table_with old.symbols w → new.items.items ≡ old.items.items ++ item ∷ [] → new.clash ≡ old.clash → Takes k w found old new
 takes_item k w found item old new e symbols items clash = subst (λ r. Takes k w r old new) e (symbols, items, clash)
 
-pub takes_clash : (k : ℕ) (w : Symbol) (found : Result Item SymbolFault) (n first : ℕ) (old new : Numbering) → Err (OtherArity n) ≡ found
+pub takes_clash : (k : ℕ) (w : Symbol) (found : Result Word SymbolFault) (n first : ℕ) (old new : Numbering) → Err (OtherArity n) ≡ found
     → new.symbols ≡ old.symbols → new.items.items ≡ old.items.items → symbol_arity new.symbols n ≡ Some first
     → new.clash ≡ option_or old.clash (Some (record { word = k; first = first; second = w.arity })) → Takes k w found old new
 takes_clash k w found n first old new e symbols items known clash =
@@ -403,7 +403,7 @@ takes_clash k w found n first old new e symbols items known clash =
     subst (λ r. Takes k w r old new) e
     (symbols, items, clash ∙ ap (λ x. option_or old.clash (Some (record { word = k; first = x; second = w.arity }))) (sym is_first))
 
-pub stops_limit : (k : ℕ) (w : Symbol) (found : Result Item SymbolFault) (r : Refusal) (limit : Bound) → Err OverLimit ≡ found
+pub stops_limit : (k : ℕ) (w : Symbol) (found : Result Word SymbolFault) (r : Refusal) (limit : Bound) → Err OverLimit ≡ found
     → r ≡ record { fault = Limit; word = Some k; detail = Passed limit } → limit ≡ limit_of w → Stops k w found r
 stops_limit k w found r limit e is same = inr (sym e, is ∙ ap (λ l. record { fault = Limit; word = Some k; detail = Passed l }) same)
 

@@ -10,7 +10,7 @@ use Rattle.ic_rules.specs.declared.limits.TheConstants.{MAX_RULES, MAX_RULE_NODE
 use Rattle.ic_text.specs.declared.excess.Excess.{Excess}
 use Rattle.ic_text.specs.declared.misread.Limit.{Limit as Bound}
 use Rattle.ic_text.specs.declared.misread.Limit.TheVariants.{Rules, RuleNodes, Interface, Nodes}
-use Rattle.ic_text.specs.declared.number.Item.{Item}
+use Rattle.ic_flat.specs.declared.word.Word.{Word}
 use Rattle.ic_text.specs.declared.prefix.Node.{Node}
 use Rattle.ic_text.specs.Source.{Phrase, IsPhrase, phrase_nodes}
 use Rattle.ic_text.specs.Sense.{is_in_limits, sense}
@@ -117,7 +117,7 @@ sense-counted p is None kept = sense-words p is (few_nodes (alone p) kept) (few_
 sense-counted p is (Some x) kept = sense-unfit p (excess_unfit (alone p) x kept)
 
 pub system-counted : (s : SystemPhrase) → IsSystemPhrase s → (o : Option Excess) → Kept s o
-    → system_sense s ≡ finished_system (2 * length s.rules) (length s.config.interface) (counted_words o (phrase_prefix (joined_phrase s)))
+    → system_sense s ≡ finished_system (length (rules_prefix s.rules)) (length s.config.interface) (counted_words o (phrase_prefix (joined_phrase s)))
 system-counted s is None kept = sense-system s is (few_rules s kept) (few_rule_nodes s kept) (few_terms s kept) (few_nodes s kept)
 system-counted s is (Some x) kept = system-unfit s (excess_unfit s x kept)
 
@@ -167,16 +167,16 @@ one_of_words s nodes None kept are = tt
 one_of_words s nodes (Some x) kept are = omega (arith, kept.inside, ap length (written-system s), ap length are, length-map nodes node_of)
 
 -- words that are numbered are all counted
-pub counted-numbered : (ws : List Symbol) (o : Option Excess) (v : List Symbol × List Item) → Ok v ≡ counted_words o ws → Ok v ≡ numbered_words ws
+pub counted-numbered : (ws : List Symbol) (o : Option Excess) (v : List Symbol × List Word) → Ok v ≡ counted_words o ws → Ok v ≡ numbered_words ws
 counted-numbered ws None v e = e
 counted-numbered ws (Some x) v e = cc
 
 -- and a limit isn't passed
-pub config_in_limits : (p : Phrase) → IsPhrase p → (o : Option Excess) → Kept (alone p) o → (v : List Symbol × List Item) → Ok v ≡ counted_words o (phrase_prefix p) → is_in_limits p ≡ true
+pub config_in_limits : (p : Phrase) → IsPhrase p → (o : Option Excess) → Kept (alone p) o → (v : List Symbol × List Word) → Ok v ≡ counted_words o (phrase_prefix p) → is_in_limits p ≡ true
 config_in_limits p is None kept v e = and_from _ _ (and_from _ _ (phrase_within p is v e) (few_terms (alone p) kept)) (few_nodes (alone p) kept)
 config_in_limits p is (Some x) kept v e = cc
 
-pub system_in_limits : (s : SystemPhrase) → IsSystemPhrase s → (o : Option Excess) → Kept s o → (v : List Symbol × List Item) → Ok v ≡ counted_words o (phrase_prefix (joined_phrase s)) → is_system_in_limits s ≡ true
+pub system_in_limits : (s : SystemPhrase) → IsSystemPhrase s → (o : Option Excess) → Kept s o → (v : List Symbol × List Word) → Ok v ≡ counted_words o (phrase_prefix (joined_phrase s)) → is_system_in_limits s ≡ true
 system_in_limits s is None kept v e =
     and_from _ _ (and_from _ _ (and_from _ _ (and_from _ _ (system_within s is v e) (few_rules s kept)) (few_rule_nodes s kept)) (few_terms s kept)) (few_nodes s kept)
 system_in_limits s is (Some x) kept v e = cc

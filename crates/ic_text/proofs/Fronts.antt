@@ -14,7 +14,7 @@ use Rattle.ic_text.specs.declared.misread.Detail.{Detail}
 use Rattle.ic_text.specs.declared.misread.Detail.TheVariants.{Passed, Arities}
 use Rattle.ic_text.specs.declared.misread.Limit.{Limit as Bound}
 use Rattle.ic_text.specs.declared.misread.Limit.TheVariants.{TextBytes, SymbolBytes, Arguments, NameNumber, Symbols, Rules, RuleNodes, Interface, Nodes}
-use Rattle.ic_text.specs.declared.number.Item.{Item}
+use Rattle.ic_flat.specs.declared.word.Word.{Word}
 use Rattle.ic_text.specs.declared.refusal.Refusal.{Refusal}
 use Rattle.ic_text.specs.Sense.{has_its_arity}
 use Rattle.ic_text.specs.Source.{Phrase, phrase_words}
@@ -50,7 +50,7 @@ module _ (terms : ℕ) (ws : List Symbol) (k : ℕ) (enough : IsEnough k (length
     | inr many ↦ absurd (omega (arith, many, leb-true (length (take k front)) MAX_NODES (kept k Nodes), ap length (take-take k k ws (omega arith)), length-front))
   ]
 
-  pub numbered-whole : (o : Option Excess) → InFront o → (v : List Symbol × List Item) → Ok v ≡ counted_words o front → front ≡ ws
+  pub numbered-whole : (o : Option Excess) → InFront o → (v : List Symbol × List Word) → Ok v ≡ counted_words o front → front ≡ ws
   numbered-whole None kept v e = all_words_here kept
   numbered-whole (Some x) is v e = cc
 

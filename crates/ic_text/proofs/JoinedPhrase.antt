@@ -50,6 +50,10 @@ sides_are : (rs : List RulePhrase) (ts : List Source) → AllByRecursion IsRuleP
 sides_are [] ts is are = are
 sides_are (r ∷ rs) ts is are = (is.0.0, (is.0.1, sides_are rs ts is.1 are))
 
+pub are-sides : (rs : List RulePhrase) → AllByRecursion IsRulePhrase rs → AllByRecursion IsSource (sides_of_rules rs)
+are-sides [] is = tt
+are-sides (r ∷ rs) is = (is.0.0, (is.0.1, are-sides rs is.1))
+
 pub is-joined : (s : SystemPhrase) → IsSystemPhrase s → IsPhrase (joined_phrase s)
 is-joined s is = record { interface = sides_are s.rules s.config.interface is.rules is.config.interface; equations = is.config.equations }
 

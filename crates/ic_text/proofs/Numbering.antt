@@ -9,8 +9,8 @@ use Rattle.ic_term.specs.declared.symbols.SymbolFault.{SymbolFault}
 use Rattle.ic_term.specs.declared.symbols.SymbolFault.TheVariants.{Limit as OverLimit, Arity as OtherArity, Memory as NoMemory}
 use Rattle.ic_term.specs.declared.limits.TheConstants.{MAX_SYMBOLS}
 use Rattle.ic_text.specs.declared.limits.TheConstants.{MAX_NAME}
-use Rattle.ic_text.specs.declared.number.Item.{Item}
-use Rattle.ic_text.specs.declared.number.Item.TheVariants.{Name, Symbol as Agent}
+use Rattle.ic_flat.specs.declared.word.Word.{Word}
+use Rattle.ic_flat.specs.declared.word.Word.TheVariants.{Name, Agent}
 use Rattle.ic_text.specs.declared.fault.TextFault.{TextFault}
 use Rattle.ic_text.specs.declared.fault.TextFault.TheVariants.{Limit, Arity, Memory}
 use Rattle.ic_text.specs.Name.{is_name, name_number}
@@ -18,26 +18,26 @@ use Rattle.ic_text.specs.inner.Numbered.{item_found, table_with, table_over, is_
 use Rattle.ic_text.proofs.TableLemmas.{slice_get-append, slice_get-next, number_of_text-append, number_of_text-next, number_of_text-lt}
 
 abbrev pub Numbering : Type 0
-Numbering = Result (List Symbol × List Item) TextFault
+Numbering = Result (List Symbol × List Word) TextFault
 
 -- goes on with an item, or with a clash noted, or refuses
-abbrev pub go_on : Result Item SymbolFault → (Item → Numbering) → Numbering → Numbering
+abbrev pub go_on : Result Word SymbolFault → (Word → Numbering) → Numbering → Numbering
 go_on (Ok item) next clashed = next item
 go_on (Err OverLimit) next clashed = Err Limit
 go_on (Err (OtherArity n)) next clashed = clashed
 go_on (Err NoMemory) next clashed = Err Memory
 
-abbrev pub finish : List Symbol → Bool → List Item → Numbering
+abbrev pub finish : List Symbol → Bool → List Word → Numbering
 finish table true items = Err Arity
 finish table false items = Ok (table, items)
 
 -- numbering word by word, which goes on behind a clash to find a limit
-abbrev pub go : List Symbol → Bool → List Item → List Symbol → Numbering
+abbrev pub go : List Symbol → Bool → List Word → List Symbol → Numbering
 go table clash items [] = finish table clash items
 go table clash items (w ∷ ws) = go_on (item_found table w) (λ item. go (table_with table w) clash (items ++ item ∷ []) ws) (go table true items ws)
 
 -- the answer over all words
-abbrev answer : List Symbol → Bool → List Item → List Symbol → Numbering
+abbrev answer : List Symbol → Bool → List Word → List Symbol → Numbering
 answer table clash items ws =
     unless_refused (list_all is_word_in_limits ws && nat_le (length (table_over table ws)) MAX_SYMBOLS)
     (not clash && list_all (is_word_over (table_over table ws)) ws)
@@ -61,7 +61,7 @@ table_over-grows (w ∷ ws) table =
 
 -- what one word does, and the other words behind it
 pub data Outcome (table : List Symbol) (w : Symbol) (ws : List Symbol) : Type 0 where
-  kept : (item : Item) → item_found table w ≡ Ok item → is_word_in_limits w ≡ true → is_word_over (table_over (table_with table w) ws) w ≡ true
+  kept : (item : Word) → item_found table w ≡ Ok item → is_word_in_limits w ≡ true → is_word_over (table_over (table_with table w) ws) w ≡ true
       → item_in (table_over (table_with table w) ws) w ≡ item → length (table_with table w) ≤ MAX_SYMBOLS → Outcome table w ws
   limited : item_found table w ≡ Err OverLimit → ((is_word_in_limits w && list_all is_word_in_limits ws) && nat_le (length (table_over (table_with table w) ws)) MAX_SYMBOLS) ≡ false → Outcome table w ws
   clashed : (n : ℕ) → item_found table w ≡ Err (OtherArity n) → is_word_in_limits w ≡ true → is_word_over (table_over (table_with table w) ws) w ≡ false
@@ -158,38 +158,38 @@ outcome table w ws fits = by_name (is_name w.text) refl
     by_name false named = symbol_outcome table w ws fits named
 
 -- the answer goes on behind a word
-answer_kept : (a A1 B o C c : Bool) (t : List Symbol) (items : List Item) (i item : Item) (rest : List Item) → a ≡ true → o ≡ true → i ≡ item
-    → unless_refused {A = List Symbol × List Item} (A1 && B) (c && C) (t, (items ++ item ∷ []) ++ rest) ≡ unless_refused ((a && A1) && B) (c && (o && C)) (t, items ++ i ∷ rest)
+answer_kept : (a A1 B o C c : Bool) (t : List Symbol) (items : List Word) (i item : Word) (rest : List Word) → a ≡ true → o ≡ true → i ≡ item
+    → unless_refused {A = List Symbol × List Word} (A1 && B) (c && C) (t, (items ++ item ∷ []) ++ rest) ≡ unless_refused ((a && A1) && B) (c && (o && C)) (t, items ++ i ∷ rest)
 answer_kept a A1 B o C c t items i item rest is over same = rw (is, over, same, append_assoc items (item ∷ []) rest) refl
 
 -- a refusal has no value
 refusal : Bool → Numbering
 refusal in_limits = cond in_limits (Err Arity) (Err Limit)
 
-refused_before : (in_limits C : Bool) (v : List Symbol × List Item) → unless_refused in_limits (not true && C) v ≡ refusal in_limits
+refused_before : (in_limits C : Bool) (v : List Symbol × List Word) → unless_refused in_limits (not true && C) v ≡ refusal in_limits
 unfolding refusal
 refused_before true C v = refl
 refused_before false C v = refl
 
-refused_here : (a A1 B o C c : Bool) (v : List Symbol × List Item) → a ≡ true → o ≡ false → unless_refused ((a && A1) && B) (c && (o && C)) v ≡ refusal (A1 && B)
+refused_here : (a A1 B o C c : Bool) (v : List Symbol × List Word) → a ≡ true → o ≡ false → unless_refused ((a && A1) && B) (c && (o && C)) v ≡ refusal (A1 && B)
 unfolding refusal
 refused_here a A1 B o C c v is over = rw (is, over) (by_cases c (A1 && B))
   where
-    by_cases : (c d : Bool) → unless_refused {A = List Symbol × List Item} d (c && false) v ≡ cond d (Err Arity) (Err Limit)
+    by_cases : (c d : Bool) → unless_refused {A = List Symbol × List Word} d (c && false) v ≡ cond d (Err Arity) (Err Limit)
     by_cases true true = refl
     by_cases true false = refl
     by_cases false true = refl
     by_cases false false = refl
 
-pub go-is : (ws table : List Symbol) (clash : Bool) (items : List Item) → length table ≤ MAX_SYMBOLS → go table clash items ws ≡ answer table clash items ws
+pub go-is : (ws table : List Symbol) (clash : Bool) (items : List Word) → length table ≤ MAX_SYMBOLS → go table clash items ws ≡ answer table clash items ws
 go-is [] table clash items fits = by_clash clash
   where
-    by_clash : (c : Bool) → finish table c items ≡ unless_refused {A = List Symbol × List Item} (nat_le (length table) MAX_SYMBOLS) (not c && true) (table, items ++ [])
+    by_clash : (c : Bool) → finish table c items ≡ unless_refused {A = List Symbol × List Word} (nat_le (length table) MAX_SYMBOLS) (not c && true) (table, items ++ [])
     by_clash true = rw (le-leb (length table) MAX_SYMBOLS fits) refl
     by_clash false = rw (le-leb (length table) MAX_SYMBOLS fits, append-nil) refl
 go-is (w ∷ ws) table clash items fits = by_outcome (outcome table w ws fits) (go-is ws)
   where
-    by_outcome : Outcome table w ws → ((t : List Symbol) (c : Bool) (is : List Item) → length t ≤ MAX_SYMBOLS → go t c is ws ≡ answer t c is ws) → go table clash items (w ∷ ws) ≡ answer table clash items (w ∷ ws)
+    by_outcome : Outcome table w ws → ((t : List Symbol) (c : Bool) (is : List Word) → length t ≤ MAX_SYMBOLS → go t c is ws ≡ answer t c is ws) → go table clash items (w ∷ ws) ≡ answer table clash items (w ∷ ws)
     by_outcome (kept item found is over same long) next =
         ap (λ r. go_on r (λ i. go (table_with table w) clash (items ++ i ∷ []) ws) (go table true items ws)) found
         ∙ next (table_with table w) clash (items ++ item ∷ []) long

@@ -18,7 +18,7 @@ use Rattle.ic_text.specs.declared.limits.TheConstants.{MAX_TEXT}
 use Rattle.ic_text.specs.declared.misread.Detail.{Detail}
 use Rattle.ic_text.specs.declared.misread.Detail.TheVariants.{Nothing, Passed, Arities}
 use Rattle.ic_text.specs.declared.misread.Limit.TheVariants.{TextBytes, SymbolBytes, Arguments, NameNumber, Symbols, Rules, RuleNodes, Interface, Nodes}
-use Rattle.ic_text.specs.declared.number.Item.{Item}
+use Rattle.ic_flat.specs.declared.word.Word.{Word}
 use Rattle.ic_text.specs.Token.{Token, words_among}
 use Rattle.ic_text.specs.Reading.{IsSpelling}
 use Rattle.ic_text.specs.Sense.{symbols_after, has_its_arity}
@@ -88,16 +88,16 @@ system_limit s low = by_cases (is_system_in_limits s) (list_all (has_its_arity (
     by_cases true true is e = neither_behind Limit (λ i x. cc) (λ i x. cc) (λ i x. cc) (λ i x. cc) _ _ _ _ _ e
 
 -- where words are numbered, their arities agree
-numbered_agree : (ws : List Symbol) (v : List Symbol × List Item) → Ok v ≡ numbered_words ws → agree ws ≡ true
+numbered_agree : (ws : List Symbol) (v : List Symbol × List Word) → Ok v ≡ numbered_words ws → agree ws ≡ true
 numbered_agree ws v e =
     agree-words ws ∙ by_cases (list_all is_word_in_limits ws && nat_le (length (table_over [] ws)) MAX_SYMBOLS) (list_all (is_word_over (table_over [] ws)) ws) e
   where
-    by_cases : (l o : Bool) → Ok v ≡ unless_refused {A = List Symbol × List Item} l o (table_over [] ws, map (item_in (table_over [] ws)) ws) → o ≡ true
+    by_cases : (l o : Bool) → Ok v ≡ unless_refused {A = List Symbol × List Word} l o (table_over [] ws, map (item_in (table_over [] ws)) ws) → o ≡ true
     by_cases true true e = refl
     by_cases true false e = cc
     by_cases false o e = cc
 
-pub system_agrees : (s : SystemPhrase) → IsSystemPhrase s → (v : List Symbol × List Item) → Ok v ≡ numbered_words (phrase_prefix (joined_phrase s))
+pub system_agrees : (s : SystemPhrase) → IsSystemPhrase s → (v : List Symbol × List Word) → Ok v ≡ numbered_words (phrase_prefix (joined_phrase s))
     → list_all (has_its_arity (system_table s)) (system_symbols s) ≡ true
 system_agrees s is v e =
     let same : symbols_among (phrase_prefix (joined_phrase s)) ≡ system_symbols s = symbols_among-phrase (joined_phrase s) (is-joined s is) ∙ symbols-joined s in

@@ -10,7 +10,7 @@ use Rattle.ic_term.specs.Tree.{names, names_of, nodes, nodes_of, pair_names, pai
 use Rattle.ic_term.specs.Configuration.{Configuration, configuration_names, configuration_nodes, one_above, third_occurrence, is_within, unless_third, restored}
 use Rattle.ic_term.specs.declared.config.ConfigFault.TheVariants.{Limit as TooMuch}
 use Rattle.ic_term.specs.declared.limits.TheConstants.{MAX_NODES, MAX_INTERFACE, MAX_SYMBOLS, MAX_NEXT}
-use Rattle.ic_text.specs.declared.number.Item.{Item}
+use Rattle.ic_flat.specs.declared.word.Word.{Word}
 use Rattle.ic_text.specs.declared.limits.TheConstants.{MAX_NAME}
 use Rattle.ic_text.specs.declared.fault.TextFault.{TextFault}
 use Rattle.ic_text.specs.declared.fault.TextFault.TheVariants.{Syntax, Limit, Arity, NameCount, Name, Twice, Lopsided, Memory}
@@ -20,9 +20,10 @@ use Rattle.ic_text.specs.declared.prefix.Node.{Node}
 use Rattle.ic_text.specs.inner.Prefix.{node_of, nodes_of as words_of}
 use Rattle.ic_text.specs.Words.{phrase_prefix}
 use Rattle.ic_text.specs.inner.Numbered.{table_over, is_word_in_limits, is_word_over, item_in, unless_refused, numbered_words, as_text_answer, Refuses}
-use Rattle.ic_text.specs.inner.Built.{built_before, configuration_from}
+use Rattle.ic_flat.specs.Words.{forest}
+use Rattle.ic_text.specs.inner.Built.{IsPaired, configuration_from}
 use Rattle.ic_text.proofs.PrefixWords.{symbols_among-phrase, names_among-phrase, limits-words, table-words, arities-words, length-phrase_prefix}
-use Rattle.ic_text.proofs.BuiltTrees.{configuration_from-built}
+use Rattle.ic_text.proofs.BuiltTrees.{configuration_from-built, paired-phrase}
 
 flat_map-map : {A B C : Type 0} (f : B → List C) (g : A → B) (xs : List A) → flat_map f (map g xs) ≡ flat_map (λ x. f (g x)) xs
 flat_map-map f g [] = refl
@@ -98,16 +99,22 @@ beside_table table (Ok c) = Ok (table, c)
 beside_table table (Err e) = Err e
 
 -- numbered words as a configuration with so many terms in its interface
-abbrev pub finished : ℕ → Result (List Symbol × List Item) TextFault → Result (List Symbol × Configuration) TextFault
-finished terms (Ok v) = beside_table v.0 (as_text_answer (restored (configuration_from terms (built_before v.1 []))))
+abbrev pub finished : ℕ → Result (List Symbol × List Word) TextFault → Result (List Symbol × Configuration) TextFault
+finished terms (Ok v) = beside_table v.0 (as_text_answer (restored (configuration_from terms (forest v.1))))
 finished terms (Err e) = Err e
 
 third_beside : (table : List Symbol) (c : Configuration) (o : Option ℕ) → unless_third_name (table, c) o ≡ beside_table table (as_text_answer (unless_third c o))
 third_beside table c None = refl
 third_beside table c (Some n) = refl
 
--- words that are numbered are within their limits
-pub numbered_within : (l o : Bool) (x v : List Symbol × List Item) → Ok v ≡ unless_refused {A = List Symbol × List Item} l o x → l ≡ true
+-- words that are numbered are these
+pub numbered_is : (l o : Bool) (x v : List Symbol × List Word) → Ok v ≡ unless_refused {A = List Symbol × List Word} l o x → v ≡ x
+numbered_is true true x v e = cc
+numbered_is true false x v e = cc
+numbered_is false o x v e = cc
+
+-- and within their limits
+pub numbered_within : (l o : Bool) (x v : List Symbol × List Word) → Ok v ≡ unless_refused {A = List Symbol × List Word} l o x → l ≡ true
 numbered_within true o x v e = refl
 numbered_within false o x v e = cc
 
@@ -115,7 +122,7 @@ module _ (p : Phrase) (is : IsPhrase p) where
   abbrev pub table : List Symbol
   table = symbol_table p
 
-  abbrev pub items : List Item
+  abbrev pub items : List Word
   items = map (item_in table) (phrase_prefix p)
 
   -- the limits of words and of their table
@@ -128,18 +135,24 @@ module _ (p : Phrase) (is : IsPhrase p) where
   abbrev value : Result (List Symbol × Configuration) TextFault
   value = unless_third_name {A = List Symbol × Configuration} (table, numbered_phrase table p) (third_occurrence (phrase_names p))
 
-  pub numbered_words-phrase : numbered_words (phrase_prefix p) ≡ unless_refused {A = List Symbol × List Item} in_limits agree (table, items)
+  pub numbered_words-phrase : numbered_words (phrase_prefix p) ≡ unless_refused {A = List Symbol × List Word} in_limits agree (table, items)
   numbered_words-phrase =
       let ws = phrase_prefix p in
       let same_table : table_over [] ws ≡ table = table-words ws [] ∙ ap (symbols_after []) (symbols_among-phrase p is) in
       let same_limits : list_all is_word_in_limits ws ≡ (list_all (λ s. fits_limits s.text s.arity) (phrase_symbols p) && list_all (λ n. nat_le n MAX_NAME) (phrase_names p)) =
       limits-words ws ∙ (λ i. list_all (λ s. fits_limits s.text s.arity) (symbols_among-phrase p is i) && list_all (λ n. nat_le n MAX_NAME) (names_among-phrase p is i)) in
       let same_arities : list_all (is_word_over table) ws ≡ agree = arities-words table ws ∙ ap (list_all (has_its_arity table)) (symbols_among-phrase p is) in
-      ap (λ t. unless_refused {A = List Symbol × List Item} (list_all is_word_in_limits ws && nat_le (length t) MAX_SYMBOLS) (list_all (is_word_over t) ws) (t, map (item_in t) ws)) same_table
-      ∙ (λ i. unless_refused {A = List Symbol × List Item} (same_limits i && nat_le (length table) MAX_SYMBOLS) (same_arities i) (table, items))
+      ap (λ t. unless_refused {A = List Symbol × List Word} (list_all is_word_in_limits ws && nat_le (length t) MAX_SYMBOLS) (list_all (is_word_over t) ws) (t, map (item_in t) ws)) same_table
+      ∙ (λ i. unless_refused {A = List Symbol × List Word} (same_limits i && nat_le (length table) MAX_SYMBOLS) (same_arities i) (table, items))
 
-  pub phrase_within : (v : List Symbol × List Item) → Ok v ≡ numbered_words (phrase_prefix p) → in_limits ≡ true
+  pub phrase_within : (v : List Symbol × List Word) → Ok v ≡ numbered_words (phrase_prefix p) → in_limits ≡ true
   phrase_within v e = numbered_within in_limits agree (table, items) v (e ∙ numbered_words-phrase)
+
+  -- where they have numbers, they write the configuration
+  pub paired_words : (v : List Symbol × List Word) → Ok v ≡ numbered_words (phrase_prefix p) → IsPaired v.1 (length p.interface)
+  paired_words v e =
+      let same : v.1 ≡ items = ap (λ (x : List Symbol × List Word). x.1) (numbered_is in_limits agree (table, items) v (e ∙ numbered_words-phrase)) in
+      rw same (paired-phrase table p is)
 
   -- where neither nodes nor terms of the interface are too many, the sense is that of the words
   pub sense-words : nat_le (phrase_nodes p) MAX_NODES ≡ true → nat_le (length p.interface) MAX_INTERFACE ≡ true → sense p ≡ finished (length p.interface) (numbered_words (phrase_prefix p))
@@ -155,7 +168,7 @@ module _ (p : Phrase) (is : IsPhrase p) where
       low : in_limits ≡ true → list_all (λ n. nat_le n MAX_NAME) (phrase_names p) ≡ true
       low all = (and_parts (list_all (λ s. fits_limits s.text s.arity) (phrase_symbols p)) (list_all (λ n. nat_le n MAX_NAME) (phrase_names p)) (and_parts (list_all (λ s. fits_limits s.text s.arity) (phrase_symbols p) && list_all (λ n. nat_le n MAX_NAME) (phrase_names p)) (nat_le (length table) MAX_SYMBOLS) all).0).1
 
-      by_cases : (a o : Bool) → in_limits ≡ a → cond a (cond o value (Err Arity)) (Err Limit) ≡ finished (length p.interface) (unless_refused {A = List Symbol × List Item} a o (table, items))
+      by_cases : (a o : Bool) → in_limits ≡ a → cond a (cond o value (Err Arity)) (Err Limit) ≡ finished (length p.interface) (unless_refused {A = List Symbol × List Word} a o (table, items))
       by_cases true true all =
           third_beside table (numbered_phrase table p) (third_occurrence (phrase_names p))
           ∙ ap (λ r. beside_table table (as_text_answer r)) (sym (restored-numbered table p few short (low all)) ∙ ap restored (sym (configuration_from-built table p is)))

@@ -1,12 +1,11 @@
 -- Numbering the words of a system and building its rules and its configuration gives its sense.
-use Rattle.std.proofs.Common.{◌≡◌, ℕ, ◌*◌, Bool, true, false, ◌&&◌, cond, List, [], ◌++◌, Option, None, Some, Result, Ok, Err, length, map, take, drop, refl, sym, ap, ◌∙◌, append_assoc}
+use Rattle.std.proofs.Common.{◌≡◌, ℕ, ◌≤◌, Bool, true, false, ◌&&◌, cond, List, [], ◌++◌, Option, None, Some, Result, Ok, Err, length, map, take, drop, refl, sym, ap, ◌∙◌, arith, length-append}
 use Rattle.std.specs.Prelude.{nat_le, sum_by}
 use Rattle.std.specs.List.{flat_map, list_all}
 use Rattle.std.proofs.lemmas.List.{length-map, map-append, take_at, drop_at}
 use Rattle.std.proofs.lemmas.List.Folds.{list_all-append}
 use Rattle.std.proofs.lemmas.Bool.{false≢true, and_parts}
 use Rattle.ic_term.specs.Symbol.{Symbol, fits_limits, is_over}
-use Rattle.ic_term.specs.Tree.{Tree}
 use Rattle.ic_term.specs.Configuration.{Configuration, third_occurrence, unless_third, restored}
 use Rattle.ic_term.specs.declared.limits.TheConstants.{MAX_NODES, MAX_INTERFACE, MAX_SYMBOLS}
 use Rattle.ic_rules.specs.Rule.{numbered}
@@ -16,27 +15,28 @@ use Rattle.ic_rules.specs.declared.limits.TheConstants.{MAX_RULES, MAX_RULE_NODE
 use Rattle.ic_rules.specs.declared.rule_set.RuleFault.{RuleFault}
 use Rattle.ic_rules.specs.declared.rule_set.RuleFault.TheVariants.{NameCount as Uncounted, Twice as Repeated, Lopsided as Uneven}
 use Rattle.ic_text.specs.declared.limits.TheConstants.{MAX_NAME}
-use Rattle.ic_text.specs.declared.number.Item.{Item}
+use Rattle.ic_flat.specs.declared.word.Word.{Word}
 use Rattle.ic_text.specs.declared.fault.TextFault.{TextFault}
 use Rattle.ic_text.specs.declared.fault.TextFault.TheVariants.{Limit, Arity, NameCount, Name, Twice, Lopsided}
 use Rattle.ic_text.specs.Source.{phrase_names, phrase_symbols, phrase_nodes}
-use Rattle.ic_text.specs.Sense.{symbols_after, has_its_arity, numbered_tree, numbered_phrase}
+use Rattle.ic_text.specs.Sense.{symbols_after, has_its_arity, numbered_phrase}
 use Rattle.ic_text.specs.SystemSource.{SystemPhrase, IsSystemPhrase, rule_symbols, rule_names, rule_nodes, system_symbols, system_names}
 use Rattle.ic_text.specs.SystemSense.{system_table, rules_over, system_parts, unless_found, system_sense}
-use Rattle.ic_text.specs.Words.{phrase_prefix}
+use Rattle.ic_text.specs.Words.{prefix, phrase_prefix, rules_prefix}
 use Rattle.ic_text.specs.inner.Numbered.{item_in, unless_refused, numbered_words, as_text_answer}
-use Rattle.ic_text.specs.inner.Built.{built_before, configuration_from, rules_in, joined}
-use Rattle.ic_text.proofs.BuiltTrees.{sides_trees, built-phrase, configuration_from-trees}
+use Rattle.ic_flat.specs.Words.{forest}
+use Rattle.ic_text.specs.inner.Built.{IsPaired, configuration_from, rules_in, joined}
+use Rattle.ic_text.proofs.BuiltTrees.{built-terms, configuration_from-built, paired-phrase}
 use Rattle.ic_text.proofs.BuiltRules.{rules_in-sides, few-rules_over, fit-rules_over}
-use Rattle.ic_text.proofs.JoinedPhrase.{sides_of_rules, joined_phrase, symbols-joined, names-joined, length-sides_of_rules, is-joined}
+use Rattle.ic_text.proofs.JoinedPhrase.{are-sides, sides_of_rules, sides_through, joined_phrase, prefix-joined, symbols-joined, names-joined, is-joined}
 use Rattle.ic_text.proofs.Over.{over-numbered_phrase}
-use Rattle.ic_text.proofs.Sensing.{numbered_within, numbered_words-phrase, restored-numbered}
+use Rattle.ic_text.proofs.Sensing.{numbered_is, numbered_within, numbered_words-phrase, restored-numbered}
 
--- numbered words as a system, the first so many terms of which are the sides of rules
-abbrev pub finished_system : ℕ → ℕ → Result (List Symbol × List Item) TextFault → Result SystemParts TextFault
-finished_system agents terms (Ok v) =
-    joined (built_rules v.0 (rules_in (take agents (built_before v.1 [])))) (as_text_answer (restored (configuration_from terms (drop agents (built_before v.1 [])))))
-finished_system agents terms (Err e) = Err e
+-- numbered words as a system, so many of them those of rules
+abbrev pub finished_system : ℕ → ℕ → Result (List Symbol × List Word) TextFault → Result SystemParts TextFault
+finished_system before terms (Ok v) =
+    joined (built_rules v.0 (rules_in (forest (take before v.1)))) (as_text_answer (restored (configuration_from terms (forest (drop before v.1)))))
+finished_system before terms (Err e) = Err e
 
 module _ (s : SystemPhrase) (is : IsSystemPhrase s) where
   abbrev pub table : List Symbol
@@ -45,7 +45,7 @@ module _ (s : SystemPhrase) (is : IsSystemPhrase s) where
   abbrev pub words : List Symbol
   words = phrase_prefix (joined_phrase s)
 
-  abbrev items : List Item
+  abbrev items : List Word
   items = map (item_in table) words
 
   abbrev pub in_limits : Bool
@@ -54,41 +54,56 @@ module _ (s : SystemPhrase) (is : IsSystemPhrase s) where
   abbrev agree : Bool
   agree = list_all (has_its_arity table) (system_symbols s)
 
-  numbered_words-system : numbered_words words ≡ unless_refused {A = List Symbol × List Item} in_limits agree (table, items)
+  numbered_words-system : numbered_words words ≡ unless_refused {A = List Symbol × List Word} in_limits agree (table, items)
   numbered_words-system = numbered_words-phrase (joined_phrase s) (is-joined s is) ∙ (λ i. over (symbols-joined s i) (names-joined s i))
     where
-      over : List Symbol → List ℕ → Result (List Symbol × List Item) TextFault
-      over ss ns = unless_refused {A = List Symbol × List Item}
+      over : List Symbol → List ℕ → Result (List Symbol × List Word) TextFault
+      over ss ns = unless_refused {A = List Symbol × List Word}
           ((list_all (λ x. fits_limits x.text x.arity) ss && list_all (λ n. nat_le n MAX_NAME) ns) && nat_le (length (symbols_after [] ss)) MAX_SYMBOLS)
           (list_all (has_its_arity (symbols_after [] ss)) ss) (symbols_after [] ss, map (item_in (symbols_after [] ss)) words)
 
-  pub system_within : (v : List Symbol × List Item) → Ok v ≡ numbered_words words → in_limits ≡ true
+  pub system_within : (v : List Symbol × List Word) → Ok v ≡ numbered_words words → in_limits ≡ true
   system_within v e = numbered_within in_limits agree (table, items) v (e ∙ numbered_words-system)
 
-  -- the sides of the rules, and the terms of the configuration
-  abbrev sides : List Tree
-  sides = map (numbered_tree table) (sides_of_rules s.rules)
+  -- the words of the rules, and behind them those of the configuration
+  abbrev before : ℕ
+  before = length (rules_prefix s.rules)
 
-  abbrev others : List Tree
-  others = map (numbered_tree table) s.config.interface ++ sides_trees table s.config.equations
+  abbrev items_before : List Word
+  items_before = map (item_in table) (rules_prefix s.rules)
 
-  trees-system : built_before items [] ≡ sides ++ others
-  trees-system =
-      built-phrase table (joined_phrase s) (is-joined s is)
-      ∙ ap (λ l. l ++ sides_trees table s.config.equations) (map-append (numbered_tree table) (sides_of_rules s.rules) s.config.interface)
-      ∙ append_assoc sides (map (numbered_tree table) s.config.interface) (sides_trees table s.config.equations)
+  abbrev items_behind : List Word
+  items_behind = map (item_in table) (phrase_prefix s.config)
 
-  size : length sides ≡ 2 * length s.rules
-  size = length-map (sides_of_rules s.rules) (numbered_tree table) ∙ length-sides_of_rules s.rules
+  items-parted : items ≡ items_before ++ items_behind
+  items-parted = ap (map (item_in table)) (prefix-joined s) ∙ map-append (item_in table) (rules_prefix s.rules) (phrase_prefix s.config)
 
-  rules-built : rules_in (take (2 * length s.rules) (built_before items [])) ≡ rules_over s
-  rules-built = ap (λ l. rules_in (take (2 * length s.rules) l)) trees-system ∙ ap rules_in (take_at sides others (2 * length s.rules) size) ∙ rules_in-sides table s.rules
+  size : length items_before ≡ before
+  size = length-map (rules_prefix s.rules) (item_in table)
 
-  config-built : configuration_from (length s.config.interface) (drop (2 * length s.rules) (built_before items [])) ≡ numbered_phrase table s.config
-  config-built =
-      ap (λ l. configuration_from (length s.config.interface) (drop (2 * length s.rules) l)) trees-system
-      ∙ ap (configuration_from (length s.config.interface)) (drop_at sides others (2 * length s.rules) size)
-      ∙ configuration_from-trees table s.config
+  front-is : take before items ≡ items_before
+  front-is = ap (take before) items-parted ∙ take_at items_before items_behind before size
+
+  rest-is : drop before items ≡ items_behind
+  rest-is = ap (drop before) items-parted ∙ drop_at items_before items_behind before size
+
+  rules-built : rules_in (forest (take before items)) ≡ rules_over s
+  rules-built =
+      ap (λ l. rules_in (forest l)) (front-is ∙ ap (map (item_in table)) (sym (sides_through prefix s.rules)))
+      ∙ ap rules_in (built-terms table (sides_of_rules s.rules) (are-sides s.rules is.rules))
+      ∙ rules_in-sides table s.rules
+
+  config-built : configuration_from (length s.config.interface) (forest (drop before items)) ≡ numbered_phrase table s.config
+  config-built = ap (λ l. configuration_from (length s.config.interface) (forest l)) rest-is ∙ configuration_from-built table s.config is.config
+
+  -- where they have numbers, those of the configuration write it
+  pub paired-system : (v : List Symbol × List Word) → Ok v ≡ numbered_words words → (before ≤ length v.1) × IsPaired (drop before v.1) (length s.config.interface)
+  paired-system v e =
+      let same : v.1 ≡ items = ap (λ (x : List Symbol × List Word). x.1) (numbered_is in_limits agree (table, items) v (e ∙ numbered_words-system)) in
+      rw same (
+        omega (arith, ap length items-parted, length-append items_before items_behind, size),
+        rw rest-is (paired-phrase table s.config is.config),
+      )
 
   abbrev config : Configuration
   config = numbered_phrase table s.config
@@ -122,8 +137,8 @@ module _ (s : SystemPhrase) (is : IsSystemPhrase s) where
 
   -- where neither rules, their nodes, terms of the interface nor nodes are too many, the sense is that of the words
   pub sense-system : nat_le (length s.rules) MAX_RULES ≡ true → nat_le (sum_by rule_nodes s.rules) MAX_RULE_NODES ≡ true → nat_le (length s.config.interface) MAX_INTERFACE ≡ true → nat_le (phrase_nodes s.config) MAX_NODES ≡ true
-      → system_sense s ≡ finished_system (2 * length s.rules) (length s.config.interface) (numbered_words words)
-  sense-system few small short low = whole ∙ by_cases in_limits agree refl refl ∙ ap (finished_system (2 * length s.rules) (length s.config.interface)) (sym numbered_words-system)
+      → system_sense s ≡ finished_system before (length s.config.interface) (numbered_words words)
+  sense-system few small short low = whole ∙ by_cases in_limits agree refl refl ∙ ap (finished_system before (length s.config.interface)) (sym numbered_words-system)
     where
       whole : system_sense s ≡ cond in_limits (cond agree value (Err Arity)) (Err Limit)
       whole = rw (few, small, short, low) (by_limits in_limits)
@@ -140,7 +155,7 @@ module _ (s : SystemPhrase) (is : IsSystemPhrase s) where
       over : agree ≡ true → is_over table config ≡ true
       over agreed = over-numbered_phrase table s.config (and_parts (list_all (has_its_arity table) (flat_map rule_symbols s.rules)) (list_all (has_its_arity table) (phrase_symbols s.config)) (sym (list_all-append (has_its_arity table) (flat_map rule_symbols s.rules) (phrase_symbols s.config)) ∙ agreed)).1
 
-      by_cases : (a o : Bool) → in_limits ≡ a → agree ≡ o → cond a (cond o value (Err Arity)) (Err Limit) ≡ finished_system (2 * length s.rules) (length s.config.interface) (unless_refused {A = List Symbol × List Item} a o (table, items))
+      by_cases : (a o : Bool) → in_limits ≡ a → agree ≡ o → cond a (cond o value (Err Arity)) (Err Limit) ≡ finished_system before (length s.config.interface) (unless_refused {A = List Symbol × List Word} a o (table, items))
       by_cases true true all agreed =
           let rules = ap (built_rules table) rules-built ∙ rules-are few small agreed in
           let restored_is = ap restored config-built ∙ restored-numbered table s.config low short (low_names all) in

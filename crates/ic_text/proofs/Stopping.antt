@@ -12,7 +12,7 @@ use Rattle.ic_text.specs.declared.misread.Detail.{Detail}
 use Rattle.ic_text.specs.declared.misread.Detail.TheVariants.{Passed, Arities}
 use Rattle.ic_text.specs.declared.misread.Limit.{Limit as Bound}
 use Rattle.ic_text.specs.declared.misread.Limit.TheVariants.{TextBytes, SymbolBytes, Arguments, NameNumber, Symbols, Rules, RuleNodes, Interface, Nodes}
-use Rattle.ic_text.specs.declared.number.Item.{Item}
+use Rattle.ic_flat.specs.declared.word.Word.{Word}
 use Rattle.ic_text.specs.declared.prefix.Node.{Node}
 use Rattle.ic_text.specs.declared.refusal.Refusal.{Refusal}
 use Rattle.ic_text.specs.Words.{Written, all_words}
@@ -66,7 +66,7 @@ none_there (Some x) k none before = by_word (eqb x.word k) refl none
     by_word false at e = omega (arith, before, unequal x.word k at)
 
 -- a word before it is refused
-module _ (nodes : List Node) (k : ℕ) (d : Node) (found : Result Item SymbolFault) (r : Refusal) (stops : Stops k (node_of (get_or nodes k d)) found r) where
+module _ (nodes : List Node) (k : ℕ) (d : Node) (found : Result Word SymbolFault) (r : Refusal) (stops : Stops k (node_of (get_or nodes k d)) found r) where
   pub before_there : (o : Option Excess) → IfSome o (λ e. k + 1 ≤ e.word) → IsBefore o r.word
   before_there None before = tt
   before_there (Some x) before = by_stop stops

@@ -8,7 +8,6 @@ pub mod TailScan
 pub mod Numbered
 pub mod Counted
 pub mod Refused
-pub mod Terms
 pub mod Built
 pub mod Printing
 pub mod WordTexts

@@ -1,9 +1,11 @@
 //! A refusal of a text, and its place.
 
 ghost use Rattle.std.specs.Prelude.{◌≡◌, None};
+ghost use Rattle.ic_text.specs.declared.fault.TextFault.TheVariants.{Memory};
 ghost use Rattle.ic_text.specs.declared.misread.Detail.TheVariants.{Nothing};
 
 use crate::fault::TextFault;
+use std::alloc::AllocError;
 
 /// A limit that a text may pass.
 #[derive(Clone, Copy, Debug, PartialEq, Eq)]
@@ -52,5 +54,18 @@ impl From<Misread> for TextFault {
 
     fn from(misread: Misread) -> TextFault {
         misread.fault
+    }
+}
+
+impl From<AllocError> for Misread {
+    ghost from_gives = { λ _ misread.
+        misread ≡ record { fault = Memory; place = None; detail = Nothing } };
+
+    fn from(_error: AllocError) -> Misread {
+        Misread {
+            fault: TextFault::Memory,
+            place: None,
+            detail: Detail::Nothing,
+        }
     }
 }

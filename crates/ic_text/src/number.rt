@@ -1,4 +1,4 @@
-//! Symbols as numbers: the limits of words, and the arities of symbols.
+//! Words of a text as words in flat form, symbols as numbers: the limits of words, and the arities of symbols.
 
 ghost use Rattle.std.specs.Prelude.{◌≡◌, ◌<◌, is_ok, [], if◌then◌else◌, length, IfErr, IfSome, OnOk};
 ghost use Rattle.std.specs.List.{AllByRecursion};
@@ -12,19 +12,12 @@ use crate::misread::Limit;
 use crate::name::{is_name, name_number};
 use crate::prefix::Node;
 use crate::refusal::Refusal;
+use ic_flat::Word;
 use ic_term::{MAX_ARITY, MAX_SYMBOL_TEXT, SymbolFault, Symbols};
 use std::alloc::Global;
 
-/// A word of a configuration in prefix notation: a name, or the number of a symbol with how many arguments it
-/// has.
-#[derive(Clone, Copy)]
-pub(crate) enum Item {
-    Name(u64),
-    Symbol(u32, usize),
-}
-
 /// A word with its number, which a symbol gets from the table.
-fn item_of(symbols: &mut Symbols, node: &Node) -> Result<Item, SymbolFault>
+fn item_of(symbols: &mut Symbols, node: &Node) -> Result<Word, SymbolFault>
     requires { IsWord (node_of node.now) }
     ensures item { ItemAnswers result (item_found symbols.old (node_of node.now)) }
     ensures symbols { symbols.new ≡
@@ -32,12 +25,12 @@ fn item_of(symbols: &mut Symbols, node: &Node) -> Result<Item, SymbolFault>
 {
     if is_name(node.text) {
         match name_number(node.text) {
-            Some(name) => Ok(Item::Name(name)),
+            Some(name) => Ok(Word::Name(name)),
             None => Err(SymbolFault::Limit),
         }
     } else {
         let number = symbols.number(node.text, node.arity)?;
-        Ok(Item::Symbol(number, node.arity))
+        Ok(Word::Agent(number, node.arity))
     }
 }
 
@@ -68,7 +61,7 @@ fn limit_of(node: &Node) -> Limit
 #[derive(Drop)]
 pub(crate) struct Numbering {
     symbols: Symbols,
-    items: Vec<Item>,
+    items: Vec<Word>,
     clash: Option<Clash>,
 }
 
@@ -107,7 +100,7 @@ pub(crate) fn number_words(
     alloc: Global,
     nodes: &[Node],
     excess: Option<Excess>,
-) -> Result<(Symbols, Vec<Item>), Refusal>
+) -> Result<(Symbols, Vec<Word>), Refusal>
     requires words { AllByRecursion IsWord (nodes_of nodes.now) }
     requires inside { IfSome excess (λ e. e.word < length nodes.now) }
     ensures numbers { Gives (λ v. (v.0, v.1.items)) (bare result)

@@ -36,8 +36,8 @@ fn sense_of(alloc: Global, text: &[u8], counts: Counts) -> Result<(Symbols, Conf
     let kept = enough_of(counts.words);
     let prefix = front_of(alloc, text, kept, counts.words - kept)?;
     let excess = config_excess(&prefix.nodes, prefix.terms);
-    let (symbols, items) = number_words(alloc, &prefix.nodes, excess)?;
-    match config_of(alloc, items, prefix.terms) {
+    let (symbols, words) = number_words(alloc, &prefix.nodes, excess)?;
+    match config_of(alloc, words, prefix.terms) {
         Ok(config) => Ok((symbols, config)),
         Err(fault) => Err(refusal_of(fault, &prefix.nodes, 0)),
     }

@@ -21,11 +21,12 @@ use crate::prefix::prefix_of;
 use crate::refusal::Refusal;
 use crate::survey::{Counts, survey_system};
 use crate::syntax::split_at_brace;
+use ic_flat::FlatSystem;
 use ic_rules::System;
 use std::alloc::Global;
 
 /// The sense of a text that spells a system of so many words. Every limit is tested before a term is built.
-fn sense_of(alloc: Global, text: &[u8], counts: Counts) -> Result<System, Refusal>
+fn sense_of(alloc: Global, text: &[u8], counts: Counts) -> Result<FlatSystem, Refusal>
     requires { Tells IsSystemPhrase system_words text.now (Some counts) }
     ensures sense { (s : SystemPhrase) → SpellsSystem text.now s →
         Gives (λ system. system) (bare result) (system_sense s) }
@@ -38,15 +39,15 @@ fn sense_of(alloc: Global, text: &[u8], counts: Counts) -> Result<System, Refusa
     let before = rules.words();
     rules.nodes.append(&mut config.nodes)?;
     let excess = excess_of(&rules.nodes, before, rules.terms, config.terms);
-    let (symbols, items) = number_words(alloc, &rules.nodes, excess)?;
-    match system_of(alloc, symbols, items, rules.terms, config.terms) {
+    let (symbols, words) = number_words(alloc, &rules.nodes, excess)?;
+    match system_of(alloc, symbols, words, before, config.terms) {
         Ok(system) => Ok(system),
         Err(fault) => Err(refusal_of(fault, &rules.nodes, before)),
     }
 }
 
 /// The same, with the place of the refusal in the text.
-fn system_at(alloc: Global, text: &[u8], counts: Counts) -> Result<System, Misread>
+fn system_at(alloc: Global, text: &[u8], counts: Counts) -> Result<FlatSystem, Misread>
     requires short { length text.now ≤ MAX_TEXT }
     requires spelled { Tells IsSystemPhrase system_words text.now (Some counts) }
     ensures sense { (s : SystemPhrase) → SpellsSystem text.now s →
@@ -61,11 +62,12 @@ fn system_at(alloc: Global, text: &[u8], counts: Counts) -> Result<System, Misre
     }
 }
 
-/// The system that a text means, with its symbols numbered by first occurrence, rules first, the names of each rule
-/// numbered by first occurrence, and `next` one above the greatest name of the configuration, or the first refusal and
-/// its place. Takes n log n steps. Limits are settled before anything recurses on nesting.
-pub fn find_system(alloc: Global, text: &[u8]) -> Result<System, Misread>
+/// The system that a text means in flat form, with its symbols numbered by first occurrence, rules first, the names of
+/// each rule numbered by first occurrence, and `next` one above the greatest name of the configuration, or the first
+/// refusal and its place. Takes n log n steps. Nothing recurses on the nesting of the configuration.
+pub fn find_flat_system(alloc: Global, text: &[u8]) -> Result<FlatSystem, Misread>
     ensures read { IfOk result (λ system. ReadsSystem text.now (Ok system)) }
+    ensures spelled { IfOk result (λ _. (s : SystemPhrase) × SpellsSystem text.now s) }
     ensures refused { IfErr result
         (λ misread. misread.fault ≢ TextFault.Memory → ReadsSystem text.now (Err misread.fault)) }
     ensures placed { IfErr result
@@ -89,6 +91,32 @@ pub fn find_system(alloc: Global, text: &[u8]) -> Result<System, Misread>
             detail: Detail::Nothing,
         }),
     }
+}
+
+/// The system that `find_flat_system` answers, with its configuration as terms and equations, or its refusal.
+pub fn find_system(alloc: Global, text: &[u8]) -> Result<System, Misread>
+    ensures read { IfOk result (λ system. ReadsSystem text.now (Ok system)) }
+    ensures refused { IfErr result
+        (λ misread. misread.fault ≢ TextFault.Memory → ReadsSystem text.now (Err misread.fault)) }
+    ensures placed { IfErr result
+        (λ misread. IsPlaced IsSystemPhrase system_words written_system text.now misread.fault
+        misread.place misread.detail) }
+    ensures memory { IfErr result (λ misread. misread.fault ≡ TextFault.Memory
+        → (s : SystemPhrase) × SpellsSystem text.now s) }
+{
+    let system = find_flat_system(alloc, text)?;
+    Ok(system.to_system(alloc)?)
+}
+
+/// The system that `find_flat_system` answers, or its refusal without the place.
+pub fn read_flat_system(alloc: Global, text: &[u8]) -> Result<FlatSystem, TextFault>
+    ensures read { IfOk result (λ system. ReadsSystem text.now (Ok system)) }
+    ensures refused { IfErr result
+        (λ fault. fault ≢ TextFault.Memory → ReadsSystem text.now (Err fault)) }
+    ensures memory { result ≡ Err TextFault.Memory
+        → (s : SystemPhrase) × SpellsSystem text.now s }
+{
+    Ok(find_flat_system(alloc, text)?)
 }
 
 /// The system that `find_system` answers, or its refusal without the place.

@@ -17,7 +17,8 @@ use crate::limits::MAX_JOBS;
 use crate::reply::{Refusal, Reply};
 use crate::shown::JobList;
 use crate::state::State;
-use ic_rules::{JobName, System};
+use ic_flat::FlatSystem;
+use ic_rules::JobName;
 use std::alloc::AllocError;
 
 impl Table {
@@ -43,7 +44,7 @@ impl Table {
     fn submit(
         &mut self,
         name: JobName,
-        system: System,
+        system: FlatSystem,
         budget: Option<Budget>,
     ) -> Result<Reply, AllocError>
         ensures event { IfOk result (λ reply.

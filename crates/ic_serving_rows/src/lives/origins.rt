@@ -1,7 +1,7 @@
 //! What jobs begin with: for each name one system, and its configuration after each number of rounds.
 
 use crate::lives::moves::Verb;
-use ic_flat::Flat;
+use ic_flat::{Flat, FlatSystem};
 use ic_jobs::{Command, Job, State};
 use ic_notation::{Trouble, expanded, printed, system_of};
 use ic_round::{fits, quiet, round};
@@ -128,7 +128,13 @@ impl Origin {
     /// The command that asks this of its job.
     pub fn command(&self, alloc: Global, verb: Verb) -> Result<Command, Trouble> {
         Ok(match verb {
-            Verb::Submit => Command::Submit(self.name, self.system.copy(alloc)?, None),
+            Verb::Submit => {
+                Command::Submit(
+                    self.name,
+                    FlatSystem::from_system(alloc, &self.system)?,
+                    None,
+                )
+            }
             Verb::Pause => Command::Pause(self.name),
             Verb::Resume => Command::Resume(self.name),
             Verb::Cancel => Command::Cancel(self.name),

@@ -1,7 +1,7 @@
--- For private functions: terms made of their words in prefix notation, the last word first.
-use Rattle.std.specs.Prelude.{ℕ, List, [], ◌∷◌, ◌++◌, Option, Result, Ok, Err, length, take, drop, unwrap_or, if◌then◌else◌}
+-- For private functions: rules and a configuration made of the terms that words write.
+use Rattle.std.specs.Prelude.{◌≡◌, ℕ, ◌+◌, ◌*◌, List, [], ◌∷◌, ◌++◌, Option, Result, Ok, Err, length, take, drop, unwrap_or, if◌then◌else◌}
 use Rattle.std.specs.List.{flat_map}
-use Rattle.ic_term.specs.Tree.{Tree, name, agent, trees_of, list_of, names, Pair}
+use Rattle.ic_term.specs.Tree.{Tree, name, agent, list_of, names}
 use Rattle.ic_term.specs.Symbol.{is_over}
 use Rattle.ic_term.specs.Configuration.{Configuration, configured}
 use Rattle.ic_rules.specs.Renaming.{first_occurrences}
@@ -12,24 +12,15 @@ use Rattle.ic_rules.specs.declared.rule_set.RuleFault.{RuleFault}
 use Rattle.ic_rules.specs.declared.rule_set.RuleFault.TheVariants.{Limit as TooMany, Arity as OtherArity, NameCount as Uncounted, Twice as Repeated, Lopsided as Uneven, Memory as NoRoom}
 use Rattle.ic_text.specs.declared.fault.TextFault.{TextFault}
 use Rattle.ic_text.specs.declared.fault.TextFault.TheVariants.{Limit, Arity, NameCount, Twice, Lopsided, Memory}
-use Rattle.ic_text.specs.declared.number.Item.{Item}
-use Rattle.ic_text.specs.declared.number.Item.TheVariants.{Name, Symbol}
+use Rattle.ic_flat.specs.declared.word.Word.{Word}
+use Rattle.ic_flat.specs.Words.{forest, IsWhole}
+use Rattle.ic_flat.specs.Flat.{pairs_of}
 
--- a name is a term, and a symbol with as many of the terms behind it as it has arguments
-abbrev pub with_item : Item → List Tree → List Tree
-with_item (Name n) ts = name n ∷ ts
-with_item (Symbol s arity) ts = agent s (trees_of (take arity ts)) ∷ drop arity ts
-
--- the terms that words write in front of other terms
-abbrev pub built_before : List Item → List Tree → List Tree
-built_before [] ts = ts
-built_before (i ∷ is) ts = with_item i (built_before is ts)
-
--- terms two by two
-abbrev pub pairs_of : List Tree → List Pair
-pairs_of [] = []
-pairs_of (t ∷ []) = []
-pairs_of (t ∷ u ∷ ts) = record { left = t; right = u } ∷ pairs_of ts
+-- Words write the terms of an interface, so many, and those of equations two by two.
+pub record IsPaired (ws : List Word) (terms : ℕ) : Type 0 where
+  pub whole : IsWhole ws
+  pub equations : ℕ
+  pub counted : length (forest ws) ≡ terms + 2 * equations
 
 -- the configuration with so many terms of the interface before the sides of its equations
 abbrev pub configuration_from : ℕ → List Tree → Configuration

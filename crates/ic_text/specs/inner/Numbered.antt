@@ -9,9 +9,9 @@ use Rattle.ic_term.specs.Configuration.{Configuration}
 use Rattle.ic_term.specs.declared.config.ConfigFault.{ConfigFault}
 use Rattle.ic_term.specs.declared.config.ConfigFault.TheVariants.{Limit as TooMuch, Name as Third, Memory as NoRoom}
 use Rattle.ic_text.specs.declared.limits.TheConstants.{MAX_NAME}
-use Rattle.ic_text.specs.declared.number.Item.{Item}
+use Rattle.ic_flat.specs.declared.word.Word.{Word}
 use Rattle.ic_text.specs.declared.excess.Excess.{Excess}
-use Rattle.ic_text.specs.declared.number.Item.TheVariants.{Name, Symbol as Agent}
+use Rattle.ic_flat.specs.declared.word.Word.TheVariants.{Name, Agent}
 use Rattle.ic_text.specs.declared.fault.TextFault.{TextFault}
 use Rattle.ic_text.specs.declared.fault.TextFault.TheVariants.{Syntax, Limit, Arity, NameCount, Name as ThirdName, Twice, Lopsided, Memory}
 use Rattle.ic_text.specs.Name.{is_name, name_number}
@@ -22,12 +22,12 @@ abbrev pub IsWord : Symbol → Type 0
 IsWord w = IsTrue (is_name w.text || is_symbol_text w.text)
 
 -- a symbol with its number, or why it has none
-abbrev pub agent_item : ℕ → Result ℕ SymbolFault → Result Item SymbolFault
+abbrev pub agent_item : ℕ → Result ℕ SymbolFault → Result Word SymbolFault
 agent_item arity (Ok n) = Ok (Agent n arity)
 agent_item arity (Err e) = Err e
 
 -- a word as an item, where it comes behind the symbols of a table
-abbrev pub item_found : List Symbol → Symbol → Result Item SymbolFault
+abbrev pub item_found : List Symbol → Symbol → Result Word SymbolFault
 item_found table w =
     if is_name w.text
     then (if nat_le (name_number w.text) MAX_NAME then Ok (Name (name_number w.text))
@@ -52,7 +52,7 @@ abbrev pub is_word_over : List Symbol → Symbol → Bool
 is_word_over table w = if is_name w.text then true else has_its_arity table w
 
 -- a word as an item over a whole table
-abbrev pub item_in : List Symbol → Symbol → Item
+abbrev pub item_in : List Symbol → Symbol → Word
 item_in table w =
     if is_name w.text then Name (name_number w.text)
     else Agent (number_in_table table w.text) w.arity
@@ -63,19 +63,19 @@ unless_refused in_limits over v =
     if in_limits then (if over then Ok v else Err Arity) else Err Limit
 
 -- the words of a configuration as items, with their table of symbols
-abbrev pub numbered_words : List Symbol → Result (List Symbol × List Item) TextFault
+abbrev pub numbered_words : List Symbol → Result (List Symbol × List Word) TextFault
 numbered_words ws =
     unless_refused (list_all is_word_in_limits ws && nat_le (length (table_over [] ws)) MAX_SYMBOLS)
     (list_all (is_word_over (table_over [] ws)) ws)
     (table_over [] ws, map (item_in (table_over [] ws)) ws)
 
 -- the same, unless a limit of how many they are is passed
-abbrev pub counted_words : Option Excess → List Symbol → Result (List Symbol × List Item) TextFault
+abbrev pub counted_words : Option Excess → List Symbol → Result (List Symbol × List Word) TextFault
 counted_words None ws = numbered_words ws
 counted_words (Some excess) ws = Err Limit
 
 -- an item or a refusal, unless a growth was refused
-abbrev pub ItemAnswers : Result Item SymbolFault → Result Item SymbolFault → Type 0
+abbrev pub ItemAnswers : Result Word SymbolFault → Result Word SymbolFault → Type 0
 ItemAnswers (Ok item) answer = Ok item ≡ answer
 ItemAnswers (Err OverLimit) answer = Err OverLimit ≡ answer
 ItemAnswers (Err (OtherArity n)) answer = Err (OtherArity n) ≡ answer

@@ -14,7 +14,7 @@ use Rattle.ic_text.specs.declared.misread.Detail.TheVariants.{Nothing, Passed, A
 use Rattle.ic_text.specs.declared.misread.Limit.{Limit}
 use Rattle.ic_text.specs.declared.misread.Limit.TheVariants.{SymbolBytes, Arguments, NameNumber, Symbols}
 use Rattle.ic_text.specs.declared.misread.Misread.{Misread}
-use Rattle.ic_text.specs.declared.number.Item.{Item}
+use Rattle.ic_flat.specs.declared.word.Word.{Word}
 use Rattle.ic_text.specs.declared.number.Numbering.{Numbering}
 use Rattle.ic_text.specs.declared.excess.Excess.{Excess}
 use Rattle.ic_text.specs.declared.refusal.Refusal.{Refusal}
@@ -147,7 +147,7 @@ limit_of w = if is_name w.text then NameNumber
     else (if nat_lt MAX_ARITY w.arity then Arguments else Symbols))
 
 -- the words numbered so far with one word more, by what was found of it
-abbrev pub Takes : ℕ → Symbol → Result Item SymbolFault → Numbering → Numbering → Type 0
+abbrev pub Takes : ℕ → Symbol → Result Word SymbolFault → Numbering → Numbering → Type 0
 Takes k w (Ok item) old new = (new.symbols ≡ table_with old.symbols w)
     × (new.items.items ≡ old.items.items ++ item ∷ []) × (new.clash ≡ old.clash)
 Takes k w (Err (OtherArity n)) old new = (new.symbols ≡ old.symbols)
@@ -157,7 +157,7 @@ Takes k w (Err (OtherArity n)) old new = (new.symbols ≡ old.symbols)
 Takes k w (Err e) old new = ⊥
 
 -- a growth was refused, or this word passes a limit
-abbrev pub Stops : ℕ → Symbol → Result Item SymbolFault → Refusal → Type 0
+abbrev pub Stops : ℕ → Symbol → Result Word SymbolFault → Refusal → Type 0
 Stops k w found refusal = (refusal ≡ record { fault = Memory; word = None; detail = Nothing })
     ⊎ ((found ≡ Err OverLimit)
     × (refusal ≡ record { fault = TooMuch; word = Some k; detail = Passed (limit_of w) }))

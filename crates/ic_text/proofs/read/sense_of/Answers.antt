@@ -1,4 +1,4 @@
-use Rattle.std.proofs.Common.{◌≡◌, ℕ, ◌<◌, Bool, true, List, [], Option, None, Result, refl, sym, ap, ◌∙◌, subst, length, take, Ok, Some, arith}
+use Rattle.std.proofs.Common.{◌≡◌, ℕ, ◌<◌, Bool, true, List, Option, None, Result, refl, sym, ap, ◌∙◌, subst, length, take, Ok, Some, arith}
 use Rattle.std.specs.Prelude.{IfSome}
 use Rattle.std.proofs.lemmas.List.{length-map}
 use Rattle.std.proofs.lemmas.Result.{err_from_is_err_and}
@@ -7,7 +7,7 @@ use Rattle.ic_term.specs.Configuration.{Configuration, restored}
 use Rattle.ic_text.specs.declared.excess.Excess.{Excess}
 use Rattle.ic_text.specs.declared.fault.TextFault.{TextFault}
 use Rattle.ic_text.specs.declared.misread.Limit.{Limit as Bound}
-use Rattle.ic_text.specs.declared.number.Item.{Item}
+use Rattle.ic_flat.specs.declared.word.Word.{Word}
 use Rattle.ic_text.specs.declared.prefix.Node.{Node}
 use Rattle.ic_text.specs.Token.{tokens, words_among}
 use Rattle.ic_text.specs.Source.{Phrase, IsPhrase, phrase_words}
@@ -18,16 +18,17 @@ use Rattle.ic_text.specs.WordFaults.{config_keeps}
 use Rattle.ic_text.specs.inner.Counted.{IsFirstExcess}
 use Rattle.ic_text.specs.inner.Numbered.{counted_words, as_text_answer, Refuses}
 use Rattle.ic_text.specs.inner.Refused.{IsStoppedIn}
-use Rattle.ic_text.specs.inner.Built.{built_before, configuration_from}
+use Rattle.ic_flat.specs.Words.{forest}
+use Rattle.ic_text.specs.inner.Built.{IsPaired, configuration_from}
 use Rattle.ic_text.specs.lemmas.ReadOnce.{some-injective}
 use Rattle.ic_text.proofs.Counting.{arities}
 use Rattle.ic_text.proofs.Fronts.{InFront, counted-front, enough_words, front_arities, front_is, kept_alone, numbered-whole, of_whole, stopped-front, words-take}
 use Rattle.ic_text.proofs.PrefixWords.{words-phrase_prefix}
 use Rattle.ic_text.proofs.Scanning.{scan-phrase_words}
-use Rattle.ic_text.proofs.Sensing.{finished, beside_table, Refuses-through}
+use Rattle.ic_text.proofs.Sensing.{finished, beside_table, paired_words, Refuses-through}
 use Rattle.ic_text.proofs.Over.{sense-over}
 use Rattle.ic_text.proofs.HasFaults.{alone, has_fault-config}
-use Rattle.ic_text.proofs.Fitting.{Kept, config_in_limits, sense-counted}
+use Rattle.ic_text.proofs.Fitting.{Kept, config_in_limits, counted-numbered, sense-counted}
 use Rattle.ic_text.proofs.Stopping.{told_in}
 use Rattle.ic_text.proofs.read.sense_of.Goals as goal
 use Rattle.ic_text.proofs.read.sense_of.Goals.{After-deref, After-deref-2}
@@ -85,7 +86,7 @@ counted_here c p spelled =
     ∙ counted-front c.in_ok-prefix.prefix.terms (phrase_prefix p) c.enough_of-kept.result (enough_here c p spelled) c.config_excess-excess.result (first_here c p spelled)
 
 -- where they have numbers, they are all
-whole_here : (c : After-deref-2) (p : Phrase) → tokens c.args.text.now ≡ Some (phrase_words p) → (v : List Symbol × List Item) → Ok v ≡ counted_words c.config_excess-excess.result (nodes_of c.deref-2.result.now)
+whole_here : (c : After-deref-2) (p : Phrase) → tokens c.args.text.now ≡ Some (phrase_words p) → (v : List Symbol × List Word) → Ok v ≡ counted_words c.config_excess-excess.result (nodes_of c.deref-2.result.now)
     → nodes_of c.in_ok-prefix.prefix.nodes.items ≡ phrase_prefix p
 whole_here c p spelled v number =
     items_here c p spelled
@@ -129,14 +130,23 @@ returns-in_err-symbols-clause-word c = λ p spells.
     (subst (λ ws. IsStoppedIn ws c.config_excess-excess.result c.in_err-symbols.field-0.0) (same_here here p spells.tokens) c.in_err-symbols.ensures.word)))
 
 limits_here : (c : After-deref-2) (p : Phrase) → IsPhrase p → tokens c.args.text.now ≡ Some (phrase_words p)
-    → (v : List Symbol × List Item) → Ok v ≡ counted_words c.config_excess-excess.result (nodes_of c.deref-2.result.now) → is_in_limits p ≡ true
+    → (v : List Symbol × List Word) → Ok v ≡ counted_words c.config_excess-excess.result (nodes_of c.deref-2.result.now) → is_in_limits p ≡ true
 limits_here c p is spelled v number =
     config_in_limits p is c.config_excess-excess.result (kept_here c p spelled) v (number ∙ counted_here c p spelled)
 
+-- and write a configuration
+pub config_of-requires : goal.config_of-requires
+config_of-requires c =
+    let p = c.requires.0 in
+    let here = (goal.at.config_of-requires c).After-deref-2 in
+    let number = c.in_ok-symbols.ensures.numbers ∙ counted_here here p c.requires.1.tokens in
+    subst (λ n. IsPaired c.in_ok-symbols.words.items n) (sym (terms_here here p c.requires.1.tokens))
+    (paired_words p c.requires.1.phrase _ (counted-numbered (phrase_prefix p) c.config_excess-excess.result _ number))
+
 -- what is refused behind the numbering is so by the sense
-refused_here : (p : Phrase) (terms : ℕ) (r : Result (List Symbol × List Item) TextFault) (symbols : List Symbol) (items : List Item) (f : TextFault)
+refused_here : (p : Phrase) (terms : ℕ) (r : Result (List Symbol × List Word) TextFault) (symbols : List Symbol) (items : List Word) (f : TextFault)
     → sense p ≡ finished terms r → Ok (symbols, items) ≡ r
-    → Refuses f (as_text_answer (restored (configuration_from terms (built_before items [])))) → Refuses f (sense p)
+    → Refuses f (as_text_answer (restored (configuration_from terms (forest items)))) → Refuses f (sense p)
 refused_here p terms r symbols items f sense_is number refused =
     let sense_is = sense_is ∙ ap (finished terms) (sym number) in
     rw sense_is (Refuses-through (beside_table symbols) (λ _. refl) f _ refused)
@@ -145,7 +155,7 @@ pub refusal_of-requires : goal.refusal_of-requires
 refusal_of-requires c =
     let p = c.requires.0 in
     let here = sense_here (goal.at.refusal_of-requires c).After-deref-2 p c.requires.1.phrase c.requires.1.tokens in
-    let refused = refused_here p c.in_ok-prefix.prefix.terms (counted_words c.config_excess-excess.result (nodes_of c.deref-2.result.now)) c.in_ok-symbols.symbols c.in_ok-symbols.items.items c.in-Err.fault here c.in_ok-symbols.ensures.numbers c.in-Err.ensures in (
+    let refused = refused_here p c.in_ok-prefix.prefix.terms (counted_words c.config_excess-excess.result (nodes_of c.deref-2.result.now)) c.in_ok-symbols.symbols c.in_ok-symbols.words.items c.in-Err.fault here c.in_ok-symbols.ensures.numbers c.in-Err.ensures in (
       alone p,
       record {
         words = ap nodes_of c.deref-in-Err.ensures.value ∙ whole_here (goal.at.refusal_of-requires c).After-deref-2 p c.requires.1.tokens _ c.in_ok-symbols.ensures.numbers;
@@ -157,12 +167,12 @@ refusal_of-requires c =
 pub returns-clause-sense : goal.returns-clause-sense
 returns-clause-sense c = λ p spells.
     let here = sense_here (goal.at.returns-clause-sense c).After-deref-2 p spells.phrase spells.tokens in
-    rw c.refusal_of.ensures.fault (refused_here p c.in_ok-prefix.prefix.terms (counted_words c.config_excess-excess.result (nodes_of c.deref-2.result.now)) c.in_ok-symbols.symbols c.in_ok-symbols.items.items c.in-Err.fault here c.in_ok-symbols.ensures.numbers c.in-Err.ensures)
+    rw c.refusal_of.ensures.fault (refused_here p c.in_ok-prefix.prefix.terms (counted_words c.config_excess-excess.result (nodes_of c.deref-2.result.now)) c.in_ok-symbols.symbols c.in_ok-symbols.words.items c.in-Err.fault here c.in_ok-symbols.ensures.numbers c.in-Err.ensures)
 
 pub returns-clause-word : goal.returns-clause-word
 returns-clause-word c = λ p spells.
     let here = sense_here (goal.at.returns-clause-word c).After-deref-2 p spells.phrase spells.tokens in
-    let refused = refused_here p c.in_ok-prefix.prefix.terms (counted_words c.config_excess-excess.result (nodes_of c.deref-2.result.now)) c.in_ok-symbols.symbols c.in_ok-symbols.items.items c.in-Err.fault here c.in_ok-symbols.ensures.numbers c.in-Err.ensures in
+    let refused = refused_here p c.in_ok-prefix.prefix.terms (counted_words c.config_excess-excess.result (nodes_of c.deref-2.result.now)) c.in_ok-symbols.symbols c.in_ok-symbols.words.items c.in-Err.fault here c.in_ok-symbols.ensures.numbers c.in-Err.ensures in
     c.refusal_of.ensures.word (alone p) (record {
       words = ap nodes_of c.deref-in-Err.ensures.value ∙ whole_here (goal.at.returns-clause-word c).After-deref-2 p spells.tokens _ c.in_ok-symbols.ensures.numbers;
       before = refl;
@@ -170,18 +180,18 @@ returns-clause-word c = λ p spells.
     })
 
 -- what is answered is the sense
-ok_is_sense : (p : Phrase) (terms : ℕ) (r : Result (List Symbol × List Item) TextFault) (symbols : List Symbol) (items : List Item) (config : Configuration)
+ok_is_sense : (p : Phrase) (terms : ℕ) (r : Result (List Symbol × List Word) TextFault) (symbols : List Symbol) (items : List Word) (config : Configuration)
     → sense p ≡ finished terms r → Ok (symbols, items) ≡ r
-    → Ok config ≡ as_text_answer (restored (configuration_from terms (built_before items []))) → Ok (symbols, config) ≡ sense p
+    → Ok config ≡ as_text_answer (restored (configuration_from terms (forest items))) → Ok (symbols, config) ≡ sense p
 ok_is_sense p terms r symbols items config sense_is number built = ap (beside_table symbols) built ∙ ap (finished terms) number ∙ sym sense_is
 
 pub returns-in-Ok-clause-sense : goal.returns-in-Ok-clause-sense
 returns-in-Ok-clause-sense c = λ p spells.
-    ok_is_sense p c.in_ok-prefix.prefix.terms (counted_words c.config_excess-excess.result (nodes_of c.deref-2.result.now)) c.in_ok-symbols.symbols c.in_ok-symbols.items.items c.in-Ok.config
+    ok_is_sense p c.in_ok-prefix.prefix.terms (counted_words c.config_excess-excess.result (nodes_of c.deref-2.result.now)) c.in_ok-symbols.symbols c.in_ok-symbols.words.items c.in-Ok.config
     (sense_here (goal.at.returns-in-Ok-clause-sense c).After-deref-2 p spells.phrase spells.tokens) c.in_ok-symbols.ensures.numbers c.in-Ok.ensures
 
 pub returns-in-Ok-clause-over : goal.returns-in-Ok-clause-over
 returns-in-Ok-clause-over c =
     let p = c.requires.0 in
-    sense-over p _ (sym (ok_is_sense p c.in_ok-prefix.prefix.terms (counted_words c.config_excess-excess.result (nodes_of c.deref-2.result.now)) c.in_ok-symbols.symbols c.in_ok-symbols.items.items c.in-Ok.config
+    sense-over p _ (sym (ok_is_sense p c.in_ok-prefix.prefix.terms (counted_words c.config_excess-excess.result (nodes_of c.deref-2.result.now)) c.in_ok-symbols.symbols c.in_ok-symbols.words.items c.in-Ok.config
     (sense_here (goal.at.returns-in-Ok-clause-over c).After-deref-2 p c.requires.1.phrase c.requires.1.tokens) c.in_ok-symbols.ensures.numbers c.in-Ok.ensures))

@@ -1,24 +1,25 @@
-use Rattle.std.proofs.Common.{◌≡◌, ℕ, true, List, ◌∷◌, Option, Some, Result, Ok, refl, sym, ap, ◌∙◌, subst}
+use Rattle.std.proofs.Common.{◌≡◌, ℕ, ◌≤◌, true, List, ◌∷◌, Option, Some, Result, Ok, length, drop, refl, sym, ap, ◌∙◌, subst}
 use Rattle.std.proofs.lemmas.Result.{err_from_is_err_and}
 use Rattle.ic_term.specs.Symbol.{Symbol}
 use Rattle.ic_text.specs.declared.excess.Excess.{Excess}
 use Rattle.ic_text.specs.declared.fault.TextFault.{TextFault}
-use Rattle.ic_text.specs.declared.number.Item.{Item}
+use Rattle.ic_flat.specs.declared.word.Word.{Word}
 use Rattle.ic_text.specs.declared.token.Mark.TheVariants.{LeftBrace}
 use Rattle.ic_text.specs.Token.{mark, tokens}
 use Rattle.ic_text.specs.inner.Braces.{split_at_brace}
 use Rattle.ic_text.specs.Source.{phrase_words}
 use Rattle.ic_text.specs.SystemSource.{SystemPhrase, IsSystemPhrase, rules_words, system_words}
 use Rattle.ic_text.specs.SystemSense.{is_system_in_limits, system_sense}
-use Rattle.ic_text.specs.Words.{system_prefix, written_system}
+use Rattle.ic_text.specs.Words.{phrase_prefix, system_prefix, written_system}
+use Rattle.ic_text.specs.inner.Built.{IsPaired}
 use Rattle.ic_text.specs.inner.Prefix.{nodes_of}
 use Rattle.ic_text.specs.inner.Refused.{HasFault, IsStoppedIn}
 use Rattle.ic_text.specs.inner.Numbered.{counted_words, numbered_words, Refuses}
 use Rattle.ic_text.proofs.Sensing.{Refuses-through}
-use Rattle.ic_text.proofs.SensingSystem.{finished_system}
+use Rattle.ic_text.proofs.SensingSystem.{finished_system, paired-system}
 use Rattle.ic_text.proofs.SystemPrefix.{Known, rules_before, system_words_are, counted, split-system, words_are, sense-known}
 use Rattle.ic_text.proofs.HasFaults.{has_fault}
-use Rattle.ic_text.proofs.JoinedPhrase.{prefix-joined}
+use Rattle.ic_text.proofs.JoinedPhrase.{joined_phrase, prefix-joined}
 use Rattle.ic_text.proofs.Refusing.{system_agrees, written-system}
 use Rattle.ic_text.proofs.Fitting.{Kept, counted-numbered, one_of_words, system_in_limits}
 use Rattle.ic_text.proofs.Stopping.{told_in}
@@ -96,17 +97,17 @@ number_words-requires-clause-inside c =
 
 -- the sense is that of the words, as far as they are counted
 sense_here : (c : After-deref-2) (s : SystemPhrase) → IsSystemPhrase s → Known s c.in_ok-rules.rules c.in_ok-config.config
-    → system_sense s ≡ finished_system c.in_ok-rules.rules.terms c.in_ok-config.config.terms (counted_words c.excess_of-excess.result (nodes_of c.deref-2.result.now))
+    → system_sense s ≡ finished_system c.words-before.result c.in_ok-config.config.terms (counted_words c.excess_of-excess.result (nodes_of c.deref-2.result.now))
 sense_here c s is known =
     sense-known s c.in_ok-rules.rules c.in_ok-config.config known is c.excess_of-excess.result (kept_here c s known)
-    ∙ ap (λ ns. finished_system c.in_ok-rules.rules.terms c.in_ok-config.config.terms (counted_words c.excess_of-excess.result (nodes_of ns))) (sym (c.deref-2.ensures.value ∙ c.in_ok-append.ensures.items))
+    ∙ (λ i. finished_system (sym c.words-before.ensures i) c.in_ok-config.config.terms (counted_words c.excess_of-excess.result (nodes_of (sym (c.deref-2.ensures.value ∙ c.in_ok-append.ensures.items) i))))
 
 pub returns-in_err-symbols-clause-sense : goal.returns-in_err-symbols-clause-sense
 returns-in_err-symbols-clause-sense c = λ s spells.
     let e = err_from_is_err_and c.from_residual-in_err-symbols.result c.from_residual-in_err-symbols.ensures.1 in
     let known = known_here (goal.at.returns-in_err-symbols-clause-sense c).After-words-before s spells.tokens in
     rw (e.1, e.2, sense_here (goal.at.returns-in_err-symbols-clause-sense c).After-deref-2 s spells.phrase known)
-    (Refuses-through (finished_system c.in_ok-rules.rules.terms c.in_ok-config.config.terms) (λ _. refl) _ _ c.in_err-symbols.ensures.numbers)
+    (Refuses-through (finished_system c.words-before.result c.in_ok-config.config.terms) (λ _. refl) _ _ c.in_err-symbols.ensures.numbers)
 
 pub returns-in_err-symbols-clause-word : goal.returns-in_err-symbols-clause-word
 returns-in_err-symbols-clause-word c = λ s spells.
@@ -119,22 +120,43 @@ returns-in_err-symbols-clause-word c = λ s spells.
     (subst (λ ws. IsStoppedIn ws c.excess_of-excess.result c.in_err-symbols.field-0.0) same c.in_err-symbols.ensures.word))
 
 limits_here : (c : After-deref-2) (s : SystemPhrase) → IsSystemPhrase s → Known s c.in_ok-rules.rules c.in_ok-config.config
-    → (v : List Symbol × List Item) → Ok v ≡ counted_words c.excess_of-excess.result (nodes_of c.deref-2.result.now) → is_system_in_limits s ≡ true
+    → (v : List Symbol × List Word) → Ok v ≡ counted_words c.excess_of-excess.result (nodes_of c.deref-2.result.now) → is_system_in_limits s ≡ true
 limits_here c s is known v number =
     system_in_limits s is c.excess_of-excess.result (kept_here c s known) v (number ∙ ap (counted_words c.excess_of-excess.result) (words_here c s known ∙ sym (prefix-joined s)))
 
+-- and those of the configuration write it
+paired_here : (c : After-deref-2) (s : SystemPhrase) → IsSystemPhrase s → Known s c.in_ok-rules.rules c.in_ok-config.config
+    → (v : List Symbol × List Word) → Ok v ≡ counted_words c.excess_of-excess.result (nodes_of c.deref-2.result.now)
+    → (c.words-before.result ≤ length v.1) × IsPaired (drop c.words-before.result v.1) c.in_ok-config.config.terms
+paired_here c s is known v number =
+    let own = number ∙ ap (counted_words c.excess_of-excess.result) (words_here c s known ∙ sym (prefix-joined s)) in
+    let found = paired-system s is v (counted-numbered (phrase_prefix (joined_phrase s)) c.excess_of-excess.result v own) in
+    rw (c.words-before.ensures ∙ rules_before s c.in_ok-rules.rules c.in_ok-config.config known, known.terms_are) found
+
+pub system_of-requires-clause-inside : goal.system_of-requires-clause-inside
+system_of-requires-clause-inside c =
+    let s = c.requires.0 in
+    let known = known_here (goal.at.system_of-requires-clause-inside c).After-words-before s c.requires.1.tokens in
+    (paired_here (goal.at.system_of-requires-clause-inside c).After-deref-2 s c.requires.1.phrase known _ c.in_ok-symbols.ensures.numbers).0
+
+pub system_of-requires-clause-paired : goal.system_of-requires-clause-paired
+system_of-requires-clause-paired c =
+    let s = c.requires.0 in
+    let known = known_here (goal.at.system_of-requires-clause-paired c).After-words-before s c.requires.1.tokens in
+    (paired_here (goal.at.system_of-requires-clause-paired c).After-deref-2 s c.requires.1.phrase known _ c.in_ok-symbols.ensures.numbers).1
+
 -- what is refused behind the numbering is so by the sense
-refused_here : (s : SystemPhrase) (agents terms : ℕ) (r : Result (List Symbol × List Item) TextFault) (v : List Symbol × List Item) (f : TextFault)
-    → system_sense s ≡ finished_system agents terms r → Ok v ≡ r
-    → Refuses f (finished_system agents terms (Ok v)) → Refuses f (system_sense s)
-refused_here s agents terms r v f sense_is number refused = rw (sense_is ∙ ap (finished_system agents terms) (sym number)) refused
+refused_here : (s : SystemPhrase) (before terms : ℕ) (r : Result (List Symbol × List Word) TextFault) (v : List Symbol × List Word) (f : TextFault)
+    → system_sense s ≡ finished_system before terms r → Ok v ≡ r
+    → Refuses f (finished_system before terms (Ok v)) → Refuses f (system_sense s)
+refused_here s before terms r v f sense_is number refused = rw (sense_is ∙ ap (finished_system before terms) (sym number)) refused
 
 -- and so the system has what it is refused for
-faulty_here : (s : SystemPhrase) → IsSystemPhrase s → (agents terms : ℕ) (o : Option Excess) (words : List Symbol) (v : List Symbol × List Item) (f : TextFault)
-    → system_sense s ≡ finished_system agents terms (counted_words o words) → Ok v ≡ counted_words o words → words ≡ system_prefix s → is_system_in_limits s ≡ true
-    → Refuses f (finished_system agents terms (Ok v)) → HasFault s f
-faulty_here s is agents terms o words v f sense_is number same low refused =
-    has_fault s is low (system_agrees s is v (counted-numbered words o v number ∙ ap numbered_words (same ∙ sym (prefix-joined s)))) f (refused_here s agents terms (counted_words o words) v f sense_is number refused)
+faulty_here : (s : SystemPhrase) → IsSystemPhrase s → (before terms : ℕ) (o : Option Excess) (words : List Symbol) (v : List Symbol × List Word) (f : TextFault)
+    → system_sense s ≡ finished_system before terms (counted_words o words) → Ok v ≡ counted_words o words → words ≡ system_prefix s → is_system_in_limits s ≡ true
+    → Refuses f (finished_system before terms (Ok v)) → HasFault s f
+faulty_here s is before terms o words v f sense_is number same low refused =
+    has_fault s is low (system_agrees s is v (counted-numbered words o v number ∙ ap numbered_words (same ∙ sym (prefix-joined s)))) f (refused_here s before terms (counted_words o words) v f sense_is number refused)
 
 pub refusal_of-requires : goal.refusal_of-requires
 refusal_of-requires c =
@@ -147,7 +169,7 @@ refusal_of-requires c =
       record {
         words = ap nodes_of (c.deref-in-Err.ensures.value ∙ c.in_ok-append.ensures.items) ∙ system_words_are s c.in_ok-rules.rules c.in_ok-config.config known;
         before = c.words-before.ensures ∙ rules_before s c.in_ok-rules.rules c.in_ok-config.config known;
-        has = faulty_here s c.requires.1.phrase c.in_ok-rules.rules.terms c.in_ok-config.config.terms c.excess_of-excess.result (nodes_of c.deref-2.result.now) (c.in_ok-symbols.symbols, c.in_ok-symbols.items.items) c.in-Err.fault sense_is c.in_ok-symbols.ensures.numbers same low c.in-Err.ensures;
+        has = faulty_here s c.requires.1.phrase c.words-before.result c.in_ok-config.config.terms c.excess_of-excess.result (nodes_of c.deref-2.result.now) (c.in_ok-symbols.symbols, c.in_ok-symbols.words.items) c.in-Err.fault sense_is c.in_ok-symbols.ensures.numbers same low c.in-Err.ensures;
       },
     )
 
@@ -155,7 +177,7 @@ pub returns-clause-sense : goal.returns-clause-sense
 returns-clause-sense c = λ s spells.
     let known = known_here (goal.at.returns-clause-sense c).After-words-before s spells.tokens in
     let sense_is = sense_here (goal.at.returns-clause-sense c).After-deref-2 s spells.phrase known in
-    rw c.refusal_of.ensures.fault (refused_here s c.in_ok-rules.rules.terms c.in_ok-config.config.terms (counted_words c.excess_of-excess.result (nodes_of c.deref-2.result.now)) (c.in_ok-symbols.symbols, c.in_ok-symbols.items.items) c.in-Err.fault sense_is c.in_ok-symbols.ensures.numbers c.in-Err.ensures)
+    rw c.refusal_of.ensures.fault (refused_here s c.words-before.result c.in_ok-config.config.terms (counted_words c.excess_of-excess.result (nodes_of c.deref-2.result.now)) (c.in_ok-symbols.symbols, c.in_ok-symbols.words.items) c.in-Err.fault sense_is c.in_ok-symbols.ensures.numbers c.in-Err.ensures)
 
 pub returns-clause-word : goal.returns-clause-word
 returns-clause-word c = λ s spells.
@@ -166,11 +188,11 @@ returns-clause-word c = λ s spells.
     c.refusal_of.ensures.word s (record {
       words = ap nodes_of (c.deref-in-Err.ensures.value ∙ c.in_ok-append.ensures.items) ∙ system_words_are s c.in_ok-rules.rules c.in_ok-config.config known;
       before = c.words-before.ensures ∙ rules_before s c.in_ok-rules.rules c.in_ok-config.config known;
-      has = faulty_here s spells.phrase c.in_ok-rules.rules.terms c.in_ok-config.config.terms c.excess_of-excess.result (nodes_of c.deref-2.result.now) (c.in_ok-symbols.symbols, c.in_ok-symbols.items.items) c.in-Err.fault sense_is c.in_ok-symbols.ensures.numbers same low c.in-Err.ensures;
+      has = faulty_here s spells.phrase c.words-before.result c.in_ok-config.config.terms c.excess_of-excess.result (nodes_of c.deref-2.result.now) (c.in_ok-symbols.symbols, c.in_ok-symbols.words.items) c.in-Err.fault sense_is c.in_ok-symbols.ensures.numbers same low c.in-Err.ensures;
     })
 
 pub returns-in-Ok-clause-sense : goal.returns-in-Ok-clause-sense
 returns-in-Ok-clause-sense c = λ s spells.
     let known = known_here (goal.at.returns-in-Ok-clause-sense c).After-words-before s spells.tokens in
-    let number : Ok (c.in_ok-symbols.symbols, c.in_ok-symbols.items.items) ≡ counted_words c.excess_of-excess.result (nodes_of c.deref-2.result.now) = c.in_ok-symbols.ensures.numbers in
-    rw (sense_here (goal.at.returns-in-Ok-clause-sense c).After-deref-2 s spells.phrase known ∙ ap (finished_system c.in_ok-rules.rules.terms c.in_ok-config.config.terms) (sym number)) c.in-Ok.ensures
+    let number : Ok (c.in_ok-symbols.symbols, c.in_ok-symbols.words.items) ≡ counted_words c.excess_of-excess.result (nodes_of c.deref-2.result.now) = c.in_ok-symbols.ensures.numbers in
+    rw (sense_here (goal.at.returns-in-Ok-clause-sense c).After-deref-2 s spells.phrase known ∙ ap (finished_system c.words-before.result c.in_ok-config.config.terms) (sym number)) c.in-Ok.ensures

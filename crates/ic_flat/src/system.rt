@@ -1,0 +1,99 @@
+//! Systems in flat form.
+
+ghost use Rattle.std.specs.Prelude.{◌≡◌, ◌↔◌, IsTrue, IsSome, IfSome, IfOk};
+ghost use Rattle.std.specs.Arc.{arc_value};
+ghost use Rattle.ic_term.specs.Symbol.{is_over};
+
+use crate::arities::over;
+use crate::flat::Flat;
+use ic_rules::{RuleSet, System};
+use std::alloc::{AllocError, Global};
+use std::marker::Model;
+use std::sync::Arc;
+
+/// Rules, and a configuration in flat form over their symbols. The rules are shared, never changed.
+#[derive(Debug, Drop)]
+pub struct FlatSystem {
+    rules: Arc<RuleSet>,
+    config: Flat,
+}
+
+impl Model for FlatSystem {
+    ghost use Rattle.std.specs.Prelude.{◌≡◌, true};
+    ghost use Rattle.std.specs.Arc.{arc_value};
+    ghost use Rattle.ic_term.specs.Symbol.{is_over};
+    ghost use Rattle.ic_rules.specs.System.{SystemParts, coded_system};
+
+    ghost Value = { SystemParts };
+
+    ghost coded = { coded_system };
+
+    ghost view = { λ s. record { rules = arc_value s.rules; config = s.config } };
+
+    ghost invariant = { λ s. is_over (arc_value s.rules).symbols s.config ≡ true };
+}
+
+impl FlatSystem {
+    /// The system of these parts, if the configuration is over the symbols of the rules.
+    pub fn new(rules: Arc<RuleSet>, config: Flat) -> Option<FlatSystem>
+        ensures over { IsSome result ↔ IsTrue (is_over (arc_value rules).symbols config) }
+        ensures system { IfSome result
+            (λ system. system ≡ record { rules = arc_value rules; config = config }) }
+    {
+        if !over(rules.symbols(), &config) {
+            return None;
+        }
+        Some(FlatSystem { rules, config })
+    }
+
+    /// The same system in flat form, which shares the rules.
+    pub fn from_system(alloc: Global, system: &System) -> Result<FlatSystem, AllocError>
+        ensures { IfOk result (λ flat. flat ≡ system.now) }
+    {
+        let rules = system.rules().clone()?;
+        let config = Flat::from_config(alloc, system.config())?;
+        Ok(FlatSystem { rules, config })
+    }
+
+    /// The same system with its configuration as terms and equations, which shares the rules.
+    pub fn to_system(&self, alloc: Global) -> Result<System, AllocError>
+        ensures { IfOk result (λ system. system ≡ self.now) }
+    {
+        let rules = self.rules.clone()?;
+        let config = self.config.to_config(alloc)?;
+        Ok(System::from_parts(rules, config))
+    }
+
+    pub fn rules(&self) -> &Arc<RuleSet>
+        ensures rules { arc_value result.now ≡ self.now.rules }
+        ensures sound { IsTrue (is_over self.now.rules.symbols self.now.config) }
+    {
+        &self.rules
+    }
+
+    pub fn config(&self) -> &Flat
+        ensures config { result.now ≡ self.now.config }
+        ensures sound { IsTrue (is_over self.now.rules.symbols self.now.config) }
+    {
+        &self.config
+    }
+
+    /// The rules and the configuration.
+    pub fn into_parts(self) -> (Arc<RuleSet>, Flat)
+        ensures rules { arc_value result.0 ≡ self.rules }
+        ensures config { result.1 ≡ self.config }
+        ensures sound { IsTrue (is_over self.rules.symbols self.config) }
+    {
+        (self.rules, self.config)
+    }
+
+    /// A copy, equal to its source, which shares the rules.
+    pub fn copy(&self, alloc: Global) -> Result<FlatSystem, AllocError>
+        ensures { IfOk result (λ copy. copy ≡ self.now) }
+    {
+        Ok(FlatSystem {
+            rules: self.rules.clone()?,
+            config: self.config.copy(alloc)?,
+        })
+    }
+}
