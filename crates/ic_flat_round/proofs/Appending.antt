@@ -1,7 +1,7 @@
 -- What is appended to a list within its room, part by part.
 use Rattle.std.proofs.Common.{List, [], ◌++◌, length-append, append-nil, append_assoc, refl, sym, ap, ◌∙◌, arith}
 use Rattle.std.specs.Prelude.{Vec}
-use Rattle.ic_flat_round.specs.inner.Room.{HasRoom, Appended, GoesOn}
+use Rattle.ic_flat_round.specs.inner.Room.{HasRoom, Appended, GoesOn, GoesOnTo}
 
 pub goes_on-start : {X Z : Type 0} (start : Vec X Z) (all : List X) → HasRoom start all → GoesOn start all start all
 goes_on-start start all room = record { items = refl; len = refl; capacity = refl; room = room }
@@ -41,4 +41,15 @@ appended-both old half new xs ys a b =
       items = b.items ∙ ap (λ l. l ++ ys) a.items ∙ append_assoc old.items xs ys;
       len = omega (arith, first, last, length-append xs ys);
       capacity = b.capacity ∙ a.capacity;
+    }
+
+pub goes_on_to-next : {X Z : Type 0} (start now new : Vec X Z) (all xs left : List X) → GoesOnTo start all now (xs ++ left) → Appended now new xs
+    → GoesOnTo start all new left
+goes_on_to-next start now new all xs left g a =
+    let len = g.len in
+    let added = a.len in
+    record {
+      items = ap (λ l. l ++ left) a.items ∙ append_assoc now.items xs left ∙ g.items;
+      len = omega (arith, len, added, length-append xs left);
+      capacity = a.capacity ∙ g.capacity;
     }

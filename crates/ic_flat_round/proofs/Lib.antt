@@ -4,6 +4,7 @@ pub mod RaisedWords
 pub mod RuleBounds
 pub mod RuleWriting
 pub mod Interacting
+pub mod FiringLimits
 pub mod BoundPlaces
 pub mod PassingWords
 pub mod SettledWords

@@ -5,7 +5,6 @@ use Rattle.std.proofs.lemmas.List.{map-append, length-map}
 use Rattle.ic_term.specs.Tree.{Tree, name, agent, Trees, no_trees, more_trees, list_of}
 use Rattle.ic_rules.specs.Renaming.{renamed, renamed_trees}
 use Rattle.ic_rules.specs.Rule.{Rule}
-use Rattle.ic_flat.specs.declared.word.Word.{Word}
 use Rattle.ic_flat.specs.declared.word.Word.TheVariants.{Agent}
 use Rattle.ic_flat.specs.Words.{forest, IsWhole, tree_words, trees_words}
 use Rattle.ic_flat.specs.lemmas.WordLaws.{forest-words, forest-append, whole-words, whole-append}

@@ -2,6 +2,7 @@
 pub mod Standing
 pub mod Room
 pub mod RuleWords
+pub mod Limits
 pub mod Heads
 pub mod Waits
 pub mod Rebuilding

@@ -1,6 +1,7 @@
 //! Names that are bound to places of terms while a configuration is settled.
 
-ghost use Rattle.std.specs.Prelude.{◌<◌, length};
+ghost use Rattle.std.specs.Prelude.{◌≡◌, ◌==◌, ℕ, ◌<◌, None, IfNone, length, nat_eq, if◌then◌else◌};
+ghost use Rattle.indexmap.specs.IndexMap.{get, swap_remove_entry, IsUnchanged};
 ghost use Rattle.ic_settle.specs.lemmas.Waiting.{Resolves};
 ghost use Rattle.ic_flat.specs.Words.{IsWhole};
 ghost use Rattle.ic_flat_round.specs.inner.Standing.{tree_at};
@@ -12,6 +13,20 @@ use indexmap::IndexMap;
 /// Where the terms stand that wait until the names that they stand for are met. Each such name is met at most once, so it
 /// is taken out then.
 pub(crate) type Bound = IndexMap<u64, usize>;
+
+/// What a name is bound to, which is taken out. Nothing is looked up where no name is bound.
+pub(crate) fn unbound(bound: &mut Bound, name: u64) -> Option<usize>
+    ensures value { result ≡ get nat_eq bound.old name }
+    ensures updates { (y : ℕ) → get nat_eq bound.new y
+        ≡ (if name == y then None else get nat_eq bound.old y) }
+    ensures entries { bound.new.entries ≡ swap_remove_entry (nat_eq name) bound.old.entries }
+    ensures unchanged { IfNone result (IsUnchanged bound.old bound.new) }
+{
+    if bound.is_empty() {
+        return None;
+    }
+    bound.swap_remove(&name)
+}
 
 /// Where what stands for the term at a place begins: there itself, or where the term is a bound name, where what stands
 /// for the term begins that the name is bound to.
@@ -26,7 +41,7 @@ pub(crate) fn resolved(words: &[Word], place: usize, bound: &mut Bound) -> usize
     let mut place = place;
     loop {
         match words[place] {
-            Word::Name(name) => match bound.swap_remove(&name) {
+            Word::Name(name) => match unbound(bound, name) {
                 Some(term) => place = term,
                 None => return place,
             },

@@ -12,6 +12,7 @@ use crate::places::sides_at;
 use ic_flat::{Flat, Word};
 use ic_settle::{Applicable, Side};
 use indexmap::IndexMap;
+use indexmap::map::Entry;
 use std::alloc::{AllocError, Global};
 
 /// For each name the first and the last container in which it stands: the number of an equation, or for the interface how
@@ -30,8 +31,11 @@ fn note(places: &mut Places, name: u64, place: usize) -> Result<(), AllocError>
     ensures { OnOk result ((y : ℕ) → get nat_eq places.new y
         ≡ (if name == y then noted place (get nat_eq places.old y) else get nat_eq places.old y)) }
 {
-    if let Some((first, _)) = places.insert(name, (place, place))? {
-        places.insert(name, (first, place))?;
+    match places.entry(name)? {
+        Entry::Occupied(mut entry) => entry.get_mut().1 = place,
+        Entry::Vacant(entry) => {
+            entry.insert((place, place));
+        }
     }
     Ok(())
 }

@@ -98,7 +98,8 @@ fn put_products(
     from
 }
 
-/// Appends the arguments of two agents, each with a rule's term for it behind it, where these are the words of the rule.
+/// Appends the arguments of two agents, each with a rule's term for it behind it, where these are the words of the rule,
+/// and tells how many arguments they are.
 pub(crate) fn put_interaction(
     words: &[Word],
     left: usize,
@@ -106,7 +107,7 @@ pub(crate) fn put_interaction(
     template: &[Word],
     base: u64,
     out: &mut Vec<Word>,
-)
+) -> usize
     requires whole { IsWhole words.now }
     requires whole_template { IsWhole template.now }
     requires there { left < length words.now }
@@ -115,11 +116,14 @@ pub(crate) fn put_interaction(
         + length (arguments (tree_at words.now right)) ≤ length (forest template.now) }
     requires room { HasRoom out.old (interaction_words base (arguments (tree_at words.now left))
         (arguments (tree_at words.now right)) (forest template.now)) }
-    ensures { Appended out.old out.new (interaction_words base (arguments (tree_at words.now left))
+    ensures count { result ≡ length (arguments (tree_at words.now left))
+        + length (arguments (tree_at words.now right)) }
+    ensures put { Appended out.old out.new (interaction_words base (arguments (tree_at words.now left))
         (arguments (tree_at words.now right)) (forest template.now)) }
 {
     let left_count = words[left].arguments();
     let right_count = words[right].arguments();
     let from = put_products(words, left + 1, left_count, template, 0, base, out);
     put_products(words, right + 1, right_count, template, from, base, out);
+    left_count + right_count
 }

@@ -7,7 +7,7 @@ ghost use Rattle.ic_flat.specs.Flat.{sides};
 ghost use Rattle.ic_flat_round.specs.inner.Waits.{waiting, AreWithin, IsKeptWithin, kept_at};
 ghost use Rattle.ic_flat_round.specs.inner.Rebuilding.{IsSpan, PutsOn, span_terms, span_of, state, on_stack, effort};
 
-use crate::bound::Bound;
+use crate::bound::{Bound, unbound};
 use crate::pass::Kept;
 use ic_flat::Word;
 use std::alloc::AllocError;
@@ -48,7 +48,7 @@ fn put_word(
         count: span.count - 1,
     };
     match words[span.place] {
-        Word::Name(name) => match bound.swap_remove(&name) {
+        Word::Name(name) => match unbound(bound, name) {
             Some(place) => {
                 stack.push(rest)?;
                 Ok(Span { place, count: 1 })

@@ -18,3 +18,9 @@ module _ {X Z : Type 0} where
     pub len : vec_len now + length left ≡ vec_len start + length all
     pub capacity : vec_capacity now ≡ vec_capacity start
     pub room : vec_len now + length left ≤ vec_capacity now
+
+  -- the same, where it isn't known whether there is room for what is left
+  pub record GoesOnTo (start : Vec X Z) (all : List X) (now : Vec X Z) (left : List X) : Type 0 where
+    pub items : now.items ++ left ≡ start.items ++ all
+    pub len : vec_len now + length left ≡ vec_len start + length all
+    pub capacity : vec_capacity now ≡ vec_capacity start

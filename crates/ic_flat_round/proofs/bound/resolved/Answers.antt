@@ -23,12 +23,12 @@ pub loop-place-smaller : goal.loop-place-smaller
 loop-place-smaller c =
     let ws = c.args.words.now in
     let u = tree_at ws c.in-Some.term in
-    let taken : IsTaken (waiting ws c.loop-place.bound.entries) (waiting ws c.swap_remove.new.self.entries) c.in-Name.name u =
-    take_is (tree_at ws) c.loop-place.bound.entries c.swap_remove.new.self.entries c.in-Name.name (Some c.in-Some.term)
-    c.in-Some.ensures.value c.in-Some.ensures.updates.0 c.in-Some.ensures.entries c.in-Some.ensures.unchanged in
+    let taken : IsTaken (waiting ws c.loop-place.bound.entries) (waiting ws c.unbound.new.bound.entries) c.in-Name.name u =
+    take_is (tree_at ws) c.loop-place.bound.entries c.unbound.new.bound.entries c.in-Name.name (Some c.in-Some.term)
+    c.in-Some.ensures.value c.in-Some.ensures.updates c.in-Some.ensures.entries c.in-Some.ensures.unchanged in
     let fewer = taken.nodes in
     let some = (one_node u).1 in
-    let less : nodes_kept (waiting ws c.swap_remove.new.self.entries) < nodes_kept (waiting ws c.loop-place.bound.entries) = omega (arith, fewer, some) in
+    let less : nodes_kept (waiting ws c.unbound.new.bound.entries) < nodes_kept (waiting ws c.loop-place.bound.entries) = omega (arith, fewer, some) in
     less
 
 pub loop-place-preserved : goal.loop-place-preserved
@@ -36,17 +36,17 @@ loop-place-preserved c =
     let ws = c.args.words.now in
     let i = c.loop-place.invariant in
     let es = c.loop-place.bound.entries in
-    let es' = c.swap_remove.new.self.entries in
+    let es' = c.unbound.new.bound.entries in
     let x = c.in-Name.name in
     let u = tree_at ws c.in-Some.term in
     let given = waiting ws c.args.bound.now.entries in
     let t = tree_at ws c.args.place in
     let taken : IsTaken (waiting ws es) (waiting ws es') x u =
-    take_is (tree_at ws) es es' x (Some c.in-Some.term) c.in-Some.ensures.value c.in-Some.ensures.updates.0 c.in-Some.ensures.entries c.in-Some.ensures.unchanged in
+    take_is (tree_at ws) es es' x (Some c.in-Some.term) c.in-Some.ensures.value c.in-Some.ensures.updates c.in-Some.ensures.entries c.in-Some.ensures.unchanged in
     let P : Tree → Type 0 = λ v. ResolvesSoFar given (waiting ws es) t v in
     record {
       there = i.within x c.in-Some.term (sym c.in-Some.ensures.value);
-      within = within-removed ws es es' x i.within c.in-Some.ensures.updates.0;
+      within = within-removed ws es es' x i.within c.in-Some.ensures.updates;
       so_far = resolves-more given (waiting ws es) (waiting ws es') t u x (transport P (name_at ws c.loop-place.place (Name 0) x i.there c.in-Name.is) i.so_far) taken;
     }
 
@@ -55,12 +55,12 @@ returns-in-None-clause-resolves c =
     let ws = c.args.words.now in
     let i = c.loop-place.invariant in
     let es = c.loop-place.bound.entries in
-    let es' = c.swap_remove.new.self.entries in
+    let es' = c.unbound.new.bound.entries in
     let x = c.in-Name.name in
     let given = waiting ws c.args.bound.now.entries in
     let t = tree_at ws c.args.place in
     let nothing : Option ℕ = None in
-    let absent = take_is (tree_at ws) es es' x nothing c.in-None.ensures.value c.in-None.ensures.updates.0 c.in-None.ensures.entries c.in-None.ensures.unchanged in
+    let absent = take_is (tree_at ws) es es' x nothing c.in-None.ensures.value c.in-None.ensures.updates c.in-None.ensures.entries c.in-None.ensures.unchanged in
     let here = name_at ws c.loop-place.place (Name 0) x i.there c.in-Name.is in
     let P : Tree → Type 0 = λ v. ResolvesSoFar given (waiting ws es) t v in
     let Q : Tree → Type 0 = λ v. Resolves given (waiting ws es) t v in

@@ -2,6 +2,7 @@ use Rattle.std.proofs.Common.{ap, drop, length, subst, List, length-append, arit
 use Rattle.std.proofs.lemmas.List.{length-drop}
 use Rattle.ic_flat.specs.declared.word.Word.{Word}
 use Rattle.ic_flat.specs.Words.{forest}
+use Rattle.ic_flat.specs.lemmas.WordLaws.{forest-le}
 use Rattle.ic_round.specs.Firing.{arguments}
 use Rattle.ic_flat_round.specs.inner.Room.{Appended}
 use Rattle.ic_flat_round.specs.inner.RuleWords.{against_words}
@@ -75,8 +76,27 @@ put_products-requires-clause-room c =
       length-append (against_words base (length ts) ts terms) (against_words base (length us) us (drop (length ts) terms)),
     )
 
-pub returns : goal.returns
-returns c =
+pub overflow_add-result : goal.overflow_add-result
+overflow_add-result c =
+    let all = c.requires.terms_there in
+    omega (
+      arith,
+      all,
+      count_at c.args.words.now c.args.left c.arguments-left_count.result c.requires.whole c.requires.there c.arguments-left_count.ensures,
+      count_at c.args.words.now c.args.right c.arguments-right_count.result c.requires.whole c.requires.right_there c.arguments-right_count.ensures,
+      forest-le c.args.template.now,
+    )
+
+pub returns-clause-count : goal.returns-clause-count
+returns-clause-count c =
+    omega (
+      arith,
+      count_at c.args.words.now c.args.left c.arguments-left_count.result c.requires.whole c.requires.there c.arguments-left_count.ensures,
+      count_at c.args.words.now c.args.right c.arguments-right_count.result c.requires.whole c.requires.right_there c.arguments-right_count.ensures,
+    )
+
+pub returns-clause-put : goal.returns-clause-put
+returns-clause-put c =
     let ws = c.args.words.now in
     let vs = c.args.template.now in
     let terms = forest vs in

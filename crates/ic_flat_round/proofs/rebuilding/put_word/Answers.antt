@@ -28,8 +28,8 @@ pub returns-in_ok-push-in-Some-clause-puts : goal.returns-in_ok-push-in-Some-cla
 returns-in_ok-push-in-Some-clause-puts c =
     let ws = c.args.words.now in
     let es = c.args.bound.now.entries in
-    let es' = c.swap_remove.new.self.entries in
-    let taken = take_is (tree_at ws) es es' c.in-Name.name (Some c.in-Some.place) c.in-Some.ensures.value c.in-Some.ensures.updates.0 c.in-Some.ensures.entries c.in-Some.ensures.unchanged in
+    let es' = c.unbound.new.bound.entries in
+    let taken = take_is (tree_at ws) es es' c.in-Name.name (Some c.in-Some.place) c.in-Some.ensures.value c.in-Some.ensures.updates c.in-Some.ensures.entries c.in-Some.ensures.unchanged in
     (word-bound ws c.args.span (Name 0) c.requires.span c.requires.some (waiting ws es) (waiting ws es') c.args.out.now.items c.args.stack.now.items c.push.new.self.items
     c.in-Name.name c.in-Some.place c.in-Name.is taken (c.requires.within c.in-Name.name c.in-Some.place (sym c.in-Some.ensures.value)) c.in_ok-push-in-Some.ensures.items).0
 
@@ -37,8 +37,8 @@ pub returns-in_ok-push-in-Some-clause-less : goal.returns-in_ok-push-in-Some-cla
 returns-in_ok-push-in-Some-clause-less c =
     let ws = c.args.words.now in
     let es = c.args.bound.now.entries in
-    let es' = c.swap_remove.new.self.entries in
-    let taken = take_is (tree_at ws) es es' c.in-Name.name (Some c.in-Some.place) c.in-Some.ensures.value c.in-Some.ensures.updates.0 c.in-Some.ensures.entries c.in-Some.ensures.unchanged in
+    let es' = c.unbound.new.bound.entries in
+    let taken = take_is (tree_at ws) es es' c.in-Name.name (Some c.in-Some.place) c.in-Some.ensures.value c.in-Some.ensures.updates c.in-Some.ensures.entries c.in-Some.ensures.unchanged in
     (word-bound ws c.args.span (Name 0) c.requires.span c.requires.some (waiting ws es) (waiting ws es') c.args.out.now.items c.args.stack.now.items c.push.new.self.items
     c.in-Name.name c.in-Some.place c.in-Name.is taken (c.requires.within c.in-Name.name c.in-Some.place (sym c.in-Some.ensures.value)) c.in_ok-push-in-Some.ensures.items).1
 
@@ -46,9 +46,9 @@ pub returns-in_ok-push-in-None-clause-puts : goal.returns-in_ok-push-in-None-cla
 returns-in_ok-push-in-None-clause-puts c =
     let ws = c.args.words.now in
     let es = c.args.bound.now.entries in
-    let es' = c.swap_remove.new.self.entries in
+    let es' = c.unbound.new.bound.entries in
     let nothing : Option ℕ = None in
-    let absent = take_is (tree_at ws) es es' c.in-Name.name nothing c.in-None.ensures.value c.in-None.ensures.updates.0 c.in-None.ensures.entries c.in-None.ensures.unchanged in
+    let absent = take_is (tree_at ws) es es' c.in-Name.name nothing c.in-None.ensures.value c.in-None.ensures.updates c.in-None.ensures.entries c.in-None.ensures.unchanged in
     (word-name ws c.args.span (Name 0) c.requires.span c.requires.some (waiting ws es) (waiting ws es') c.args.out.now.items c.push-in-None.new.self.items c.args.stack.now.items
     c.in-Name.name c.in-Name.is absent.0 absent.1 c.in_ok-push-in-None.ensures.items).0
 
@@ -56,9 +56,9 @@ pub returns-in_ok-push-in-None-clause-less : goal.returns-in_ok-push-in-None-cla
 returns-in_ok-push-in-None-clause-less c =
     let ws = c.args.words.now in
     let es = c.args.bound.now.entries in
-    let es' = c.swap_remove.new.self.entries in
+    let es' = c.unbound.new.bound.entries in
     let nothing : Option ℕ = None in
-    let absent = take_is (tree_at ws) es es' c.in-Name.name nothing c.in-None.ensures.value c.in-None.ensures.updates.0 c.in-None.ensures.entries c.in-None.ensures.unchanged in
+    let absent = take_is (tree_at ws) es es' c.in-Name.name nothing c.in-None.ensures.value c.in-None.ensures.updates c.in-None.ensures.entries c.in-None.ensures.unchanged in
     (word-name ws c.args.span (Name 0) c.requires.span c.requires.some (waiting ws es) (waiting ws es') c.args.out.now.items c.push-in-None.new.self.items c.args.stack.now.items
     c.in-Name.name c.in-Name.is absent.0 absent.1 c.in_ok-push-in-None.ensures.items).1
 
