@@ -22,7 +22,7 @@ use Rattle.ic_text.specs.SystemSense.{system_sense}
 use Rattle.ic_text.specs.SystemText.{ReadsSystem}
 use Rattle.ic_commands.specs.LineSource.{LinePhrase, nothing, submit, copy, about, list, run, is_number, IsLine, number_words, line_words}
 use Rattle.ic_commands.specs.LineSense.{unless_long, fits_budget, unless_unfit, submitted, line_sense}
-use Rattle.ic_commands.specs.LineText.{SpellsSubmit}
+use Rattle.ic_commands.specs.LineText.{IsSubmitText}
 use Rattle.ic_commands.specs.inner.Line.{HasNoWord, number_word, is_number_or_none, is_nothing, opening_text, opening_of, IsLineOf, IsSubmitLine, ReadsBehind}
 use Rattle.ic_text.specs.lemmas.ReadOnce.{some-injective, none_is_some}
 use Rattle.ic_commands.proofs.LineReading.{is_sense_behind, text-opening_of, opening_in, opens, opening_in-line, behind_one}
@@ -197,8 +197,8 @@ module _ (rest w text digits source : List ℕ) (split : tokens rest ≡ before 
         let words = sym (number_words-of digits) in let name = word_of-named w named in
         split ∙ ap (before (word_of w)) (parted ∙ ap (before (word_of digits)) spells.tokens) ∙ (λ i. Some (name i ++ (words i ++ system_words s)))
 
-    pub submit_spelled : (s : SystemPhrase) → IsSpelling IsSystemPhrase system_words source s → IsSubmitLine (before (word_of (opening_text opening.Submit)) (tokens rest))
-    submit_spelled s spells = (w, number_word digits, s, line_is s spells.phrase, ap (before (word_of (codes "submit"))) (number_behind s spells))
+    pub submit_spelled : (s : SystemPhrase) → IsSpelling IsSystemPhrase system_words source s → are_within w digits ≡ true → IsSubmitLine (before (word_of (opening_text opening.Submit)) (tokens rest))
+    submit_spelled s spells within = (w, number_word digits, s, line_is s spells.phrase, ap (before (word_of (codes "submit"))) (number_behind s spells), within)
 
     no_system : NoLine rest → (s : SystemPhrase) → IsSpelling IsSystemPhrase system_words source s → ⊥
     no_system none s spells = none (submit w (number_word digits) s) (line_is s spells.phrase) (ap (before (word_of (codes "submit"))) (number_behind s spells))
@@ -374,5 +374,5 @@ pub submit_line : (text w rest : List ℕ) → tokens text ≡ before (word_of w
 submit_line text w rest split opens is =
     subst IsSubmitLine (sym (split ∙ ap (λ x. before (word_of x) (tokens rest)) (text-opening_of w opening.Submit opens))) is
 
-pub spells_submit : (text : List ℕ) → IsSubmitLine (tokens text) → SpellsSubmit text
-spells_submit text is = (is.0, is.1, is.2, record { phrase = is.3; tokens = is.4 })
+pub submit_text : (text : List ℕ) → length text ≤ MAX_TEXT → IsSubmitLine (tokens text) → IsSubmitText text
+submit_text text short is = (short, (is.0, is.1, is.2, record { phrase = is.3; tokens = is.4 }, is.5))

@@ -5,7 +5,7 @@ ghost use Rattle.std.specs.Option.{option_map};
 ghost use Rattle.ic_rules.specs.JobName.{is_job_name, is_job_word};
 ghost use Rattle.ic_commands.specs.LineSource.{is_number, run};
 ghost use Rattle.ic_commands.specs.LineSense.{asked, fits_budget, line_sense};
-ghost use Rattle.ic_commands.specs.LineText.{ReadsLine, SpellsSubmit};
+ghost use Rattle.ic_commands.specs.LineText.{ReadsLine, IsSubmitText};
 ghost use Rattle.ic_text.specs.Token.{word_of, before, tokens};
 ghost use Rattle.ic_commands.specs.declared.line.Opening.TheVariants as opening;
 ghost use Rattle.ic_commands.specs.inner.Line.{opening_of, opening_text, number_word, is_number_or_none, IsLineOf, IsSubmitLine, ReadsBehind};
@@ -247,7 +247,7 @@ pub fn read_command(alloc: Global, text: &[u8]) -> Result<Line, TextFault>
     ensures read { IfOk result (λ line. ReadsLine text.now (Ok line)) }
     ensures refused { IfErr result
         (λ fault. fault ≢ TextFault.Memory → ReadsLine text.now (Err fault)) }
-    ensures memory { result ≡ Err TextFault.Memory → SpellsSubmit text.now }
+    ensures memory { result ≡ Err TextFault.Memory → IsSubmitText text.now }
 {
     if text.len() > MAX_TEXT {
         return Err(TextFault::Limit);

@@ -2,7 +2,7 @@
 
 ghost use Rattle.std.specs.Prelude.{◌≡◌, ◌≢◌, IfOk, IfErr, Ok, Err};
 ghost use Rattle.ic_commands.specs.LineSource.{LinePhrase};
-ghost use Rattle.ic_commands.specs.LineText.{SpellsLine, SpellsSubmit};
+ghost use Rattle.ic_commands.specs.LineText.{SpellsLine, IsSubmitText};
 ghost use Rattle.ic_commands.specs.ScriptSense.{without_run, ReadsScriptLine};
 ghost use Rattle.ic_commands.specs.inner.ScriptLine.{is_run};
 
@@ -38,7 +38,7 @@ pub fn read_script_line(alloc: Global, text: &[u8]) -> Result<Option<Command>, T
     ensures read { IfOk result (λ command. ReadsScriptLine text.now (Ok command)) }
     ensures refused { IfErr result
         (λ fault. fault ≢ TextFault.Memory → ReadsScriptLine text.now (Err fault)) }
-    ensures memory { result ≡ Err TextFault.Memory → SpellsSubmit text.now }
+    ensures memory { result ≡ Err TextFault.Memory → IsSubmitText text.now }
 {
     if text.len() <= MAX_TEXT && begins_with_run(text) {
         return Err(TextFault::Syntax);

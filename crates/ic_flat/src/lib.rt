@@ -3,7 +3,7 @@
 //! A term is written in prefix order, an agent's symbol before its arguments, so that no parentheses are needed. A `Flat`
 //! keeps the words of the interface and behind them those of the equations, and stands for the same configuration as a
 //! `Config`; a `FlatSystem` has one beside its rules, and stands for the same as a `System`. Nothing here recurses on the
-//! depth of a term.
+//! depth of a configuration's terms.
 #![tactic(auto)]
 
 mod arities;

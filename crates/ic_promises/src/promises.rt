@@ -6,8 +6,7 @@ ghost use Rattle.ic_term.specs.Configuration.{Configuration};
 ghost use Rattle.ic_rules.specs.RuleFault.{Answers as RuleAnswers};
 ghost use Rattle.ic_rules.specs.RuleSet.{built};
 ghost use Rattle.ic_rules.specs.Written.{written};
-ghost use Rattle.ic_text.specs.SystemSource.{SystemPhrase};
-ghost use Rattle.ic_text.specs.SystemText.{SpellsSystem, ReadsSystem};
+ghost use Rattle.ic_text.specs.SystemText.{ReadsSystem, IsSystemText};
 ghost use Rattle.ic_settle.specs.Settling.{settled};
 ghost use Rattle.ic_settle.specs.NameSteps.{NameStep, NameSteps};
 ghost use Rattle.ic_round.specs.Steps.{Steps};
@@ -29,8 +28,7 @@ pub fn read_system(alloc: Global, text: &[u8]) -> Result<System, TextFault>
     ensures read { IfOk result (λ system. ReadsSystem text.now (Ok system)) }
     ensures refused { IfErr result
         (λ fault. fault ≢ TextFault.Memory → ReadsSystem text.now (Err fault)) }
-    ensures memory { result ≡ Err TextFault.Memory
-        → (s : SystemPhrase) × SpellsSystem text.now s }
+    ensures memory { result ≡ Err TextFault.Memory → IsSystemText text.now }
 {
     ic_text::read_system(alloc, text)
 }

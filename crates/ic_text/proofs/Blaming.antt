@@ -27,7 +27,7 @@ use Rattle.ic_text.specs.Name.{is_name, name_number}
 use Rattle.ic_text.specs.Sense.{has_its_arity}
 use Rattle.ic_text.specs.Words.{symbols_among, names_among}
 use Rattle.ic_text.specs.WordFaults.{word_table, keeps, agree, IsSecondUse}
-use Rattle.ic_text.specs.inner.Numbered.{IsWord, item_found, table_with, table_over, is_word_in_limits, is_word_over, numbered_words, Refuses}
+use Rattle.ic_text.specs.inner.Numbered.{IsWord, word_found, table_with, table_over, is_word_in_limits, is_word_over, numbered_words, Refuses}
 use Rattle.ic_text.specs.inner.Prefix.{node_of, nodes_of}
 use Rattle.ic_text.specs.inner.Refused.{IsRefusedIn, IsWordLimit, Takes, Stops, are_within, limit_of}
 use Rattle.ic_text.proofs.Numbering.{Outcome, kept, limited, clashed, outcome, with_word, go, go_on, go-numbered_words, and_right, not_le}
@@ -99,7 +99,7 @@ module _ (front : List Symbol) (w : Symbol) (within : are_within front ≡ true)
   joins : is_word_in_limits w ≡ true → nat_le (length (table_with table w)) MAX_SYMBOLS ≡ true → are_within more ≡ true
   joins low few = within_more ∙ and_from _ _ (and_from _ _ words_within (and_from _ _ low refl)) few
 
-  pub kept_within : (item : Word) → item_found table w ≡ Ok item → are_within more ≡ true
+  pub kept_within : (item : Word) → word_found table w ≡ Ok item → are_within more ≡ true
   kept_within item e = by_outcome what
     where
       by_outcome : Outcome table w [] → are_within more ≡ true
@@ -110,7 +110,7 @@ module _ (front : List Symbol) (w : Symbol) (within : are_within front ≡ true)
       by_outcome (limited found beyond) = cc
       by_outcome (clashed n found is over same) = cc
 
-  pub kept_agree : (item : Word) → item_found table w ≡ Ok item → agree front ≡ true → agree more ≡ true
+  pub kept_agree : (item : Word) → word_found table w ≡ Ok item → agree front ≡ true → agree more ≡ true
   kept_agree item e so_far = by_outcome what
     where
       by_outcome : Outcome table w [] → agree more ≡ true
@@ -122,7 +122,7 @@ module _ (front : List Symbol) (w : Symbol) (within : are_within front ≡ true)
       by_outcome (limited found beyond) = cc
       by_outcome (clashed n found is over same) = cc
 
-  pub limit_without : item_found table w ≡ Err OverLimit → are_within more ≡ false
+  pub limit_without : word_found table w ≡ Err OverLimit → are_within more ≡ false
   limit_without e = by_outcome what
     where
       by_outcome : Outcome table w [] → are_within more ≡ false
@@ -131,7 +131,7 @@ module _ (front : List Symbol) (w : Symbol) (within : are_within front ≡ true)
           within_more ∙ ap (λ b. (b && (is_word_in_limits w && true)) && nat_le (length (table_with table w)) MAX_SYMBOLS) words_within ∙ beyond
       by_outcome (clashed n found is over same) = cc
 
-  pub clash_within : (n : ℕ) → item_found table w ≡ Err (OtherArity n) → are_within more ≡ true
+  pub clash_within : (n : ℕ) → word_found table w ≡ Err (OtherArity n) → are_within more ≡ true
   clash_within n e = by_outcome what
     where
       by_outcome : Outcome table w [] → are_within more ≡ true
@@ -141,7 +141,7 @@ module _ (front : List Symbol) (w : Symbol) (within : are_within front ≡ true)
           joins is (ap (λ t. nat_le (length t) MAX_SYMBOLS) same
           ∙ (and_parts (list_all is_word_in_limits front) (nat_le (length table) MAX_SYMBOLS) (sym (within-words front) ∙ within)).1)
 
-  pub clash_disagree : (n : ℕ) → item_found table w ≡ Err (OtherArity n) → agree more ≡ false
+  pub clash_disagree : (n : ℕ) → word_found table w ≡ Err (OtherArity n) → agree more ≡ false
   clash_disagree n e = by_outcome what
     where
       by_outcome : Outcome table w [] → agree more ≡ false
@@ -150,7 +150,7 @@ module _ (front : List Symbol) (w : Symbol) (within : are_within front ≡ true)
       by_outcome (clashed m found is over same) =
           agree_more ∙ and_right (list_all (is_word_over (table_with table w)) front) _ (ap (λ b. b && true) over)
 
-  pub clash_table : (n : ℕ) → item_found table w ≡ Err (OtherArity n) → table_with table w ≡ table
+  pub clash_table : (n : ℕ) → word_found table w ≡ Err (OtherArity n) → table_with table w ≡ table
   clash_table n e = by_outcome what
     where
       by_outcome : Outcome table w [] → table_with table w ≡ table
@@ -159,7 +159,7 @@ module _ (front : List Symbol) (w : Symbol) (within : are_within front ≡ true)
       by_outcome (clashed m found is over same) = same
 
   -- the limit that a word passes isn't kept
-  pub passes : item_found table w ≡ Err OverLimit → keeps (limit_of w) more ≡ false
+  pub passes : word_found table w ≡ Err OverLimit → keeps (limit_of w) more ≡ false
   passes e = by_name (is_name w.text) (nat_lt MAX_SYMBOL_TEXT (length w.text)) (nat_lt MAX_ARITY w.arity) refl refl refl
     where
       symbols_more : is_name w.text ≡ false → symbols_among more ≡ symbols_among front ++ w ∷ []
@@ -171,7 +171,7 @@ module _ (front : List Symbol) (w : Symbol) (within : are_within front ≡ true)
 
       named_over : is_name w.text ≡ true → (b : Bool) → nat_le (name_number w.text) MAX_NAME ≡ b → b ≡ false
       named_over named true low =
-          let fine : item_found table w ≡ Ok (Name (name_number w.text)) = rw (named, low) refl in cc
+          let fine : word_found table w ≡ Ok (Name (name_number w.text)) = rw (named, low) refl in cc
       named_over named false low = refl
 
       name_fails : is_name w.text ≡ true → keeps NameNumber more ≡ false
@@ -192,7 +192,7 @@ module _ (front : List Symbol) (w : Symbol) (within : are_within front ≡ true)
         where
           by_found : (o : Option ℕ) (room : Bool) → number_of_text table w.text ≡ o → nat_lt (length table) MAX_SYMBOLS ≡ room → keeps Symbols more ≡ false
           by_found None true found room =
-              let fine : item_found table w ≡ Ok (Agent (length table) w.arity) = rw (named, low, found, room) refl in cc
+              let fine : word_found table w ≡ Ok (Agent (length table) w.arity) = rw (named, low, found, room) refl in cc
           by_found None false found room =
               let grown : table_with table w ≡ table ++ w ∷ [] = rw (named, found) refl in
               let whole : word_table more ≡ table ++ w ∷ [] = sym (table-words more []) ∙ next_table ∙ grown in
@@ -201,8 +201,8 @@ module _ (front : List Symbol) (w : Symbol) (within : are_within front ≡ true)
           by_found (Some n) room found _ = by_arity (has_arity w.arity (slice_get table n)) refl
             where
               by_arity : (b : Bool) → has_arity w.arity (slice_get table n) ≡ b → keeps Symbols more ≡ false
-              by_arity true same = let fine : item_found table w ≡ Ok (Agent n w.arity) = rw (named, low, found, same) refl in cc
-              by_arity false other = let fine : item_found table w ≡ Err (OtherArity n) = rw (named, low, found, other) refl in cc
+              by_arity true same = let fine : word_found table w ≡ Ok (Agent n w.arity) = rw (named, low, found, same) refl in cc
+              by_arity false other = let fine : word_found table w ≡ Err (OtherArity n) = rw (named, low, found, other) refl in cc
 
       by_name : (b l a : Bool) → is_name w.text ≡ b → nat_lt MAX_SYMBOL_TEXT (length w.text) ≡ l → nat_lt MAX_ARITY w.arity ≡ a → keeps (limit_of w) more ≡ false
       by_name true l a named long many = rw named (name_fails named)
@@ -214,25 +214,25 @@ module _ (front : List Symbol) (w : Symbol) (within : are_within front ≡ true)
           rw (named, long, many) (full named (and_from _ _ (under_most (length w.text) MAX_SYMBOL_TEXT long) (under_most w.arity MAX_ARITY many)))
 
 -- a symbol that was found with another arity
-pub found_number : (table : List Symbol) (w : Symbol) (n : ℕ) → item_found table w ≡ Err (OtherArity n) → number_of_text table w.text ≡ Some n
+pub found_number : (table : List Symbol) (w : Symbol) (n : ℕ) → word_found table w ≡ Err (OtherArity n) → number_of_text table w.text ≡ Some n
 found_number table w n e = by_cases (is_name w.text) (nat_le (name_number w.text) MAX_NAME) (fits_limits w.text w.arity) (number_of_text table w.text) refl refl refl refl
   where
     by_found : is_name w.text ≡ false → fits_limits w.text w.arity ≡ true → (m : ℕ) → number_of_text table w.text ≡ Some m
         → (b : Bool) → has_arity w.arity (slice_get table m) ≡ b → number_of_text table w.text ≡ Some n
-    by_found named low m found true same = let fine : item_found table w ≡ Ok (Agent m w.arity) = rw (named, low, found, same) refl in cc
+    by_found named low m found true same = let fine : word_found table w ≡ Ok (Agent m w.arity) = rw (named, low, found, same) refl in cc
     by_found named low m found false other =
-        let here : item_found table w ≡ Err (OtherArity m) = rw (named, low, found, other) refl in
+        let here : word_found table w ≡ Err (OtherArity m) = rw (named, low, found, other) refl in
         let number : m ≡ n = cc in
         found ∙ ap Some number
 
     by_room : is_name w.text ≡ false → fits_limits w.text w.arity ≡ true → number_of_text table w.text ≡ None → (b : Bool) → nat_lt (length table) MAX_SYMBOLS ≡ b → number_of_text table w.text ≡ Some n
-    by_room named low found true room = let fine : item_found table w ≡ Ok (Agent (length table) w.arity) = rw (named, low, found, room) refl in cc
-    by_room named low found false room = let fine : item_found table w ≡ Err OverLimit = rw (named, low, found, room) refl in cc
+    by_room named low found true room = let fine : word_found table w ≡ Ok (Agent (length table) w.arity) = rw (named, low, found, room) refl in cc
+    by_room named low found false room = let fine : word_found table w ≡ Err OverLimit = rw (named, low, found, room) refl in cc
 
     by_cases : (a b d : Bool) (o : Option ℕ) → is_name w.text ≡ a → nat_le (name_number w.text) MAX_NAME ≡ b → fits_limits w.text w.arity ≡ d → number_of_text table w.text ≡ o → number_of_text table w.text ≡ Some n
-    by_cases true true d o named low fits found = let fine : item_found table w ≡ Ok (Name (name_number w.text)) = rw (named, low) refl in cc
-    by_cases true false d o named low fits found = let fine : item_found table w ≡ Err OverLimit = rw (named, low) refl in cc
-    by_cases false b false o named low fits found = let fine : item_found table w ≡ Err OverLimit = rw (named, fits) refl in cc
+    by_cases true true d o named low fits found = let fine : word_found table w ≡ Ok (Name (name_number w.text)) = rw (named, low) refl in cc
+    by_cases true false d o named low fits found = let fine : word_found table w ≡ Err OverLimit = rw (named, low) refl in cc
+    by_cases false b false o named low fits found = let fine : word_found table w ≡ Err OverLimit = rw (named, fits) refl in cc
     by_cases false b true None named low fits found = by_room named fits found _ refl
     by_cases false b true (Some m) named low fits found = by_found named fits m found _ refl
 
@@ -283,7 +283,7 @@ pub record SoFar (ws : List Symbol) (k : ℕ) (n : Numbering) : Type 0 where
   pub table : n.symbols ≡ table_over [] (take k ws)
   pub within : (j : ℕ) → j ≤ k → are_within (take j ws) ≡ true
   pub clash : ClashIn ws k n.clash
-  pub same : go n.symbols (is_some n.clash) n.items.items (drop k ws) ≡ numbered_words ws
+  pub same : go n.symbols (is_some n.clash) n.words.items (drop k ws) ≡ numbered_words ws
 
 -- one more front of which something holds
 one_more : (ws : List Symbol) (k : ℕ) (p : List Symbol → Bool) → ((j : ℕ) → j ≤ k → p (take j ws) ≡ true) → p (take (k + 1) ws) ≡ true
@@ -297,16 +297,16 @@ module _ (ws : List Symbol) (k : ℕ) (w : Symbol) (old : Numbering) (so_far : S
   front_within : are_within the_front ≡ true
   front_within = so_far.within k (omega arith)
 
-  found_here : (r : Result Word SymbolFault) → item_found old.symbols w ≡ r → item_found (table_over [] the_front) w ≡ r
-  found_here r e = ap (λ t. item_found t w) (sym so_far.table) ∙ e
+  found_here : (r : Result Word SymbolFault) → word_found old.symbols w ≡ r → word_found (table_over [] the_front) w ≡ r
+  found_here r e = ap (λ t. word_found t w) (sym so_far.table) ∙ e
 
-  going : go_on (item_found old.symbols w) (λ item. go (table_with old.symbols w) (is_some old.clash) (old.items.items ++ item ∷ []) (drop (k + 1) ws)) (go old.symbols true old.items.items (drop (k + 1) ws)) ≡ numbered_words ws
-  going = ap (go old.symbols (is_some old.clash) old.items.items) (sym stands.rest) ∙ so_far.same
+  going : go_on (word_found old.symbols w) (λ item. go (table_with old.symbols w) (is_some old.clash) (old.words.items ++ item ∷ []) (drop (k + 1) ws)) (go old.symbols true old.words.items (drop (k + 1) ws)) ≡ numbered_words ws
+  going = ap (go old.symbols (is_some old.clash) old.words.items) (sym stands.rest) ∙ so_far.same
 
   table_on : table_over [] (take (k + 1) ws) ≡ table_with (table_over [] the_front) w
   table_on = ap (table_over []) stands.front ∙ table_over-append the_front (w ∷ []) []
 
-  pub limit_word : item_found old.symbols w ≡ Err OverLimit → IsWordLimit (limit_of w) ws k
+  pub limit_word : word_found old.symbols w ≡ Err OverLimit → IsWordLimit (limit_of w) ws k
   limit_word e = record {
     first = record {
       inside = stands.inside;
@@ -318,22 +318,22 @@ module _ (ws : List Symbol) (k : ℕ) (w : Symbol) (old : Numbering) (so_far : S
   }
 
   module _ (new : Numbering) where
-    kept_clash : (item : Word) → item_found old.symbols w ≡ Ok item → (c : Option Clash) → ClashIn ws k c → ClashIn ws (k + 1) c
+    kept_clash : (item : Word) → word_found old.symbols w ≡ Ok item → (c : Option Clash) → ClashIn ws k c → ClashIn ws (k + 1) c
     kept_clash item e None agrees =
         one_more ws k agree agrees (ap agree stands.front ∙ kept_agree the_front w front_within item (found_here _ e) (agrees k (omega arith)))
     kept_clash item e (Some c) is = is
 
-    went_on : (item : Word) → item_found old.symbols w ≡ Ok item → Takes k w (Ok item) old new → SoFar ws (k + 1) new
+    went_on : (item : Word) → word_found old.symbols w ≡ Ok item → Takes k w (Ok item) old new → SoFar ws (k + 1) new
     went_on item e took = record {
       table = took.0 ∙ ap (λ t. table_with t w) so_far.table ∙ sym table_on;
       within = one_more ws k are_within so_far.within (ap are_within stands.front ∙ kept_within the_front w front_within item (found_here _ e));
       clash = subst (ClashIn ws (k + 1)) (sym took.2) (kept_clash item e old.clash so_far.clash);
       same = (λ i. go (took.0 i) (is_some (took.2 i)) (took.1 i) (drop (k + 1) ws))
-          ∙ ap (λ r. go_on r (λ x. go (table_with old.symbols w) (is_some old.clash) (old.items.items ++ x ∷ []) (drop (k + 1) ws)) (go old.symbols true old.items.items (drop (k + 1) ws))) (sym e)
+          ∙ ap (λ r. go_on r (λ x. go (table_with old.symbols w) (is_some old.clash) (old.words.items ++ x ∷ []) (drop (k + 1) ws)) (go old.symbols true old.words.items (drop (k + 1) ws))) (sym e)
           ∙ going;
     }
 
-    second_use : (n : ℕ) → item_found old.symbols w ≡ Err (OtherArity n) → ((j : ℕ) → j ≤ k → agree (take j ws) ≡ true)
+    second_use : (n : ℕ) → word_found old.symbols w ≡ Err (OtherArity n) → ((j : ℕ) → j ≤ k → agree (take j ws) ≡ true)
         → IsSecondUse (unwrap_or (symbol_arity old.symbols n) 0) w.arity ws k
     second_use n e agrees = record {
       first = record {
@@ -348,7 +348,7 @@ module _ (ws : List Symbol) (k : ℕ) (w : Symbol) (old : Numbering) (so_far : S
       arity = refl;
     }
 
-    clash_on : (n : ℕ) → item_found old.symbols w ≡ Err (OtherArity n) → (c : Option Clash) → ClashIn ws k c
+    clash_on : (n : ℕ) → word_found old.symbols w ≡ Err (OtherArity n) → (c : Option Clash) → ClashIn ws k c
         → ClashIn ws (k + 1) (option_or c (Some (record { word = k; first = unwrap_or (symbol_arity old.symbols n) 0; second = w.arity })))
     clash_on n e None agrees = second_use n e agrees
     clash_on n e (Some c) is = is
@@ -357,7 +357,7 @@ module _ (ws : List Symbol) (k : ℕ) (w : Symbol) (old : Numbering) (so_far : S
     is_some-or None d = refl
     is_some-or (Some c) d = refl
 
-    clashed_on : (n : ℕ) → item_found old.symbols w ≡ Err (OtherArity n) → Takes k w (Err (OtherArity n)) old new → SoFar ws (k + 1) new
+    clashed_on : (n : ℕ) → word_found old.symbols w ≡ Err (OtherArity n) → Takes k w (Err (OtherArity n)) old new → SoFar ws (k + 1) new
     clashed_on n e took =
         let noted = is_some-or old.clash (record { word = k; first = unwrap_or (symbol_arity old.symbols n) 0; second = w.arity }) in
         record {
@@ -365,38 +365,38 @@ module _ (ws : List Symbol) (k : ℕ) (w : Symbol) (old : Numbering) (so_far : S
           within = one_more ws k are_within so_far.within (ap are_within stands.front ∙ clash_within the_front w front_within n (found_here _ e));
           clash = subst (ClashIn ws (k + 1)) (sym took.2) (clash_on n e old.clash so_far.clash);
           same = (λ i. go (took.0 i) ((ap is_some took.2 ∙ noted) i) (took.1 i) (drop (k + 1) ws))
-              ∙ ap (λ r. go_on r (λ x. go (table_with old.symbols w) (is_some old.clash) (old.items.items ++ x ∷ []) (drop (k + 1) ws)) (go old.symbols true old.items.items (drop (k + 1) ws))) (sym e)
+              ∙ ap (λ r. go_on r (λ x. go (table_with old.symbols w) (is_some old.clash) (old.words.items ++ x ∷ []) (drop (k + 1) ws)) (go old.symbols true old.words.items (drop (k + 1) ws))) (sym e)
               ∙ going;
         }
 
     -- so one word more has been numbered
-    pub goes_on : Takes k w (item_found old.symbols w) old new → SoFar ws (k + 1) new
-    goes_on took = by_found (item_found old.symbols w) refl took
+    pub goes_on : Takes k w (word_found old.symbols w) old new → SoFar ws (k + 1) new
+    goes_on took = by_found (word_found old.symbols w) refl took
       where
-        by_found : (r : Result Word SymbolFault) → item_found old.symbols w ≡ r → Takes k w r old new → SoFar ws (k + 1) new
+        by_found : (r : Result Word SymbolFault) → word_found old.symbols w ≡ r → Takes k w r old new → SoFar ws (k + 1) new
         by_found (Ok item) e took = went_on item e took
         by_found (Err OverLimit) e took = absurd took
         by_found (Err (OtherArity n)) e took = clashed_on n e took
         by_found (Err NoMemory) e took = absurd took
 
   -- or the word is refused
-  pub stops_word : (r : Refusal) → Stops k w (item_found old.symbols w) r → IsRefusedIn ws r
+  pub stops_word : (r : Refusal) → Stops k w (word_found old.symbols w) r → IsRefusedIn ws r
   stops_word r (inl memory) = subst (IsRefusedIn ws) (sym memory) tt
   stops_word r (inr limit) = subst (IsRefusedIn ws) (sym limit.1) (limit_word limit.0)
 
-  pub stops_numbers : (r : Refusal) → Stops k w (item_found old.symbols w) r → Refuses r.fault (numbered_words ws)
+  pub stops_numbers : (r : Refusal) → Stops k w (word_found old.symbols w) r → Refuses r.fault (numbered_words ws)
   stops_numbers r (inl memory) = subst (λ (x : Refusal). Refuses x.fault (numbered_words ws)) (sym memory) tt
   stops_numbers r (inr limit) =
       subst (λ (x : Refusal). Refuses x.fault (numbered_words ws)) (sym limit.1)
-      (ap (λ r. go_on r (λ x. go (table_with old.symbols w) (is_some old.clash) (old.items.items ++ x ∷ []) (drop (k + 1) ws)) (go old.symbols true old.items.items (drop (k + 1) ws))) (sym limit.0) ∙ going)
+      (ap (λ r. go_on r (λ x. go (table_with old.symbols w) (is_some old.clash) (old.words.items ++ x ∷ []) (drop (k + 1) ws)) (go old.symbols true old.words.items (drop (k + 1) ws))) (sym limit.0) ∙ going)
 
 -- what one word does, by what was found of it
-pub takes_item : (k : ℕ) (w : Symbol) (found : Result Word SymbolFault) (item : Word) (old new : Numbering) → Ok item ≡ found
-    → new.symbols ≡ table_with old.symbols w → new.items.items ≡ old.items.items ++ item ∷ [] → new.clash ≡ old.clash → Takes k w found old new
-takes_item k w found item old new e symbols items clash = subst (λ r. Takes k w r old new) e (symbols, items, clash)
+pub takes_word : (k : ℕ) (w : Symbol) (found : Result Word SymbolFault) (item : Word) (old new : Numbering) → Ok item ≡ found
+    → new.symbols ≡ table_with old.symbols w → new.words.items ≡ old.words.items ++ item ∷ [] → new.clash ≡ old.clash → Takes k w found old new
+takes_word k w found item old new e symbols items clash = subst (λ r. Takes k w r old new) e (symbols, items, clash)
 
 pub takes_clash : (k : ℕ) (w : Symbol) (found : Result Word SymbolFault) (n first : ℕ) (old new : Numbering) → Err (OtherArity n) ≡ found
-    → new.symbols ≡ old.symbols → new.items.items ≡ old.items.items → symbol_arity new.symbols n ≡ Some first
+    → new.symbols ≡ old.symbols → new.words.items ≡ old.words.items → symbol_arity new.symbols n ≡ Some first
     → new.clash ≡ option_or old.clash (Some (record { word = k; first = first; second = w.arity })) → Takes k w found old new
 takes_clash k w found n first old new e symbols items known clash =
     let is_first : unwrap_or (symbol_arity old.symbols n) 0 ≡ first = ap (λ t. unwrap_or (symbol_arity t n) 0) (sym symbols) ∙ ap (λ o. unwrap_or o 0) known in
@@ -425,17 +425,17 @@ module _ (nodes : List Node) (k : ℕ) (d : Node) (inside : k < length nodes) wh
   node_is_word all = word_at (nodes_of nodes) k the_word all (standing_at nodes k d inside)
 
   module _ (old : Numbering) (so_far : SoFar (nodes_of nodes) k old) where
-    pub node_goes_on : (new : Numbering) → Takes k the_word (item_found old.symbols the_word) old new → SoFar (nodes_of nodes) (k + 1) new
+    pub node_goes_on : (new : Numbering) → Takes k the_word (word_found old.symbols the_word) old new → SoFar (nodes_of nodes) (k + 1) new
     node_goes_on new took = goes_on (nodes_of nodes) k the_word old so_far (standing_at nodes k d inside) new took
 
-    pub node_word : (r : Refusal) → Stops k the_word (item_found old.symbols the_word) r → IsRefusedIn (nodes_of nodes) r
+    pub node_word : (r : Refusal) → Stops k the_word (word_found old.symbols the_word) r → IsRefusedIn (nodes_of nodes) r
     node_word r stops = stops_word (nodes_of nodes) k the_word old so_far (standing_at nodes k d inside) r stops
 
-    pub node_numbers : (r : Refusal) → Stops k the_word (item_found old.symbols the_word) r → Refuses r.fault (numbered_words (nodes_of nodes))
+    pub node_numbers : (r : Refusal) → Stops k the_word (word_found old.symbols the_word) r → Refuses r.fault (numbered_words (nodes_of nodes))
     node_numbers r stops = stops_numbers (nodes_of nodes) k the_word old so_far (standing_at nodes k d inside) r stops
 
 -- numbering begins
-pub begins : (ws : List Symbol) (n : Numbering) → n.symbols ≡ [] → n.items.items ≡ [] → n.clash ≡ None → SoFar ws 0 n
+pub begins : (ws : List Symbol) (n : Numbering) → n.symbols ≡ [] → n.words.items ≡ [] → n.clash ≡ None → SoFar ws 0 n
 begins ws n no_symbol no_item no_clash = record {
   table = no_symbol;
   within = λ j le. let none : j ≡ 0 = omega arith in ap (λ i. are_within (take i ws)) none;
@@ -448,14 +448,14 @@ pub all_numbered : (nodes : List Node) (k : ℕ) → length nodes ≤ k → drop
 all_numbered nodes k le = drop_all k (nodes_of nodes) (omega (arith, length-map nodes node_of))
 
 module _ (ws : List Symbol) (k : ℕ) (n : Numbering) (so_far : SoFar ws k n) (none : drop k ws ≡ []) where
-  last : go n.symbols (is_some n.clash) n.items.items [] ≡ numbered_words ws
-  last = ap (go n.symbols (is_some n.clash) n.items.items) (sym none) ∙ so_far.same
+  last : go n.symbols (is_some n.clash) n.words.items [] ≡ numbered_words ws
+  last = ap (go n.symbols (is_some n.clash) n.words.items) (sym none) ∙ so_far.same
 
   pub ends_clash : (c : Clash) → n.clash ≡ Some c → Err Arity ≡ numbered_words ws
-  ends_clash c e = ap (λ o. go n.symbols (is_some o) n.items.items []) (sym e) ∙ last
+  ends_clash c e = ap (λ o. go n.symbols (is_some o) n.words.items []) (sym e) ∙ last
 
   pub ends_second : (c : Clash) → n.clash ≡ Some c → IsSecondUse c.first c.second ws c.word
   ends_second c e = subst (ClashIn ws k) e so_far.clash
 
-  pub ends_numbers : n.clash ≡ None → Ok (n.symbols, n.items.items) ≡ numbered_words ws
-  ends_numbers e = ap (λ o. go n.symbols (is_some o) n.items.items []) (sym e) ∙ last
+  pub ends_numbers : n.clash ≡ None → Ok (n.symbols, n.words.items) ≡ numbered_words ws
+  ends_numbers e = ap (λ o. go n.symbols (is_some o) n.words.items []) (sym e) ∙ last

@@ -1,5 +1,5 @@
 -- Words in flat form write the terms of the words that they are made of.
-use Rattle.std.proofs.Common.{◌≡◌, ◌+◌, ◌*◌, ◌≤◌, List, [], ◌∷◌, ◌++◌, length, map, take, drop, refl, sym, ap, ◌∙◌, append-nil, length-append, arith}
+use Rattle.std.proofs.Common.{◌≡◌, ◌*◌, ◌≤◌, List, [], ◌∷◌, ◌++◌, length, map, take, drop, refl, sym, ap, ◌∙◌, append-nil, length-append, arith}
 use Rattle.std.specs.List.{flat_map, AllByRecursion}
 use Rattle.std.proofs.lemmas.List.{length-map, take_at, drop_at}
 use Rattle.ic_term.specs.Symbol.{Symbol}
@@ -11,7 +11,7 @@ use Rattle.ic_flat.specs.Flat.{pairs_of}
 use Rattle.ic_text.specs.Source.{Source, leaf, node, Sources, no_sources, more_sources, Sides, Phrase, IsSource, AreSources, IsPhrase, count_of}
 use Rattle.ic_text.specs.Sense.{number_in_table, numbered_tree, numbered_trees, numbered_pair, numbered_phrase}
 use Rattle.ic_text.specs.Words.{prefix, prefix_of_sources, phrase_prefix}
-use Rattle.ic_text.specs.inner.Numbered.{item_in}
+use Rattle.ic_text.specs.inner.Numbered.{word_from}
 use Rattle.ic_text.specs.inner.Built.{IsPaired, configuration_from}
 use Rattle.ic_text.specs.lemmas.NameLemmas.{is_name-name_text, name_number-name_text, isnt_name-symbol}
 use Rattle.ic_text.proofs.Grammar.{AreSides}
@@ -23,11 +23,11 @@ trees_of-list_of (more_trees t ts) = ap (more_trees t) (trees_of-list_of ts)
 module _ (table : List Symbol) where
   -- words over a table, before other words
   abbrev pub over : List Symbol → List Word → List Word
-  over ws us = map (item_in table) ws ++ us
+  over ws us = map (word_from table) ws ++ us
 
   over-append : (vs ws : List Symbol) (us : List Word) → over (vs ++ ws) us ≡ over vs (over ws us)
   over-append [] ws us = refl
-  over-append (v ∷ vs) ws us = ap (λ l. item_in table v ∷ l) (over-append vs ws us)
+  over-append (v ∷ vs) ws us = ap (λ l. word_from table v ∷ l) (over-append vs ws us)
 
   pub length-numbered_trees : (ts : Sources) → length (list_of (numbered_trees table ts)) ≡ count_of ts
   length-numbered_trees no_sources = refl
@@ -104,18 +104,18 @@ module _ (table : List Symbol) where
   pairs_of-sides_trees (e ∷ es) = ap (λ l. numbered_pair table e ∷ l) (pairs_of-sides_trees es)
 
   -- the words of the sides of rules write them
-  pub built-terms : (ts : List Source) → AllByRecursion IsSource ts → forest (map (item_in table) (flat_map prefix ts)) ≡ map (numbered_tree table) ts
-  built-terms ts are = ap forest (sym (append-nil (map (item_in table) (flat_map prefix ts)))) ∙ built-interface ts [] are ∙ append-nil (map (numbered_tree table) ts)
+  pub built-terms : (ts : List Source) → AllByRecursion IsSource ts → forest (map (word_from table) (flat_map prefix ts)) ≡ map (numbered_tree table) ts
+  built-terms ts are = ap forest (sym (append-nil (map (word_from table) (flat_map prefix ts)))) ∙ built-interface ts [] are ∙ append-nil (map (numbered_tree table) ts)
 
-  phrase-over : (p : Phrase) → map (item_in table) (phrase_prefix p) ≡ over (flat_map prefix p.interface) (over (sides_prefix p.equations) [])
-  phrase-over p = sym (append-nil (map (item_in table) (phrase_prefix p))) ∙ over-append (flat_map prefix p.interface) (sides_prefix p.equations) []
+  phrase-over : (p : Phrase) → map (word_from table) (phrase_prefix p) ≡ over (flat_map prefix p.interface) (over (sides_prefix p.equations) [])
+  phrase-over p = sym (append-nil (map (word_from table) (phrase_prefix p))) ∙ over-append (flat_map prefix p.interface) (sides_prefix p.equations) []
 
   -- the terms that are built are those that are written
-  built-phrase : (p : Phrase) → IsPhrase p → forest (map (item_in table) (phrase_prefix p)) ≡ map (numbered_tree table) p.interface ++ sides_trees p.equations
+  built-phrase : (p : Phrase) → IsPhrase p → forest (map (word_from table) (phrase_prefix p)) ≡ map (numbered_tree table) p.interface ++ sides_trees p.equations
   built-phrase p is =
       ap forest (phrase-over p) ∙ built-interface p.interface (over (sides_prefix p.equations) []) is.interface ∙ ap (λ l. map (numbered_tree table) p.interface ++ l) (built-equations p.equations is.equations)
 
-  pub paired-phrase : (p : Phrase) → IsPhrase p → IsPaired (map (item_in table) (phrase_prefix p)) (length p.interface)
+  pub paired-phrase : (p : Phrase) → IsPhrase p → IsPaired (map (word_from table) (phrase_prefix p)) (length p.interface)
   paired-phrase p is = record {
     whole = rw (phrase-over p) (whole-interface p.interface (over (sides_prefix p.equations) []) is.interface (whole-equations p.equations is.equations));
     equations = length p.equations;
@@ -130,5 +130,5 @@ module _ (table : List Symbol) where
       ∙ ap (configured (map (numbered_tree table) p.interface)) (pairs_of-sides_trees p.equations)
 
   -- so the configuration that is built is the one that is written
-  pub configuration_from-built : (p : Phrase) → IsPhrase p → configuration_from (length p.interface) (forest (map (item_in table) (phrase_prefix p))) ≡ numbered_phrase table p
+  pub configuration_from-built : (p : Phrase) → IsPhrase p → configuration_from (length p.interface) (forest (map (word_from table) (phrase_prefix p))) ≡ numbered_phrase table p
   configuration_from-built p is = ap (configuration_from (length p.interface)) (built-phrase p is) ∙ configuration_from-trees p

@@ -11,7 +11,7 @@ use Rattle.ic_text.specs.declared.excess.Excess.{Excess}
 use Rattle.ic_text.specs.declared.fault.TextFault.{TextFault}
 use Rattle.ic_text.specs.declared.fault.TextFault.TheVariants.{Limit, Arity, Memory}
 use Rattle.ic_text.specs.declared.misread.Detail.{Detail}
-use Rattle.ic_text.specs.declared.misread.Detail.TheVariants.{Passed, Arities}
+use Rattle.ic_text.specs.declared.misread.Detail.TheVariants.{Nothing, Passed, Arities}
 use Rattle.ic_text.specs.declared.misread.Limit.{Limit as Bound}
 use Rattle.ic_text.specs.declared.misread.Limit.TheVariants.{TextBytes, SymbolBytes, Arguments, NameNumber, Symbols, Rules, RuleNodes, Interface, Nodes}
 use Rattle.ic_flat.specs.declared.word.Word.{Word}
@@ -107,7 +107,7 @@ module _ (terms : ℕ) (ws : List Symbol) (k : ℕ) (enough : IsEnough k (length
         before = λ b less. ap (keeps b) (sym (take-take (j + 1) k ws low)) ∙ is.before b less;
       }
   word_in Arity (Some j) (Arities before here) is = second_use before here j is
-  word_in Memory None d is = tt
+  word_in Memory None Nothing is = tt
   word_in f w d is = absurd is
 
   pub stopped-front : (o : Option Excess) → InFront o → (r : Refusal) → IsStoppedIn front o r → IsStoppedIn ws o r

@@ -14,7 +14,7 @@ use Rattle.ic_flat.specs.declared.word.Word.TheVariants.{Name, Agent}
 use Rattle.ic_text.specs.declared.fault.TextFault.{TextFault}
 use Rattle.ic_text.specs.declared.fault.TextFault.TheVariants.{Limit, Arity, Memory}
 use Rattle.ic_text.specs.Name.{is_name, name_number}
-use Rattle.ic_text.specs.inner.Numbered.{item_found, table_with, table_over, is_word_in_limits, is_word_over, item_in, unless_refused, numbered_words}
+use Rattle.ic_text.specs.inner.Numbered.{word_found, table_with, table_over, is_word_in_limits, is_word_over, word_from, unless_refused, numbered_words}
 use Rattle.ic_text.proofs.TableLemmas.{slice_get-append, slice_get-next, number_of_text-append, number_of_text-next, number_of_text-lt}
 
 abbrev pub Numbering : Type 0
@@ -34,14 +34,14 @@ finish table false items = Ok (table, items)
 -- numbering word by word, which goes on behind a clash to find a limit
 abbrev pub go : List Symbol → Bool → List Word → List Symbol → Numbering
 go table clash items [] = finish table clash items
-go table clash items (w ∷ ws) = go_on (item_found table w) (λ item. go (table_with table w) clash (items ++ item ∷ []) ws) (go table true items ws)
+go table clash items (w ∷ ws) = go_on (word_found table w) (λ item. go (table_with table w) clash (items ++ item ∷ []) ws) (go table true items ws)
 
 -- the answer over all words
 abbrev answer : List Symbol → Bool → List Word → List Symbol → Numbering
 answer table clash items ws =
     unless_refused (list_all is_word_in_limits ws && nat_le (length (table_over table ws)) MAX_SYMBOLS)
     (not clash && list_all (is_word_over (table_over table ws)) ws)
-    (table_over table ws, items ++ map (item_in (table_over table ws)) ws)
+    (table_over table ws, items ++ map (word_from (table_over table ws)) ws)
 
 -- a table only grows at its end
 pub with_word : (table : List Symbol) (w : Symbol) → (more : List Symbol) × (table_with table w ≡ table ++ more)
@@ -61,10 +61,10 @@ table_over-grows (w ∷ ws) table =
 
 -- what one word does, and the other words behind it
 pub data Outcome (table : List Symbol) (w : Symbol) (ws : List Symbol) : Type 0 where
-  kept : (item : Word) → item_found table w ≡ Ok item → is_word_in_limits w ≡ true → is_word_over (table_over (table_with table w) ws) w ≡ true
-      → item_in (table_over (table_with table w) ws) w ≡ item → length (table_with table w) ≤ MAX_SYMBOLS → Outcome table w ws
-  limited : item_found table w ≡ Err OverLimit → ((is_word_in_limits w && list_all is_word_in_limits ws) && nat_le (length (table_over (table_with table w) ws)) MAX_SYMBOLS) ≡ false → Outcome table w ws
-  clashed : (n : ℕ) → item_found table w ≡ Err (OtherArity n) → is_word_in_limits w ≡ true → is_word_over (table_over (table_with table w) ws) w ≡ false
+  kept : (item : Word) → word_found table w ≡ Ok item → is_word_in_limits w ≡ true → is_word_over (table_over (table_with table w) ws) w ≡ true
+      → word_from (table_over (table_with table w) ws) w ≡ item → length (table_with table w) ≤ MAX_SYMBOLS → Outcome table w ws
+  limited : word_found table w ≡ Err OverLimit → ((is_word_in_limits w && list_all is_word_in_limits ws) && nat_le (length (table_over (table_with table w) ws)) MAX_SYMBOLS) ≡ false → Outcome table w ws
+  clashed : (n : ℕ) → word_found table w ≡ Err (OtherArity n) → is_word_in_limits w ≡ true → is_word_over (table_over (table_with table w) ws) w ≡ false
       → table_with table w ≡ table → Outcome table w ws
 
 pub and_right : (a b : Bool) → b ≡ false → (a && b) ≡ false
@@ -86,7 +86,7 @@ over_at : (table : List Symbol) (w : Symbol) (n : ℕ) (b : Bool) → is_name w.
     → has_arity w.arity (slice_get table n) ≡ b → is_word_over table w ≡ b
 over_at table w n b named found e = rw (named, found) e
 
-item_at : (table : List Symbol) (w : Symbol) (n : ℕ) → is_name w.text ≡ false → number_of_text table w.text ≡ Some n → item_in table w ≡ Agent n w.arity
+item_at : (table : List Symbol) (w : Symbol) (n : ℕ) → is_name w.text ≡ false → number_of_text table w.text ≡ Some n → word_from table w ≡ Agent n w.arity
 item_at table w n named found = rw (named, found) refl
 
 same_arity : (n : ℕ) → eqb n n ≡ true
@@ -199,9 +199,9 @@ go-is (w ∷ ws) table clash items fits = by_outcome (outcome table w ws fits) (
     by_outcome (clashed n found is over same) next =
         ap (λ r. go_on r (λ i. go (table_with table w) clash (items ++ i ∷ []) ws) (go table true items ws)) found
         ∙ next table true items fits
-        ∙ refused_before (list_all is_word_in_limits ws && nat_le (length (table_over table ws)) MAX_SYMBOLS) (list_all (is_word_over (table_over table ws)) ws) (table_over table ws, items ++ map (item_in (table_over table ws)) ws)
+        ∙ refused_before (list_all is_word_in_limits ws && nat_le (length (table_over table ws)) MAX_SYMBOLS) (list_all (is_word_over (table_over table ws)) ws) (table_over table ws, items ++ map (word_from (table_over table ws)) ws)
         ∙ ap (λ t. refusal (list_all is_word_in_limits ws && nat_le (length (table_over t ws)) MAX_SYMBOLS)) (sym same)
-        ∙ sym (refused_here (is_word_in_limits w) (list_all is_word_in_limits ws) (nat_le (length (table_over (table_with table w) ws)) MAX_SYMBOLS) (is_word_over (table_over (table_with table w) ws) w) (list_all (is_word_over (table_over (table_with table w) ws)) ws) (not clash) (table_over (table_with table w) ws, items ++ map (item_in (table_over (table_with table w) ws)) (w ∷ ws)) is over)
+        ∙ sym (refused_here (is_word_in_limits w) (list_all is_word_in_limits ws) (nat_le (length (table_over (table_with table w) ws)) MAX_SYMBOLS) (is_word_over (table_over (table_with table w) ws) w) (list_all (is_word_over (table_over (table_with table w) ws)) ws) (not clash) (table_over (table_with table w) ws, items ++ map (word_from (table_over (table_with table w) ws)) (w ∷ ws)) is over)
 
 -- so all words are numbered as defined
 pub go-numbered_words : (ws : List Symbol) → go [] false [] ws ≡ numbered_words ws

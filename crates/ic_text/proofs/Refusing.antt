@@ -28,7 +28,7 @@ use Rattle.ic_text.specs.Source.{phrase_names}
 use Rattle.ic_text.specs.Words.{Written, all_words, in_a_row, phrase_prefix, rule_prefix, symbols_among, system_prefix, written_system}
 use Rattle.ic_text.specs.WordFaults.{agree, IsFaultWord}
 use Rattle.ic_text.specs.Places.{IsPlaced, IsPlacedWord}
-use Rattle.ic_text.specs.inner.Numbered.{table_over, is_word_in_limits, is_word_over, item_in, unless_refused, numbered_words, as_text_answer}
+use Rattle.ic_text.specs.inner.Numbered.{table_over, is_word_in_limits, is_word_over, word_from, unless_refused, numbered_words, as_text_answer}
 use Rattle.ic_text.specs.inner.Refused.{HasWord, IsPlaceOf, IsToldWord}
 use Rattle.ic_text.proofs.Blaming.{agree-words}
 use Rattle.ic_text.proofs.JoinedPhrase.{joined_phrase, symbols-joined, is-joined}
@@ -92,7 +92,7 @@ numbered_agree : (ws : List Symbol) (v : List Symbol × List Word) → Ok v ≡ 
 numbered_agree ws v e =
     agree-words ws ∙ by_cases (list_all is_word_in_limits ws && nat_le (length (table_over [] ws)) MAX_SYMBOLS) (list_all (is_word_over (table_over [] ws)) ws) e
   where
-    by_cases : (l o : Bool) → Ok v ≡ unless_refused {A = List Symbol × List Word} l o (table_over [] ws, map (item_in (table_over [] ws)) ws) → o ≡ true
+    by_cases : (l o : Bool) → Ok v ≡ unless_refused {A = List Symbol × List Word} l o (table_over [] ws, map (word_from (table_over [] ws)) ws) → o ≡ true
     by_cases true true e = refl
     by_cases true false e = cc
     by_cases false o e = cc
@@ -150,7 +150,7 @@ module _ {P : Type 0} (IsOne : P → Type 0) (words_of : P → List Token) (writ
     at_word f k at d is place = absurd is
 
     at_none : (f : TextFault) (d : Detail) → IsToldWord (written p) f None d → IsPlaced IsOne words_of written text f None d
-    at_none Memory d is = tt
+    at_none Memory Nothing is = tt
     at_none f d is = absurd is
 
     pub placed_at : (f : TextFault) (w at : Option ℕ) (d : Detail) → IsToldWord (written p) f w d → IsPlaceOf text w at → IsPlaced IsOne words_of written text f at d

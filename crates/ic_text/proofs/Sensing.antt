@@ -19,7 +19,7 @@ use Rattle.ic_text.specs.Sense.{symbols_after, symbol_table, has_its_arity, numb
 use Rattle.ic_text.specs.declared.prefix.Node.{Node}
 use Rattle.ic_text.specs.inner.Prefix.{node_of, nodes_of as words_of}
 use Rattle.ic_text.specs.Words.{phrase_prefix}
-use Rattle.ic_text.specs.inner.Numbered.{table_over, is_word_in_limits, is_word_over, item_in, unless_refused, numbered_words, as_text_answer, Refuses}
+use Rattle.ic_text.specs.inner.Numbered.{table_over, is_word_in_limits, is_word_over, word_from, unless_refused, numbered_words, as_text_answer, Refuses}
 use Rattle.ic_flat.specs.Words.{forest}
 use Rattle.ic_text.specs.inner.Built.{IsPaired, configuration_from}
 use Rattle.ic_text.proofs.PrefixWords.{symbols_among-phrase, names_among-phrase, limits-words, table-words, arities-words, length-phrase_prefix}
@@ -123,7 +123,7 @@ module _ (p : Phrase) (is : IsPhrase p) where
   table = symbol_table p
 
   abbrev pub items : List Word
-  items = map (item_in table) (phrase_prefix p)
+  items = map (word_from table) (phrase_prefix p)
 
   -- the limits of words and of their table
   abbrev pub in_limits : Bool
@@ -142,7 +142,7 @@ module _ (p : Phrase) (is : IsPhrase p) where
       let same_limits : list_all is_word_in_limits ws ≡ (list_all (λ s. fits_limits s.text s.arity) (phrase_symbols p) && list_all (λ n. nat_le n MAX_NAME) (phrase_names p)) =
       limits-words ws ∙ (λ i. list_all (λ s. fits_limits s.text s.arity) (symbols_among-phrase p is i) && list_all (λ n. nat_le n MAX_NAME) (names_among-phrase p is i)) in
       let same_arities : list_all (is_word_over table) ws ≡ agree = arities-words table ws ∙ ap (list_all (has_its_arity table)) (symbols_among-phrase p is) in
-      ap (λ t. unless_refused {A = List Symbol × List Word} (list_all is_word_in_limits ws && nat_le (length t) MAX_SYMBOLS) (list_all (is_word_over t) ws) (t, map (item_in t) ws)) same_table
+      ap (λ t. unless_refused {A = List Symbol × List Word} (list_all is_word_in_limits ws && nat_le (length t) MAX_SYMBOLS) (list_all (is_word_over t) ws) (t, map (word_from t) ws)) same_table
       ∙ (λ i. unless_refused {A = List Symbol × List Word} (same_limits i && nat_le (length table) MAX_SYMBOLS) (same_arities i) (table, items))
 
   pub phrase_within : (v : List Symbol × List Word) → Ok v ≡ numbered_words (phrase_prefix p) → in_limits ≡ true

@@ -23,7 +23,7 @@ use Rattle.ic_text.specs.Sense.{symbols_after, has_its_arity, numbered_phrase}
 use Rattle.ic_text.specs.SystemSource.{SystemPhrase, IsSystemPhrase, rule_symbols, rule_names, rule_nodes, system_symbols, system_names}
 use Rattle.ic_text.specs.SystemSense.{system_table, rules_over, system_parts, unless_found, system_sense}
 use Rattle.ic_text.specs.Words.{prefix, phrase_prefix, rules_prefix}
-use Rattle.ic_text.specs.inner.Numbered.{item_in, unless_refused, numbered_words, as_text_answer}
+use Rattle.ic_text.specs.inner.Numbered.{word_from, unless_refused, numbered_words, as_text_answer}
 use Rattle.ic_flat.specs.Words.{forest}
 use Rattle.ic_text.specs.inner.Built.{IsPaired, configuration_from, rules_in, joined}
 use Rattle.ic_text.proofs.BuiltTrees.{built-terms, configuration_from-built, paired-phrase}
@@ -46,7 +46,7 @@ module _ (s : SystemPhrase) (is : IsSystemPhrase s) where
   words = phrase_prefix (joined_phrase s)
 
   abbrev items : List Word
-  items = map (item_in table) words
+  items = map (word_from table) words
 
   abbrev pub in_limits : Bool
   in_limits = (list_all (λ x. fits_limits x.text x.arity) (system_symbols s) && list_all (λ n. nat_le n MAX_NAME) (system_names s)) && nat_le (length table) MAX_SYMBOLS
@@ -60,7 +60,7 @@ module _ (s : SystemPhrase) (is : IsSystemPhrase s) where
       over : List Symbol → List ℕ → Result (List Symbol × List Word) TextFault
       over ss ns = unless_refused {A = List Symbol × List Word}
           ((list_all (λ x. fits_limits x.text x.arity) ss && list_all (λ n. nat_le n MAX_NAME) ns) && nat_le (length (symbols_after [] ss)) MAX_SYMBOLS)
-          (list_all (has_its_arity (symbols_after [] ss)) ss) (symbols_after [] ss, map (item_in (symbols_after [] ss)) words)
+          (list_all (has_its_arity (symbols_after [] ss)) ss) (symbols_after [] ss, map (word_from (symbols_after [] ss)) words)
 
   pub system_within : (v : List Symbol × List Word) → Ok v ≡ numbered_words words → in_limits ≡ true
   system_within v e = numbered_within in_limits agree (table, items) v (e ∙ numbered_words-system)
@@ -70,16 +70,16 @@ module _ (s : SystemPhrase) (is : IsSystemPhrase s) where
   before = length (rules_prefix s.rules)
 
   abbrev items_before : List Word
-  items_before = map (item_in table) (rules_prefix s.rules)
+  items_before = map (word_from table) (rules_prefix s.rules)
 
   abbrev items_behind : List Word
-  items_behind = map (item_in table) (phrase_prefix s.config)
+  items_behind = map (word_from table) (phrase_prefix s.config)
 
   items-parted : items ≡ items_before ++ items_behind
-  items-parted = ap (map (item_in table)) (prefix-joined s) ∙ map-append (item_in table) (rules_prefix s.rules) (phrase_prefix s.config)
+  items-parted = ap (map (word_from table)) (prefix-joined s) ∙ map-append (word_from table) (rules_prefix s.rules) (phrase_prefix s.config)
 
   size : length items_before ≡ before
-  size = length-map (rules_prefix s.rules) (item_in table)
+  size = length-map (rules_prefix s.rules) (word_from table)
 
   front-is : take before items ≡ items_before
   front-is = ap (take before) items-parted ∙ take_at items_before items_behind before size
@@ -89,7 +89,7 @@ module _ (s : SystemPhrase) (is : IsSystemPhrase s) where
 
   rules-built : rules_in (forest (take before items)) ≡ rules_over s
   rules-built =
-      ap (λ l. rules_in (forest l)) (front-is ∙ ap (map (item_in table)) (sym (sides_through prefix s.rules)))
+      ap (λ l. rules_in (forest l)) (front-is ∙ ap (map (word_from table)) (sym (sides_through prefix s.rules)))
       ∙ ap rules_in (built-terms table (sides_of_rules s.rules) (are-sides s.rules is.rules))
       ∙ rules_in-sides table s.rules
 

@@ -9,7 +9,7 @@ use Rattle.ic_text.specs.declared.excess.Excess.{Excess}
 use Rattle.ic_text.specs.declared.fault.TextFault.{TextFault}
 use Rattle.ic_text.specs.declared.fault.TextFault.TheVariants.{Limit, Arity, Memory}
 use Rattle.ic_text.specs.declared.misread.Detail.{Detail}
-use Rattle.ic_text.specs.declared.misread.Detail.TheVariants.{Passed, Arities}
+use Rattle.ic_text.specs.declared.misread.Detail.TheVariants.{Nothing, Passed, Arities}
 use Rattle.ic_text.specs.declared.misread.Limit.{Limit as Bound}
 use Rattle.ic_text.specs.declared.misread.Limit.TheVariants.{TextBytes, SymbolBytes, Arguments, NameNumber, Symbols, Rules, RuleNodes, Interface, Nodes}
 use Rattle.ic_flat.specs.declared.word.Word.{Word}
@@ -148,7 +148,7 @@ module _ (w : Written) where
   told_word : (o : Option Excess) → Counts o → (f : TextFault) (k : Option ℕ) (d : Detail) → IsWordIn (all_words w) f k d → IsBefore o k → IsToldWord w f k d
   told_word o first Limit (Some k) (Passed bound) is before = word_limit o first bound k is before
   told_word o first Arity (Some k) (Arities first_arity here) is before = is
-  told_word o first Memory None d is before = tt
+  told_word o first Memory None Nothing is before = tt
   told_word o first f k d is before = absurd is
 
   told_excess : (o : Option Excess) → Counts o → (r : Refusal) → IsExcessAt (all_words w) o r → IsToldIn w r

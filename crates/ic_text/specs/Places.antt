@@ -71,5 +71,5 @@ IsPlaced IsOne words written text Limit (Some at) (Passed TextBytes) =
     (MAX_TEXT < length text) × (at ≡ MAX_TEXT)
 IsPlaced IsOne words written text fault (Some at) detail =
     IsPlacedWord IsOne words written text fault at detail
-IsPlaced IsOne words written text Memory None detail = Unit {0}
+IsPlaced IsOne words written text Memory None Nothing = Unit {0}
 IsPlaced IsOne words written text fault None detail = ⊥

@@ -1,11 +1,12 @@
 -- To be believed: what a text of a configuration is read as, and how a configuration is printed.
-use Rattle.std.specs.Prelude.{ℕ, ◌+◌, List, [], ◌++◌, Option, None, Some, Result, map, slice_get, codes}
+use Rattle.std.specs.Prelude.{ℕ, ◌+◌, ◌≤◌, List, [], ◌++◌, Option, None, Some, Result, length, map, slice_get, codes}
 use Rattle.std.specs.List.{flat_map}
 use Rattle.std.specs.Fmt.{decimal}
 use Rattle.ic_term.specs.Tree.{Tree, name, agent, Trees, no_trees, more_trees, Pair}
 use Rattle.ic_term.specs.Symbol.{Symbol}
 use Rattle.ic_term.specs.Configuration.{Configuration}
 use Rattle.ic_text.specs.declared.fault.TextFault.{TextFault}
+use Rattle.ic_text.specs.declared.limits.TheConstants.{MAX_TEXT}
 use Rattle.ic_text.specs.declared.fault.TextFault.TheVariants.{Syntax, Limit, Arity, NameCount, Name, Twice, Lopsided, Memory}
 use Rattle.ic_text.specs.Token.{Token, token_text}
 use Rattle.ic_text.specs.Name.{name_text}
@@ -16,6 +17,10 @@ use Rattle.ic_text.specs.Reading.{IsSpelling, IsReading}
 -- a text spells a configuration
 abbrev pub Spells : List ℕ → Phrase → Type 0
 Spells text p = IsSpelling IsPhrase phrase_words text p
+
+-- a text that isn't too long spells some configuration
+abbrev pub IsConfigText : List ℕ → Type 0
+IsConfigText text = (length text ≤ MAX_TEXT) × ((p : Phrase) × Spells text p)
 
 -- what a text of a configuration is read as
 abbrev pub Reads : List ℕ → Result (List Symbol × Configuration) TextFault → Type 0

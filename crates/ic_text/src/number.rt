@@ -3,7 +3,7 @@
 ghost use Rattle.std.specs.Prelude.{◌≡◌, ◌<◌, is_ok, [], if◌then◌else◌, length, IfErr, IfSome, OnOk};
 ghost use Rattle.std.specs.List.{AllByRecursion};
 ghost use Rattle.ic_text.specs.inner.Prefix.{node_of, nodes_of};
-ghost use Rattle.ic_text.specs.inner.Numbered.{IsWord, ItemAnswers, item_found, table_with, counted_words, Gives};
+ghost use Rattle.ic_text.specs.inner.Numbered.{IsWord, WordAnswers, word_found, table_with, counted_words, Gives};
 ghost use Rattle.ic_text.specs.inner.Refused.{IsStoppedIn, Takes, Stops, bare, limit_of};
 
 use crate::excess::{Excess, limit_at};
@@ -17,9 +17,9 @@ use ic_term::{MAX_ARITY, MAX_SYMBOL_TEXT, SymbolFault, Symbols};
 use std::alloc::Global;
 
 /// A word with its number, which a symbol gets from the table.
-fn item_of(symbols: &mut Symbols, node: &Node) -> Result<Word, SymbolFault>
+fn number_word(symbols: &mut Symbols, node: &Node) -> Result<Word, SymbolFault>
     requires { IsWord (node_of node.now) }
-    ensures item { ItemAnswers result (item_found symbols.old (node_of node.now)) }
+    ensures word { WordAnswers result (word_found symbols.old (node_of node.now)) }
     ensures symbols { symbols.new ≡
         (if is_ok result then table_with symbols.old (node_of node.now) else symbols.old) }
 {
@@ -61,7 +61,7 @@ fn limit_of(node: &Node) -> Limit
 #[derive(Drop)]
 pub(crate) struct Numbering {
     symbols: Symbols,
-    items: Vec<Word>,
+    words: Vec<Word>,
     clash: Option<Clash>,
 }
 
@@ -71,13 +71,13 @@ impl Numbering {
     fn take(&mut self, word: usize, node: &Node) -> Result<(), Refusal>
         requires { IsWord (node_of node.now) }
         ensures went { OnOk result (Takes word (node_of node.now)
-            (item_found self.old.symbols (node_of node.now)) self.old self.new) }
+            (word_found self.old.symbols (node_of node.now)) self.old self.new) }
         ensures stopped { IfErr result (Stops word (node_of node.now)
-            (item_found self.old.symbols (node_of node.now))) }
+            (word_found self.old.symbols (node_of node.now))) }
     {
-        match item_of(&mut self.symbols, node) {
-            Ok(item) => {
-                self.items.push(item)?;
+        match number_word(&mut self.symbols, node) {
+            Ok(numbered) => {
+                self.words.push(numbered)?;
                 Ok(())
             }
             Err(SymbolFault::Limit) => Err(Refusal::passed(word, limit_of(node))),
@@ -107,11 +107,11 @@ pub(crate) fn number_words(
         (counted_words excess (nodes_of nodes.now)) }
     ensures word { IfErr result (IsStoppedIn (nodes_of nodes.now) excess) }
 {
-    let items = Vec::with_capacity(alloc, nodes.len())?;
+    let words = Vec::with_capacity(alloc, nodes.len())?;
     let symbols = Symbols::new(alloc);
     let mut numbering = Numbering {
         symbols,
-        items,
+        words,
         clash: None,
     };
     for (word, node) in nodes.iter().enumerate() {
@@ -122,11 +122,11 @@ pub(crate) fn number_words(
     }
     let Numbering {
         symbols,
-        items,
+        words,
         clash,
     } = numbering;
     match clash {
         Some(clash) => Err(Refusal::two_arities(clash.word, clash.first, clash.second)),
-        None => Ok((symbols, items)),
+        None => Ok((symbols, words)),
     }
 }

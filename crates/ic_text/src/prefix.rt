@@ -127,15 +127,12 @@ impl<'a> Scan<'a> {
 /// The scan behind a mark, with what was found there.
 fn scan_behind<'a>(nodes: Vec<Node<'a>>, skip: usize, tail: Tail) -> Scan<'a>
     requires none { nodes.items ≡ [] }
-    requires few { tail.words ≤ skip }
+    requires few { tail.counts.words ≤ skip }
     ensures { cut_of result ≡ cut_behind_mark (passed tail) skip }
 {
-    let Tail {
-        mut closed,
-        words,
-        terms,
-        ..
-    } = tail;
+    let words = tail.words();
+    let terms = tail.terms();
+    let Tail { mut closed, .. } = tail;
     closed.reverse();
     Scan {
         nodes,

@@ -8,7 +8,7 @@ ghost use Rattle.ic_text.specs.inner.Survey.{Tells};
 ghost use Rattle.ic_text.specs.Places.{IsPlaced};
 ghost use Rattle.ic_text.specs.Sense.{sense};
 ghost use Rattle.ic_text.specs.Source.{Phrase, IsPhrase, phrase_words};
-ghost use Rattle.ic_text.specs.Text.{Reads, Spells};
+ghost use Rattle.ic_text.specs.Text.{Reads, Spells, IsConfigText};
 ghost use Rattle.ic_text.specs.Words.{written_phrase};
 
 use crate::blame::refusal_of;
@@ -71,7 +71,7 @@ pub fn find_config(alloc: Global, text: &[u8]) -> Result<(Symbols, Config), Misr
         (λ misread. IsPlaced IsPhrase phrase_words written_phrase text.now misread.fault
         misread.place misread.detail) }
     ensures memory { IfErr result
-        (λ misread. misread.fault ≡ TextFault.Memory → (p : Phrase) × Spells text.now p) }
+        (λ misread. misread.fault ≡ TextFault.Memory → IsConfigText text.now) }
 {
     if text.len() > MAX_TEXT {
         return Err(Misread {
@@ -96,7 +96,7 @@ pub fn read_config(alloc: Global, text: &[u8]) -> Result<(Symbols, Config), Text
     ensures over { IfOk result (λ v. IsTrue (is_over v.0 v.1)) }
     ensures refused { IfErr result
         (λ fault. fault ≢ TextFault.Memory → Reads text.now (Err fault)) }
-    ensures memory { result ≡ Err TextFault.Memory → (p : Phrase) × Spells text.now p }
+    ensures memory { result ≡ Err TextFault.Memory → IsConfigText text.now }
 {
     Ok(find_config(alloc, text)?)
 }

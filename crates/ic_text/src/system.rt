@@ -7,7 +7,7 @@ ghost use Rattle.ic_text.specs.inner.Survey.{Tells};
 ghost use Rattle.ic_text.specs.Places.{IsPlaced};
 ghost use Rattle.ic_text.specs.SystemSense.{system_sense};
 ghost use Rattle.ic_text.specs.SystemSource.{SystemPhrase, IsSystemPhrase, system_words};
-ghost use Rattle.ic_text.specs.SystemText.{SpellsSystem, ReadsSystem};
+ghost use Rattle.ic_text.specs.SystemText.{SpellsSystem, ReadsSystem, IsSystemText};
 ghost use Rattle.ic_text.specs.Words.{written_system};
 
 use crate::blame::refusal_of;
@@ -62,9 +62,9 @@ fn system_at(alloc: Global, text: &[u8], counts: Counts) -> Result<FlatSystem, M
     }
 }
 
-/// The system that a text means in flat form, with its symbols numbered by first occurrence, rules first, the names of
-/// each rule numbered by first occurrence, and `next` one above the greatest name of the configuration, or the first
-/// refusal and its place. Takes n log n steps. Nothing recurses on the nesting of the configuration.
+/// The system that a text means in flat form, or the first refusal and its place. Symbols are numbered by first
+/// occurrence, rules first, and so are the names of each rule; `next` is one above the greatest name of the configuration.
+/// Takes n log n steps. Nothing recurses on the nesting of the configuration.
 pub fn find_flat_system(alloc: Global, text: &[u8]) -> Result<FlatSystem, Misread>
     ensures read { IfOk result (λ system. ReadsSystem text.now (Ok system)) }
     ensures spelled { IfOk result (λ _. (s : SystemPhrase) × SpellsSystem text.now s) }
@@ -73,8 +73,8 @@ pub fn find_flat_system(alloc: Global, text: &[u8]) -> Result<FlatSystem, Misrea
     ensures placed { IfErr result
         (λ misread. IsPlaced IsSystemPhrase system_words written_system text.now misread.fault
         misread.place misread.detail) }
-    ensures memory { IfErr result (λ misread. misread.fault ≡ TextFault.Memory
-        → (s : SystemPhrase) × SpellsSystem text.now s) }
+    ensures memory { IfErr result
+        (λ misread. misread.fault ≡ TextFault.Memory → IsSystemText text.now) }
 {
     if text.len() > MAX_TEXT {
         return Err(Misread {
@@ -101,8 +101,8 @@ pub fn find_system(alloc: Global, text: &[u8]) -> Result<System, Misread>
     ensures placed { IfErr result
         (λ misread. IsPlaced IsSystemPhrase system_words written_system text.now misread.fault
         misread.place misread.detail) }
-    ensures memory { IfErr result (λ misread. misread.fault ≡ TextFault.Memory
-        → (s : SystemPhrase) × SpellsSystem text.now s) }
+    ensures memory { IfErr result
+        (λ misread. misread.fault ≡ TextFault.Memory → IsSystemText text.now) }
 {
     let system = find_flat_system(alloc, text)?;
     Ok(system.to_system(alloc)?)
@@ -113,8 +113,7 @@ pub fn read_flat_system(alloc: Global, text: &[u8]) -> Result<FlatSystem, TextFa
     ensures read { IfOk result (λ system. ReadsSystem text.now (Ok system)) }
     ensures refused { IfErr result
         (λ fault. fault ≢ TextFault.Memory → ReadsSystem text.now (Err fault)) }
-    ensures memory { result ≡ Err TextFault.Memory
-        → (s : SystemPhrase) × SpellsSystem text.now s }
+    ensures memory { result ≡ Err TextFault.Memory → IsSystemText text.now }
 {
     Ok(find_flat_system(alloc, text)?)
 }
@@ -124,8 +123,7 @@ pub fn read_system(alloc: Global, text: &[u8]) -> Result<System, TextFault>
     ensures read { IfOk result (λ system. ReadsSystem text.now (Ok system)) }
     ensures refused { IfErr result
         (λ fault. fault ≢ TextFault.Memory → ReadsSystem text.now (Err fault)) }
-    ensures memory { result ≡ Err TextFault.Memory
-        → (s : SystemPhrase) × SpellsSystem text.now s }
+    ensures memory { result ≡ Err TextFault.Memory → IsSystemText text.now }
 {
     Ok(find_system(alloc, text)?)
 }

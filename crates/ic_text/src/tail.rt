@@ -1,33 +1,57 @@
 //! The end of a text, whose words are left out. It is gone over from its beginning, so that no list is kept of what opens
 //! there.
 
-ghost use Rattle.std.specs.Prelude.{◌≡◌, ◌+◌, ◌<◌, ◌≤◌, ◌^◌, IfOk, IfSome, OnOk, IsSome, IsTrue, drop, false, length, get_or};
+ghost use Rattle.std.specs.Prelude.{◌≡◌, ℕ, List, ◌+◌, ◌<◌, ◌≤◌, ◌^◌, IfOk, IfSome, OnOk, IsSome, IsTrue, drop, false, length, get_or};
 ghost use Rattle.ic_text.specs.Token.{is_word_byte, mark_of};
-ghost use Rattle.ic_text.specs.inner.Tail.{IsTailOf, nothing_passed, pass_byte, pass_close, pass_word, passed, passed_over};
+ghost use Rattle.ic_text.specs.inner.Tail.{IsTailOf, nothing_passed, pass_byte, pass_close, pass_word, passed, passed_over, passed_with};
 
 use crate::token::{is_word_byte, mark_of};
 use std::alloc::{AllocError, Global};
 
-/// What is known of tokens that were gone over: how many lists opened here and are open; the commas in the list around
-/// them; the arguments of each list that was open before and is closed, the first one first; the words; and the terms
-/// outside all parentheses before a `|`, and whether there was one.
-#[derive(Drop)]
-pub(crate) struct Tail {
+/// What is counted of tokens that were gone over: how many lists opened here and are open; the commas in the list around
+/// them; the words; and the terms outside all parentheses before a `|`, and whether there was one. The lists stand
+/// elsewhere, so that the counts stay in registers.
+#[derive(Clone, Copy)]
+struct Passing {
     deep: usize,
     commas: usize,
-    pub closed: Vec<usize>,
-    pub words: usize,
-    pub terms: usize,
+    words: usize,
+    terms: usize,
     barred: bool,
 }
 
+/// What is known of tokens that were gone over: whether each list that opened here is closed; the arguments of each list
+/// that was open before and is closed, the first one first; the words; and the terms outside all parentheses before a `|`.
+#[derive(Drop)]
+pub(crate) struct Tail {
+    counts: Passing,
+    pub closed: Vec<usize>,
+}
+
 impl Tail {
+    /// How many words there were.
+    pub(crate) fn words(&self) -> usize
+        ensures { result ≡ self.now.counts.words }
+    {
+        self.counts.words
+    }
+
+    /// How many terms stood outside all parentheses before a `|`.
+    pub(crate) fn terms(&self) -> usize
+        ensures { result ≡ self.now.counts.terms }
+    {
+        self.counts.terms
+    }
+}
+
+impl Passing {
     /// Takes a word.
     #[inline(always)]
     fn take_word(&mut self)
         requires words { self.old.words + 1 < 2 ^ 64 }
         requires terms { self.old.terms + 1 < 2 ^ 64 }
-        ensures { passed self.new ≡ pass_word (passed self.old) }
+        ensures { (closed : List ℕ) → passed_with self.new closed
+            ≡ pass_word (passed_with self.old closed) }
     {
         self.words += 1;
         if self.deep == 0 && !self.barred {
@@ -37,12 +61,13 @@ impl Tail {
 
     /// Takes a `)`.
     #[inline(always)]
-    fn take_close(&mut self) -> Result<(), AllocError>
+    fn take_close(&mut self, closed: &mut Vec<usize>) -> Result<(), AllocError>
         requires { self.old.commas + 1 < 2 ^ 64 }
-        ensures { OnOk result (passed self.new ≡ pass_close (passed self.old)) }
+        ensures { OnOk result (passed_with self.new closed.new.items
+            ≡ pass_close (passed_with self.old closed.old.items)) }
     {
         if self.deep == 0 {
-            self.closed.push(self.commas + 1)?;
+            closed.push(self.commas + 1)?;
             self.commas = 0;
             self.terms = 0;
         } else {
@@ -53,15 +78,16 @@ impl Tail {
 
     /// Takes a byte that is no word byte.
     #[inline(always)]
-    fn take_byte(&mut self, byte: u8) -> Result<(), AllocError>
+    fn take_byte(&mut self, byte: u8, closed: &mut Vec<usize>) -> Result<(), AllocError>
         requires deep { self.old.deep + 1 < 2 ^ 64 }
         requires commas { self.old.commas + 1 < 2 ^ 64 }
-        ensures { OnOk result (passed self.new ≡ pass_byte byte (passed self.old)) }
+        ensures { OnOk result (passed_with self.new closed.new.items
+            ≡ pass_byte byte (passed_with self.old closed.old.items)) }
     {
         if byte == b'(' {
             self.deep += 1;
         } else if byte == b')' {
-            self.take_close()?;
+            self.take_close(closed)?;
         } else if byte == b',' {
             if self.deep == 0 {
                 self.commas += 1;
@@ -77,10 +103,10 @@ impl Tail {
 fn tail_of(alloc: Global, text: &[u8]) -> Result<Tail, AllocError>
     ensures { IfOk result (λ tail. passed tail ≡ passed_over nothing_passed false text.now) }
 {
-    let mut tail = Tail {
+    let mut closed = Vec::new(alloc);
+    let mut counts = Passing {
         deep: 0,
         commas: 0,
-        closed: Vec::new(alloc),
         words: 0,
         terms: 0,
         barred: false,
@@ -91,16 +117,16 @@ fn tail_of(alloc: Global, text: &[u8]) -> Result<Tail, AllocError>
             within = true;
         } else {
             if within {
-                tail.take_word();
+                counts.take_word();
             }
             within = false;
-            tail.take_byte(*byte)?;
+            counts.take_byte(*byte, &mut closed)?;
         }
     }
     if within {
-        tail.take_word();
+        counts.take_word();
     }
-    Ok(tail)
+    Ok(Tail { counts, closed })
 }
 
 /// The first mark behind so many words, if there is one.
@@ -144,7 +170,7 @@ pub(crate) fn tail_behind(
         return Ok(None);
     };
     let tail = tail_of(alloc, &text[place + 1..])?;
-    if tail.deep > 0 || tail.words > skip {
+    if tail.counts.deep > 0 || tail.counts.words > skip {
         return Ok(None);
     }
     Ok(Some((tail, place)))

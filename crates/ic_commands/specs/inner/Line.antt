@@ -1,6 +1,7 @@
 -- For private functions: a command line that is read word by word.
-use Rattle.std.specs.Prelude.{◌≡◌, ℕ, List, [], ◌∷◌, Bool, true, false, Option, None, Some, Result, Err, find, codes}
+use Rattle.std.specs.Prelude.{◌≡◌, ℕ, List, [], ◌∷◌, Bool, true, false, ◌&&◌, Option, None, Some, Result, Err, IsTrue, find, codes}
 use Rattle.std.specs.Str.{bytes_eq}
+use Rattle.ic_rules.specs.JobName.{is_job_name}
 use Rattle.ic_commands.specs.declared.line.Line.{Line}
 use Rattle.ic_commands.specs.declared.line.Opening.{Opening}
 use Rattle.ic_commands.specs.declared.line.Opening.TheVariants as opening
@@ -10,7 +11,7 @@ use Rattle.ic_text.specs.declared.fault.TextFault.TheVariants.{Syntax}
 use Rattle.ic_text.specs.Token.{Token, word, mark, word_of, before, tokens}
 use Rattle.ic_text.specs.SystemSource.{SystemPhrase}
 use Rattle.ic_commands.specs.LineSource.{LinePhrase, submit, is_number, IsLine, verb_text, line_words}
-use Rattle.ic_commands.specs.LineSense.{line_sense}
+use Rattle.ic_commands.specs.LineSense.{fits_budget, line_sense}
 
 -- no word stands at the front of a text with these tokens, and it has none only where it is empty
 abbrev pub HasNoWord : List ℕ → Option (List Token) → Type 0
@@ -62,11 +63,12 @@ pub record IsLineOf (o : Option (List Token)) (answer : Result Line TextFault) :
   pub spelled : (p : LinePhrase) → IsLine p → o ≡ Some (line_words p) → answer ≡ line_sense p
   pub malformed : ((p : LinePhrase) → IsLine p → o ≡ Some (line_words p) → ⊥) → answer ≡ Err Syntax
 
--- these tokens are those of the submit of some job
+-- these tokens are those of the submit of some job, of a name and a budget within the limits
 abbrev pub IsSubmitLine : Option (List Token) → Type 0
 IsSubmitLine o =
     (name : List ℕ) × (most : Option (List ℕ)) × (s : SystemPhrase)
     × IsLine (submit name most s) × (o ≡ Some (line_words (submit name most s)))
+    × IsTrue (is_job_name name && fits_budget most)
 
 -- what the text behind the first word makes of a line
 abbrev pub ReadsBehind : Opening → List ℕ → Result Line TextFault → Type 0

@@ -4,8 +4,7 @@ ghost use Rattle.std.specs.Prelude.{◌≡◌, ◌≢◌, ℕ, List, ◌⊎◌, 
 ghost use Rattle.ic_rules.specs.RuleFault.{Answers};
 ghost use Rattle.ic_rules.specs.RuleSet.{built};
 ghost use Rattle.ic_rules.specs.Written.{written};
-ghost use Rattle.ic_text.specs.SystemSource.{SystemPhrase};
-ghost use Rattle.ic_text.specs.SystemText.{SpellsSystem, ReadsSystem};
+ghost use Rattle.ic_text.specs.SystemText.{ReadsSystem, IsSystemText};
 
 use ic_rules::{RuleFault, RuleSet, System};
 use ic_term::{Cell, Symbols};
@@ -17,8 +16,7 @@ pub fn takes_empty_parentheses(alloc: Global, text: &[u8]) -> Result<System, Tex
     ensures another { IfOk result (λ system. (other : List ℕ) × ReadsSystem other (Ok system)) }
     ensures refused { IfErr result
         (λ fault. fault ≢ TextFault.Memory → ReadsSystem text.now (Err fault)) }
-    ensures memory { result ≡ Err TextFault.Memory
-        → (s : SystemPhrase) × SpellsSystem text.now s }
+    ensures memory { result ≡ Err TextFault.Memory → IsSystemText text.now }
 {
     let other = without_empty_parentheses(alloc, text);
     match (read_system(alloc, text), other) {
@@ -32,8 +30,7 @@ pub fn takes_leading_zero(alloc: Global, text: &[u8]) -> Result<System, TextFaul
     ensures another { IfOk result (λ system. (other : List ℕ) × ReadsSystem other (Ok system)) }
     ensures refused { IfErr result
         (λ fault. fault ≢ TextFault.Memory → ReadsSystem text.now (Err fault)) }
-    ensures memory { result ≡ Err TextFault.Memory
-        → (s : SystemPhrase) × SpellsSystem text.now s }
+    ensures memory { result ≡ Err TextFault.Memory → IsSystemText text.now }
 {
     let other = without_leading_zeros(alloc, text);
     match (read_system(alloc, text), other) {
@@ -47,8 +44,7 @@ pub fn takes_lopsided_rule(alloc: Global, text: &[u8]) -> Result<System, TextFau
     ensures another { IfOk result (λ system. (other : List ℕ) × ReadsSystem other (Ok system)) }
     ensures refused { IfErr result
         (λ fault. fault ≢ TextFault.Memory → ReadsSystem text.now (Err fault)) }
-    ensures memory { result ≡ Err TextFault.Memory
-        → (s : SystemPhrase) × SpellsSystem text.now s }
+    ensures memory { result ≡ Err TextFault.Memory → IsSystemText text.now }
 {
     let other = without_rules(alloc, text);
     match (read_system(alloc, text), other) {

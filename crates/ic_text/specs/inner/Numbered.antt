@@ -22,17 +22,17 @@ abbrev pub IsWord : Symbol → Type 0
 IsWord w = IsTrue (is_name w.text || is_symbol_text w.text)
 
 -- a symbol with its number, or why it has none
-abbrev pub agent_item : ℕ → Result ℕ SymbolFault → Result Word SymbolFault
-agent_item arity (Ok n) = Ok (Agent n arity)
-agent_item arity (Err e) = Err e
+abbrev pub agent_word : ℕ → Result ℕ SymbolFault → Result Word SymbolFault
+agent_word arity (Ok n) = Ok (Agent n arity)
+agent_word arity (Err e) = Err e
 
--- a word as an item, where it comes behind the symbols of a table
-abbrev pub item_found : List Symbol → Symbol → Result Word SymbolFault
-item_found table w =
+-- a word with its number, where it comes behind the symbols of a table
+abbrev pub word_found : List Symbol → Symbol → Result Word SymbolFault
+word_found table w =
     if is_name w.text
     then (if nat_le (name_number w.text) MAX_NAME then Ok (Name (name_number w.text))
     else Err OverLimit)
-    else agent_item w.arity (numbered table w.text w.arity)
+    else agent_word w.arity (numbered table w.text w.arity)
 
 -- the table behind a word, and behind a list of words
 abbrev pub table_with : List Symbol → Symbol → List Symbol
@@ -51,9 +51,9 @@ is_word_in_limits w =
 abbrev pub is_word_over : List Symbol → Symbol → Bool
 is_word_over table w = if is_name w.text then true else has_its_arity table w
 
--- a word as an item over a whole table
-abbrev pub item_in : List Symbol → Symbol → Word
-item_in table w =
+-- a word with its number by a whole table
+abbrev pub word_from : List Symbol → Symbol → Word
+word_from table w =
     if is_name w.text then Name (name_number w.text)
     else Agent (number_in_table table w.text) w.arity
 
@@ -62,24 +62,24 @@ abbrev pub unless_refused : {A : Type 0} → Bool → Bool → A → Result A Te
 unless_refused in_limits over v =
     if in_limits then (if over then Ok v else Err Arity) else Err Limit
 
--- the words of a configuration as items, with their table of symbols
+-- the words of a configuration with their numbers, and their table of symbols
 abbrev pub numbered_words : List Symbol → Result (List Symbol × List Word) TextFault
 numbered_words ws =
     unless_refused (list_all is_word_in_limits ws && nat_le (length (table_over [] ws)) MAX_SYMBOLS)
     (list_all (is_word_over (table_over [] ws)) ws)
-    (table_over [] ws, map (item_in (table_over [] ws)) ws)
+    (table_over [] ws, map (word_from (table_over [] ws)) ws)
 
 -- the same, unless a limit of how many they are is passed
 abbrev pub counted_words : Option Excess → List Symbol → Result (List Symbol × List Word) TextFault
 counted_words None ws = numbered_words ws
 counted_words (Some excess) ws = Err Limit
 
--- an item or a refusal, unless a growth was refused
-abbrev pub ItemAnswers : Result Word SymbolFault → Result Word SymbolFault → Type 0
-ItemAnswers (Ok item) answer = Ok item ≡ answer
-ItemAnswers (Err OverLimit) answer = Err OverLimit ≡ answer
-ItemAnswers (Err (OtherArity n)) answer = Err (OtherArity n) ≡ answer
-ItemAnswers (Err NoMemory) answer = Unit {0}
+-- a word with its number or a refusal, unless a growth was refused
+abbrev pub WordAnswers : Result Word SymbolFault → Result Word SymbolFault → Type 0
+WordAnswers (Ok word) answer = Ok word ≡ answer
+WordAnswers (Err OverLimit) answer = Err OverLimit ≡ answer
+WordAnswers (Err (OtherArity n)) answer = Err (OtherArity n) ≡ answer
+WordAnswers (Err NoMemory) answer = Unit {0}
 
 -- a refusal, unless it is want of memory
 abbrev pub Refuses : {A : Type 0} → TextFault → Result A TextFault → Type 0

@@ -54,7 +54,7 @@ pub record IsWordLimit (bound : Limit) (ws : List Symbol) (k : ℕ) : Type 0 whe
 abbrev pub IsWordIn : List Symbol → TextFault → Option ℕ → Detail → Type 0
 IsWordIn ws TooMuch (Some k) (Passed bound) = IsWordLimit bound ws k
 IsWordIn ws Arity (Some k) (Arities before here) = IsSecondUse before here ws k
-IsWordIn ws Memory None detail = Unit {0}
+IsWordIn ws Memory None Nothing = Unit {0}
 IsWordIn ws fault k detail = ⊥
 
 -- the same of a whole refusal
@@ -81,7 +81,7 @@ IsStoppedIn ws excess refusal =
 -- the word of any refusal, where one is told, as it is of all but memory
 abbrev pub IsToldWord : Written → TextFault → Option ℕ → Detail → Type 0
 IsToldWord w fault (Some k) detail = IsFaultWord w fault k detail
-IsToldWord w Memory None detail = Unit {0}
+IsToldWord w Memory None Nothing = Unit {0}
 IsToldWord w fault None detail = ⊥
 
 -- the same of a whole refusal
@@ -148,10 +148,10 @@ limit_of w = if is_name w.text then NameNumber
 
 -- the words numbered so far with one word more, by what was found of it
 abbrev pub Takes : ℕ → Symbol → Result Word SymbolFault → Numbering → Numbering → Type 0
-Takes k w (Ok item) old new = (new.symbols ≡ table_with old.symbols w)
-    × (new.items.items ≡ old.items.items ++ item ∷ []) × (new.clash ≡ old.clash)
+Takes k w (Ok word) old new = (new.symbols ≡ table_with old.symbols w)
+    × (new.words.items ≡ old.words.items ++ word ∷ []) × (new.clash ≡ old.clash)
 Takes k w (Err (OtherArity n)) old new = (new.symbols ≡ old.symbols)
-    × (new.items.items ≡ old.items.items)
+    × (new.words.items ≡ old.words.items)
     × (new.clash ≡ option_or old.clash
     (Some (record { word = k; first = unwrap_or (symbol_arity old.symbols n) 0; second = w.arity })))
 Takes k w (Err e) old new = ⊥

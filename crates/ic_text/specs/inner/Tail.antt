@@ -2,6 +2,7 @@
 -- out.
 use Rattle.std.specs.Prelude.{ℕ, ◌≡◌, ◌<◌, ◌≤◌, IsSome, get_or, ◌+◌, ◌-◌, ◌==◌, ◌&&◌, not, Bool, true, false, List, [], ◌∷◌, ◌++◌, length, drop, if◌then◌else◌}
 use Rattle.ic_text.specs.Token.{is_word_byte, mark_of}
+use Rattle.ic_text.specs.declared.tail.Passing.{Passing}
 use Rattle.ic_text.specs.declared.tail.Tail.{Tail}
 
 -- What is known of tokens that were gone over: how many lists opened here and are open; the commas in the
@@ -98,15 +99,19 @@ passed_over t within (b ∷ bs) =
     if is_word_byte b then passed_over t true bs
     else passed_over (pass_byte b (pass_end within t)) false bs
 
-abbrev pub passed : Tail → Passed
-passed t = record {
+-- counts, with the arguments of the lists that are closed
+abbrev pub passed_with : Passing → List ℕ → Passed
+passed_with t closed = record {
   deep = t.deep;
   commas = t.commas;
-  closed = t.closed.items;
+  closed = closed;
   words = t.words;
   terms = t.terms;
   barred = t.barred;
 }
+
+abbrev pub passed : Tail → Passed
+passed t = passed_with t.counts t.closed.items
 
 -- A mark stands at a place, and behind it what was gone over, in which each list that opens is closed, and
 -- no more words stand than are left out.

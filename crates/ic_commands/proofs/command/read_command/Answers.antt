@@ -6,7 +6,7 @@ use Rattle.ic_text.specs.Token.{tokens}
 use Rattle.ic_commands.specs.LineText.{ReadsLine}
 use Rattle.ic_commands.specs.inner.Line.{IsLineOf}
 use Rattle.ic_commands.proofs.LineReading.{reads_line}
-use Rattle.ic_commands.proofs.LineParts.{spells_submit}
+use Rattle.ic_commands.proofs.LineParts.{submit_text}
 use Rattle.ic_commands.proofs.command.read_command.Goals as goal
 
 refused_as : (text : List ℕ) (r : Result Line TextFault) → ((a : Result Line TextFault) → IsLineOf (tokens text) a → ReadsLine text a)
@@ -18,4 +18,4 @@ pub returns-clause-refused : goal.returns-clause-refused
 returns-clause-refused c = refused_as c.args.text.now c.line_of.result (λ a. reads_line c.args.text.now a (omega arith)) c.line_of.ensures.line
 
 pub returns-clause-memory : goal.returns-clause-memory
-returns-clause-memory c = λ memory. spells_submit c.args.text.now (c.line_of.ensures.memory memory)
+returns-clause-memory c = λ memory. submit_text c.args.text.now (omega arith) (c.line_of.ensures.memory memory)

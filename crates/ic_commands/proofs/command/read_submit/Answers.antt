@@ -53,9 +53,10 @@ returns-in_err-system-clause-memory c =
     let named : is_job_word c.split_word.result.0.now ≡ true = sym c.is_job_word.ensures ∙ c.if-not-is_job_word.false in
     let numbered : is_number_or_none c.split_word-2.result.0.now ≡ true = sym c.is_number_or_none.ensures ∙ c.if-not-is_number_or_none.false in
     let e = err_from_is_err_and c.from_residual.result c.from_residual.ensures.1 in
+    let is : are_within c.split_word.result.0.now c.split_word-2.result.0.now ≡ true = c.in-Some.ensures.fits.0 refl in
     rw (e.1, e.2) (λ memory. (let same : c.in_err-system.field-0.0 ≡ Memory = cc in let found = c.in_err-system.ensures.memory (ap Err same) in
     submit_spelled c.args.rest.now c.split_word.result.0.now c.split_word.result.1.now c.split_word-2.result.0.now c.split_word-2.result.1.now
-    c.split_word.ensures.tokens c.split_word.ensures.front c.split_word-2.ensures.tokens c.split_word-2.ensures.front named numbered found.0 found.1))
+    c.split_word.ensures.tokens c.split_word.ensures.front c.split_word-2.ensures.tokens c.split_word-2.ensures.front named numbered found.1.0 found.1.1 is))
 
 pub returns-clause-line : goal.returns-clause-line
 returns-clause-line c =

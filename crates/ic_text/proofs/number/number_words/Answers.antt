@@ -19,7 +19,7 @@ none_before_memory (Some x) = tt
 
 pub loop-word-init : goal.loop-word-init
 loop-word-init c = record {
-  so_far = begins (nodes_of c.args.nodes.now) _ c.new-symbols.ensures c.in_ok-items.ensures.items refl;
+  so_far = begins (nodes_of c.args.nodes.now) _ c.new-symbols.ensures c.in_ok-words.ensures.items refl;
   before = none_before c.args.excess;
 }
 
@@ -75,12 +75,12 @@ returns-in-None-clause-numbers c =
     let none = none_here (goal.at.returns-in-None-clause-numbers c).After-loop-word in
     rw none (ends_numbers _ _ _ c.loop-word.invariant.so_far (all_numbered c.args.nodes.now c.loop-word.word c.loop-word-test.false) c.in-None.is)
 
-pub returns-in_err-items-clause-numbers : goal.returns-in_err-items-clause-numbers
-returns-in_err-items-clause-numbers c =
+pub returns-in_err-words-clause-numbers : goal.returns-in_err-words-clause-numbers
+returns-in_err-words-clause-numbers c =
     let e = err_from_is_err_and c.from_residual.result c.from_residual.ensures.1 in
     rw (e.1, e.2) tt
 
-pub returns-in_err-items-clause-word : goal.returns-in_err-items-clause-word
-returns-in_err-items-clause-word c =
+pub returns-in_err-words-clause-word : goal.returns-in_err-words-clause-word
+returns-in_err-words-clause-word c =
     let e = err_from_is_err_and c.from_residual.result c.from_residual.ensures.1 in
     rw (e.1, e.2) (inl (tt, none_before_memory c.args.excess))

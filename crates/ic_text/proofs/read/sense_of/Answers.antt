@@ -57,11 +57,11 @@ many_there c p spelled = c.requires.2 ∙ ap (λ ts. length (words_among ts)) (s
 enough_here : (c : After-deref-2) (p : Phrase) → tokens c.args.text.now ≡ Some (phrase_words p) → IsEnough c.enough_of-kept.result (length (phrase_prefix p))
 enough_here c p spelled = enough_words p c.args.counts.words c.enough_of-kept.result _ (many_there c p spelled) c.enough_of-kept.ensures refl
 
-items_here : (c : After-deref-2) (p : Phrase) → tokens c.args.text.now ≡ Some (phrase_words p) → nodes_of c.in_ok-prefix.prefix.nodes.items ≡ take c.enough_of-kept.result (phrase_prefix p)
-items_here c p spelled = front_is p c.args.counts.words c.enough_of-kept.result _ (many_there c p spelled) c.enough_of-kept.ensures refl _ (c.in_ok-prefix.ensures.nodes _ spelled)
+words_here : (c : After-deref-2) (p : Phrase) → tokens c.args.text.now ≡ Some (phrase_words p) → nodes_of c.in_ok-prefix.prefix.nodes.items ≡ take c.enough_of-kept.result (phrase_prefix p)
+words_here c p spelled = front_is p c.args.counts.words c.enough_of-kept.result _ (many_there c p spelled) c.enough_of-kept.ensures refl _ (c.in_ok-prefix.ensures.nodes _ spelled)
 
 same_here : (c : After-deref-2) (p : Phrase) → tokens c.args.text.now ≡ Some (phrase_words p) → nodes_of c.deref-2.result.now ≡ take c.enough_of-kept.result (phrase_prefix p)
-same_here c p spelled = ap nodes_of c.deref-2.ensures.value ∙ items_here c p spelled
+same_here c p spelled = ap nodes_of c.deref-2.ensures.value ∙ words_here c p spelled
 
 terms_here : (c : After-deref-2) (p : Phrase) → tokens c.args.text.now ≡ Some (phrase_words p) → c.in_ok-prefix.prefix.terms ≡ length p.interface
 terms_here c p spelled = c.in_ok-prefix.ensures.terms _ spelled ∙ ap (λ (s : Scanned). s.terms) (scan-phrase_words p)
@@ -71,7 +71,7 @@ first_here : (c : After-deref-2) (p : Phrase) → (spelled : tokens c.args.text.
     → InFront c.in_ok-prefix.prefix.terms (phrase_prefix p) c.enough_of-kept.result (enough_here c p spelled) c.config_excess-excess.result
 first_here c p spelled =
     subst (λ ws. IsFirstExcess (λ b j. config_keeps c.in_ok-prefix.prefix.terms b (take j ws)) (length ws) c.config_excess-excess.result)
-    (ap nodes_of c.deref.ensures.value ∙ items_here c p spelled) c.config_excess-excess.ensures
+    (ap nodes_of c.deref.ensures.value ∙ words_here c p spelled) c.config_excess-excess.ensures
 
 kept_here : (c : After-deref-2) (p : Phrase) → tokens c.args.text.now ≡ Some (phrase_words p) → Kept (alone p) c.config_excess-excess.result
 kept_here c p spelled =
@@ -89,7 +89,7 @@ counted_here c p spelled =
 whole_here : (c : After-deref-2) (p : Phrase) → tokens c.args.text.now ≡ Some (phrase_words p) → (v : List Symbol × List Word) → Ok v ≡ counted_words c.config_excess-excess.result (nodes_of c.deref-2.result.now)
     → nodes_of c.in_ok-prefix.prefix.nodes.items ≡ phrase_prefix p
 whole_here c p spelled v number =
-    items_here c p spelled
+    words_here c p spelled
     ∙ numbered-whole c.in_ok-prefix.prefix.terms (phrase_prefix p) c.enough_of-kept.result (enough_here c p spelled) c.config_excess-excess.result (first_here c p spelled) v
     (number ∙ ap (counted_words c.config_excess-excess.result) (same_here c p spelled))
 
