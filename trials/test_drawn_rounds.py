@@ -115,7 +115,8 @@ class DrawnRounds(ModelTrial):
             texts.append(draws.system_text(rule_set, config))
         self.makes_rounds(texts, [1, 1, 5, 60], "--workers", drawn.randint(1, 64))
 
-    def test_large_rounds_by_any_number_of_workers(self):
+    def test_rounds_of_a_thousand_pairs_with_any_number_of_workers(self):
+        """The serving's own thread makes them, however many workers there may be."""
         drawn = self.draws()
         for workers in [1, 2, 3, 4, 7, 8, 16, 31, 32, 33, 63, 64] + [drawn.randint(1, 64) for _ in range(8)]:
             count = drawn.choice([999, 1_000, 1_001, drawn.randint(1_000, 1_365)])

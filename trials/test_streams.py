@@ -192,7 +192,7 @@ class Long(Trial):
         """docs/speed.md: 5 MB. Copies of its 8,182 nodes would take some 600."""
         config = "<|P=" + "C(" * 8180 + "D" + ")" * 8180 + ">"
         answers = [f"big done 0 {config}"] * 1000
-        self.takes_at_most(15_000, [f"submit big {{}} {config}"], ["fetch big"] * 1000, answers)
+        self.takes_at_most(8_000, [f"submit big {{}} {config}"], ["fetch big"] * 1000, answers)
 
     def test_65_536_fetches_of_32_large_jobs_copy_none(self):
         """A whole page of fetches of jobs of 8,192 nodes. A copy for each would take 8 GB."""

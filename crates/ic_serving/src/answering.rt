@@ -35,9 +35,10 @@ use std::thread::Threads;
 /// all is kept, unless nothing has changed: so no byte of an answer is there before what its line
 /// leaves is kept. At `Err` some of the line's events may stand in the book.
 ///
-/// Rounds are made by so many workers, and kept after each `every` of them and at the end. Workers
-/// that stand for large rounds are joined before it returns. The line is given without its line feed.
-/// A refused line is answered by its refusal, a blank one by nothing.
+/// A round is made by at most so many workers, and by one where it is small. Rounds are kept after
+/// each `every` of them and at the end. Workers that stand for large rounds are joined before it
+/// returns. The line is given without its line feed. A refused line is answered by its refusal, a
+/// blank one by nothing.
 pub fn answer_line<T: Threads + Wait + Copy + Send + 'static, D: Disk>(
     rt: &T,
     alloc: Global,

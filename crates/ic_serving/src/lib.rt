@@ -1,7 +1,7 @@
 //! Serving lines over a book: each line that a reader gives is answered to a writer.
 //!
 //! `answer_line` does what one line asks and keeps what it leaves: it answers a command, and makes
-//! the rounds of a `run` on several threads. `serve_lines` takes lines from a reader, has each
+//! the rounds of a `run`, large ones on several threads. `serve_lines` takes lines from a reader, has each
 //! answered, and writes the answer; `serve_watched` does so too, and tells a gate of the rounds. What
 //! lines ask for and are answered is that of `ic_lines`. Why a serving ended is a `ServeFault`.
 #![tactic(auto)]

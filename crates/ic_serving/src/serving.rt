@@ -21,9 +21,10 @@ use std::io::{Read, Write};
 use std::sync::Wait;
 use std::thread::Threads;
 
-/// Serves the lines of the reader over the book. Rounds are made by so many workers and kept after
-/// each `every` of them; what a line leaves is kept before the line is answered. An answer is flushed
-/// before the reader is waited for. Workers that stand for large rounds are joined before it returns.
+/// Serves the lines of the reader over the book. A round is made by at most so many workers, and by
+/// one where it is small. Rounds are kept after each `every` of them; what a line leaves is kept
+/// before the line is answered. An answer is flushed before the reader is waited for. Workers that
+/// stand for large rounds are joined before it returns.
 ///
 /// At a fault the lines before are answered, but for a fault of the writer; the line at which it came
 /// isn't, though some of its events may stand in the book.
