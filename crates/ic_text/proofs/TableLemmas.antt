@@ -1,13 +1,15 @@
 -- Symbols keep their numbers while a table grows.
-use Rattle.std.proofs.Common.{◌≡◌, ℕ, zero, suc, ◌+◌, ◌<◌, Bool, true, false, not, cond, leb, List, [], ◌∷◌, ◌++◌, Option, None, Some, length, refl, sym, ap, ◌∙◌, arith}
-use Rattle.std.specs.List.{position, prefix_len, slice_get}
+use Rattle.std.proofs.Common.{◌≡◌, ◌==◌, ℕ, zero, suc, ◌+◌, ◌<◌, Bool, true, false, not, cond, leb, List, [], ◌∷◌, ◌++◌, Option, None, Some, Ok, is_some, length, refl, sym, ap, ◌∙◌, arith, subst}
+use Rattle.std.specs.List.{position, prefix_len, slice_get, AllByRecursion, IsDistinct}
 use Rattle.std.specs.Option.{option_map}
 use Rattle.std.specs.Str.{bytes_eq}
-use Rattle.std.proofs.lemmas.Bool.{leb-true}
+use Rattle.std.proofs.lemmas.Bool.{leb-true, false≢true}
 use Rattle.std.proofs.lemmas.Bool.Decides.{nat_tests}
 use Rattle.std.proofs.lemmas.List.{map-append, length-map}
+use Rattle.std.proofs.lemmas.Map.Keys.{IsDistinct-head, IsDistinct-tail}
+use Rattle.std.proofs.lemmas.Option.{slice_get-map}
 use Rattle.std.proofs.lemmas.Slice.Eq.{bytes_eq-Decides}
-use Rattle.ic_term.specs.Symbol.{Symbol, texts, number_of_text}
+use Rattle.ic_term.specs.Symbol.{Symbol, AreSymbols, texts, fits_limits, has_arity, number_found, number_of_text, numbered, with_symbol}
 
 lt-suc : (m n : ℕ) → leb (suc (1 + m)) (suc n) ≡ leb (suc m) n
 lt-suc m n = grind (arith, nat_tests)
@@ -82,3 +84,41 @@ position-lt p xs n found = by_test (leb (suc (prefix_len (λ y. not (p y)) xs)) 
 
 pub number_of_text-lt : (ss : List Symbol) (text : List ℕ) (n : ℕ) → number_of_text ss text ≡ Some n → n < length ss
 number_of_text-lt ss text n found = omega (arith, position-lt (bytes_eq text) (texts ss) n found, length-map ss (λ (s : Symbol). s.text))
+
+all_at : {X : Type 0} (P : X → Type 0) (xs : List X) (n : ℕ) (x : X) → AllByRecursion P xs → slice_get xs n ≡ Some x → P x
+all_at P [] n x all e = cc
+all_at P (y ∷ ys) zero x all e = let same : y ≡ x = cc in subst P same all.0
+all_at P (y ∷ ys) (suc n) x all e = all_at P ys n x all.1 e
+
+-- texts that differ one way round differ the other way round
+flipped : (a b : List ℕ) → bytes_eq a b ≡ false → bytes_eq b a ≡ false
+flipped a b apart = by_test (bytes_eq b a) refl
+  where
+    by_test : (t : Bool) → bytes_eq b a ≡ t → t ≡ false
+    by_test false e = refl
+    by_test true e = absurd (false≢true (sym apart ∙ (bytes_eq-Decides a b).1 (sym ((bytes_eq-Decides b a).0 e))))
+
+-- a symbol of a table is found again at its place
+found_at : (ss : List Symbol) (n : ℕ) (s : Symbol) → IsDistinct bytes_eq (texts ss) → slice_get ss n ≡ Some s → number_of_text ss s.text ≡ Some n
+found_at [] n s apart e = cc
+found_at (x ∷ ss) zero s apart e =
+    let one : s ≡ x = cc in
+    let same : bytes_eq s.text x.text ≡ true = (bytes_eq-Decides s.text x.text).1 (ap (λ (t : Symbol). t.text) one) in
+    position-cons (bytes_eq s.text) x.text (texts ss) ∙ rw same refl
+found_at (x ∷ ss) (suc n) s apart e =
+    let there : slice_get (texts ss) n ≡ Some s.text = slice_get-map (λ (t : Symbol). t.text) ss n ∙ ap (option_map (λ (t : Symbol). t.text)) e in
+    let other : bytes_eq s.text x.text ≡ false = flipped x.text s.text (all_at (λ t. bytes_eq x.text t ≡ false) (texts ss) n s.text (IsDistinct-head bytes_eq x.text (texts ss) apart) there) in
+    let more : 1 + n ≡ suc n = omega arith in
+    position-cons (bytes_eq s.text) x.text (texts ss) ∙ rw other (ap (option_map (λ k. 1 + k)) (found_at ss n s (IsDistinct-tail bytes_eq x.text (texts ss) apart) e) ∙ ap Some more)
+
+pub numbered_again : (ss : List Symbol) (n : ℕ) (s : Symbol) → AreSymbols ss → slice_get ss n ≡ Some s → Ok n ≡ numbered ss s.text s.arity
+numbered_again ss n s are e =
+    let fits : fits_limits s.text s.arity ≡ true = (all_at _ ss n s are.each e).1 in
+    let own : has_arity s.arity (slice_get ss n) ≡ true = ap (has_arity s.arity) e ∙ same s.arity in
+    sym (rw fits (ap (number_found ss s.arity) (found_at ss n s are.distinct e) ∙ rw own refl))
+  where
+    same : (k : ℕ) → (k == k) ≡ true
+    same k = grind (arith, nat_tests)
+
+pub stays_with : (ss : List Symbol) (n : ℕ) (s : Symbol) → AreSymbols ss → slice_get ss n ≡ Some s → ss ≡ with_symbol ss s.text s.arity
+stays_with ss n s are e = sym (rw (ap is_some (found_at ss n s are.distinct e)) refl)

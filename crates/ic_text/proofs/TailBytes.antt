@@ -5,7 +5,7 @@ use Rattle.std.proofs.lemmas.List.{drop_more}
 use Rattle.ic_text.specs.declared.token.Mark.{Mark}
 use Rattle.ic_text.specs.declared.token.Mark.TheVariants.{LeftBrace, RightBrace, Less, Greater, Bar, Equals, Comma, Semicolon, Open, Close}
 use Rattle.ic_text.specs.Token.{Token, mark, mark_byte, is_blank, is_word_byte, mark_of, word_of, tokens_at, tokens_behind}
-use Rattle.ic_text.specs.inner.Tail.{Passed, pass_byte, pass_close, pass_end, pass_word, passed_over}
+use Rattle.ic_text.specs.inner.Tail.{Passed, pass_byte, pass_close, pass_end, pass_next, pass_word, passed_over}
 use Rattle.ic_text.specs.lemmas.ReadOnce.{some-injective, none_is_some}
 use Rattle.ic_text.proofs.KeptBytes.{byte_of_mark}
 use Rattle.ic_text.proofs.WordPlaces.{opened}
@@ -106,6 +106,17 @@ module _ (text : List ℕ) (i : ℕ) (t : Passed) (within : Bool) (inside : i < 
       let step : passed_over t within (here ∷ drop (i + 1) text) ≡ passed_over (pass_byte here (pass_end within t)) false (drop (i + 1) text) = rw apart refl in
       sym (ap (passed_over t within) split ∙ step)
 
+  pub over-next : passed_over (pass_next here within t) (is_word_byte here) (drop (i + 1) text) ≡ passed_over t within (drop i text)
+  over-next = by_kind (is_word_byte here) refl
+    where
+      by_kind : (w : Bool) → is_word_byte here ≡ w
+          → passed_over (pass_next here within t) (is_word_byte here) (drop (i + 1) text) ≡ passed_over t within (drop i text)
+      by_kind true is = rw is (over-word is)
+      by_kind false apart = rw apart (over-byte apart)
+
+pub word-next : (b : ℕ) (within : Bool) (t : Passed) → is_word_byte b ≡ true → pass_next b within t ≡ t
+word-next b within t is = rw is refl
+
 -- a byte adds at most one to each number
 record Grows (t u : Passed) : Type 0 where
   pub deep : u.deep ≤ t.deep + 1
@@ -159,3 +170,9 @@ stays-below n b t false below =
       words = omega (arith, grown.words, below.words);
       terms = omega (arith, grown.terms, below.terms);
     }
+
+pub below-next : (n b : ℕ) (t : Passed) (within : Bool) → IsBelow n t → IsBelow (n + 1) (pass_next b within t)
+below-next n b t within below =
+    cond_both (is_word_byte b) t (pass_byte b (pass_end within t)) (IsBelow (n + 1))
+    (λ _. record { deep = omega (arith, below.deep); commas = omega (arith, below.commas); words = omega (arith, below.words); terms = omega (arith, below.terms) })
+    (λ _. stays-below n b t within below)

@@ -1,7 +1,8 @@
 //! Words of a text as words in flat form, symbols as numbers: the limits of words, and the arities of symbols.
 
-ghost use Rattle.std.specs.Prelude.{◌≡◌, ◌<◌, is_ok, [], if◌then◌else◌, length, IfErr, IfSome, OnOk};
+ghost use Rattle.std.specs.Prelude.{◌≡◌, ◌<◌, is_ok, [], if◌then◌else◌, length, IfErr, IfSome, OnOk, Some, slice_get};
 ghost use Rattle.std.specs.List.{AllByRecursion};
+ghost use Rattle.ic_term.specs.Symbol.{AreSymbols};
 ghost use Rattle.ic_text.specs.inner.Prefix.{node_of, nodes_of};
 ghost use Rattle.ic_text.specs.inner.Numbered.{IsWord, WordAnswers, word_found, table_with, counted_words, Gives};
 ghost use Rattle.ic_text.specs.inner.Refused.{IsStoppedIn, Takes, Stops, bare, limit_of};
@@ -16,22 +17,40 @@ use ic_flat::Word;
 use ic_term::{MAX_ARITY, MAX_SYMBOL_TEXT, SymbolFault, Symbols};
 use std::alloc::Global;
 
-/// A word with its number, which a symbol gets from the table.
-fn number_word(symbols: &mut Symbols, node: &Node) -> Result<Word, SymbolFault>
+/// The number of the symbol that a word is of, if a node is that symbol too.
+fn number_again(symbols: &Symbols, last: Option<&Word>, node: &Node) -> Option<u32>
+    ensures number { IfSome result
+        (λ number. slice_get symbols.now number ≡ Some (node_of node.now)) }
+    ensures sound { AreSymbols symbols.now }
+{
+    let known = symbols.len();
+    let Some(Word::Agent(number, arity)) = last else {
+        return None;
+    };
+    if (*number as usize) >= known || *arity != node.arity {
+        return None;
+    }
+    (symbols.text(*number) == node.text && symbols.arity(*number) == node.arity).then_some(*number)
+}
+
+/// A word with its number, which a symbol gets from the table; or from the word before, where that is the same symbol.
+fn number_word(symbols: &mut Symbols, last: Option<&Word>, node: &Node) -> Result<Word, SymbolFault>
     requires { IsWord (node_of node.now) }
     ensures word { WordAnswers result (word_found symbols.old (node_of node.now)) }
     ensures symbols { symbols.new ≡
         (if is_ok result then table_with symbols.old (node_of node.now) else symbols.old) }
 {
     if is_name(node.text) {
-        match name_number(node.text) {
+        return match name_number(node.text) {
             Some(name) => Ok(Word::Name(name)),
             None => Err(SymbolFault::Limit),
-        }
-    } else {
-        let number = symbols.number(node.text, node.arity)?;
-        Ok(Word::Agent(number, node.arity))
+        };
     }
+    if let Some(number) = number_again(symbols, last, node) {
+        return Ok(Word::Agent(number, node.arity));
+    }
+    let number = symbols.number(node.text, node.arity)?;
+    Ok(Word::Agent(number, node.arity))
 }
 
 /// A symbol with two arities.
@@ -75,7 +94,7 @@ impl Numbering {
         ensures stopped { IfErr result (Stops word (node_of node.now)
             (word_found self.old.symbols (node_of node.now))) }
     {
-        match number_word(&mut self.symbols, node) {
+        match number_word(&mut self.symbols, self.words.last(), node) {
             Ok(numbered) => {
                 self.words.push(numbered)?;
                 Ok(())

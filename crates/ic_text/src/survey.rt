@@ -95,6 +95,7 @@ impl Progress {
 
 /// How many words a text has that leads from the beginning of a part to the end, or the place from where on the
 /// grammar has no such text. Takes one pass, and no memory.
+#[inline(never)]
 fn survey(part: Part, text: &[u8]) -> Result<Counts, usize>
     requires { length text.now ≤ MAX_TEXT }
     ensures counts { counts_in result ≡ surveyed part (tokens text.now) }

@@ -1,9 +1,9 @@
 //! The end of a text, whose words are left out. It is gone over from its beginning, so that no list is kept of what opens
 //! there.
 
-ghost use Rattle.std.specs.Prelude.{◌≡◌, ℕ, List, ◌+◌, ◌<◌, ◌≤◌, ◌^◌, IfOk, IfSome, OnOk, IsSome, IsTrue, drop, false, length, get_or};
+ghost use Rattle.std.specs.Prelude.{◌≡◌, ◌==◌, ℕ, List, ◌+◌, ◌<◌, ◌≤◌, ◌^◌, IfOk, IfSome, OnOk, IsSome, IsTrue, drop, false, length, get_or};
 ghost use Rattle.ic_text.specs.Token.{is_word_byte, mark_of};
-ghost use Rattle.ic_text.specs.inner.Tail.{IsTailOf, nothing_passed, pass_byte, pass_close, pass_word, passed, passed_over, passed_with};
+ghost use Rattle.ic_text.specs.inner.Tail.{IsTailOf, nothing_passed, pass_byte, pass_close, pass_end, pass_next, passed, passed_over, passed_with};
 
 use crate::token::{is_word_byte, mark_of};
 use std::alloc::{AllocError, Global};
@@ -45,17 +45,21 @@ impl Tail {
 }
 
 impl Passing {
-    /// Takes a word.
+    /// Takes the word that ends here, if one does.
     #[inline(always)]
-    fn take_word(&mut self)
-        requires words { self.old.words + 1 < 2 ^ 64 }
-        requires terms { self.old.terms + 1 < 2 ^ 64 }
-        ensures { (closed : List ℕ) → passed_with self.new closed
-            ≡ pass_word (passed_with self.old closed) }
+    fn end_word(&mut self, within: bool)
+        requires words { IsTrue within → self.old.words + 1 < 2 ^ 64 }
+        requires terms { IsTrue within → self.old.terms + 1 < 2 ^ 64 }
+        ensures ended { (closed : List ℕ) → passed_with self.new closed
+            ≡ pass_end within (passed_with self.old closed) }
+        ensures deep { self.new.deep ≡ self.old.deep }
+        ensures commas { self.new.commas ≡ self.old.commas }
     {
-        self.words += 1;
-        if self.deep == 0 && !self.barred {
-            self.terms += 1;
+        if within {
+            self.words += 1;
+            if self.deep == 0 && !self.barred {
+                self.terms += 1;
+            }
         }
     }
 
@@ -76,30 +80,65 @@ impl Passing {
         Ok(())
     }
 
-    /// Takes a byte that is no word byte.
+    /// Takes a mark other than a parenthesis, or a blank.
     #[inline(always)]
-    fn take_byte(&mut self, byte: u8, closed: &mut Vec<usize>) -> Result<(), AllocError>
-        requires deep { self.old.deep + 1 < 2 ^ 64 }
+    fn take_other(&mut self, byte: u8)
         requires commas { self.old.commas + 1 < 2 ^ 64 }
-        ensures { OnOk result (passed_with self.new closed.new.items
-            ≡ pass_byte byte (passed_with self.old closed.old.items)) }
+        requires open { (byte == 40) ≡ false }
+        requires close { (byte == 41) ≡ false }
+        ensures { (closed : List ℕ) → passed_with self.new closed
+            ≡ pass_byte byte (passed_with self.old closed) }
     {
-        if byte == b'(' {
-            self.deep += 1;
-        } else if byte == b')' {
-            self.take_close(closed)?;
-        } else if byte == b',' {
+        if byte == b',' {
             if self.deep == 0 {
                 self.commas += 1;
             }
         } else if byte == b'|' {
             self.barred = true;
         }
-        Ok(())
+    }
+
+    /// Takes a byte behind one of a word, or behind none, the commonest bytes tested first. Whether it is one of a word.
+    #[inline(always)]
+    fn take_byte(
+        &mut self,
+        byte: u8,
+        within: bool,
+        closed: &mut Vec<usize>,
+    ) -> Result<bool, AllocError>
+        requires deep { self.old.deep + 1 < 2 ^ 64 }
+        requires commas { self.old.commas + 1 < 2 ^ 64 }
+        requires words { IsTrue within → self.old.words + 1 < 2 ^ 64 }
+        requires terms { IsTrue within → self.old.terms + 1 < 2 ^ 64 }
+        ensures within { IfOk result (λ is_word. is_word ≡ is_word_byte byte) }
+        ensures taken { OnOk result (passed_with self.new closed.new.items
+            ≡ pass_next byte within (passed_with self.old closed.old.items)) }
+    {
+        match byte {
+            b'(' => {
+                self.end_word(within);
+                self.deep += 1;
+                Ok(false)
+            }
+            b')' => {
+                self.end_word(within);
+                self.take_close(closed)?;
+                Ok(false)
+            }
+            _ => {
+                if is_word_byte(byte) {
+                    return Ok(true);
+                }
+                self.end_word(within);
+                self.take_other(byte);
+                Ok(false)
+            }
+        }
     }
 }
 
 /// Goes over a text.
+#[inline(never)]
 fn tail_of(alloc: Global, text: &[u8]) -> Result<Tail, AllocError>
     ensures { IfOk result (λ tail. passed tail ≡ passed_over nothing_passed false text.now) }
 {
@@ -113,19 +152,9 @@ fn tail_of(alloc: Global, text: &[u8]) -> Result<Tail, AllocError>
     };
     let mut within = false;
     for byte in text {
-        if is_word_byte(*byte) {
-            within = true;
-        } else {
-            if within {
-                counts.take_word();
-            }
-            within = false;
-            counts.take_byte(*byte, &mut closed)?;
-        }
+        within = counts.take_byte(*byte, within, &mut closed)?;
     }
-    if within {
-        counts.take_word();
-    }
+    counts.end_word(within);
     Ok(Tail { counts, closed })
 }
 

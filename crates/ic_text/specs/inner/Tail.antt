@@ -92,6 +92,10 @@ pass_byte b t =
 abbrev pub pass_end : Bool → Passed → Passed
 pass_end within t = if within then pass_word t else t
 
+-- a byte behind one of a word, or behind none
+abbrev pub pass_next : ℕ → Bool → Passed → Passed
+pass_next b within t = if is_word_byte b then t else pass_byte b (pass_end within t)
+
 -- bytes behind one of a word, or behind none
 abbrev pub passed_over : Passed → Bool → List ℕ → Passed
 passed_over t within [] = pass_end within t
