@@ -19,7 +19,7 @@ cause_of of_folder call (Ok value) = None
 cause_of of_folder call (Err error) = unless_interrupted (error_kind error) (record {
   of_folder = of_folder;
   call = call;
-  reason = reason_of (error_kind error) (raw_os_error error);
+  reason = reason_of call (error_kind error) (raw_os_error error);
 })
 
 -- what stands noted behind a call, of which this is noted: the last cause

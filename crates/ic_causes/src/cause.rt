@@ -2,7 +2,7 @@
 
 ghost use Rattle.std.specs.Prelude.{◌≡◌};
 ghost use Rattle.std.specs.IoError.{error_kind, raw_os_error};
-ghost use Rattle.ic_causes.specs.Reasons.{reason_of, reason_of_number};
+ghost use Rattle.ic_causes.specs.Reasons.{reason_of, reason_of_number, reason_of_wait};
 
 use std::io::{self, ErrorKind};
 
@@ -60,9 +60,9 @@ pub enum Reason {
 }
 
 impl Reason {
-    /// The reason of an error.
-    pub fn of(error: &io::Error) -> Reason
-        ensures { result ≡ reason_of (error_kind error.now) (raw_os_error error.now) }
+    /// The reason of an error of this call.
+    pub fn of(call: FileCall, error: &io::Error) -> Reason
+        ensures { result ≡ reason_of call (error_kind error.now) (raw_os_error error.now) }
     {
         match error.kind() {
             ErrorKind::NotFound => Reason::Missing,
@@ -72,7 +72,7 @@ impl Reason {
             ErrorKind::FilesystemLoop => Reason::Links,
             ErrorKind::PermissionDenied => Reason::NoRights,
             ErrorKind::ReadOnlyFilesystem => Reason::ReadOnly,
-            ErrorKind::WouldBlock => Reason::Locked,
+            ErrorKind::WouldBlock => reason_of_wait(call, error.raw_os_error()),
             ErrorKind::ExecutableFileBusy => Reason::Running,
             ErrorKind::StorageFull => Reason::NoRoom,
             ErrorKind::QuotaExceeded => Reason::NoShare,
@@ -84,6 +84,22 @@ impl Reason {
             ErrorKind::OutOfMemory => Reason::NoMemory,
             _ => reason_of_number(error.raw_os_error()),
         }
+    }
+}
+
+/// The reason of a call that would have to wait: a lock alone is then held by another open of the
+/// file.
+fn reason_of_wait(call: FileCall, number: Option<i32>) -> Reason
+    ensures { result ≡ reason_of_wait call number }
+{
+    match call {
+        FileCall::Lock => Reason::Locked,
+        FileCall::Open
+        | FileCall::Length
+        | FileCall::Seek
+        | FileCall::Read
+        | FileCall::Write
+        | FileCall::Sync => reason_of_number(number),
     }
 }
 

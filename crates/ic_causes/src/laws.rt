@@ -1,9 +1,10 @@
 //! Laws of the definitions that the contracts of this crate cite.
 
-ghost use Rattle.std.specs.Prelude.{◌≡◌, ◌≢◌, ◌≤◌, ◌<◌, ℕ, Bool, true, false, List, [], ◌∷◌, ◌++◌, Option, None, Some, Err, codes, length, map, pos};
+ghost use Rattle.std.specs.Prelude.{◌≡◌, ◌≢◌, ◌≤◌, ◌<◌, ℕ, Bool, true, false, List, [], ◌∷◌, ◌++◌, ℤ, Option, None, Some, Err, codes, length, map, pos};
 ghost use Rattle.std.specs.List.{list_all};
 ghost use Rattle.std.specs.IoError.{error_kind, raw_os_error};
 ghost use Rattle.std.specs.Fmt.{decimal};
+ghost use Rattle.std.specs.declared.io.ErrorKind.{ErrorKind};
 ghost use Rattle.std.specs.declared.io.ErrorKind.TheVariants.{NotFound, PermissionDenied, WouldBlock, StorageFull, Interrupted, Uncategorized};
 ghost use Rattle.ic_causes.specs.declared.cause.Cause.{Cause};
 ghost use Rattle.ic_causes.specs.declared.cause.FileCall.{FileCall};
@@ -93,7 +94,7 @@ pub fn the_last_failure_is_noted(error: &io::Error)
         → cause_of {T = Unit {0}} of_folder c (Err error.now) ≡ Some (record {
           of_folder = of_folder;
           call = c;
-          reason = reason_of (error_kind error.now) (raw_os_error error.now);
+          reason = reason_of c (error_kind error.now) (raw_os_error error.now);
         }) }
     ensures interrupted { (of_folder : Bool) (c : FileCall) → error_kind error.now ≡ Interrupted
         → cause_of {T = Unit {0}} of_folder c (Err error.now) ≡ None }
@@ -102,13 +103,25 @@ pub fn the_last_failure_is_noted(error: &io::Error)
         → noted_after before (Some cause) ≡ Some cause }
 {}
 
-/// The reason of the system's errors by their numbers: 2, 13, 11, 28, 5, and others.
+/// The reason of errors of the system with the numbers 2, 13, 11, 28, 5 and 6, or with none. Only of
+/// one that says that a call would have to wait it goes by the call: a lock is held by another open of
+/// the file, and of any other call the number is told.
 pub fn reasons_are()
-    ensures missing { reason_of NotFound (Some (pos 2)) ≡ reason.Missing }
-    ensures rights { reason_of PermissionDenied (Some (pos 13)) ≡ reason.NoRights }
-    ensures locked { reason_of WouldBlock None ≡ reason.Locked }
-    ensures full { reason_of StorageFull (Some (pos 28)) ≡ reason.NoRoom }
-    ensures device { reason_of Uncategorized (Some (pos 5)) ≡ reason.Device }
-    ensures other { reason_of Uncategorized (Some (pos 6)) ≡ reason.Other 6 }
-    ensures untold { reason_of Uncategorized None ≡ reason.Untold }
+    ensures missing { (c : FileCall) → reason_of c NotFound (Some (pos 2)) ≡ reason.Missing }
+    ensures rights { (c : FileCall)
+        → reason_of c PermissionDenied (Some (pos 13)) ≡ reason.NoRights }
+    ensures locked { (number : Option ℤ) → reason_of call.Lock WouldBlock number ≡ reason.Locked }
+    ensures waits { (c : FileCall) → c ≢ call.Lock
+        → (reason_of c WouldBlock (Some (pos 11)) ≡ reason.Other 11)
+        × (reason_of c WouldBlock None ≡ reason.Untold) }
+    ensures full { (c : FileCall) → reason_of c StorageFull (Some (pos 28)) ≡ reason.NoRoom }
+    ensures device { (c : FileCall) → reason_of c Uncategorized (Some (pos 5)) ≡ reason.Device }
+    ensures other { (c : FileCall) → reason_of c Uncategorized (Some (pos 6)) ≡ reason.Other 6 }
+    ensures untold { (c : FileCall) → reason_of c Uncategorized None ≡ reason.Untold }
+{}
+
+/// That another server has the file open is told of a lock alone, and of each that is refused so.
+pub fn a_lock_alone_is_told_as_held()
+    ensures only { (c : FileCall) (kind : ErrorKind) (number : Option ℤ)
+        → reason_of c kind number ≡ reason.Locked → (c ≡ call.Lock) × (kind ≡ WouldBlock) }
 {}

@@ -51,7 +51,7 @@ pub fn cause_of<T: Drop>(of_folder: bool, call: FileCall, answer: &io::Result<T>
         _ => Some(Cause {
             of_folder,
             call,
-            reason: Reason::of(error),
+            reason: Reason::of(call, error),
         }),
     }
 }
