@@ -1,5 +1,5 @@
 -- Scripts, line by line.
-use Rattle.std.proofs.Common.{◌≡◌, ℕ, ◌+◌, ◌-◌, ◌<◌, ◌≤◌, ◌==◌, false, List, [], ◌∷◌, ◌++◌, Option, None, Some, Ok, Err, length, take, drop, get_or, refl, sym, ap, ◌∙◌, subst, arith, append-nil, append_assoc, length-append}
+use Rattle.std.proofs.Common.{◌≡◌, ℕ, suc, ◌+◌, ◌-◌, ◌<◌, ◌≤◌, ◌==◌, false, List, [], ◌∷◌, ◌++◌, Option, None, Some, Ok, Err, length, take, drop, get_or, refl, sym, ap, ◌∙◌, subst, arith, append-nil, append_assoc, length-append}
 use Rattle.std.specs.List.{AllZip, cons_option}
 use Rattle.std.specs.Option.{option_map, option_or, option_to_list}
 use Rattle.std.proofs.lemmas.Bool.{or_from}
@@ -12,7 +12,7 @@ use Rattle.ic_text.specs.declared.fault.TextFault.{TextFault}
 use Rattle.ic_commands.specs.ScriptSense.{ReadsScriptLine}
 use Rattle.ic_lines.specs.declared.script.ScriptFault.{ScriptFault}
 use Rattle.ic_lines.specs.Lines.{has_feed, lines}
-use Rattle.ic_lines.specs.Script.{ScriptLine, command_of, commands, fault_behind, numbered, first_fault, unless_refused, ReadsScript}
+use Rattle.ic_lines.specs.Script.{ScriptLine, command_of, commands, fault_behind, numbered, first_fault, unless_refused, ReadsScript, IsWanting, WantsMemory}
 use Rattle.ic_lines.specs.inner.Adding.{AddsLine, RefusesLine}
 use Rattle.ic_lines.proofs.LineLemmas.{lines_first, lines_last}
 
@@ -208,3 +208,24 @@ pub refused_at : SomeWay → (text line : List ℕ) (left : List (List ℕ)) (n 
     → IsTaken text (line ∷ left) n found → f.line ≡ n → RefusesLine line found f.fault → ReadsScript text (Err f)
 refused_at law text line left n found f t number refuses =
     subst (λ (k : ℕ). ReadsScript text (Err (record { line = k; fault = f.fault }))) (sym number) (one_refused law text line left n found f.fault t refuses)
+
+-- as many are read as there are
+as_many : (ls : List (List ℕ)) (rs : List ScriptLine) → AreRead ls rs → length ls ≡ length rs
+as_many [] [] read = refl
+as_many [] (r ∷ rs) read = absurd read
+as_many (l ∷ ls) [] read = absurd read
+as_many (l ∷ ls) (r ∷ rs) read = ap (λ (k : ℕ). suc k) (as_many ls rs read.1)
+
+pub wanting_at : (text line : List ℕ) (left : List (List ℕ)) (n : ℕ) (found : List Command) (f : ScriptFault)
+    → IsTaken text (line ∷ left) n found → f.line ≡ n → WantsMemory (length found) line → IsWanting text f.line
+wanting_at text line left n found f t number wants = record {
+  before = t.taken;
+  line = line;
+  behind = left;
+  readings = t.readings;
+  parted = t.parted;
+  counted = number ∙ t.count ∙ ap (λ k. k + 1) (sym (as_many t.taken t.readings t.read));
+  read = t.read;
+  unrefused = t.unrefused;
+  wants = subst (λ fs. WantsMemory (length fs) line) t.holds wants;
+}

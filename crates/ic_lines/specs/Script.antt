@@ -1,10 +1,11 @@
 -- To be believed: what a script is read as (this project's choice).
-use Rattle.std.specs.Prelude.{◌≡◌, ℕ, ◌+◌, List, [], ◌∷◌, ◌++◌, Option, None, Some, Result, Ok, Err, length, nat_lt, if◌then◌else◌}
+use Rattle.std.specs.Prelude.{◌≡◌, ◌⊎◌, ℕ, ◌+◌, ◌<◌, List, [], ◌∷◌, ◌++◌, Option, None, Some, Result, Ok, Err, length, nat_lt, if◌then◌else◌}
 use Rattle.std.specs.List.{AllZip, filter_map}
 use Rattle.std.specs.Option.{option_map, option_or}
 use Rattle.ic_jobs.specs.declared.command.Command.{Command}
 use Rattle.ic_text.specs.declared.fault.TextFault.{TextFault}
 use Rattle.ic_text.specs.declared.fault.TextFault.TheVariants.{Limit}
+use Rattle.ic_commands.specs.LineText.{IsSubmitText}
 use Rattle.ic_commands.specs.ScriptSense.{ReadsScriptLine}
 use Rattle.ic_lines.specs.declared.script.TheConstants.{MAX_SCRIPT}
 use Rattle.ic_lines.specs.declared.script.ScriptFault.{ScriptFault}
@@ -54,3 +55,22 @@ pub record ReadsScript (text : List ℕ) (answer : Result (List Command) ScriptF
   pub readings : List ScriptLine
   pub read : AllZip ReadsScriptLine (lines text) readings
   pub answered : answer ≡ unless_refused (first_fault [] readings) (commands readings)
+
+-- A line for which memory may be wanting behind so many commands: it spells a submit, or it asks for a
+-- command, which isn't one too many.
+abbrev pub WantsMemory : ℕ → List ℕ → Type 0
+WantsMemory many line = IsSubmitText line
+    ⊎ ((command : Command) × ReadsScriptLine line (Ok (Some command)) × (many < MAX_SCRIPT))
+
+-- Memory is wanting at the line of a script with this number, from 1: the lines before it are read,
+-- and none of them is refused.
+pub record IsWanting (text : List ℕ) (number : ℕ) : Type 0 where
+  pub before : List (List ℕ)
+  pub line : List ℕ
+  pub behind : List (List ℕ)
+  pub readings : List ScriptLine
+  pub parted : lines text ≡ before ++ line ∷ behind
+  pub counted : number ≡ length before + 1
+  pub read : AllZip ReadsScriptLine before readings
+  pub unrefused : first_fault [] readings ≡ None
+  pub wants : WantsMemory (length (commands readings)) line

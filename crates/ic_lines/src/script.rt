@@ -1,8 +1,8 @@
 //! Scripts: the commands of lines.
 
-ghost use Rattle.std.specs.Prelude.{◌≡◌, ◌≢◌, IfErr, IfOk, OnOk, Err, Ok};
+ghost use Rattle.std.specs.Prelude.{◌≡◌, ◌≢◌, IfErr, IfOk, OnOk, Err, Ok, length};
 ghost use Rattle.ic_text.specs.declared.fault.TextFault.TheVariants.{Memory};
-ghost use Rattle.ic_lines.specs.Script.{ReadsScript};
+ghost use Rattle.ic_lines.specs.Script.{IsWanting, ReadsScript, WantsMemory};
 ghost use Rattle.ic_lines.specs.inner.Adding.{AddsLine, RefusesLine};
 
 use ic_commands::read_script_line;
@@ -27,6 +27,8 @@ fn add_line(alloc: Global, line: &[u8], commands: &mut Vec<Command>) -> Result<(
     ensures added { OnOk result (AddsLine line.now commands.old.items commands.new.items) }
     ensures refused { IfErr result
         (λ fault. fault ≢ Memory → RefusesLine line.now commands.old.items fault) }
+    ensures memory { IfErr result
+        (λ fault. fault ≡ Memory → WantsMemory (length commands.old.items) line.now) }
 {
     let Some(command) = read_script_line(alloc, line)? else {
         return Ok(());
@@ -49,6 +51,8 @@ fn take_line(
     ensures number { IfErr result (λ refusal. refusal.line ≡ number) }
     ensures refused { IfErr result (λ refusal. refusal.fault ≢ Memory
         → RefusesLine line.now commands.old.items refusal.fault) }
+    ensures memory { IfErr result (λ refusal. refusal.fault ≡ Memory
+        → WantsMemory (length commands.old.items) line.now) }
 {
     add_line(alloc, line, commands).map_err(|fault| ScriptFault {
         line: number,
@@ -63,6 +67,8 @@ pub fn read_script(alloc: Global, text: &[u8]) -> Result<Vec<Command>, ScriptFau
     ensures read { IfOk result (λ commands. ReadsScript text.now (Ok commands.items)) }
     ensures refused { IfErr result
         (λ refusal. refusal.fault ≢ Memory → ReadsScript text.now (Err refusal)) }
+    ensures memory { IfErr result
+        (λ refusal. refusal.fault ≡ Memory → IsWanting text.now refusal.line) }
 {
     ic_commands::laws::one_script_line_reading();
     let mut commands = Vec::new(alloc);

@@ -1,6 +1,6 @@
 use Rattle.std.proofs.lemmas.Bool.{ne_eqb}
 use Rattle.std.proofs.lemmas.Result.{err_from_is_err_and}
-use Rattle.ic_lines.proofs.ScriptLemmas.{between, at_begin, at_line, at_next_line, at_next_byte, at_end, at_none, one_taken, all_taken, refused_at}
+use Rattle.ic_lines.proofs.ScriptLemmas.{between, at_begin, at_line, at_next_line, at_next_byte, at_end, at_none, one_taken, all_taken, refused_at, wanting_at}
 use Rattle.ic_lines.proofs.script.read_script.Goals as goal
 use Rattle.ic_lines.proofs.script.read_script.Goals.{then-byte-eq10+in_ok-take_line, else-byte-eq10, then-start-text+in_ok-take_line-2, else-start-text}
 
@@ -15,6 +15,15 @@ returns-in_err-take_line-clause-refused c =
     let e = err_from_is_err_and c.from_residual.result c.from_residual.ensures.1 in
     rw (e.1, e.2) (λ other. refused_at c.one_script_line_reading.ensures.total text line _ c.loop-place.number c.loop-place.commands.items c.in_err-take_line.field-0.0 taken
     c.in_err-take_line.ensures.number (c.in_err-take_line.ensures.refused other))
+
+pub returns-in_err-take_line-clause-memory : goal.returns-in_err-take_line-clause-memory
+returns-in_err-take_line-clause-memory c =
+    let text = c.args.text.now in
+    let line = between text c.loop-place.start c.loop-place.place in
+    let taken = at_line text c.loop-place.start c.loop-place.place c.loop-place.number c.loop-place.commands.items c.loop-place.invariant.at c.loop-place-test.true c.if-byte-eq10.true in
+    let e = err_from_is_err_and c.from_residual.result c.from_residual.ensures.1 in
+    rw (e.1, e.2) (λ wants. wanting_at text line _ c.loop-place.number c.loop-place.commands.items c.in_err-take_line.field-0.0 taken
+    c.in_err-take_line.ensures.number (c.in_err-take_line.ensures.memory wants))
 
 pub loop-place-preserved : goal.loop-place-preserved
 loop-place-preserved c =
@@ -38,6 +47,14 @@ returns-in_err-take_line-2-clause-refused c =
     let e = err_from_is_err_and c.from_residual-in_err-take_line-2.result c.from_residual-in_err-take_line-2.ensures.1 in
     rw (e.1, e.2) (λ other. refused_at c.one_script_line_reading.ensures.total text _ _ c.loop-place.number c.loop-place.commands.items c.in_err-take_line-2.field-0.0 taken
     c.in_err-take_line-2.ensures.number (c.in_err-take_line-2.ensures.refused other))
+
+pub returns-in_err-take_line-2-clause-memory : goal.returns-in_err-take_line-2-clause-memory
+returns-in_err-take_line-2-clause-memory c =
+    let text = c.args.text.now in
+    let taken = at_end text c.loop-place.start c.loop-place.place c.loop-place.number c.loop-place.commands.items c.loop-place.invariant.at c.loop-place-test.false c.loop-place.auto.place-end c.if-start-text.true in
+    let e = err_from_is_err_and c.from_residual-in_err-take_line-2.result c.from_residual-in_err-take_line-2.ensures.1 in
+    rw (e.1, e.2) (λ wants. wanting_at text _ _ c.loop-place.number c.loop-place.commands.items c.in_err-take_line-2.field-0.0 taken
+    c.in_err-take_line-2.ensures.number (c.in_err-take_line-2.ensures.memory wants))
 
 pub returns-clause-read : goal.returns-clause-read
 returns-clause-read c =
