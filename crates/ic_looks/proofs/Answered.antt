@@ -1,10 +1,10 @@
 -- What answers the front of a text that was taken answers the text.
-use Rattle.std.proofs.Common.{◌≡◌, ◌⊎◌, ⊎_elim, ℕ, List, ◌++◌, Option, Result, Ok, Err}
+use Rattle.std.proofs.Common.{◌≡◌, ◌≢◌, ◌⊎◌, ℕ, List, ◌++◌, Option, Result, Ok, Err, refl, ◌∙◌}
 use Rattle.std.specs.Prelude.{IfOk}
 use Rattle.std.specs.Result.{IsErrAnd}
 use Rattle.std.specs.Io.KnownBytes.{Appends}
-use Rattle.ic_streams.specs.Streams.{FaultOf, IsAnswered, OfText, TakesIt}
-use Rattle.ic_streams.specs.lemmas.Reading.{Carried, OfFronts, answered_as, of_each, of_front, read_as}
+use Rattle.ic_streams.specs.Streams.{FaultOf, IsAnswered, OfText, TakesIt, WritesPart}
+use Rattle.ic_streams.specs.lemmas.Reading.{Carried, OfFronts, answered_as, answered_cut, answered_refused, answered_unread, answered_written, of_each, of_front, read_as}
 use Rattle.ic_streams.specs.declared.fault.StreamFault.{StreamFault}
 use Rattle.ic_streams.specs.declared.fault.StreamFault.TheVariants.{Read, Text, Round, Memory, Write}
 use Rattle.ic_looks.specs.Reductions.{EndsAs, Reduces}
@@ -49,24 +49,24 @@ module _ (most : ℕ) where
   pub unread : (r : Result Reduction StreamFault) (old before after : Option (List ℕ)) (fault : StreamFault) → IsErrAnd r (λ e. e ≡ fault)
       → (fault ≡ Read) ⊎ (fault ≡ Memory) → OfText old (Told r before after)
   unread (Ok v) old before after fault fails which = absurd fails
-  unread (Err e) old before after fault fails which = of_each (Told (Err e) before after) (λ text. (record { written = tt; refused = says text }, tt)) old
-    where
-      says : (text : List ℕ) → FaultOf (Reduces most) text e
-      says text = rw fails (⊎_elim (λ is. rw is tt) (λ is. rw is tt) which)
+  unread (Err e) old before after fault fails which =
+      of_each (Told (Err e) before after) (λ text. (answered_unread (Reduces most) e before after fault fails which text, tt)) old
 
   -- the text that was read is refused
   pub refused_of_taken : (r : Result Reduction StreamFault) (old new before after : Option (List ℕ)) (front seen : List ℕ) (fault : StreamFault)
-      → TakesIt front old new → seen ≡ front → FaultOf (Reduces most) seen fault → IsErrAnd r (λ e. e ≡ fault) → OfText old (Told r before after)
-  refused_of_taken (Ok v) old new before after front seen fault takes is refused fails = absurd fails
-  refused_of_taken (Err e) old new before after front seen fault takes is refused fails =
-      of_front (Told (Err e) before after) (told_carried (Err e) before after) old new front takes (record { written = tt; refused = rw fails (rw is at refused) }, tt)
+      → TakesIt front old new → seen ≡ front → FaultOf (Reduces most) seen fault → fault ≢ Write → IsErrAnd r (λ e. e ≡ fault) → OfText old (Told r before after)
+  refused_of_taken (Ok v) old new before after front seen fault takes is refused other fails = absurd fails
+  refused_of_taken (Err e) old new before after front seen fault takes is refused other fails =
+      of_front (Told (Err e) before after) (told_carried (Err e) before after) old new front takes
+      (answered_refused (Reduces most) e before after front seen fault is refused other fails, tt)
 
   -- its line couldn't be written
-  pub unwritten_of_taken : (r : Result Reduction StreamFault) (old new before after : Option (List ℕ)) (front seen line : List ℕ) (fault : StreamFault)
-      → TakesIt front old new → seen ≡ front → Reduces most seen (Ok line) → fault ≡ Write → IsErrAnd r (λ e. e ≡ fault) → OfText old (Told r before after)
-  unwritten_of_taken (Ok v) old new before after front seen line fault takes is has write fails = absurd fails
-  unwritten_of_taken (Err e) old new before after front seen line fault takes is has write fails =
-      of_front (Told (Err e) before after) (told_carried (Err e) before after) old new front takes (record { written = tt; refused = rw fails (rw write (line, rw is at has)) }, tt)
+  pub unwritten_of_taken : (r : Result Reduction StreamFault) (old new before after : Option (List ℕ)) (front seen : List ℕ) (fault : StreamFault)
+      → TakesIt front old new → seen ≡ front → WritesPart (Reduces most) seen before after → fault ≡ Write → IsErrAnd r (λ e. e ≡ fault) → OfText old (Told r before after)
+  unwritten_of_taken (Ok v) old new before after front seen fault takes is part write fails = absurd fails
+  unwritten_of_taken (Err e) old new before after front seen fault takes is part write fails =
+      of_front (Told (Err e) before after) (told_carried (Err e) before after) old new front takes
+      (answered_cut (Reduces most) e before after front seen part.0 part.0 is part.1 refl part.2 (fails ∙ write), tt)
 
   -- its line is written
   pub written_of_taken : (reduction : Reduction) (old new before after : Option (List ℕ)) (front seen line given : List ℕ)
@@ -74,4 +74,4 @@ module _ (most : ℕ) where
       → OfText old (Told (Ok reduction) before after)
   written_of_taken reduction old new before after front seen line given takes is has ends same appends =
       of_front (Told (Ok reduction) before after) (told_carried (Ok reduction) before after) old new front takes
-      (record { written = (line, rw is at has, rw same at appends); refused = tt }, rw is at ends)
+      (answered_written (Reduces most) reduction before after front seen line given is has same appends, rw is at ends)

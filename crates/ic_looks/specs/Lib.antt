@@ -5,6 +5,5 @@ pub mod Tracing
 pub mod Tables
 pub mod Pictures
 pub mod Traces
-pub mod Telling
 pub mod Interacting
 pub mod inner

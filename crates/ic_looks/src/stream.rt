@@ -8,7 +8,7 @@ ghost use Rattle.ic_streams.specs.Streams.{OfText, IsAnswered, FaultOf, TakesAt,
 ghost use Rattle.ic_looks.specs.Reductions.{Reduces, EndsAs, Tells};
 ghost use Rattle.ic_looks.specs.Pictures.{shown_as};
 ghost use Rattle.ic_looks.specs.Traces.{Traces};
-ghost use Rattle.ic_looks.specs.Telling.{Told, ToldAt};
+ghost use Rattle.ic_places.specs.Telling.{Appended, AppendedAt};
 
 use crate::making::Maker;
 use crate::picture::picture;
@@ -50,7 +50,8 @@ pub fn reduce_stream<M: Maker, R: Read, W: Write>(
     ensures taken { OnOk result (TakesText (R.remaining reader.old) (R.remaining reader.new)) }
     ensures taken_at_fault { IfErr result
         (λ fault. TakesAt fault (R.remaining reader.old) (R.remaining reader.new)) }
-    ensures told { IfErr result (λ fault. Told (R.remaining reader.old) (R.remaining reader.new) fault
+    ensures told { IfErr result (λ fault. Appended (Reduces rounds) Kind.System
+        (R.remaining reader.old) (R.remaining reader.new) fault
         told.old.items told.new.items) }
     ensures quiet { OnOk result (told.new.items ≡ told.old.items) }
 {
@@ -81,7 +82,8 @@ pub fn trace_stream<R: Read, W: Write>(
     ensures taken { OnOk result (TakesText (R.remaining reader.old) (R.remaining reader.new)) }
     ensures taken_at_fault { IfErr result
         (λ fault. TakesAt fault (R.remaining reader.old) (R.remaining reader.new)) }
-    ensures told { IfErr result (λ fault. Told (R.remaining reader.old) (R.remaining reader.new) fault
+    ensures told { IfErr result (λ fault. Appended (Traces rounds format) Kind.System
+        (R.remaining reader.old) (R.remaining reader.new) fault
         told.old.items told.new.items) }
     ensures quiet { OnOk result (told.new.items ≡ told.old.items) }
 {
@@ -100,7 +102,8 @@ fn shown_trace(
 ) -> Result<Vec<u8>, StreamFault>
     ensures shown { IfOk result (λ shown. Traces rounds format text.now (Ok shown.items)) }
     ensures refused { IfErr result (λ fault. FaultOf (Traces rounds format) text.now fault) }
-    ensures told { IfErr result (λ fault. ToldAt text.now fault told.old.items told.new.items) }
+    ensures told { IfErr result (λ fault. AppendedAt (Traces rounds format) Kind.System text.now fault
+        told.old.items told.new.items) }
     ensures quiet { OnOk result (told.new.items ≡ told.old.items) }
     ensures sort { IfErr result
         (λ fault. (fault ≢ StreamFault.Write) × (fault ≢ StreamFault.Read)) }
@@ -135,7 +138,8 @@ fn reduced_line<M: Maker>(
     ensures line { IfOk result (λ answer. Reduces rounds text.now (Ok answer.0.items)) }
     ensures ended { IfOk result (λ answer. EndsAs rounds text.now answer.1) }
     ensures refused { IfErr result (λ fault. FaultOf (Reduces rounds) text.now fault) }
-    ensures told { IfErr result (λ fault. ToldAt text.now fault told.old.items told.new.items) }
+    ensures told { IfErr result (λ fault. AppendedAt (Reduces rounds) Kind.System text.now fault
+        told.old.items told.new.items) }
     ensures quiet { OnOk result (told.new.items ≡ told.old.items) }
     ensures sort { IfErr result
         (λ fault. (fault ≢ StreamFault.Write) × (fault ≢ StreamFault.Read)) }

@@ -1,19 +1,16 @@
 -- What is told of a text that isn't drawn.
 use Rattle.std.specs.Prelude.{◌≡◌, ℕ, List, Bool, true, false, Option}
-use Rattle.ic_text.specs.Source.{IsPhrase, phrase_words}
-use Rattle.ic_text.specs.SystemSource.{IsSystemPhrase, system_words}
-use Rattle.ic_text.specs.Words.{written_phrase, written_system}
 use Rattle.ic_streams.specs.Streams.{TakesIt}
 use Rattle.ic_streams.specs.declared.fault.StreamFault.{StreamFault}
 use Rattle.ic_streams.specs.declared.fault.StreamFault.TheVariants.{Read, Text, Round, Memory, Write}
 use Rattle.ic_places.specs.Telling.{AppendedAt}
 use Rattle.ic_places.specs.declared.telling.Kind.TheVariants.{Config, System}
-use Rattle.ic_nets.specs.Draws.{has_rules}
+use Rattle.ic_nets.specs.Draws.{Draws, has_rules}
 
 -- what a fault appends to what is told, where a text was to be a system, or a configuration
 abbrev pub told_by : (ruled : Bool) → List ℕ → StreamFault → (before after : List ℕ) → Type 0
-told_by true = AppendedAt IsSystemPhrase system_words written_system System
-told_by false = AppendedAt IsPhrase phrase_words written_phrase Config
+told_by true = AppendedAt Draws System
+told_by false = AppendedAt Draws Config
 
 -- a text with rules was to be a system, and one without a configuration
 abbrev pub ToldAt : List ℕ → StreamFault → (before after : List ℕ) → Type 0

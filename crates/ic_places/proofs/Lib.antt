@@ -5,4 +5,5 @@ pub mod ShownLaws
 pub mod Trimmed
 pub mod Arities
 pub mod FirstShown
+pub mod ToldTaken
 pub mod ToldTexts

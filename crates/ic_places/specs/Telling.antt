@@ -1,5 +1,5 @@
 -- To be believed: what is told of a refused text beside its refusal (this project's choice).
-use Rattle.std.specs.Prelude.{◌≡◌, ℕ, List, [], ◌∷◌, ◌++◌, Option, None, Some, codes, drop, slice_get, ◌==◌, Bool, ◌||◌, if◌then◌else◌}
+use Rattle.std.specs.Prelude.{◌≡◌, ℕ, List, [], ◌∷◌, ◌++◌, Option, None, Some, Err, codes, drop, slice_get, ◌==◌, Bool, ◌||◌, if◌then◌else◌}
 use Rattle.std.specs.Fmt.{decimal}
 use Rattle.std.specs.List.{concat}
 use Rattle.ic_text.specs.declared.fault.TextFault.{TextFault}
@@ -11,9 +11,11 @@ use Rattle.ic_text.specs.declared.misread.Limit.TheVariants.{TextBytes, SymbolBy
 use Rattle.ic_text.specs.Token.{Token}
 use Rattle.ic_text.specs.Reading.{IsSpelling}
 use Rattle.ic_text.specs.WordFaults.{IsSecondUse}
-use Rattle.ic_text.specs.Words.{Written, all_words}
+use Rattle.ic_text.specs.Source.{IsPhrase, phrase_words}
+use Rattle.ic_text.specs.SystemSource.{IsSystemPhrase, system_words}
+use Rattle.ic_text.specs.Words.{Written, all_words, written_phrase, written_system}
 use Rattle.ic_text.specs.Places.{IsPlaced, IsWordPlace}
-use Rattle.ic_streams.specs.Streams.{TakesIt}
+use Rattle.ic_streams.specs.Streams.{Answering, TakesIt}
 use Rattle.ic_streams.specs.declared.fault.StreamFault.{StreamFault}
 use Rattle.ic_streams.specs.declared.fault.StreamFault.TheVariants.{Text}
 use Rattle.ic_places.specs.declared.telling.Kind.{Kind}
@@ -128,26 +130,34 @@ told_lines kind text fault None detail = []
 told_lines kind text fault (Some at) detail =
     place_lines text at (sentence kind text fault at detail)
 
+-- where in a text that was to be of a kind this fault is found
+abbrev pub IsFoundAt : Kind → List ℕ → TextFault → Option ℕ → Detail → Type 0
+IsFoundAt Config text fault place detail =
+    IsPlaced IsPhrase phrase_words written_phrase text fault place detail
+IsFoundAt System text fault place detail =
+    IsPlaced IsSystemPhrase system_words written_system text fault place detail
+
 -- what is told of a refusal of a text: the lines of its place
-abbrev pub TellsOf : {P : Type 0} → (P → Type 0) → (P → List Token) → (P → Written) → Kind
-    → List ℕ → TextFault → List ℕ → Type 0
-TellsOf IsOne words written kind text fault lines =
-    (place : Option ℕ) × (detail : Detail)
-    × IsPlaced IsOne words written text fault place detail
+abbrev pub TellsOf : Kind → List ℕ → TextFault → List ℕ → Type 0
+TellsOf kind text fault lines = (place : Option ℕ) × (detail : Detail)
+    × IsFoundAt kind text fault place detail
     × (lines ≡ told_lines kind text fault place detail)
 
--- What a fault of a stream appends to what is told: of a text that is refused the lines of its
--- place, and else nothing, so that nothing half told is left where memory was wanted.
-abbrev pub AppendedAt : {P : Type 0} → (P → Type 0) → (P → List Token) → (P → Written) → Kind
-    → List ℕ → StreamFault → (before after : List ℕ) → Type 0
-AppendedAt IsOne words written kind text (Text fault) before after =
-    (lines : List ℕ) × TellsOf IsOne words written kind text fault lines × (after ≡ before ++ lines)
-AppendedAt IsOne words written kind text fault before after = after ≡ before
+-- a text is answered with this fault, and the lines that tell of it are appended to what is told
+abbrev pub IsToldOf : Answering → Kind → List ℕ → TextFault → (before after : List ℕ) → Type 0
+IsToldOf Answers kind text fault before after = Answers text (Err (Text fault))
+    × ((lines : List ℕ) × TellsOf kind text fault lines × (after ≡ before ++ lines))
+
+-- What a fault of a stream appends to what is told: of a text that is answered with it the lines of
+-- its place, and else nothing, so that nothing half told is left where memory was wanted.
+abbrev pub AppendedAt : Answering → Kind → List ℕ → StreamFault → (before after : List ℕ) → Type 0
+AppendedAt Answers kind text (Text fault) before after =
+    IsToldOf Answers kind text fault before after
+AppendedAt Answers kind text fault before after = after ≡ before
 
 -- the same of the text that was taken from a reader, where one was taken
-abbrev pub Appended : {P : Type 0} → (P → Type 0) → (P → List Token) → (P → Written) → Kind
-    → (old new : Option (List ℕ)) → StreamFault → (before after : List ℕ) → Type 0
-Appended IsOne words written kind old new (Text fault) before after = (text : List ℕ)
-    × TakesIt text old new × AppendedAt IsOne words written kind text (Text fault) before after
-Appended IsOne words written kind old new fault before after =
-    AppendedAt IsOne words written kind [] fault before after
+abbrev pub Appended : Answering → Kind → (old new : Option (List ℕ)) → StreamFault
+    → (before after : List ℕ) → Type 0
+Appended Answers kind old new (Text fault) before after =
+    (text : List ℕ) × TakesIt text old new × IsToldOf Answers kind text fault before after
+Appended Answers kind old new fault before after = after ≡ before

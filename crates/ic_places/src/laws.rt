@@ -1,6 +1,6 @@
 //! What is proved of the definitions alone: each law is the contract of a function that does nothing.
 
-ghost use Rattle.std.specs.Prelude.{◌≡◌, ◌≢◌, ◌⊎◌, ◌<◌, ◌≤◌, ◌+◌, ℕ, List, [], ◌∷◌, ◌++◌, false, true, Some, codes, get_or, length, map, min, slice_get};
+ghost use Rattle.std.specs.Prelude.{◌≡◌, ◌≢◌, ◌⊎◌, ◌<◌, ◌≤◌, ◌+◌, ℕ, List, [], ◌∷◌, ◌++◌, false, true, Option, Some, Err, codes, get_or, length, map, min, slice_get, take};
 ghost use Rattle.std.specs.Fmt.{decimal};
 ghost use Rattle.std.specs.List.{AllByRecursion, concat, list_any, list_all};
 ghost use Rattle.std.specs.Str.{IsUtf8, chars};
@@ -8,6 +8,7 @@ ghost use Rattle.ic_text.specs.Token.{is_blank, is_word_byte};
 ghost use Rattle.ic_term.specs.declared.limits.TheConstants.{MAX_ARITY, MAX_INTERFACE, MAX_NODES, MAX_SYMBOLS, MAX_SYMBOL_TEXT};
 ghost use Rattle.ic_rules.specs.declared.limits.TheConstants.{MAX_RULES, MAX_RULE_NODES};
 ghost use Rattle.ic_text.specs.declared.limits.TheConstants.{MAX_NAME, MAX_TEXT};
+ghost use Rattle.ic_text.specs.declared.fault.TextFault.{TextFault};
 ghost use Rattle.ic_text.specs.declared.fault.TextFault.TheVariants.{Arity, Syntax};
 ghost use Rattle.ic_text.specs.declared.misread.Detail.{Detail};
 ghost use Rattle.ic_text.specs.declared.misread.Detail.TheVariants.{Nothing};
@@ -16,10 +17,12 @@ ghost use Rattle.ic_text.specs.Places.{IsPlaced};
 ghost use Rattle.ic_text.specs.Source.{IsPhrase, phrase_words};
 ghost use Rattle.ic_text.specs.SystemSource.{IsSystemPhrase, system_words};
 ghost use Rattle.ic_text.specs.Words.{written_phrase, written_system};
+ghost use Rattle.ic_streams.specs.Streams.{OfText, Rounds, Settles};
+ghost use Rattle.ic_streams.specs.declared.fault.StreamFault.TheVariants.{Text};
 ghost use Rattle.ic_places.specs.declared.telling.Kind.{Kind};
 ghost use Rattle.ic_places.specs.declared.telling.Kind.TheVariants.{Config, System};
 ghost use Rattle.ic_places.specs.Sights.{command_words};
-ghost use Rattle.ic_places.specs.Telling.{IsOfArities, arity_sentence, limit_sentence, sentence};
+ghost use Rattle.ic_places.specs.Telling.{Appended, IsOfArities, IsToldOf, arity_sentence, limit_sentence, sentence};
 ghost use Rattle.ic_places.specs.Lines.{IsMarked, begins_with_feed, column, feed, first_line, head_of, is_ascii, is_feed, is_printable, last_line, line_number, margin, picture_of, place_lines, shown, shown_before, shown_behind, told_at};
 
 /// A line feed ends a line and begins one. The last line is what stands behind the last line feed.
@@ -199,3 +202,16 @@ pub fn two_arities_are_told()
     ic_text::laws::words_stand_at_their_places();
     ic_text::laws::words_are_those_of_tokens();
 }
+
+/// The lines that are told are those of the text that is answered: of the reader's, where it tells its bytes, and else of
+/// some text. Of one that is too long they are those of its first 262,145 bytes.
+pub fn the_text_that_is_answered_is_told_of()
+    ensures config { (old new : Option (List ℕ)) (fault : TextFault) (before after : List ℕ)
+        → Appended Settles Config old new (Text fault) before after
+        → OfText old (λ text. Settles text (Err (Text fault))
+        × IsToldOf Settles Config (take (MAX_TEXT + 1) text) fault before after) }
+    ensures system { (old new : Option (List ℕ)) (fault : TextFault) (before after : List ℕ)
+        → Appended Rounds System old new (Text fault) before after
+        → OfText old (λ text. Rounds text (Err (Text fault))
+        × IsToldOf Rounds System (take (MAX_TEXT + 1) text) fault before after) }
+{}

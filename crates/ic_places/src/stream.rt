@@ -5,9 +5,6 @@ ghost use Rattle.std.specs.Io.KnownBytes.{Keeps};
 ghost use Rattle.ic_term.specs.Symbol.{is_over};
 ghost use Rattle.ic_round.specs.Rounds.{round, unless_unfit};
 ghost use Rattle.ic_round.specs.RoundAnswers.{Answers};
-ghost use Rattle.ic_text.specs.Source.{IsPhrase, phrase_words};
-ghost use Rattle.ic_text.specs.SystemSource.{IsSystemPhrase, system_words};
-ghost use Rattle.ic_text.specs.Words.{written_phrase, written_system};
 ghost use Rattle.ic_streams.specs.Streams.{OfText, IsAnswered, FaultOf, Rounds, Settles, TakesAt, TakesText};
 ghost use Rattle.ic_places.specs.Telling.{Appended, AppendedAt, told_lines};
 ghost use Rattle.ic_streams.specs.Faults.{fault_of_text};
@@ -38,8 +35,8 @@ pub fn settle_telling<R: Read, W: Write>(
     ensures taken { OnOk result (TakesText (R.remaining reader.old) (R.remaining reader.new)) }
     ensures taken_at_fault { IfErr result
         (λ fault. TakesAt fault (R.remaining reader.old) (R.remaining reader.new)) }
-    ensures told { IfErr result (λ fault. Appended IsPhrase phrase_words written_phrase
-        Kind.Config (R.remaining reader.old) (R.remaining reader.new) fault
+    ensures told { IfErr result (λ fault. Appended Settles Kind.Config
+        (R.remaining reader.old) (R.remaining reader.new) fault
         told.old.items told.new.items) }
     ensures quiet { OnOk result (told.new.items ≡ told.old.items) }
 {
@@ -64,8 +61,8 @@ pub fn once_telling<R: Read, W: Write>(
     ensures taken { OnOk result (TakesText (R.remaining reader.old) (R.remaining reader.new)) }
     ensures taken_at_fault { IfErr result
         (λ fault. TakesAt fault (R.remaining reader.old) (R.remaining reader.new)) }
-    ensures told { IfErr result (λ fault. Appended IsSystemPhrase system_words written_system
-        Kind.System (R.remaining reader.old) (R.remaining reader.new) fault
+    ensures told { IfErr result (λ fault. Appended Rounds Kind.System
+        (R.remaining reader.old) (R.remaining reader.new) fault
         told.old.items told.new.items) }
     ensures quiet { OnOk result (told.new.items ≡ told.old.items) }
 {
@@ -105,8 +102,8 @@ pub fn refused(
 fn settled_line(alloc: Global, text: &[u8], told: &mut Vec<u8>) -> Result<Vec<u8>, StreamFault>
     ensures line { IfOk result (λ line. Settles text.now (Ok line.items)) }
     ensures refused { IfErr result (λ fault. FaultOf Settles text.now fault) }
-    ensures told { IfErr result (λ fault. AppendedAt IsPhrase phrase_words written_phrase
-        Kind.Config text.now fault told.old.items told.new.items) }
+    ensures told { IfErr result (λ fault. AppendedAt Settles Kind.Config text.now fault
+        told.old.items told.new.items) }
     ensures quiet { OnOk result (told.new.items ≡ told.old.items) }
     ensures sort { IfErr result
         (λ fault. (fault ≢ StreamFault.Write) × (fault ≢ StreamFault.Read)) }
@@ -123,8 +120,8 @@ fn settled_line(alloc: Global, text: &[u8], told: &mut Vec<u8>) -> Result<Vec<u8
 fn once_line(alloc: Global, text: &[u8], told: &mut Vec<u8>) -> Result<Vec<u8>, StreamFault>
     ensures line { IfOk result (λ line. Rounds text.now (Ok line.items)) }
     ensures refused { IfErr result (λ fault. FaultOf Rounds text.now fault) }
-    ensures told { IfErr result (λ fault. AppendedAt IsSystemPhrase system_words written_system
-        Kind.System text.now fault told.old.items told.new.items) }
+    ensures told { IfErr result (λ fault. AppendedAt Rounds Kind.System text.now fault
+        told.old.items told.new.items) }
     ensures quiet { OnOk result (told.new.items ≡ told.old.items) }
     ensures sort { IfErr result
         (λ fault. (fault ≢ StreamFault.Write) × (fault ≢ StreamFault.Read)) }

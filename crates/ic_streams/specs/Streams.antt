@@ -2,6 +2,7 @@
 use Rattle.std.specs.Prelude.{◌≡◌, ◌≢◌, ◌≤◌, ◌+◌, ℕ, List, [], ◌∷◌, ◌++◌, true, length}
 use Rattle.std.specs.Prelude.{Option, None, Some, Result, Ok, Err, OnOk, IfErr}
 use Rattle.std.specs.Io.KnownBytes.{Appends, Consumes, IsAtEnd}
+use Rattle.ic_output.specs.Output.{AppendsFront}
 use Rattle.ic_term.specs.Symbol.{Symbol}
 use Rattle.ic_term.specs.Configuration.{Configuration}
 use Rattle.ic_rules.specs.System.{SystemParts}
@@ -69,6 +70,11 @@ Rounds input (Err Write) = ⊥
 abbrev pub Writes : Answering → List ℕ → Option (List ℕ) → Option (List ℕ) → Type 0
 Writes Answers input old new = (line : List ℕ) × Answers input (Ok line) × Appends old new line
 
+-- a front of the line of a text is, where the writer fails
+abbrev pub WritesPart : Answering → List ℕ → Option (List ℕ) → Option (List ℕ) → Type 0
+WritesPart Answers input old new =
+    (line : List ℕ) × Answers input (Ok line) × AppendsFront old new [] line
+
 -- what a fault says of the text: its refusal, or that it has a line, or nothing
 abbrev pub FaultOf : Answering → List ℕ → StreamFault → Type 0
 FaultOf Answers input Write = (line : List ℕ) × Answers input (Ok line)
@@ -82,11 +88,13 @@ abbrev pub OfText : (bytes : Option (List ℕ)) (what : List ℕ → Type 0) →
 OfText None what = (text : List ℕ) × what text
 OfText (Some text) what = what text
 
--- a text is answered: at Ok by its line, which is appended, and else by a fault
+-- A text is answered: at Ok by its line, which is appended, and else by a fault. Where the writer fails
+-- a front of the line is appended, and nothing else.
 pub record IsAnswered {T : Type 0} (Answers : Answering) (text : List ℕ)
     (result : Result T StreamFault) (old new : Option (List ℕ)) : Type 0 where
   pub written : OnOk result (Writes Answers text old new)
   pub refused : IfErr result (λ fault. FaultOf Answers text fault)
+  pub cut : IfErr result (λ fault. fault ≡ Write → WritesPart Answers text old new)
 
 -- these bytes are taken, which are all there are or one more than a text may have
 abbrev pub TakesIt : List ℕ → Option (List ℕ) → Option (List ℕ) → Type 0

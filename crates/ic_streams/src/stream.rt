@@ -1,12 +1,14 @@
 //! Answering what a reader gives.
 
-ghost use Rattle.std.specs.Prelude.{◌≡◌, ◌≢◌, ◌⊎◌, Ok, IfOk, IfErr, IsTrue, OnOk, OnErr};
+ghost use Rattle.std.specs.Prelude.{◌≡◌, ◌≢◌, ◌⊎◌, Ok, IfOk, IfErr, IsTrue, OnOk, OnErr, []};
 ghost use Rattle.std.specs.Io.KnownBytes.{Appends, Keeps};
+ghost use Rattle.ic_output.specs.Output.{AppendsFront};
 ghost use Rattle.ic_term.specs.Symbol.{is_over};
 ghost use Rattle.ic_streams.specs.Streams.{OfText, IsAnswered, FaultOf, Rounds, Settles, line_of};
 ghost use Rattle.ic_streams.specs.Streams.{TakesAt, TakesIt, TakesSome, TakesText};
 
 use crate::fault::StreamFault;
+use ic_output::write_flushed;
 use ic_round::{round, settle};
 use ic_term::{Config, Symbols};
 use ic_text::{MAX_TEXT, print_config, read_config, read_system};
@@ -18,7 +20,7 @@ const CHUNK: usize = 8_192;
 
 /// Settles the configuration that the reader gives, and writes it as a line.
 ///
-/// Nothing is written before the text is read and settled. A text of more than 262,144 bytes is `TextFault::Limit`, and
+/// Nothing is written before the text is read and settled, and where the writer fails a front of the line. A text of more than 262,144 bytes is `TextFault::Limit`, and
 /// at most 262,145 bytes are read.
 pub fn settle_stream<R: Read, W: Write>(
     alloc: Global,
@@ -120,12 +122,13 @@ pub fn config_line(alloc: Global, symbols: &Symbols, config: &Config) -> Result<
     Ok(line)
 }
 
-/// Writes a line and flushes it.
+/// Writes a line and flushes it. Where the writer fails, a front of it is written.
 pub fn write_line<W: Write>(writer: &mut W, line: &[u8]) -> Result<(), StreamFault>
     ensures written { OnOk result
         (Appends (W.contents writer.old) (W.contents writer.new) line.now) }
+    ensures cut { OnErr result
+        (AppendsFront (W.contents writer.old) (W.contents writer.new) [] line.now) }
     ensures refused { IfErr result (λ fault. fault ≡ StreamFault.Write) }
 {
-    writer.write_all(line).map_err(|_| StreamFault::Write)?;
-    writer.flush().map_err(|_| StreamFault::Write)
+    write_flushed(writer, line).map_err(|_| StreamFault::Write)
 }

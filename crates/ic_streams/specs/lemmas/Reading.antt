@@ -1,14 +1,16 @@
 -- What was taken from a reader, and what it says of all that the reader had.
-use Rattle.std.proofs.Common.{◌≡◌, ◌⊎◌, ⊎_elim, ℕ, ◌+◌, ◌<◌, ◌≤◌, List, [], ◌++◌, Option, None, Some, OnErr, Result, Ok, Err, length, length-append, append-nil, arith, ◌∙◌, ap, sym, inl, inr}
+use Rattle.std.proofs.Common.{◌≡◌, ◌≢◌, ◌⊎◌, ⊎_elim, ℕ, ◌+◌, ◌<◌, ◌≤◌, List, [], ◌++◌, Option, None, Some, OnErr, Result, Ok, Err, length, length-append, append-nil, arith, ◌∙◌, ap, sym, inl, inr}
 use Rattle.std.specs.Prelude.{IfErr, OnOk}
 use Rattle.std.specs.Result.{IsErrAnd}
 use Rattle.std.proofs.KnownBytes.{Consumes-trans}
 use Rattle.std.proofs.lemmas.Bool.{cases_lt}
 use Rattle.std.specs.Io.KnownBytes.{Appends, Consumes}
+use Rattle.ic_output.specs.Output.{AppendsFront}
 use Rattle.ic_text.specs.Reading.{IsReading}
 use Rattle.ic_text.specs.declared.fault.TextFault.{TextFault}
 use Rattle.ic_text.specs.declared.limits.TheConstants.{MAX_TEXT}
-use Rattle.ic_streams.specs.Streams.{Answering, FaultOf, IsAnswered, OfText, Rounds, Settles, TakesIt, TakesSome}
+use Rattle.ic_streams.specs.Faults.{stream_fault_number}
+use Rattle.ic_streams.specs.Streams.{Answering, FaultOf, IsAnswered, OfText, Rounds, Settles, TakesIt, TakesSome, WritesPart}
 use Rattle.ic_streams.specs.declared.fault.StreamFault.{StreamFault}
 use Rattle.ic_streams.specs.declared.fault.StreamFault.TheVariants.{Read, Text, Round, Memory, Write}
 
@@ -75,11 +77,21 @@ fault_as Answers front text (Round fault) same f = same _ f
 fault_as Answers front text Memory same f = tt
 fault_as Answers front text Write same f = (f.0, same _ f.1)
 
+part_as : (Answers : Answering) (front text : List ℕ) (before after : Option (List ℕ)) → Carries Answers front text
+    → WritesPart Answers front before after → WritesPart Answers text before after
+part_as Answers front text before after same part = (part.0, same _ part.1, part.2)
+
+-- ---- a fault that isn't the writer's
+
+unwritten : (fault : StreamFault) → (fault ≡ Read) ⊎ (fault ≡ Memory) → fault ≢ Write
+unwritten fault which is = ⊎_elim (λ read. omega (arith, ap stream_fault_number (sym read ∙ is))) (λ memory. omega (arith, ap stream_fault_number (sym memory ∙ is))) which
+
 module _ (Answers : Answering) {T : Type 0} where
   pub answered_as : (r : Result T StreamFault) (front text : List ℕ) (before after : Option (List ℕ)) → Carries Answers front text
       → IsAnswered Answers front r before after → IsAnswered Answers text r before after
-  answered_as (Ok v) front text before after same a = record { written = (a.written.0, same _ a.written.1, a.written.2); refused = tt }
-  answered_as (Err e) front text before after same a = record { written = tt; refused = fault_as Answers front text e same a.refused }
+  answered_as (Ok v) front text before after same a = record { written = (a.written.0, same _ a.written.1, a.written.2); refused = tt; cut = tt }
+  answered_as (Err e) front text before after same a =
+      record { written = tt; refused = fault_as Answers front text e same a.refused; cut = λ is. part_as Answers front text before after same (a.cut is) }
 
   pub of_taken : Carried Answers → (r : Result T StreamFault) (old new before after : Option (List ℕ)) (front : List ℕ) → TakesIt front old new
       → IsAnswered Answers front r before after → OfText old (λ text. IsAnswered Answers text r before after)
@@ -89,27 +101,47 @@ module _ (Answers : Answering) {T : Type 0} where
   -- ---- by what the calls answered
 
   -- no text was read
+  pub answered_unread : (e : StreamFault) (before after : Option (List ℕ)) (fault : StreamFault) → e ≡ fault → (fault ≡ Read) ⊎ (fault ≡ Memory)
+      → (text : List ℕ) → IsAnswered {T = T} Answers text (Err e) before after
+  answered_unread e before after fault is which text = record { written = tt; refused = says; cut = λ write. absurd (unwritten fault which (sym is ∙ write)) }
+    where
+      says : FaultOf Answers text e
+      says = rw is (⊎_elim (λ read. rw read tt) (λ memory. rw memory tt) which)
+
+  -- the text that was read is refused
+  pub answered_refused : (e : StreamFault) (before after : Option (List ℕ)) (front seen : List ℕ) (fault : StreamFault) → seen ≡ front
+      → FaultOf Answers seen fault → fault ≢ Write → e ≡ fault → IsAnswered {T = T} Answers front (Err e) before after
+  answered_refused e before after front seen fault is refused other fails =
+      record { written = tt; refused = rw fails (rw is at refused); cut = λ write. absurd (other (sym fails ∙ write)) }
+
+  -- its line couldn't be written
+  pub answered_cut : (e : StreamFault) (before after : Option (List ℕ)) (front seen line given : List ℕ) → seen ≡ front → Answers seen (Ok line) → given ≡ line
+      → AppendsFront before after [] given → e ≡ Write → IsAnswered {T = T} Answers front (Err e) before after
+  answered_cut e before after front seen line given is has same cut fails =
+      record { written = tt; refused = rw fails (line, rw is at has); cut = λ write. (line, rw is at has, rw same at cut) }
+
+  -- its line is written
+  pub answered_written : (v : T) (before after : Option (List ℕ)) (front seen line given : List ℕ) → seen ≡ front → Answers seen (Ok line) → given ≡ line
+      → Appends before after given → IsAnswered Answers front (Ok v) before after
+  answered_written v before after front seen line given is has same appends = record { written = (line, rw is at has, rw same at appends); refused = tt; cut = tt }
+
   pub unread : (r : Result T StreamFault) (old before after : Option (List ℕ)) (fault : StreamFault) → IsErrAnd r (λ e. e ≡ fault) → (fault ≡ Read) ⊎ (fault ≡ Memory)
       → OfText old (λ text. IsAnswered Answers text r before after)
   unread (Ok v) old before after fault fails which = absurd fails
-  unread (Err e) old before after fault fails which = of_each (λ text. IsAnswered {T = T} Answers text (Err e) before after) (λ text. record { written = tt; refused = says text }) old
-    where
-      says : (text : List ℕ) → FaultOf Answers text e
-      says text = rw fails (⊎_elim (λ is. rw is tt) (λ is. rw is tt) which)
+  unread (Err e) old before after fault fails which = of_each (λ text. IsAnswered {T = T} Answers text (Err e) before after) (answered_unread e before after fault fails which) old
 
-  -- the text that was read is refused
   pub refused_of_taken : Carried Answers → (r : Result T StreamFault) (old new before after : Option (List ℕ)) (front seen : List ℕ) (fault : StreamFault)
-      → TakesIt front old new → seen ≡ front → FaultOf Answers seen fault → IsErrAnd r (λ e. e ≡ fault)
+      → TakesIt front old new → seen ≡ front → FaultOf Answers seen fault → fault ≢ Write → IsErrAnd r (λ e. e ≡ fault)
       → OfText old (λ text. IsAnswered Answers text r before after)
-  refused_of_taken law (Ok v) old new before after front seen fault takes is refused fails = absurd fails
-  refused_of_taken law (Err e) old new before after front seen fault takes is refused fails =
-      of_taken law (Err e) old new before after front takes (record { written = tt; refused = rw fails (rw is at refused) })
+  refused_of_taken law (Ok v) old new before after front seen fault takes is refused other fails = absurd fails
+  refused_of_taken law (Err e) old new before after front seen fault takes is refused other fails =
+      of_taken law (Err e) old new before after front takes (answered_refused e before after front seen fault is refused other fails)
 
   -- its line is written, or the writer failed
   pub written_of_taken : Carried Answers → (r : Result T StreamFault) (old new before after : Option (List ℕ)) (front seen line given : List ℕ)
-      → TakesIt front old new → seen ≡ front → Answers seen (Ok line) → given ≡ line → OnOk r (Appends before after given) → IfErr r (λ fault. fault ≡ Write)
-      → OfText old (λ text. IsAnswered Answers text r before after)
-  written_of_taken law (Ok v) old new before after front seen line given takes is has same appends fails =
-      of_taken law (Ok v) old new before after front takes (record { written = (line, rw is at has, rw same at appends); refused = tt })
-  written_of_taken law (Err e) old new before after front seen line given takes is has same appends fails =
-      of_taken law (Err e) old new before after front takes (record { written = tt; refused = rw fails (line, rw is at has) })
+      → TakesIt front old new → seen ≡ front → Answers seen (Ok line) → given ≡ line → OnOk r (Appends before after given)
+      → OnErr r (AppendsFront before after [] given) → IfErr r (λ fault. fault ≡ Write) → OfText old (λ text. IsAnswered Answers text r before after)
+  written_of_taken law (Ok v) old new before after front seen line given takes is has same appends cut fails =
+      of_taken law (Ok v) old new before after front takes (answered_written v before after front seen line given is has same appends)
+  written_of_taken law (Err e) old new before after front seen line given takes is has same appends cut fails =
+      of_taken law (Err e) old new before after front takes (answered_cut e before after front seen line given is has same cut fails)

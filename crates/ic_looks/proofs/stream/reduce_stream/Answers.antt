@@ -6,11 +6,11 @@ returns-in_err-text-clause-answered g c = unread c.args.rounds _ _ _ _ _ c.from_
 
 pub returns-in_err-line-clause-answered : goal.returns-in_err-line-clause-answered
 returns-in_err-line-clause-answered g c = refused_of_taken c.args.rounds _ _ _ _ _ _ _ c.in_err-line.field-0.0
-    c.in_ok-text.ensures.text c.deref.ensures.value c.in_err-line.ensures.refused c.from_residual-in_err-line.ensures.1
+    c.in_ok-text.ensures.text c.deref.ensures.value c.in_err-line.ensures.refused c.in_err-line.ensures.sort.0 c.from_residual-in_err-line.ensures.1
 
 pub returns-in_err-write_line-clause-answered : goal.returns-in_err-write_line-clause-answered
-returns-in_err-write_line-clause-answered g c = unwritten_of_taken c.args.rounds _ _ _ _ _ _ _ _ c.in_err-write_line.field-0.0
-    c.in_ok-text.ensures.text c.deref.ensures.value c.in_ok-line.ensures.line c.in_err-write_line.ensures.refused c.from_residual-in_err-write_line.ensures.1
+returns-in_err-write_line-clause-answered g c = unwritten_of_taken c.args.rounds _ _ _ _ _ _ _ c.in_err-write_line.field-0.0
+    c.in_ok-text.ensures.text c.deref.ensures.value (_, c.in_ok-line.ensures.line, rw c.deref-2.ensures.value at c.in_err-write_line.ensures.cut) c.in_err-write_line.ensures.refused c.from_residual-in_err-write_line.ensures.1
 
 pub returns-clause-answered : goal.returns-clause-answered
 returns-clause-answered g c = written_of_taken c.args.rounds c.in_ok-line.reduction _ _ _ _ _ _ _ _

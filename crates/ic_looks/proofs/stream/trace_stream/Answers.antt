@@ -8,8 +8,8 @@ returns-in_err-text-clause-answered g c = unread (Traces c.args.rounds c.args.fo
 
 pub returns-in_err-shown-clause-answered : goal.returns-in_err-shown-clause-answered
 returns-in_err-shown-clause-answered g c = refused_of_taken (Traces c.args.rounds c.args.format) (traces_carried c.args.rounds c.args.format) c.from_residual-in_err-shown.result _ _ _ _ _ _ c.in_err-shown.field-0.0
-    c.in_ok-text.ensures.text c.deref.ensures.value c.in_err-shown.ensures.refused c.from_residual-in_err-shown.ensures.1
+    c.in_ok-text.ensures.text c.deref.ensures.value c.in_err-shown.ensures.refused c.in_err-shown.ensures.sort.0 c.from_residual-in_err-shown.ensures.1
 
 pub returns-clause-answered : goal.returns-clause-answered
 returns-clause-answered g c = written_of_taken (Traces c.args.rounds c.args.format) (traces_carried c.args.rounds c.args.format) c.write_line.result _ _ _ _ _ _ _ _
-    c.in_ok-text.ensures.text c.deref.ensures.value c.in_ok-shown.ensures.shown c.deref-2.ensures.value c.write_line.ensures.written c.write_line.ensures.refused
+    c.in_ok-text.ensures.text c.deref.ensures.value c.in_ok-shown.ensures.shown c.deref-2.ensures.value c.write_line.ensures.written c.write_line.ensures.cut c.write_line.ensures.refused
