@@ -4,7 +4,9 @@ pub mod RaisedWords
 pub mod RuleBounds
 pub mod RuleWriting
 pub mod Interacting
+pub mod ActiveWorks
 pub mod FiringLimits
+pub mod FillingWords
 pub mod BoundPlaces
 pub mod PassingWords
 pub mod SettledWords

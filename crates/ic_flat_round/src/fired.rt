@@ -26,9 +26,9 @@ use std::alloc::Global;
 
 /// How many equations firing has put on a list, and the first number behind the names that they take.
 #[derive(Clone, Copy, Debug)]
-struct Reached {
-    equations: usize,
-    next: u64,
+pub(crate) struct Reached {
+    pub equations: usize,
+    pub next: u64,
 }
 
 /// Whether so many more words behind the first `len`, and so many more names from `next` on, stay within the limits.

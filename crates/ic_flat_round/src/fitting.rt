@@ -18,7 +18,16 @@ pub fn fits(rules: &RuleSet, flat: &Flat) -> bool
     requires { IsTrue (is_over rules.now.symbols flat.now) }
     ensures { result ≡ fits rules.now.rules flat.now }
 {
-    let size = fired_size(rules, flat, equations_place(flat));
+    fits_from(rules, flat, equations_place(flat))
+}
+
+/// The same, where the equations begin at this place.
+pub(crate) fn fits_from(rules: &RuleSet, flat: &Flat, place: usize) -> bool
+    requires over { IsTrue (is_over rules.now.symbols flat.now) }
+    requires place { IsEquationsPlace flat.now place }
+    ensures { result ≡ fits rules.now.rules flat.now }
+{
+    let size = fired_size(rules, flat, place);
     size.nodes <= MAX_NODES && size.names <= MAX_NEXT
 }
 

@@ -4,12 +4,14 @@
 //! The answers are those of `ic_round` and `ic_settle` for the same configuration, found by walks over its words. No walk
 //! recurses on the depth of a configuration's terms; those over a rule's terms, which have 2,048 nodes at most, do.
 //! `FlatRules` are rules whose sides are ready to be copied as words, and a `Workspace` has the lists that rounds are made in.
+//! `works` makes terms of the active equations, for who fires them elsewhere, and `filled` words of what they gave.
 #![tactic(auto)]
 
 mod activity;
 mod bound;
 mod containers;
 mod ended;
+mod filling;
 mod fired;
 mod firing;
 mod fitting;
@@ -17,6 +19,7 @@ mod flat_rules;
 mod growth;
 mod pass;
 mod places;
+mod planning;
 mod quietness;
 mod rebuilding;
 mod rounds;
@@ -26,9 +29,11 @@ mod writing;
 
 pub use activity::active_equations;
 pub use ended::is_settled;
+pub use filling::filled;
 pub use fired::fire;
 pub use fitting::fits;
 pub use flat_rules::FlatRules;
+pub use planning::works;
 pub use quietness::quiet;
 pub use rounds::round;
 pub use settling::settle;
