@@ -17,10 +17,10 @@ use crate::matching::match_answers;
 use crate::parcels::{Parcel, Returned};
 use crate::posts::{Line, Post, line_and_post};
 use ic_flat::Flat;
+use ic_flat_round::{filled, settle, works};
 use ic_pool::{Flight, MAX_ROUNDS, MAX_THREADS, Played, PoolFault, made_for};
-use ic_round::{Fired, Work, gather, plan, settle};
+use ic_round::{Fired, Work};
 use ic_rules::RuleSet;
-use ic_term::Config;
 use std::alloc::{AllocError, Global};
 use std::marker::Model;
 use std::sync::{Arc, Wait};
@@ -127,10 +127,9 @@ impl Crew {
         if flight.rounds() == MAX_ROUNDS {
             return Err(PoolFault::RoundsOut);
         }
-        let config = flight.config().to_config(alloc)?;
         let rules = flight.shared_rules().shared();
-        let after = round_by_lines(rt, alloc, &self.lines, rules, config)?;
-        Ok(made_for(alloc, flight, Flat::from_config(alloc, &after)?)?)
+        let after = round_by_lines(rt, alloc, &self.lines, rules, flight.config())?;
+        Ok(made_for(alloc, flight, after)?)
     }
 }
 
@@ -165,17 +164,18 @@ fn round_by_lines<R: Wait>(
     alloc: Global,
     lines: &[Line],
     rules: &Arc<RuleSet>,
-    config: Config,
-) -> Result<Config, PoolFault>
-    requires over { IsTrue (is_over (arc_value rules.now).symbols config) }
+    config: &Flat,
+) -> Result<Flat, PoolFault>
+    requires over { IsTrue (is_over (arc_value rules.now).symbols config.now) }
     requires some { 0 < length lines.now }
-    ensures round { ByCrew result (round_or_refusal (arc_value rules.now).rules config) }
+    ensures round { ByCrew result (round_or_refusal (arc_value rules.now).rules config.now) }
     ensures over { IfOk result (λ after. IsTrue (is_over (arc_value rules.now).symbols after)) }
 {
-    let plan = plan(alloc, rules, config)?;
-    let results = fire_by_lines(rt, alloc, lines, rules, plan.works)?;
-    let fired = gather(alloc, plan.rest, results)?;
-    Ok(settle(alloc, fired)?)
+    let known: &RuleSet = rules;
+    let works = works(alloc, known, config)?;
+    let results = fire_by_lines(rt, alloc, lines, rules, works)?;
+    let fired = filled(alloc, known, config, results)?;
+    Ok(settle(alloc, &fired)?)
 }
 
 /// The results of works, in their order, which go out by these lines. No more lines are used than

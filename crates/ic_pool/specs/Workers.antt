@@ -3,8 +3,6 @@ use Rattle.std.specs.Prelude.{◌≡◌, ℕ, List, Result, Ok, Err, IsTrue, is_
 use Rattle.ic_term.specs.Configuration.{Configuration}
 use Rattle.ic_rules.specs.Rule.{Rule}
 use Rattle.ic_round.specs.Rounds.{round, is_small, has_names}
-use Rattle.ic_round.specs.declared.gather_fault.GatherFault.{GatherFault}
-use Rattle.ic_round.specs.declared.gather_fault.GatherFault.TheVariants as gathering
 use Rattle.ic_pool.specs.Flight.{FlightParts}
 use Rattle.ic_pool.specs.Played.{PlayedParts, played}
 use Rattle.ic_pool.specs.PoolFault.{asks_memory}
@@ -40,9 +38,3 @@ ByWorkers (Err RoundsOut) answer = Err RoundsOut ≡ answer
 abbrev pub worker_fault : WorkerFault → PoolFault
 worker_fault workers.NoThread = NoThread
 worker_fault workers.Memory = Memory
-
--- a fault of results as one of a flight
-abbrev pub gather_fault : GatherFault → PoolFault
-gather_fault gathering.Lost = Lost
-gather_fault gathering.Stranger = Stranger
-gather_fault gathering.Memory = Memory

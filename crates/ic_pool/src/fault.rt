@@ -3,7 +3,7 @@
 ghost use Rattle.std.specs.Prelude.{◌≡◌};
 ghost use Rattle.ic_pool.specs.declared.fault.PoolFault.TheVariants.{Memory};
 
-use ic_round::{GatherFault, RoundFault};
+use ic_round::RoundFault;
 use std::alloc::{AllocError, AllocFailed};
 
 /// Why a flight isn't played. The numbers are lasting. The checks come in this order: `NoWorkers`,
@@ -107,20 +107,6 @@ impl From<WorkerFault> for PoolFault {
         match fault {
             WorkerFault::NoThread => PoolFault::NoThread,
             WorkerFault::Memory => PoolFault::Memory,
-        }
-    }
-}
-
-impl From<GatherFault> for PoolFault {
-    ghost use Rattle.ic_pool.specs.Workers.{gather_fault};
-
-    ghost from_gives = { λ f fault. fault ≡ gather_fault f };
-
-    fn from(fault: GatherFault) -> PoolFault {
-        match fault {
-            GatherFault::Lost => PoolFault::Lost,
-            GatherFault::Stranger => PoolFault::Stranger,
-            GatherFault::Memory => PoolFault::Memory,
         }
     }
 }

@@ -14,7 +14,7 @@ use crate::limits::MAX_ROUNDS;
 use crate::played::Played;
 use crate::workers::fire_by_workers;
 use ic_flat::Flat;
-use ic_round::{gather, plan, settle};
+use ic_flat_round::{filled, settle, works};
 use ic_rules::RuleSet;
 use ic_term::Config;
 use std::alloc::Global;
@@ -45,9 +45,7 @@ pub fn play<R: Threads + Wait, G: Gate>(
     if flight.rounds() == MAX_ROUNDS {
         return Err(PoolFault::RoundsOut);
     }
-    let config = flight.config().to_config(alloc)?;
-    let after = round_by_workers(rt, alloc, flight.rules(), config, workers, gate)?;
-    let after = Flat::from_config(alloc, &after)?;
+    let after = flat_round_by_workers(rt, alloc, flight.rules(), flight.config(), workers, gate)?;
     let before = flight.shared_config().clone()?;
     let rules = flight.shared_rules().clone()?;
     let rounds = flight.rounds();
@@ -57,8 +55,31 @@ pub fn play<R: Threads + Wait, G: Gate>(
 /// The configuration after one round under these rules, made by threads of its own, as many as for
 /// `play`. It is the same for every number of workers.
 ///
-/// Its faults come in the order of `play`'s, without `NoWorkers` and `RoundsOut`. Whatever is
-/// answered, all threads have ended.
+/// The works are made of the active equations alone, and what isn't active stays words. Its faults
+/// come in the order of `play`'s, without `NoWorkers` and `RoundsOut`. Whatever is answered, all
+/// threads have ended.
+pub fn flat_round_by_workers<R: Threads + Wait, G: Gate>(
+    rt: &R,
+    alloc: Global,
+    rules: &RuleSet,
+    config: &Flat,
+    workers: usize,
+    gate: &G,
+) -> Result<Flat, PoolFault>
+    requires over { IsTrue (is_over rules.now.symbols config.now) }
+    requires some { 0 < workers }
+    ensures round { ByWorkers result (round_or_refusal rules.now.rules config.now) }
+    ensures over { IfOk result (λ after. IsTrue (is_over rules.now.symbols after)) }
+{
+    let works = works(alloc, rules, config)?;
+    let batches = batches_of(alloc, works, workers)?;
+    let results = fire_by_workers(rt, alloc, rules, gate, batches)?;
+    let fired = filled(alloc, rules, config, results)?;
+    Ok(settle(alloc, &fired)?)
+}
+
+/// The same of a configuration as terms and equations, of which words are made, and terms of what
+/// comes.
 pub fn round_by_workers<R: Threads + Wait, G: Gate>(
     rt: &R,
     alloc: Global,
@@ -72,9 +93,7 @@ pub fn round_by_workers<R: Threads + Wait, G: Gate>(
     ensures round { ByWorkers result (round_or_refusal rules.now.rules config) }
     ensures over { IfOk result (λ after. IsTrue (is_over rules.now.symbols after)) }
 {
-    let plan = plan(alloc, rules, config)?;
-    let batches = batches_of(alloc, plan.works, workers)?;
-    let results = fire_by_workers(rt, alloc, rules, gate, batches)?;
-    let fired = gather(alloc, plan.rest, results)?;
-    Ok(settle(alloc, fired)?)
+    let flat = Flat::from_config(alloc, &config)?;
+    let after = flat_round_by_workers(rt, alloc, rules, &flat, workers, gate)?;
+    Ok(after.to_config(alloc)?)
 }

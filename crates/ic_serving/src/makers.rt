@@ -29,8 +29,7 @@ impl Makers {
         }
     }
 
-    /// The round of a flight. One thread makes it on words; several make one of many equations, on
-    /// terms.
+    /// The round of a flight. One thread makes it; several make one of many equations.
     pub fn play<T: Threads + Wait + Copy + Send + 'static>(
         &mut self,
         rt: &T,

@@ -1,11 +1,10 @@
--- A round that is planned is one that is answered.
-use Rattle.std.proofs.Common.{◌≡◌, List, Bool, true, false, Result, Ok, Err, cond, refl, sym, ap, subst}
-use Rattle.std.specs.List.Sorted.{IsPermutation}
-use Rattle.std.proofs.lemmas.List.Sorted.{IsPermutation-refl}
+-- A round whose works are made is one that is answered.
+use Rattle.std.proofs.Common.{◌≡◌, List, Bool, true, false, Result, Ok, Err, cond, refl, ap, ◌∙◌}
 use Rattle.ic_term.specs.Configuration.{Configuration}
 use Rattle.ic_rules.specs.Rule.{Rule}
+use Rattle.ic_round.specs.Firing.{fired}
+use Rattle.ic_round.specs.Settling.{settled}
 use Rattle.ic_round.specs.Rounds.{round, fits, is_small, has_names, unless_unfit}
-use Rattle.ic_round.specs.Works.{PlainFired}
 use Rattle.ic_round.specs.declared.round_fault.RoundFault.{RoundFault}
 use Rattle.ic_round.specs.declared.round_fault.RoundFault.TheVariants.{Overgrown, NamesOut}
 use Rattle.ic_pool.specs.declared.fault.PoolFault.TheVariants as PoolFault
@@ -14,19 +13,21 @@ use Rattle.ic_pool.specs.Workers.{round_or_refusal}
 abbrev answer_if : {T : Type 0} → Bool → Bool → T → Result T RoundFault
 answer_if small named value = cond small (cond named (Ok value) (Err NamesOut)) (Err Overgrown)
 
-both_tests : {T : Type 0} (small named : Bool) (a b : T) → Ok a ≡ answer_if small named b → (small ≡ true) × (named ≡ true)
-both_tests true true a b e = (refl, refl)
+both_tests : {T : Type 0} (small named : Bool) (a b : T) → Ok a ≡ answer_if small named b → ((small ≡ true) × (named ≡ true)) × (a ≡ b)
+both_tests true true a b e = ((refl, refl), cc)
 both_tests true false a b e = cc
 both_tests false named a b e = cc
 
 pub planned_fits : {T : Type 0} (rs : List Rule) (c : Configuration) (a b : T) → Ok a ≡ unless_unfit rs c b → (is_small rs c ≡ true) × (has_names rs c ≡ true)
-planned_fits rs c a b e = both_tests (is_small rs c) (has_names rs c) a b e
+planned_fits rs c a b e = (both_tests (is_small rs c) (has_names rs c) a b e).0
 
-pub round_answered : (rs : List Rule) (c d : Configuration) → (is_small rs c ≡ true) × (has_names rs c ≡ true) → d ≡ round rs c → Ok d ≡ round_or_refusal rs c
-round_answered rs c d fit e = rw (fit.0, fit.1) (ap (λ (r : Configuration). Ok r) e)
+-- what is answered where the configuration fits
+pub planned_is : {T : Type 0} (rs : List Rule) (c : Configuration) (a b : T) → Ok a ≡ unless_unfit rs c b → a ≡ b
+planned_is rs c a b e = (both_tests (is_small rs c) (has_names rs c) a b e).1
 
-pub in_order : (all fs : List PlainFired) → fs ≡ all → IsPermutation all fs
-in_order all fs e = let P : List PlainFired → Type 0 = λ l. IsPermutation all l in subst P (sym e) (IsPermutation-refl all)
+-- where the configuration fits, its fired one settled is what is answered
+pub round_answered : (rs : List Rule) (c d e : Configuration) → (is_small rs c ≡ true) × (has_names rs c ≡ true) → d ≡ fired rs c → e ≡ settled d → Ok e ≡ round_or_refusal rs c
+round_answered rs c d e fit made is = rw (fit.0, fit.1) (ap (λ (r : Configuration). Ok r) (is ∙ ap settled made))
 
 answered_at : (small named : Bool) (d e : Configuration) → Ok d ≡ (cond small (cond named (Ok e) (Err PoolFault.NamesOut)) (Err PoolFault.Overgrown))
     → ((small ≡ true) × (named ≡ true)) × (d ≡ e)
