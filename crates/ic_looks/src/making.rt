@@ -7,14 +7,14 @@ ghost use Rattle.ic_round.specs.RoundAnswers.{Answers};
 
 use ic_flat::Flat;
 use ic_flat_round::{FlatRules, Workspace};
-use ic_pool::{OpenGate, round_by_workers};
+use ic_pool::{OpenGate, flat_round_by_workers};
 use ic_round::RoundFault;
 use std::alloc::Global;
 use std::sync::Wait;
 use std::thread::Threads;
 
-/// A round of fewer equations is made by the calling thread alone, on words. Measured up to the most
-/// equations that a configuration holds: several threads, which make terms of them, take longer.
+/// A round of fewer equations is made by the calling thread alone. Measured up to the most equations
+/// that a configuration holds, while several threads made terms of all of them: they took longer.
 const FEW: usize = 4_000;
 
 /// What makes rounds. Whoever makes them, they are the same rounds, with the same refusals.
@@ -67,16 +67,15 @@ impl<R: Threads + Wait> Maker for Workers<'_, R> {
         mut config: Flat,
     ) -> Result<Flat, RoundFault> {
         if self.count > 1 && config.equations_len() >= FEW {
-            let terms = config.to_config(alloc)?;
-            if let Ok(after) = round_by_workers(
+            if let Ok(after) = flat_round_by_workers(
                 self.rt,
                 alloc,
                 rules.rules(),
-                terms,
+                &config,
                 self.count,
                 &OpenGate,
             ) {
-                return Ok(Flat::from_config(alloc, &after)?);
+                return Ok(after);
             }
         }
         workspace.round(alloc, rules, &mut config)?;
