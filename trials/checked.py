@@ -9,8 +9,26 @@ import model
 import places
 
 MOST_BYTES = 16_777_216
-# Two words, and one more that begins with a digit, with the blanks around them.
-FRONT = re.compile(rb"[ \t\r\n]*[A-Za-z0-9-]*[ \t\r\n]*[A-Za-z0-9-]*[ \t\r\n]*(?:[0-9][A-Za-z0-9-]*[ \t\r\n]*)?")
+WORD = re.compile(rb"([A-Za-z0-9-]*)[ \t\r\n]*")
+COMMAND = "submit|copy|pause|resume|cancel|fetch|list|run"
+NAME = "[a-z][a-z0-9-]*"
+NUMBER = "0|[1-9][0-9]*"
+# What stands behind the first word of a line, word by word.
+BEHIND = {"submit": ["name", "budget", "system"], "copy": ["name", "name"], "list": [], "run": ["number"]}
+WORDS = {"command": COMMAND, "name": NAME, "budget": NUMBER, "number": NUMBER}
+SOUGHT = {
+    "command": "a command is looked for here: submit, copy, pause, resume, cancel, fetch, list or run",
+    "name": "a job's name is looked for here",
+    "budget": "a budget or { is looked for here",
+    "system": "{ is looked for here",
+    "number": "a number is looked for here",
+    "nothing": "nothing is looked for here",
+}
+PASSED = {
+    "name": "a job's name has at most 16 bytes",
+    "budget": "a budget is 1 to 4294967295",
+    "number": "a run makes at most 1000 rounds",
+}
 READERS = {"system": model.read_system, "configuration": model.read_configuration}
 
 
@@ -45,25 +63,47 @@ def spot(text, at):
 
 def fault_line(file, text, fault, found, number=None):
     """The line of a fault, of a whole file or of the line of this number."""
-    if not found:
-        return f"{file}: {fault}" if number is None else f"{file}:{number}: {fault}"
     _, at, sentence = found
     line, column = spot(text, places.told_at(text, at))
     return f"{file}:{number or line}:{column}: {fault}: {sentence}"
 
 
-def found_in_line(line, fault):
-    """The place of a line's fault, where it stands in its system, or where one was to begin: behind a submit's name and budget."""
-    front = FRONT.match(line).group()
-    if refusal(model.read_line, front + b"{}<|>")[0]:
-        return None
-    system = line[len(front) :]
-    inner, _ = refusal(model.read_system, system)
-    found = inner and kind_of(inner) == kind_of(fault) and places.found(system, "system")
-    if not found:
-        return None
-    at = len(front) + found[1]
-    return found[0], at, places.sentence_of_syntax(line, at, "system") if found[0] == "syntax" else found[2]
+def own_words(line):
+    """The words of a line before its system, each with its place and what it is; where they end, and what is looked for there."""
+    at = len(line) - len(line.lstrip(b" \t\r\n"))
+    words, due = [], ["command"]
+    while due and due[0] in WORDS:
+        found = WORD.match(line, at)
+        word = found[1].decode()
+        if not re.fullmatch(WORDS[due[0]], word):
+            return words, at, due[0]
+        words.append((at, due[0], word))
+        due = BEHIND.get(word, ["name"]) if due[0] == "command" else due[1:]
+        at = found.end()
+    return words, at, due[0] if due else "nothing"
+
+
+def passes(what, word):
+    """Whether a word of a line passes its limit."""
+    if what == "name":
+        return len(word) > model.MAX_JOB_NAME
+    return what == "budget" and not model.fits_budget(word) or what == "number" and (len(word) > 4 or int(word) > model.MAX_RUN)
+
+
+def found_in_line(line, kind):
+    """The place of a line's fault of this kind, and what is told of it."""
+    if len(line) > places.MOST_BYTES:
+        return "limit", places.MOST_BYTES, f"a line has at most {places.MOST_BYTES} bytes"
+    words, end, due = own_words(line)
+    passed = [(at, what) for at, what, word in words if passes(what, word)]
+    if kind == "limit" and passed:
+        return "limit", passed[0][0], PASSED[passed[0][1]]
+    inner = places.found(line[end:], "system") if due in ("budget", "system") else None
+    if kind != "syntax":
+        return kind, end + inner[1], inner[2]
+    if not inner or not inner[1]:
+        return "syntax", end, SOUGHT[due]
+    return "syntax", end + inner[1], places.sentence_of_syntax(line, end + inner[1], "system")
 
 
 def symbols_in(terms):
@@ -112,7 +152,7 @@ def seen_of_line(line):
     """The fault of a line and its place, and the warnings of what it submits."""
     fault, asked = refusal(model.read_line, line)
     if fault:
-        return fault, found_in_line(line, fault), []
+        return fault, found_in_line(line, kind_of(fault)), []
     return None, None, list(warnings(*asked[2:4])) if asked[0] == "submit" else []
 
 

@@ -111,14 +111,30 @@ class Check(Trial):
             lines = [draws.spoilt(drawn, as_bytes(it)) if drawn.random() < 0.5 else as_bytes(it) for it in lines]
             self.tells(self.put(drawn.choice([b"\n", b"\r\n"]).join(lines) + drawn.choice([b"", b"\n", b"\r\n", b"\n\n"])))
 
-    def test_submits_without_a_brace_have_the_place_where_the_system_was_to_begin(self):
-        columns = {"submit two Add(x)": 12, " submit\ttwo  5 Add": 16, "submit two 5": 13, "submit a b {} <|>": 10, "submit a <|>": 10}
-        for line, column in columns.items():
+    def test_each_mistake_in_a_line_is_told_its_place_and_what_is_wrong(self):
+        name, budget, long = "a job's name is looked for here", "a budget or { is looked for here", "a job's name has at most 16 bytes"
+        told = {
+            "submit two Add(x)": (12, "syntax", budget),
+            " submit\ttwo  5 Add": (16, "syntax", "{ is looked for here"),
+            "submit two 5": (13, "syntax", "{ is looked for here"),
+            "submit a b {} <|>": (10, "syntax", budget),
+            "submit two 05 Add": (12, "syntax", budget),
+            "submit a {A><B <|>": (16, "syntax", "no system goes on with this"),
+            "submit": (7, "syntax", name),
+            "submit Two Add": (8, "syntax", name),
+            "fetch one two": (11, "syntax", "nothing is looked for here"),
+            "copy a b {} <|>": (10, "syntax", "nothing is looked for here"),
+            "run": (4, "syntax", "a number is looked for here"),
+            "fetch": (6, "syntax", name),
+            "fetch " + "a" * 17: (7, "limit", long),
+            "copy a " + "b" * 17: (8, "limit", long),
+            "submit a 0 {} <r|r=r>": (10, "limit", "a budget is 1 to 4294967295"),
+            "run 1001": (5, "limit", "a run makes at most 1000 rounds"),
+            " " * 262_144 + "x": (262_145, "limit", "a line has at most 262144 bytes"),
+        }
+        for line, (column, kind, sentence) in told.items():
             ((path, _),) = files = self.put(f"list\n{line}\n")
-            self.equals(line, "its place", True, self.tells(files).startswith(f"{path}:2:{column}: bad syntax: "))
-        for line in ("submit", "submit Two Add", "submit two 05 Add", "fetch one two", "copy a b {} <|>"):
-            ((path, _),) = files = self.put(line)
-            self.equals(line, "what is told", f"{path}:1: bad syntax\n", self.tells(files))
+            self.equals(line[:60], "what is told", f"{path}:2:{column}: bad {kind}: {sentence}\n", self.tells(files))
 
     def test_files_that_are_no_text(self):
         blank = [b"", b"\n", b" \t\r\n"]

@@ -10,7 +10,13 @@ pub mod Placed
 pub mod EachTold
 pub mod EachSymbol
 pub mod Forms
-pub mod LinePlaces
+pub mod Apart
+pub mod Stops
+pub mod OwnWords
+pub mod FrontSteps
+pub mod LinePlacing
+pub mod Looked
+pub mod Submits
 pub mod Numbered
 pub mod Looks
 pub mod OneLine

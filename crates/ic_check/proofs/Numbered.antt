@@ -1,21 +1,21 @@
 -- The place in a file of a line, and of a place in it.
-use Rattle.std.proofs.Common.{◌≡◌, ℕ, zero, suc, ◌+◌, ◌≤◌, ◌==◌, ◌||◌, Bool, true, false, if◌then◌else◌, List, [], ◌∷◌, ◌++◌, Option, None, Some, codes, length, take, option_map, refl, sym, ap, ◌∙◌, arith, inl, inr, append_assoc, length-drop, subst}
+use Rattle.std.proofs.Common.{◌≡◌, ℕ, zero, suc, ◌+◌, ◌≤◌, ◌==◌, ◌||◌, Bool, true, false, if◌then◌else◌, List, [], ◌∷◌, ◌++◌, codes, length, take, refl, sym, ap, ◌∙◌, arith, append_assoc, subst}
 use Rattle.std.specs.Cmp.{unsigned_Decides}
 use Rattle.std.specs.Fmt.{decimal}
 use Rattle.std.specs.List.{AllByRecursion, concat, count_by, flat_map, list_any, onto_first}
 use Rattle.std.proofs.lemmas.List.Sums.{sum_by-append}
 use Rattle.ic_settle.specs.lemmas.SubstitutionLaws.{occurrences_none}
 use Rattle.ic_lines.specs.Lines.{ended, has_feed, lines}
-use Rattle.ic_text.specs.SystemSource.{IsSystemPhrase, system_words}
-use Rattle.ic_text.specs.Words.{written_system}
-use Rattle.ic_text.specs.lemmas.PlacedWithin.{placed-within}
-use Rattle.ic_text.specs.FaultNumber.{fault_number}
 use Rattle.ic_text.specs.declared.fault.TextFault.{TextFault}
-use Rattle.ic_text.specs.declared.misread.Detail.{Detail}
+use Rattle.ic_text.specs.declared.fault.TextFault.TheVariants.{Syntax, Limit, Arity, NameCount, Name, Twice, Lopsided, Memory}
+use Rattle.ic_text.specs.declared.misread.Detail.TheVariants.{Nothing as Plain, Passed as Bound, Arities}
 use Rattle.ic_places.specs.Lines.{column, is_feed, last_line, line_number}
-use Rattle.ic_check.specs.Checking.{IsLinePlace, IsSystemFault, before, front_of, system_of}
+use Rattle.ic_check.specs.Checking.{before}
+use Rattle.ic_check.specs.LinePlaces.{IsLinePlace}
 use Rattle.ic_check.specs.Telling.{spot_text}
-use Rattle.ic_check.proofs.Split.{front_short}
+use Rattle.ic_check.specs.declared.due.LineLimit.TheVariants.{LineBytes, NameBytes, BudgetRounds, RunRounds}
+use Rattle.ic_check.specs.declared.line_places.LineDetail.{LineDetail}
+use Rattle.ic_check.specs.declared.line_places.LineDetail.TheVariants.{Sought, Passed, Within}
 
 -- ---- a line stands behind those above it
 
@@ -121,13 +121,13 @@ last_of (l ∷ ls) front =
 
 -- ---- the place that is told
 
-pub own_spot : (file line : List ℕ) (number at : ℕ) → has_feed line ≡ false → spot_text file (before (Some (number + 1))) (take at line)
+pub own_spot : (file line : List ℕ) (number at : ℕ) → has_feed line ≡ false → spot_text file (before (number + 1)) (take at line)
     ≡ concat (file ∷ codes ":" ∷ decimal (number + 1) ∷ codes ":" ∷ decimal (column (take at line)) ∷ [])
 own_spot file line number at is =
     let front : List ℕ = take at line in
     let free = open_take at line is in
     let none = no_feeds front free in
-    let row : before (Some (number + 1)) + line_number front ≡ number + 1 = omega (arith, none) in
+    let row : before (number + 1) + line_number front ≡ number + 1 = omega (arith, none) in
     let last = last_alone front free in
     λ i. concat (file ∷ codes ":" ∷ decimal (row i) ∷ codes ":" ∷ decimal (column (last i)) ∷ [])
 
@@ -137,49 +137,53 @@ all_front [] below line all = (tt, all.0)
 all_front (l ∷ ls) below line all = let later = all_front ls below line all.1 in ((all.0, later.0), later.1)
 
 pub file_spot : (file : List ℕ) (above below : List (List ℕ)) (line : List ℕ) (at : ℕ) → AllByRecursion (λ l. has_feed l ≡ false) (above ++ line ∷ below)
-    → spot_text file (before (Some (length above + 1))) (take at line) ≡ spot_text file 0 (flat_map ended above ++ take at line)
+    → spot_text file (before (length above + 1)) (take at line) ≡ spot_text file 0 (flat_map ended above ++ take at line)
 file_spot file above below line at all =
     let front : List ℕ = take at line in
     let parts = all_front above below line all in
     let free = open_take at line parts.1 in
     let none = no_feeds front free in
     let counted = feeds_of above front parts.0 free in
-    let row : before (Some (length above + 1)) + line_number front ≡ 0 + line_number (flat_map ended above ++ front) = omega (arith, none, counted) in
+    let row : before (length above + 1) + line_number front ≡ 0 + line_number (flat_map ended above ++ front) = omega (arith, none, counted) in
     let last = sym (last_of above front) in
     λ i. concat (file ∷ codes ":" ∷ decimal (row i) ∷ codes ":" ∷ decimal (column (last i)) ∷ [])
 
 pub in_file : ((text : List ℕ) → AllByRecursion (λ l. has_feed l ≡ false) (lines text)) → (file text : List ℕ) (above : List (List ℕ)) (line : List ℕ) (below : List (List ℕ)) (at : ℕ)
     → lines text ≡ above ++ line ∷ below → (rest : List ℕ) × (text ≡ flat_map ended above ++ (line ++ rest))
-    × (spot_text file (before (Some (length above + 1))) (take at line) ≡ spot_text file 0 (flat_map ended above ++ take at line))
+    × (spot_text file (before (length above + 1)) (take at line) ≡ spot_text file 0 (flat_map ended above ++ take at line))
 in_file each file text above line below at e =
     let whole = parted_at text above line below e in
     (whole.0, whole.1, file_spot file above below line at (subst (AllByRecursion (λ l. has_feed l ≡ false)) e (each text)))
 
 -- ---- a place that is told is one of the line
 
-none_or_some : (n : ℕ) → None ≡ Some n → ⊥
-none_or_some n e = cc
-
-some_same : (m n : ℕ) → Some m ≡ Some n → m ≡ n
-some_same m n e = cc
-
-within_front : (line : List ℕ) (fault other : TextFault) (inner : Option ℕ) (detail : Detail) (at : ℕ) (same : Bool) → IsSystemFault line other inner detail
-    → Some at ≡ (if same then option_map (λ at. length (front_of line) + at) inner else None)
-    → (length (front_of line) ≤ at) × (at ≤ length (front_of line) + length (system_of line))
-within_front line fault other inner detail at false is e = absurd (none_or_some at (sym e))
-within_front line fault other None detail at true is e = absurd (none_or_some at (sym e))
-within_front line fault other (Some n) detail at true is e =
-    let same : at ≡ length (front_of line) + n = some_same at (length (front_of line) + n) e in
-    let inside = placed-within IsSystemPhrase system_words written_system (system_of line) other (Some n) detail is.placed in
-    (omega (arith, same), omega (arith, same, inside))
-
-front_and_system : (line : List ℕ) → length (front_of line) + length (system_of line) ≡ length line
-front_and_system line = let short = front_short line in let rest = length-drop (length (front_of line)) line in omega (arith, short, rest)
-
-pub within_line : (line : List ℕ) (fault : TextFault) (at : ℕ) (detail : Detail) → IsLinePlace line fault (Some at) detail → (length (front_of line) ≤ at) × (at ≤ length line)
-within_line line fault at detail (inl none) = absurd (none_or_some at (sym none.2))
-within_line line fault at detail (inr (inl none)) = absurd (none_or_some at (sym none.2))
-within_line line fault at detail (inr (inr (asked, reads, other, inner, is, place))) =
-    let both = within_front line fault other inner detail at (fault_number fault == fault_number other) is place in
-    let whole = front_and_system line in
-    (both.0, omega (arith, both.1, whole))
+pub within_line : (line : List ℕ) (fault : TextFault) (at : ℕ) (detail : LineDetail) → IsLinePlace line fault at detail → at ≤ length line
+within_line line Syntax at (Sought due) is = is.0.within
+within_line line Syntax at (Within Plain) is = is.0.within
+within_line line Syntax at (Within (Bound b)) is = omega (arith, is.place.inside)
+within_line line Syntax at (Within (Arities m n)) is = omega (arith, is.place.inside)
+within_line line Syntax at (Passed limit) is = absurd is
+within_line line Limit at (Passed LineBytes) is = omega (arith, is.0, is.1)
+within_line line Limit at (Passed NameBytes) is = omega (arith, is.place.inside)
+within_line line Limit at (Passed BudgetRounds) is = omega (arith, is.place.inside)
+within_line line Limit at (Passed RunRounds) is = omega (arith, is.place.inside)
+within_line line Limit at (Within detail) is = omega (arith, is.place.inside)
+within_line line Limit at (Sought due) is = absurd is
+within_line line Arity at (Within detail) is = omega (arith, is.place.inside)
+within_line line Arity at (Passed limit) is = absurd is
+within_line line Arity at (Sought due) is = absurd is
+within_line line (NameCount i) at (Within detail) is = omega (arith, is.place.inside)
+within_line line (NameCount i) at (Passed limit) is = absurd is
+within_line line (NameCount i) at (Sought due) is = absurd is
+within_line line (Name n) at (Within detail) is = omega (arith, is.place.inside)
+within_line line (Name n) at (Passed limit) is = absurd is
+within_line line (Name n) at (Sought due) is = absurd is
+within_line line (Twice i) at (Within detail) is = omega (arith, is.place.inside)
+within_line line (Twice i) at (Passed limit) is = absurd is
+within_line line (Twice i) at (Sought due) is = absurd is
+within_line line (Lopsided i) at (Within detail) is = omega (arith, is.place.inside)
+within_line line (Lopsided i) at (Passed limit) is = absurd is
+within_line line (Lopsided i) at (Sought due) is = absurd is
+within_line line Memory at (Within detail) is = omega (arith, is.place.inside)
+within_line line Memory at (Passed limit) is = absurd is
+within_line line Memory at (Sought due) is = absurd is

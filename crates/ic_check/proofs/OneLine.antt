@@ -30,9 +30,15 @@ use Rattle.ic_places.specs.declared.sights.Sight.{Sight}
 use Rattle.ic_places.specs.declared.sights.Sight.TheVariants.{End, SystemMark, ConfigMark, CommandWord, NoName, Front, Behind}
 use Rattle.ic_places.specs.declared.telling.Kind.{Kind}
 use Rattle.ic_places.specs.declared.telling.Kind.TheVariants.{Config, System}
-use Rattle.ic_check.specs.Checking.{before, told_fault}
+use Rattle.ic_check.specs.Checking.{before, told_fault, told_line_fault}
 use Rattle.ic_check.specs.Meanings.{IsOneLine}
-use Rattle.ic_check.specs.Telling.{colon, place_text, spot_text}
+use Rattle.ic_check.specs.Telling.{colon, line_limit_sentence, line_sentence, place_text, placed_line, sought_sentence, spot_text}
+use Rattle.ic_check.specs.declared.due.Due.{Due}
+use Rattle.ic_check.specs.declared.due.Due.TheVariants as due
+use Rattle.ic_check.specs.declared.due.LineLimit.{LineLimit}
+use Rattle.ic_check.specs.declared.due.LineLimit.TheVariants as line_limit
+use Rattle.ic_check.specs.declared.line_places.LineDetail.{LineDetail}
+use Rattle.ic_check.specs.declared.line_places.LineDetail.TheVariants.{Sought, Passed as Beyond, Within}
 use Rattle.ic_check.specs.Warnings.{Warns, pair_text, symbol_text, unused_words, warning_line}
 use Rattle.ic_check.proofs.Placed.{AreOf, OfAllWords, lines_of_warnings}
 
@@ -203,15 +209,44 @@ spot_free file lines front free =
     let at = column (last_line front) in
     all_free (file ∷ codes ":" ∷ decimal row ∷ codes ":" ∷ decimal at ∷ []) (free, (refl, (decimal_free row, (refl, (decimal_free at, tt)))))
 
-pub one_fault : (file : List ℕ) (line : Option ℕ) (kind : Kind) (text : List ℕ) (place : Option ℕ) (fault : TextFault) (detail : Detail) → has_feed file ≡ false
-    → IsOneLine (told_fault file line kind text place fault detail)
-one_fault file line kind text None fault detail free =
-    one_of_parts (place_text file line ∷ colon ∷ fault_text fault ∷ []) (place_free file line free, (refl, (fault_free fault, tt)))
-one_fault file line kind text (Some at) fault detail free =
-    let spot = spot_text file (before line) (take (told_at text at) text) in
-    let words = sentence kind text fault at detail in
-    one_of_parts (spot ∷ colon ∷ fault_text fault ∷ colon ∷ words ∷ [])
-    (spot_free file (before line) (take (told_at text at) text) free, (refl, (fault_free fault, (refl, (sight_free kind fault detail (drop at text) (sight_at text at), tt)))))
+placed_free : (file : List ℕ) (lines : ℕ) (text : List ℕ) (at : ℕ) (fault : TextFault) (words : List ℕ) → has_feed file ≡ false → has_feed words ≡ false
+    → IsOneLine (placed_line file lines text at fault words)
+placed_free file lines text at fault words free words_free =
+    let spot = spot_text file lines (take (told_at text at) text) in
+    one_of_parts (spot ∷ colon ∷ fault_text fault ∷ colon ∷ words ∷ []) (spot_free file lines (take (told_at text at) text) free, (refl, (fault_free fault, (refl, (words_free, tt)))))
+
+pub one_fault : (file : List ℕ) (kind : Kind) (text : List ℕ) (place : Option ℕ) (fault : TextFault) (detail : Detail) → has_feed file ≡ false
+    → IsOneLine (told_fault file kind text place fault detail)
+one_fault file kind text None fault detail free = one_of_parts (file ∷ colon ∷ fault_text fault ∷ []) (free, (refl, (fault_free fault, tt)))
+one_fault file kind text (Some at) fault detail free =
+    placed_free file 0 text at fault (sentence kind text fault at detail) free (sight_free kind fault detail (drop at text) (sight_at text at))
+
+sought_free : (due : Due) → has_feed (sought_sentence due) ≡ false
+sought_free due.Command = refl
+sought_free due.SubmitName = refl
+sought_free due.Budget = refl
+sought_free due.System = refl
+sought_free due.OldName = refl
+sought_free due.NewName = refl
+sought_free due.VerbName = refl
+sought_free due.Number = refl
+sought_free due.Nothing = refl
+
+line_limit_free : (limit : LineLimit) → has_feed (line_limit_sentence limit) ≡ false
+line_limit_free line_limit.LineBytes = refl
+line_limit_free line_limit.NameBytes = refl
+line_limit_free line_limit.BudgetRounds = refl
+line_limit_free line_limit.RunRounds = refl
+
+line_words_free : (line : List ℕ) (fault : TextFault) (at : ℕ) (detail : LineDetail) → has_feed (line_sentence line fault at detail) ≡ false
+line_words_free line fault at (Sought due) = sought_free due
+line_words_free line fault at (Beyond limit) = line_limit_free limit
+line_words_free line fault at (Within detail) = sight_free System fault detail (drop at line) (sight_at line at)
+
+pub one_line_fault : (file : List ℕ) (number : ℕ) (line : List ℕ) (at : ℕ) (fault : TextFault) (detail : LineDetail) → has_feed file ≡ false
+    → IsOneLine (told_line_fault file number line at fault detail)
+one_line_fault file number line at fault detail free =
+    placed_free file (before number) line at fault (line_sentence line fault at detail) free (line_words_free line fault at detail)
 
 -- ---- the lines of warnings
 text_free : (o : Option Symbol) → ((s : Symbol) → o ≡ Some s → has_feed s.text ≡ false) → has_feed (text_or_none o) ≡ false

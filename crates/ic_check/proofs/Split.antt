@@ -1,9 +1,8 @@
--- Lines, and fronts of lines.
-use Rattle.std.proofs.Common.{◌≡◌, ℕ, suc, ◌+◌, ◌-◌, ◌<◌, ◌≤◌, ◌==◌, true, false, List, [], ◌∷◌, ◌++◌, length, take, drop, drop-cons, get_or, add-one, refl, sym, ap, ◌∙◌, arith, length-drop}
+-- Lines of a text.
+use Rattle.std.proofs.Common.{◌≡◌, ℕ, suc, ◌+◌, ◌-◌, ◌<◌, ◌==◌, true, false, List, [], ◌∷◌, ◌++◌, length, take, drop, drop-cons, get_or, add-one, refl, sym, ap, ◌∙◌, arith, length-drop}
 use Rattle.std.specs.Cmp.{unsigned_Decides}
-use Rattle.std.proofs.lemmas.List.{length-take, take-append-drop, take_all}
+use Rattle.std.proofs.lemmas.List.{take-append-drop, take_all}
 use Rattle.ic_lines.specs.Lines.{has_feed, lines}
-use Rattle.ic_check.specs.Checking.{behind_budget, behind_first, front_of}
 
 pub at_feed : (text : List ℕ) (place : ℕ) → place < length text → get_or text place 0 ≡ 10 → drop place text ≡ 10 ∷ drop (place + 1) text
 at_feed text place below feed = rw add-one (drop-cons text place 0 below ∙ ap (λ b. b ∷ drop (suc place) text) feed)
@@ -16,12 +15,6 @@ split_first law text place below feed none =
     let whole : text ≡ take place text ++ 10 ∷ rest = sym (take-append-drop place text) ∙ ap (λ l. take place text ++ l) (at_feed text place below feed) in
     ap lines whole ∙ law (take place text) rest none
     ∙ ap (λ l. take place text ∷ lines l) (sym (take_all (length text - (place + 1)) rest (omega (arith, length-drop (place + 1) text))))
-
--- a front is no longer than its line
-pub front_short : (line : List ℕ) → length (front_of line) ≤ length line
-front_short line =
-    let most = length-take (length line - length (behind_budget (behind_first (behind_first line)))) line in
-    omega (arith, most)
 
 pub empty : (text : List ℕ) → (length text == 0) ≡ true → text ≡ []
 empty [] is = refl

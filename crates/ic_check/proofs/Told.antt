@@ -1,5 +1,5 @@
 -- What is told of texts.
-use Rattle.std.proofs.Common.{◌≡◌, ◌≢◌, ℕ, ◌+◌, ◌||◌, List, [], ◌∷◌, ◌++◌, Bool, true, false, Option, None, Result, Ok, Err, IfOk, OnOk, refl, sym, ap, ◌∙◌, subst, append-nil, append_assoc}
+use Rattle.std.proofs.Common.{◌≡◌, ◌≢◌, ℕ, ◌+◌, ◌||◌, List, [], ◌∷◌, ◌++◌, Bool, true, false, Option, Result, Ok, Err, IfOk, OnOk, refl, sym, ap, ◌∙◌, subst, append-nil, append_assoc}
 use Rattle.ic_term.specs.Configuration.{Configuration}
 use Rattle.ic_term.specs.Symbol.{Symbol}
 use Rattle.ic_rules.specs.RuleSet.{Rules}
@@ -15,7 +15,10 @@ use Rattle.ic_text.specs.declared.fault.TextFault.{TextFault}
 use Rattle.ic_text.specs.declared.fault.TextFault.TheVariants.{Memory}
 use Rattle.ic_text.specs.declared.misread.Detail.{Detail}
 use Rattle.ic_places.specs.declared.telling.Kind.TheVariants.{Config, System}
-use Rattle.ic_check.specs.Checking.{TellsConfig, TellsLine, TellsLines, TellsSystem, told_fault}
+use Rattle.ic_check.specs.Checking.{TellsConfig, TellsLine, TellsLines, TellsSystem, told_fault, told_line_fault}
+use Rattle.ic_check.specs.LinePlaces.{IsLinePlace}
+use Rattle.ic_check.specs.declared.line_places.LineDetail.{LineDetail}
+use Rattle.ic_commands.specs.LineText.{ReadsLine}
 use Rattle.ic_check.specs.Reach.{IsReach}
 use Rattle.ic_check.specs.Symbols.{text_symbols}
 use Rattle.ic_check.specs.Warnings.{Warns, once_lines, ruleless_lines, unused_lines, warning_lines}
@@ -30,18 +33,18 @@ config_fine file text v out reads = ([], (Ok v, reads, (refl, refl)), sym (appen
 
 pub config_told : (file text : List ℕ) (fault : TextFault) (place : Option ℕ) (detail : Detail) {E : Type 0} (r : Result Bool E) (old new : List ℕ)
     → (fault ≢ Memory → Reads text (Err fault)) → IsPlaced IsPhrase phrase_words written_phrase text fault place detail
-    → IfOk r (λ faulty. faulty ≡ true) → IfOk r (λ faulty. fault ≢ Memory) → OnOk r (new ≡ old ++ told_fault file None Config text place fault detail)
+    → IfOk r (λ faulty. faulty ≡ true) → IfOk r (λ faulty. fault ≢ Memory) → OnOk r (new ≡ old ++ told_fault file Config text place fault detail)
     → IfOk r (λ faulty. Appends (TellsConfig file text) old new faulty)
 config_told file text fault place detail (Ok faulty) old new reads placed faulted known put =
-    (told_fault file None Config text place fault detail, (Err fault, reads known, ((place, detail, placed, refl), faulted)), put)
+    (told_fault file Config text place fault detail, (Err fault, reads known, ((place, detail, placed, refl), faulted)), put)
 config_told file text fault place detail (Err e) old new reads placed faulted known put = tt
 
 pub system_told : (file text : List ℕ) (fault : TextFault) (place : Option ℕ) (detail : Detail) {E : Type 0} (r : Result Bool E) (old new : List ℕ)
     → (fault ≢ Memory → ReadsSystem text (Err fault)) → IsPlaced IsSystemPhrase system_words written_system text fault place detail
-    → IfOk r (λ faulty. faulty ≡ true) → IfOk r (λ faulty. fault ≢ Memory) → OnOk r (new ≡ old ++ told_fault file None System text place fault detail)
+    → IfOk r (λ faulty. faulty ≡ true) → IfOk r (λ faulty. fault ≢ Memory) → OnOk r (new ≡ old ++ told_fault file System text place fault detail)
     → IfOk r (λ faulty. Appends (TellsSystem file text) old new faulty)
 system_told file text fault place detail (Ok faulty) old new reads placed faulted known put =
-    (told_fault file None System text place fault detail, (Err fault, reads known, ((place, detail, placed, refl), faulted)), put)
+    (told_fault file System text place fault detail, (Err fault, reads known, ((place, detail, placed, refl), faulted)), put)
 system_told file text fault place detail (Err e) old new reads placed faulted known put = tt
 
 -- the warnings of a system are appended
@@ -71,6 +74,11 @@ warned place rs c all seen old one two new (Ok v) are reach first second third =
 warned place rs c all seen old one two new (Err e) are reach first second third = tt
 
 -- ---- lines
+
+pub line_told : (file line : List ℕ) (number : ℕ) (fault : TextFault) (at : ℕ) (detail : LineDetail) (old new : List ℕ) → ReadsLine line (Err fault)
+    → IsLinePlace line fault at detail → new ≡ old ++ told_line_fault file number line at fault detail → Appends (TellsLine file number line) old new true
+line_told file line number fault at detail old new reads is put =
+    (told_line_fault file number line at fault detail, (Err fault, reads, ((at, detail, is, refl), refl)), put)
 
 -- what is told of what is left is told of the whole
 abbrev pub GoesOn : (file text rest : List ℕ) (number : ℕ) (so_far : List ℕ) → Bool → Type 0

@@ -34,7 +34,7 @@ use Rattle.ic_check.specs.Telling.{place_text}
 use Rattle.ic_check.specs.Warnings.{Warns, warning_line}
 use Rattle.ic_check.specs.declared.checking.Form.{Form}
 use Rattle.ic_check.specs.declared.checking.Form.TheVariants as form
-use Rattle.ic_check.proofs.OneLine.{one_each, one_fault}
+use Rattle.ic_check.proofs.OneLine.{one_each, one_fault, one_line_fault}
 
 -- ---- symbols of which each has the text of one
 
@@ -213,14 +213,14 @@ module _ (no_submit : (verb : _) (w name : List ℕ) (s : SystemParts) (budget :
   config_lines text told faulty (Err fault, reads, is) =
       let place = is.0.0 in
       let detail = is.0.1 in
-      subst AreLines (sym is.0.3) (one_line _ (one_fault file None Config text place fault detail free))
+      subst AreLines (sym is.0.3) (one_line _ (one_fault file Config text place fault detail free))
 
   system_lines : (text told : List ℕ) (faulty : Bool) → TellsSystem file text told faulty → AreLines told
   system_lines text told faulty (Ok s, reads, is) = warns_lines None s told (read_texts text s reads) is.0
   system_lines text told faulty (Err fault, reads, is) =
       let place = is.0.0 in
       let detail = is.0.1 in
-      subst AreLines (sym is.0.3) (one_line _ (one_fault file None System text place fault detail free))
+      subst AreLines (sym is.0.3) (one_line _ (one_fault file System text place fault detail free))
 
   asked_lines : (line : List ℕ) (number : ℕ) (what : Line) (told : List ℕ) → ReadsLine line (Ok what) → WarnsOf (place_text file (Some number)) what told → AreLines told
   asked_lines line number Blank told reads is = no_lines told is
@@ -236,9 +236,9 @@ module _ (no_submit : (verb : _) (w name : List ℕ) (s : SystemParts) (budget :
   line_lines : (number : ℕ) (line told : List ℕ) (faulty : Bool) → TellsLine file number line told faulty → AreLines told
   line_lines number line told faulty (Ok what, reads, is) = asked_lines line number what told reads is.0
   line_lines number line told faulty (Err fault, reads, is) =
-      let place = is.0.0 in
+      let at = is.0.0 in
       let detail = is.0.1 in
-      subst AreLines (sym is.0.3) (one_line _ (one_fault file (Some number) System line place fault detail free))
+      subst AreLines (sym is.0.3) (one_line _ (one_line_fault file number line at fault detail free))
 
   all_lines : (number : ℕ) (ls : List (List ℕ)) (told : List ℕ) (faulty : Bool) → TellsLines file number ls told faulty → AreLines told
   all_lines number [] told faulty is = no_lines told is.0

@@ -1,6 +1,5 @@
 -- To be believed: what is told of a text (this project's choice).
-use Rattle.std.specs.Prelude.{◌≡◌, ◌⊎◌, ℕ, ◌+◌, ◌-◌, ◌==◌, List, [], ◌∷◌, ◌++◌, Bool, true, false, ◌||◌, Option, None, Some, Result, Ok, Err, codes, length, take, drop, option_map, if◌then◌else◌}
-use Rattle.std.specs.Char.{is_ascii_digit}
+use Rattle.std.specs.Prelude.{◌≡◌, ℕ, ◌+◌, ◌-◌, ◌==◌, List, [], ◌∷◌, ◌++◌, Bool, true, false, ◌||◌, Option, None, Some, Result, Ok, Err, if◌then◌else◌}
 use Rattle.ic_term.specs.Symbol.{Symbol}
 use Rattle.ic_term.specs.Configuration.{Configuration}
 use Rattle.ic_rules.specs.System.{SystemParts}
@@ -9,34 +8,39 @@ use Rattle.ic_commands.specs.LineText.{ReadsLine}
 use Rattle.ic_commands.specs.declared.line.Line.{Line}
 use Rattle.ic_commands.specs.declared.line.Line.TheVariants.{Command as Asks}
 use Rattle.ic_lines.specs.Lines.{lines}
-use Rattle.ic_text.specs.FaultNumber.{fault_number}
 use Rattle.ic_text.specs.Places.{IsPlaced}
 use Rattle.ic_text.specs.Source.{IsPhrase, phrase_words}
 use Rattle.ic_text.specs.SystemSource.{IsSystemPhrase, system_words}
 use Rattle.ic_text.specs.SystemText.{ReadsSystem}
 use Rattle.ic_text.specs.Text.{Reads}
-use Rattle.ic_text.specs.Token.{is_blank, is_word_byte}
+use Rattle.ic_text.specs.Token.{is_blank}
 use Rattle.ic_text.specs.Words.{written_phrase, written_system}
 use Rattle.ic_text.specs.declared.fault.TextFault.{TextFault}
 use Rattle.ic_text.specs.declared.misread.Detail.{Detail}
 use Rattle.ic_places.specs.declared.telling.Kind.{Kind}
 use Rattle.ic_places.specs.declared.telling.Kind.TheVariants.{Config, System}
-use Rattle.ic_check.specs.Telling.{fault_line, place_text, placed_line}
+use Rattle.ic_places.specs.Telling.{sentence}
+use Rattle.ic_check.specs.LinePlaces.{IsLinePlace}
+use Rattle.ic_check.specs.Telling.{fault_line, line_sentence, place_text, placed_line}
 use Rattle.ic_check.specs.Warnings.{Warns}
+use Rattle.ic_check.specs.declared.line_places.LineDetail.{LineDetail}
 use Rattle.ic_check.specs.declared.checking.Form.{Form}
 use Rattle.ic_check.specs.declared.checking.Form.TheVariants as form
 
--- how many lines of a file stand before a text of it
-abbrev pub before : Option ℕ → ℕ
-before None = 0
-before (Some line) = line - 1
+-- the line of a fault of a whole file, with its place where that is told
+abbrev pub told_fault : List ℕ → Kind → List ℕ → Option ℕ → TextFault → Detail → List ℕ
+told_fault file kind text (Some at) fault detail =
+    placed_line file 0 text at fault (sentence kind text fault at detail)
+told_fault file kind text None fault detail = fault_line file fault
 
--- the line of a fault, with its place in the text where that is told
-abbrev pub told_fault : List ℕ → Option ℕ → Kind → List ℕ → Option ℕ → TextFault → Detail
-    → List ℕ
-told_fault file line kind text (Some at) fault detail =
-    placed_line file (before line) kind text at fault detail
-told_fault file line kind text None fault detail = fault_line (place_text file line) fault
+-- how many lines of a file stand before the one of this number
+abbrev pub before : ℕ → ℕ
+before number = number - 1
+
+-- the line of a fault of a line of a file
+abbrev pub told_line_fault : List ℕ → ℕ → List ℕ → ℕ → TextFault → LineDetail → List ℕ
+told_line_fault file number line at fault detail =
+    placed_line file (before number) line at fault (line_sentence line fault at detail)
 
 -- what is told of a text that is read so: of its value, or of its fault
 abbrev pub TellsAnswer : {V : Type 0} → (V → List ℕ → Type 0) → (TextFault → List ℕ → Type 0)
@@ -50,7 +54,7 @@ TellsConfig file text told faulty = (answer : Result (List Symbol × Configurati
     × Reads text answer
     × TellsAnswer (λ v told. told ≡ []) (λ fault told. (place : Option ℕ) × (detail : Detail)
     × IsPlaced IsPhrase phrase_words written_phrase text fault place detail
-    × (told ≡ told_fault file None Config text place fault detail)) answer told faulty
+    × (told ≡ told_fault file Config text place fault detail)) answer told faulty
 
 -- a system: its warnings, or its fault
 abbrev pub TellsSystem : (file text told : List ℕ) → Bool → Type 0
@@ -59,61 +63,7 @@ TellsSystem file text told faulty = (answer : Result SystemParts TextFault)
     × TellsAnswer (λ s told. Warns file s.rules s.config told)
     (λ fault told. (place : Option ℕ) × (detail : Detail)
     × IsPlaced IsSystemPhrase system_words written_system text fault place detail
-    × (told ≡ told_fault file None System text place fault detail)) answer told faulty
-
--- a text behind the blanks with which it begins, and behind the word
-abbrev pub behind_blanks : List ℕ → List ℕ
-behind_blanks [] = []
-behind_blanks (b ∷ bs) = if is_blank b then behind_blanks bs else b ∷ bs
-
-abbrev pub behind_word : List ℕ → List ℕ
-behind_word [] = []
-behind_word (b ∷ bs) = if is_word_byte b then behind_word bs else b ∷ bs
-
--- behind its first word and the blanks around it
-abbrev pub behind_first : List ℕ → List ℕ
-behind_first text = behind_blanks (behind_word (behind_blanks text))
-
--- the same where a budget stands first, which a digit tells
-abbrev pub behind_budget : List ℕ → List ℕ
-behind_budget [] = []
-behind_budget (b ∷ bs) = if is_ascii_digit b then behind_first (b ∷ bs) else b ∷ bs
-
--- What stands in a submit before its system, or before what stands in the place of one: the word
--- `submit`, the name and the budget, if there is one. Then the rest.
-abbrev pub front_of : List ℕ → List ℕ
-front_of line =
-    take (length line - length (behind_budget (behind_first (behind_first line)))) line
-
-abbrev pub system_of : List ℕ → List ℕ
-system_of line = drop (length (front_of line)) line
-
--- the line with the empty system behind its front
-abbrev pub with_no_system : List ℕ → List ℕ
-with_no_system line = front_of line ++ codes "{}<|>"
-
--- The place of a line's fault, where the system in it has this place and this fault: the same, where
--- the fault is.
-abbrev pub place_within : List ℕ → TextFault → Option ℕ → TextFault → Option ℕ
-place_within line fault inner other = if fault_number fault == fault_number other
-    then option_map (λ at. length (front_of line) + at) inner else None
-
--- where the system in a line is refused, and with which fault
-pub record IsSystemFault (line : List ℕ) (other : TextFault) (inner : Option ℕ) (detail : Detail)
-    : Type 0 where
-  pub reads : ReadsSystem (system_of line) (Err other)
-  pub placed : IsPlaced IsSystemPhrase system_words written_system (system_of line) other inner
-      detail
-
--- The place of a fault of a line: it is told where the line's front is that of a submit, and its
--- system has the fault.
-abbrev pub IsLinePlace : List ℕ → TextFault → Option ℕ → Detail → Type 0
-IsLinePlace line fault place detail =
-    ((e : TextFault) × ReadsLine (with_no_system line) (Err e) × (place ≡ None))
-    ⊎ (((s : SystemParts) × ReadsSystem (system_of line) (Ok s) × (place ≡ None))
-    ⊎ ((asked : Line) × ReadsLine (with_no_system line) (Ok asked)
-    × (other : TextFault) × (inner : Option ℕ) × IsSystemFault line other inner detail
-    × (place ≡ place_within line fault inner other)))
+    × (told ≡ told_fault file System text place fault detail)) answer told faulty
 
 -- what is told of what a line asks: warnings of a system that is submitted
 abbrev pub WarnsOf : List ℕ → Line → List ℕ → Type 0
@@ -125,8 +75,8 @@ abbrev pub TellsLine : (file : List ℕ) → (number : ℕ) → (line told : Lis
 TellsLine file number line told faulty = (answer : Result Line TextFault)
     × ReadsLine line answer
     × TellsAnswer (WarnsOf (place_text file (Some number)))
-    (λ fault told. (place : Option ℕ) × (detail : Detail) × IsLinePlace line fault place detail
-    × (told ≡ told_fault file (Some number) System line place fault detail)) answer told faulty
+    (λ fault told. (at : ℕ) × (detail : LineDetail) × IsLinePlace line fault at detail
+    × (told ≡ told_line_fault file number line at fault detail)) answer told faulty
 
 -- lines of a file, the first of which has this number, one after the other
 abbrev pub TellsLines : (file : List ℕ) → (number : ℕ) → List (List ℕ) → (told : List ℕ) → Bool

@@ -1,11 +1,24 @@
 -- To be believed: what is told, in words of the calculus and of files.
-use Rattle.std.specs.Prelude.{◌≡◌, ◌⊎◌, ℕ, ◌==◌, List, ◌∷◌, ◌++◌, Bool, false, ◌&&◌, Some, slice_get}
+use Rattle.std.specs.Prelude.{◌≡◌, ◌⊎◌, ℕ, ◌<◌, ◌==◌, List, ◌∷◌, ◌++◌, Bool, false, ◌&&◌, Option, None, Some, IfSome, IsTrue, length, slice_get}
 use Rattle.std.specs.List.{AllByRecursion, count_by, flat_map, list_any}
 use Rattle.ic_term.specs.Tree.{Tree, name, agent, Trees, no_trees, more_trees, Pair}
 use Rattle.ic_rules.specs.Rule.{Rule}
 use Rattle.ic_rules.specs.RuleSet.{has_pair}
 use Rattle.ic_commands.specs.LinePlain.{phrase_texts}
-use Rattle.ic_commands.specs.LineSource.{IsLine, LinePhrase}
+use Rattle.ic_commands.specs.LineSource.{IsLine, LinePhrase, is_number, line_words}
+use Rattle.ic_commands.specs.declared.limits.TheConstants.{MAX_RUN}
+use Rattle.ic_jobs.specs.declared.limits.TheConstants.{MAX_BUDGET}
+use Rattle.ic_rules.specs.JobName.{is_job_word}
+use Rattle.ic_rules.specs.declared.job_name.TheConstants.{MAX_JOB_NAME}
+use Rattle.ic_text.specs.Name.{number_in}
+use Rattle.ic_text.specs.Places.{is_between}
+use Rattle.ic_text.specs.Token.{Token, is_blank, tokens}
+use Rattle.ic_places.specs.Sights.{first_word, is_command}
+use Rattle.ic_check.specs.LinePlaces.{submit_front}
+use Rattle.ic_check.specs.declared.due.Due.{Due}
+use Rattle.ic_check.specs.declared.due.Due.TheVariants.{Command, SubmitName, Budget, System, OldName, NewName, VerbName, Number, Nothing}
+use Rattle.ic_check.specs.declared.due.LineLimit.{LineLimit}
+use Rattle.ic_check.specs.declared.due.LineLimit.TheVariants.{LineBytes, NameBytes, BudgetRounds, RunRounds}
 use Rattle.ic_lines.specs.Lines.{ended, has_feed}
 use Rattle.ic_check.specs.Checking.{TellsLine}
 use Rattle.ic_check.specs.Warnings.{warning_line}
@@ -69,3 +82,40 @@ AreLines told =
 abbrev pub BeginsLine : List ℕ → Type 0
 BeginsLine word = (p : LinePhrase) × IsLine p
     × (rest : List (List ℕ)) × (phrase_texts p ≡ word ∷ rest)
+
+-- ---- lines
+
+-- some line goes on from these tokens with this one
+abbrev pub GoesWith : List Token → Token → Type 0
+GoesWith front t = (p : LinePhrase) × IsLine p
+    × (rest : List Token) × (line_words p ≡ front ++ t ∷ rest)
+
+-- a word is what is looked for
+abbrev pub is_looked_for : Due → List ℕ → Bool
+is_looked_for Command w = is_command w
+is_looked_for SubmitName w = is_job_word w
+is_looked_for Budget w = is_number w
+is_looked_for System w = false
+is_looked_for OldName w = is_job_word w
+is_looked_for NewName w = is_job_word w
+is_looked_for VerbName w = is_job_word w
+is_looked_for Number w = is_number w
+is_looked_for Nothing w = false
+
+-- a word passes a limit of a word
+abbrev pub Passes : LineLimit → List ℕ → Type 0
+Passes LineBytes w = ⊥
+Passes NameBytes w = MAX_JOB_NAME < length w
+Passes BudgetRounds w = (number_in w ≡ 0) ⊎ (MAX_BUDGET < number_in w)
+Passes RunRounds w = MAX_RUN < number_in w
+
+-- A line is a front, of the word `submit`, a name and a budget or none, and a text. The text begins
+-- with no blank, with no byte that belongs to the front's last word, and with no budget if none is in
+-- the front.
+pub record IsSubmitFront (front text name : List ℕ) (most : Option (List ℕ)) : Type 0 where
+  pub words : tokens front ≡ Some (submit_front name most)
+  pub named : IsTrue (is_job_word name)
+  pub numbered : IfSome most (λ digits. IsTrue (is_number digits))
+  pub apart : IsTrue (is_between (front ++ text) (length front))
+  pub filled : (b : ℕ) (bs : List ℕ) → text ≡ b ∷ bs → is_blank b ≡ false
+  pub no_budget : most ≡ None → is_number (first_word text) ≡ false

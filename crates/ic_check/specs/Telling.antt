@@ -3,11 +3,16 @@ use Rattle.std.specs.Prelude.{ℕ, ◌+◌, List, [], ◌∷◌, ◌++◌, Optio
 use Rattle.std.specs.Fmt.{decimal}
 use Rattle.std.specs.List.{concat}
 use Rattle.ic_text.specs.declared.fault.TextFault.{TextFault}
-use Rattle.ic_text.specs.declared.misread.Detail.{Detail}
 use Rattle.ic_text.specs.Text.{fault_text}
-use Rattle.ic_places.specs.declared.telling.Kind.{Kind}
+use Rattle.ic_places.specs.declared.telling.Kind.TheVariants.{System}
 use Rattle.ic_places.specs.Lines.{column, last_line, line_number, told_at}
 use Rattle.ic_places.specs.Telling.{sentence}
+use Rattle.ic_check.specs.declared.due.Due.{Due}
+use Rattle.ic_check.specs.declared.due.Due.TheVariants.{Command, SubmitName, Budget, System as Opened, OldName, NewName, VerbName, Number, Nothing}
+use Rattle.ic_check.specs.declared.due.LineLimit.{LineLimit}
+use Rattle.ic_check.specs.declared.due.LineLimit.TheVariants.{LineBytes, NameBytes, BudgetRounds, RunRounds}
+use Rattle.ic_check.specs.declared.line_places.LineDetail.{LineDetail}
+use Rattle.ic_check.specs.declared.line_places.LineDetail.TheVariants.{Sought, Passed, Within}
 
 abbrev pub colon : List ℕ
 colon = codes ": "
@@ -23,11 +28,40 @@ spot_text file before front = concat (file ∷ codes ":" ∷ decimal (before + l
     ∷ codes ":" ∷ decimal (column (last_line front)) ∷ [])
 
 -- `FILE:LINE:COLUMN: bad ..: SENTENCE`
-abbrev pub placed_line : List ℕ → ℕ → Kind → List ℕ → ℕ → TextFault → Detail → List ℕ
-placed_line file before kind text at fault detail =
+abbrev pub placed_line : List ℕ → ℕ → List ℕ → ℕ → TextFault → List ℕ → List ℕ
+placed_line file before text at fault words =
     concat (spot_text file before (take (told_at text at) text) ∷ colon ∷ fault_text fault ∷ colon
-    ∷ sentence kind text fault at detail ∷ (10 ∷ []) ∷ [])
+    ∷ words ∷ (10 ∷ []) ∷ [])
 
--- `FILE:LINE: bad ..`
+-- `FILE: bad ..`
 abbrev pub fault_line : List ℕ → TextFault → List ℕ
-fault_line place fault = concat (place ∷ colon ∷ fault_text fault ∷ (10 ∷ []) ∷ [])
+fault_line file fault = concat (file ∷ colon ∷ fault_text fault ∷ (10 ∷ []) ∷ [])
+
+abbrev pub name_sought : List ℕ
+name_sought = codes "a job's name is looked for here"
+
+-- what is looked for where a line doesn't go on
+abbrev pub sought_sentence : Due → List ℕ
+sought_sentence Command = codes "a command is looked for here: submit, copy, pause, resume, "
+    ++ codes "cancel, fetch, list or run"
+sought_sentence Budget = codes "a budget or { is looked for here"
+sought_sentence Opened = codes "{ is looked for here"
+sought_sentence Number = codes "a number is looked for here"
+sought_sentence Nothing = codes "nothing is looked for here"
+sought_sentence SubmitName = name_sought
+sought_sentence OldName = name_sought
+sought_sentence NewName = name_sought
+sought_sentence VerbName = name_sought
+
+-- what is amiss where a limit of a line is passed, or of a word before its system
+abbrev pub line_limit_sentence : LineLimit → List ℕ
+line_limit_sentence LineBytes = codes "a line has at most 262144 bytes"
+line_limit_sentence NameBytes = codes "a job's name has at most 16 bytes"
+line_limit_sentence BudgetRounds = codes "a budget is 1 to 4294967295"
+line_limit_sentence RunRounds = codes "a run makes at most 1000 rounds"
+
+-- what is amiss at the place of a line's fault
+abbrev pub line_sentence : List ℕ → TextFault → ℕ → LineDetail → List ℕ
+line_sentence line fault at (Sought due) = sought_sentence due
+line_sentence line fault at (Passed limit) = line_limit_sentence limit
+line_sentence line fault at (Within detail) = sentence System line fault at detail

@@ -1,4 +1,5 @@
 -- What only the contracts of private functions cite.
 pub mod Growing
 pub mod Fronts
+pub mod Inner
 pub mod Verdicts

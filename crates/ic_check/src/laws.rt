@@ -1,7 +1,7 @@
 //! What is proved of the definitions alone: each law is the contract of a function that does nothing, or calls the laws
 //! that it comes of.
 
-ghost use Rattle.std.specs.Prelude.{◌≡◌, ◌≢◌, ◌≤◌, ◌⊎◌, ◌+◌, ◌==◌, ◌&&◌, ◌∷◌, ◌++◌, ℕ, List, [], Bool, Option, None, Some, Ok, Err, IsTrue, codes, length, option_map, slice_get, take, drop, false, true};
+ghost use Rattle.std.specs.Prelude.{◌≡◌, ◌≢◌, ◌≤◌, ◌↔◌, ◌⊎◌, ◌+◌, ◌==◌, ◌&&◌, ◌∷◌, ◌++◌, ℕ, List, [], Bool, Option, None, Some, Ok, Err, IsTrue, codes, length, option_map, slice_get, take, drop, false, true};
 ghost use Rattle.std.specs.Fmt.{decimal};
 ghost use Rattle.std.specs.List.{AllByRecursion, concat, flat_map, list_all};
 ghost use Rattle.ic_term.specs.Configuration.{Configuration};
@@ -18,16 +18,32 @@ ghost use Rattle.ic_causes.specs.Causes.{shown_path};
 ghost use Rattle.ic_places.specs.Lines.{column};
 ghost use Rattle.ic_places.specs.Sights.{is_command};
 ghost use Rattle.ic_places.specs.declared.telling.Kind.{Kind};
-ghost use Rattle.ic_check.specs.Checking.{IsLinePlace, IsSystemFault, Tells, TellsLine, TellsLines, before, form_of, front_of, system_of, told_fault, with_no_system};
-ghost use Rattle.ic_commands.specs.LineText.{ReadsLine};
-ghost use Rattle.ic_commands.specs.declared.line.Line.{Line};
-ghost use Rattle.ic_text.specs.SystemText.{ReadsSystem};
+ghost use Rattle.ic_check.specs.Checking.{Tells, TellsLine, TellsLines, before, form_of, told_fault, told_line_fault};
+ghost use Rattle.ic_check.specs.LinePlaces.{IsDue, IsLinePlace, IsWhole, is_system_due, own_passed};
+ghost use Rattle.ic_check.specs.declared.due.Due.{Due};
+ghost use Rattle.ic_check.specs.declared.due.LineLimit.{LineLimit};
+ghost use Rattle.ic_check.specs.declared.due.LineLimit.TheVariants.{LineBytes, NameBytes, BudgetRounds, RunRounds};
+ghost use Rattle.ic_check.specs.declared.line_places.LineDetail.TheVariants.{Within};
+ghost use Rattle.ic_check.specs.declared.line_places.LineDetail.{LineDetail};
+ghost use Rattle.ic_commands.specs.LineSense.{fits_budget, line_sense, submitted};
+ghost use Rattle.ic_commands.specs.LineSource.{IsLine, LinePhrase, line_words, submit};
+ghost use Rattle.ic_commands.specs.declared.limits.TheConstants.{MAX_RUN};
+ghost use Rattle.ic_jobs.specs.declared.limits.TheConstants.{MAX_BUDGET};
+ghost use Rattle.ic_rules.specs.JobName.{is_job_name};
+ghost use Rattle.ic_rules.specs.declared.job_name.TheConstants.{MAX_JOB_NAME};
+ghost use Rattle.ic_text.specs.Name.{number_in};
+ghost use Rattle.ic_text.specs.Places.{IsPlaced, IsSyntaxPlace};
+ghost use Rattle.ic_text.specs.SystemSense.{system_sense};
+ghost use Rattle.ic_text.specs.SystemSource.{IsSystemPhrase, SystemPhrase, system_words};
+ghost use Rattle.ic_text.specs.Words.{written_system};
+ghost use Rattle.ic_text.specs.declared.fault.TextFault.TheVariants.{Limit, Syntax};
+ghost use Rattle.ic_text.specs.declared.limits.TheConstants.{MAX_TEXT};
 ghost use Rattle.ic_check.specs.declared.checking.Form.TheVariants as form;
-ghost use Rattle.ic_text.specs.Token.{is_blank};
-ghost use Rattle.ic_check.specs.Meanings.{AreLines, BeginsLine, HasNoRule, IsOneLine, IsToldAt, IsWarned, StandsIn, StandsOnce, faces, facing, is_among};
+ghost use Rattle.ic_text.specs.Token.{Token, is_blank, mark, word, words_among};
+ghost use Rattle.ic_check.specs.Meanings.{AreLines, BeginsLine, GoesWith, HasNoRule, IsOneLine, IsSubmitFront, IsToldAt, IsWarned, Passes, StandsIn, StandsOnce, faces, facing, is_among, is_looked_for};
 ghost use Rattle.ic_check.specs.Reach.{AllAmong, IsReach, IsTakenBy};
 ghost use Rattle.ic_check.specs.Symbols.{config_symbols, text_symbols};
-ghost use Rattle.ic_check.specs.Telling.{place_text, spot_text};
+ghost use Rattle.ic_check.specs.Telling.{line_limit_sentence, place_text, spot_text};
 ghost use Rattle.ic_check.specs.Warnings.{Warns, once_line, once_lines, pair_text, ruleless_line, unused_line, warning_line};
 
 /// An equation is told as one without a rule exactly where both sides are agents and no rule is of their two symbols.
@@ -117,14 +133,6 @@ pub fn forms_are_told_by_their_first_byte()
         → form_of blanks ≡ form.Lines }
 {}
 
-/// What stands in a submit before its system is the word, the name and the budget, with the blanks behind them.
-pub fn a_system_stands_behind_the_name_and_the_budget()
-    ensures plain { front_of (codes "submit two {} <r|r=r>") ≡ codes "submit two " }
-    ensures budget { front_of (codes "submit two  17 {} <r|r=r>") ≡ codes "submit two  17 " }
-    ensures none { front_of (codes "submit two A(x)") ≡ codes "submit two " }
-    ensures system { system_of (codes "submit two 17 {} <r|r=r>") ≡ codes "{} <r|r=r>" }
-{}
-
 /// A rule that is told as never used is used by no round: after any number of rounds no equation is active by it. The
 /// symbols that may come to stand in the configuration are all that ever do, and which they are is settled.
 pub fn unused_rules_are_never_used()
@@ -155,9 +163,12 @@ pub fn warnings_are_told_with_their_place()
 /// Faults and warnings are told one a line, where the file's name has no line feed and each symbol is a symbol, as those of
 /// a text are. The name under which `check_files` tells of a path has none. So all that is told of a file is lines.
 pub fn faults_and_warnings_are_one_line_each()
-    ensures fault { (file text : List ℕ) (line place : Option ℕ) (kind : Kind) (fault : TextFault)
+    ensures fault { (file text : List ℕ) (place : Option ℕ) (kind : Kind) (fault : TextFault)
         (detail : Detail) → has_feed file ≡ false
-        → IsOneLine (told_fault file line kind text place fault detail) }
+        → IsOneLine (told_fault file kind text place fault detail) }
+    ensures line_fault { (file : List ℕ) (number : ℕ) (line : List ℕ) (at : ℕ)
+        (fault : TextFault) (detail : LineDetail) → has_feed file ≡ false
+        → IsOneLine (told_line_fault file number line at fault detail) }
     ensures warnings { (file told : List ℕ) (line : Option ℕ) (rs : Rules) (c : Configuration)
         → AllByRecursion (λ s. IsTrue (is_symbol_text s.text)) rs.symbols → has_feed file ≡ false
         → Warns (place_text file line) rs c told → (words : List (List ℕ))
@@ -178,37 +189,89 @@ pub fn lines_begin_with_command_words()
     ic_commands::laws::command_words_are();
 }
 
-/// A line is told a place wherever its front is that of a submit and its system has the line's fault: it is the place of
-/// that fault in the system, behind the front. Where the front itself is refused, or the system alone is none, no place is told.
-pub fn a_submit_is_told_where_its_system_is_refused()
-    ensures told { (line : List ℕ) (fault : TextFault) (place : Option ℕ) (detail : Detail)
-        (asked : Line) → IsLinePlace line fault place detail
-        → ReadsLine (with_no_system line) (Ok asked) → ReadsSystem (system_of line) (Err fault)
-        → (inner : Option ℕ) × IsSystemFault line fault inner detail
-        × (place ≡ option_map (λ at. length (front_of line) + at) inner) }
-    ensures front { (line : List ℕ) (fault other : TextFault) (place : Option ℕ)
-        (detail : Detail) → IsLinePlace line fault place detail
-        → ReadsLine (with_no_system line) (Err other) → place ≡ None }
+/// What is said to be looked for in a line is what it goes on with: a word stands there exactly where it is of this kind. A
+/// mark does so in no line but a submit, as the first one of its system, and where a system may stand each does.
+pub fn what_is_looked_for_goes_on()
+    ensures word { (due : Due) (front : List Token) (w : List ℕ) → IsDue due front
+        → GoesWith front (word w) ↔ IsTrue (is_looked_for due w) }
+    ensures mark { (due : Due) (front : List Token) (m : _) (rest : List Token) (p : LinePhrase)
+        → IsDue due front → IsLine p → line_words p ≡ front ++ mark m ∷ rest
+        → (is_system_due due ≡ true) × (s : SystemPhrase) × IsSystemPhrase s
+        × (system_words s ≡ mark m ∷ rest) }
+    ensures system { (due : Due) (front : List Token) (s : SystemPhrase) → IsDue due front
+        → is_system_due due ≡ true → IsSystemPhrase s
+        → (p : LinePhrase) × IsLine p × (line_words p ≡ front ++ system_words s) }
 {
-    ic_commands::laws::one_line_reading();
-    ic_text::laws::one_system_reading();
+    ic_commands::laws::command_words_are();
+    lines_begin_with_command_words();
 }
 
-/// The place that is told of a line's fault is one of this line, behind its front. It is told by the line's number and
-/// by the column in the line alone, and that is the place in the whole file: where the lines above, each with its line
-/// feed, and the front of the line stand before it.
+/// A limit that a line is told to pass with a word is passed by this word, and for that the line is refused. A submit
+/// whose words before the system pass none is read as its system is, and another line that passes none isn't refused.
+pub fn limits_of_lines_are_passed()
+    ensures passed { (p : LinePhrase) (k : ℕ) (limit : LineLimit) → own_passed p ≡ Some (k, limit)
+        → (w : List ℕ) × (slice_get (words_among (line_words p)) k ≡ Some w) × Passes limit w }
+    ensures refused { (p : LinePhrase) (k : ℕ) (limit : LineLimit)
+        → own_passed p ≡ Some (k, limit) → line_sense p ≡ Err Limit }
+    ensures submit { (name : List ℕ) (most : Option (List ℕ)) (s : SystemPhrase)
+        → own_passed (submit name most s) ≡ None → line_sense (submit name most s)
+        ≡ submitted name (option_map number_in most) (system_sense s) }
+    ensures whole { (p : LinePhrase) (fault : TextFault) → IsWhole p → own_passed p ≡ None
+        → line_sense p ≢ Err fault }
+{}
+
+/// The sentence of each limit of a line tells its number.
+pub fn limits_of_lines_are_told_with_their_numbers()
+    ensures line { line_limit_sentence LineBytes
+        ≡ codes "a line has at most " ++ decimal MAX_TEXT ++ codes " bytes" }
+    ensures name { line_limit_sentence NameBytes
+        ≡ codes "a job's name has at most " ++ decimal MAX_JOB_NAME ++ codes " bytes" }
+    ensures budget { line_limit_sentence BudgetRounds
+        ≡ codes "a budget is 1 to " ++ decimal MAX_BUDGET }
+    ensures run { line_limit_sentence RunRounds
+        ≡ codes "a run makes at most " ++ decimal MAX_RUN ++ codes " rounds" }
+{}
+
+/// The line before a fault of syntax is innocent: cut there, it has such a fault nowhere but at its end. A line has one such
+/// place at most.
+pub fn the_line_before_a_fault_is_innocent()
+    ensures cut { (line : List ℕ) (at cut : ℕ) → IsSyntaxPlace IsLine line_words line at
+        → IsSyntaxPlace IsLine line_words (take at line) cut → cut ≡ at }
+    ensures one { (line : List ℕ) (a b : ℕ) → IsSyntaxPlace IsLine line_words line a
+        → IsSyntaxPlace IsLine line_words line b → a ≡ b }
+{}
+
+/// The place of a submit's fault is that of its system's, behind the words before the system. Of a fault of syntax it is so
+/// whatever these words are; of another they have to be within their limits.
+pub fn a_submit_is_told_where_its_system_is_refused()
+    ensures syntax { (front text name : List ℕ) (most : Option (List ℕ)) (at : ℕ)
+        → IsSubmitFront front text name most
+        → IsSyntaxPlace IsSystemPhrase system_words text at
+        → IsSyntaxPlace IsLine line_words (front ++ text) (length front + at) }
+    ensures other { (front text name : List ℕ) (most : Option (List ℕ)) (fault : TextFault)
+        (at : ℕ) (detail : Detail) → IsSubmitFront front text name most
+        → length (front ++ text) ≤ MAX_TEXT → IsTrue (is_job_name name)
+        → IsTrue (fits_budget most) → fault ≢ Syntax
+        → IsPlaced IsSystemPhrase system_words written_system text fault (Some at) detail
+        → IsLinePlace (front ++ text) fault (length front + at) (Within detail) }
+{
+    ic_commands::laws::command_words_are();
+}
+
+/// The place that is told of a line's fault is one of this line. It is told by the line's number and by the column in the
+/// line alone, and that is the place in the whole file: where the lines above, each with its line feed, and the front of
+/// the line stand before it.
 pub fn places_of_lines_are_places_of_the_file()
-    ensures within { (line : List ℕ) (fault : TextFault) (at : ℕ) (detail : Detail)
-        → IsLinePlace line fault (Some at) detail
-        → (length (front_of line) ≤ at) × (at ≤ length line) }
+    ensures within { (line : List ℕ) (fault : TextFault) (at : ℕ) (detail : LineDetail)
+        → IsLinePlace line fault at detail → at ≤ length line }
     ensures own { (file line : List ℕ) (number at : ℕ) → has_feed line ≡ false
-        → spot_text file (before (Some (number + 1))) (take at line)
+        → spot_text file (before (number + 1)) (take at line)
         ≡ concat (file ∷ codes ":" ∷ decimal (number + 1)
         ∷ codes ":" ∷ decimal (column (take at line)) ∷ []) }
     ensures file { (file text : List ℕ) (above : List (List ℕ)) (line : List ℕ)
         (below : List (List ℕ)) (at : ℕ) → lines text ≡ above ++ line ∷ below
         → (rest : List ℕ) × (text ≡ flat_map ended above ++ (line ++ rest))
-        × (spot_text file (before (Some (length above + 1))) (take at line)
+        × (spot_text file (before (length above + 1)) (take at line)
         ≡ spot_text file 0 (flat_map ended above ++ take at line)) }
 {
     ic_lines::laws::lines_are_parted_by_line_feeds();

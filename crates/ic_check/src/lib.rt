@@ -8,8 +8,11 @@
 #![tactic(auto)]
 
 mod checking;
+mod due;
 mod files;
+mod front;
 pub mod laws;
+mod line_places;
 mod lines;
 mod reach;
 mod remarks;

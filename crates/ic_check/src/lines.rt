@@ -1,17 +1,14 @@
 //! Looking over lines, each by itself.
 
-ghost use Rattle.std.specs.Prelude.{◌≡◌, ◌==◌, ◌<◌, ◌≤◌, ◌+◌, ◌^◌, ◌∷◌, ◌++◌, ℕ, List, None, IfOk, IfSome, OnOk, length, option_map, if◌then◌else◌};
-ghost use Rattle.ic_text.specs.FaultNumber.{fault_number};
+ghost use Rattle.std.specs.Prelude.{◌≡◌, ◌<◌, ◌∷◌, ◌++◌, ℕ, List, IfOk, OnOk, length};
 ghost use Rattle.ic_lines.specs.Lines.{lines};
-ghost use Rattle.ic_check.specs.Checking.{IsLinePlace, TellsLine, TellsLines, WarnsOf, behind_blanks, behind_budget, behind_first, behind_word, front_of};
-ghost use Rattle.ic_check.specs.inner.Fronts.{IsFront};
+ghost use Rattle.ic_check.specs.Checking.{TellsLine, TellsLines, WarnsOf};
 
-use crate::remarks::{known, place_text, put_fault};
+use crate::line_places::line_place;
+use crate::remarks::{known_fault, place_text, put_line_fault};
 use crate::warnings::put_warnings;
 use ic_commands::{Line, read_command};
 use ic_jobs::Command;
-use ic_places::Kind;
-use ic_text::{Detail, Misread, TextFault, find_flat_system, is_blank, is_word_byte};
 use std::alloc::{AllocError, Global};
 
 /// The first line of a text, and what stands behind its line feed.
@@ -27,122 +24,6 @@ fn split_line(text: &[u8]) -> (&[u8], &[u8])
         }
     }
     (text, &text[text.len()..])
-}
-
-/// A text behind the blanks with which it begins.
-fn behind_blanks(text: &[u8]) -> &[u8]
-    ensures rest { result.now ≡ behind_blanks text.now }
-    ensures shorter { length result.now ≤ length text.now }
-{
-    for (place, byte) in text.iter().enumerate() {
-        if !is_blank(*byte) {
-            return &text[place..];
-        }
-    }
-    &text[text.len()..]
-}
-
-/// A text behind the word with which it begins.
-fn behind_word(text: &[u8]) -> &[u8]
-    ensures rest { result.now ≡ behind_word text.now }
-    ensures shorter { length result.now ≤ length text.now }
-{
-    for (place, byte) in text.iter().enumerate() {
-        if !is_word_byte(*byte) {
-            return &text[place..];
-        }
-    }
-    &text[text.len()..]
-}
-
-/// A text behind its first word and the blanks around it.
-fn behind_first(text: &[u8]) -> &[u8]
-    ensures rest { result.now ≡ behind_first text.now }
-    ensures shorter { length result.now ≤ length text.now }
-{
-    behind_blanks(behind_word(behind_blanks(text)))
-}
-
-/// A text behind the budget with which it begins, if it does.
-fn behind_budget(text: &[u8]) -> &[u8]
-    ensures rest { result.now ≡ behind_budget text.now }
-    ensures shorter { length result.now ≤ length text.now }
-{
-    match text.first() {
-        Some(byte) => {
-            if byte.is_ascii_digit() {
-                behind_first(text)
-            } else {
-                text
-            }
-        }
-        None => text,
-    }
-}
-
-/// What stands in a submit before its system, or before what stands in the place of one.
-fn front_of(line: &[u8]) -> &[u8]
-    ensures { result.now ≡ front_of line.now }
-{
-    let system = behind_budget(behind_first(behind_first(line)));
-    &line[..line.len() - system.len()]
-}
-
-/// Whether a line is one, once the empty system stands behind its front, which is this.
-fn is_front(alloc: Global, front: &[u8]) -> Result<bool, AllocError>
-    ensures { IfOk result (λ known. IsFront front.now known) }
-{
-    let mut line = front.to_vec(alloc)?;
-    line.extend_from_slice(b"{}<|>")?;
-    match read_command(alloc, &line) {
-        Ok(_) => Ok(true),
-        Err(TextFault::Memory) => Err(AllocError),
-        Err(_) => Ok(false),
-    }
-}
-
-/// Where a fault of a line stands: in its system, where that has the fault.
-fn misread_of(alloc: Global, line: &[u8], fault: TextFault) -> Result<Misread, AllocError>
-    ensures fault { IfOk result (λ misread. misread.fault ≡ fault) }
-    ensures within { IfOk result
-        (λ misread. IfSome misread.place (λ at. at ≤ length line.now)) }
-    ensures place { IfOk result
-        (λ misread. IsLinePlace line.now fault misread.place misread.detail) }
-{
-    let untold = Misread {
-        fault,
-        place: None,
-        detail: Detail::Nothing,
-    };
-    let front = front_of(line);
-    if !is_front(alloc, front)? {
-        return Ok(untold);
-    }
-    let (_, system) = line.split_at(front.len());
-    let other = match find_flat_system(alloc, system) {
-        Ok(_) => return Ok(untold),
-        Err(other) => known(other)?,
-    };
-    Ok(Misread {
-        fault,
-        place: place_within(front.len(), fault, other),
-        detail: other.detail,
-    })
-}
-
-/// The place in a line of a fault of its system, which begins behind so many bytes, where it is the line's fault.
-fn place_within(front: usize, fault: TextFault, other: Misread) -> Option<usize>
-    requires { IfSome other.place (λ at. front + at < 2 ^ 64) }
-    ensures { result ≡ (if fault_number fault == fault_number other.fault
-        then option_map (λ at. front + at) other.place else None) }
-{
-    if fault.number() != other.fault.number() {
-        return None;
-    }
-    match other.place {
-        Some(at) => Some(front + at),
-        None => None,
-    }
 }
 
 /// Appends the warnings of what a line asks for.
@@ -177,10 +58,10 @@ fn check_line(
             put_asked(alloc, &place, &asked, out)?;
             Ok(false)
         }
-        Err(TextFault::Memory) => Err(AllocError),
         Err(fault) => {
-            let misread = misread_of(alloc, line, fault)?;
-            put_fault(alloc, file, Some(number), Kind::System, line, misread, out)?;
+            let fault = known_fault(fault)?;
+            let place = line_place(alloc, line, fault)?;
+            put_line_fault(alloc, file, number, line, fault, place, out)?;
             Ok(true)
         }
     }

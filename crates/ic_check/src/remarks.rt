@@ -1,9 +1,11 @@
 //! The lines of faults.
 
 ghost use Rattle.std.specs.Prelude.{◌≡◌, ◌≢◌, ◌≤◌, ◌++◌, IfOk, IfSome, OnOk, length};
-ghost use Rattle.ic_check.specs.Checking.{before, told_fault};
-ghost use Rattle.ic_check.specs.Telling.{fault_line, place_text, placed_line, spot_text};
+ghost use Rattle.ic_check.specs.Checking.{told_fault, told_line_fault};
+ghost use Rattle.ic_check.specs.Telling.{fault_line, line_limit_sentence, line_sentence, place_text, placed_line, sought_sentence, spot_text};
 
+use crate::due::{Due, LineLimit};
+use crate::line_places::{LineDetail, LinePlace};
 use ic_places::{Kind, column, last_line, line_number, sentence, told_at};
 use ic_text::{Misread, TextFault, print_fault, put_decimal};
 use std::alloc::{AllocError, Global};
@@ -22,16 +24,6 @@ pub(crate) fn place_text(
         put_decimal(number as u64, &mut text)?;
     }
     Ok(text)
-}
-
-/// How many lines stand before a text in its file.
-fn before(line: Option<usize>) -> usize
-    ensures { result ≡ before line }
-{
-    match line {
-        Some(line) => line.saturating_sub(1),
-        None => 0,
-    }
 }
 
 /// Appends the file, line and column of a place of a text, where these bytes stand before it.
@@ -53,47 +45,55 @@ fn put_spot(
     put_decimal(column(last_line(front)) as u64, out)
 }
 
-/// Appends the line of a fault of a text, with its place.
+/// Appends the line of a fault of a text, before which so many lines of the file stand, with its place.
 fn put_placed(
     alloc: Global,
     file: &[u8],
-    line: Option<usize>,
-    kind: Kind,
+    before: usize,
     text: &[u8],
     at: usize,
-    misread: Misread,
+    fault: TextFault,
+    words: &[u8],
     out: &mut Vec<u8>,
 ) -> Result<(), AllocError>
     requires { at ≤ length text.now }
-    ensures { OnOk result (out.new.items ≡ out.old.items ++ placed_line file.now (before line)
-        kind text.now at misread.fault misread.detail) }
+    ensures { OnOk result (out.new.items ≡ out.old.items ++ placed_line file.now before
+        text.now at fault words.now) }
 {
-    put_spot(alloc, file, before(line), &text[..told_at(text, at)], out)?;
+    put_spot(alloc, file, before, &text[..told_at(text, at)], out)?;
     out.extend_from_slice(b": ")?;
-    out.extend_from_slice(&print_fault(alloc, &misread.fault)?)?;
+    out.extend_from_slice(&print_fault(alloc, &fault)?)?;
     out.extend_from_slice(b": ")?;
-    let words = sentence(alloc, kind, text, at, misread)?;
-    out.extend_from_slice(&words)?;
+    out.extend_from_slice(words)?;
     out.push(b'\n')?;
     Ok(())
 }
 
-/// Appends the line of a fault whose place in its text isn't told.
+/// Appends the line of a fault of a file whose place isn't told.
 fn put_unplaced(
     alloc: Global,
     file: &[u8],
-    line: Option<usize>,
     fault: TextFault,
     out: &mut Vec<u8>,
 ) -> Result<(), AllocError>
-    ensures { OnOk result (out.new.items ≡ out.old.items
-        ++ fault_line (place_text file.now line) fault) }
+    ensures { OnOk result (out.new.items ≡ out.old.items ++ fault_line file.now fault) }
 {
-    out.extend_from_slice(&place_text(alloc, file, line)?)?;
+    out.extend_from_slice(file)?;
     out.extend_from_slice(b": ")?;
     out.extend_from_slice(&print_fault(alloc, &fault)?)?;
     out.push(b'\n')?;
     Ok(())
+}
+
+/// A fault, where no memory was wanted.
+pub(crate) fn known_fault(fault: TextFault) -> Result<TextFault, AllocError>
+    ensures same { IfOk result (λ known. known ≡ fault) }
+    ensures known { IfOk result (λ known. fault ≢ TextFault.Memory) }
+{
+    match fault {
+        TextFault::Memory => Err(AllocError),
+        _ => Ok(fault),
+    }
 }
 
 /// A refusal, where no memory was wanted.
@@ -107,22 +107,98 @@ pub(crate) fn known(misread: Misread) -> Result<Misread, AllocError>
     }
 }
 
-/// Appends the line of a fault of a text.
+/// Appends the line of a fault of a text that a whole file is.
 pub(crate) fn put_fault(
     alloc: Global,
     file: &[u8],
-    line: Option<usize>,
     kind: Kind,
     text: &[u8],
     misread: Misread,
     out: &mut Vec<u8>,
 ) -> Result<(), AllocError>
     requires { IfSome misread.place (λ at. at ≤ length text.now) }
-    ensures { OnOk result (out.new.items ≡ out.old.items ++ told_fault file.now line
+    ensures { OnOk result (out.new.items ≡ out.old.items ++ told_fault file.now
         kind text.now misread.place misread.fault misread.detail) }
 {
     match misread.place {
-        Some(at) => put_placed(alloc, file, line, kind, text, at, misread, out),
-        None => put_unplaced(alloc, file, line, misread.fault, out),
+        Some(at) => {
+            let words = sentence(alloc, kind, text, at, misread)?;
+            put_placed(alloc, file, 0, text, at, misread.fault, &words, out)
+        }
+        None => put_unplaced(alloc, file, misread.fault, out),
     }
+}
+
+/// What is looked for where a line doesn't go on.
+fn sought_sentence(due: Due) -> &'static [u8]
+    ensures { result.now ≡ sought_sentence due }
+{
+    match due {
+        Due::Command => {
+            b"a command is looked for here: submit, copy, pause, resume, cancel, fetch, list or run"
+        }
+        Due::Budget => b"a budget or { is looked for here",
+        Due::System => b"{ is looked for here",
+        Due::Number => b"a number is looked for here",
+        Due::Nothing => b"nothing is looked for here",
+        Due::SubmitName | Due::OldName | Due::NewName | Due::VerbName => {
+            b"a job's name is looked for here"
+        }
+    }
+}
+
+/// What is amiss where a limit of a line is passed, or of a word before its system.
+fn line_limit_sentence(limit: LineLimit) -> &'static [u8]
+    ensures { result.now ≡ line_limit_sentence limit }
+{
+    match limit {
+        LineLimit::LineBytes => b"a line has at most 262144 bytes",
+        LineLimit::NameBytes => b"a job's name has at most 16 bytes",
+        LineLimit::BudgetRounds => b"a budget is 1 to 4294967295",
+        LineLimit::RunRounds => b"a run makes at most 1000 rounds",
+    }
+}
+
+/// What is amiss at the place of a line's fault.
+fn line_sentence(
+    alloc: Global,
+    line: &[u8],
+    fault: TextFault,
+    place: LinePlace,
+) -> Result<Vec<u8>, AllocError>
+    requires { place.at ≤ length line.now }
+    ensures { IfOk result
+        (λ words. words.items ≡ line_sentence line.now fault place.at place.detail) }
+{
+    match place.detail {
+        LineDetail::Sought(due) => Vec::from_slice(alloc, sought_sentence(due)),
+        LineDetail::Passed(limit) => Vec::from_slice(alloc, line_limit_sentence(limit)),
+        LineDetail::Within(detail) => {
+            let misread = Misread {
+                fault,
+                place: Some(place.at),
+                detail,
+            };
+            sentence(alloc, Kind::System, line, place.at, misread)
+        }
+    }
+}
+
+/// Appends the line of a fault of the line of this number.
+pub(crate) fn put_line_fault(
+    alloc: Global,
+    file: &[u8],
+    number: usize,
+    line: &[u8],
+    fault: TextFault,
+    place: LinePlace,
+    out: &mut Vec<u8>,
+) -> Result<(), AllocError>
+    requires { place.at ≤ length line.now }
+    ensures { OnOk result (out.new.items ≡ out.old.items
+        ++ told_line_fault file.now number line.now place.at fault place.detail) }
+{
+    let words = line_sentence(alloc, line, fault, place)?;
+    let before = number.saturating_sub(1);
+    put_placed(alloc, file, before, line, place.at, fault, &words, out)
 }

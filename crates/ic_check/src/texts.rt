@@ -57,10 +57,10 @@ fn put_misread(
     requires { IfSome misread.place (λ at. at ≤ length text.now) }
     ensures faulty { IfOk result (λ faulty. faulty ≡ true) }
     ensures known { IfOk result (λ faulty. misread.fault ≢ Memory) }
-    ensures told { OnOk result (out.new.items ≡ out.old.items ++ told_fault file.now None kind
+    ensures told { OnOk result (out.new.items ≡ out.old.items ++ told_fault file.now kind
         text.now misread.place misread.fault misread.detail) }
 {
     let misread = known(misread)?;
-    put_fault(alloc, file, None, kind, text, misread, out)?;
+    put_fault(alloc, file, kind, text, misread, out)?;
     Ok(true)
 }

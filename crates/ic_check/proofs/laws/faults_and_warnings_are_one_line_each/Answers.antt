@@ -3,12 +3,15 @@ use Rattle.ic_rules.specs.System.{SystemParts}
 use Rattle.ic_jobs.specs.declared.command.Command.TheVariants as command
 use Rattle.ic_commands.specs.LineSense.{asked}
 use Rattle.ic_check.proofs.CommandWords.{each_of_four}
-use Rattle.ic_check.proofs.OneLine.{one_each, one_fault, path_free}
+use Rattle.ic_check.proofs.OneLine.{one_each, one_fault, one_line_fault, path_free}
 use Rattle.ic_check.proofs.ToldLines.{told_lines}
 use Rattle.ic_check.proofs.laws.faults_and_warnings_are_one_line_each.Goals as goal
 
 pub returns-clause-fault : goal.returns-clause-fault
-returns-clause-fault c = λ file text line place kind fault detail free. one_fault file line kind text place fault detail free
+returns-clause-fault c = λ file text place kind fault detail free. one_fault file kind text place fault detail free
+
+pub returns-clause-line_fault : goal.returns-clause-line_fault
+returns-clause-line_fault c = one_line_fault
 
 pub returns-clause-warnings : goal.returns-clause-warnings
 returns-clause-warnings c = one_each

@@ -1,6 +1,6 @@
 use Rattle.std.proofs.Common.{◌≡◌, drop}
-use Rattle.ic_check.specs.Checking.{behind_blanks}
-use Rattle.ic_check.proofs.lines.behind_blanks.Given as goal
+use Rattle.ic_check.specs.inner.Fronts.{behind_blanks}
+use Rattle.ic_check.proofs.front.behind_blanks.Given as goal
 
 -- what is left begins so far like the text
 abbrev pub invariant-loop-place : goal.invariant-loop-place

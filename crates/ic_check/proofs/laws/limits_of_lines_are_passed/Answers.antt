@@ -1,0 +1,15 @@
+use Rattle.ic_check.proofs.LinePlacing.{own_limit, submit_fits, whole_fine}
+use Rattle.ic_check.proofs.Looked.{limit_is_passed}
+use Rattle.ic_check.proofs.laws.limits_of_lines_are_passed.Goals as goal
+
+pub returns-clause-passed : goal.returns-clause-passed
+returns-clause-passed c = limit_is_passed
+
+pub returns-clause-refused : goal.returns-clause-refused
+returns-clause-refused c = own_limit
+
+pub returns-clause-submit : goal.returns-clause-submit
+returns-clause-submit c = submit_fits
+
+pub returns-clause-whole : goal.returns-clause-whole
+returns-clause-whole c = λ p fault whole none is. whole_fine p fault whole none is

@@ -1,0 +1,33 @@
+use Rattle.std.proofs.Common.{◌≡◌, Some, refl}
+use Rattle.std.specs.Prelude.{codes}
+use Rattle.ic_commands.specs.LineSource.{verb_text}
+use Rattle.ic_check.specs.inner.Fronts.{opened}
+use Rattle.ic_check.specs.declared.due.Due.TheVariants.{VerbName}
+use Rattle.ic_check.proofs.CommandWords.{each_of_four, four_origins}
+use Rattle.ic_check.proofs.Looked.{goes_with_system, goes_with_word, mark_looked_for, word_looked_for}
+use Rattle.ic_check.proofs.OwnWords.{KnownVerbs}
+use Rattle.ic_check.proofs.laws.what_is_looked_for_goes_on.Goals as goal
+
+pub returns-clause-word : goal.returns-clause-word
+returns-clause-word c =
+    let verbs = c.command_words_are.ensures.all_verbs in
+    let known : KnownVerbs = record {
+      opens = each_of_four (λ verb. opened (verb_text verb) ≡ Some VerbName) _ _ _ _ verbs refl refl refl refl;
+      all = four_origins verb_text _ _ _ _ (codes "pause") (codes "resume") (codes "cancel") (codes "fetch") verbs refl refl refl refl;
+    } in
+    λ due front w is. (
+      word_looked_for known c.lines_begin_with_command_words.ensures.each c.command_words_are.ensures.lines due front w is,
+      goes_with_word known due front w is,
+    )
+
+pub returns-clause-mark : goal.returns-clause-mark
+returns-clause-mark c =
+    let verbs = c.command_words_are.ensures.all_verbs in
+    let known : KnownVerbs = record {
+      opens = each_of_four (λ verb. opened (verb_text verb) ≡ Some VerbName) _ _ _ _ verbs refl refl refl refl;
+      all = four_origins verb_text _ _ _ _ (codes "pause") (codes "resume") (codes "cancel") (codes "fetch") verbs refl refl refl refl;
+    } in
+    mark_looked_for known
+
+pub returns-clause-system : goal.returns-clause-system
+returns-clause-system c = goes_with_system
