@@ -59,7 +59,8 @@ class AttendFaults(Attending):
         self.have_come((4, "memory"))
 
     def test_each_start_of_a_thread_is_refused_in_turn(self):
-        ends = [(4, "no thread"), (4, "pool")]
+        """A client's, a runner's or a worker's: none is started for a round."""
+        ends = [(4, "no thread")]
         for how in ("once", "on"):
             self.in_turn(self.attends(*self.paths), "thread", how, ends, spared=5)
         self.have_come(*ends)

@@ -1,8 +1,10 @@
-"""Workers stand from a serving's first round of 4,000 equations on, for all such rounds, and are joined at its end."""
+"""Workers stand from a serving's first round of 4,000 equations on, for all such rounds, and are joined at its end. Those of
+an attendance's runner stand from its beginning to its end."""
 
 import signal
 import time
 
+from attending import TOLD, Attending
 from disks import EMPTY, put, slot
 from known import LOOP, TWO, WAVES, WIDE
 from program import Server, heeds_signals
@@ -92,3 +94,41 @@ class Standing(Stops):
                 ran = server.stop(sign)
             self.equals(ran.command, "status and standard error", (-sign, b""), (ran.status, ran.err))
             self.found(ran, disk, self.may_be_left(ran, lines, (), every))
+
+
+class StandingCrews(Attending):
+    seconds = 15
+
+    def begun_and_joined(self, runners, workers, turns=10, refused=f"thread {10**9} once"):
+        """An attendance of both scripts, and which threads were begun (B) and joined (J) meanwhile, in order."""
+        log = self.room / "log"
+        ran = self.attended(self.attends(*self.paths, runners=runners, workers=workers, turns=turns), env=shimmed(refused, log))
+        return ran, "".join(it.kind for it in noted(log) if it.kind in "BJ")
+
+    def test_each_runner_has_one_crew_however_many_rounds_are_made(self):
+        for runners, workers in ((0, 2), (1, 1), (1, 64), (2, 2), (5, 7)):
+            for turns in (0, 10, 1000):
+                ran, came = self.begun_and_joined(runners, workers, turns)
+                self.ended(ran, TOLD)
+                threads = len(self.paths) + runners + runners * workers
+                self.equals(ran.command, "threads begun, and then joined", "B" * threads + "J" * threads, came)
+                least = turns - 2 if runners else 0
+                rounds = self.rounds()["loop"]
+                self.equals(ran.command, f"at least {least} rounds of `loop`, came {rounds}", True, rounds >= least)
+
+    def test_a_thread_that_cant_be_had_ends_all(self):
+        """Be it a client's, a runner's or a worker's: those that were begun are joined."""
+        runners, workers = 2, 3
+        threads = len(self.paths) + runners + runners * workers
+        for how in ("once", "on"):
+            for number in range(1, threads + 1):
+                ran, came = self.begun_and_joined(runners, workers, refused=f"thread {number} {how}")
+                self.ended(ran, err=["icserve: no thread"], status=4)
+                counted = came.count("B"), came.count("J")
+                self.equals(ran.command, f"threads begun and joined, the thread {number} {how}", (number - 1,) * 2, counted)
+
+    def test_all_threads_are_joined_where_memory_is_refused(self):
+        for call in sorted(self.draws().sample(range(1, 600), 40)):
+            ran, came = self.begun_and_joined(2, 3, refused=f"growth {call} once")
+            begun, joined = came.count("B"), came.count("J")
+            self.equals(ran.command, f"threads joined, of those that were begun, the growth {call}", begun, joined)

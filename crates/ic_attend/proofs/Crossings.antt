@@ -14,6 +14,14 @@ use Rattle.ic_jobs.proofs.state.State.TheSendSync as state
 use Rattle.ic_jobs.proofs.reply.Refusal.TheSendSync as refusal
 use Rattle.ic_rules.specs.contracts.rule.Rule as Rule
 use Rattle.ic_rules.specs.contracts.rule_set.RuleSet as RuleSet
+use Rattle.ic_round.specs.contracts.work.Work as Work
+use Rattle.ic_round.specs.contracts.work.Fired as Fired
+use Rattle.ic_crew.specs.contracts.answers.Answer as Answer
+use Rattle.ic_crew.specs.contracts.parcels.Parcel as Parcel
+use Rattle.ic_crew.specs.contracts.parcels.Returned as Returned
+use Rattle.ic_crew.specs.contracts.posts.Line as Line
+use Rattle.ic_crew.specs.contracts.posts.Post as Post
+use Rattle.ic_crew.specs.contracts.crews.Crew as Crew
 use Rattle.ic_flat.specs.contracts.flat.Flat as Flat
 use Rattle.ic_flat.specs.contracts.system.FlatSystem as FlatSystem
 use Rattle.ic_flat_round.specs.contracts.flat_rules.FlatRules as FlatRules
@@ -93,3 +101,29 @@ Command_row_send = search (FlatSystem_send, name.the_send, budget.the_send, send
 
 pub Desk_row_sync : (D : RattleType) (g : Ghosts D.Denot) → IsSend D → IsSync (Desk.the_row D g)
 Desk_row_sync D g s = let b = Book_send D g s in search (sendable, crosses) depth 40
+
+-- ---- crews
+
+Work_send : IsSend Work.the_field.row
+Work_send = search (sendable, crosses, terms) depth 40
+
+Fired_send : IsSend Fired.the_field.row
+Fired_send = search (sendable, crosses, terms) depth 40
+
+Answer_send : IsSend Answer.the_field.row
+Answer_send = search (RuleSet_send, RuleSet_sync, Work_send, Fired_send, sendable, crosses) depth 40
+
+Parcel_send : IsSend Parcel.the_field.row
+Parcel_send = search (RuleSet_send, RuleSet_sync, Work_send, sendable, crosses) depth 40
+
+Returned_send : IsSend Returned.the_field.row
+Returned_send = search (Answer_send, sendable, crosses) depth 40
+
+pub Post_send : IsSend Post.the_field.row
+Post_send = search (Parcel_send, Returned_send, sendable, crosses) depth 80 fits 100000
+
+Line_send : IsSend Line.the_field.row
+Line_send = search (Parcel_send, Returned_send, sendable, crosses) depth 80 fits 100000
+
+pub Crew_send : IsSend Crew.the_field.row
+Crew_send = search (Line_send, sendable, crosses) depth 40

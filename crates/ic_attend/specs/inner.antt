@@ -1,3 +1,4 @@
 -- What only contracts of private functions cite.
 pub mod Speech
 pub mod Gathering
+pub mod Crews

@@ -1,6 +1,6 @@
 //! A disk that clients and runners attend to.
 
-ghost use Rattle.std.specs.Prelude.{◌≡◌, map, vec_items, vec_len, IsTrue, IfOk};
+ghost use Rattle.std.specs.Prelude.{◌≡◌, ◌<◌, map, vec_items, vec_len, IsTrue, IfOk};
 ghost use Rattle.ic_slots.specs.Held.{IsHeld, the_table};
 ghost use Rattle.ic_desk.specs.Book.{start_of};
 ghost use Rattle.ic_attend.specs.OneHistory.{IsOneHistory};
@@ -9,6 +9,7 @@ ghost use Rattle.ic_attend.specs.Faults.{IfUnopened, IfUnbegun, IfStopped, IfTor
 ghost use Rattle.ic_attend.specs.inner.Gathering.{IsReady, IsBegun};
 
 use crate::attended::Attended;
+use crate::crews::{Enlisted, crews_for};
 use crate::desk::Desk;
 use crate::fault::AttendFault;
 use crate::gathered::Gathered;
@@ -24,9 +25,10 @@ use std::sync::Wait;
 use std::thread::Threads;
 
 /// Opens a disk, and gives each script in a thread of its own, as the client of its number from 0;
-/// `runners` further threads make the rounds that are due, each by so many workers. What they leave
-/// is one legal history. A runner goes on until all scripts have ended, and then for as many rounds
-/// as it has turns, while any is due. The gate is told of each answer and passed by each work.
+/// `runners` further threads make the rounds that are due. Each has a crew of so many workers, but no
+/// more than 64, which stand in threads of their own for all its rounds. What they leave is one legal
+/// history. A runner goes on until all scripts have ended, and then for as many rounds as it has
+/// turns, while any is due. The gate is told of each answer and passed by each work.
 pub fn attend<R: Threads + Wait + Sync, D: Disk + Send, G: Gate>(
     rt: &R,
     alloc: Global,
@@ -61,30 +63,33 @@ pub fn attend<R: Threads + Wait + Sync, D: Disk + Send, G: Gate>(
         Ok(book) => book,
         Err(fault) => return Err(AttendFault::Open(fault)),
     };
-    let (opening, room) = match prepare(alloc, &book, scripts.len(), runners) {
+    let duty = Duty { turns, workers };
+    let (opening, room, crews) = match prepare(alloc, &book, scripts.len(), runners, workers) {
         Ok(prepared) => prepared,
         Err(_) => return Err(AttendFault::Memory(book)),
     };
-    let duty = Duty { turns, workers };
     attend_book(
-        rt, alloc, book, &opening, room, scripts, runners, duty, gate,
+        rt, alloc, book, &opening, room, scripts, runners, crews, duty, gate,
     )
 }
 
-/// A copy of the table with which a book was opened, and room for what so many clients and runners
-/// hand over.
+/// A copy of the table with which a book was opened, room for what so many clients and runners hand
+/// over, and a crew of so many workers for each runner.
 fn prepare<D: Disk>(
     alloc: Global,
     book: &Book<D>,
     clients: usize,
     runners: usize,
-) -> Result<(Table, Gathered), AllocError>
+    workers: usize,
+) -> Result<(Table, Gathered, Vec<Enlisted>), AllocError>
     ensures opening { IfOk result (λ made. made.0 ≡ start_of book.now) }
     ensures room { IfOk result (λ made. IsReady clients runners made.1) }
+    ensures crews { IfOk result (λ made. 0 < workers → vec_len made.2 ≡ runners) }
 {
     let opening = book.start().copy(alloc)?;
     let room = Gathered::with_room(alloc, clients, runners)?;
-    Ok((opening, room))
+    let crews = crews_for(alloc, runners, workers)?;
+    Ok((opening, room, crews))
 }
 
 /// The same over a book that was opened with this table.
@@ -96,10 +101,12 @@ fn attend_book<R: Threads + Wait + Sync, D: Disk + Send, G: Gate>(
     room: Gathered,
     scripts: Vec<Vec<Command>>,
     runners: usize,
+    crews: Vec<Enlisted>,
     duty: Duty,
     gate: &G,
 ) -> Result<Attended<D>, AttendFault<D>>
-    requires { IsReady (vec_len scripts) runners room }
+    requires room { IsReady (vec_len scripts) runners room }
+    requires crews { 0 < duty.workers → vec_len crews ≡ runners }
     ensures start { IfOk result (λ attended. start_of attended.book ≡ opening.now) }
     ensures history { IfOk result (λ attended.
         IsOneHistory (map vec_items scripts.items) runners duty.turns attended) }
@@ -112,7 +119,9 @@ fn attend_book<R: Threads + Wait + Sync, D: Disk + Send, G: Gate>(
 {
     let signs = Signs::new(scripts.len() as u64);
     let desk = Desk::new(book);
-    let gathered = gather(rt, alloc, &desk, &signs, gate, scripts, runners, duty, room);
+    let gathered = gather(
+        rt, alloc, &desk, &signs, gate, scripts, runners, crews, duty, room,
+    );
     let is_complete = gathered.complete;
     let attended = Attended {
         book: desk.finish(),

@@ -1,21 +1,25 @@
-//! A runner: it takes rounds, makes them outside the lock, and lands them.
+//! A runner: it takes rounds, has its crew make them outside the lock, and lands them.
 
-ghost use Rattle.std.specs.Prelude.{IfErr};
+ghost use Rattle.std.specs.Prelude.{◌≡◌, IfErr, OnOk, false};
+ghost use Rattle.ic_pool.specs.Flight.{is_blocked};
+ghost use Rattle.ic_attend.specs.declared.attended.RunnerEnd.TheVariants.{Pool as by_pool};
 ghost use Rattle.ic_attend.specs.Ends.{EndMayBe};
+ghost use Rattle.ic_attend.specs.inner.Crews.{EndMayBeWith, IsReadyFor, IsUnspent, StaysReady};
 
 use crate::attended::RunnerEnd;
 use crate::desk::Desk;
 use crate::signs::Signs;
+use ic_crew::Crew;
 use ic_disk::Disk;
 use ic_jobs::Landed;
-use ic_pool::{Flight, Gate, play};
+use ic_pool::{Flight, Gate, Played, PoolFault};
 use std::alloc::Global;
 use std::sync::Wait;
 use std::thread;
 use std::thread::Threads;
 
-/// What each runner is to do: so many turns once all scripts have ended, each round by so many
-/// workers.
+/// What each runner is to do: so many turns once all scripts have ended, each round by a crew of so
+/// many workers.
 #[derive(Clone, Copy)]
 pub(crate) struct Duty {
     pub turns: usize,
@@ -56,17 +60,19 @@ impl Laps {
     }
 }
 
-/// Takes the rounds that are due, job after job, and lands them. While scripts go on it looks again
-/// where nothing is due. Once all have ended each round that it takes is a turn. The gate is told of
-/// each round that moved its job, and each halt.
+/// Takes the rounds that are due, job after job, has them made by the crew, and lands them. While
+/// scripts go on it looks again where nothing is due. Once all have ended each round that it takes is
+/// a turn. The gate is told of each round that moved its job, and each halt. The crew ends with it.
 pub(crate) fn make_rounds<R: Threads + Wait, D: Disk, G: Gate>(
     rt: &R,
     alloc: Global,
     desk: &Desk<D>,
     signs: &Signs,
     gate: &G,
+    mut crew: Option<Crew>,
     duty: Duty,
 ) -> RunnerEnd
+    requires { IsReadyFor duty.workers crew }
     ensures { EndMayBe duty.workers result }
 {
     let mut laps = Laps::new();
@@ -82,9 +88,8 @@ pub(crate) fn make_rounds<R: Threads + Wait, D: Disk, G: Gate>(
         match desk.take(rt, laps.next) {
             Ok(Some(flight)) => {
                 laps.meet(flight.place());
-                match make_round(rt, alloc, desk, gate, &flight, duty.workers) {
-                    Ok(Landed::Moved) => gate.landed(laps.running()),
-                    Ok(Landed::Stale) => {}
+                match make_round(rt, alloc, desk, &mut crew, &flight) {
+                    Ok(landed) => tell(gate, landed, laps.running()),
                     Err(end) => return end,
                 }
             }
@@ -97,23 +102,30 @@ pub(crate) fn make_rounds<R: Threads + Wait, D: Disk, G: Gate>(
     unreachable!()
 }
 
-/// Makes the round of a flight and lands it, or halts its job where it can't be made. The book is
+/// Tells the gate of a round that moved its job, or a halt.
+fn tell<G: Gate>(gate: &G, landed: Landed, running: usize) {
+    if landed == Landed::Moved {
+        gate.landed(running);
+    }
+}
+
+/// Has the round of a flight made and lands it, or halts its job where it can't be made. The book is
 /// free while the round is made.
-fn make_round<R: Threads + Wait, D: Disk, G: Gate>(
+fn make_round<R: Wait, D: Disk>(
     rt: &R,
     alloc: Global,
     desk: &Desk<D>,
-    gate: &G,
+    crew: &mut Option<Crew>,
     flight: &Flight,
-    workers: usize,
 ) -> Result<Landed, RunnerEnd>
-    ensures { IfErr result (EndMayBe workers) }
+    requires { IsUnspent crew.old }
+    ensures end { IfErr result (EndMayBeWith crew.old) }
+    ensures ready { OnOk result (StaysReady crew.old crew.new) }
 {
-    ic_pool::laws::refused_flights_are_blocked();
     let landed = if flight.blocked() {
         desk.halt(rt, flight)
     } else {
-        match play(rt, alloc, flight, workers, gate) {
+        match play(rt, alloc, crew, flight) {
             Ok(played) => desk.land(rt, played),
             Err(fault) => return Err(RunnerEnd::Pool(fault)),
         }
@@ -121,5 +133,24 @@ fn make_round<R: Threads + Wait, D: Disk, G: Gate>(
     match landed {
         Ok(landed) => Ok(landed),
         Err(fault) => Err(RunnerEnd::Book(fault)),
+    }
+}
+
+/// The round of a flight by a crew; no workers where there is none.
+fn play<R: Wait>(
+    rt: &R,
+    alloc: Global,
+    crew: &mut Option<Crew>,
+    flight: &Flight,
+) -> Result<Played, PoolFault>
+    requires free { is_blocked flight.now ≡ false }
+    requires unspent { IsUnspent crew.old }
+    ensures end { IfErr result (λ fault. EndMayBeWith crew.old (by_pool fault)) }
+    ensures ready { OnOk result (StaysReady crew.old crew.new) }
+{
+    ic_pool::laws::blocked_flights_are_refused();
+    match crew {
+        Some(crew) => crew.play(rt, alloc, flight),
+        None => Err(PoolFault::NoWorkers),
     }
 }

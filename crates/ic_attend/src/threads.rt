@@ -1,14 +1,16 @@
-//! The threads of an attendance: one for each script, one for each runner. All are started before the
-//! first is joined, and all have ended when they are gathered.
+//! The threads of an attendance: one for each script, one for each runner and one for each worker of
+//! its crew. All are started before the first is joined, and all have ended when they are gathered.
 
-ghost use Rattle.std.specs.Prelude.{◌≡◌, ◌≤◌, map, vec_items, vec_len, vec_capacity, IfSome, length};
+ghost use Rattle.std.specs.Prelude.{◌≡◌, ◌<◌, None, map, vec_items, vec_len, vec_capacity, IfSome, length};
 ghost use Rattle.std.specs.List.{All};
 ghost use Rattle.ic_attend.specs.Ends.{EndMayBe};
+ghost use Rattle.ic_attend.specs.inner.Crews.{IsReadyFor};
 ghost use Rattle.ic_attend.specs.inner.Speech.{Speaks};
 ghost use Rattle.ic_attend.specs.inner.Gathering.{HasGathered, IsReady};
 
 use crate::attended::RunnerEnd;
 use crate::client::{Speech, speak};
+use crate::crews::{Enlisted, Standing, join_each, start_crew};
 use crate::desk::Desk;
 use crate::gathered::Gathered;
 use crate::runner::{Duty, make_rounds};
@@ -20,7 +22,7 @@ use std::alloc::Global;
 use std::snapshot::Snapshot;
 use std::sync::Wait;
 use std::thread;
-use std::thread::{Promise, PromisedHandle, Scope, Threads};
+use std::thread::{JoinHandle, Promise, PromisedHandle, Scope, Threads};
 
 /// What a client's thread promises: to keep to its script.
 #[derive(Drop)]
@@ -46,6 +48,13 @@ impl Promise<RunnerEnd> for Ending {
     ghost kept_by = { λ p end. EndMayBe p.workers end };
 }
 
+/// A runner's thread, and those of its crew.
+#[derive(Drop)]
+struct Runner {
+    handle: PromisedHandle<RunnerEnd, Ending>,
+    threads: Vec<JoinHandle<()>>,
+}
+
 /// Gives the scripts and makes rounds, each script and each runner in a thread of its own. All
 /// threads that were started have ended when this returns.
 pub(crate) fn gather<R: Threads + Wait + Sync, D: Disk + Send, G: Gate>(
@@ -56,21 +65,24 @@ pub(crate) fn gather<R: Threads + Wait + Sync, D: Disk + Send, G: Gate>(
     gate: &G,
     scripts: Vec<Vec<Command>>,
     runners: usize,
+    crews: Vec<Enlisted>,
     duty: Duty,
     gathered: Gathered,
 ) -> Gathered
-    requires { IsReady (vec_len scripts) runners gathered }
+    requires ready { IsReady (vec_len scripts) runners gathered }
+    requires crews { 0 < duty.workers → vec_len crews ≡ runners }
     ensures { HasGathered (map vec_items scripts.items) runners duty.workers result }
 {
     thread::scope(
         thread::scope_env(),
         rt,
         |scope| -> Gathered
-            requires { IsReady (vec_len scripts) runners gathered }
+            requires ready { IsReady (vec_len scripts) runners gathered }
+            requires crews { 0 < duty.workers → vec_len crews ≡ runners }
             ensures { HasGathered (map vec_items scripts.items) runners duty.workers result }
         {
             start_clients(
-                rt, alloc, scope, desk, signs, gate, scripts, runners, duty, gathered,
+                rt, alloc, scope, desk, signs, gate, scripts, runners, crews, duty, gathered,
             )
         },
     )
@@ -87,22 +99,26 @@ fn start_clients<'s, R: Threads + Wait + Sync, E, D: Disk + Send, G: Gate>(
     gate: &'s G,
     mut scripts: Vec<Vec<Command>>,
     runners: usize,
+    crews: Vec<Enlisted>,
     duty: Duty,
     gathered: Gathered,
 ) -> Gathered
-    requires { IsReady (vec_len scripts) runners gathered }
+    requires ready { IsReady (vec_len scripts) runners gathered }
+    requires crews { 0 < duty.workers → vec_len crews ≡ runners }
     ensures gathered { HasGathered (map vec_items scripts.items) runners duty.workers result }
     ensures len { vec_len result.answers ≡ vec_len scripts }
     ensures room { vec_capacity result.answers ≡ vec_capacity gathered.answers }
 {
     let Some(script) = scripts.pop() else {
-        return start_runners(rt, alloc, scope, desk, signs, gate, runners, duty, gathered);
+        return start_runners(
+            rt, alloc, scope, desk, signs, gate, runners, crews, duty, gathered,
+        );
     };
     let who = scripts.len() as u64;
     let commands = Snapshot::of(&script);
     let client = start_client(rt, alloc, scope, desk, signs, gate, who, script);
     let mut gathered = start_clients(
-        rt, alloc, scope, desk, signs, gate, scripts, runners, duty, gathered,
+        rt, alloc, scope, desk, signs, gate, scripts, runners, crews, duty, gathered,
     );
     let speech = hear(rt, alloc, client, commands);
     gathered.add_speech(speech);
@@ -162,7 +178,7 @@ fn hear<R: Threads>(
     }
 }
 
-/// Starts a runner, then the others, and joins it once these are joined.
+/// Starts a runner and its crew, then the others, and joins them once these are joined.
 fn start_runners<'s, R: Threads + Wait + Sync, E, D: Disk + Send, G: Gate>(
     rt: &'s R,
     alloc: Global,
@@ -171,10 +187,12 @@ fn start_runners<'s, R: Threads + Wait + Sync, E, D: Disk + Send, G: Gate>(
     signs: &'s Signs,
     gate: &'s G,
     runners: usize,
+    mut crews: Vec<Enlisted>,
     duty: Duty,
     gathered: Gathered,
 ) -> Gathered
-    requires { IsReady 0 runners gathered }
+    requires ready { IsReady 0 runners gathered }
+    requires crews { 0 < duty.workers → vec_len crews ≡ runners }
     ensures count { length result.ends.items ≡ runners }
     ensures may_be { All (EndMayBe duty.workers) result.ends.items }
     ensures len { vec_len result.ends ≡ runners }
@@ -184,23 +202,18 @@ fn start_runners<'s, R: Threads + Wait + Sync, E, D: Disk + Send, G: Gate>(
     if runners == 0 {
         return gathered;
     }
-    let runner = start_runner(rt, alloc, scope, desk, signs, gate, duty);
+    let crew = crews.pop();
+    let runner = start_runner(rt, alloc, scope, desk, signs, gate, crew, duty);
+    let others = runners - 1;
     let mut gathered = start_runners(
-        rt,
-        alloc,
-        scope,
-        desk,
-        signs,
-        gate,
-        runners - 1,
-        duty,
-        gathered,
+        rt, alloc, scope, desk, signs, gate, others, crews, duty, gathered,
     );
     gathered.add_end(await_end(rt, runner, duty.workers));
     gathered
 }
 
-/// Starts a runner, unless the threads are told to stop. Where no thread can be had it tells them.
+/// Starts a runner and its crew, unless the threads are told to stop. Where no thread can be had it
+/// tells them.
 fn start_runner<'s, R: Threads + Wait + Sync, E, D: Disk + Send, G: Gate>(
     rt: &'s R,
     alloc: Global,
@@ -208,40 +221,65 @@ fn start_runner<'s, R: Threads + Wait + Sync, E, D: Disk + Send, G: Gate>(
     desk: &'s Desk<D>,
     signs: &'s Signs,
     gate: &'s G,
+    crew: Option<Enlisted>,
     duty: Duty,
-) -> Option<PromisedHandle<RunnerEnd, Ending>>
-    ensures { IfSome result (λ runner. runner.promise.workers ≡ duty.workers) }
+) -> Option<Runner>
+    requires { crew ≡ None → duty.workers ≡ 0 }
+    ensures { IfSome result (λ runner. runner.handle.promise.workers ≡ duty.workers) }
 {
     if signs.are_told_to_stop() {
         return None;
     }
+    let runner = start_with_crew(rt, alloc, scope, desk, signs, gate, crew, duty);
+    if runner.is_none() {
+        signs.tell_to_stop();
+    }
+    runner
+}
+
+/// Starts a crew and then its runner. Where no thread can be had, those of the crew are joined.
+fn start_with_crew<'s, R: Threads + Wait + Sync, E, D: Disk + Send, G: Gate>(
+    rt: &'s R,
+    alloc: Global,
+    scope: &'s Scope<'s, E>,
+    desk: &'s Desk<D>,
+    signs: &'s Signs,
+    gate: &'s G,
+    crew: Option<Enlisted>,
+    duty: Duty,
+) -> Option<Runner>
+    requires { crew ≡ None → duty.workers ≡ 0 }
+    ensures { IfSome result (λ runner. runner.handle.promise.workers ≡ duty.workers) }
+{
+    let Standing { crew, threads } = start_crew(rt, alloc, scope, gate, crew)?;
     let promise = Ending {
         workers: duty.workers,
     };
     let started = scope.spawn_with(
         promise,
         move || -> RunnerEnd
+            requires { IsReadyFor duty.workers crew }
             ensures { EndMayBe duty.workers result }
-        { make_rounds(rt, alloc, desk, signs, gate, duty) },
+        { make_rounds(rt, alloc, desk, signs, gate, crew, duty) },
     );
-    let Ok(runner) = started else {
-        signs.tell_to_stop();
-        return None;
-    };
-    Some(runner)
+    match started {
+        Ok(handle) => Some(Runner { handle, threads }),
+        Err(refused) => {
+            // The crew goes with what was refused, so that its workers end.
+            drop(refused);
+            join_each(rt, threads);
+            None
+        }
+    }
 }
 
-/// How a runner ended: none where its thread wasn't started.
-fn await_end<R: Threads>(
-    rt: &R,
-    runner: Option<PromisedHandle<RunnerEnd, Ending>>,
-    workers: usize,
-) -> Option<RunnerEnd>
-    requires { IfSome runner (λ started. started.promise.workers ≡ workers) }
+/// How a runner ended, once its crew is joined too: none where it wasn't started.
+fn await_end<R: Threads>(rt: &R, runner: Option<Runner>, workers: usize) -> Option<RunnerEnd>
+    requires { IfSome runner (λ started. started.handle.promise.workers ≡ workers) }
     ensures { IfSome result (EndMayBe workers) }
 {
-    match runner {
-        Some(runner) => Some(runner.join(rt)),
-        None => None,
-    }
+    let Runner { handle, threads } = runner?;
+    let end = handle.join(rt);
+    join_each(rt, threads);
+    Some(end)
 }
