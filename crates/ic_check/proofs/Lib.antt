@@ -17,6 +17,7 @@ pub mod FrontSteps
 pub mod LinePlacing
 pub mod Looked
 pub mod Submits
+pub mod OnePlace
 pub mod Numbered
 pub mod Looks
 pub mod OneLine

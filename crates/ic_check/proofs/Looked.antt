@@ -107,14 +107,14 @@ goes_with_system due front s is wants phrase =
 abbrev PassesAt : LinePhrase → ℕ → LineLimit → Type 0
 PassesAt p k limit = (w : List ℕ) × (slice_get (words_among (line_words p)) k ≡ Some w) × Passes limit w
 
-abbrev Found : Type 0
+abbrev pub Found : Type 0
 Found = Option (ℕ × LineLimit)
 
-abbrev place_or : Found → ℕ
+abbrev pub place_or : Found → ℕ
 place_or None = 0
 place_or (Some x) = x.0
 
-abbrev limit_or : LineLimit → Found → LineLimit
+abbrev pub limit_or : LineLimit → Found → LineLimit
 limit_or other None = other
 limit_or other (Some x) = x.1
 

@@ -15,7 +15,7 @@ use Rattle.ic_check.proofs.Apart.{IsApart, between_front, between_within, tokens
 -- ---- the word with which a text begins
 
 module _ (b : ℕ) (bs : List ℕ) where
-  one_more : is_word_byte b ≡ true → first_word (b ∷ bs) ≡ b ∷ first_word bs
+  pub one_more : is_word_byte b ≡ true → first_word (b ∷ bs) ≡ b ∷ first_word bs
   one_more is = ap (λ x. if x then b ∷ first_word bs else []) is
 
   no_more : is_word_byte b ≡ false → first_word (b ∷ bs) ≡ []
@@ -138,7 +138,7 @@ heads (c ∷ cs) at filled some most between = by (is_word_byte c) refl
 
 -- ---- behind a front with these tokens
 
-among_both : (ts us : List Token) → words_among (ts ++ us) ≡ words_among ts ++ words_among us
+pub among_both : (ts us : List Token) → words_among (ts ++ us) ≡ words_among ts ++ words_among us
 among_both [] us = refl
 among_both (word w ∷ ts) us = ap (λ (l : List (List ℕ)). w ∷ l) (among_both ts us)
 among_both (mark m ∷ ts) us = among_both ts us

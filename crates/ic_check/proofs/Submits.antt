@@ -78,7 +78,7 @@ joined_last ys d x apart =
     ∙ sym (followed-followed (tokens ys) (followed at (Some [])) (tokens x))
     ∙ ap (λ o. followed o (tokens x)) (sym (tokens-parted ys [] d apart))
 
-tokens_joined : (a b : List ℕ) → is_between (a ++ b) (length a) ≡ true → (x y : List ℕ) → b ≡ x ++ y → tokens (a ++ x) ≡ followed (tokens a) (tokens x)
+pub tokens_joined : (a b : List ℕ) → is_between (a ++ b) (length a) ≡ true → (x y : List ℕ) → b ≡ x ++ y → tokens (a ++ x) ≡ followed (tokens a) (tokens x)
 tokens_joined a b between [] y e = ap tokens (append-nil a) ∙ sym (nothing_behind (tokens a))
 tokens_joined a b between (c ∷ x) y e = by (is_word_byte c) refl
   where

@@ -19,7 +19,7 @@ ghost use Rattle.ic_places.specs.Lines.{column};
 ghost use Rattle.ic_places.specs.Sights.{is_command};
 ghost use Rattle.ic_places.specs.declared.telling.Kind.{Kind};
 ghost use Rattle.ic_check.specs.Checking.{Tells, TellsLine, TellsLines, before, form_of, told_fault, told_line_fault};
-ghost use Rattle.ic_check.specs.LinePlaces.{IsDue, IsLinePlace, IsWhole, is_system_due, own_passed};
+ghost use Rattle.ic_check.specs.LinePlaces.{IsDue, IsLinePlace, IsOwnPlace, IsWhole, is_system_due, own_passed};
 ghost use Rattle.ic_check.specs.declared.due.Due.{Due};
 ghost use Rattle.ic_check.specs.declared.due.LineLimit.{LineLimit};
 ghost use Rattle.ic_check.specs.declared.due.LineLimit.TheVariants.{LineBytes, NameBytes, BudgetRounds, RunRounds};
@@ -207,7 +207,8 @@ pub fn what_is_looked_for_goes_on()
 }
 
 /// A limit that a line is told to pass with a word is passed by this word, and for that the line is refused. A submit
-/// whose words before the system pass none is read as its system is, and another line that passes none isn't refused.
+/// whose words before the system pass none is read as its system is, and another line that passes none isn't refused. A line is
+/// told one such limit, at one place.
 pub fn limits_of_lines_are_passed()
     ensures passed { (p : LinePhrase) (k : ℕ) (limit : LineLimit) → own_passed p ≡ Some (k, limit)
         → (w : List ℕ) × (slice_get (words_among (line_words p)) k ≡ Some w) × Passes limit w }
@@ -218,7 +219,11 @@ pub fn limits_of_lines_are_passed()
         ≡ submitted name (option_map number_in most) (system_sense s) }
     ensures whole { (p : LinePhrase) (fault : TextFault) → IsWhole p → own_passed p ≡ None
         → line_sense p ≢ Err fault }
-{}
+    ensures one { (line : List ℕ) (l m : LineLimit) (a b : ℕ) → IsOwnPlace line l a
+        → IsOwnPlace line m b → (l ≡ m) × (a ≡ b) }
+{
+    ic_commands::laws::one_line_reading();
+}
 
 /// The sentence of each limit of a line tells its number.
 pub fn limits_of_lines_are_told_with_their_numbers()

@@ -1,5 +1,6 @@
 use Rattle.ic_check.proofs.LinePlacing.{own_limit, submit_fits, whole_fine}
 use Rattle.ic_check.proofs.Looked.{limit_is_passed}
+use Rattle.ic_check.proofs.OnePlace.{one_own_place}
 use Rattle.ic_check.proofs.laws.limits_of_lines_are_passed.Goals as goal
 
 pub returns-clause-passed : goal.returns-clause-passed
@@ -13,3 +14,6 @@ returns-clause-submit c = submit_fits
 
 pub returns-clause-whole : goal.returns-clause-whole
 returns-clause-whole c = λ p fault whole none is. whole_fine p fault whole none is
+
+pub returns-clause-one : goal.returns-clause-one
+returns-clause-one c = one_own_place c.one_line_reading.ensures.source
