@@ -112,7 +112,7 @@ class StandingCrews(Attending):
                 self.ended(ran, TOLD)
                 threads = len(self.paths) + runners + runners * workers
                 self.equals(ran.command, "threads begun, and then joined", "B" * threads + "J" * threads, came)
-                least = turns - 2 if runners else 0
+                least = max(0, turns - 2) if runners else 0
                 rounds = self.rounds()["loop"]
                 self.equals(ran.command, f"at least {least} rounds of `loop`, came {rounds}", True, rounds >= least)
 
@@ -128,7 +128,10 @@ class StandingCrews(Attending):
                 self.equals(ran.command, f"threads begun and joined, the thread {number} {how}", (number - 1,) * 2, counted)
 
     def test_all_threads_are_joined_where_memory_is_refused(self):
+        most = 0
         for call in sorted(self.draws().sample(range(1, 600), 40)):
             ran, came = self.begun_and_joined(2, 3, refused=f"growth {call} once")
             begun, joined = came.count("B"), came.count("J")
             self.equals(ran.command, f"threads joined, of those that were begun, the growth {call}", begun, joined)
+            most = max(most, begun)
+        self.equals("40 refused growths", "threads begun at most", len(self.paths) + 2 + 2 * 3, most)
