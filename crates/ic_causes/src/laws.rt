@@ -120,7 +120,7 @@ pub fn reasons_are()
     ensures untold { (c : FileCall) → reason_of c Uncategorized None ≡ reason.Untold }
 {}
 
-/// That another server has the file open is told of a lock alone, and of each that is refused so.
+/// That another server has the file open is told of a lock alone.
 pub fn a_lock_alone_is_told_as_held()
     ensures only { (c : FileCall) (kind : ErrorKind) (number : Option ℤ)
         → reason_of c kind number ≡ reason.Locked → (c ≡ call.Lock) × (kind ≡ WouldBlock) }

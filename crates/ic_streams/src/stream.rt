@@ -20,8 +20,8 @@ const CHUNK: usize = 8_192;
 
 /// Settles the configuration that the reader gives, and writes it as a line.
 ///
-/// Nothing is written before the text is read and settled, and where the writer fails a front of the line. A text of more than 262,144 bytes is `TextFault::Limit`, and
-/// at most 262,145 bytes are read.
+/// Nothing is written before the text is read and settled. Where the writer fails, a front of the line is written. A text
+/// of more than 262,144 bytes is `TextFault::Limit`, and at most 262,145 bytes are read.
 pub fn settle_stream<R: Read, W: Write>(
     alloc: Global,
     reader: &mut R,
@@ -43,7 +43,8 @@ pub fn settle_stream<R: Read, W: Write>(
 
 /// Makes one round of the system that the reader gives, and writes its configuration as a line.
 ///
-/// Nothing is written before the text is read and the round is made. The reader is read as by `settle_stream`.
+/// Nothing is written before the text is read and the round is made. Where the writer fails, a front of the line is
+/// written. The reader is read as by `settle_stream`.
 pub fn once_stream<R: Read, W: Write>(
     alloc: Global,
     reader: &mut R,
