@@ -31,12 +31,12 @@ RoundTells book Memory = Unit {0}
 RoundTells book Device = ⊥
 
 -- What the refusal of a round says of the workers. A job that can't make a round is halted, so its
--- refusals never come.
+-- refusals never come; and workers stand before a round is asked of them, so none lacks a thread.
 abbrev pub PlayTells : (workers : ℕ) → PoolFault → Type 0
 PlayTells workers of_pool.NoWorkers = workers ≡ 0
 PlayTells workers of_pool.Overgrown = ⊥
 PlayTells workers of_pool.NamesOut = ⊥
-PlayTells workers of_pool.NoThread = Unit {0}
+PlayTells workers of_pool.NoThread = ⊥
 PlayTells workers of_pool.Memory = Unit {0}
 PlayTells workers of_pool.Lost = Unit {0}
 PlayTells workers of_pool.Stranger = Unit {0}

@@ -91,6 +91,7 @@ fn play_tells(fault: PoolFault, workers: usize) -> bool
     match fault {
         PoolFault::NoWorkers => workers == 0,
         PoolFault::Overgrown | PoolFault::NamesOut | PoolFault::RoundsOut => false,
-        PoolFault::NoThread | PoolFault::Memory | PoolFault::Lost | PoolFault::Stranger => true,
+        PoolFault::NoThread => false,
+        PoolFault::Memory | PoolFault::Lost | PoolFault::Stranger => true,
     }
 }
