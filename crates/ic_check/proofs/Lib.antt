@@ -18,6 +18,11 @@ pub mod LinePlacing
 pub mod Looked
 pub mod Submits
 pub mod OnePlace
+pub mod SystemEnds
+pub mod Unfinished
+pub mod OneFault
+pub mod Sought
+pub mod Sentences
 pub mod Numbered
 pub mod Looks
 pub mod OneLine

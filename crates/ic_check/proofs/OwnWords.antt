@@ -1,5 +1,5 @@
 -- What is due in a line behind the words before its system, and which of them pass a limit.
-use Rattle.std.proofs.Common.{◌≡◌, ℕ, Bool, true, false, ◌||◌, List, [], ◌∷◌, ◌++◌, Option, None, Some, codes, if◌then◌else◌, refl, sym, ap, ◌∙◌, subst, append-nil}
+use Rattle.std.proofs.Common.{◌≡◌, ℕ, Bool, true, false, ◌||◌, List, [], ◌∷◌, ◌++◌, Option, None, Some, codes, if◌then◌else◌, refl, sym, ap, ◌∙◌, subst, append_assoc, append-nil}
 use Rattle.std.specs.Cmp.Lexicographic.{bytes_decides}
 use Rattle.std.specs.List.{AllByRecursion}
 use Rattle.std.specs.Str.{bytes_eq}
@@ -7,7 +7,8 @@ use Rattle.ic_rules.specs.JobName.{is_job_word}
 use Rattle.ic_commands.specs.LineSource.{LinePhrase, nothing, submit, copy, about, list, run, IsLine, is_number, line_words, number_words, verb_text}
 use Rattle.ic_text.specs.SystemSource.{SystemPhrase, IsSystemPhrase, system_words}
 use Rattle.ic_text.specs.Token.{Token, word, mark}
-use Rattle.ic_check.specs.LinePlaces.{IsDue, IsWhole, is_system_due, is_verb, own_passed}
+use Rattle.ic_check.specs.LinePlaces.{IsDue, IsWhole, is_system_due, is_verb, own_passed, submit_front}
+use Rattle.ic_check.specs.Meanings.{IsSubmitBehind}
 use Rattle.ic_check.specs.inner.Fronts.{behind, first_of, if_stands, opened, passed_in}
 use Rattle.ic_check.specs.declared.due.Due.{Due}
 use Rattle.ic_check.specs.declared.due.Due.TheVariants.{Command, SubmitName, Budget, System, OldName, NewName, VerbName, Number, Nothing}
@@ -336,6 +337,31 @@ takes known Nothing us p t ts (q, whole, is) line e =
     let (d, o) = opens_whole q whole in
     let same : opens p ≡ opens q = opened_so known p _ f ∙ opening_more (line_words q) (t ∷ ts) d (opening-line known q ∙ o) ∙ opening-line known q in
     absurd (takes_whole q p t ts whole same f)
+
+-- ---- behind a mark of a system
+
+word_mark : {A : Type 0} (w : List ℕ) (m : _) → word w ≡ mark m → A
+word_mark w m e = cc
+
+submit_behind : (name : List ℕ) (most : Option (List ℕ)) (m : _) (ts : List Token) (p : LinePhrase) → opens p ≡ Some SubmitName
+    → line_words p ≡ word (codes "submit") ∷ word name ∷ (number_words most ++ mark m ∷ ts) → IsSubmitBehind p (mark m) ts
+submit_behind name None m ts (submit n None s) o e = (n, None, s, refl, rest_same _ _ _ _ (rest_same _ _ _ _ e))
+submit_behind name None m ts (submit n (Some ds) s) o e = word_mark ds m (first_same _ _ _ _ (rest_same _ _ _ _ (rest_same _ _ _ _ e)))
+submit_behind name (Some d) m ts (submit n None s) o e = mark_isnt s d (mark m ∷ ts) (rest_same _ _ _ _ (rest_same _ _ _ _ e))
+submit_behind name (Some d) m ts (submit n (Some ds) s) o e = (n, Some ds, s, refl, rest_same _ _ _ _ (rest_same _ _ _ _ (rest_same _ _ _ _ e)))
+submit_behind name most m ts nothing o e = let wrong : ⊥ = cc in absurd wrong
+submit_behind name most m ts (copy x y) o e = let wrong : ⊥ = cc in absurd wrong
+submit_behind name most m ts (about verb n) o e = let wrong : ⊥ = cc in absurd wrong
+submit_behind name most m ts list o e = let wrong : ⊥ = cc in absurd wrong
+submit_behind name most m ts (run ds) o e = let wrong : ⊥ = cc in absurd wrong
+
+-- what goes on behind a mark of a submit's system is a submit
+pub submit_only : KnownVerbs → (front : List Token) (name : List ℕ) (most : Option (List ℕ)) (m : _) (ts rest : List Token) (p : LinePhrase)
+    → front ≡ submit_front name most ++ mark m ∷ ts → line_words p ≡ front ++ rest → IsSubmitBehind p (mark m) (ts ++ rest)
+submit_only known front name most m ts rest p same e =
+    let f : line_words p ≡ word (codes "submit") ∷ word name ∷ (number_words most ++ mark m ∷ (ts ++ rest)) =
+    e ∙ ap (λ (l : List Token). l ++ rest) same ∙ append_assoc (submit_front name most) (mark m ∷ ts) rest in
+    submit_behind name most m (ts ++ rest) p (opened_so known p _ f) f
 
 -- ---- where a line may end
 

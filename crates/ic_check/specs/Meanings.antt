@@ -1,17 +1,18 @@
 -- To be believed: what is told, in words of the calculus and of files.
-use Rattle.std.specs.Prelude.{◌≡◌, ◌⊎◌, ℕ, ◌<◌, ◌==◌, List, ◌∷◌, ◌++◌, Bool, false, ◌&&◌, Option, None, Some, IfSome, IsTrue, length, slice_get}
+use Rattle.std.specs.Prelude.{◌≡◌, ◌⊎◌, ℕ, ◌<◌, ◌==◌, List, [], ◌∷◌, ◌++◌, Bool, false, ◌&&◌, Option, None, Some, IfSome, IsTrue, codes, length, slice_get}
 use Rattle.std.specs.List.{AllByRecursion, count_by, flat_map, list_any}
 use Rattle.ic_term.specs.Tree.{Tree, name, agent, Trees, no_trees, more_trees, Pair}
 use Rattle.ic_rules.specs.Rule.{Rule}
 use Rattle.ic_rules.specs.RuleSet.{has_pair}
 use Rattle.ic_commands.specs.LinePlain.{phrase_texts}
-use Rattle.ic_commands.specs.LineSource.{IsLine, LinePhrase, is_number, line_words}
+use Rattle.ic_commands.specs.LineSource.{IsLine, LinePhrase, is_number, line_words, submit}
 use Rattle.ic_commands.specs.declared.limits.TheConstants.{MAX_RUN}
 use Rattle.ic_jobs.specs.declared.limits.TheConstants.{MAX_BUDGET}
 use Rattle.ic_rules.specs.JobName.{is_job_word}
 use Rattle.ic_rules.specs.declared.job_name.TheConstants.{MAX_JOB_NAME}
 use Rattle.ic_text.specs.Name.{number_in}
 use Rattle.ic_text.specs.Places.{is_between}
+use Rattle.ic_text.specs.SystemSource.{SystemPhrase, system_words}
 use Rattle.ic_text.specs.Token.{Token, is_blank, tokens}
 use Rattle.ic_places.specs.Sights.{first_word, is_command}
 use Rattle.ic_check.specs.LinePlaces.{submit_front}
@@ -90,6 +91,11 @@ abbrev pub GoesWith : List Token → Token → Type 0
 GoesWith front t = (p : LinePhrase) × IsLine p
     × (rest : List Token) × (line_words p ≡ front ++ t ∷ rest)
 
+-- a line is a submit, and its system has these tokens, this one first
+abbrev pub IsSubmitBehind : LinePhrase → Token → List Token → Type 0
+IsSubmitBehind p t ts = (name : List ℕ) × (most : Option (List ℕ)) × (s : SystemPhrase)
+    × (p ≡ submit name most s) × (system_words s ≡ t ∷ ts)
+
 -- a word is what is looked for
 abbrev pub is_looked_for : Due → List ℕ → Bool
 is_looked_for Command w = is_command w
@@ -119,3 +125,21 @@ pub record IsSubmitFront (front text name : List ℕ) (most : Option (List ℕ))
   pub apart : IsTrue (is_between (front ++ text) (length front))
   pub filled : (b : ℕ) (bs : List ℕ) → text ≡ b ∷ bs → is_blank b ≡ false
   pub no_budget : most ≡ None → is_number (first_word text) ≡ false
+
+-- the words with which lines begin, as they are told
+abbrev pub told_commands : List (List ℕ)
+told_commands = codes "submit" ∷ codes "copy" ∷ codes "pause" ∷ codes "resume" ∷ codes "cancel"
+    ∷ codes "fetch" ∷ codes "list" ∷ codes "run" ∷ []
+
+-- words in a row, with `, ` between them, and ` or ` before the last
+abbrev pub joint : List (List ℕ) → List ℕ
+joint [] = codes " or "
+joint (w ∷ ws) = codes ", "
+
+abbrev pub listed_behind : List ℕ → List (List ℕ) → List ℕ
+listed_behind v [] = v
+listed_behind v (w ∷ ws) = v ++ joint ws ++ listed_behind w ws
+
+abbrev pub listed : List (List ℕ) → List ℕ
+listed [] = []
+listed (w ∷ ws) = listed_behind w ws

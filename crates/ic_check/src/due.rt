@@ -23,6 +23,7 @@ pub(crate) enum Due {
     SubmitName,
     /// The number of a budget, or a system.
     Budget,
+    /// A system alone, behind a budget.
     System,
     /// The name of the job that is copied.
     OldName,
@@ -32,6 +33,7 @@ pub(crate) enum Due {
     VerbName,
     /// The number of a run.
     Number,
+    /// Nothing more, behind a line that is whole.
     Nothing,
 }
 

@@ -1,9 +1,10 @@
 //! What is proved of the definitions alone: each law is the contract of a function that does nothing, or calls the laws
 //! that it comes of.
 
-ghost use Rattle.std.specs.Prelude.{◌≡◌, ◌≢◌, ◌≤◌, ◌↔◌, ◌⊎◌, ◌+◌, ◌==◌, ◌&&◌, ◌∷◌, ◌++◌, ℕ, List, [], Bool, Option, None, Some, Ok, Err, IsTrue, codes, length, option_map, slice_get, take, drop, false, true};
+ghost use Rattle.std.specs.Prelude.{◌≡◌, ◌≢◌, ◌<◌, ◌≤◌, ◌↔◌, ◌⊎◌, ◌+◌, ◌==◌, ◌&&◌, ◌∷◌, ◌++◌, ℕ, List, [], Bool, Option, None, Some, Ok, Err, IsTrue, codes, length, option_map, slice_get, get_or, take, drop, false, true};
 ghost use Rattle.std.specs.Fmt.{decimal};
-ghost use Rattle.std.specs.List.{AllByRecursion, concat, flat_map, list_all};
+ghost use Rattle.std.specs.List.{AllByRecursion, concat, flat_map, list_all, list_any};
+ghost use Rattle.std.specs.Str.{bytes_eq};
 ghost use Rattle.ic_term.specs.Configuration.{Configuration};
 ghost use Rattle.ic_term.specs.Symbol.{Symbol, is_over, is_symbol_text};
 ghost use Rattle.ic_term.specs.Tree.{Pair, Tree};
@@ -21,11 +22,13 @@ ghost use Rattle.ic_places.specs.declared.telling.Kind.{Kind};
 ghost use Rattle.ic_check.specs.Checking.{Tells, TellsLine, TellsLines, before, form_of, told_fault, told_line_fault};
 ghost use Rattle.ic_check.specs.LinePlaces.{IsDue, IsLinePlace, IsOwnPlace, IsWhole, is_system_due, own_passed};
 ghost use Rattle.ic_check.specs.declared.due.Due.{Due};
+ghost use Rattle.ic_check.specs.declared.due.Due.TheVariants as due;
 ghost use Rattle.ic_check.specs.declared.due.LineLimit.{LineLimit};
 ghost use Rattle.ic_check.specs.declared.due.LineLimit.TheVariants.{LineBytes, NameBytes, BudgetRounds, RunRounds};
-ghost use Rattle.ic_check.specs.declared.line_places.LineDetail.TheVariants.{Within};
+ghost use Rattle.ic_check.specs.declared.line_places.LineDetail.TheVariants.{Passed, Sought, Within};
 ghost use Rattle.ic_check.specs.declared.line_places.LineDetail.{LineDetail};
 ghost use Rattle.ic_commands.specs.LineSense.{fits_budget, line_sense, submitted};
+ghost use Rattle.ic_commands.specs.LineText.{ReadsLine};
 ghost use Rattle.ic_commands.specs.LineSource.{IsLine, LinePhrase, line_words, submit};
 ghost use Rattle.ic_commands.specs.declared.limits.TheConstants.{MAX_RUN};
 ghost use Rattle.ic_jobs.specs.declared.limits.TheConstants.{MAX_BUDGET};
@@ -39,11 +42,11 @@ ghost use Rattle.ic_text.specs.Words.{written_system};
 ghost use Rattle.ic_text.specs.declared.fault.TextFault.TheVariants.{Limit, Syntax};
 ghost use Rattle.ic_text.specs.declared.limits.TheConstants.{MAX_TEXT};
 ghost use Rattle.ic_check.specs.declared.checking.Form.TheVariants as form;
-ghost use Rattle.ic_text.specs.Token.{Token, is_blank, mark, word, words_among};
-ghost use Rattle.ic_check.specs.Meanings.{AreLines, BeginsLine, GoesWith, HasNoRule, IsOneLine, IsSubmitFront, IsToldAt, IsWarned, Passes, StandsIn, StandsOnce, faces, facing, is_among, is_looked_for};
+ghost use Rattle.ic_text.specs.Token.{Token, is_blank, is_word_byte, mark, tokens, word, words_among};
+ghost use Rattle.ic_check.specs.Meanings.{AreLines, BeginsLine, GoesWith, HasNoRule, IsOneLine, IsSubmitBehind, IsSubmitFront, IsToldAt, IsWarned, Passes, StandsIn, StandsOnce, faces, facing, is_among, is_looked_for, listed, told_commands};
 ghost use Rattle.ic_check.specs.Reach.{AllAmong, IsReach, IsTakenBy};
 ghost use Rattle.ic_check.specs.Symbols.{config_symbols, text_symbols};
-ghost use Rattle.ic_check.specs.Telling.{line_limit_sentence, place_text, spot_text};
+ghost use Rattle.ic_check.specs.Telling.{line_limit_sentence, place_text, sought_sentence, spot_text};
 ghost use Rattle.ic_check.specs.Warnings.{Warns, once_line, once_lines, pair_text, ruleless_line, unused_line, warning_line};
 
 /// An equation is told as one without a rule exactly where both sides are agents and no rule is of their two symbols.
@@ -190,7 +193,9 @@ pub fn lines_begin_with_command_words()
 }
 
 /// What is said to be looked for in a line is what it goes on with: a word stands there exactly where it is of this kind. A
-/// mark does so in no line but a submit, as the first one of its system, and where a system may stand each does.
+/// mark does so in no line but a submit, as the first one of its system, and where a system may stand each does. So it is
+/// at the place that is told. Where none of these is told the line goes on to submits alone, and a mark of their system
+/// stands before the place.
 pub fn what_is_looked_for_goes_on()
     ensures word { (due : Due) (front : List Token) (w : List ℕ) → IsDue due front
         → GoesWith front (word w) ↔ IsTrue (is_looked_for due w) }
@@ -201,6 +206,22 @@ pub fn what_is_looked_for_goes_on()
     ensures system { (due : Due) (front : List Token) (s : SystemPhrase) → IsDue due front
         → is_system_due due ≡ true → IsSystemPhrase s
         → (p : LinePhrase) × IsLine p × (line_words p ≡ front ++ system_words s) }
+    ensures told_word { (line : List ℕ) (at : ℕ) (due : Due) (front : List Token) (w : List ℕ)
+        → IsLinePlace line Syntax at (Sought due) → tokens (take at line) ≡ Some front
+        → GoesWith front (word w) ↔ IsTrue (is_looked_for due w) }
+    ensures told_mark { (line : List ℕ) (at : ℕ) (due : Due) (front : List Token) (m : _)
+        (rest : List Token) (p : LinePhrase) → IsLinePlace line Syntax at (Sought due)
+        → tokens (take at line) ≡ Some front → IsLine p → line_words p ≡ front ++ mark m ∷ rest
+        → (is_system_due due ≡ true) × (s : SystemPhrase) × IsSystemPhrase s
+        × (system_words s ≡ mark m ∷ rest) }
+    ensures told_system { (line : List ℕ) (at : ℕ) (due : Due) (front : List Token)
+        (s : SystemPhrase) → IsLinePlace line Syntax at (Sought due)
+        → tokens (take at line) ≡ Some front → is_system_due due ≡ true → IsSystemPhrase s
+        → (p : LinePhrase) × IsLine p × (line_words p ≡ front ++ system_words s) }
+    ensures within { (line : List ℕ) (at : ℕ) (detail : Detail) (front rest : List Token)
+        (p : LinePhrase) → IsLinePlace line Syntax at (Within detail)
+        → tokens (take at line) ≡ Some front → line_words p ≡ front ++ rest
+        → (m : _) × (ts : List Token) × IsSubmitBehind p (mark m) (ts ++ rest) }
 {
     ic_commands::laws::command_words_are();
     lines_begin_with_command_words();
@@ -208,7 +229,7 @@ pub fn what_is_looked_for_goes_on()
 
 /// A limit that a line is told to pass with a word is passed by this word, and for that the line is refused. A submit
 /// whose words before the system pass none is read as its system is, and another line that passes none isn't refused. A line is
-/// told one such limit, at one place.
+/// told one such limit, at one place, where this word stands. No name before it is too long: of two that are, the first is told.
 pub fn limits_of_lines_are_passed()
     ensures passed { (p : LinePhrase) (k : ℕ) (limit : LineLimit) → own_passed p ≡ Some (k, limit)
         → (w : List ℕ) × (slice_get (words_among (line_words p)) k ≡ Some w) × Passes limit w }
@@ -221,8 +242,34 @@ pub fn limits_of_lines_are_passed()
         → line_sense p ≢ Err fault }
     ensures one { (line : List ℕ) (l m : LineLimit) (a b : ℕ) → IsOwnPlace line l a
         → IsOwnPlace line m b → (l ≡ m) × (a ≡ b) }
+    ensures there { (line : List ℕ) (at : ℕ) (limit : LineLimit) → limit ≢ LineBytes
+        → IsLinePlace line Limit at (Passed limit) → (w : List ℕ) × (rest : List ℕ)
+        × (drop at line ≡ w ++ rest) × (list_all is_word_byte w ≡ true)
+        × (is_word_byte (get_or rest 0 0) ≡ false) × Passes limit w }
+    ensures first { (line : List ℕ) (at : ℕ) (limit : LineLimit) (front : List Token) (j : ℕ)
+        (w : List ℕ) → limit ≢ LineBytes → IsLinePlace line Limit at (Passed limit)
+        → tokens (take at line) ≡ Some front → 0 < j → slice_get (words_among front) j ≡ Some w
+        → length w ≤ MAX_JOB_NAME }
 {
     ic_commands::laws::one_line_reading();
+    ic_text::laws::words_stand_at_their_places();
+}
+
+/// The sentences of what is looked for. That of a command tells each word with which a line begins, and no others.
+pub fn sentences_tell_what_is_looked_for()
+    ensures command { sought_sentence due.Command
+        ≡ codes "a command is looked for here: " ++ listed told_commands }
+    ensures commands { (w : List ℕ)
+        → BeginsLine w ↔ IsTrue (list_any (λ v. bytes_eq w v) told_commands) }
+    ensures names { AllByRecursion
+        (λ d. sought_sentence d ≡ codes "a job's name is looked for here")
+        (due.SubmitName ∷ due.OldName ∷ due.NewName ∷ due.VerbName ∷ []) }
+    ensures budget { sought_sentence due.Budget ≡ codes "a budget or { is looked for here" }
+    ensures system { sought_sentence due.System ≡ codes "{ is looked for here" }
+    ensures number { sought_sentence due.Number ≡ codes "a number is looked for here" }
+    ensures nothing { sought_sentence due.Nothing ≡ codes "nothing is looked for here" }
+{
+    lines_begin_with_command_words();
 }
 
 /// The sentence of each limit of a line tells its number.
@@ -237,14 +284,40 @@ pub fn limits_of_lines_are_told_with_their_numbers()
         ≡ codes "a run makes at most " ++ decimal MAX_RUN ++ codes " rounds" }
 {}
 
-/// The line before a fault of syntax is innocent: cut there, it has such a fault nowhere but at its end. A line has one such
-/// place at most.
+/// A fault of a line has one place: two places that are told of it are the same, whatever more is known of them.
+pub fn a_fault_of_a_line_has_one_place()
+    ensures place { (line : List ℕ) (fault : TextFault) (a b : ℕ) (d e : LineDetail)
+        → IsLinePlace line fault a d → IsLinePlace line fault b e → a ≡ b }
+{
+    ic_commands::laws::one_line_reading();
+    ic_text::laws::words_before_a_passed_limit_are_innocent();
+    ic_text::laws::words_before_the_first_are_innocent();
+}
+
+/// The line before a fault is innocent. Cut before one of syntax, it has such a fault nowhere but at its end, and it has one
+/// such place at most. Cut before another it wants more, so it has none of the other faults. One that is cut where it gets
+/// too long isn't too long, and with one byte more it is.
 pub fn the_line_before_a_fault_is_innocent()
     ensures cut { (line : List ℕ) (at cut : ℕ) → IsSyntaxPlace IsLine line_words line at
         → IsSyntaxPlace IsLine line_words (take at line) cut → cut ≡ at }
     ensures one { (line : List ℕ) (a b : ℕ) → IsSyntaxPlace IsLine line_words line a
         → IsSyntaxPlace IsLine line_words line b → a ≡ b }
-{}
+    ensures syntax { (line : List ℕ) (at cut : ℕ) (detail : LineDetail)
+        → IsLinePlace line Syntax at detail
+        → IsSyntaxPlace IsLine line_words (take at line) cut → cut ≡ at }
+    ensures other { (line : List ℕ) (fault : TextFault) (at : ℕ) (detail : LineDetail)
+        → fault ≢ Syntax → detail ≢ Passed LineBytes → IsLinePlace line fault at detail
+        → ReadsLine (take at line) (Err Syntax) }
+    ensures end { (line : List ℕ) (fault : TextFault) (at : ℕ) (detail : LineDetail)
+        → detail ≢ Passed LineBytes → IsLinePlace line fault at detail
+        → IsSyntaxPlace IsLine line_words (take at line) at }
+    ensures short { (line : List ℕ) (at : ℕ) → IsLinePlace line Limit at (Passed LineBytes)
+        → length (take at line) ≤ MAX_TEXT }
+    ensures long { (line : List ℕ) (at : ℕ) → IsLinePlace line Limit at (Passed LineBytes)
+        → MAX_TEXT < length (take (at + 1) line) }
+{
+    ic_commands::laws::command_words_are();
+}
 
 /// The place of a submit's fault is that of its system's, behind the words before the system. Of a fault of syntax it is so
 /// whatever these words are; of another they have to be within their limits.

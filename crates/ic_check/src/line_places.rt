@@ -36,7 +36,13 @@ fn is_system_due(due: Due) -> bool
 {
     match due {
         Due::Budget | Due::System => true,
-        _ => false,
+        Due::Command
+        | Due::SubmitName
+        | Due::OldName
+        | Due::NewName
+        | Due::VerbName
+        | Due::Number
+        | Due::Nothing => false,
     }
 }
 
@@ -81,16 +87,16 @@ fn place_of(
     ensures { result ≡ place_of fault at due passed inner }
 {
     match (fault, passed, inner) {
-        (TextFault::Limit, Some((at, limit)), _) => LinePlace {
-            at,
+        (TextFault::Limit, Some((own, limit)), _) => LinePlace {
+            at: own,
             detail: LineDetail::Passed(limit),
         },
         (TextFault::Syntax, _, Some((0, _))) | (_, _, None) => LinePlace {
             at,
             detail: LineDetail::Sought(due),
         },
-        (_, _, Some((inner, detail))) => LinePlace {
-            at: at + inner,
+        (_, _, Some((within, detail))) => LinePlace {
+            at: at + within,
             detail: LineDetail::Within(detail),
         },
     }

@@ -101,10 +101,8 @@ pub(crate) fn known(misread: Misread) -> Result<Misread, AllocError>
     ensures same { IfOk result (λ known. known ≡ misread) }
     ensures known { IfOk result (λ known. misread.fault ≢ TextFault.Memory) }
 {
-    match misread.fault {
-        TextFault::Memory => Err(AllocError),
-        _ => Ok(misread),
-    }
+    known_fault(misread.fault)?;
+    Ok(misread)
 }
 
 /// Appends the line of a fault of a text that a whole file is.

@@ -6,6 +6,7 @@ use Rattle.ic_check.specs.declared.due.Due.TheVariants.{VerbName}
 use Rattle.ic_check.proofs.CommandWords.{each_of_four, four_origins}
 use Rattle.ic_check.proofs.Looked.{goes_with_system, goes_with_word, mark_looked_for, word_looked_for}
 use Rattle.ic_check.proofs.OwnWords.{KnownVerbs}
+use Rattle.ic_check.proofs.Sought.{due_there, within_submit}
 use Rattle.ic_check.proofs.laws.what_is_looked_for_goes_on.Goals as goal
 
 pub returns-clause-word : goal.returns-clause-word
@@ -31,3 +32,36 @@ returns-clause-mark c =
 
 pub returns-clause-system : goal.returns-clause-system
 returns-clause-system c = goes_with_system
+
+pub returns-clause-told_word : goal.returns-clause-told_word
+returns-clause-told_word c =
+    let verbs = c.command_words_are.ensures.all_verbs in
+    let known : KnownVerbs = record {
+      opens = each_of_four (λ verb. opened (verb_text verb) ≡ Some VerbName) _ _ _ _ verbs refl refl refl refl;
+      all = four_origins verb_text _ _ _ _ (codes "pause") (codes "resume") (codes "cancel") (codes "fetch") verbs refl refl refl refl;
+    } in
+    λ line at due front w place same. (
+      word_looked_for known c.lines_begin_with_command_words.ensures.each c.command_words_are.ensures.lines due front w (due_there line at due front place same),
+      goes_with_word known due front w (due_there line at due front place same),
+    )
+
+pub returns-clause-told_mark : goal.returns-clause-told_mark
+returns-clause-told_mark c =
+    let verbs = c.command_words_are.ensures.all_verbs in
+    let known : KnownVerbs = record {
+      opens = each_of_four (λ verb. opened (verb_text verb) ≡ Some VerbName) _ _ _ _ verbs refl refl refl refl;
+      all = four_origins verb_text _ _ _ _ (codes "pause") (codes "resume") (codes "cancel") (codes "fetch") verbs refl refl refl refl;
+    } in
+    λ line at due front m rest p place same. mark_looked_for known due front m rest p (due_there line at due front place same)
+
+pub returns-clause-told_system : goal.returns-clause-told_system
+returns-clause-told_system c = λ line at due front s place same. goes_with_system due front s (due_there line at due front place same)
+
+pub returns-clause-within : goal.returns-clause-within
+returns-clause-within c =
+    let verbs = c.command_words_are.ensures.all_verbs in
+    let known : KnownVerbs = record {
+      opens = each_of_four (λ verb. opened (verb_text verb) ≡ Some VerbName) _ _ _ _ verbs refl refl refl refl;
+      all = four_origins verb_text _ _ _ _ (codes "pause") (codes "resume") (codes "cancel") (codes "fetch") verbs refl refl refl refl;
+    } in
+    within_submit known
