@@ -3,20 +3,17 @@
 ghost use Rattle.std.specs.Prelude.{◌≡◌, ◌≢◌, ◌≤◌, ◌++◌, ◌⊎◌, Ok, IfOk, IfErr, IfSome, IsTrue, OnOk, length};
 ghost use Rattle.std.specs.Io.KnownBytes.{Keeps};
 ghost use Rattle.ic_term.specs.Symbol.{is_over};
-ghost use Rattle.ic_round.specs.Rounds.{round, unless_unfit};
-ghost use Rattle.ic_round.specs.RoundAnswers.{Answers};
-ghost use Rattle.ic_streams.specs.Streams.{OfText, IsAnswered, FaultOf, Rounds, Settles, TakesAt, TakesText};
+ghost use Rattle.ic_streams.specs.Streams.{OfText, IsAnswered, FaultOf, Rounds, Settles, TakesAt, TakesText, line_of};
 ghost use Rattle.ic_places.specs.Telling.{Appended, AppendedAt, told_lines};
 ghost use Rattle.ic_streams.specs.Faults.{fault_of_text};
 
 use crate::telling::{Kind, told_lines};
 use ic_flat::Flat;
-use ic_flat_round::{FlatRules, round};
-use ic_round::{RoundFault, settle};
-use ic_streams::{StreamFault, config_line, read_text, write_line};
-use ic_term::Config;
-use ic_text::{Misread, TextFault, find_config, find_flat_system};
-use std::alloc::Global;
+use ic_flat_round::{FlatRules, round, settle};
+use ic_streams::{StreamFault, read_text, write_line};
+use ic_term::Symbols;
+use ic_text::{Misread, TextFault, find_flat_config, find_flat_system, print_flat};
+use std::alloc::{AllocError, Global};
 use std::io::{Read, Write};
 
 /// Settles the configuration that the reader gives, and writes it as a line, as `settle_stream` does. Where the text is
@@ -108,12 +105,12 @@ fn settled_line(alloc: Global, text: &[u8], told: &mut Vec<u8>) -> Result<Vec<u8
     ensures sort { IfErr result
         (λ fault. (fault ≢ StreamFault.Write) × (fault ≢ StreamFault.Read)) }
 {
-    let (symbols, config) = match find_config(alloc, text) {
+    let (symbols, config) = match find_flat_config(alloc, text) {
         Ok(found) => found,
         Err(misread) => return Err(refused(alloc, Kind::Config, text, misread, told)),
     };
-    let settled = settle(alloc, config)?;
-    Ok(config_line(alloc, &symbols, &settled)?)
+    let settled = settle(alloc, &config)?;
+    Ok(flat_line(alloc, &symbols, &settled)?)
 }
 
 /// The line of a text of which one round is made, or its refusal, of which `told` gets the lines.
@@ -132,17 +129,16 @@ fn once_line(alloc: Global, text: &[u8], told: &mut Vec<u8>) -> Result<Vec<u8>, 
     };
     let (rules, config) = system.into_parts();
     let rules = FlatRules::new(alloc, rules)?;
-    let after = round_of(alloc, &rules, &config)?;
-    Ok(config_line(alloc, rules.rules().symbols(), &after)?)
+    let after = round(alloc, &rules, &config)?;
+    Ok(flat_line(alloc, rules.rules().symbols(), &after)?)
 }
 
-/// The configuration after one round, which is made in flat form.
-fn round_of(alloc: Global, rules: &FlatRules, config: &Flat) -> Result<Config, RoundFault>
-    requires { IsTrue (is_over rules.now.symbols config.now) }
-    ensures round { Answers result
-        (unless_unfit rules.now.rules config.now (round rules.now.rules config.now)) }
-    ensures over { IfOk result (λ after. IsTrue (is_over rules.now.symbols after)) }
+/// The line of a configuration.
+fn flat_line(alloc: Global, symbols: &Symbols, flat: &Flat) -> Result<Vec<u8>, AllocError>
+    requires { IsTrue (is_over symbols.now flat.now) }
+    ensures { IfOk result (λ line. line.items ≡ line_of symbols.now flat.now) }
 {
-    let after = round(alloc, rules, config)?;
-    Ok(after.to_config(alloc)?)
+    let mut line = print_flat(alloc, symbols, flat)?;
+    line.push(b'\n')?;
+    Ok(line)
 }

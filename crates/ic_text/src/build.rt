@@ -13,7 +13,7 @@ ghost use Rattle.ic_text.specs.inner.Numbered.{Gives, as_text_answer};
 use crate::fault::TextFault;
 use ic_flat::{Flat, FlatSystem, Word, terms_in, terms_of};
 use ic_rules::{RuleFault, RuleSet};
-use ic_term::{Cell, Config, ConfigFault, Symbols, Term};
+use ic_term::{Cell, ConfigFault, Symbols, Term};
 use std::alloc::{AllocError, Global};
 use std::sync::Arc;
 
@@ -33,16 +33,6 @@ pub(crate) fn flat_of(alloc: Global, words: Vec<Word>, terms: usize) -> Result<F
         Err(ConfigFault::Name(name)) => Err(TextFault::Name(name)),
         Err(ConfigFault::Memory) => Err(TextFault::Memory),
     }
-}
-
-/// The same, as terms and equations.
-pub(crate) fn config_of(alloc: Global, words: Vec<Word>, terms: usize) -> Result<Config, TextFault>
-    requires { IsPaired words.items terms }
-    ensures { Gives (λ config. config) result
-        (as_text_answer (restored (configuration_from terms (forest words.items)))) }
-{
-    let config = flat_of(alloc, words, terms)?;
-    Ok(config.to_config(alloc)?)
 }
 
 /// The rule of two terms, if both are agents.

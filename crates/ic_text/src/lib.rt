@@ -2,8 +2,8 @@
 //!
 //! `read_config` answers what a text means, or the first refusal: its value is `sense` of the one phrase that the text
 //! spells. `read_system` does the same of rules and a configuration, and `is_system` tells whether a text is one.
-//! `read_flat_system` answers the same system in flat form. `find_config`, `find_system` and `find_flat_system` also tell
-//! the place of a refusal.
+//! `read_flat_system` answers the same system in flat form. `find_config`, `find_system`,
+//! `find_flat_config` and `find_flat_system` also tell the place of a refusal.
 //! `print_config` and `put_config` write the tokens of a configuration without blanks, `print_flat` and `put_flat` the same
 //! of one in flat form, and `print_fault` the line of a refusal. For texts that hold others, `is_blank`, `is_word_byte`,
 //! `is_numeral` and `number_in` say what parts words and what digits write. `laws` holds what is proved of the definitions
@@ -37,7 +37,7 @@ pub use limits::{MAX_NAME, MAX_TEXT};
 pub use misread::{Detail, Limit, Misread};
 pub use name::{is_numeral, number_in};
 pub use print::{print_config, print_fault, put_config, put_decimal, put_name};
-pub use read::{find_config, read_config};
+pub use read::{find_config, find_flat_config, read_config};
 pub use survey::is_system;
 pub use system::{find_flat_system, find_system, read_flat_system, read_system};
 pub use token::{is_blank, is_word_byte};

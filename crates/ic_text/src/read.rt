@@ -12,7 +12,7 @@ ghost use Rattle.ic_text.specs.Text.{Reads, Spells, IsConfigText};
 ghost use Rattle.ic_text.specs.Words.{written_phrase};
 
 use crate::blame::refusal_of;
-use crate::build::config_of;
+use crate::build::flat_of;
 use crate::excess::config_excess;
 use crate::fault::TextFault;
 use crate::limits::MAX_TEXT;
@@ -21,12 +21,13 @@ use crate::number::number_words;
 use crate::prefix::{enough_of, front_of};
 use crate::refusal::Refusal;
 use crate::survey::{Counts, survey_config};
+use ic_flat::Flat;
 use ic_term::{Config, Symbols};
 use std::alloc::Global;
 
-/// The sense of a text that spells a configuration of so many words. Every limit is tested before a term is built. Of too
+/// The sense of a text that spells a configuration of so many words. Every limit is tested before they are numbered. Of too
 /// many words only the first ones are kept: no later one can be refused.
-fn sense_of(alloc: Global, text: &[u8], counts: Counts) -> Result<(Symbols, Config), Refusal>
+fn sense_of(alloc: Global, text: &[u8], counts: Counts) -> Result<(Symbols, Flat), Refusal>
     requires { Tells IsPhrase phrase_words text.now (Some counts) }
     ensures sense { (p : Phrase) → Spells text.now p → Gives (λ v. v) (bare result) (sense p) }
     ensures over { IfOk result (λ v. IsTrue (is_over v.0 v.1)) }
@@ -37,14 +38,14 @@ fn sense_of(alloc: Global, text: &[u8], counts: Counts) -> Result<(Symbols, Conf
     let prefix = front_of(alloc, text, kept, counts.words - kept)?;
     let excess = config_excess(&prefix.nodes, prefix.terms);
     let (symbols, words) = number_words(alloc, &prefix.nodes, excess)?;
-    match config_of(alloc, words, prefix.terms) {
+    match flat_of(alloc, words, prefix.terms) {
         Ok(config) => Ok((symbols, config)),
         Err(fault) => Err(refusal_of(fault, &prefix.nodes, 0)),
     }
 }
 
 /// The same, with the place of the refusal in the text.
-fn config_at(alloc: Global, text: &[u8], counts: Counts) -> Result<(Symbols, Config), Misread>
+fn config_at(alloc: Global, text: &[u8], counts: Counts) -> Result<(Symbols, Flat), Misread>
     requires short { length text.now ≤ MAX_TEXT }
     requires spelled { Tells IsPhrase phrase_words text.now (Some counts) }
     ensures sense { (p : Phrase) → Spells text.now p → Gives (λ v. v) (faulted result) (sense p) }
@@ -59,11 +60,11 @@ fn config_at(alloc: Global, text: &[u8], counts: Counts) -> Result<(Symbols, Con
     }
 }
 
-/// The configuration that a text means, with its symbols numbered by first occurrence and `next` one above its
-/// greatest name, or the first refusal and its place. Takes n log n steps. Limits are settled before anything recurses
-/// on nesting.
-pub fn find_config(alloc: Global, text: &[u8]) -> Result<(Symbols, Config), Misread>
+/// The configuration that a text means in flat form, with its symbols numbered by first occurrence and `next` one above
+/// its greatest name, or the first refusal and its place. Takes n log n steps. Nothing recurses on nesting.
+pub fn find_flat_config(alloc: Global, text: &[u8]) -> Result<(Symbols, Flat), Misread>
     ensures read { IfOk result (λ v. Reads text.now (Ok v)) }
+    ensures spelled { IfOk result (λ _. IsConfigText text.now) }
     ensures over { IfOk result (λ v. IsTrue (is_over v.0 v.1)) }
     ensures refused { IfErr result
         (λ misread. misread.fault ≢ TextFault.Memory → Reads text.now (Err misread.fault)) }
@@ -88,6 +89,23 @@ pub fn find_config(alloc: Global, text: &[u8]) -> Result<(Symbols, Config), Misr
             detail: Detail::Nothing,
         }),
     }
+}
+
+/// The configuration that `find_flat_config` answers, as terms and equations, or its refusal. Limits are settled before a
+/// term is made.
+pub fn find_config(alloc: Global, text: &[u8]) -> Result<(Symbols, Config), Misread>
+    ensures read { IfOk result (λ v. Reads text.now (Ok v)) }
+    ensures over { IfOk result (λ v. IsTrue (is_over v.0 v.1)) }
+    ensures refused { IfErr result
+        (λ misread. misread.fault ≢ TextFault.Memory → Reads text.now (Err misread.fault)) }
+    ensures placed { IfErr result
+        (λ misread. IsPlaced IsPhrase phrase_words written_phrase text.now misread.fault
+        misread.place misread.detail) }
+    ensures memory { IfErr result
+        (λ misread. misread.fault ≡ TextFault.Memory → IsConfigText text.now) }
+{
+    let (symbols, config) = find_flat_config(alloc, text)?;
+    Ok((symbols, config.to_config(alloc)?))
 }
 
 /// The configuration that `find_config` answers, or its refusal without the place.

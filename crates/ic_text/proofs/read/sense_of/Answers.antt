@@ -135,10 +135,10 @@ limits_here c p is spelled v number =
     config_in_limits p is c.config_excess-excess.result (kept_here c p spelled) v (number ∙ counted_here c p spelled)
 
 -- and write a configuration
-pub config_of-requires : goal.config_of-requires
-config_of-requires c =
+pub flat_of-requires : goal.flat_of-requires
+flat_of-requires c =
     let p = c.requires.0 in
-    let here = (goal.at.config_of-requires c).After-deref-2 in
+    let here = (goal.at.flat_of-requires c).After-deref-2 in
     let number = c.in_ok-symbols.ensures.numbers ∙ counted_here here p c.requires.1.tokens in
     subst (λ n. IsPaired c.in_ok-symbols.words.items n) (sym (terms_here here p c.requires.1.tokens))
     (paired_words p c.requires.1.phrase _ (counted-numbered (phrase_prefix p) c.config_excess-excess.result _ number))
