@@ -1,0 +1,2 @@
+pub mod NamesPieces
+pub mod HeapPieces

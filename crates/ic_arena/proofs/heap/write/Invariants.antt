@@ -1,0 +1,13 @@
+use Rattle.std.proofs.Common.{◌≡◌, ◌+◌, ◌++◌, map, take, drop, vec_capacity, vec_len}
+use Rattle.ic_arena.specs.Tables.{register}
+use Rattle.ic_arena.proofs.heap.write.Given as goal
+
+abbrev pub invariant-loop-operand : goal.invariant-loop-operand
+invariant-loop-operand l = record {
+  place : l.place ≡ l.at + l.operand-index;
+  written : l.words.items ≡ take l.at l.initial.words.items
+      ++ (map (register l.registers) (take l.operand-index l.operands)
+      ++ drop (l.at + l.operand-index) l.initial.words.items);
+  len : vec_len l.words ≡ vec_len l.initial.words;
+  capacity : vec_capacity l.words ≡ vec_capacity l.initial.words;
+}

@@ -1,0 +1,4 @@
+pub mod Word
+pub mod Piece
+pub mod Tables
+pub mod lemmas

@@ -1,0 +1,186 @@
+//! The table of the agents of one symbol.
+
+ghost use Rattle.std.specs.Prelude.{◌≡◌, ℕ, ◌+◌, ◌^◌, ◌<◌, ◌≤◌, [], ◌∷◌, ◌++◌, length, map, sum_by, take, drop, vec_len, vec_capacity, OnOk, IfSome};
+ghost use Rattle.std.specs.List.{AllByRecursion};
+ghost use Rattle.ic_arena.specs.Word.{agent_word};
+ghost use Rattle.ic_arena.specs.Piece.{agent_of, room};
+ghost use Rattle.ic_arena.specs.Tables.{Replaced, AreBlocks, blocks_pieces, block_at, block_piece, first_word, register};
+
+use crate::word::{FREE, IDLE, Word};
+use std::alloc::{AllocError, Global};
+use std::marker::Model;
+
+/// The arguments of each agent of one symbol that has arguments, in blocks of as many words as its arity. A block is free
+/// where its first word has the mark for it.
+#[derive(Drop)]
+pub struct Heap {
+    words: Vec<Word>,
+    arity: u32,
+    count: u32,
+    /// A free block, if there is one here: it is looked at before it is used.
+    free: u32,
+}
+
+impl Model for Heap {
+    ghost use Rattle.std.specs.Prelude.{vec_capacity};
+    ghost use Rattle.ic_arena.specs.Tables.{Blocks, AreBlocks};
+
+    ghost Value = { Blocks };
+
+    ghost view = { λ h. record {
+      arity = h.arity;
+      count = h.count;
+      words = h.words.items;
+      capacity = vec_capacity h.words;
+    } };
+
+    ghost invariant = { λ h. AreBlocks
+        (record {
+          arity = h.arity;
+          count = h.count;
+          words = h.words.items;
+          capacity = vec_capacity h.words;
+        }) };
+}
+
+impl Heap {
+    /// Takes no memory.
+    pub fn new(alloc: Global, arity: u32) -> Heap
+        ensures arity { result.arity ≡ arity }
+        ensures count { result.count ≡ 0 }
+        ensures words { result.words ≡ [] }
+    {
+        Heap {
+            words: Vec::new(alloc),
+            arity,
+            count: 0,
+            free: 0,
+        }
+    }
+
+    /// How many arguments each agent has.
+    pub fn arity(&self) -> u32
+        ensures arity { result ≡ self.now.arity }
+        ensures sound { AreBlocks self.now }
+    {
+        self.arity
+    }
+
+    /// How many blocks there are, the free ones too.
+    pub fn count(&self) -> u32
+        ensures count { result ≡ self.now.count }
+        ensures sound { AreBlocks self.now }
+    {
+        self.count
+    }
+
+    /// Takes the memory for so many words more.
+    pub fn reserve(&mut self, more: usize) -> Result<(), AllocError>
+        ensures arity { self.new.arity ≡ self.old.arity }
+        ensures count { self.new.count ≡ self.old.count }
+        ensures words { self.new.words ≡ self.old.words }
+        ensures capacity { self.old.capacity ≤ self.new.capacity }
+        ensures room { OnOk result (length self.old.words + more ≤ self.new.capacity) }
+    {
+        self.words.reserve(more)
+    }
+
+    /// Puts an agent, whose arguments are in these registers, into a free block: the one that was freed last, or one
+    /// after the last.
+    pub fn put(&mut self, operands: &[u32], registers: &[Word]) -> u32
+        requires arity { length operands.now ≡ self.old.arity }
+        requires some { 1 ≤ self.old.arity }
+        requires filled { AllByRecursion (λ k. k < length registers.now) operands.now }
+        requires words { AllByRecursion (λ w. w.tag < IDLE) registers.now }
+        requires room { length self.old.words + self.old.arity ≤ self.old.capacity }
+        requires few { self.old.count + 1 < 2 ^ 32 }
+        ensures made { (s : ℕ) → Replaced []
+            (agent_of (agent_word s result) (map (register registers.now) operands.now) ∷ [])
+            (blocks_pieces s self.old) (blocks_pieces s self.new) }
+        ensures fresh { (s : ℕ)
+            → sum_by (room (agent_word s result)) (blocks_pieces s self.old) ≡ 0 }
+        ensures arity { self.new.arity ≡ self.old.arity }
+        ensures len { length self.new.words ≤ length self.old.words + self.old.arity }
+        ensures count { self.new.count ≤ self.old.count + 1 }
+        ensures capacity { self.new.capacity ≡ self.old.capacity }
+    {
+        if let Some(block) = self.find_free() {
+            let at = block as usize * self.arity as usize;
+            self.free = self.words[at].index;
+            write(&mut self.words, at, operands, registers);
+            return block;
+        }
+        let block = self.count;
+        append(&mut self.words, operands, registers);
+        self.count += 1;
+        block
+    }
+
+    /// The block that was freed last, if it is known and still free.
+    fn find_free(&self) -> Option<u32>
+        ensures { IfSome result (λ b. (b < self.now.count)
+            × ((first_word self.now b).tag ≡ FREE)) }
+    {
+        let block = self.free;
+        if block < self.count && self.words[block as usize * self.arity as usize].tag == FREE {
+            Some(block)
+        } else {
+            None
+        }
+    }
+
+    /// Takes the arguments of an agent out of its block, which is free then.
+    pub fn take(&mut self, block: u32, registers: &mut Vec<Word>)
+        requires there { block < self.old.count }
+        requires room { vec_len registers.old + self.old.arity ≤ vec_capacity registers.old }
+        ensures taken { registers.new.items ≡ registers.old.items ++ block_at self.old block }
+        ensures freed { (s : ℕ) → Replaced
+            (block_piece (agent_word s block) (block_at self.old block)) []
+            (blocks_pieces s self.old) (blocks_pieces s self.new) }
+        ensures arity { self.new.arity ≡ self.old.arity }
+        ensures count { self.new.count ≡ self.old.count }
+        ensures len { length self.new.words ≡ length self.old.words }
+        ensures capacity { self.new.capacity ≡ self.old.capacity }
+        ensures registers { vec_capacity registers.new ≡ vec_capacity registers.old }
+    {
+        let arity = self.arity as usize;
+        let at = block as usize * arity;
+        for word in &self.words[at..at + arity] {
+            registers.push_reserved(*word);
+        }
+        self.words[at] = Word {
+            tag: FREE,
+            index: self.free,
+        };
+        self.free = block;
+    }
+}
+
+/// Writes the words of registers, from a place on.
+fn write(words: &mut Vec<Word>, at: usize, operands: &[u32], registers: &[Word])
+    requires there { at + length operands.now ≤ vec_len words.old }
+    requires filled { AllByRecursion (λ k. k < length registers.now) operands.now }
+    ensures written { words.new.items ≡ take at words.old.items
+        ++ (map (register registers.now) operands.now
+        ++ drop (at + length operands.now) words.old.items) }
+    ensures capacity { vec_capacity words.new ≡ vec_capacity words.old }
+{
+    let mut place = at;
+    for operand in operands {
+        words[place] = registers[*operand as usize];
+        place += 1;
+    }
+}
+
+/// Appends the words of registers, for which there is memory.
+fn append(words: &mut Vec<Word>, operands: &[u32], registers: &[Word])
+    requires room { vec_len words.old + length operands.now ≤ vec_capacity words.old }
+    requires filled { AllByRecursion (λ k. k < length registers.now) operands.now }
+    ensures appended { words.new.items
+        ≡ words.old.items ++ map (register registers.now) operands.now }
+    ensures capacity { vec_capacity words.new ≡ vec_capacity words.old }
+{
+    for operand in operands {
+        words.push_reserved(registers[*operand as usize]);
+    }
+}

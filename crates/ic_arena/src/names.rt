@@ -1,0 +1,129 @@
+//! The table of names.
+
+ghost use Rattle.std.specs.Prelude.{◌≡◌, ◌+◌, ◌^◌, ◌<◌, ◌≤◌, [], ◌∷◌, ◌++◌, length, OnOk, IfSome};
+ghost use Rattle.ic_arena.specs.Word.{name_word};
+ghost use Rattle.ic_arena.specs.Piece.{idle, waits};
+ghost use Rattle.ic_arena.specs.Tables.{Replaced, names_pieces, entry};
+
+use crate::word::{FREE, IDLE, Word};
+use std::alloc::{AllocError, Global};
+use std::marker::Model;
+
+/// For each name the word that waits for its other occurrence, or the mark that none does, or that the name is free.
+#[derive(Drop)]
+pub struct Names {
+    entries: Vec<Word>,
+    /// A free name, if there is one here: it is looked at before it is used.
+    free: u32,
+}
+
+impl Model for Names {
+    ghost use Rattle.std.specs.Prelude.{vec_capacity};
+    ghost use Rattle.ic_arena.specs.Tables.{Entries};
+
+    ghost Value = { Entries };
+
+    ghost view = { λ n. record { entries = n.entries.items; capacity = vec_capacity n.entries } };
+}
+
+impl Names {
+    /// Takes no memory.
+    pub fn new(alloc: Global) -> Names
+        ensures { result.entries ≡ [] }
+    {
+        Names {
+            entries: Vec::new(alloc),
+            free: 0,
+        }
+    }
+
+    /// How many names there are, the free ones too.
+    pub fn len(&self) -> usize
+        ensures { result ≡ length self.now.entries }
+    {
+        self.entries.len()
+    }
+
+    /// Takes the memory for so many names more.
+    pub fn reserve(&mut self, more: usize) -> Result<(), AllocError>
+        ensures entries { self.new.entries ≡ self.old.entries }
+        ensures capacity { self.old.capacity ≤ self.new.capacity }
+        ensures room { OnOk result (length self.old.entries + more ≤ self.new.capacity) }
+    {
+        self.entries.reserve(more)
+    }
+
+    /// A name that was free, for which nothing waits: the one that was freed last, or one after the last.
+    pub fn open(&mut self) -> u32
+        requires room { length self.old.entries < self.old.capacity }
+        requires few { length self.old.entries < 2 ^ 32 }
+        ensures opened { Replaced [] (idle (name_word result) ∷ [])
+            (names_pieces 0 self.old.entries) (names_pieces 0 self.new.entries) }
+        ensures fresh { (entry self.old.entries result).tag ≡ FREE }
+        ensures len { length self.new.entries ≤ length self.old.entries + 1 }
+        ensures capacity { self.new.capacity ≡ self.old.capacity }
+    {
+        let mark = Word {
+            tag: IDLE,
+            index: 0,
+        };
+        if let Some(name) = self.find_free() {
+            self.free = self.entries[name as usize].index;
+            self.entries[name as usize] = mark;
+            return name;
+        }
+        let name = self.entries.len() as u32;
+        self.entries.push_reserved(mark);
+        name
+    }
+
+    /// The name that was freed last, if it is known and still free.
+    fn find_free(&self) -> Option<u32>
+        ensures { IfSome result (λ n. (n < length self.now.entries)
+            × ((entry self.now.entries n).tag ≡ FREE)) }
+    {
+        let name = self.free;
+        if (name as usize) < self.entries.len() && self.entries[name as usize].tag == FREE {
+            Some(name)
+        } else {
+            None
+        }
+    }
+
+    /// What waits for a name, or the mark that nothing does, or that it is free.
+    pub fn get(&self, name: u32) -> Word
+        requires { name < length self.now.entries }
+        ensures { result ≡ entry self.now.entries name }
+    {
+        self.entries[name as usize]
+    }
+
+    /// Lets a word wait for a name for which nothing waits.
+    pub fn put(&mut self, name: u32, word: Word)
+        requires there { name < length self.old.entries }
+        requires idle { (entry self.old.entries name).tag ≡ IDLE }
+        requires word { word.tag < IDLE }
+        ensures put { Replaced (idle (name_word name) ∷ []) (waits (name_word name) word ∷ [])
+            (names_pieces 0 self.old.entries) (names_pieces 0 self.new.entries) }
+        ensures len { length self.new.entries ≡ length self.old.entries }
+        ensures capacity { self.new.capacity ≡ self.old.capacity }
+    {
+        self.entries[name as usize] = word;
+    }
+
+    /// Frees a name for which a word waits.
+    pub fn free(&mut self, name: u32)
+        requires there { name < length self.old.entries }
+        requires waits { (entry self.old.entries name).tag < IDLE }
+        ensures freed { Replaced (waits (name_word name) (entry self.old.entries name) ∷ []) []
+            (names_pieces 0 self.old.entries) (names_pieces 0 self.new.entries) }
+        ensures len { length self.new.entries ≡ length self.old.entries }
+        ensures capacity { self.new.capacity ≡ self.old.capacity }
+    {
+        self.entries[name as usize] = Word {
+            tag: FREE,
+            index: self.free,
+        };
+        self.free = name;
+    }
+}

@@ -1,0 +1,13 @@
+pub mod Given
+pub mod ButNext
+pub mod Nets
+pub mod Exchanges
+pub mod Copies
+pub mod Orders
+pub mod FreshNets
+pub mod Over
+pub mod Firing
+pub mod Reached
+pub mod Ends
+pub mod Pieces
+pub mod InTurn

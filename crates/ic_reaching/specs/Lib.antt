@@ -1,0 +1,4 @@
+pub mod OneNet
+pub mod Reaching
+pub mod FreshNames
+pub mod Pieces
