@@ -1,5 +1,6 @@
 """Runs the trials of the built program, as many side by side as there are processors: python3 trials [WORD..], where only
-those are run in whose name each word stands. The last line is `N passed, M failed`."""
+those are run in whose name each word stands. Those of files `test_.._long` take many minutes, and are run only where a word
+has `long`: python3 trials cluster_long. The last line is `N passed, M failed`."""
 
 import multiprocessing
 import os
@@ -30,7 +31,9 @@ def found(words):
     """The names of the trials, those that take longest first."""
     all_of_them = list(trials_in(unittest.defaultTestLoader.discover(str(HERE), top_level_dir=str(HERE))))
     all_of_them.sort(key=lambda it: -getattr(it, "seconds", 1))
-    return [it.id() for it in all_of_them if all(word in it.id() for word in words)]
+    are_long = any("long" in word for word in words)
+    names = [it.id() for it in all_of_them if are_long or "_long." not in it.id()]
+    return [it for it in names if all(word in it for word in words)]
 
 
 def tried(name):
@@ -70,7 +73,8 @@ def give_up(counts):
 def main(words):
     print(f"trials: {PROGRAM}, SEED={SEED} (set it to draw the same again)", flush=True)
     if not os.access(PROGRAM, os.X_OK):
-        print("trials: it isn't there: ./icserve --version proves and builds it, and so does rt ci\n0 passed, 1 failed")
+        print("trials: it isn't there: make prove makes it, and so does ./gate. make trials tries the one that ./icserve runs")
+        print("0 passed, 1 failed")
         return 1
     prepare()
     counts = {"ok": 0, "FAILED": 0, "skipped": 0}

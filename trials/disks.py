@@ -1,4 +1,4 @@
-"""Disks as lists of bytes, by the layout of docs/slots.md."""
+"""Disks as lists of bytes, by the layout of docs/book.md."""
 
 import re
 

@@ -18,7 +18,7 @@ from typing import NamedTuple
 
 TOP = Path(__file__).resolve().parent.parent
 
-# The program that is tried: the one that the launcher `icserve` starts, or that of the variable ICSERVE.
+# The program that is tried: the proved one, or that of the variable ICSERVE.
 PROGRAM = os.path.abspath(os.environ.get("ICSERVE") or TOP / "crates/icserve/out/icserve")
 
 # What drawn trials begin with: drawn anew for each run, and given again by the variable SEED. The gate gives 1.
@@ -33,7 +33,7 @@ PATIENCE = float(os.environ.get("PATIENCE") or 120)
 
 class Ran(NamedTuple):
     """A run of the program that has ended. A signal that ended it is a negative status, as of `subprocess`. What stands on
-    standard error behind the line of a disk or of a text stands by itself."""
+    standard error behind the line of a disk, of a text or of standard input stands by itself."""
 
     command: str
     status: int
@@ -43,16 +43,17 @@ class Ran(NamedTuple):
 
 
 # The lines of standard error behind which a line tells of the disk's file.
-OF_DISKS = [f"icserve: {it}\n".encode() for it in ("device", "broken", "no slot", "two alike", "damaged", "not empty")]
+OF_DISKS = [f"icserve: {it}\n".encode() for it in ("device", "locked", "broken", "no slot", "two alike", "damaged", "not empty", "full")]
 
 
 def ran_with(command, status, out, err):
-    """A run, what it wrote on standard error parted: a line that tells of the disk's file stands by itself, and so do the four
-    lines of a place in a text."""
+    """A run, what it wrote on standard error parted: a line that tells of the disk's file or of standard input stands by
+    itself, and so do the four lines of a place in a text."""
     line, feed, behind = err.partition(b"\n")
-    of_disk = line + feed in OF_DISKS and behind.count(b"\n") == 1
+    of_disk = (line + feed in OF_DISKS or line.startswith(b"icserve: taken ")) and behind.count(b"\n") == 1
+    of_input = line == b"icserve: read" and behind.startswith(b"standard input: ") and behind.count(b"\n") == 1
     of_text = line.startswith(b"icserve: bad ") and behind.startswith(b"line ") and behind.count(b"\n") == 4
-    if of_disk or of_text:
+    if of_disk or of_text or of_input:
         return Ran(command, status, out, line + feed, behind)
     return Ran(command, status, out, err)
 

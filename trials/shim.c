@@ -11,6 +11,9 @@
      nothing    it takes or gives nothing, and later ones are made
      short      it and all later reads and writes take or give one byte
 
+   SHIM_DEVICE="WHEN PATH": the file of this path looks as a block device does. WHEN is `looked`, where it is looked at by its
+   path, `opened`, where it is looked at once it is open, as if it had taken the place of another file just then, or `always`.
+
    SHIM_LOG=PATH: a line is appended to this file for each call that changes a file, syncs it, writes answers or goes wrong,
    as "KIND AT LENGTH\n" and, of a write, its bytes. KIND is W (written), T (cut or made longer), S (synced), O (written to
    standard output), E (gone wrong, with the call's number in place of AT), C (at the end:
@@ -35,12 +38,14 @@ enum outcome { MADE, REFUSED, DONE, HALF, INTERRUPTED, NOTHING, SHORT };
 
 static char what[16], how[16];
 static long wanted, seen;
-static int log_fd = -1, is_set, is_file[1024];
+static int log_fd = -1, is_set, is_file[1024], is_device[1024];
+static char device_when[16], device[4096];
 
 #define NEXT(name) ((__typeof__(&name))dlsym(RTLD_NEXT, #name))
 
 __attribute__((constructor)) static void begin(void) {
-    const char *shim = getenv("SHIM"), *path = getenv("SHIM_LOG");
+    const char *shim = getenv("SHIM"), *path = getenv("SHIM_LOG"), *special = getenv("SHIM_DEVICE");
+    if (special) sscanf(special, "%15s %4095[^\n]", device_when, device);
     if (path) {
         int fd = NEXT(open)(path, O_WRONLY | O_CREAT | O_APPEND | O_CLOEXEC, 0600);
         log_fd = fcntl(fd, F_DUPFD_CLOEXEC, 500);
@@ -110,12 +115,12 @@ int open(const char *path, int flags, ...) {
     if (outcome != MADE && outcome != DONE && outcome != SHORT) return errno = error, -1;
     int fd = NEXT(open)(path, flags, mode);
     if (fd >= 0 && outcome == DONE) NEXT(close)(fd);
-    else if (fd >= 0 && fd < 1024) is_file[fd] = 1;
+    else if (fd >= 0 && fd < 1024) is_file[fd] = 1, is_device[fd] = *device && !strcmp(path, device);
     return outcome == DONE ? (errno = error, -1) : fd;
 }
 
 int close(int fd) {
-    if (is_open_file(fd)) is_file[fd] = 0;
+    if (is_open_file(fd)) is_file[fd] = is_device[fd] = 0;
     return NEXT(close)(fd);
 }
 
@@ -136,8 +141,16 @@ int ftruncate(int fd, off_t length) { ON_FILE(NEXT(ftruncate)(fd, length), 'T', 
 
 int flock(int fd, int operation) { ON_FILE(NEXT(flock)(fd, operation), 0, 0); }
 
+/* What the system says of a file, or what is to be said of a device, which has no length. */
+static int look(int fd, const char *path, int flags, unsigned mask, struct statx *into) {
+    int answer = NEXT(statx)(fd, path, flags, mask, into), by_path = *path, when = strcmp(device_when, by_path ? "opened" : "looked");
+    int is_it = by_path ? *device && !strcmp(path, device) : is_open_file(fd) && is_device[fd];
+    if (!answer && is_it && when) into->stx_mode = S_IFBLK | 0660, into->stx_size = 0;
+    return answer;
+}
+
 int statx(int fd, const char *path, int flags, unsigned mask, struct statx *into) {
-    ON_FILE(NEXT(statx)(fd, path, flags, mask, into), 0, 0);
+    ON_FILE(look(fd, path, flags, mask, into), 0, 0);
 }
 
 off_t lseek(int fd, off_t at, int whence) {

@@ -1,12 +1,14 @@
 """The word `attend`: scripts of several clients over one disk, with runners beside them."""
 
 import os
+import resource
 import shlex
 import signal
 import subprocess
 import time
 
 from attending import TOLD, Attending
+from checked import MOST_BYTES
 from known import LOOP
 from program import PATIENCE, PROGRAM, Ran, Server, heeds_signals, run, said_of
 
@@ -27,6 +29,17 @@ class Attend(Attending):
         self.runs("attend", "--disk", self.jobs)
         ran = self.runs(*self.attends(*self.paths, runners=0), out=TOLD)
         self.leaves(ran.command, two=0, loop=0)
+
+    def test_runners_make_as_many_rounds_as_they_have_turns_and_no_more(self):
+        """Without a script each round is a turn. Of two rounds of one job that are made at once only one is landed."""
+        for runners, turns in ((1, 0), (1, 1), (1, 7), (3, 5), (5, 1)):
+            self.runs("create", "--disk", self.jobs, "--overwrite")
+            self.serves(self.jobs, f"submit loop {LOOP.text}", ["accepted"])
+            words = self.attends(runners=runners, turns=turns)
+            self.runs(*words)
+            rounds = self.rounds()["loop"]
+            is_within = turns <= rounds <= runners * turns
+            self.equals(words, f"whether {rounds} rounds are {turns} to {runners * turns}", True, is_within)
 
     def test_a_full_history_ends_each_client_that_has_not_ended(self):
         paths = [self.script(f"long {i}", ["list"] * 40_000) for i in range(2)]
@@ -138,6 +151,22 @@ class Attend(Attending):
             ran = self.runs(*self.attends(self.paths[0], *(path for path, _ in bad)), err=err, status=4)
         self.leaves(ran.command)
 
+    def test_a_script_of_more_than_16777216_bytes_is_not_read_and_one_of_so_many_is(self):
+        """With 1 GB of memory, a file without an end among them, and a pipe without one, which has blank lines alone."""
+        how = {"preexec_fn": lambda: resource.setrlimit(resource.RLIMIT_AS, (2**30, 2**30))}
+        pipe, path = self.room / "pipe", self.room / "long"
+        os.mkfifo(pipe)
+        path.write_bytes(b"\n" * MOST_BYTES + b"list")
+        with subprocess.Popen(["sh", "-c", 'exec yes "" 2>&- > "$0"', pipe]) as blanks:
+            for bad in (path, "/dev/zero", pipe):
+                err = ["icserve: read", f"{bad}: it has more than {MOST_BYTES} bytes"]
+                ran = self.runs(*self.attends(self.paths[0], bad), err=err, status=4, **how)
+            blanks.wait(10)
+        self.leaves(ran.command)
+        path.write_bytes((b" " * 262_143 + b"\n") * 63 + b"list".ljust(262_143) + b"\n")
+        self.equals(path, "how long the script is", MOST_BYTES, path.stat().st_size)
+        self.runs(*self.attends(path), out=["client 0", "jobs"], **how)
+
     def test_a_script_that_may_not_be_read_is_told(self):
         how = self.without_rights()
         os.chmod(self.jobs, 0o666)
@@ -152,4 +181,4 @@ class Attend(Attending):
         self.refuses(*self.attends(*self.paths, disk=self.room / "zeros"), line="no slot", status=3)
         with Server(self.jobs) as server:
             self.answers(server, "list", "jobs")
-            self.refuses(*self.attends(*self.paths), line="device", status=3)
+            self.refuses(*self.attends(*self.paths), line="locked", status=6)

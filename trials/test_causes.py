@@ -3,6 +3,7 @@ it. The first lines and the statuses are tried in test_statuses.py and test_faul
 
 import os
 import shutil
+import socket
 import subprocess
 
 from disks import EMPTY, disk_of, slot
@@ -26,16 +27,16 @@ class Causes(Trial):
             self.equals(ran.command, "status and standard output", (3, b""), (ran.status, ran.out))
             self.tells(ran, "device", f"{path}: {cause}")
 
-    def create(self, path, cause, **how):
+    def create(self, path, cause, *words, **how):
         """Fails unless no disk is made in the file of this path, with `device` and this cause."""
-        ran = run("create", "--disk", path, **how)
+        ran = run("create", "--disk", path, *words, **how)
         self.equals(ran.command, "status", 3, ran.status)
         self.tells(ran, "device", f"{path}: {cause}")
 
     def test_a_file_or_a_folder_is_missing(self):
         self.isnt_opened(self.room / "missing", "open: no such file or folder")
         self.isnt_opened("", "open: no such file or folder")
-        self.create(self.room / "no/folder", "open: no such file or folder")
+        self.create(self.room / "no/folder", "its folder: open: no such file or folder")
 
     def test_a_folder(self):
         self.isnt_opened(self.room, "open: is a folder")
@@ -50,34 +51,48 @@ class Causes(Trial):
 
     def test_no_rights(self):
         how = self.without_rights()
+        os.chmod(self.room, 0o755)
         path = self.disk()
         for mode in (0o444, 0o222, 0o000):
             os.chmod(path, mode)
             self.isnt_opened(path, "open: no rights", **how)
             self.create(path, "open: no rights", **how)
 
-    def test_a_folder_that_cant_be_read_is_named(self):
+    def test_a_folder_that_cant_be_read_is_named_and_no_file_is_made_there(self):
         """With `create` the folder is synced, and for that it is opened."""
         how = self.without_rights()
         folder = self.room / "folder"
         folder.mkdir()
         os.chmod(folder, 0o333)
         self.create(folder / "disk", "its folder: open: no rights", **how)
+        os.chmod(folder, 0o755)
+        self.equals(f"create --disk {folder}/disk", "the files in the folder", [], os.listdir(folder))
 
     def test_another_server_has_it_open(self):
+        """Each word that locks a disk says so by a line and a status of its own."""
         path = self.disk()
+        (self.room / "lines").write_bytes(b"")
+        words = [["create"], ["create", "--overwrite"], ["serve"], ["attend"], ["dump"], ["batch", self.room / "lines"]]
         with Server(path) as server:
             self.answers(server, "list", "jobs")
-            self.isnt_opened(path, "lock: another server has it open")
-            self.create(path, "lock: another server has it open")
+            for word, *more in words:
+                ran = run(word, "--disk", path, *more, given="list")
+                self.equals(ran.command, "status and standard output", (6, b""), (ran.status, ran.out))
+                self.tells(ran, "locked", f"{path}: lock: another server has it open")
             self.ends(server)
         self.serves(path, "list", ["jobs"])
 
-    def test_a_device_and_a_pipe_cant_be_synced(self):
+    def test_a_device_a_pipe_and_a_socket_are_told_at_once(self):
         os.mkfifo(self.room / "pipe")
-        for path in ("/dev/full", "/dev/null", self.room / "pipe"):
-            self.isnt_opened(path, "sync: not possible with such a file")
-            self.create(path, "sync: not possible with such a file")
+        os.symlink(self.room / "pipe", self.room / "link")
+        with socket.socket(socket.AF_UNIX) as bound:
+            bound.bind(str(self.room / "socket"))
+        devices = [(it, "is a device") for it in ("/dev/full", "/dev/null", "/dev/zero")]
+        pipes = [(self.room / it, "is a pipe") for it in ("pipe", "link")]
+        for path, cause in (*devices, *pipes, (self.room / "socket", "is a socket")):
+            self.isnt_opened(path, f"open: {cause}", seconds=20)
+            self.create(path, f"open: {cause}", seconds=20)
+            self.create(path, f"open: {cause}", "--overwrite", seconds=20)
 
     def test_a_program_that_runs(self):
         program = shutil.copy(PROGRAM, self.room / "icserve")
@@ -117,7 +132,7 @@ class Causes(Trial):
             if ran.behind:
                 told.add(ran.behind.decode().removeprefix(f"{path}: ").rstrip("\n"))
         calls = {f"{call}: input/output error of the device" for call in ("open", "lock", "length", "seek", "read", "sync")}
-        self.equals(ran.command, "what was told", {"write: no room left on the device", *calls}, told - {"a call to it has failed"})
+        self.equals(ran.command, "what was told", {"write: no room left on the device", *calls}, told)
 
     def test_a_file_that_is_no_disk(self):
         path = self.room / "file"

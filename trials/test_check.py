@@ -40,7 +40,7 @@ class Check(Trial):
         return ran.out.decode()
 
     def test_each_row(self):
-        texts = [expanded(text) for _, _, text, _ in rows("ic_rows", *CONFIGS, *SYSTEMS)]
+        texts = [expanded(text) for where in ("ic_rows", "texts") for _, _, text, _ in rows(where, *CONFIGS, *SYSTEMS)]
         files = self.put(*texts)
         for at in range(0, len(files), 50):
             self.tells(files[at : at + 50])
@@ -172,7 +172,7 @@ class Check(Trial):
         os.mkfifo(self.room / "pipe")
         missing = [f"{self.room}/missing: open: no such file or folder"]
         folder = [f"{self.room}: read: is a folder"]
-        pipe = [f"{self.room}/pipe: open: not possible with such a file"]
+        pipe = [f"{self.room}/pipe: open: is a pipe"]
         told, _ = checked(faulty, text)
         for paths, out, behind in (
             ([self.room / "missing"], [], missing),

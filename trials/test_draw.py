@@ -1,4 +1,4 @@
-"""The word `draw`: the rows of ic_rows through the built program, its graphs as nets, and Graphviz's eyes on them."""
+"""The word `draw`: the rows of trials/rows through the built program, its graphs as nets, and Graphviz's eyes on them."""
 
 import re
 import shutil
@@ -39,7 +39,7 @@ class Rows(Trial):
 
     def test_each_row_has_its_graph_or_its_refusal(self):
         tried = 0
-        for name, _, text, answer in rows("ic_rows", "draw"):
+        for name, _, text, answer in rows("texts", "draw"):
             with self.subTest(name=name):
                 if answer.startswith(b"graph"):
                     self.runs("draw", given=expanded(text), out=answer)
@@ -83,7 +83,7 @@ class Graphs(Trial):
     def texts(self):
         """The examples, and the short texts of the rows that aren't refused."""
         yield from (it.read_text() for it in examples())
-        for text in short_texts("ic_rows", "draw"):
+        for text in short_texts("texts", "draw"):
             if run("draw", given=text).status == 0:
                 yield text.decode()
 
@@ -162,7 +162,7 @@ class Pictures(Trial):
                 self.shows(self.svg_of(graph), graph.decode())
 
     def test_graphviz_takes_symbols_of_32_letters_and_each_row(self):
-        for name, _, _, answer in rows("ic_rows", "draw"):
+        for name, _, _, answer in rows("texts", "draw"):
             if answer.startswith(b"graph") and len(answer) < 20_000:
                 with self.subTest(name=name):
                     self.svg_of(answer)

@@ -5,8 +5,12 @@ import model
 from against_model import ModelTrial
 from worked_rows import short_texts
 
-SYSTEMS = short_texts("ic_rows", "system", "once")
-CONFIGS = [*short_texts("ic_rows", "config", "settle"), *short_texts("ic_round_rows", "both_bodies")]
+SYSTEMS = [*short_texts("ic_rows", "system"), *short_texts("texts", "once")]
+CONFIGS = [
+    *short_texts("ic_rows", "config"),
+    *short_texts("texts", "settle"),
+    *short_texts("ic_round_rows", "both_bodies"),
+]
 LINES = short_texts("ic_job_rows", "line")
 
 

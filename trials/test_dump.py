@@ -91,7 +91,7 @@ class Dump(ModelTrial):
         self.same_file("dump", disk)
         with Server(self.path) as server:
             self.answers(server, "list", "jobs two:done:2 long:done:1")
-            ran = self.refuses("dump", "--disk", self.path, line="device", status=3)
+            ran = self.refuses("dump", "--disk", self.path, line="locked", status=6)
             self.equals(ran.command, "that the lock is told", True, b"another server has it open" in ran.behind)
             self.ends(server)
         ran = self.refuses("dump", "--disk", self.room / "none", line="device", status=3)

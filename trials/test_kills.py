@@ -79,10 +79,14 @@ class Kills(Stops):
                 self.equals(ran.command, f"within {PROMPT} seconds", True, time.monotonic() - began < PROMPT)
                 self.equals(ran.command, "status and standard error", (-sign, b""), (ran.status, ran.err))
                 table = self.found(ran, disk, self.may_be_left(ran, lines, (), 1))
-                if 10 < table[0].rounds < 6010:
+                if 1010 < table[0].rounds < 6010:
                     break
-            in_midst = 10 < table[0].rounds < 6010
-            self.equals(ran.command, f"whether the signal came in the midst, at {table[0].rounds} rounds", True, in_midst)
+            rounds = table[0].rounds
+            self.equals(ran.command, f"whether the signal came in the midst, at {rounds} rounds", True, 1010 < rounds < 6010)
+            # Of the last run that is whole the answer may not have been written yet.
+            least = (rounds - 11) // 1000
+            came = ran.out.count(b"ran 1000\n")
+            self.equals(ran.command, f"answers to runs, {came}, at {rounds} rounds", True, came >= least)
 
     def test_sigpipe_is_no_reason_to_end(self):
         with Server(self.disk()) as server:

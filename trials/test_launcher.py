@@ -1,5 +1,6 @@
-"""The launcher `icserve`: it builds the program where that is missing or its sources have changed, and starts it. In place of
-the prover stands a script, so nothing is proved here."""
+"""The launcher `icserve`: it builds the program where that is missing or its sources have changed, and starts it: the proved
+one where that is there, else one that isn't proved. Scripts stand for the prover and for what builds without it, so nothing
+is proved here; one trial makes the real build that proves nothing."""
 
 import os
 import shutil
@@ -8,19 +9,31 @@ import subprocess
 import time
 
 from program import PATIENCE, PROGRAM, TOP, Trial, heeds_signals, run
+from test_pages import blocks_of, typed_in
 
 # What the launcher and the build call, but for make and rt.
-TOOLS = "sh env cat cp dirname find flock grep mkdir mv nice readlink rm sed setsid sha256sum sleep sort xargs".split()
+TOOLS = "sh env cat cp dirname find flock grep install mkdir mv nice python3 readlink rm sed setsid sha256sum sleep sort xargs"
 
 # Stands for `rt lib` in the room of a library, and for `rt run` in crates/icserve: notes its calls, and puts the program where
 # the prover would.
 RT = f"""#!/bin/sh
 echo "$1" >> "$CALLS"
 [ -z "$SLOW" ] || sleep "$SLOW"
-[ -z "$UNTIL" ] || while [ ! -e "$UNTIL" ]; do sleep 0.05; done
 [ "$FAILS" != "$1" ] || exit 1
 if [ "$1" = lib ]; then mkdir -p out/rlib; else cp "{PROGRAM}" out/icserve; fi
 """
+
+# Stands for `build.py`, which builds without a proof.
+BUILD = f"""#!/bin/sh
+mkdir "$1/rooms"
+echo build >> "$CALLS"
+[ -z "$SLOW" ] || sleep "$SLOW"
+[ -z "$UNTIL" ] || while [ ! -e "$UNTIL" ]; do sleep 0.05; done
+[ -z "$REFUSES" ] || exit "$REFUSES"
+cp "{PROGRAM}" "$1/icserve"
+"""
+
+ISNT_PROVED = "It isn't proved on this machine: `make prove` proves it"
 
 
 class Launcher(Trial):
@@ -28,49 +41,99 @@ class Launcher(Trial):
         super().setUp()
         self.calls = self.room / "calls"
         self.calls.write_text("")
-        for name in ("icserve", "build.mk"):
+        for name in ("icserve", "Makefile"):
             shutil.copy(TOP / name, self.room / name)
         (self.room / "crates.txt").write_text("low:\nicserve: low\n")
         for part in ("src", "specs", "proofs"):
             (self.room / "crates/icserve" / part).mkdir(parents=True)
             (self.room / "crates/low" / part).mkdir(parents=True)
-        (self.room / "crates/icserve/src/main.rt").write_text("first\n")
+        self.source = self.room / "crates/icserve/src/main.rt"
+        self.source.write_text("first\n")
         self.tools = self.room / "tools"
         self.tools.mkdir()
-        (self.tools / "rt").write_text(RT)
-        (self.tools / "rt").chmod(0o755)
+        for path, text in ((self.tools / "rt", RT), (self.room / "build.py", BUILD)):
+            path.write_text(text)
+            path.chmod(0o755)
         if not os.access(self.tools / "rt", os.X_OK):
             self.skipTest(f"programs in {self.room} can't be started here")
-        for name in ("make", *TOOLS):
+        for name in ("make", *TOOLS.split()):
             if shutil.which(name):
                 (self.tools / name).symlink_to(shutil.which(name))
+        self.env = {"PATH": str(self.tools), "CALLS": str(self.calls), "HOME": str(self.room)}
 
     def launch(self, *words, given=b"<r|r=Z>", path=None, **variables):
-        env = {"PATH": str(self.tools), "CALLS": str(self.calls), **variables}
-        return run(*words, given=given, program=path or self.room / "icserve", env=env, cwd="/")
+        return run(*words, given=given, program=path or self.room / "icserve", env={**self.env, **variables}, cwd="/")
 
-    def built(self):
-        return self.calls.read_text().split().count("run")
+    def make(self, *words, **variables):
+        """Runs make, which must end well: what it said."""
+        ran = run("-C", self.room, "--no-print-directory", *words, program=self.tools / "make", env={**self.env, **variables})
+        self.equals(ran.command, f"status; it said {ran.err}", 0, ran.status)
+        return ran.err.decode()
 
-    def is_built(self, times):
-        """Fails unless the program has been built so often."""
-        self.equals("./icserve", "how often it was built", times, self.built())
+    def calls_are(self, *calls):
+        """Fails unless the prover and the build without a proof were called so, as told by their notes."""
+        self.equals("./icserve", "what was called", list(calls), self.calls.read_text().split())
 
     def settles(self, **variables):
-        """Fails unless a launch settles a configuration, whatever is told of a build."""
+        """Fails unless a launch settles a configuration, whatever is told of a build: what is told."""
         ran = self.launch("settle", **variables)
         self.ended(ran._replace(err=b""), out=["<Z|>"])
-        return ran.err
+        return ran.err.decode()
 
-    def test_it_builds_once_and_again_where_a_source_has_changed(self):
-        told = b"icserve: proving and building what has changed"
-        self.agrees("./icserve settle", "what is told of a build", told, self.settles()[: len(told)])
+    def says(self, text, told):
+        self.equals("./icserve", f"whether it tells {text}; it told {told}", True, text in told)
+
+    def test_it_builds_once_without_a_proof_and_again_where_a_source_has_changed(self):
+        self.says(ISNT_PROVED, self.settles())
         for _ in range(3):
-            self.agrees("./icserve settle, once more", "standard error", b"", self.settles())
-        self.is_built(1)
-        (self.room / "crates/icserve/src/main.rt").write_text("second\n")
+            self.agrees("./icserve settle, once more", "standard error", "", self.settles())
+        self.calls_are("build")
+        self.source.write_text("second\n")
+        self.says(ISNT_PROVED, self.settles())
+        self.calls_are("build", "build")
+
+    def test_the_proved_program_is_run_where_it_is_there_of_these_sources(self):
+        self.make("prove")
+        self.calls_are("lib", "run")
+        self.agrees("./icserve settle", "standard error", "", self.settles())
+        (self.room / "crates/icserve/out/icserve").write_text("#!/bin/sh\necho proved\n")
+        (self.make("build"), self.calls_are("lib", "run", "build"))
+        self.ended(self.launch("settle"), out=["proved"])
+        self.says("is proved", self.make("install", "PREFIX=prefix"))
+        self.ended(run(program=self.room / "prefix/bin/icserve"), out=["proved"])
+        self.source.write_text("second\n")
+        self.says(ISNT_PROVED, self.settles())
+        self.says("isn't proved", self.make("install", "PREFIX=prefix"))
+        self.runs("settle", given="<r|r=Z>", out=["<Z|>"], program=self.room / "prefix/bin/icserve")
+        self.source.write_text("first\n")
+        self.ended(self.launch("settle"), out=["proved"])
+        self.calls_are("lib", "run", "build", "build")
+
+    def test_neither_program_passes_for_the_other(self):
         self.settles()
-        self.is_built(2)
+        (self.room / "crates/icserve/out").mkdir(parents=True)
+        shutil.copy(self.room / "out/sources", self.room / "crates/icserve/out/sources")
+        self.says("isn't proved", self.make("install", "PREFIX=prefix"))
+        self.make("prove")
+        self.calls_are("build", "lib", "run")
+
+    def test_where_it_cant_be_built_without_a_proof_it_is_proved(self):
+        told = self.settles(REFUSES="1")
+        self.says("it can't be built so with this kit, for the reason above, and is proved first", told)
+        self.agrees("./icserve settle, once more", "standard error", "", self.settles())
+        self.calls_are("build", "lib", "run")
+
+    def test_where_the_kit_lacks_what_builds_without_a_proof_it_is_proved(self):
+        shutil.copy(TOP / "build.py", self.room / "build.py")
+        told = self.settles()
+        self.says("this kit has other tools", told)
+        self.says("and is proved first", told)
+        self.calls_are("lib", "run")
+
+    def test_status_4_and_no_proof_where_the_sources_are_refused(self):
+        ran = self.launch("settle", REFUSES="3")
+        self.ended(ran._replace(err=b""), status=4)
+        self.calls_are("build")
 
     def test_it_hands_on_words_input_and_status_through_links_too(self):
         (self.room / "folder").mkdir()
@@ -82,21 +145,21 @@ class Launcher(Trial):
 
     def test_status_4_where_what_it_is_made_from_isnt_proved(self):
         for fails, name in (("lib", "low"), ("run", "icserve")):
-            ran = self.launch("settle", FAILS=fails)
+            ran = self.launch("settle", FAILS=fails, REFUSES="1")
             self.ended(ran._replace(err=b""), status=4)
             told = f"icserve: {name} could not be proved and built; see {self.room}/crates/{name}/out/build.log\n".encode()
             self.equals(ran.command, f"whether it told {told}; it told {ran.err}", True, told in ran.err)
         self.settles()
 
-    def test_status_4_where_make_is_wanting(self):
+    def test_status_4_where_make_is_wanting_for_a_proof(self):
         (self.tools / "make").unlink()
-        ran = self.launch("settle")
+        ran = self.launch("settle", REFUSES="1")
         self.ended(ran._replace(err=ran.err.splitlines()[-1]), err="icserve: GNU make is wanting", status=4)
-        self.is_built(0)
+        self.settles()
 
     def test_two_launches_build_once(self):
         """The build goes on until two launches have said that they wait for it."""
-        env = {"PATH": str(self.tools), "CALLS": str(self.calls), "UNTIL": str(self.room / "all wait")}
+        env = {**self.env, "UNTIL": str(self.room / "all wait")}
         errors = [open(self.room / f"errors {i}", "w+b") for i in range(3)]
         self.addCleanup(lambda: [it.close() for it in errors])
         pipes = {"stdin": subprocess.DEVNULL, "stdout": subprocess.DEVNULL}
@@ -109,23 +172,60 @@ class Launcher(Trial):
         ends = [it.wait(PATIENCE) for it in started]
         waiting = sum(b"waiting for another launch" in it for it in told())
         self.equals("three launches", f"ends, and how many waited; told {told()}", ([0, 0, 0], 2), (ends, waiting))
-        self.is_built(1)
+        self.calls_are("build")
 
-    def test_a_build_that_is_interrupted_ends_with_its_launch_and_is_begun_anew(self):
-        env = {"PATH": str(self.tools), "CALLS": str(self.calls), "SLOW": "30"}
-        rooms = self.room / "crates/icserve/out/rooms"
+    def interrupted(self, rooms, seen, **variables):
+        """Sends each signal to a launch once its build has made what is to be seen: it ends and leaves no rooms."""
         for sign in (signal.SIGINT, signal.SIGTERM, signal.SIGHUP):
+            env = {**self.env, "SLOW": "30", **variables}
             pipes = {"stdin": subprocess.DEVNULL, "stdout": subprocess.DEVNULL, "stderr": subprocess.DEVNULL}
             started = subprocess.Popen([self.room / "icserve", "settle"], env=env, preexec_fn=heeds_signals, **pipes)
             self.addCleanup(started.kill)
             end = time.monotonic() + PATIENCE
             while not self.calls.read_text() and started.poll() is None and time.monotonic() < end:
                 time.sleep(0.02)
-            what = f"./icserve settle, {sign!r} while it builds"
-            self.equals(what, "whether a library is built in a room", True, (rooms / "low").exists())
+            what = f"./icserve settle {variables}, {sign!r} while it builds"
+            self.equals(what, f"whether {seen} is there", True, seen.exists())
             started.send_signal(sign)
             self.equals(what, "status", 4, started.wait(PATIENCE))
             self.equals(what, "whether rooms are left", False, rooms.exists())
             self.calls.write_text("")
+
+    def test_a_build_that_is_interrupted_ends_with_its_launch_and_is_begun_anew(self):
+        self.interrupted(self.room / "out/rooms", self.room / "out/rooms")
         self.settles()
-        self.is_built(1)
+        self.calls_are("build")
+
+    def test_a_proof_that_is_interrupted_ends_with_its_launch_and_is_begun_anew(self):
+        rooms = self.room / "crates/icserve/out/rooms"
+        self.interrupted(rooms, rooms / "low", ICSERVE_BUILD="proved")
+        self.make("prove")
+        self.calls_are("lib", "run")
+
+
+class FirstCommands(Trial):
+    """What the README begins with, on a clean copy of this repository, by the real build that proves nothing."""
+
+    seconds = 240
+
+    def test_the_first_commands_of_the_readme_answer_on_a_clean_copy(self):
+        if not os.access(shutil.which("rt") or "/opt/rattle/bin/rt", os.X_OK):
+            self.skipTest("the kit isn't here")
+        copy = self.room / "copy"
+        shutil.copytree(TOP, copy, ignore=shutil.ignore_patterns("out", ".git", ".rattle", "__pycache__"))
+        (self.room / "section.md").write_text((TOP / "README.md").read_text().split("## Try it")[1].split("\n## ")[0])
+        told = ISNT_PROVED
+        for command, wanted in [it for block in blocks_of(self.room / "section.md") for it in typed_in(block)]:
+            if "dot " in command and not shutil.which("dot"):
+                continue
+            words = ["sh", "-c", command.replace("/tmp/", f"{self.room}/")]
+            ran = subprocess.run(words, cwd=copy, stdin=subprocess.DEVNULL, capture_output=True, timeout=PATIENCE * 12)
+            err = ran.stderr.decode()
+            self.agrees(f"{command}, which said {err}", "what it prints", "".join(f"{it}\n" for it in wanted), ran.stdout)
+            self.equals(command, f"whether it tells just the first time: {told}; it told {err}", True, told in err and bool(told) == bool(err))
+            told = ""
+        self.equals("./icserve", "whether something was proved", False, (copy / "crates/icserve/out").exists())
+        for text in sorted(TOP.glob("examples/*.ic")):
+            for word in ("settle", "once", "reduce", "draw"):
+                ran, wanted = (run(word, given=text.read_bytes(), program=it) for it in (copy / "out/icserve", PROGRAM))
+                self.ended(ran, wanted.out, wanted.err, wanted.status)

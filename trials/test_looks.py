@@ -1,4 +1,4 @@
-"""The words `reduce`, `trace` and `draw`: the rows of ic_rows through the built program, each exit status and each line of
+"""The words `reduce`, `trace` and `draw`: the rows of trials/rows through the built program, each exit status and each line of
 standard error, and what goes wrong on the way."""
 
 import re
@@ -29,7 +29,7 @@ ENDS = re.compile(rb"(<.*>)\n(?:done \d+(?: stuck (?P<pair>.*))?|(?P<rest>not do
 
 def asked(kinds):
     """The rows of these kinds: name, kind, how many rounds, the text and the answer."""
-    for name, kind, text, answer in rows("ic_rows", *kinds):
+    for name, kind, text, answer in rows("texts", *kinds):
         count, _, text = text.partition(" ")
         yield name, kind, count, expanded(text), answer
 

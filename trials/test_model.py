@@ -80,7 +80,7 @@ class TheModelSettlesAsDefined(Trial):
 class TheModelAnswersTheRows(Trial):
     def answers(self, answer, crate, *kinds):
         found = rows(crate, *kinds)
-        self.equals(f"crates/{crate}/stdin", f"rows of {kinds}", True, bool(found))
+        self.equals(f"rows of {crate}", f"rows of {kinds}", True, bool(found))
         for name, kind, text, wanted in found:
             with self.subTest(name, kind=kind, text=text[:200]):
                 wanted = wanted.partition(b", jobs before")[0]
@@ -92,7 +92,7 @@ class TheModelAnswersTheRows(Trial):
             ran = model_disk.settle(expanded(text))
             return (ran.out or b"%d " % ran.status + ran.err).decode()[:-1].replace("1 icserve: ", "")
 
-        self.answers(answer, "ic_rows", "settle")
+        self.answers(answer, "texts", "settle")
         self.answers(answer, "ic_round_rows", "both_bodies")
 
     def test_of_one_round(self):
@@ -100,7 +100,7 @@ class TheModelAnswersTheRows(Trial):
             ran = model_disk.once(expanded(text))
             return (ran.out or ran.err).decode()[:-1].replace("icserve: ", "")
 
-        self.answers(answer, "ic_rows", "once")
+        self.answers(answer, "texts", "once")
 
     def test_of_texts(self):
         reads = {"config": model.read_configuration, "system": model.read_system}
@@ -117,17 +117,10 @@ class TheModelAnswersTheRows(Trial):
         self.answers(lambda _, text: line_told(expanded(text)), "ic_job_rows", "line")
 
     def test_of_served_lines(self):
-        self.answers(lambda _, text: served(text)[0], "ic_serving_rows", "serve", "again")
+        self.answers(lambda _, text: served(text)[0], "lines", "serve", "again")
 
     def test_of_numbers_of_slots(self):
-        self.answers(lambda _, text: str(served(text)[1].disk.number), "ic_serving_rows", "newest")
-
-    def test_of_histories(self):
-        def answer(_, text):
-            server = served(text)[1]
-            return f"entries {server.entries}, kept {server.kept}"
-
-        self.answers(answer, "ic_serving_rows", "history")
+        self.answers(lambda _, text: str(served(text)[1].disk.number), "lines", "newest")
 
     def test_of_scripts(self):
         def answer(_, text):

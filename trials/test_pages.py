@@ -1,5 +1,6 @@
 """What the pages show is what the program does: their sessions are read from the pages themselves, and run word for word."""
 
+import os
 import re
 import shlex
 import shutil
@@ -33,18 +34,21 @@ def typed_in(block):
 
 
 class Pages(Trial):
+    seconds = 10
     rooms = IN_MEMORY
 
     def setUp(self):
         super().setUp()
         (self.room / "icserve").symlink_to(PROGRAM)
-        (self.room / "examples").symlink_to(TOP / "examples")
+        for it in ("examples", "cluster"):
+            (self.room / it).symlink_to(TOP / it)
 
     def typed(self, page, commands, wanted, streams=subprocess.STDOUT):
         """Runs the commands of a page by a shell in the trial's folder: they print just these lines."""
         text = "\n".join(commands).replace("/tmp/", shlex.quote(f"{self.room}/"))
         wanted = [it.replace("/tmp/", f"{self.room}/") for it in wanted]
         how = {"cwd": self.room, "stdin": subprocess.DEVNULL, "stdout": subprocess.PIPE, "stderr": streams}
+        how["env"] = {**os.environ, "ICSERVE": PROGRAM, "PARALLEL_HOME": str(self.room)}
         how["timeout"] = PATIENCE
         ran = subprocess.run(["sh", "-c", text], **how)
         self.agrees(f"{page}: {text}", "what it prints", "".join(f"{it}\n" for it in wanted), ran.stdout)
@@ -58,7 +62,7 @@ class Pages(Trial):
         self.equals("README.md", "the lines of examples/addition.session", [it for it in file if it], lines)
         self.typed("README.md", served, prints)
         self.killed_at(killed, prints_then)
-        self.equals("README.md", "how many commands stand behind the session", 3, len(typed_in(console)))
+        self.equals("README.md", "how many commands stand after the session", 1, len(typed_in(console)))
 
     def killed_at(self, commands, prints):
         """The server that is killed after two seconds has answered before. On a machine that is busy it may not have: then the
@@ -82,7 +86,7 @@ class Pages(Trial):
 
     def test_what_is_typed_on_a_page_prints_what_the_page_says(self):
         consoles = []
-        for page in sorted([*TOP.glob("*.md"), *TOP.glob("docs/*.md")]):
+        for page in sorted({*TOP.glob("*.md"), *TOP.glob("docs/*.md")} - {TOP / "docs/cluster.md"}):
             blocks = [it for it in blocks_of(page) if it[0].startswith("$ ")]
             consoles += [(page.relative_to(TOP), typed_in(it)) for it in blocks]
         wanting = {"README.md", "docs/rounds.md", "docs/settling.md"} - {str(page) for page, _ in consoles}
@@ -94,6 +98,17 @@ class Pages(Trial):
                     continue
                 with self.subTest(page=str(page), command=command):
                     self.typed(page, [command], wanted)
+
+    def test_the_session_of_the_page_on_clusters_prints_what_the_page_says(self):
+        if not shutil.which("parallel"):
+            self.skipTest("GNU parallel isn't installed: apt install parallel")
+        console = next(it for it in blocks_of("docs/cluster.md") if it[0].startswith("$ "))
+        for command, wanted in typed_in(console):
+            self.typed("docs/cluster.md", [command], wanted)
+
+    def test_the_script_for_slurm_is_the_one_that_the_page_explains(self):
+        block = next(it for it in blocks_of("docs/cluster.md") if it[0] == "#!/bin/sh")
+        self.holds(TOP / "cluster/array.sbatch", "".join(f"{it}\n" for it in block))
 
     def test_each_line_of_a_session_on_a_page_has_the_answer_behind_it(self):
         for page in ("docs/serving.md", "docs/jobs.md"):
@@ -114,9 +129,9 @@ class Pages(Trial):
                     self.serves(disk, session.read_bytes(), answers, "--workers", workers, "--every", every)
 
     def test_each_text_in_examples_has_the_answer_of_its_row(self):
-        """The answers stand in the file of rows that the gate runs, in rows of the files' names: those of `settle` and
+        """The answers stand in the rows that the trials play, in those of the files' names: those of `settle` and
         `once`, and those of systems that are reduced."""
-        rows = (TOP / "crates/ic_rows/stdin").read_text().splitlines()
+        rows = (TOP / "trials/rows/texts").read_text().splitlines()
         texts = sorted(TOP.glob("examples/*.ic"))
         self.equals("examples/", f"at least 13 texts: {texts}", True, len(texts) >= 13)
         tried = 0

@@ -17,6 +17,15 @@ CONFIGS = ("config", "settle", "config_place", "settle_told")
 SYSTEMS = ("system", "once", "system_place", "once_told")
 
 
+def rows_of(*kinds):
+    """The rows of these kinds, be they answered by a program of rows or by the built program."""
+    return [it for where in ("ic_rows", "texts") for it in rows(where, *kinds)]
+
+
+def short_texts_of(*kinds):
+    return [it for where in ("ic_rows", "texts") for it in short_texts(where, *kinds)]
+
+
 def near(drawn, most):
     """A number near the most that there may be, or none."""
     return drawn.choice([0, 0, most - 1, most, most + 1, most + 2])
@@ -44,13 +53,13 @@ class Places(Trial):
 
     def test_each_row(self):
         for word, kinds in (("settle", CONFIGS), ("once", SYSTEMS)):
-            for _, _, text, _ in rows("ic_rows", *kinds):
+            for _, _, text, _ in rows_of(*kinds):
                 self.tells(word, expanded(text))
 
     def test_fronts_of_texts(self):
         drawn = self.draws()
         for word, kinds in (("settle", CONFIGS), ("once", SYSTEMS)):
-            fronts = dict.fromkeys(text[:at] for text in short_texts("ic_rows", *kinds) for at in range(len(text) + 1))
+            fronts = dict.fromkeys(text[:at] for text in short_texts_of(*kinds) for at in range(len(text) + 1))
             for text in drawn.sample(list(fronts), min(len(fronts), 150)):
                 self.tells(word, text)
 

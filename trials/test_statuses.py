@@ -1,4 +1,4 @@
-"""Each exit status and each line of standard error that README.md and docs/serving.md name, and what a refusal leaves.
+"""Each exit status and each line of standard error that docs/words.md and docs/serving.md name, and what a refusal leaves.
 Want of memory and of threads is tried in test_faults.py; the lines of docs/clients.md in test_attend.py."""
 
 import os
@@ -168,7 +168,7 @@ class Disks(Trial):
 
     def test_create_makes_the_empty_disk_of_the_pages_whatever_the_file_held(self):
         empty = disk_of(slot(1, EMPTY))
-        self.equals("docs/slots.md", "bytes of a new disk", 4_194_317, len(empty))
+        self.equals("docs/book.md", "bytes of a new disk", 4_194_317, len(empty))
         for name, before in [("missing", None), ("short", b"x" * 100), ("zeros", bytes(5_000_000))]:
             with self.subTest(before=name):
                 path = self.room / name
@@ -245,7 +245,7 @@ class Disks(Trial):
         self.refuses("create", "--disk", self.room / "no/folder", line="device", status=3)
         self.refuses("serve", "--disk", "", line="device", status=3)
 
-    def test_device_where_the_file_is_a_folder_or_what_cant_be_synced(self):
+    def test_device_where_the_file_is_a_folder_or_a_device(self):
         self.leaves(self.room, "device")
         self.refuses("create", "--disk", self.room, line="device", status=3)
         for path in ("/dev/full", "/dev/null"):
@@ -297,12 +297,34 @@ class Disks(Trial):
 
 
 class Servings(Trial):
+    def isnt_read(self, ran, cause, out=b""):
+        """Fails unless a run ended with `read`, and this cause behind it, and had answered this."""
+        told = (ran.status, ran.out, ran.err.decode(), ran.behind.decode())
+        self.equals(ran.command, "how it ends", (4, out, "icserve: read\n", f"standard input: read: {cause}\n"), told)
+
     def test_read_where_standard_input_cant_be_read(self):
         disk = self.disk()
         folder = os.open(self.room, os.O_RDONLY)
         self.addCleanup(os.close, folder)
-        for words in (["settle"], ["once"], ["serve", "--disk", disk]):
-            self.refuses(*words, line="read", status=4, stdin=folder)
+        for words in (["settle"], ["once"], ["reduce"], ["trace"], ["draw"], ["serve", "--disk", disk]):
+            self.isnt_read(run(*words, stdin=folder), "is a folder")
+            shell = ["-c", 'exec "$0" "$@" <&-', PROGRAM, *words]
+            self.isnt_read(run(*shell, program="/bin/sh"), "error 9 of the system")
+
+    def test_read_where_standard_input_is_set_not_to_wait(self):
+        """What came before is answered."""
+        disk, wanted = self.disk(), "nothing is there yet, and it is set not to wait"
+        cases = [(["serve", "--disk", disk], b"list\nlist\n", b"jobs\njobs\n"), (["serve", "--disk", disk], b"list", b"")]
+        cases += [([word], b"<|", b"") for word in ("settle", "once", "reduce", "trace", "draw")]
+        for words, given, out in cases:
+            read, write = os.pipe2(os.O_NONBLOCK)
+            try:
+                os.write(write, given)
+                self.isnt_read(run(*words, stdin=read), wanted, out)
+            finally:
+                os.close(read)
+                os.close(write)
+        self.serves(disk, "list", ["jobs"])
 
     def test_write_where_standard_output_cant_be_written(self):
         disk = self.disk()

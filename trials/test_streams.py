@@ -69,13 +69,26 @@ class Slow(Trial):
         self.agrees(server.said(), "the answers", "\n".join(wanted) + "\n", came)
 
     def test_answers_to_lines_that_were_read_together_go_out_together(self):
-        """docs/serving.md: these lines make some 70 writes of answers. Some more are allowed here, as by a pipe that is slow."""
+        """docs/serving.md: these lines make some 100 writes of answers. Some more are allowed here, as by a pipe that is slow."""
         disk, log = self.disk(), self.room / "log"
         lines = [f"submit j{i} {{}} <|x=x>" for i in range(32)] + ["list", "fetch j1"] * 10_000
         ran = run("serve", "--disk", disk, given=lines, env=shimmed(log=log))
         self.equals(ran.command, "status and answers", (0, len(lines)), (ran.status, ran.out.count(b"\n")))
         writes = sum(it.kind == "O" for it in noted(log))
         self.equals(ran.command, f"{writes} writes, at most 200", True, writes <= 200)
+
+    def test_answers_go_out_before_a_run_and_before_a_command_that_is_kept(self):
+        """Of lines that were read together. The disk is written and synced behind what was answered before."""
+        log = self.room / "log"
+        lines = [f"submit loop {LOOP.text}", "list", "run 7", "fetch loop", "pause loop", "no", "resume loop", "run 3", "list"]
+        ran = run("serve", "--disk", self.disk(), given=lines, env=shimmed(log=log))
+        told = []
+        for it in noted(log):
+            said = it.data.decode().splitlines() if it.kind == "O" else ["kept"]
+            told += said if said != told[-1:] else []
+        seventh = f"loop running 7 {LOOP.config(7)}"
+        wanted = ["kept", "accepted", "jobs loop:running:0", "kept", "ran 7", seventh, "kept", "ok", "bad syntax", "kept", "ok", "kept"]
+        self.equals(ran.command, "answers, and keeps between them", [*wanted, "ran 3", "jobs loop:running:10"], told)
 
 
 class Closed(Trial):
@@ -228,8 +241,8 @@ class Locked(Trial):
                 self.answers(server, f"submit two {TWO.text}", "accepted")
                 held = disk.read_bytes()
                 for other in paths:
-                    self.refuses("serve", "--disk", other, given="cancel two", line="device", status=3, cwd=self.room)
-                    self.refuses("create", "--disk", other, line="device", status=3, cwd=self.room)
+                    self.refuses("serve", "--disk", other, given="cancel two", line="locked", status=6, cwd=self.room)
+                    self.refuses("create", "--disk", other, line="locked", status=6, cwd=self.room)
                 self.holds(disk, held)
                 self.answers(server, "fetch two", fetched(job))
                 self.answers(server, "cancel two", "ok")
@@ -255,6 +268,6 @@ class Locked(Trial):
         with Server(one) as first, Server(other) as second:
             self.answers(first, f"submit two {TWO.text}", "accepted")
             self.answers(second, "list", "jobs")
-            self.refuses("serve", "--disk", one, line="device", status=3)
+            self.refuses("serve", "--disk", one, line="locked", status=6)
             self.ends(first)
             self.ends(second)

@@ -1,4 +1,5 @@
-"""The worked rows that stand in the crates' files `stdin`."""
+"""The worked rows: those that programs of rows answer stand in the crates' files `stdin`, and those that the built program
+answers in the folder `rows`."""
 
 from program import TOP
 
@@ -23,10 +24,16 @@ def expanded(text):
     return "".join(parts).encode("latin-1")
 
 
-def rows(crate, *kinds):
+def file_of(where):
+    """The file of rows of a crate, or of the folder `rows`."""
+    crate = TOP / "crates" / where / "stdin"
+    return crate if crate.exists() else TOP / "trials/rows" / where
+
+
+def rows(where, *kinds):
     """The rows of these kinds: name, kind, text and answer."""
     found = []
-    for line in (TOP / "crates" / crate / "stdin").read_text("latin-1").split("\n"):
+    for line in file_of(where).read_text("latin-1").split("\n"):
         name, colon, rest = line.partition(": ")
         asked, arrow, answer = rest.rpartition(" => ")
         kind, _, text = asked.partition(" ")
@@ -35,7 +42,7 @@ def rows(crate, *kinds):
     return found
 
 
-def short_texts(crate, *kinds, most=300):
+def short_texts(where, *kinds, most=300):
     """The different texts of these rows that have at most so many bytes, in order."""
-    texts = [expanded(text) for _, _, text, _ in rows(crate, *kinds)]
+    texts = [expanded(text) for _, _, text, _ in rows(where, *kinds)]
     return list(dict.fromkeys(text for text in texts if len(text) <= most))

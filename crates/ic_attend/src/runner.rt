@@ -1,6 +1,6 @@
 //! A runner: it takes rounds, has its crew make them outside the lock, and lands them.
 
-ghost use Rattle.std.specs.Prelude.{◌≡◌, IfErr, OnOk, false};
+ghost use Rattle.std.specs.Prelude.{◌≡◌, ◌≤◌, ◌+◌, IfErr, OnOk, true, false, if◌then◌else◌};
 ghost use Rattle.ic_pool.specs.Flight.{is_blocked};
 ghost use Rattle.ic_attend.specs.declared.attended.RunnerEnd.TheVariants.{Pool as by_pool};
 ghost use Rattle.ic_attend.specs.Ends.{EndMayBe};
@@ -69,20 +69,39 @@ pub(crate) fn make_rounds<R: Threads + Wait, D: Disk, G: Gate>(
     desk: &Desk<D>,
     signs: &Signs,
     gate: &G,
-    mut crew: Option<Crew>,
+    crew: Option<Crew>,
     duty: Duty,
 ) -> RunnerEnd
     requires { IsReadyFor duty.workers crew }
     ensures { EndMayBe duty.workers result }
 {
+    let mut taken = 0;
+    take_rounds(rt, alloc, desk, signs, gate, crew, duty, &mut taken)
+}
+
+/// The same, and counts the turns that it takes.
+fn take_rounds<R: Threads + Wait, D: Disk, G: Gate>(
+    rt: &R,
+    alloc: Global,
+    desk: &Desk<D>,
+    signs: &Signs,
+    gate: &G,
+    mut crew: Option<Crew>,
+    duty: Duty,
+    taken: &mut usize,
+) -> RunnerEnd
+    requires ready { IsReadyFor duty.workers crew }
+    requires none { taken.old ≡ 0 }
+    ensures end { EndMayBe duty.workers result }
+    ensures turns { taken.new ≤ duty.turns }
+{
     let mut laps = Laps::new();
-    let mut turns_left = duty.turns;
     for _ in rt.forever() {
         if signs.are_told_to_stop() {
             return RunnerEnd::Idle;
         }
         let is_turn = signs.have_all_ended();
-        if is_turn && turns_left == 0 {
+        if !may_take(is_turn, taken, duty.turns) {
             return RunnerEnd::Turns;
         }
         match desk.take(rt, laps.next) {
@@ -97,9 +116,26 @@ pub(crate) fn make_rounds<R: Threads + Wait, D: Disk, G: Gate>(
             Ok(None) => thread::yield_now(),
             Err(fault) => return RunnerEnd::Book(fault),
         }
-        turns_left = turns_left.saturating_sub(usize::from(is_turn));
     }
     unreachable!()
+}
+
+/// Whether a runner may take a round: any while scripts go on, and then so many turns, of which it
+/// counts one more.
+fn may_take(is_turn: bool, taken: &mut usize, turns: usize) -> bool
+    requires { taken.old ≤ turns }
+    ensures most { taken.new ≤ turns }
+    ensures counted { result ≡ true → taken.new ≡ taken.old + (if is_turn then 1 else 0) }
+    ensures used_up { result ≡ false → (is_turn ≡ true) × (taken.old ≡ turns) }
+{
+    if !is_turn {
+        return true;
+    }
+    if *taken == turns {
+        return false;
+    }
+    *taken += 1;
+    true
 }
 
 /// Tells the gate of a round that moved its job, or a halt.

@@ -7,6 +7,7 @@
 //! - `drawn SEED COUNT`: so many drawn sets of scripts.
 //! - `counted DISK RUNNERS TURNS WORKERS SCRIPTS`: how many answers each client has, and why it ended; on a `new` disk or
 //!   a changed one.
+//! - `rounds RUNNERS TURNS WORKERS SUBMIT`: how many rounds are made of a job that is on the disk, without a script.
 //! - `unopened DISK`: why a disk isn't attended that is cut to a length, or has a slot `twice`.
 //! - `served SCRIPT`: a script attended, and given to a book.
 //! - `fused WHEN CALLS`: two clients on a disk that fails at a call, once for each call up to this one, `before` the call
@@ -18,6 +19,7 @@ use crate::drawn::drawn;
 use crate::failing::each_fused;
 use crate::gates::{Meeting, Pair, answered_during_round};
 use crate::served::served;
+use crate::turns::rounds_made;
 use ic_disk::Blow;
 use ic_notation::{Row, Trouble, expanded};
 use ic_pool::{Gate, OpenGate};
@@ -63,6 +65,10 @@ fn answer_text<R: Threads + Wait + Clock + Sync>(
             drawn(rt, alloc, seed as u64, number_first(rest).0)
         }
         "counted" => counted(rt, alloc, text),
+        "rounds" => {
+            let (wanted, submit) = wanted_of(text);
+            rounds_made(rt, alloc, wanted, submit)
+        }
         "unopened" => unopened(rt, alloc, text),
         "served" => served(rt, alloc, text),
         "fused" => fused_of(rt, alloc, text),

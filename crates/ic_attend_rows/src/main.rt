@@ -11,6 +11,7 @@ mod failing;
 mod gates;
 mod scripts;
 mod served;
+mod turns;
 
 use crate::answers::answer;
 use ic_notation::{Row, Tally};

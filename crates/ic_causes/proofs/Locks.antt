@@ -7,7 +7,7 @@ use Rattle.std.specs.declared.io.ErrorKind.TheVariants as kind
 use Rattle.ic_causes.specs.declared.cause.FileCall.{FileCall}
 use Rattle.ic_causes.specs.declared.cause.FileCall.TheVariants.{Lock}
 use Rattle.ic_causes.specs.declared.cause.Reason.{Reason}
-use Rattle.ic_causes.specs.declared.cause.Reason.TheVariants.{Locked, Device, Other}
+use Rattle.ic_causes.specs.declared.cause.Reason.TheVariants.{Locked, NoWait, Device, Other}
 use Rattle.ic_causes.specs.Reasons.{reason_of, reason_of_number, reason_of_wait}
 
 abbrev is_locked : Reason → Bool
@@ -21,12 +21,12 @@ numbered (Some number) = cond_both (unsigned_abs number == 5) Device (Other (uns
 never : {A : Type 0} (r : Reason) → is_locked r ≡ false → r ≡ Locked → A
 never r is e = absurd (false≢true (sym is ∙ ap is_locked e))
 
-held_by : (c : FileCall) (number : Option ℤ) → reason_of_wait c number ≡ Locked → c ≡ Lock
-held_by Lock number e = refl
-held_by _ number e = never (reason_of_number number) (numbered number) e
+held_by : (c : FileCall) → reason_of_wait c ≡ Locked → c ≡ Lock
+held_by Lock e = refl
+held_by _ e = never NoWait refl e
 
 pub held : (c : FileCall) (k : ErrorKind) (number : Option ℤ) → reason_of c k number ≡ Locked → (c ≡ Lock) × (k ≡ kind.WouldBlock)
-held c kind.WouldBlock number e = (held_by c number e, refl)
+held c kind.WouldBlock number e = (held_by c e, refl)
 held c kind.NotFound number e = never _ refl e
 held c kind.IsADirectory number e = never _ refl e
 held c kind.NotADirectory number e = never _ refl e

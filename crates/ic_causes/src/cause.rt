@@ -1,10 +1,26 @@
 //! Which call to a file has failed, and why.
 
 ghost use Rattle.std.specs.Prelude.{◌≡◌};
+ghost use Rattle.std.specs.Fs.{metadata_mode};
 ghost use Rattle.std.specs.IoError.{error_kind, raw_os_error};
-ghost use Rattle.ic_causes.specs.Reasons.{reason_of, reason_of_number, reason_of_wait};
+ghost use Rattle.ic_causes.specs.Reasons.{reason_of, reason_of_mode, reason_of_number, reason_of_wait};
 
+use std::fs::Metadata;
 use std::io::{self, ErrorKind};
+use std::os::unix::fs::MetadataExt;
+
+/// What a call is made on.
+#[derive(Clone, Copy, Debug, PartialEq, Eq)]
+pub enum Target {
+    /// The file of a disk, a script or a text.
+    File,
+    /// The folder in which that file stands.
+    Folder,
+    /// What is opened in the place of a standard stream that is closed: `/dev/null`.
+    StandIn,
+    /// Standard input.
+    Input,
+}
 
 /// A call to a file.
 #[derive(Clone, Copy, Debug, PartialEq, Eq)]
@@ -25,6 +41,12 @@ pub enum Reason {
     Missing,
     /// It is a folder.
     Folder,
+    /// It is a device.
+    SomeDevice,
+    /// It is a pipe.
+    Pipe,
+    /// It is a socket.
+    Socket,
     /// Something on the way to it is no folder.
     NoFolder,
     /// Its name is longer than the system allows.
@@ -37,6 +59,8 @@ pub enum Reason {
     ReadOnly,
     /// Another open of the file holds its lock.
     Locked,
+    /// There is nothing to be had yet, and the call may not wait.
+    NoWait,
     /// It is a program that runs.
     Running,
     /// The device is full.
@@ -72,7 +96,7 @@ impl Reason {
             ErrorKind::FilesystemLoop => Reason::Links,
             ErrorKind::PermissionDenied => Reason::NoRights,
             ErrorKind::ReadOnlyFilesystem => Reason::ReadOnly,
-            ErrorKind::WouldBlock => reason_of_wait(call, error.raw_os_error()),
+            ErrorKind::WouldBlock => reason_of_wait(call),
             ErrorKind::ExecutableFileBusy => Reason::Running,
             ErrorKind::StorageFull => Reason::NoRoom,
             ErrorKind::QuotaExceeded => Reason::NoShare,
@@ -85,12 +109,26 @@ impl Reason {
             _ => reason_of_number(error.raw_os_error()),
         }
     }
+
+    /// Why what is so is neither read nor written: none of a plain file. Nor is there one of a
+    /// folder, since the call that fails says that it is one.
+    pub fn of_special(about: &Metadata) -> Option<Reason>
+        ensures { result ≡ reason_of_mode (metadata_mode about.now) }
+    {
+        match about.mode() & 0o170000 {
+            0o100000 | 0o040000 => None,
+            0o060000 | 0o020000 => Some(Reason::SomeDevice),
+            0o010000 => Some(Reason::Pipe),
+            0o140000 => Some(Reason::Socket),
+            _ => Some(Reason::NotPossible),
+        }
+    }
 }
 
 /// The reason of a call that would have to wait: a lock alone is then held by another open of the
 /// file.
-fn reason_of_wait(call: FileCall, number: Option<i32>) -> Reason
-    ensures { result ≡ reason_of_wait call number }
+fn reason_of_wait(call: FileCall) -> Reason
+    ensures { result ≡ reason_of_wait call }
 {
     match call {
         FileCall::Lock => Reason::Locked,
@@ -99,7 +137,7 @@ fn reason_of_wait(call: FileCall, number: Option<i32>) -> Reason
         | FileCall::Seek
         | FileCall::Read
         | FileCall::Write
-        | FileCall::Sync => reason_of_number(number),
+        | FileCall::Sync => Reason::NoWait,
     }
 }
 
@@ -120,10 +158,10 @@ fn reason_of_number(number: Option<i32>) -> Reason
     }
 }
 
-/// A call that failed, of the file itself or of the folder in which it stands, and why.
+/// A call that failed, what it was made on, and why.
 #[derive(Clone, Copy, Debug, PartialEq, Eq)]
 pub struct Cause {
-    pub of_folder: bool,
+    pub target: Target,
     pub call: FileCall,
     pub reason: Reason,
 }

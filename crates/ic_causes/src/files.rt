@@ -2,7 +2,7 @@
 
 ghost use Rattle.std.specs.Prelude.{◌≡◌};
 
-use crate::{FileCall, Notes};
+use crate::{FileCall, Notes, Target};
 use ic_disk::DiskFile;
 use std::alloc::Allocator;
 use std::fs::{File, Metadata, OpenFile, OpenOptions};
@@ -10,7 +10,8 @@ use std::io::{self, Read, Seek, SeekFrom, Write};
 use std::rt::Files;
 
 /// The files of a runtime, while the disk in the file of this path is opened. A call to a file
-/// that fails is noted as `Notes` says; what is opened by another path is the folder of that file.
+/// that fails is noted as `Notes` says, and so is a special file that is looked at; what is opened by
+/// another path is the folder of that file.
 #[derive(Drop)]
 pub struct NotedFiles<'a, 'n, R> {
     pub rt: &'a R,
@@ -22,7 +23,7 @@ pub struct NotedFiles<'a, 'n, R> {
 #[derive(Drop)]
 pub struct NotedFile<'n> {
     file: File,
-    is_folder: bool,
+    target: Target,
     notes: &'n Notes,
 }
 
@@ -31,8 +32,19 @@ impl NotedFile<'_> {
     fn noted<T: Drop>(&self, call: FileCall, answer: io::Result<T>) -> io::Result<T>
         ensures { result ≡ answer }
     {
-        self.notes.note(self.is_folder, call, &answer);
+        self.notes.note(self.target, call, &answer);
         answer
+    }
+}
+
+impl<R> NotedFiles<'_, '_, R> {
+    /// What a call by this path is made on.
+    fn target_of(&self, path: &str) -> Target {
+        if path == self.path {
+            Target::File
+        } else {
+            Target::Folder
+        }
     }
 }
 
@@ -64,7 +76,9 @@ impl Seek for NotedFile<'_> {
 
 impl OpenFile for NotedFile<'_> {
     fn metadata(&self) -> io::Result<Metadata> {
-        self.noted(FileCall::Length, self.file.metadata())
+        let answer = self.file.metadata();
+        self.notes.note_kind(self.target, &answer);
+        self.noted(FileCall::Length, answer)
     }
 
     fn set_len(&self, size: u64) -> io::Result<()> {
@@ -92,12 +106,12 @@ impl<'n, R: Files<File = File>> Files for NotedFiles<'_, 'n, R> {
     type Dir = R::Dir;
 
     fn open_file(&self, how: &OpenOptions, path: &str) -> io::Result<NotedFile<'n>> {
-        let is_folder = path != self.path;
+        let target = self.target_of(path);
         let answer = self.rt.open_file(how, path);
-        self.notes.note(is_folder, FileCall::Open, &answer);
+        self.notes.note(target, FileCall::Open, &answer);
         Ok(NotedFile {
             file: answer?,
-            is_folder,
+            target,
             notes: self.notes,
         })
     }
@@ -107,7 +121,9 @@ impl<'n, R: Files<File = File>> Files for NotedFiles<'_, 'n, R> {
     }
 
     fn metadata(&self, path: &str) -> io::Result<Metadata> {
-        self.rt.metadata(path)
+        let answer = self.rt.metadata(path);
+        self.notes.note_kind(self.target_of(path), &answer);
+        answer
     }
 
     fn symlink_metadata(&self, path: &str) -> io::Result<Metadata> {

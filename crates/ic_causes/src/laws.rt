@@ -1,7 +1,9 @@
 //! Laws of the definitions that the contracts of this crate cite.
 
-ghost use Rattle.std.specs.Prelude.{◌≡◌, ◌≢◌, ◌≤◌, ◌<◌, ℕ, Bool, true, false, List, [], ◌∷◌, ◌++◌, ℤ, Option, None, Some, Err, codes, length, map, pos};
+ghost use Rattle.std.specs.Prelude.{◌≡◌, ◌≢◌, ◌⊎◌, ◌↔◌, ◌≤◌, ◌<◌, ℕ, true, List, [], ◌∷◌, ◌++◌, ℤ, Option, None, Some, Ok, Err, codes, length, map, pos};
 ghost use Rattle.std.specs.List.{list_all};
+ghost use Rattle.std.specs.Fs.{IsDir, IsFile, file_type, metadata_mode};
+ghost use Rattle.std.specs.declared.fs.attrs.Metadata.{Metadata};
 ghost use Rattle.std.specs.IoError.{error_kind, raw_os_error};
 ghost use Rattle.std.specs.Fmt.{decimal};
 ghost use Rattle.std.specs.declared.io.ErrorKind.{ErrorKind};
@@ -9,10 +11,12 @@ ghost use Rattle.std.specs.declared.io.ErrorKind.TheVariants.{NotFound, Permissi
 ghost use Rattle.ic_causes.specs.declared.cause.Cause.{Cause};
 ghost use Rattle.ic_causes.specs.declared.cause.FileCall.{FileCall};
 ghost use Rattle.ic_causes.specs.declared.cause.FileCall.TheVariants as call;
+ghost use Rattle.ic_causes.specs.declared.cause.Target.{Target};
+ghost use Rattle.ic_causes.specs.declared.cause.Target.TheVariants as target;
 ghost use Rattle.ic_causes.specs.declared.cause.Reason.{Reason};
 ghost use Rattle.ic_causes.specs.declared.cause.Reason.TheVariants as reason;
-ghost use Rattle.ic_causes.specs.Reasons.{reason_of};
-ghost use Rattle.ic_causes.specs.Noted.{cause_of, noted_after};
+ghost use Rattle.ic_causes.specs.Reasons.{reason_of, reason_of_mode};
+ghost use Rattle.ic_causes.specs.Noted.{cause_of, cause_of_kind, noted_after};
 ghost use Rattle.ic_causes.specs.Causes.{call_word, cause_line, is_printable, reason_words, shown_path};
 
 use std::io;
@@ -20,26 +24,38 @@ use std::io;
 /// What a line says: the path, the call and the reason.
 pub fn a_cause_is_told()
     ensures missing { cause_line (codes "a.disk") (Some (record {
-      of_folder = false;
+      target = target.File;
       call = call.Open;
       reason = reason.Missing;
     })) ≡ codes "a.disk: open: no such file or folder" ++ 10 ∷ [] }
     ensures locked { cause_line (codes "a.disk") (Some (record {
-      of_folder = false;
+      target = target.File;
       call = call.Lock;
       reason = reason.Locked;
     })) ≡ codes "a.disk: lock: another server has it open" ++ 10 ∷ [] }
     ensures full { cause_line (codes "a.disk") (Some (record {
-      of_folder = false;
+      target = target.File;
       call = call.Write;
       reason = reason.NoRoom;
     })) ≡ codes "a.disk: write: no room left on the device" ++ 10 ∷ [] }
     ensures folder { cause_line (codes "a.disk") (Some (record {
-      of_folder = true;
+      target = target.Folder;
       call = call.Sync;
       reason = reason.Device;
     }))
         ≡ codes "a.disk: its folder: sync: input/output error of the device" ++ 10 ∷ [] }
+    ensures stand_in { cause_line (codes "a.disk") (Some (record {
+      target = target.StandIn;
+      call = call.Open;
+      reason = reason.Missing;
+    })) ≡ (codes "/dev/null, in the place of a closed standard stream: open: "
+        ++ codes "no such file or folder") ++ 10 ∷ [] }
+    ensures input { cause_line (codes "a.disk") (Some (record {
+      target = target.Input;
+      call = call.Read;
+      reason = reason.NoWait;
+    })) ≡ (codes "standard input: read: nothing is there yet, "
+        ++ codes "and it is set not to wait") ++ 10 ∷ [] }
     ensures untold { cause_line (codes "a.disk") None
         ≡ codes "a.disk: a call to it has failed" ++ 10 ∷ [] }
     ensures safe { shown_path (97 ∷ 27 ∷ 10 ∷ 127 ∷ 194 ∷ 155 ∷ []) ≡ codes "a?????" }
@@ -66,6 +82,8 @@ pub fn calls_are_told_in_words()
 pub fn reasons_are_told_in_words()
     ensures missing { reason_words reason.Missing ≡ codes "no such file or folder" }
     ensures folder { reason_words reason.Folder ≡ codes "is a folder" }
+    ensures special { map reason_words (reason.SomeDevice ∷ reason.Pipe ∷ reason.Socket ∷ [])
+        ≡ codes "is a device" ∷ codes "is a pipe" ∷ codes "is a socket" ∷ [] }
     ensures no_folder { reason_words reason.NoFolder
         ≡ codes "a name on the way to it is no folder's" }
     ensures long_name { reason_words reason.LongName ≡ codes "the name is too long" }
@@ -73,6 +91,8 @@ pub fn reasons_are_told_in_words()
     ensures no_rights { reason_words reason.NoRights ≡ codes "no rights" }
     ensures read_only { reason_words reason.ReadOnly ≡ codes "the file system takes no writes" }
     ensures locked { reason_words reason.Locked ≡ codes "another server has it open" }
+    ensures no_wait { reason_words reason.NoWait
+        ≡ codes "nothing is there yet, and it is set not to wait" }
     ensures running { reason_words reason.Running ≡ codes "is a program that runs" }
     ensures no_room { reason_words reason.NoRoom ≡ codes "no room left on the device" }
     ensures no_share { reason_words reason.NoShare ≡ codes "no room left of the quota" }
@@ -90,30 +110,29 @@ pub fn reasons_are_told_in_words()
 /// Of a call that fails its own error is noted, and of an interrupted one nothing. It stands until
 /// another is.
 pub fn the_last_failure_is_noted(error: &io::Error)
-    ensures failed { (of_folder : Bool) (c : FileCall) → error_kind error.now ≢ Interrupted
-        → cause_of {T = Unit {0}} of_folder c (Err error.now) ≡ Some (record {
-          of_folder = of_folder;
+    ensures failed { (t : Target) (c : FileCall) → error_kind error.now ≢ Interrupted
+        → cause_of {T = Unit {0}} t c (Err error.now) ≡ Some (record {
+          target = t;
           call = c;
           reason = reason_of c (error_kind error.now) (raw_os_error error.now);
         }) }
-    ensures interrupted { (of_folder : Bool) (c : FileCall) → error_kind error.now ≡ Interrupted
-        → cause_of {T = Unit {0}} of_folder c (Err error.now) ≡ None }
+    ensures interrupted { (t : Target) (c : FileCall) → error_kind error.now ≡ Interrupted
+        → cause_of {T = Unit {0}} t c (Err error.now) ≡ None }
     ensures stays { (before : Option Cause) → noted_after before None ≡ before }
     ensures later { (before : Option Cause) (cause : Cause)
         → noted_after before (Some cause) ≡ Some cause }
 {}
 
-/// The reason of errors of the system with the numbers 2, 13, 11, 28, 5 and 6, or with none. Only of
-/// one that says that a call would have to wait it goes by the call: a lock is held by another open of
-/// the file, and of any other call the number is told.
+/// The reason of errors of the system with the numbers 2, 13, 28, 5 and 6, or with none. Only of one
+/// that says that a call would have to wait it goes by the call: a lock is held by another open of the
+/// file, and any other call may not wait.
 pub fn reasons_are()
     ensures missing { (c : FileCall) → reason_of c NotFound (Some (pos 2)) ≡ reason.Missing }
     ensures rights { (c : FileCall)
         → reason_of c PermissionDenied (Some (pos 13)) ≡ reason.NoRights }
     ensures locked { (number : Option ℤ) → reason_of call.Lock WouldBlock number ≡ reason.Locked }
-    ensures waits { (c : FileCall) → c ≢ call.Lock
-        → (reason_of c WouldBlock (Some (pos 11)) ≡ reason.Other 11)
-        × (reason_of c WouldBlock None ≡ reason.Untold) }
+    ensures waits { (c : FileCall) (number : Option ℤ) → c ≢ call.Lock
+        → reason_of c WouldBlock number ≡ reason.NoWait }
     ensures full { (c : FileCall) → reason_of c StorageFull (Some (pos 28)) ≡ reason.NoRoom }
     ensures device { (c : FileCall) → reason_of c Uncategorized (Some (pos 5)) ≡ reason.Device }
     ensures other { (c : FileCall) → reason_of c Uncategorized (Some (pos 6)) ≡ reason.Other 6 }
@@ -124,4 +143,22 @@ pub fn reasons_are()
 pub fn a_lock_alone_is_told_as_held()
     ensures only { (c : FileCall) (kind : ErrorKind) (number : Option ℤ)
         → reason_of c kind number ≡ reason.Locked → (c ≡ call.Lock) × (kind ≡ WouldBlock) }
+{}
+
+/// Of a special file that is looked at it is noted that it isn't opened: a block device or a character
+/// device, a pipe, a socket, whatever its rights. Nothing is noted of a plain file or of a folder, and
+/// of nothing else.
+pub fn special_files_are_noted()
+    ensures special { (about : Metadata) → (reason_of_mode (metadata_mode about) ≡ None)
+        ↔ (IsFile (file_type about) ⊎ IsDir (file_type about)) }
+    ensures devices { map reason_of_mode (0o060660 ∷ 0o020666 ∷ [])
+        ≡ Some reason.SomeDevice ∷ Some reason.SomeDevice ∷ [] }
+    ensures pipe { reason_of_mode 0o010644 ≡ Some reason.Pipe }
+    ensures socket { reason_of_mode 0o140755 ≡ Some reason.Socket }
+    ensures noted { (about : Metadata) (t : Target) (r : Reason)
+        → reason_of_mode (metadata_mode about) ≡ Some r
+        → cause_of_kind {E = Unit {0}} t (Ok about)
+        ≡ Some (record { target = t; call = call.Open; reason = r }) }
+    ensures nothing { (about : Metadata) (t : Target) → reason_of_mode (metadata_mode about) ≡ None
+        → cause_of_kind {E = Unit {0}} t (Ok about) ≡ None }
 {}

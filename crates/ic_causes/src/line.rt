@@ -1,9 +1,9 @@
 //! The line that tells why a call to a file has failed.
 
 ghost use Rattle.std.specs.Prelude.{◌≡◌, IfOk};
-ghost use Rattle.ic_causes.specs.Causes.{call_word, cause_line, cause_words, reason_words, shown_byte, shown_path};
+ghost use Rattle.ic_causes.specs.Causes.{call_word, cause_line, cause_words, reason_words, shown_byte, shown_path, target_words};
 
-use crate::{Cause, FileCall, Reason};
+use crate::{Cause, FileCall, Reason, Target};
 use std::alloc::{AllocError, Global};
 
 /// The line that tells of the file of this path why the last call to it has failed, with its line
@@ -11,9 +11,7 @@ use std::alloc::{AllocError, Global};
 pub fn cause_line(alloc: Global, path: &[u8], cause: Option<Cause>) -> Result<Vec<u8>, AllocError>
     ensures { IfOk result (λ line. line.items ≡ cause_line path.now cause) }
 {
-    let mut line = shown_path(alloc, path)?;
-    line.extend_from_slice(b": ")?;
-    line.extend_from_slice(&cause_words(alloc, cause)?)?;
+    let mut line = cause_words(alloc, path, cause)?;
     line.push(b'\n')?;
     Ok(line)
 }
@@ -32,21 +30,37 @@ fn shown_byte(byte: u8) -> u8
     if byte >= 32 && byte < 127 { byte } else { b'?' }
 }
 
-/// The call that failed, and why.
-fn cause_words(alloc: Global, cause: Option<Cause>) -> Result<Vec<u8>, AllocError>
-    ensures { IfOk result (λ words. words.items ≡ cause_words cause) }
+/// The call that failed, what it was made on, and why.
+fn cause_words(alloc: Global, path: &[u8], cause: Option<Cause>) -> Result<Vec<u8>, AllocError>
+    ensures { IfOk result (λ words. words.items ≡ cause_words path.now cause) }
 {
     let Some(cause) = cause else {
-        return b"a call to it has failed".to_vec(alloc);
+        let mut words = shown_path(alloc, path)?;
+        words.extend_from_slice(b": a call to it has failed")?;
+        return Ok(words);
     };
-    let mut words = Vec::new(alloc);
-    if cause.of_folder {
-        words.extend_from_slice(b"its folder: ")?;
-    }
+    let mut words = target_words(alloc, path, cause.target)?;
+    words.extend_from_slice(b": ")?;
     words.extend_from_slice(call_word(cause.call))?;
     words.extend_from_slice(b": ")?;
     words.extend_from_slice(&reason_words(alloc, cause.reason)?)?;
     Ok(words)
+}
+
+/// What a call was made on, where the file is that of this path.
+fn target_words(alloc: Global, path: &[u8], target: Target) -> Result<Vec<u8>, AllocError>
+    ensures { IfOk result (λ words. words.items ≡ target_words path.now target) }
+{
+    match target {
+        Target::File => shown_path(alloc, path),
+        Target::Folder => {
+            let mut words = shown_path(alloc, path)?;
+            words.extend_from_slice(b": its folder")?;
+            Ok(words)
+        }
+        Target::StandIn => b"/dev/null, in the place of a closed standard stream".to_vec(alloc),
+        Target::Input => b"standard input".to_vec(alloc),
+    }
 }
 
 fn call_word(call: FileCall) -> &'static [u8]
@@ -69,12 +83,16 @@ fn reason_words(alloc: Global, reason: Reason) -> Result<Vec<u8>, AllocError>
     match reason {
         Reason::Missing => b"no such file or folder".to_vec(alloc),
         Reason::Folder => b"is a folder".to_vec(alloc),
+        Reason::SomeDevice => b"is a device".to_vec(alloc),
+        Reason::Pipe => b"is a pipe".to_vec(alloc),
+        Reason::Socket => b"is a socket".to_vec(alloc),
         Reason::NoFolder => b"a name on the way to it is no folder's".to_vec(alloc),
         Reason::LongName => b"the name is too long".to_vec(alloc),
         Reason::Links => b"too many symbolic links".to_vec(alloc),
         Reason::NoRights => b"no rights".to_vec(alloc),
         Reason::ReadOnly => b"the file system takes no writes".to_vec(alloc),
         Reason::Locked => b"another server has it open".to_vec(alloc),
+        Reason::NoWait => b"nothing is there yet, and it is set not to wait".to_vec(alloc),
         Reason::Running => b"is a program that runs".to_vec(alloc),
         Reason::NoRoom => b"no room left on the device".to_vec(alloc),
         Reason::NoShare => b"no room left of the quota".to_vec(alloc),

@@ -7,9 +7,10 @@ ghost use Rattle.std.specs.List.{AllByRecursion, concat, flat_map, list_all, lis
 ghost use Rattle.std.specs.Str.{bytes_eq};
 ghost use Rattle.ic_term.specs.Configuration.{Configuration};
 ghost use Rattle.ic_term.specs.Symbol.{Symbol, is_over, is_symbol_text};
-ghost use Rattle.ic_term.specs.Tree.{Pair, Tree};
+ghost use Rattle.ic_term.specs.Tree.{Pair, Tree, Trees, agent, list_of};
 ghost use Rattle.ic_rules.specs.Rule.{Rule};
 ghost use Rattle.ic_rules.specs.RuleSet.{IsRuleSet, Rules};
+ghost use Rattle.ic_round.specs.Firing.{Active, active_pair};
 ghost use Rattle.ic_round.specs.Rounds.{iterate};
 ghost use Rattle.ic_round.specs.Steps.{Interaction, Steps};
 ghost use Rattle.ic_lines.specs.Lines.{ended, has_feed, lines};
@@ -354,3 +355,23 @@ pub fn places_of_lines_are_places_of_the_file()
 {
     ic_lines::laws::lines_are_parted_by_line_feeds();
 }
+
+/// Fronts of submits: `submit a ` with no budget, and `submit a 7` with one.
+pub fn fronts_of_submits_are()
+    ensures plain { IsSubmitFront (codes "submit a ") (codes "{}<|>") (codes "a") None }
+    ensures budget { IsSubmitFront (codes "submit a 7") (codes "{}<|>") (codes "a") (Some (codes "7")) }
+{}
+
+/// What is told of terms and equations isn't told of nothing: each agent stands in its term, in whichever argument. An equation of
+/// two symbols is counted once, and no other one. An equation that is active by a rule is taken by that rule.
+pub fn what_stands_there_is_found()
+    ensures itself { (s : ℕ) (ts : Trees) → StandsIn s (agent s ts) }
+    ensures argument { (s r j : ℕ) (ts : Trees) (t : Tree) → slice_get (list_of ts) j ≡ Some t
+        → StandsIn s t → StandsIn s (agent r ts) }
+    ensures faced { (a b : ℕ) (p : Pair) (es : List Pair) → faces a b p ≡ true
+        → facing a b (p ∷ es) ≡ facing a b es + 1 }
+    ensures other { (a b : ℕ) (p : Pair) (es : List Pair) → faces a b p ≡ false
+        → facing a b (p ∷ es) ≡ facing a b es }
+    ensures taken { (rs : List Rule) (i : ℕ) (p : Pair) (a : Active)
+        → active_pair rs p ≡ Some a → a.rule ≡ i → IsTakenBy rs i p }
+{}

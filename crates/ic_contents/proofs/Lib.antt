@@ -7,3 +7,4 @@ pub mod MomentLemmas
 pub mod StepLemmas
 pub mod PhaseLemmas
 pub mod ReadingLemmas
+pub mod StaysLemmas

@@ -3,18 +3,19 @@
 ghost use Rattle.std.specs.Prelude.{◌≡◌, ◌+◌, ◌++◌, ◌<◌, ◌≤◌, ℕ, List, [], ◌∷◌, Option, None, Some, Contains, IsSome, OnOk, codes, drop, length, map, take, false, true};
 ghost use Rattle.std.specs.Fmt.{decimal};
 ghost use Rattle.std.specs.List.{flat_map};
-ghost use Rattle.ic_term.specs.Configuration.{Configuration};
+ghost use Rattle.ic_term.specs.Configuration.{Configuration, configuration_nodes};
 ghost use Rattle.ic_term.specs.Tree.{Pair};
 ghost use Rattle.ic_rules.specs.Rule.{Rule};
 ghost use Rattle.ic_round.specs.Firing.{rule_of_sides};
 ghost use Rattle.ic_disk.specs.Images.{Torn};
 ghost use Rattle.ic_codec.specs.Tables.{IsFormOf};
+ghost use Rattle.ic_commands.specs.ReplyText.{state_text};
 ghost use Rattle.ic_jobs.specs.Job.{JobParts};
 ghost use Rattle.ic_jobs.specs.Table.{IsTable};
 ghost use Rattle.ic_frames.specs.declared.frame.TheConstants.{HEAD, MAX_BODY};
 ghost use Rattle.ic_frames.specs.declared.slot.Slot.{Slot};
 ghost use Rattle.ic_frames.specs.declared.slot.Slot.TheVariants.{First, Second};
-ghost use Rattle.ic_frames.specs.Fields.{number, body, is_open, is_whole, IsMade};
+ghost use Rattle.ic_frames.specs.Fields.{number, body, is_open, is_whole, size, IsMade};
 ghost use Rattle.ic_frames.specs.Frames.{content_of, target_of, number_of, is_closed, is_staged, KeepsModel};
 ghost use Rattle.ic_frames.specs.Held.{IsClosedIn, IsNewest};
 ghost use Rattle.ic_frames.specs.Opened.{IsOnNewest};
@@ -71,8 +72,11 @@ pub fn a_table_is_told_of_its_slot()
     ic_frames::laws::a_slot_is_open_or_whole();
 }
 
-/// The line of a slot, word for word.
+/// The line of a slot, word for word. Behind the digit both slots have the same words.
 pub fn slots_are_told_so()
+    ensures same_words { (seen : Option Seen) → (words : List ℕ)
+        × (slot_line 49 seen ≡ codes "slot 1" ++ words)
+        × (slot_line 50 seen ≡ codes "slot 2" ++ words) }
     ensures first_cut_off { slot_line 49 None ≡ line (codes "slot 1: cut off") }
     ensures second_cut_off { slot_line 50 None ≡ line (codes "slot 2: cut off") }
     ensures open_table { (n size : ℕ) (t : List JobParts)
@@ -113,6 +117,9 @@ pub fn slots_are_told_so()
 pub fn what_is_held_is_told_so()
     ensures table { (words : List ℕ) (t : List JobParts) → told_held words (the_table t)
         ≡ line (codes "held: " ++ words) ++ flat_map job_line t }
+    ensures job { (j : JobParts) → job_line j
+        ≡ line (j.name ++ codes ": " ++ state_text j.state ++ codes ", rounds " ++ decimal j.rounds
+        ++ counts_text (configuration_nodes j.config) (active_pairs j.rules.rules j.config)) }
     ensures no_slot { (words : List ℕ) → told_held words no_slot
         ≡ line (codes "held: no slot") }
     ensures two_alike { (words : List ℕ) → told_held words two_alike
@@ -155,6 +162,19 @@ pub fn a_table_that_is_shown_stood()
     the_newest_slot_is_held();
     ic_slots::laws::the_newest_table_is_held();
 }
+
+/// A file that stays as it is, and has both bodies within it, is read as it is, at any moment and twice. A server that does
+/// nothing leaves it so.
+pub fn a_file_that_stays_is_read_as_it_is()
+    ensures read { (file : List ℕ) (from until : ℕ) → from ≤ until
+        → ((slot : Slot) → place slot + HEAD + size (place slot) file ≤ length file)
+        → IsReading (λ moment. file) from until file }
+    ensures twice { (file : List ℕ)
+        → ((slot : Slot) → place slot + HEAD + size (place slot) file ≤ length file)
+        → IsReadTwice (λ moment. file) file }
+    ensures served { (slot : Slot) (file : List ℕ) → IsNewest slot file
+        → IsServed (λ moment. file) }
+{}
 
 /// Two readings of a file over time, of which the second begins where the first has ended: what is told is told of the bytes
 /// of the first, and these were read twice. So a table of them stood in the file meanwhile, as `a_table_that_is_shown_stood`

@@ -1,11 +1,13 @@
 //! A disk in a file of the operating system, of whose bytes no clause speaks.
 
-ghost use Rattle.std.specs.Prelude.{◌≡◌, [], false, not, is_ok, IsTrue, IsErr, IfOk};
+ghost use Rattle.std.specs.Prelude.{◌≡◌, ◌↔◌, [], false, not, is_ok, IsTrue, IsOk, IsErr, IfOk};
+ghost use Rattle.std.specs.Fs.{file_type};
+ghost use Rattle.ic_disk.specs.FileDisk.{IsFileOrFolder};
 ghost use Rattle.ic_disk.specs.Time.{CountsFailure, one_call_more};
 
 use crate::disk::{count, count_call};
 use crate::{Disk, DiskFault};
-use std::fs::{File, OpenFile, OpenOptions};
+use std::fs::{File, Metadata, OpenFile, OpenOptions};
 use std::io;
 use std::io::{Read, Seek, SeekFrom, Write};
 use std::rt::Files;
@@ -41,8 +43,8 @@ impl<F: DiskFile> FileDisk<F> {
     /// Opens the file to read and write, and locks it (by an advisory lock on the whole file) for
     /// as long as the disk lives: a second open of it is an error meanwhile, in this process too.
     /// With `create` a file that is missing is made, one that is there stays as it is. The file is
-    /// synced with all that the system keeps of it, and with `create` its folder is. A folder, or a
-    /// file that may not be read, written and synced, is an error.
+    /// synced with all that the system keeps of it, and with `create` its folder is. A folder, a
+    /// device, a pipe, a socket, or a file that may not be read, written and synced, is an error.
     pub fn open<R: Files<File = F>>(
         rt: &R,
         path: &str,
@@ -66,17 +68,44 @@ impl<F: DiskFile> FileDisk<F> {
 
 // The file, locked and wholly synced: what a process that was killed has written may not be there for
 // good yet. Nor may a file that it made be in its folder, so with `create` that is synced even where
-// the file was there.
+// the file was there. The folder is opened first: where that fails, no file is made.
 fn open_alone<F: DiskFile, R: Files<File = F>>(rt: &R, path: &str, create: bool) -> io::Result<F> {
     let mut how = OpenOptions::new();
     how.read(true).write(true).create(create);
-    let file = how.open(rt, path)?;
+    let folder = if create {
+        Some(File::open(rt, folder_of(path))?)
+    } else {
+        None
+    };
+    let file = open_plain(rt, &how, path)?;
     file.lock_alone()?;
     file.sync_all()?;
-    if create {
-        File::open(rt, folder_of(path))?.sync_all()?;
+    if let Some(folder) = folder {
+        folder.sync_all()?;
     }
     Ok(file)
+}
+
+/// Opens a file unless it is a device, a pipe, a socket or another special file. To open such a file
+/// may wait or set something off, so the path is looked at before. What was opened is looked at too,
+/// since the path may lead to another file by then. A folder may be opened where it is only read.
+pub fn open_plain<R: Files>(rt: &R, how: &OpenOptions, path: &str) -> io::Result<R::File> {
+    if let Ok(about) = rt.metadata(path) {
+        refuse_special(&about)?;
+    }
+    let file = how.open(rt, path)?;
+    refuse_special(&file.metadata()?)?;
+    Ok(file)
+}
+
+// Whether this is a plain file or a folder.
+fn refuse_special(about: &Metadata) -> io::Result<()>
+    ensures { IsOk result ↔ IsFileOrFolder (file_type about.now) }
+{
+    if about.is_file() || about.is_dir() {
+        return Ok(());
+    }
+    Err(io::ErrorKind::InvalidInput.into())
 }
 
 // The folder in which a path's last name stands.

@@ -16,6 +16,6 @@ mod mem;
 mod noted;
 
 pub use disk::{Disk, DiskFault};
-pub use file::{DiskFile, FileDisk};
+pub use file::{DiskFile, FileDisk, open_plain};
 pub use fuse::{Blow, FuseDisk, Then};
 pub use mem::{Choice, MemDisk};

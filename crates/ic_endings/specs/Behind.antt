@@ -1,6 +1,8 @@
 -- What is told behind the line of a failure, by cases over all of them (this project's choice).
-use Rattle.std.specs.Prelude.{ℕ, List, [], ◌∷◌, ◌++◌, codes, Option}
+use Rattle.std.specs.Prelude.{ℕ, List, [], ◌∷◌, ◌++◌, codes, Option, None, Some}
 use Rattle.ic_causes.specs.declared.cause.Cause.{Cause}
+use Rattle.ic_causes.specs.declared.cause.Target.{Target}
+use Rattle.ic_causes.specs.declared.cause.Target.TheVariants as target
 use Rattle.ic_causes.specs.Causes.{cause_line, shown_path}
 use Rattle.ic_frames.specs.declared.faults.OpenCause.{OpenCause}
 use Rattle.ic_frames.specs.declared.faults.OpenCause.TheVariants as opening
@@ -8,14 +10,20 @@ use Rattle.ic_slots.specs.declared.fault.CreateFault.{CreateFault}
 use Rattle.ic_slots.specs.declared.fault.CreateFault.TheVariants as creating
 use Rattle.ic_desk.specs.declared.fault.BookFault.{BookFault}
 use Rattle.ic_desk.specs.declared.fault.BookFault.TheVariants as book
+use Rattle.ic_streams.specs.declared.fault.StreamFault.{StreamFault}
+use Rattle.ic_streams.specs.declared.fault.StreamFault.TheVariants as stream
 use Rattle.ic_serving.specs.declared.fault.ServeFault.{ServeFault}
 use Rattle.ic_serving.specs.declared.fault.ServeFault.TheVariants as serve
 use Rattle.ic_contents.specs.declared.fault.InspectFault.{InspectFault}
 use Rattle.ic_contents.specs.declared.fault.InspectFault.TheVariants as inspect
 use Rattle.ic_scripts.specs.declared.fault.ScriptsFault.{ScriptsFault}
 use Rattle.ic_scripts.specs.declared.fault.ScriptsFault.TheVariants as scripts
+use Rattle.ic_batch.specs.declared.fault.BatchFault.{BatchFault}
+use Rattle.ic_batch.specs.declared.fault.BatchFault.TheVariants as batch
+use Rattle.ic_batch.specs.declared.fault.Difference.{Difference}
+use Rattle.ic_batch.specs.declared.fault.Difference.TheVariants as difference
 use Rattle.ic_endings.specs.declared.failure.Failure.{Failure}
-use Rattle.ic_endings.specs.declared.failure.Failure.TheVariants.{Words, Stream, Disk, Create, NotEmpty, Open, Serve, Attend, Dump, Inspect, Faults, NotDone}
+use Rattle.ic_endings.specs.declared.failure.Failure.TheVariants.{Words, Stream, Disk, Locked, Create, NotEmpty, Open, Serve, Attend, Dump, Inspect, Jobs, Batch, Faults, NotDone}
 
 -- of a file that is no disk
 abbrev pub no_disk : List ℕ
@@ -54,10 +62,30 @@ book_lines book.LogFull path cause = []
 book_lines book.Worn path cause = []
 book_lines book.Memory path cause = []
 
+-- these lines, where a call to standard input has failed
+abbrev pub lines_of_input : Target → List ℕ → List ℕ
+lines_of_input target.Input lines = lines
+lines_of_input target.File lines = []
+lines_of_input target.Folder lines = []
+lines_of_input target.StandIn lines = []
+
+-- where standard input can't be read
+abbrev pub input_lines : List ℕ → Option Cause → List ℕ
+input_lines path None = []
+input_lines path (Some cause) = lines_of_input cause.target (cause_line path (Some cause))
+
+-- where a stream isn't answered
+abbrev pub stream_lines : StreamFault → List ℕ → Option Cause → List ℕ
+stream_lines stream.Read path cause = input_lines path cause
+stream_lines (stream.Text fault) path cause = []
+stream_lines (stream.Round fault) path cause = []
+stream_lines stream.Memory path cause = []
+stream_lines stream.Write path cause = []
+
 -- where a serving ended
 abbrev pub serve_lines : ServeFault → List ℕ → Option Cause → List ℕ
 serve_lines (serve.Book fault) path cause = book_lines fault path cause
-serve_lines serve.Read path cause = []
+serve_lines serve.Read path cause = input_lines path cause
 serve_lines serve.Write path cause = []
 serve_lines serve.TooManyLines path cause = []
 serve_lines (serve.Pool fault) path cause = []
@@ -83,18 +111,37 @@ inspect_lines inspect.Changed path cause = []
 inspect_lines inspect.Memory path cause = []
 inspect_lines inspect.Write path cause = []
 
+-- of a disk that has another job of a name
+abbrev pub taken_words : Difference → List ℕ
+taken_words difference.Rules = codes "its job of this name has other rules"
+taken_words difference.Budget = codes "its job of this name has another budget"
+taken_words difference.Start = codes "its job of this name begins with another configuration"
+
+-- of a disk that has no room
+abbrev pub no_room : List ℕ
+no_room = codes "it has jobs of other names, and no disk has more than 32"
+
+-- where jobs aren't brought to their ends
+abbrev pub batch_lines : BatchFault → List ℕ → Option Cause → List ℕ
+batch_lines (batch.Taken name is) path cause = shown_of path (taken_words is)
+batch_lines batch.Full path cause = shown_of path no_room
+batch_lines (batch.Serve fault) path cause = serve_lines fault path cause
+
 -- what standard error is told behind the line of a failure, where the disk is in the file of this
--- path and the cause is that of the last call to it that has failed
+-- path and the cause is that of the last call to it, or to standard input, that has failed
 abbrev pub lines_behind : Failure → List ℕ → Option Cause → List ℕ
 lines_behind (Disk fault) path cause = cause_line path cause
+lines_behind Locked path cause = cause_line path cause
 lines_behind (Create fault) path cause = create_lines fault path cause
 lines_behind NotEmpty path cause = shown_of path not_empty
 lines_behind (Open fault) path cause = open_lines fault path cause
 lines_behind (Serve fault) path cause = serve_lines fault path cause
 lines_behind (Attend fault) path cause = scripts_lines fault path cause
 lines_behind (Dump fault) path cause = []
+lines_behind (Jobs fault) path cause = []
+lines_behind (Batch fault) path cause = batch_lines fault path cause
 lines_behind (Inspect fault) path cause = inspect_lines fault path cause
 lines_behind (Words fault) path cause = []
-lines_behind (Stream fault) path cause = []
+lines_behind (Stream fault) path cause = stream_lines fault path cause
 lines_behind Faults path cause = []
 lines_behind NotDone path cause = []

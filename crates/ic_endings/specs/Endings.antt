@@ -1,7 +1,19 @@
 -- What the program makes of its failures, by cases over all of them (this project's choice).
-use Rattle.std.specs.Prelude.{ℕ, List, [], ◌∷◌, ◌++◌, Result, Ok, Err, codes, string_bytes}
+use Rattle.std.specs.Prelude.{ℕ, List, [], ◌∷◌, ◌++◌, Option, None, Some, Result, Ok, Err, codes, string_bytes}
 use Rattle.std.specs.Fmt.{decimal}
+use Rattle.ic_disk.specs.declared.disk.DiskFault.{DiskFault}
+use Rattle.ic_causes.specs.declared.cause.Cause.{Cause}
+use Rattle.ic_causes.specs.declared.cause.Reason.{Reason}
+use Rattle.ic_causes.specs.declared.cause.Reason.TheVariants as reason
+use Rattle.ic_jobs.specs.declared.reply.Reply.TheVariants.{Refused as refused}
+use Rattle.ic_commands.specs.ReplyText.{reply_text}
 use Rattle.ic_text.specs.Text.{fault_text}
+use Rattle.ic_batch.specs.declared.fault.JobsCause.{JobsCause}
+use Rattle.ic_batch.specs.declared.fault.JobsCause.TheVariants as line
+use Rattle.ic_batch.specs.declared.fault.JobsFault.{JobsFault}
+use Rattle.ic_batch.specs.declared.fault.JobsFault.TheVariants as jobs
+use Rattle.ic_batch.specs.declared.fault.BatchFault.{BatchFault}
+use Rattle.ic_batch.specs.declared.fault.BatchFault.TheVariants as batch
 use Rattle.ic_round.specs.declared.round_fault.RoundFault.{RoundFault}
 use Rattle.ic_round.specs.declared.round_fault.RoundFault.TheVariants as round
 use Rattle.ic_frames.specs.declared.faults.OpenCause.{OpenCause}
@@ -26,7 +38,7 @@ use Rattle.ic_contents.specs.declared.fault.InspectFault.{InspectFault}
 use Rattle.ic_contents.specs.declared.fault.InspectFault.TheVariants as inspect
 use Rattle.ic_words.specs.declared.words.WordsFault.TheVariants as words
 use Rattle.ic_endings.specs.declared.failure.Failure.{Failure}
-use Rattle.ic_endings.specs.declared.failure.Failure.TheVariants.{Words, Stream, Disk, Create, NotEmpty, Open, Serve, Attend, Dump, Inspect, Faults, NotDone}
+use Rattle.ic_endings.specs.declared.failure.Failure.TheVariants.{Words, Stream, Disk, Locked, Create, NotEmpty, Open, Serve, Attend, Dump, Inspect, Jobs, Batch, Faults, NotDone}
 
 -- the exit status of `attend`: 1 for a refused script, 3 for a disk that isn't opened, 4 for all
 -- else
@@ -56,8 +68,20 @@ inspect_status inspect.Changed = 3
 inspect_status inspect.Memory = 4
 inspect_status inspect.Write = 4
 
+-- the exit status of `batch` for its lines: 1 for a line that gives no job, 4 for all else
+abbrev pub jobs_status : JobsFault → ℕ
+jobs_status (jobs.Line line cause) = 1
+jobs_status jobs.Read = 4
+jobs_status jobs.Memory = 4
+
+-- the exit status of `batch` for jobs: 1 where the disk has others, 4 for all else
+abbrev pub batch_status : BatchFault → ℕ
+batch_status (batch.Taken name difference) = 1
+batch_status batch.Full = 1
+batch_status (batch.Serve fault) = 4
+
 -- the exit status: 1 for a refused text, round or job, 2 for refused words, 3 for a disk, 5 for
--- rounds that didn't suffice, 4 for all else
+-- rounds that didn't suffice, 6 for a disk that another server has, 4 for all else
 abbrev pub status_of : Failure → ℕ
 status_of (Words (words.Words text)) = 2
 status_of (Words words.Memory) = 4
@@ -74,6 +98,9 @@ status_of (Serve fault) = 4
 status_of (Attend fault) = scripts_status fault
 status_of (Dump fault) = dump_status fault
 status_of (Inspect fault) = inspect_status fault
+status_of (Jobs fault) = jobs_status fault
+status_of (Batch fault) = batch_status fault
+status_of Locked = 6
 status_of Faults = 1
 status_of NotDone = 5
 
@@ -146,6 +173,27 @@ inspect_word inspect.Changed = codes "changed while read"
 inspect_word inspect.Memory = codes "memory"
 inspect_word inspect.Write = codes "write"
 
+-- why a line gives no job: what is wrong with it, or the refusal that answers it on a new disk
+abbrev pub cause_text : JobsCause → List ℕ
+cause_text (line.Text fault) = fault_text fault
+cause_text (line.Refused refusal) = reply_text (refused refusal)
+
+-- which line it is, and why it gives none
+abbrev pub line_words : ℕ → JobsCause → List ℕ
+line_words number cause = codes "line " ++ decimal number ++ codes ": " ++ cause_text cause
+
+-- why lines give no jobs
+abbrev pub jobs_word : JobsFault → List ℕ
+jobs_word (jobs.Line number cause) = line_words number cause
+jobs_word jobs.Read = codes "read"
+jobs_word jobs.Memory = codes "memory"
+
+-- why jobs aren't brought to their ends
+abbrev pub batch_word : BatchFault → List ℕ
+batch_word (batch.Taken name difference) = codes "taken " ++ name
+batch_word batch.Full = codes "full"
+batch_word (batch.Serve fault) = serve_word fault
+
 -- a word as a line
 abbrev pub told : List ℕ → List ℕ
 told word = codes "icserve: " ++ word ++ 10 ∷ []
@@ -156,6 +204,7 @@ failure_line (Words (words.Words text)) = string_bytes text
 failure_line (Words words.Memory) = told (codes "memory")
 failure_line (Stream fault) = told (stream_word fault)
 failure_line (Disk fault) = told (codes "device")
+failure_line Locked = told (codes "locked")
 failure_line (Create fault) = told (create_word fault)
 failure_line NotEmpty = told (codes "not empty")
 failure_line (Open cause) = told (open_word cause)
@@ -163,12 +212,43 @@ failure_line (Serve fault) = told (serve_word fault)
 failure_line (Attend fault) = told (scripts_word fault)
 failure_line (Dump fault) = told (dump_word fault)
 failure_line (Inspect fault) = told (inspect_word fault)
+failure_line (Jobs fault) = told (jobs_word fault)
+failure_line (Batch fault) = told (batch_word fault)
 failure_line Faults = told (codes "faults")
 failure_line NotDone = told (codes "not done")
 
 -- the line that tells a stuck pair
 abbrev pub stuck_line : List ℕ → List ℕ
 stuck_line pair = told (codes "stuck " ++ pair)
+
+-- why a disk isn't opened or locked, by the last call to its file that has failed
+abbrev pub refused_opening : DiskFault → Reason → Failure
+refused_opening fault reason.Missing = Disk fault
+refused_opening fault reason.Folder = Disk fault
+refused_opening fault reason.SomeDevice = Disk fault
+refused_opening fault reason.Pipe = Disk fault
+refused_opening fault reason.Socket = Disk fault
+refused_opening fault reason.NoFolder = Disk fault
+refused_opening fault reason.LongName = Disk fault
+refused_opening fault reason.Links = Disk fault
+refused_opening fault reason.NoRights = Disk fault
+refused_opening fault reason.ReadOnly = Disk fault
+refused_opening fault reason.Locked = Locked
+refused_opening fault reason.NoWait = Disk fault
+refused_opening fault reason.Running = Disk fault
+refused_opening fault reason.NoRoom = Disk fault
+refused_opening fault reason.NoShare = Disk fault
+refused_opening fault reason.TooLong = Disk fault
+refused_opening fault reason.TooShort = Disk fault
+refused_opening fault reason.NotPossible = Disk fault
+refused_opening fault reason.NoMemory = Disk fault
+refused_opening fault reason.Device = Disk fault
+refused_opening fault (reason.Other number) = Disk fault
+refused_opening fault reason.Untold = Disk fault
+
+abbrev pub opening_failure : DiskFault → Option Cause → Failure
+opening_failure fault None = Disk fault
+opening_failure fault (Some cause) = refused_opening fault cause.reason
 
 -- why the jobs of a disk aren't dumped
 abbrev pub failure_of_dump : DiskDumpFault → Failure

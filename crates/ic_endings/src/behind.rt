@@ -1,16 +1,19 @@
-//! What is told behind the line of a failure: why a disk's file doesn't serve.
+//! What is told behind the line of a failure: why a disk's file doesn't serve, or standard input can't
+//! be read.
 
 ghost use Rattle.std.specs.Prelude.{◌≡◌, IfOk};
 ghost use Rattle.ic_endings.specs.Behind.{book_lines, create_lines, lines_behind, open_lines, scripts_lines};
-ghost use Rattle.ic_endings.specs.Behind.{inspect_lines, serve_lines, shown_of};
+ghost use Rattle.ic_endings.specs.Behind.{batch_lines, input_lines, inspect_lines, serve_lines, shown_of, stream_lines, taken_words};
 
 use crate::Failure;
-use ic_causes::{Cause, cause_line, shown_path};
+use ic_batch::{BatchFault, Difference};
+use ic_causes::{Cause, Target, cause_line, shown_path};
 use ic_contents::InspectFault;
 use ic_desk::BookFault;
 use ic_scripts::ScriptsFault;
 use ic_serving::ServeFault;
 use ic_slots::{CreateFault, OpenCause};
+use ic_streams::StreamFault;
 use std::alloc::{AllocError, Global};
 
 /// What is said of a file that is no disk.
@@ -23,9 +26,13 @@ const NOT_EMPTY: &[u8] =
 /// What is said of a file that no server has left so.
 const NOT_AS_LEFT: &[u8] = b"something else has changed the file, or it was copied in part";
 
+/// What is said of a disk that has no room.
+const NO_ROOM: &[u8] = b"it has jobs of other names, and no disk has more than 32";
+
 impl Failure {
     /// What standard error is told behind the line of the failure, where the disk is in the file of
-    /// this path and the cause is that of the last call to it that has failed: a line, or nothing.
+    /// this path and the cause is that of the last call to it, or to standard input, that has failed:
+    /// a line, or nothing.
     pub fn lines_behind(
         &self,
         alloc: Global,
@@ -35,14 +42,16 @@ impl Failure {
         ensures { IfOk result (λ lines. lines.items ≡ lines_behind self.now path.now cause) }
     {
         match self {
-            Failure::Disk(_) => cause_line(alloc, path, cause),
+            Failure::Disk(_) | Failure::Locked => cause_line(alloc, path, cause),
             Failure::Create(fault) => create_lines(alloc, *fault, path, cause),
             Failure::NotEmpty => said_of(alloc, path, NOT_EMPTY),
             Failure::Open(fault) => open_lines(alloc, *fault, path, cause),
             Failure::Serve(fault) => serve_lines(alloc, *fault, path, cause),
             Failure::Attend(fault) => scripts_lines(alloc, *fault, path, cause),
-            Failure::Words(_) | Failure::Stream(_) | Failure::NotDone => Ok(Vec::new(alloc)),
-            Failure::Dump(_) | Failure::Faults => Ok(Vec::new(alloc)),
+            Failure::Stream(fault) => stream_lines(alloc, *fault, path, cause),
+            Failure::Words(_) | Failure::NotDone => Ok(Vec::new(alloc)),
+            Failure::Dump(_) | Failure::Jobs(_) | Failure::Faults => Ok(Vec::new(alloc)),
+            Failure::Batch(fault) => batch_lines(alloc, *fault, path, cause),
             Failure::Inspect(fault) => inspect_lines(alloc, *fault, path, cause),
         }
     }
@@ -116,9 +125,8 @@ fn serve_lines(
 {
     match fault {
         ServeFault::Book(refused) => book_lines(alloc, refused, path, cause),
-        ServeFault::Read | ServeFault::Write | ServeFault::Pool(_) | ServeFault::Memory => {
-            Ok(Vec::new(alloc))
-        }
+        ServeFault::Read => input_lines(alloc, path, cause),
+        ServeFault::Write | ServeFault::Pool(_) | ServeFault::Memory => Ok(Vec::new(alloc)),
         ServeFault::TooManyLines | ServeFault::LongLine => Ok(Vec::new(alloc)),
     }
 }
@@ -139,6 +147,60 @@ fn scripts_lines(
         }
         ScriptsFault::Torn | ScriptsFault::Pool(_) => Ok(Vec::new(alloc)),
         ScriptsFault::Memory | ScriptsFault::Write => Ok(Vec::new(alloc)),
+    }
+}
+
+fn stream_lines(
+    alloc: Global,
+    fault: StreamFault,
+    path: &[u8],
+    cause: Option<Cause>,
+) -> Result<Vec<u8>, AllocError>
+    ensures { IfOk result (λ lines. lines.items ≡ stream_lines fault path.now cause) }
+{
+    match fault {
+        StreamFault::Read => input_lines(alloc, path, cause),
+        StreamFault::Text(_) | StreamFault::Round(_) => Ok(Vec::new(alloc)),
+        StreamFault::Memory | StreamFault::Write => Ok(Vec::new(alloc)),
+    }
+}
+
+/// Why standard input can't be read, where that is what has failed last.
+fn input_lines(alloc: Global, path: &[u8], cause: Option<Cause>) -> Result<Vec<u8>, AllocError>
+    ensures { IfOk result (λ lines. lines.items ≡ input_lines path.now cause) }
+{
+    let Some(failed) = cause else {
+        return Ok(Vec::new(alloc));
+    };
+    match failed.target {
+        Target::Input => cause_line(alloc, path, Some(failed)),
+        Target::File | Target::Folder | Target::StandIn => Ok(Vec::new(alloc)),
+    }
+}
+
+fn batch_lines(
+    alloc: Global,
+    fault: BatchFault,
+    path: &[u8],
+    cause: Option<Cause>,
+) -> Result<Vec<u8>, AllocError>
+    ensures { IfOk result (λ lines. lines.items ≡ batch_lines fault path.now cause) }
+{
+    match fault {
+        BatchFault::Taken(_, difference) => said_of(alloc, path, taken_words(difference)),
+        BatchFault::Full => said_of(alloc, path, NO_ROOM),
+        BatchFault::Serve(fault) => serve_lines(alloc, fault, path, cause),
+    }
+}
+
+/// What is said of a disk that has another job of a name.
+fn taken_words(difference: Difference) -> &'static [u8]
+    ensures { result.now ≡ taken_words difference }
+{
+    match difference {
+        Difference::Rules => b"its job of this name has other rules",
+        Difference::Budget => b"its job of this name has another budget",
+        Difference::Start => b"its job of this name begins with another configuration",
     }
 }
 

@@ -3,12 +3,17 @@
 ghost use Rattle.std.specs.Prelude.{◌≡◌, ◌++◌, IfOk};
 ghost use Rattle.ic_endings.specs.Endings.{status_of, scripts_status, failure_line, told};
 ghost use Rattle.ic_endings.specs.Endings.{check_ending, stream_word, round_word, create_word, open_word, serve_word, stuck_line};
+ghost use Rattle.ic_endings.specs.Endings.{batch_status, batch_word, cause_text, jobs_status, jobs_word, line_words, opening_failure};
 ghost use Rattle.ic_endings.specs.Endings.{dump_status, dump_word, inspect_status, inspect_word, scripts_word, script_words};
 
+use ic_batch::{BatchFault, JobsCause, JobsFault};
+use ic_causes::{Cause, Reason};
 use ic_check::Verdict;
+use ic_commands::print_reply;
 use ic_contents::InspectFault;
 use ic_disk::DiskFault;
 use ic_dump::{DiskDumpFault, DumpFault};
+use ic_jobs::Reply;
 use ic_lines::ScriptFault;
 use ic_round::RoundFault;
 use ic_rules::JobName;
@@ -29,6 +34,8 @@ pub enum Failure {
     Stream(StreamFault),
     /// The file of a disk can't be opened or locked.
     Disk(DiskFault),
+    /// Another server has the disk.
+    Locked,
     /// No empty disk is made.
     Create(CreateFault),
     /// No empty disk is made, since the file holds something that would be lost.
@@ -43,6 +50,10 @@ pub enum Failure {
     Dump(DumpFault),
     /// It isn't told what a file holds.
     Inspect(InspectFault),
+    /// Lines give no jobs.
+    Jobs(JobsFault),
+    /// Jobs aren't brought to their ends, or not told.
+    Batch(BatchFault),
     /// A text that was looked over has a fault.
     Faults,
     /// All rounds were made of what was to be reduced, and a step is still possible.
@@ -51,7 +62,8 @@ pub enum Failure {
 
 impl Failure {
     /// The exit status of the program: 1 for a refused text, round, script or job, 2 for refused
-    /// words, 3 for a disk, 5 for rounds that didn't suffice, and 4 for all else.
+    /// words, 3 for a disk, 5 for rounds that didn't suffice, 6 for a disk that another server has,
+    /// and 4 for all else.
     pub fn status(&self) -> u8
         ensures { result ≡ status_of self.now }
     {
@@ -65,6 +77,9 @@ impl Failure {
             Failure::Attend(fault) => scripts_status(*fault),
             Failure::Dump(fault) => dump_status(*fault),
             Failure::Inspect(fault) => inspect_status(*fault),
+            Failure::Jobs(fault) => jobs_status(*fault),
+            Failure::Batch(fault) => batch_status(*fault),
+            Failure::Locked => 6,
             Failure::Faults => 1,
             Failure::NotDone => 5,
         }
@@ -80,6 +95,7 @@ impl Failure {
             Failure::Words(WordsFault::Memory) => told(alloc, b"memory"),
             Failure::Stream(fault) => stream_line(alloc, *fault),
             Failure::Disk(_) => told(alloc, b"device"),
+            Failure::Locked => told(alloc, b"locked"),
             Failure::Create(fault) => told(alloc, create_word(*fault)),
             Failure::NotEmpty => told(alloc, b"not empty"),
             Failure::Open(cause) => told(alloc, open_word(*cause)),
@@ -87,6 +103,8 @@ impl Failure {
             Failure::Attend(fault) => scripts_line(alloc, *fault),
             Failure::Dump(fault) => dump_line(alloc, *fault),
             Failure::Inspect(fault) => told(alloc, inspect_word(*fault)),
+            Failure::Jobs(fault) => jobs_line(alloc, *fault),
+            Failure::Batch(fault) => batch_line(alloc, *fault),
             Failure::Faults => told(alloc, b"faults"),
             Failure::NotDone => told(alloc, b"not done"),
         }
@@ -103,6 +121,21 @@ impl From<DiskDumpFault> for Failure {
             DiskDumpFault::Open(cause) => Failure::Open(cause),
             DiskDumpFault::Dump(refused) => Failure::Dump(refused),
         }
+    }
+}
+
+/// Why a disk isn't opened or locked, by the last call to its file that has failed.
+pub fn opening_failure(fault: DiskFault, cause: Option<Cause>) -> Failure
+    ensures { result ≡ opening_failure fault cause }
+{
+    match cause {
+        Some(
+            Cause {
+                reason: Reason::Locked,
+                ..
+            },
+        ) => Failure::Locked,
+        _ => Failure::Disk(fault),
     }
 }
 
@@ -292,4 +325,67 @@ fn script_words(alloc: Global, place: usize, refusal: ScriptFault) -> Result<Vec
     words.extend_from_slice(b": ")?;
     words.extend_from_slice(&print_fault(alloc, &refusal.fault)?)?;
     Ok(words)
+}
+
+/// The exit status of `batch` where its lines give no jobs.
+fn jobs_status(fault: JobsFault) -> u8
+    ensures { result ≡ jobs_status fault }
+{
+    match fault {
+        JobsFault::Line(_, _) => 1,
+        JobsFault::Read | JobsFault::Memory => 4,
+    }
+}
+
+/// The line that tells why lines give no jobs.
+fn jobs_line(alloc: Global, fault: JobsFault) -> Result<Vec<u8>, AllocError>
+    ensures { IfOk result (λ line. line.items ≡ told (jobs_word fault)) }
+{
+    match fault {
+        JobsFault::Line(line, cause) => told(alloc, &line_words(alloc, line, cause)?),
+        JobsFault::Read => told(alloc, b"read"),
+        JobsFault::Memory => told(alloc, b"memory"),
+    }
+}
+
+/// The words that tell which line gives no job, and why.
+fn line_words(alloc: Global, line: usize, cause: JobsCause) -> Result<Vec<u8>, AllocError>
+    ensures { IfOk result (λ words. words.items ≡ line_words line cause) }
+{
+    let mut words = b"line ".to_vec(alloc)?;
+    words.extend_from_slice(line.to_string(alloc)?.as_bytes())?;
+    words.extend_from_slice(b": ")?;
+    words.extend_from_slice(&cause_text(alloc, cause)?)?;
+    Ok(words)
+}
+
+/// Why a line gives no job: what is wrong with it, or the refusal that answers it on a new disk.
+fn cause_text(alloc: Global, cause: JobsCause) -> Result<Vec<u8>, AllocError>
+    ensures { IfOk result (λ text. text.items ≡ cause_text cause) }
+{
+    match cause {
+        JobsCause::Text(fault) => print_fault(alloc, &fault),
+        JobsCause::Refused(refusal) => print_reply(alloc, &Reply::Refused(refusal)),
+    }
+}
+
+/// The exit status of `batch` where jobs aren't brought to their ends.
+fn batch_status(fault: BatchFault) -> u8
+    ensures { result ≡ batch_status fault }
+{
+    match fault {
+        BatchFault::Taken(_, _) | BatchFault::Full => 1,
+        BatchFault::Serve(_) => 4,
+    }
+}
+
+/// The line that tells why jobs aren't brought to their ends.
+fn batch_line(alloc: Global, fault: BatchFault) -> Result<Vec<u8>, AllocError>
+    ensures { IfOk result (λ line. line.items ≡ told (batch_word fault)) }
+{
+    match fault {
+        BatchFault::Taken(name, _) => told(alloc, &job_words(alloc, b"taken ", name)?),
+        BatchFault::Full => told(alloc, b"full"),
+        BatchFault::Serve(fault) => told(alloc, serve_word(fault)),
+    }
 }

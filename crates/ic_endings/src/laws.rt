@@ -1,6 +1,6 @@
 //! Laws of what the program makes of its failures.
 
-ghost use Rattle.std.specs.Prelude.{◌≡◌, ℕ, List, [], ◌∷◌, ◌++◌, Option, map, codes, string_bytes};
+ghost use Rattle.std.specs.Prelude.{◌≡◌, ◌≢◌, ℕ, List, [], ◌∷◌, ◌++◌, Option, None, Some, map, codes, string_bytes};
 ghost use Rattle.std.specs.Fmt.{decimal};
 ghost use Rattle.ic_disk.specs.declared.disk.DiskFault.{DiskFault};
 ghost use Rattle.ic_text.specs.Text.{fault_text};
@@ -22,14 +22,26 @@ ghost use Rattle.ic_dump.specs.declared.fault.DumpFault.TheVariants as dump;
 ghost use Rattle.ic_contents.specs.declared.fault.InspectFault.TheVariants as inspect;
 ghost use Rattle.ic_lines.specs.declared.script.ScriptFault.{ScriptFault};
 ghost use Rattle.ic_scripts.specs.declared.fault.ScriptsFault.TheVariants as scripts;
-ghost use Rattle.ic_endings.specs.declared.failure.Failure.TheVariants.{Words, Stream, Disk, Create, NotEmpty, Open, Serve, Attend, Dump, Inspect, Faults, NotDone};
-ghost use Rattle.ic_endings.specs.Endings.{status_of, failure_line, stuck_line};
+ghost use Rattle.ic_endings.specs.declared.failure.Failure.TheVariants.{Words, Stream, Disk, Locked, Create, NotEmpty, Open, Serve, Attend, Dump, Inspect, Jobs, Batch, Faults, NotDone};
+ghost use Rattle.ic_jobs.specs.declared.reply.Refusal.TheVariants.{Taken, Full};
+ghost use Rattle.ic_batch.specs.declared.fault.JobsCause.{JobsCause};
+ghost use Rattle.ic_batch.specs.declared.fault.JobsCause.TheVariants as cause_of_line;
+ghost use Rattle.ic_batch.specs.declared.fault.JobsFault.TheVariants as jobs;
+ghost use Rattle.ic_batch.specs.declared.fault.BatchFault.TheVariants as batch;
+ghost use Rattle.ic_batch.specs.declared.fault.Difference.{Difference};
+ghost use Rattle.ic_batch.specs.declared.fault.Difference.TheVariants as difference;
+ghost use Rattle.ic_causes.specs.declared.cause.FileCall.{FileCall};
+ghost use Rattle.ic_causes.specs.declared.cause.Reason.TheVariants as reason;
+ghost use Rattle.ic_endings.specs.Endings.{status_of, failure_line, opening_failure, stuck_line};
 ghost use Rattle.ic_endings.specs.Behind.{lines_behind};
 ghost use Rattle.ic_causes.specs.declared.cause.Cause.{Cause};
+ghost use Rattle.ic_causes.specs.declared.cause.Target.{Target};
+ghost use Rattle.ic_causes.specs.declared.cause.Target.TheVariants.{Input};
 ghost use Rattle.ic_causes.specs.Causes.{cause_line, shown_path};
 
 /// The exit status is 2 for refused words, 1 for a refused text, round, script or job, 3 for a disk
-/// that isn't made or opened, 5 for rounds that didn't suffice, and 4 for all else.
+/// that isn't made or opened, 5 for rounds that didn't suffice, 6 for a disk that another server
+/// has, and 4 for all else.
 pub fn statuses_are(text: &String)
     ensures words { status_of (Words (words.Words text.now)) ≡ 2 }
     ensures text { (fault : TextFault) → status_of (Stream (stream.Text fault)) ≡ 1 }
@@ -49,6 +61,12 @@ pub fn statuses_are(text: &String)
     ensures dumped { map status_of (Dump dump.Memory ∷ Dump dump.Write ∷ []) ≡ 4 ∷ 4 ∷ [] }
     ensures inspected { map status_of (Inspect inspect.Read ∷ Inspect inspect.Changed
         ∷ Inspect inspect.Memory ∷ Inspect inspect.Write ∷ []) ≡ 3 ∷ 3 ∷ 4 ∷ 4 ∷ [] }
+    ensures lines { (line : ℕ) (cause : JobsCause) → status_of (Jobs (jobs.Line line cause)) ≡ 1 }
+    ensures unread { map status_of (Jobs jobs.Read ∷ Jobs jobs.Memory ∷ []) ≡ 4 ∷ 4 ∷ [] }
+    ensures taken { (name : List ℕ) (is : Difference) → status_of (Batch (batch.Taken name is)) ≡ 1 }
+    ensures full { status_of (Batch batch.Full) ≡ 1 }
+    ensures stopped_batch { (fault : ServeFault) → status_of (Batch (batch.Serve fault)) ≡ 4 }
+    ensures locked { status_of Locked ≡ 6 }
     ensures faults { status_of Faults ≡ 1 }
     ensures not_done { status_of NotDone ≡ 5 }
     ensures others { map status_of (Words words.Memory ∷ Stream stream.Read ∷ Stream stream.Memory
@@ -78,6 +96,7 @@ pub fn lines_of_streams_are(text: &String)
 pub fn lines_of_disks_are()
     ensures file { (fault : DiskFault) → failure_line (Disk fault)
         ≡ codes "icserve: device" ++ 10 ∷ [] }
+    ensures locked { failure_line Locked ≡ codes "icserve: locked" ++ 10 ∷ [] }
     ensures created { failure_line (Create creating.Device) ≡ codes "icserve: device" ++ 10 ∷ [] }
     ensures no_memory { failure_line (Create creating.Memory)
         ≡ codes "icserve: memory" ++ 10 ∷ [] }
@@ -145,6 +164,40 @@ pub fn lines_of_dumps_are()
     ensures write { failure_line (Dump dump.Write) ≡ codes "icserve: write" ++ 10 ∷ [] }
 {}
 
+/// The line on standard error of each fault of `batch`. That of a line has its number, from 1, and what
+/// is wrong with it, or what answers it on a disk that has the jobs of the lines before.
+pub fn lines_of_batches_are()
+    ensures text { (line : ℕ) (fault : TextFault)
+        → failure_line (Jobs (jobs.Line line (cause_of_line.Text fault)))
+        ≡ codes "icserve: line " ++ decimal line ++ codes ": " ++ fault_text fault ++ 10 ∷ [] }
+    ensures twice { (line : ℕ)
+        → failure_line (Jobs (jobs.Line line (cause_of_line.Refused Taken)))
+        ≡ codes "icserve: line " ++ decimal line ++ codes ": refused taken" ++ 10 ∷ [] }
+    ensures many { (line : ℕ)
+        → failure_line (Jobs (jobs.Line line (cause_of_line.Refused Full)))
+        ≡ codes "icserve: line " ++ decimal line ++ codes ": refused full" ++ 10 ∷ [] }
+    ensures read { failure_line (Jobs jobs.Read) ≡ codes "icserve: read" ++ 10 ∷ [] }
+    ensures memory { failure_line (Jobs jobs.Memory) ≡ codes "icserve: memory" ++ 10 ∷ [] }
+    ensures taken { (name : List ℕ) (is : Difference) → failure_line (Batch (batch.Taken name is))
+        ≡ codes "icserve: taken " ++ name ++ 10 ∷ [] }
+    ensures full { failure_line (Batch batch.Full) ≡ codes "icserve: full" ++ 10 ∷ [] }
+    ensures stopped { (fault : ServeFault)
+        → failure_line (Batch (batch.Serve fault)) ≡ failure_line (Serve fault) }
+{}
+
+/// A disk is locked exactly where its file's lock was refused since another open of it holds it.
+pub fn openings_end_so()
+    ensures locked { (fault : DiskFault) (target : Target) (call : FileCall)
+        → opening_failure fault (Some (record {
+          target = target;
+          call = call;
+          reason = reason.Locked;
+        })) ≡ Locked }
+    ensures untold { (fault : DiskFault) → opening_failure fault None ≡ Disk fault }
+    ensures others { (fault : DiskFault) (cause : Cause) → cause.reason ≢ reason.Locked
+        → opening_failure fault (Some cause) ≡ Disk fault }
+{}
+
 /// The line on standard error of each fault of `inspect`.
 pub fn lines_of_inspections_are()
     ensures read { failure_line (Inspect inspect.Read) ≡ codes "icserve: device" ++ 10 ∷ [] }
@@ -168,10 +221,13 @@ pub fn lines_of_looks_are()
 {}
 
 /// What is told behind the line of a failure: of `device` why the last call to the file has failed,
-/// of a disk that isn't opened what is wrong with the file, and of all else nothing.
+/// of a disk that isn't opened what is wrong with the file, of a `read` of standard input why it has
+/// failed, and of all else nothing.
 pub fn lines_behind_are(text: &String)
     ensures file { (fault : DiskFault) (path : List ℕ) (cause : Option Cause)
         → lines_behind (Disk fault) path cause ≡ cause_line path cause }
+    ensures locked { (path : List ℕ) (cause : Option Cause)
+        → lines_behind Locked path cause ≡ cause_line path cause }
     ensures created { (path : List ℕ) (cause : Option Cause)
         → lines_behind (Create creating.Device) path cause ≡ cause_line path cause }
     ensures opened { (path : List ℕ) (cause : Option Cause)
@@ -192,6 +248,28 @@ pub fn lines_behind_are(text: &String)
     ensures damaged { (path : List ℕ) (cause : Option Cause)
         → lines_behind (Open opening.Damaged) path cause ≡ shown_path path ++ codes ": "
         ++ codes "something else has changed the file, or it was copied in part" ++ 10 ∷ [] }
+    ensures input { (path : List ℕ) (cause : Cause) → cause.target ≡ Input
+        → (lines_behind (Stream stream.Read) path (Some cause) ≡ cause_line path (Some cause))
+        × (lines_behind (Serve serve.Read) path (Some cause) ≡ cause_line path (Some cause)) }
+    ensures no_input { (path : List ℕ) (cause : Cause) → cause.target ≢ Input
+        → (lines_behind (Stream stream.Read) path (Some cause) ≡ [])
+        × (lines_behind (Serve serve.Read) path (Some cause) ≡ []) }
+    ensures no_cause { (path : List ℕ) → (lines_behind (Stream stream.Read) path None ≡ [])
+        × (lines_behind (Serve serve.Read) path None ≡ []) }
+    ensures rules { (name path : List ℕ) (cause : Option Cause)
+        → lines_behind (Batch (batch.Taken name difference.Rules)) path cause
+        ≡ shown_path path ++ codes ": its job of this name has other rules" ++ 10 ∷ [] }
+    ensures budget { (name path : List ℕ) (cause : Option Cause)
+        → lines_behind (Batch (batch.Taken name difference.Budget)) path cause
+        ≡ shown_path path ++ codes ": its job of this name has another budget" ++ 10 ∷ [] }
+    ensures begin { (name path : List ℕ) (cause : Option Cause)
+        → lines_behind (Batch (batch.Taken name difference.Start)) path cause ≡ shown_path path
+        ++ codes ": its job of this name begins with another configuration" ++ 10 ∷ [] }
+    ensures full { (path : List ℕ) (cause : Option Cause)
+        → lines_behind (Batch batch.Full) path cause ≡ shown_path path
+        ++ codes ": it has jobs of other names, and no disk has more than 32" ++ 10 ∷ [] }
+    ensures stopped { (fault : ServeFault) (path : List ℕ) (cause : Option Cause)
+        → lines_behind (Batch (batch.Serve fault)) path cause ≡ lines_behind (Serve fault) path cause }
     ensures text { (fault : TextFault) (path : List ℕ) (cause : Option Cause)
         → lines_behind (Stream (stream.Text fault)) path cause ≡ [] }
     ensures faults { (path : List ℕ) (cause : Option Cause)

@@ -21,6 +21,16 @@ begun-zero file begun i new old = ⊎_elim
     (λ part. zero-there (first_bytes (old_table_bytes [])) file part i old)
     begun.1
 
+-- each place of the file is zero, or as in the bytes
+part-byte : (bytes file : List ℕ) → IsPartOf bytes file → (i : ℕ) → (slice_index file i ≡ 0) ⊎ (slice_index file i ≡ slice_index bytes i)
+part-byte bytes file part i = ⊎_elim (λ inside. part i inside) (λ past. inl (get_or_past file i 0 past)) (cases_lt i (length file))
+
+pub begun-byte : (file : List ℕ) → IsBegun file → (i : ℕ) → (slice_index file i ≡ 0) ⊎ ((slice_index file i ≡ slice_index (first_bytes (table_bytes [])) i) ⊎ (slice_index file i ≡ slice_index (first_bytes (old_table_bytes [])) i))
+begun-byte file begun i = ⊎_elim
+    (λ part. ⊎_elim (λ zero. inl zero) (λ new. inr (inl new)) (part-byte (first_bytes (table_bytes [])) file part i))
+    (λ part. ⊎_elim (λ zero. inl zero) (λ old. inr (inr old)) (part-byte (first_bytes (old_table_bytes [])) file part i))
+    begun.1
+
 pub behind-zero : (i : ℕ) → 18 ≤ i → (slice_index (first_bytes (table_bytes [])) i ≡ 0) × (slice_index (first_bytes (old_table_bytes [])) i ≡ 0)
 behind-zero i past = (get_or_past (first_bytes (table_bytes [])) i 0 past, get_or_past (first_bytes (old_table_bytes [])) i 0 past)
 

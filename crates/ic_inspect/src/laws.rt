@@ -1,7 +1,7 @@
 //! Laws of the definitions that the contracts of this crate cite.
 
-ghost use Rattle.std.specs.Prelude.{◌≡◌, ◌+◌, ◌≤◌, ℕ, List, [], length, replicate, slice_index};
-ghost use Rattle.ic_codec.specs.Tables.{table_bytes};
+ghost use Rattle.std.specs.Prelude.{◌≡◌, ◌⊎◌, ◌+◌, ◌≤◌, ◌++◌, ◌∷◌, ℕ, List, [], codes, length, replicate, slice_index};
+ghost use Rattle.ic_codec.specs.Tables.{old_table_bytes, table_bytes};
 ghost use Rattle.ic_disk.specs.Content.{laid};
 ghost use Rattle.ic_frames.specs.declared.frame.TheConstants.{HEAD};
 ghost use Rattle.ic_frames.specs.declared.slot.TheConstants.{SECOND_AT};
@@ -33,11 +33,24 @@ pub fn no_job_is_lost()
 }
 
 /// What a stopped `create` leaves ends with the head of the second slot at the latest, is closed, and has
-/// zeros behind the 18 bytes of an empty table.
+/// zeros behind the 18 bytes of an empty table. Each byte of it is 0, or the one that a `create` writes
+/// there.
 pub fn what_is_begun_is_nearly_empty()
     ensures short { (file : List ℕ) → IsBegun file → length file ≤ SECOND_AT + HEAD }
     ensures closed { (file : List ℕ) → IsBegun file → slice_index file 0 ≡ 0 }
     ensures zeros { (file : List ℕ) (i : ℕ) → IsBegun file → 18 ≤ i → slice_index file i ≡ 0 }
+    ensures bytes { (file : List ℕ) (i : ℕ) → IsBegun file → (slice_index file i ≡ 0)
+        ⊎ ((slice_index file i ≡ slice_index (first_bytes (table_bytes [])) i)
+        ⊎ (slice_index file i ≡ slice_index (first_bytes (old_table_bytes [])) i)) }
+{}
+
+/// The bytes that a `create` writes in the first slot before it opens the gate: a gate that is closed, the
+/// number 1 in eight bytes, the length 5 in four, the name of the form, and that there are no jobs.
+pub fn the_first_bytes_are()
+    ensures ict2 { first_bytes (table_bytes [])
+        ≡ 0 ∷ 0 ∷ 0 ∷ 0 ∷ 0 ∷ 0 ∷ 0 ∷ 0 ∷ 1 ∷ 0 ∷ 0 ∷ 0 ∷ 5 ∷ codes "ICT2" ++ 0 ∷ [] }
+    ensures ict1 { first_bytes (old_table_bytes [])
+        ≡ 0 ∷ 0 ∷ 0 ∷ 0 ∷ 0 ∷ 0 ∷ 0 ∷ 0 ∷ 1 ∷ 0 ∷ 0 ∷ 0 ∷ 5 ∷ codes "ICT1" ++ 0 ∷ [] }
 {}
 
 /// Behind each write of a `create` of an empty file, but for the last one, which opens the gate, the

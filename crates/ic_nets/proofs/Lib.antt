@@ -18,3 +18,9 @@ pub mod NamingLemmas
 pub mod PortNames
 pub mod LikeLemmas
 pub mod CircleLemmas
+pub mod SameLemmas
+pub mod AlikeLemmas
+pub mod BackLemmas
+pub mod UnlikeLemmas
+pub mod PartedLemmas
+pub mod TextLemmas

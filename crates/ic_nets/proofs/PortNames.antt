@@ -39,7 +39,7 @@ kind_of (Right j) = 3
 kind_of (Auxiliary k i) = k + 4
 kind_of (Free n) = 0
 
-abbrev place_of : Port → ℕ
+abbrev pub place_of : Port → ℕ
 place_of (Interface i) = i
 place_of (Principal k) = k
 place_of (Left j) = j

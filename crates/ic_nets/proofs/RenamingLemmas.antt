@@ -234,7 +234,7 @@ module _ (f : ℕ → ℕ) where
 
 -- ---- the law
 
-same_test : (f g : ℕ → ℕ) → ((n : ℕ) → g (f n) ≡ n) → (m n : ℕ) → (f m == f n) ≡ (m == n)
+pub same_test : (f g : ℕ → ℕ) → ((n : ℕ) → g (f n) ≡ n) → (m n : ℕ) → (f m == f n) ≡ (m == n)
 same_test f g back m n = by (m == n) refl (f m == f n) refl
   where
     by : (b : Bool) → (m == n) ≡ b → (a : Bool) → (f m == f n) ≡ a → a ≡ b

@@ -7,4 +7,5 @@ pub mod Draws
 pub mod Telling
 pub mod ReadBack
 pub mod Likeness
+pub mod Church
 pub mod inner

@@ -1,13 +1,20 @@
 //! Laws of the definitions that the contracts of this crate cite.
 
-ghost use Rattle.std.specs.Prelude.{◌≡◌, ◌≤◌, ◌==◌, ℕ, List, [], ◌∷◌, true, false, Some, if◌then◌else◌, length, count_by, is_some};
+ghost use Rattle.std.specs.Prelude.{◌≡◌, ◌≤◌, ◌==◌, ◌++◌, ℕ, List, [], ◌∷◌, true, false, Some, codes, if◌then◌else◌, length, count_by, is_some};
+ghost use Rattle.std.specs.Fmt.{decimal};
+ghost use Rattle.std.specs.List.{list_all};
 ghost use Rattle.ic_term.specs.Configuration.{Configuration, IsConfiguration, configuration_names, occurrences};
 ghost use Rattle.ic_rules.specs.Rule.{Rule};
 ghost use Rattle.ic_settle.specs.Settling.{settled};
 ghost use Rattle.ic_round.specs.Firing.{rule_of_sides};
-ghost use Rattle.ic_confluence.specs.Circle.{cut_at_y, of_equations, uncut};
-ghost use Rattle.ic_confluence.specs.Sameness.{Renames, Same};
-ghost use Rattle.ic_nets.specs.Likeness.{AreAlike};
+ghost use Rattle.ic_confluence.specs.Circle.{cut_at_x, cut_at_y, of_equations, uncut};
+ghost use Rattle.ic_confluence.specs.Sameness.{Rearranges, Renames, Same};
+ghost use Rattle.ic_text.specs.Name.{name_text};
+ghost use Rattle.ic_text.specs.Token.{is_blank};
+ghost use Rattle.ic_nets.specs.Church.{alone, church_false, church_true};
+ghost use Rattle.ic_nets.specs.Dot.{port_text, style_of};
+ghost use Rattle.ic_nets.specs.Draws.{has_rules};
+ghost use Rattle.ic_nets.specs.Likeness.{AreAlike, EitherWay, InSomeOrder, edges};
 ghost use Rattle.ic_nets.specs.Links.{agents_of, links_of};
 ghost use Rattle.ic_nets.specs.Nets.{IsNet};
 ghost use Rattle.ic_nets.specs.Ports.{ends, is_bound, ports_at, ports_of, times, wire_named};
@@ -16,7 +23,7 @@ ghost use Rattle.ic_nets.specs.Wiring.{named_wires};
 ghost use Rattle.ic_nets.specs.declared.links.Standing.{Standing};
 ghost use Rattle.ic_nets.specs.declared.net.Net.{Net};
 ghost use Rattle.ic_nets.specs.declared.port.Port.{Port};
-ghost use Rattle.ic_nets.specs.declared.port.Port.TheVariants.{Free};
+ghost use Rattle.ic_nets.specs.declared.port.Port.TheVariants.{Auxiliary, Free, Interface, Left, Principal, Right};
 
 /// Each end of a wire is at a port, and each port is an end as often as it is one: the ends of wires are the bound ports
 /// of the net, and a free one for each name that stands once.
@@ -85,16 +92,100 @@ pub fn a_configuration_is_found_again()
 }
 
 /// Nets that are one graph are of configurations that settle to one net: which number an agent has, and which wire and which of
-/// its ends is named first, says nothing. The nets of `<|x=A(y),y=B(x)>` and `<|y=B(A(y))>` are one graph.
+/// its ends is named first, says nothing. The nets of `<|x=A(y),y=B(x)>`, `<|y=B(A(y))>` and `<|x=A(B(x))>` are one graph.
 pub fn alike_nets_settle_to_one()
     ensures settled { (rs : List Rule) (c d : Configuration) (m n : Net) → IsConfiguration c
         → IsConfiguration d → IsNet rs c m → IsNet rs d n → AreAlike m n
         → (next : ℕ) × Same (settled (record c { next = next })) (settled (record d { next = next })) }
     ensures circle { (rs : List Rule) (a b : ℕ) (m n : Net) → IsNet rs (uncut a b) m
         → IsNet rs (of_equations (cut_at_y a b ∷ [])) n → AreAlike m n }
+    ensures cut { (rs : List Rule) (a b : ℕ) (m n : Net)
+        → IsNet rs (of_equations (cut_at_y a b ∷ [])) m
+        → IsNet rs (of_equations (cut_at_x a b ∷ [])) n → AreAlike m n }
 {
     ic_confluence::laws::same_is_an_equivalence();
     ic_confluence::laws::same_nets_take_the_same_name_steps();
     ic_confluence::laws::same_nets_have_the_same_rounds();
     ic_confluence::laws::every_order_settles_to_the_same_net();
 }
+
+/// Configurations are one net only where the names of one can be turned into others, and its equations rearranged then, so that
+/// it is the other one. Without equations it has to be the other one once its names are turned into others. So
+/// `<L(x,L(E,x))|>` and `<L(E,L(x,x))|>`, Church's true and false, are two nets.
+pub fn same_nets_are_renamed_and_rearranged()
+    ensures parts { (c d : Configuration) → Same c d
+        → (between : Configuration) × Renames c between × Rearranges between d }
+    ensures renamed { (c d : Configuration) → Same c d → c.equations ≡ [] → Renames c d }
+    ensures true_and_false { (l e : ℕ)
+        → ¬ Same (alone (church_true l e)) (alone (church_false l e)) }
+{
+    ic_confluence::laws::same_nets_have_one_shape();
+}
+
+/// Configurations have nets that are alike where one is the other with its names turned into others, so also where they are one
+/// net and have no equations.
+pub fn renamed_nets_are_alike()
+    ensures renamed { (rs : List Rule) (c d : Configuration) (m n : Net) → IsConfiguration c
+        → Renames c d → IsNet rs c m → IsNet rs d n → AreAlike m n }
+    ensures same { (rs : List Rule) (c d : Configuration) (m n : Net) → IsConfiguration c
+        → Same c d → c.equations ≡ [] → IsNet rs c m → IsNet rs d n → AreAlike m n }
+{
+    same_nets_are_renamed_and_rearranged();
+}
+
+/// To be alike is an equivalence of nets. Wires may stand in any order, and each with either end first.
+pub fn likeness_is_an_equivalence()
+    ensures itself { (n : Net) → AreAlike n n }
+    ensures other_way { (m n : Net) → AreAlike m n → AreAlike n m }
+    ensures through { (m n o : Net) → AreAlike m n → AreAlike n o → AreAlike m o }
+    ensures wires { (m n : Net) → m.interface ≡ n.interface → m.agents.items ≡ n.agents.items
+        → m.joints ≡ n.joints
+        → InSomeOrder EitherWay (edges m.wires.items) (edges n.wires.items) → AreAlike m n }
+{}
+
+/// Nets that differ in where one wire ends aren't alike: those of `<L(x,L(E,x))|>` and `<L(E,L(x,x))|>` have the same agents.
+pub fn nets_of_true_and_false_are_not_alike()
+    ensures { (rs : List Rule) (l e : ℕ) (m n : Net) → IsNet rs (alone (church_true l e)) m
+        → IsNet rs (alone (church_false l e)) n → ¬ AreAlike m n }
+{}
+
+/// The text by which an edge names a port: the place of the interface, the agent and its port, of which the principal one is
+/// 0, the point, or the free name itself.
+pub fn ports_are_named_so()
+    ensures interface { (i : ℕ) → port_text (Interface i) ≡ codes "I" ++ decimal i }
+    ensures principal { (k : ℕ) → port_text (Principal k)
+        ≡ codes "A" ++ decimal k ++ codes ":0" }
+    ensures auxiliary { (k i : ℕ) → port_text (Auxiliary k i)
+        ≡ codes "A" ++ decimal k ++ codes ":" ++ decimal i }
+    ensures left { (j : ℕ) → port_text (Left j) ≡ codes "J" ++ decimal j }
+    ensures right { (j : ℕ) → port_text (Right j) ≡ codes "J" ++ decimal j }
+    ensures free { (n : ℕ) → port_text (Free n) ≡ name_text n }
+{}
+
+/// The edge of an active pair is thick, with an arrow head at each end. Any other has one at each end that is a principal port.
+pub fn arrow_heads_stand_at_principal_ports()
+    ensures active { (p q : Port) → style_of (record { from = p; to = q; active = true })
+        ≡ codes " [dir=both, penwidth=3]" }
+    ensures both { (k j : ℕ)
+        → style_of (record { from = Principal k; to = Principal j; active = false })
+        ≡ codes " [dir=both]" }
+    ensures back { (k : ℕ) (q : Port) → ((j : ℕ) → ¬ (q ≡ Principal j))
+        → style_of (record { from = Principal k; to = q; active = false })
+        ≡ codes " [dir=back]" }
+    ensures forward { (p : Port) (k : ℕ) → ((j : ℕ) → ¬ (p ≡ Principal j))
+        → style_of (record { from = p; to = Principal k; active = false })
+        ≡ codes " [dir=forward]" }
+    ensures none { (p q : Port) → ((j : ℕ) → ¬ (p ≡ Principal j))
+        → ((j : ℕ) → ¬ (q ≡ Principal j))
+        → style_of (record { from = p; to = q; active = false }) ≡ [] }
+{}
+
+/// A text has rules exactly where its first byte that isn't blank is `{`.
+pub fn texts_with_rules_begin_with_a_brace()
+    ensures brace { (blanks rest : List ℕ) → list_all is_blank blanks ≡ true
+        → has_rules (blanks ++ 123 ∷ rest) ≡ true }
+    ensures other { (blanks : List ℕ) (b : ℕ) (rest : List ℕ) → list_all is_blank blanks ≡ true
+        → is_blank b ≡ false → ¬ (b ≡ 123) → has_rules (blanks ++ b ∷ rest) ≡ false }
+    ensures blank { (blanks : List ℕ) → list_all is_blank blanks ≡ true
+        → has_rules blanks ≡ false }
+{}

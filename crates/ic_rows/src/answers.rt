@@ -1,29 +1,19 @@
 //! What is answered to a row, by its kind.
 
-use crate::checks::checked;
-use crate::failing::{failing_reader, failing_writer, reads, slowly, unflushed};
 use crate::faults::text_line;
-use crate::places::{config_place, once_told, settle_told, system_place};
-use crate::streams::{Stream, sizes};
+use crate::places::{config_place, system_place};
 use crate::systems::{found, named_symbols};
 use crate::texts::{blanks, config, fates, system};
 use crate::values::{built, joined, numbered, paired, restored};
 use crate::words::words;
-use crate::workers::alike;
-use ic_looks::Format;
 use ic_notation::{Answers, Row, Trouble, expanded};
 use std::alloc::Global;
-use std::sync::Wait;
-use std::thread::Threads;
 
 /// The kinds of these rows.
 #[derive(Drop)]
-pub struct Kinds<'a, R: Threads + Wait> {
-    /// What starts workers.
-    pub rt: &'a R,
-}
+pub struct Kinds;
 
-impl<R: Threads + Wait> Answers for Kinds<'_, R> {
+impl Answers for Kinds {
     fn answer(&self, alloc: Global, row: &Row<'_>) -> Result<Vec<u8>, Trouble> {
         match row.kind {
             "words" => words(alloc, row.text),
@@ -36,9 +26,8 @@ impl<R: Threads + Wait> Answers for Kinds<'_, R> {
             | "byte"
             | "system_byte"
             | "config_place"
-            | "system_place"
-            | "checked" => of_text(alloc, row),
-            _ => of_stream(self.rt, alloc, row),
+            | "system_place" => of_text(alloc, row),
+            _ => Err(Trouble("no such kind")),
         }
     }
 }
@@ -65,7 +54,6 @@ fn of_text(alloc: Global, row: &Row<'_>) -> Result<Vec<u8>, Trouble> {
         "system" => system(alloc, &text),
         "config_place" => config_place(alloc, &text),
         "system_place" => system_place(alloc, &text),
-        "checked" => checked(alloc, &text),
         "symbols" => named_symbols(alloc, &text),
         "byte" => fates(alloc, &text),
         _ => blanks(alloc, &text),
@@ -90,76 +78,5 @@ fn behind_number(alloc: Global, row: &Row<'_>) -> Result<Vec<u8>, Trouble> {
         "find" => found(alloc, number, &text),
         "symbol" => numbered(alloc, number as usize, &text),
         _ => text_line(alloc, &text, number),
-    }
-}
-
-/// The stream that a kind is of, and what is done with it.
-fn doing_of(kind: &str) -> Result<(Stream, &str), Trouble> {
-    let (word, doing) = kind.split_once('_').unwrap_or((kind, ""));
-    match word {
-        "settle" => Ok((Stream::Settle, doing)),
-        "once" => Ok((Stream::Once, doing)),
-        "reduce" => Ok((Stream::Reduce(0), doing)),
-        "alike" => Ok((Stream::Reduce(0), word)),
-        "trace" => Ok((Stream::Trace(0, Format::Table), doing)),
-        "picture" => Ok((Stream::Trace(0, Format::Picture), doing)),
-        "draw" => Ok((Stream::Draw, doing)),
-        "sizes" => Ok((Stream::Draw, word)),
-        _ => Err(Trouble("no such kind")),
-    }
-}
-
-/// The stream for as many rounds as stand before a text, where it makes rounds, and the text.
-fn with_rounds(stream: Stream, text: &str) -> Result<(Stream, &str), Trouble> {
-    let (first, rest) = text.split_once(' ').unwrap_or((text, ""));
-    let rounds = u64::from_str_radix(first, 10);
-    match (stream, rounds) {
-        (Stream::Reduce(_), Ok(rounds)) => Ok((Stream::Reduce(rounds), rest)),
-        (Stream::Trace(_, format), Ok(rounds)) => Ok((Stream::Trace(rounds, format), rest)),
-        (Stream::Reduce(_) | Stream::Trace(_, _), Err(_)) => Err(Trouble("no number")),
-        _ => Ok((stream, text)),
-    }
-}
-
-/// What is answered to a text that a stream of the program is given.
-fn of_stream<R: Threads + Wait>(rt: &R, alloc: Global, row: &Row<'_>) -> Result<Vec<u8>, Trouble> {
-    let (stream, doing) = doing_of(row.kind)?;
-    let (stream, text) = with_rounds(stream, row.text)?;
-    if doing == "slowly" {
-        let (text, line) = text.split_once(" + ").unwrap_or((text, ""));
-        return slowly(
-            alloc,
-            stream,
-            &expanded(alloc, text)?,
-            &expanded(alloc, line)?,
-        );
-    }
-    let text = expanded(alloc, text)?;
-    match doing {
-        "" => stream.told(alloc, &text),
-        "told" => told(alloc, stream, &text),
-        "sizes" => sizes(alloc, stream, &text),
-        "alike" => alike(rt, alloc, stream, &text),
-        _ => failing(alloc, stream, doing, &text),
-    }
-}
-
-/// What is told of a text that is refused.
-fn told(alloc: Global, stream: Stream, text: &[u8]) -> Result<Vec<u8>, Trouble> {
-    match stream {
-        Stream::Settle => settle_told(alloc, text),
-        Stream::Once => once_told(alloc, text),
-        _ => Err(Trouble("no such kind")),
-    }
-}
-
-/// What is answered by readers and writers that fail on the way.
-fn failing(alloc: Global, stream: Stream, doing: &str, text: &[u8]) -> Result<Vec<u8>, Trouble> {
-    match doing {
-        "read_fails" => failing_reader(alloc, stream, text),
-        "write_fails" => failing_writer(alloc, stream, text),
-        "unflushed" => unflushed(alloc, stream, text),
-        "reads" => reads(alloc, stream, text),
-        _ => Err(Trouble("no such kind")),
     }
 }

@@ -58,6 +58,13 @@ fn asked(alloc: Global, task: &Task, part: &str) -> Result<String, AllocError> {
         }
         Task::Inspect { disk } => format!(in alloc; "inspect {disk}"),
         Task::Check { files } => with_texts(String::from_str(alloc, "check")?, files),
+        Task::Batch {
+            disk,
+            rounds,
+            every,
+            workers,
+            lines,
+        } => format!(in alloc; "batch {disk} {rounds} {every} {workers} {lines}"),
         Task::Help(text) => of_part(alloc, "help", text, part),
         Task::Version(text) => format!(in alloc; "version {text}"),
     }

@@ -5,3 +5,4 @@ pub mod WriteLemmas
 pub mod ServeLemmas
 pub mod TurnLemmas
 pub mod StopLemmas
+pub mod ReadingLemmas

@@ -1,5 +1,5 @@
 -- The lines of a reader, one after the other.
-use Rattle.std.proofs.Common.{Bool, false, ◌≡◌, ◌≢◌, ◌⊎◌, inl, inr, ℕ, ◌+◌, ◌<◌, ◌≤◌, List, [], ◌∷◌, ◌++◌, Option, None, Some, Result, Ok, Err, length, refl, sym, ap, ap₂, subst, ◌∙◌, arith, append-nil, append_assoc, length-append}
+use Rattle.std.proofs.Common.{Bool, false, ◌≡◌, ◌≢◌, inl, inr, ℕ, ◌+◌, ◌<◌, ◌≤◌, List, [], ◌∷◌, ◌++◌, Option, None, Some, Err, length, refl, sym, ap, subst, ◌∙◌, arith, append-nil, append_assoc, length-append}
 use Rattle.std.specs.Prelude.{replicate}
 use Rattle.std.proofs.lemmas.List.{length-replicate}
 use Rattle.std.specs.List.{AllByRecursion}
@@ -11,7 +11,7 @@ use Rattle.ic_text.specs.declared.limits.TheConstants.{MAX_TEXT}
 use Rattle.ic_lines.specs.Lines.{lines}
 use Rattle.ic_lines.specs.Answers.{Reading, answer, after_line}
 use Rattle.ic_lines.specs.Serving.{IsServed}
-use Rattle.ic_lines.specs.Taking.{BufferParts, to_come, TakesLine, HasNoLine, HasLongLine, IsTooLong}
+use Rattle.ic_lines.specs.Taking.{BufferParts, to_come, TakesLine, HasNoLine, HasLongLine}
 use Rattle.ic_serving.specs.declared.limits.TheConstants.{MAX_LINES}
 use Rattle.ic_serving.specs.declared.fault.ServeFault.{ServeFault}
 use Rattle.ic_serving.specs.declared.fault.ServeFault.TheVariants.{Read, Write, TooManyLines, Book, Pool, LongLine, Memory}
@@ -21,7 +21,7 @@ use Rattle.ic_serving.specs.Faults.{MayCome, ComesInLine, CountsServe, StaysRead
 use Rattle.ic_lines.specs.declared.buffer.LineFault.{LineFault}
 use Rattle.ic_lines.specs.declared.buffer.LineFault.TheVariants as line_fault
 use Rattle.ic_serving.specs.inner.Progress.{AreFirst, AreToCome, IsUnderWay}
-use Rattle.ic_serving.specs.lemmas.Reaching.{SomeWay, in_line, in_first, served_none}
+use Rattle.ic_serving.specs.lemmas.Reaching.{SomeWay, in_first, served_none}
 use Rattle.ic_serving.proofs.WriteLemmas.{appends_none, appends_kept, appends_more, front_none, front_behind}
 
 -- ---- lines that were answered

@@ -1,5 +1,5 @@
 -- Lines that are answered in turn, and the last call that is made for each.
-use Rattle.std.proofs.Common.{◌≡◌, ℕ, List, [], ◌∷◌, ◌++◌, refl, sym, ap, subst, ◌∙◌}
+use Rattle.std.proofs.Common.{ℕ, List, [], ◌∷◌, ◌++◌, refl, ap, subst, ◌∙◌}
 use Rattle.ic_disk.specs.declared.disk.Disk.{Ghosts}
 use Rattle.ic_desk.specs.declared.book.Book.{Book}
 use Rattle.ic_desk.specs.Moves.{Move}

@@ -1,4 +1,4 @@
--- To be believed, but for what private functions say: what a serving speaks of in a book.
+-- To be believed: what a serving speaks of in a book.
 use Rattle.std.specs.Prelude.{◌≡◌, ◌⊎◌, ℕ, ◌<◌, List, [], ◌∷◌, Some, length}
 use Rattle.ic_disk.specs.declared.disk.Disk.{Ghosts}
 use Rattle.ic_pool.specs.Flight.{FlightParts}
@@ -22,7 +22,7 @@ last_kept book = table_kept (start_of book) (log_of book) (kept_of book)
 abbrev pub IsAllKept : {D : Type 0} {ghosts : Ghosts D} → Book D ghosts → Type 0
 IsAllKept book = kept_of book ≡ length (log_of book)
 
--- ---- for private functions
+-- ---- of one call
 
 -- the table stays, and either the table that was kept last stays too, or it is kept now
 pub record StaysPut {D : Type 0} {ghosts : Ghosts D} (old new : Book D ghosts) : Type 0 where

@@ -8,7 +8,8 @@ ghost use Rattle.ic_commands.specs.declared.line.Line.TheVariants.{Command as As
 ghost use Rattle.ic_text.specs.Text.{fault_text};
 ghost use Rattle.ic_lines.specs.Lines.{ended};
 ghost use Rattle.ic_lines.specs.Turns.{turns};
-ghost use Rattle.ic_lines.specs.Answers.{answer, after_line};
+ghost use Rattle.ic_commands.specs.LineText.{ReadsLine};
+ghost use Rattle.ic_lines.specs.Answers.{answer, after_line, events};
 ghost use Rattle.ic_serving.specs.Booked.{last_kept, Begins, IsAllKept};
 ghost use Rattle.ic_serving.specs.Parts.{IsKeptWithin};
 ghost use Rattle.ic_desk.specs.Moves.{keeps};
@@ -16,6 +17,7 @@ ghost use Rattle.ic_serving.specs.Answered.{EndsWith, IsAnswered, IsBegun, IsRep
 ghost use Rattle.ic_serving.specs.Grown.{GoesOn, HasRoom};
 ghost use Rattle.ic_serving.specs.Moments.{FaultLeaves, Leaves, IsKeptInLine};
 ghost use Rattle.ic_serving.specs.Faults.{ComesInLine};
+ghost use Rattle.ic_serving.specs.inner.Reading.{IsAnsweredAs};
 
 use crate::fault::ServeFault;
 use crate::makers::Makers;
@@ -30,6 +32,9 @@ use ic_text::{TextFault, print_fault, put_decimal};
 use std::alloc::{AllocError, Global};
 use std::sync::Wait;
 use std::thread::Threads;
+
+/// What a line asks, or why it is refused.
+pub(crate) type Reading = Result<Line, TextFault>;
 
 /// Does what a line asks, and answers what is to be written for it, for a loop of one's own. At Ok
 /// all is kept, unless nothing has changed: so no byte of an answer is there before what its line
@@ -57,12 +62,15 @@ pub fn answer_line<T: Threads + Wait + Copy + Send + 'static, D: Disk>(
     ensures crash { Leaves book.old book.new
         (IsKeptInLine (table_of book.old) (last_kept book.old) line.now) }
 {
+    book.facts();
+    ic_commands::laws::one_line_reading();
+    let reading = read_line(alloc, line)?;
     let mut makers = Makers::new(alloc);
-    let answered = answer_watched(
+    let answered = answer_read(
         rt,
         alloc,
         book,
-        line,
+        reading,
         workers,
         every,
         &OpenGate,
@@ -72,12 +80,24 @@ pub fn answer_line<T: Threads + Wait + Copy + Send + 'static, D: Disk>(
     answered
 }
 
-/// The same, watched by a gate, by makers of rounds that are kept from line to line.
-pub(crate) fn answer_watched<T: Threads + Wait + Copy + Send + 'static, D: Disk, G: Gate>(
+/// What a line asks, or its refusal.
+pub(crate) fn read_line(alloc: Global, line: &[u8]) -> Result<Reading, ServeFault>
+    ensures read { IfOk result (λ reading. ReadsLine line.now reading) }
+    ensures memory { IfErr result (λ fault. fault ≡ ServeFault.Memory) }
+{
+    match read_command(alloc, line) {
+        Err(TextFault::Memory) => Err(ServeFault::Memory),
+        reading => Ok(reading),
+    }
+}
+
+/// Does what a line asks that is read so, as `answer_line` does, watched by a gate, by makers of
+/// rounds that are kept from line to line.
+pub(crate) fn answer_read<T: Threads + Wait + Copy + Send + 'static, D: Disk, G: Gate>(
     rt: &T,
     alloc: Global,
     book: &mut Book<D>,
-    line: &[u8],
+    reading: Reading,
     workers: usize,
     every: u64,
     gate: &G,
@@ -85,19 +105,17 @@ pub(crate) fn answer_watched<T: Threads + Wait + Copy + Send + 'static, D: Disk,
 ) -> Result<Vec<u8>, ServeFault>
     requires workers { 1 ≤ workers }
     requires every { 1 ≤ every }
-    ensures answered { IfOk result (λ bytes. IsAnswered line.now bytes.items book.old book.new) }
-    ensures begun { OnErr result (IsBegun line.now book.old book.new) }
+    ensures answered { IfOk result (λ bytes. IsAnsweredAs reading bytes.items book.old book.new) }
+    ensures begun { OnErr result (Begins (events (table_of book.old) reading) book.old book.new) }
     ensures fault { FaultLeaves ComesInLine result book.old book.new }
-    ensures crash { Leaves book.old book.new
-        (IsKeptInLine (table_of book.old) (last_kept book.old) line.now) }
+    ensures crash { Leaves book.old book.new (IsKeptWithin (table_of book.old)
+        (last_kept book.old) (events (table_of book.old) reading)) }
 {
     book.facts();
-    ic_commands::laws::one_line_reading();
-    match read_command(alloc, line) {
+    match reading {
         Ok(Line::Blank) => Ok(Vec::new(alloc)),
         Ok(Line::Command(command)) => answer_command(alloc, book, command),
-        Ok(Line::Run(count)) => { answer_run(rt, alloc, book, count, workers, every, gate, makers) }
-        Err(TextFault::Memory) => Err(ServeFault::Memory),
+        Ok(Line::Run(count)) => answer_run(rt, alloc, book, count, workers, every, gate, makers),
         Err(fault) => answer_refused(alloc, fault),
     }
 }
@@ -109,7 +127,8 @@ fn answer_refused(alloc: Global, fault: TextFault) -> Result<Vec<u8>, ServeFault
     Ok(ended(print_fault(alloc, &fault)?)?)
 }
 
-fn answer_command<D: Disk>(
+/// Does what a command asks, keeps it, and answers what is to be written for it, with a line feed.
+pub fn answer_command<D: Disk>(
     alloc: Global,
     book: &mut Book<D>,
     command: Command,

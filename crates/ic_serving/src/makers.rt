@@ -1,4 +1,4 @@
-//! Who makes the rounds of a serving.
+//! Who makes the rounds of a serving, or of a loop of one's own.
 
 ghost use Rattle.std.specs.Prelude.{◌≡◌, ◌≤◌, IfOk};
 ghost use Rattle.ic_pool.specs.Played.{round_of};
@@ -15,7 +15,7 @@ use std::thread::Threads;
 /// Who makes the rounds of a serving: its own thread, in lists that are kept, and workers that stand
 /// ready from the first round of many equations on.
 #[derive(Drop)]
-pub(crate) struct Makers {
+pub struct Makers {
     workspace: Workspace,
     team: Team,
 }

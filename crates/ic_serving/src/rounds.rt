@@ -41,8 +41,8 @@ pub(crate) fn make_room<D: Disk>(alloc: Global, book: &mut Book<D>) -> Result<()
     Ok(())
 }
 
-/// Keeps what isn't kept.
-pub(crate) fn keep_all<D: Disk>(book: &mut Book<D>) -> Result<(), ServeFault>
+/// Keeps what isn't kept, for a loop of one's own.
+pub fn keep_all<D: Disk>(book: &mut Book<D>) -> Result<(), ServeFault>
     ensures table { table_of book.new ≡ table_of book.old }
     ensures kept { OnOk result (IsAllKept book.new) }
     ensures whole { OnOk result (is_broken book.new ≡ false) }
@@ -58,9 +58,9 @@ pub(crate) fn keep_all<D: Disk>(book: &mut Book<D>) -> Result<(), ServeFault>
     Ok(())
 }
 
-/// Makes the round of the job that is due from a place on, or halts it where it can't make one. Its
-/// place, or none where nothing is due.
-pub(crate) fn make_round<T: Threads + Wait + Copy + Send + 'static, D: Disk>(
+/// Makes the round of the job that is due from a place on, or halts it where it can't make one, for a
+/// loop of one's own. Its place, or none where nothing is due. The round isn't kept yet.
+pub fn make_round<T: Threads + Wait + Copy + Send + 'static, D: Disk>(
     rt: &T,
     alloc: Global,
     book: &mut Book<D>,

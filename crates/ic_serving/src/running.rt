@@ -94,14 +94,14 @@ fn make_rounds<T: Threads + Wait + Copy + Send + 'static, D: Disk, G: Gate>(
 }
 
 /// How many of these jobs are running.
-fn count_running(jobs: &[Job]) -> usize {
+pub fn count_running(jobs: &[Job]) -> usize {
     jobs.iter()
         .filter(|job| job.state() == State::Running)
         .count()
 }
 
 /// Keeps what isn't kept, where the number of rounds is a multiple of `every`.
-fn keep_each<D: Disk>(book: &mut Book<D>, made: u64, every: u64) -> Result<(), ServeFault>
+pub fn keep_each<D: Disk>(book: &mut Book<D>, made: u64, every: u64) -> Result<(), ServeFault>
     requires { 1 ≤ every }
     ensures table { table_of book.new ≡ table_of book.old }
     ensures kept { OnOk result ((last_kept book.new ≡ last_kept book.old)

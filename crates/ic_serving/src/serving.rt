@@ -1,19 +1,23 @@
 //! Serving all lines of a reader over a book.
 
-ghost use Rattle.std.specs.Prelude.{◌≡◌, ◌≢◌, ◌≤◌};
+ghost use Rattle.std.specs.Prelude.{◌≡◌, ◌≢◌, ◌≤◌, ◌⊎◌, IfOk, IfErr};
+ghost use Rattle.std.specs.Io.KnownBytes.{Keeps};
+ghost use Rattle.ic_commands.specs.LineText.{ReadsLine};
 ghost use Rattle.ic_lines.specs.declared.buffer.LineFault.TheVariants.{LongLine};
 ghost use Rattle.ic_serving.specs.Faults.{MayCome, fault_of_line};
 ghost use Rattle.ic_serving.specs.Moments.{FaultLeaves};
 ghost use Rattle.ic_serving.specs.Served.{OfLines};
 ghost use Rattle.ic_serving.specs.Serving.{IsServing};
 
-use crate::answering::answer_watched;
+use crate::answering::{Reading, answer_read, read_line};
 use crate::fault::ServeFault;
 use crate::limits::MAX_LINES;
 use crate::makers::Makers;
 use crate::writing::write_answer;
+use ic_commands::Line;
 use ic_desk::Book;
 use ic_disk::Disk;
+use ic_jobs::Command;
 use ic_lines::{LineBuffer, LineFault};
 use ic_pool::{Gate, OpenGate};
 use std::alloc::Global;
@@ -23,8 +27,9 @@ use std::thread::Threads;
 
 /// Serves the lines of the reader over the book. A round is made by at most so many workers, and by
 /// one where it is small. Rounds are kept after each `every` of them; what a line leaves is kept
-/// before the line is answered. An answer is flushed before the reader is waited for. Workers that
-/// stand for large rounds are joined before it returns.
+/// before the line is answered. Answers are flushed before the reader is waited for, before a `run`,
+/// and before each command but `fetch` and `list`. Workers that stand for large rounds are joined
+/// before it returns.
 ///
 /// At a fault the lines before are answered, but for a fault of the writer; the line at which it came
 /// isn't, though some of its events may stand in the book.
@@ -114,7 +119,8 @@ fn serve_with<T: Threads + Wait + Copy + Send + 'static, D: Disk, R: Read, W: Wr
         if !lines.take_line(reader, writer)? {
             return Ok(());
         }
-        let answer = answer_watched(rt, alloc, book, lines.line(), workers, every, gate, makers)?;
+        let reading = begin_line(alloc, lines.line(), writer)?;
+        let answer = answer_read(rt, alloc, book, reading, workers, every, gate, makers)?;
         book.facts();
         write_answer(writer, &answer)?;
     }
@@ -123,6 +129,30 @@ fn serve_with<T: Threads + Wait + Copy + Send + 'static, D: Disk, R: Read, W: Wr
         Ok(false) => Ok(()),
         Ok(true) => Err(ServeFault::TooManyLines),
         Err(fault) => Err(behind_the_last(fault)),
+    }
+}
+
+/// What a line asks. Before a run, and before a command whose work is kept, the answers to the lines
+/// before it are flushed, so that they don't wait for it.
+fn begin_line<W: Write>(alloc: Global, line: &[u8], writer: &mut W) -> Result<Reading, ServeFault>
+    ensures read { IfOk result (λ reading. ReadsLine line.now reading) }
+    ensures kept { Keeps (W.contents writer.old) (W.contents writer.new) }
+    ensures fault { IfErr result (λ fault. (fault ≡ ServeFault.Memory)
+        ⊎ (fault ≡ ServeFault.Write)) }
+{
+    let reading = read_line(alloc, line)?;
+    if may_take_long(&reading) {
+        writer.flush().map_err(|_| ServeFault::Write)?;
+    }
+    Ok(reading)
+}
+
+/// Whether what a line asks makes rounds or is kept: all but commands that only ask of the table.
+fn may_take_long(reading: &Reading) -> bool {
+    match reading {
+        Ok(Line::Run(_)) => true,
+        Ok(Line::Command(command)) => !matches!(command, Command::Fetch(_) | Command::List),
+        Ok(Line::Blank) | Err(_) => false,
     }
 }
 

@@ -108,7 +108,9 @@ fn tell_word<F: DiskFile, R: Files<File = F>>(
         "read" => tell_bytes(bench, told, rest),
         "reads" => tell_whether_read(bench, told, rest),
         "file" | "cut" | "there" | "bytes" | "size" | "ends" => filing.place.word(told, verb, rest),
-        "refuse" | "allow" | "fill" | "empty" | "counts" => filing.log.word(told, verb),
+        "refuse" | "allow" | "fill" | "empty" | "special" | "plain" | "turned" | "counts" => {
+            filing.log.word(told, verb)
+        }
         _ => bench.word(told, verb, rest),
     }
 }

@@ -1,5 +1,5 @@
 //! A runtime whose files take and give one byte at a time, and whose writes and syncs
-//! fail when they are told to.
+//! fail when they are told to. They may also look as special files do.
 
 use crate::told::Told;
 use ic_disk::DiskFile;
@@ -10,7 +10,8 @@ use std::io;
 use std::io::{Read, Seek, SeekFrom, Write};
 use std::rt::Files;
 
-/// What has come of the files of a runtime, and whether they refuse to be written or synced.
+/// What has come of the files of a runtime, whether they refuse to be written or synced, and whether
+/// they look as special files by their path, or once they are open.
 #[derive(Drop)]
 pub struct Log<'a> {
     folder: &'a str,
@@ -21,6 +22,8 @@ pub struct Log<'a> {
     data_syncs: Cell<u32>,
     refuses: Cell<bool>,
     is_full: Cell<bool>,
+    looks_special: Cell<bool>,
+    opens_special: Cell<bool>,
 }
 
 impl<'a> Log<'a> {
@@ -33,6 +36,8 @@ impl<'a> Log<'a> {
             data_syncs: Cell::new(0),
             refuses: Cell::new(false),
             is_full: Cell::new(false),
+            looks_special: Cell::new(false),
+            opens_special: Cell::new(false),
         }
     }
 
@@ -43,6 +48,9 @@ impl<'a> Log<'a> {
             "allow" => self.refuses.set(false),
             "fill" => self.is_full.set(true),
             "empty" => self.is_full.set(false),
+            "special" => self.looks_special.set(true),
+            "plain" => self.looks_special.set(false),
+            "turned" => self.opens_special.set(true),
             _ => return self.tell(told),
         }
         Ok(())
@@ -99,6 +107,9 @@ impl Seek for SlowFile<'_> {
 
 impl OpenFile for SlowFile<'_> {
     fn metadata(&self) -> io::Result<Metadata> {
+        if self.log.opens_special.get() {
+            return Ok(Metadata::of_symlink(0));
+        }
         self.file.metadata()
     }
 
@@ -131,20 +142,29 @@ impl DiskFile for SlowFile<'_> {
     }
 }
 
+impl<R> SlowFiles<'_, R> {
+    /// Where what has this path stands.
+    fn place_of(&self, path: &str) -> &str {
+        if path == self.log.folder {
+            "/tmp"
+        } else {
+            self.path
+        }
+    }
+}
+
 impl<'a, R: Files<File = File>> Files for SlowFiles<'a, R> {
     type File = SlowFile<'a>;
 
     type Dir = R::Dir;
 
     fn open_file(&self, how: &OpenOptions, path: &str) -> io::Result<SlowFile<'a>> {
-        let is_folder = path == self.log.folder;
-        if is_folder {
+        if path == self.log.folder {
             let opened = self.log.folders_opened.get();
             self.log.folders_opened.set(opened.saturating_add(1));
         }
-        let path = if is_folder { "/tmp" } else { self.path };
         Ok(SlowFile {
-            file: self.rt.open_file(how, path)?,
+            file: self.rt.open_file(how, self.place_of(path))?,
             log: self.log,
         })
     }
@@ -154,7 +174,10 @@ impl<'a, R: Files<File = File>> Files for SlowFiles<'a, R> {
     }
 
     fn metadata(&self, path: &str) -> io::Result<Metadata> {
-        self.rt.metadata(path)
+        if self.log.looks_special.get() {
+            return Ok(Metadata::of_symlink(0));
+        }
+        self.rt.metadata(self.place_of(path))
     }
 
     fn symlink_metadata(&self, path: &str) -> io::Result<Metadata> {

@@ -9,11 +9,12 @@ use Rattle.ic_words.specs.Help.{help_of}
 use Rattle.ic_words.specs.Words.{AnswersWords, GivesHelp, GivesTask, GivesVersion, Names, command_line, format_word, is_format, mistakes_of, most_rounds}
 use Rattle.ic_words.specs.inner.Asking.{AnswersRefused, Asks}
 use Rattle.ic_words.specs.declared.words.Task.{Task}
-use Rattle.ic_words.specs.declared.words.Task.TheVariants.{Settle, Once, Create, Serve, Attend, Reduce, Trace, Draw, Dump, Inspect, Check, Help, Version}
+use Rattle.ic_words.specs.declared.words.Task.TheVariants.{Settle, Once, Create, Serve, Attend, Reduce, Trace, Draw, Dump, Inspect, Check, Batch, Help, Version}
 use Rattle.ic_words.specs.declared.words.TraceFormat.{TraceFormat}
 use Rattle.ic_words.specs.declared.words.TraceFormat.TheVariants.{Tsv, Svg}
 use Rattle.ic_words.specs.declared.words.WordsFault.{WordsFault}
 use Rattle.ic_words.specs.declared.words.WordsFault.TheVariants.{Words, Memory}
+use Rattle.ic_words.proofs.BatchNumbers.{batch_numbers}
 use Rattle.ic_words.proofs.AttendNumbers.{attend_numbers}
 use Rattle.ic_words.proofs.LookNumbers.{reduce_numbers, trace_numbers}
 use Rattle.ic_words.proofs.ServeNumbers.{serve_numbers}
@@ -126,6 +127,22 @@ asked words none called (Ok (Check files)) asks = record {
   settle = λ is. absurd (no_other_alone (codes "check") (codes "settle") words asks.0 settle_met refl is);
   once = λ is. absurd (no_other_alone (codes "check") (codes "once") words asks.0 once_met refl is);
 }
+asked words none called (Ok (Batch disk rounds every workers lines)) asks =
+    let begins = called_as called.0 (codes "batch") words called.1 asks.0 in
+    let spelt = batch_numbers words none begins in
+    record {
+      answers = ap₂ or_else none (no_format (codes "batch") _ asks.0 refl);
+      named = record {
+        begins = begins;
+        disk = asks.1;
+        rounds = number_named (codes "rounds") 0 most_rounds rounds words _ spelt.0 refl asks.2;
+        every = number_named (codes "every") 1 1000000 every words _ spelt.1 refl asks.3;
+        workers = number_named (codes "workers") 1 64 workers words _ spelt.2 refl asks.4;
+        lines = asks.5;
+      };
+      settle = λ is. absurd (no_other_alone (codes "batch") (codes "settle") words asks.0 settle_met refl is);
+      once = λ is. absurd (no_other_alone (codes "batch") (codes "once") words asks.0 once_met refl is);
+    }
 asked words none called (Ok (Help text)) asks = absurd asks
 asked words none called (Ok (Version text)) asks = absurd asks
 asked words none called (Err (Words text)) asks = record {
@@ -187,6 +204,7 @@ not_taken words kind (Ok Draw) made is = absurd is
 not_taken words kind (Ok (Dump disk names)) made is = absurd is
 not_taken words kind (Ok (Inspect disk)) made is = absurd is
 not_taken words kind (Ok (Check files)) made is = absurd is
+not_taken words kind (Ok (Batch disk rounds every workers lines)) made is = absurd is
 not_taken words kind (Err (Words text)) made is =
     let mistake = made is.0 in
     record {

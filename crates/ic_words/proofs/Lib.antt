@@ -21,3 +21,4 @@ pub mod CheckLines
 mod NoCommand
 mod HelpLemmas
 pub mod AttendLines
+pub mod BatchNumbers

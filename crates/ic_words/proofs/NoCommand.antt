@@ -6,19 +6,20 @@ use Rattle.ic_words.specs.inner.Asking.{IsIn, commands}
 
 -- a name that is none of the commands' is none
 pub none_of : (name : Text) → IsIn name commands → name ≢ codes "settle" → name ≢ codes "once" → name ≢ codes "create" → name ≢ codes "serve"
-    → name ≢ codes "attend" → name ≢ codes "reduce" → name ≢ codes "trace" → name ≢ codes "draw" → name ≢ codes "dump" → name ≢ codes "inspect" → name ≢ codes "check" → ⊥
-none_of name (inl is) settle once create serve attend reduce trace draw dump inspect check = settle is
-none_of name (inr (inl is)) settle once create serve attend reduce trace draw dump inspect check = once is
-none_of name (inr (inr (inl is))) settle once create serve attend reduce trace draw dump inspect check = create is
-none_of name (inr (inr (inr (inl is)))) settle once create serve attend reduce trace draw dump inspect check = serve is
-none_of name (inr (inr (inr (inr (inl is))))) settle once create serve attend reduce trace draw dump inspect check = attend is
-none_of name (inr (inr (inr (inr (inr (inl is)))))) settle once create serve attend reduce trace draw dump inspect check = reduce is
-none_of name (inr (inr (inr (inr (inr (inr (inl is))))))) settle once create serve attend reduce trace draw dump inspect check = trace is
-none_of name (inr (inr (inr (inr (inr (inr (inr (inl is)))))))) settle once create serve attend reduce trace draw dump inspect check = draw is
-none_of name (inr (inr (inr (inr (inr (inr (inr (inr (inl is))))))))) settle once create serve attend reduce trace draw dump inspect check = dump is
-none_of name (inr (inr (inr (inr (inr (inr (inr (inr (inr (inl is)))))))))) settle once create serve attend reduce trace draw dump inspect check = inspect is
-none_of name (inr (inr (inr (inr (inr (inr (inr (inr (inr (inr (inl is))))))))))) settle once create serve attend reduce trace draw dump inspect check = check is
-none_of name (inr (inr (inr (inr (inr (inr (inr (inr (inr (inr (inr none))))))))))) settle once create serve attend reduce trace draw dump inspect check = absurd none
+    → name ≢ codes "attend" → name ≢ codes "reduce" → name ≢ codes "trace" → name ≢ codes "draw" → name ≢ codes "dump" → name ≢ codes "inspect" → name ≢ codes "check" → name ≢ codes "batch" → ⊥
+none_of name (inl is) settle once create serve attend reduce trace draw dump inspect check batch = settle is
+none_of name (inr (inl is)) settle once create serve attend reduce trace draw dump inspect check batch = once is
+none_of name (inr (inr (inl is))) settle once create serve attend reduce trace draw dump inspect check batch = create is
+none_of name (inr (inr (inr (inl is)))) settle once create serve attend reduce trace draw dump inspect check batch = serve is
+none_of name (inr (inr (inr (inr (inl is))))) settle once create serve attend reduce trace draw dump inspect check batch = attend is
+none_of name (inr (inr (inr (inr (inr (inl is)))))) settle once create serve attend reduce trace draw dump inspect check batch = reduce is
+none_of name (inr (inr (inr (inr (inr (inr (inl is))))))) settle once create serve attend reduce trace draw dump inspect check batch = trace is
+none_of name (inr (inr (inr (inr (inr (inr (inr (inl is)))))))) settle once create serve attend reduce trace draw dump inspect check batch = draw is
+none_of name (inr (inr (inr (inr (inr (inr (inr (inr (inl is))))))))) settle once create serve attend reduce trace draw dump inspect check batch = dump is
+none_of name (inr (inr (inr (inr (inr (inr (inr (inr (inr (inl is)))))))))) settle once create serve attend reduce trace draw dump inspect check batch = inspect is
+none_of name (inr (inr (inr (inr (inr (inr (inr (inr (inr (inr (inl is))))))))))) settle once create serve attend reduce trace draw dump inspect check batch = check is
+none_of name (inr (inr (inr (inr (inr (inr (inr (inr (inr (inr (inr (inl is)))))))))))) settle once create serve attend reduce trace draw dump inspect check batch = batch is
+none_of name (inr (inr (inr (inr (inr (inr (inr (inr (inr (inr (inr (inr none)))))))))))) settle once create serve attend reduce trace draw dump inspect check batch = absurd none
 
 option_map_twice : {X Y Z : Type 0} (f : Y → Z) (g : X → Y) (o : Option X) → option_map f (option_map g o) ≡ option_map (λ x. f (g x)) o
 option_map_twice f g None = refl

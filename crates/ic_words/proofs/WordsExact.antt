@@ -118,7 +118,7 @@ dashes = 45 ∷ 45 ∷ []
 abbrev pub names_below : Bool → Names
 names_below true = []
 names_below false = (codes "settle", []) ∷ (codes "once", []) ∷ (codes "create", []) ∷ (codes "serve", []) ∷ (codes "attend", [])
-    ∷ (codes "reduce", []) ∷ (codes "trace", []) ∷ (codes "draw", []) ∷ (codes "dump", []) ∷ (codes "inspect", []) ∷ (codes "check", []) ∷ []
+    ∷ (codes "reduce", []) ∷ (codes "trace", []) ∷ (codes "draw", []) ∷ (codes "dump", []) ∷ (codes "inspect", []) ∷ (codes "check", []) ∷ (codes "batch", []) ∷ []
 
 behind_dashes : (base : Shape) (leaf : Bool) (u : Text)
     → turn_fault (level base leaf) (names_below leaf) (walked (rules leaf) (names_below leaf) (walk_from nothing_held) dashes) u ≡ [] → ⊥
@@ -210,6 +210,10 @@ pub check_stands : (words : List Text) → walk (rules false) (names_below false
 unfolding walked
 check_stands words = stopped_with (codes "check") [] words
 
+pub batch_stands : (words : List Text) → walk (rules false) (names_below false) nothing_held (codes "batch" ∷ words) ≡ stopped_at (codes "batch") words
+unfolding walked
+batch_stands words = stopped_with (codes "batch") [] words
+
 -- the walk over a command's words stops behind its name
 pub stops : (name : Text) (words : List Text) → walk (rules false) (names_below false) nothing_held (name ∷ words) ≡ stopped_at name words
     → (walk (rules false) (names_below false) nothing_held (name ∷ words)).stopped ≡ Some (name, words)
@@ -246,7 +250,7 @@ none_alone e = cc
 another_word : (v : Text) (vs : List Text) → AllByRecursion (λ name. bytes_eq name v ≡ false) commands → fault_of command_line (v ∷ vs) ≡ [] → ⊥
 another_word v vs others e =
     let met : subcommand_met (names_below false) idle v ≡ None =
-    rw (others.0, others.1.0, others.1.1.0, others.1.1.1.0, others.1.1.1.1.0, others.1.1.1.1.1.0, others.1.1.1.1.1.1.0, others.1.1.1.1.1.1.1.0, others.1.1.1.1.1.1.1.1.0, others.1.1.1.1.1.1.1.1.1.0, others.1.1.1.1.1.1.1.1.1.1.0) refl in
+    rw (others.0, others.1.0, others.1.1.0, others.1.1.1.0, others.1.1.1.1.0, others.1.1.1.1.1.0, others.1.1.1.1.1.1.0, others.1.1.1.1.1.1.1.0, others.1.1.1.1.1.1.1.1.0, others.1.1.1.1.1.1.1.1.1.0, others.1.1.1.1.1.1.1.1.1.1.0, others.1.1.1.1.1.1.1.1.1.1.1.0) refl in
     let none : (w : Text) (ws : List Text) → v ∷ vs ≡ w ∷ ws → subcommand_met (names_below false) idle w ≡ None = λ w ws is. (let same : v ≡ w = cc in rw (← same) met) in
     elim (level_words top false (v ∷ vs) none (both_empty _ _ e).0) [
       | inl empty ↦ cc
@@ -291,7 +295,8 @@ called_by v vs (inr (inr (inr (inr (inr (inr (inr (inl is)))))))) e = is_called 
 called_by v vs (inr (inr (inr (inr (inr (inr (inr (inr (inl is))))))))) e = is_called v (codes "dump") vs is e (λ none. (vs, refl))
 called_by v vs (inr (inr (inr (inr (inr (inr (inr (inr (inr (inl is)))))))))) e = is_called v (codes "inspect") vs is e (λ none. (vs, refl))
 called_by v vs (inr (inr (inr (inr (inr (inr (inr (inr (inr (inr (inl is))))))))))) e = is_called v (codes "check") vs is e (λ none. (vs, refl))
-called_by v vs (inr (inr (inr (inr (inr (inr (inr (inr (inr (inr (inr none))))))))))) e = absurd none
+called_by v vs (inr (inr (inr (inr (inr (inr (inr (inr (inr (inr (inr (inl is)))))))))))) e = is_called v (codes "batch") vs is e (λ none. (vs, refl))
+called_by v vs (inr (inr (inr (inr (inr (inr (inr (inr (inr (inr (inr (inr none)))))))))))) e = absurd none
 
 -- a text is one of these, or none
 in_or_none : (v : Text) (names : List Text) → IsIn v names ⊎ AllByRecursion (λ name. bytes_eq name v ≡ false) names

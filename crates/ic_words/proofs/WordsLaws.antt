@@ -18,7 +18,7 @@ use Rattle.std.proofs.lemmas.Slice.Eq.{bytes_eq-Decides}
 use Rattle.clap.specs.Kinds.{or_else}
 use Rattle.ic_words.specs.Words.{BeginsWith, command_line, format_mistakes, is_format, is_met, value_met, values_met}
 use Rattle.ic_words.specs.inner.Asking.{IsIn, IsMet, commands}
-use Rattle.ic_words.proofs.WordsExact.{ByBareness, IsCalled, is_bare, stops, settle_stands, once_stands, create_stands, serve_stands, attend_stands, reduce_stands, trace_stands, draw_stands, dump_stands, inspect_stands, check_stands}
+use Rattle.ic_words.proofs.WordsExact.{ByBareness, IsCalled, is_bare, stops, settle_stands, once_stands, create_stands, serve_stands, attend_stands, reduce_stands, trace_stands, draw_stands, dump_stands, inspect_stands, check_stands, batch_stands}
 
 command_line_simple : is_simple_and_free command_line ≡ true
 unfolding clap_on_literals
@@ -112,7 +112,8 @@ first_met name words (inr (inr (inr (inr (inr (inr (inr (inl is)))))))) = met_fi
 first_met name words (inr (inr (inr (inr (inr (inr (inr (inr (inl is))))))))) = met_first name (codes "dump") words is (ap entered_name (stops (codes "dump") words (dump_stands words)))
 first_met name words (inr (inr (inr (inr (inr (inr (inr (inr (inr (inl is)))))))))) = met_first name (codes "inspect") words is (ap entered_name (stops (codes "inspect") words (inspect_stands words)))
 first_met name words (inr (inr (inr (inr (inr (inr (inr (inr (inr (inr (inl is))))))))))) = met_first name (codes "check") words is (ap entered_name (stops (codes "check") words (check_stands words)))
-first_met name words (inr (inr (inr (inr (inr (inr (inr (inr (inr (inr (inr none))))))))))) = absurd none
+first_met name words (inr (inr (inr (inr (inr (inr (inr (inr (inr (inr (inr (inl is)))))))))))) = met_first name (codes "batch") words is (ap entered_name (stops (codes "batch") words (batch_stands words)))
+first_met name words (inr (inr (inr (inr (inr (inr (inr (inr (inr (inr (inr (inr none)))))))))))) = absurd none
 
 begins_by : (bare : Bool) (name : Text) (words : List Text) → ByBareness bare name words → BeginsWith name words
 begins_by true name words (inl alone) = ([], alone)

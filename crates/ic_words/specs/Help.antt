@@ -26,6 +26,8 @@ program_help = text_of (codes "A job server for the interaction calculus"
     ∷ codes "  serve    Serves the lines of standard input over the disk in the file F"
     ∷ (codes "  attend   Gives the commands of scripts to the disk in the file F, one"
     ++ codes " client to a script")
+    ∷ (codes "  batch    Brings the jobs that the lines submit to their ends,"
+    ++ codes " over the disk in the file F")
     ∷ codes "  dump     Prints jobs of the disk in the file F, as lines that submit them"
     ∷ codes "  inspect  Tells what the file F holds, which a server may have open"
     ∷ []
@@ -171,6 +173,28 @@ check_help = text_of ((codes "Prints the faults of texts with their places,"
     ∷ codes "  -h, --help  Print help"
     ∷ [])
 
+abbrev pub batch_help : Text
+batch_help = text_of ((codes "Brings the jobs that the lines submit to their ends,"
+    ++ codes " over the disk in the file F")
+    ∷ []
+    ∷ codes "Usage: icserve batch [OPTIONS] --disk <F> <LINES>"
+    ∷ []
+    ∷ codes "Arguments:"
+    ∷ codes "  <LINES>  The path of the lines, each of which submits a job"
+    ∷ []
+    ∷ codes "Options:"
+    ∷ codes "      --disk <F>     The path of the file, which is made where it is missing"
+    ∷ (codes "      --rounds <N>   How many rounds a job makes at most, from 0 to"
+    ++ codes " 4611686018427387904 [default: 4611686018427387904]")
+    ∷ (codes "      --every <K>    After how many rounds they are kept,"
+    ++ codes " from 1 to 1000000 [default: 100]")
+    ∷ (codes "      --workers <N>  Threads for a round of 4000 equations or more,"
+    ++ codes " from 1 to 64 [default: 2]")
+    ∷ codes "  -h, --help         Print help"
+    ∷ []
+    ∷ codes "It may be stopped at any moment and called again with the same words."
+    ∷ [])
+
 -- the help that words ask for: that of the command that the first one names, or the program's
 abbrev pub help_of : List Text → Text
 help_of [] = program_help
@@ -184,7 +208,8 @@ help_of (word ∷ words) = if bytes_eq word (codes "settle") then settle_help
     else if bytes_eq word (codes "draw") then draw_help
     else if bytes_eq word (codes "dump") then dump_help
     else if bytes_eq word (codes "inspect") then inspect_help
-    else if bytes_eq word (codes "check") then check_help else program_help
+    else if bytes_eq word (codes "check") then check_help
+    else if bytes_eq word (codes "batch") then batch_help else program_help
 
 -- this part stands in a text
 abbrev pub Says : Text → Text → Type 0

@@ -15,7 +15,7 @@ use Rattle.clap.specs.declared.error.ErrorKind.{ErrorKind}
 use Rattle.clap.specs.declared.error.ErrorKind.TheVariants.{DisplayHelp, DisplayVersion, InvalidValue}
 use Rattle.ic_words.specs.declared.words.Task.{Task}
 use Rattle.ic_words.specs.declared.words.Task.TheVariants.{Settle, Once, Create, Serve, Attend}
-use Rattle.ic_words.specs.declared.words.Task.TheVariants.{Reduce, Trace, Draw, Dump, Inspect, Check, Help, Version}
+use Rattle.ic_words.specs.declared.words.Task.TheVariants.{Reduce, Trace, Draw, Dump, Inspect, Check, Batch, Help, Version}
 use Rattle.ic_words.specs.declared.words.TraceFormat.{TraceFormat}
 use Rattle.ic_words.specs.declared.words.TraceFormat.TheVariants.{Tsv, Svg}
 use Rattle.ic_words.specs.Help.{help_of, program_help}
@@ -156,6 +156,26 @@ file_argument = record (new_rule (codes "file")) {
 abbrev pub check_command : App
 check_command = with_rule (new_app (codes "check")) file_argument
 
+-- the option `--rounds N` of `batch`, from 0 to 2 ^ 62, which is its default
+abbrev pub life_option : Rule
+life_option = record (new_rule (codes "rounds")) {
+  long = Some (codes "rounds");
+  value_names = 1;
+  defaults = codes "4611686018427387904" ∷ [];
+  parser = Some (parser.Unsigned 0 most_rounds);
+}
+
+-- the argument `LINES`, which has to be given
+abbrev pub lines_argument : Rule
+lines_argument = record (new_rule (codes "lines")) {
+  value_names = 1;
+  required = true;
+}
+
+abbrev pub batch_command : App
+batch_command = with_rule (with_rule (with_rule (with_rule (with_rule (new_app (codes "batch"))
+    disk_option) life_option) every_option) workers_option) lines_argument
+
 -- the program with its commands `settle` and `once`
 abbrev pub with_streams : App
 with_streams = with_subcommand (with_subcommand program
@@ -171,10 +191,10 @@ abbrev pub with_looks : App
 with_looks = with_subcommand (with_subcommand (with_subcommand with_disks reduce_command.top)
     trace_command.top) (new_app (codes "draw")).top
 
--- the command line of the program, which has `dump`, `inspect` and `check`, too
+-- the command line of the program, which has `dump`, `inspect`, `check` and `batch`, too
 abbrev pub command_line : App
-command_line = with_subcommand (with_subcommand (with_subcommand with_looks dump_command.top)
-    inspect_command.top) check_command.top
+command_line = with_subcommand (with_subcommand (with_subcommand (with_subcommand with_looks
+    dump_command.top) inspect_command.top) check_command.top) batch_command.top
 
 -- the line that tells the version
 abbrev pub version_line : List ℕ
@@ -228,6 +248,7 @@ AnswersWords mistakes (Ok Draw) = mistakes ≡ []
 AnswersWords mistakes (Ok (Dump disk names)) = mistakes ≡ []
 AnswersWords mistakes (Ok (Inspect disk)) = mistakes ≡ []
 AnswersWords mistakes (Ok (Check files)) = mistakes ≡ []
+AnswersWords mistakes (Ok (Batch disk rounds every workers lines)) = mistakes ≡ []
 AnswersWords mistakes (Ok (Help text)) = IsAmong DisplayHelp mistakes
 AnswersWords mistakes (Ok (Version text)) =
     IsAmong DisplayVersion mistakes × (string_bytes text ≡ version_line)
@@ -256,6 +277,7 @@ GivesHelp (Ok Draw) = ⊥
 GivesHelp (Ok (Dump disk names)) = ⊥
 GivesHelp (Ok (Inspect disk)) = ⊥
 GivesHelp (Ok (Check files)) = ⊥
+GivesHelp (Ok (Batch disk rounds every workers lines)) = ⊥
 GivesHelp (Ok (Version text)) = ⊥
 GivesHelp (Err (Words text)) = ⊥
 
@@ -274,6 +296,7 @@ GivesVersion (Ok Draw) = ⊥
 GivesVersion (Ok (Dump disk names)) = ⊥
 GivesVersion (Ok (Inspect disk)) = ⊥
 GivesVersion (Ok (Check files)) = ⊥
+GivesVersion (Ok (Batch disk rounds every workers lines)) = ⊥
 GivesVersion (Ok (Help text)) = ⊥
 GivesVersion (Err (Words text)) = ⊥
 
@@ -315,6 +338,15 @@ pub record NamesAttend (words : List Text) (path : Text) (r t n : ℕ) (paths : 
   pub workers : IsNumberOf (codes "workers") 1 64 words n
   pub scripts : paths ≡ values_met (codes "script") (subcommand_of command_line words)
 
+-- the words of `batch` give a disk's path, three numbers and the path of lines
+pub record NamesBatch (words : List Text) (path : Text) (r k n : ℕ) (text : Text) : Type 0 where
+  pub begins : BeginsWith (codes "batch") words
+  pub disk : path ≡ value_met (codes "disk") (subcommand_of command_line words)
+  pub rounds : IsNumberOf (codes "rounds") 0 most_rounds words r
+  pub every : IsNumberOf (codes "every") 1 1000000 words k
+  pub workers : IsNumberOf (codes "workers") 1 64 words n
+  pub lines : text ≡ value_met (codes "lines") (subcommand_of command_line words)
+
 -- the words name the task, and the text of help and of the version is this
 abbrev pub Names : List (List ℕ) → Task → Type 0
 Names words Settle = NamesCommand (codes "settle") words
@@ -342,5 +374,7 @@ Names words (Inspect disk) = BeginsWith (codes "inspect") words
     × (string_bytes disk ≡ value_met (codes "disk") (subcommand_of command_line words))
 Names words (Check files) = BeginsWith (codes "check") words
     × (map string_bytes files.items ≡ values_met (codes "file") (subcommand_of command_line words))
+Names words (Batch disk rounds every workers lines) =
+    NamesBatch words (string_bytes disk) rounds every workers (string_bytes lines)
 Names words (Help text) = string_bytes text ≡ help_of words
 Names words (Version text) = string_bytes text ≡ version_line

@@ -21,6 +21,7 @@ To run jobs, which outlive a crash:
   create   Makes the file F an empty disk
   serve    Serves the lines of standard input over the disk in the file F
   attend   Gives the commands of scripts to the disk in the file F, one client to a script
+  batch    Brings the jobs that the lines submit to their ends, over the disk in the file F
   dump     Prints jobs of the disk in the file F, as lines that submit them
   inspect  Tells what the file F holds, which a server may have open
 
@@ -167,6 +168,25 @@ Options:
   -h, --help  Print help
 ";
 
+/// The help of `batch`.
+const BATCH: &str = "\
+Brings the jobs that the lines submit to their ends, over the disk in the file F
+
+Usage: icserve batch [OPTIONS] --disk <F> <LINES>
+
+Arguments:
+  <LINES>  The path of the lines, each of which submits a job
+
+Options:
+      --disk <F>     The path of the file, which is made where it is missing
+      --rounds <N>   How many rounds a job makes at most, from 0 to 4611686018427387904 [default: 4611686018427387904]
+      --every <K>    After how many rounds they are kept, from 1 to 1000000 [default: 100]
+      --workers <N>  Threads for a round of 4000 equations or more, from 1 to 64 [default: 2]
+  -h, --help         Print help
+
+It may be stopped at any moment and called again with the same words.
+";
+
 /// The help that words ask for: that of the command that the first one names, or the program's.
 pub(crate) fn help_of(words: &[String]) -> &'static str
     ensures { result.now ≡ help_of (map string_bytes words.now) }
@@ -186,6 +206,7 @@ pub(crate) fn help_of(words: &[String]) -> &'static str
         "dump" => DUMP,
         "inspect" => INSPECT,
         "check" => CHECK,
+        "batch" => BATCH,
         _ => PROGRAM,
     }
 }

@@ -6,12 +6,12 @@ ghost use Rattle.std.specs.Fmt.{decimal};
 ghost use Rattle.clap.specs.Words.{Text};
 ghost use Rattle.clap.specs.declared.error.ErrorKind.{ErrorKind};
 ghost use Rattle.clap.specs.declared.error.ErrorKind.TheVariants.{DisplayHelp, DisplayVersion, InvalidValue, MissingRequiredArgument};
-ghost use Rattle.ic_words.specs.declared.words.Task.TheVariants.{Settle, Once, Create, Serve, Attend, Reduce, Trace, Draw, Dump, Inspect, Check, Help, Version};
+ghost use Rattle.ic_words.specs.declared.words.Task.TheVariants.{Settle, Once, Create, Serve, Attend, Reduce, Trace, Draw, Dump, Inspect, Check, Batch, Help, Version};
 ghost use Rattle.ic_words.specs.declared.words.TraceFormat.{TraceFormat};
 ghost use Rattle.ic_words.specs.declared.words.WordsFault.TheVariants.{Words, Memory};
 ghost use Rattle.ic_words.specs.Words.{AnswersWords, format_word, mistakes_of, words_fault_number, IsDecimal, Names};
 ghost use Rattle.ic_words.specs.Help.{help_of, Says, program_help, settle_help, once_help, create_help, serve_help, attend_help};
-ghost use Rattle.ic_words.specs.Help.{check_help, draw_help, dump_help, inspect_help, reduce_help, trace_help};
+ghost use Rattle.ic_words.specs.Help.{batch_help, check_help, draw_help, dump_help, inspect_help, reduce_help, trace_help};
 ghost use Rattle.ic_words.specs.Lines.{IsAttendLine, IsCheckLine, IsCreateLine, IsDumpLine, IsInspectLine, IsReduceLine, IsServeLine, IsTraceLine};
 
 /// A number's text is the number in decimal digits, before which a plus may stand, and no other
@@ -88,6 +88,7 @@ pub fn help_and_version_are_asked()
     ensures inspect { mistakes_of (codes "inspect" ∷ codes "--help" ∷ [])
         ≡ DisplayHelp ∷ [] }
     ensures check { mistakes_of (codes "check" ∷ codes "--help" ∷ []) ≡ DisplayHelp ∷ [] }
+    ensures batch { mistakes_of (codes "batch" ∷ codes "--help" ∷ []) ≡ DisplayHelp ∷ [] }
     ensures version { mistakes_of (codes "--version" ∷ []) ≡ DisplayVersion ∷ [] }
     ensures short_version { mistakes_of (codes "-V" ∷ []) ≡ DisplayVersion ∷ [] }
 {}
@@ -107,14 +108,15 @@ pub fn each_command_has_its_help()
     ensures dump { (words : List Text) → help_of (codes "dump" ∷ words) ≡ dump_help }
     ensures inspect { (words : List Text) → help_of (codes "inspect" ∷ words) ≡ inspect_help }
     ensures check { (words : List Text) → help_of (codes "check" ∷ words) ≡ check_help }
+    ensures batch { (words : List Text) → help_of (codes "batch" ∷ words) ≡ batch_help }
     ensures program { (word : Text) (words : List Text) → AllByRecursion (λ name. word ≢ name)
         (codes "settle" ∷ codes "once" ∷ codes "create" ∷ codes "serve" ∷ codes "attend"
         ∷ codes "reduce" ∷ codes "trace" ∷ codes "draw" ∷ codes "dump"
-        ∷ codes "inspect" ∷ codes "check" ∷ []) → help_of (word ∷ words) ≡ program_help }
+        ∷ codes "inspect" ∷ codes "check" ∷ codes "batch" ∷ []) → help_of (word ∷ words) ≡ program_help }
     ensures commands { AllByRecursion (Says program_help) (codes "  settle  " ∷ codes "  once  "
         ∷ codes "  create  " ∷ codes "  serve  " ∷ codes "  attend  "
         ∷ codes "  reduce  " ∷ codes "  trace  " ∷ codes "  draw  " ∷ codes "  dump  "
-        ∷ codes "  inspect  " ∷ codes "  check  "
+        ∷ codes "  inspect  " ∷ codes "  check  " ∷ codes "  batch  "
         ∷ codes "-h, --help" ∷ codes "-V, --version" ∷ []) }
     ensures streams { Says settle_help (codes "icserve settle")
         × Says once_help (codes "icserve once") × Says draw_help (codes "icserve draw") }
@@ -137,6 +139,10 @@ pub fn each_command_has_its_help()
         (codes "icserve dump" ∷ codes "--disk <F>" ∷ codes "[NAME]..." ∷ []) }
     ensures file { AllByRecursion (Says inspect_help)
         (codes "icserve inspect" ∷ codes "--disk <F>" ∷ []) }
+    ensures lines { AllByRecursion (Says batch_help) (codes "icserve batch" ∷ codes "--disk <F>"
+        ∷ codes "<LINES>" ∷ codes "--rounds <N>" ∷ codes "from 0 to 4611686018427387904"
+        ∷ codes "--every <K>" ∷ codes "from 1 to 1000000 [default: 100]"
+        ∷ codes "--workers <N>" ∷ codes "from 1 to 64 [default: 2]" ∷ []) }
     ensures texts { AllByRecursion (Says check_help)
         (codes "icserve check" ∷ codes "<FILE>..."
         ∷ codes "Prints the faults of texts with their places" ∷ []) }

@@ -3,10 +3,10 @@
 ghost use Rattle.std.specs.Prelude.{◌≡◌, ◌≤◌, ℕ, false, map, Ok, IfOk, codes, [], ◌∷◌, string_bytes};
 ghost use Rattle.clap.specs.Words.{App, Rule, app_of, kind_of, rule_of, subcommand_rows_of, with_rule, with_subcommand};
 ghost use Rattle.ic_words.specs.Words.{AnswersWords, GivesHelp, GivesTask, GivesVersion, Names};
-ghost use Rattle.ic_words.specs.Words.{attend_command, check_command, command_line, create_command, dump_command, inspect_command};
+ghost use Rattle.ic_words.specs.Words.{attend_command, batch_command, check_command, command_line, create_command, dump_command, inspect_command};
 ghost use Rattle.ic_words.specs.Words.{program, reduce_command, serve_command, trace_command, with_disks, with_looks, with_streams};
 ghost use Rattle.ic_words.specs.Words.{disk_option, every_option, file_argument, format_option, name_argument, overwrite_flag, rounds_option};
-ghost use Rattle.ic_words.specs.Words.{runners_option, script_argument, turns_option, workers_option};
+ghost use Rattle.ic_words.specs.Words.{life_option, lines_argument, runners_option, script_argument, turns_option, workers_option};
 ghost use Rattle.ic_words.specs.Words.{mistakes_of, value_met, values_met};
 ghost use Rattle.ic_words.specs.inner.Making.{IsMade, valued_option};
 ghost use Rattle.ic_words.specs.inner.Asking.{AnswersRefused, Asks, IsCommandMet, IsIn, IsMet, IsReadFrom, commands};
@@ -102,6 +102,19 @@ pub enum Task {
     Check {
         /// The paths of the texts, one at least.
         files: Vec<String>,
+    },
+    /// Bring the jobs of a file of lines to their ends.
+    Batch {
+        /// The path of the disk's file, which is made where it is missing.
+        disk: String,
+        /// How many rounds a job makes at most, from 0 to 2^62.
+        rounds: u64,
+        /// After how many rounds they are kept, from 1 to 1,000,000.
+        every: u32,
+        /// How many threads make a round of 4,000 equations or more, from 1 to 64.
+        workers: u32,
+        /// The path of the lines.
+        lines: String,
     },
     /// Show this help.
     Help(String),
@@ -209,6 +222,7 @@ fn task_named(alloc: Global, name: &str, matches: &ArgMatches) -> Result<Task, W
         "dump" => dump_task(alloc, matches),
         "inspect" => inspect_task(alloc, matches),
         "check" => check_task(alloc, matches),
+        "batch" => batch_task(alloc, matches),
         _ => unreachable!(),
     }
 }
@@ -315,6 +329,25 @@ fn check_task(alloc: Global, matches: &ArgMatches) -> Result<Task, WordsFault>
 {
     let files = values_of(alloc, matches, "file")?;
     Ok(Task::Check { files })
+}
+
+/// The task of `batch`.
+fn batch_task(alloc: Global, matches: &ArgMatches) -> Result<Task, WordsFault>
+    requires { IsMet (codes "batch") (subcommand_rows_of matches.now) }
+    ensures { Asks (subcommand_rows_of matches.now) result }
+{
+    let disk = String::from_str(alloc, value_of(matches, "disk"))?;
+    let rounds = number_of(matches, "rounds", 0, MAX_ROUNDS);
+    let every = small_number_of(matches, "every", 1, MAX_EVERY);
+    let workers = small_number_of(matches, "workers", 1, MAX_WORKERS);
+    let lines = String::from_str(alloc, value_of(matches, "lines"))?;
+    Ok(Task::Batch {
+        disk,
+        rounds,
+        every,
+        workers,
+        lines,
+    })
 }
 
 /// Texts that own their bytes.
@@ -480,6 +513,24 @@ fn rounds_option<'a>(alloc: Global) -> Arg<'a>
     ))
 }
 
+/// The option that says how many rounds a job makes at most over its whole life.
+fn life_option<'a>(alloc: Global) -> Arg<'a>
+    ensures rule { rule_of result ≡ life_option }
+    ensures local { result.global ≡ false }
+{
+    valued_option(alloc, "rounds", "N", "4611686018427387904").value_parser(value_parser!(
+        u64
+    ).range(0..4_611_686_018_427_387_905))
+}
+
+/// The argument that names a file of lines.
+fn lines_argument<'a>(alloc: Global) -> Arg<'a>
+    ensures rule { rule_of result ≡ lines_argument }
+    ensures local { result.global ≡ false }
+{
+    Arg::new(alloc, "lines").value_name("LINES").required(true)
+}
+
 /// The option that says how a trace is told.
 fn format_option<'a>(alloc: Global) -> Arg<'a>
     ensures rule { rule_of result ≡ format_option }
@@ -581,6 +632,17 @@ fn check_command<'a>(alloc: Global) -> Result<Command<'a>, AllocError>
     with_arg(Ok(Command::new(alloc, "check")), file_argument(alloc))
 }
 
+/// The command that brings jobs to their ends.
+fn batch_command<'a>(alloc: Global) -> Result<Command<'a>, AllocError>
+    ensures { IfOk result (IsMade batch_command) }
+{
+    let command = with_arg(Ok(Command::new(alloc, "batch")), disk_option(alloc));
+    let command = with_arg(command, life_option(alloc));
+    let command = with_arg(command, every_option(alloc));
+    let command = with_arg(command, workers_option(alloc));
+    with_arg(command, lines_argument(alloc))
+}
+
 /// The program without its commands.
 fn program<'a>(alloc: Global) -> Result<Command<'a>, AllocError>
     ensures { IfOk result (λ command. app_of command ≡ program) }
@@ -625,5 +687,6 @@ fn command<'a>(alloc: Global) -> Result<Command<'a>, AllocError>
 {
     let program = with_command(with_looks(alloc), dump_command(alloc));
     let program = with_command(program, inspect_command(alloc));
-    with_command(program, check_command(alloc))
+    let program = with_command(program, check_command(alloc));
+    with_command(program, batch_command(alloc))
 }

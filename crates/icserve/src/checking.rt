@@ -1,17 +1,12 @@
 //! The program's word `check`: the faults and warnings of the texts in files, on standard output.
 
 use crate::inspecting::open_to_read;
-use ic_causes::{Notes, cause_line, shown_path};
+use crate::texts::{read_limited, too_long};
+use ic_causes::{Notes, cause_line};
 use ic_check::{Given, Source, check_files};
 use ic_endings::{Failure, check_ending};
 use std::alloc::{AllocError, Global};
-use std::io::{self, ErrorKind, Read};
-
-/// How many bytes a file has at most that is looked over.
-const LIMIT: u64 = 16_777_216;
-
-/// What is said of a file that has more bytes.
-const TOO_LONG: &[u8] = b": it has more than 16777216 bytes\n";
+use std::io;
 
 /// Prints the faults and warnings of the files of these paths, in their order. One that can't be read
 /// doesn't keep the others from being looked over; why it can't is appended to `told`.
@@ -33,31 +28,18 @@ impl Source for FileSource<'_> {
 
     fn give(&self, alloc: Global, path: &str) -> Result<Given, AllocError> {
         let notes = Notes::new();
-        match front_of(self.rt, path, &notes)? {
-            Some(text) if text.len() as u64 <= LIMIT => Ok(Given::Text(text)),
-            Some(_) => Ok(Given::Unread(too_long(alloc, path)?)),
-            None => Ok(Given::Unread(cause_line(alloc, path.as_bytes(), notes.last())?)),
+        match noted_bytes(self.rt, path, &notes) {
+            Ok(Some(text)) => Ok(Given::Text(text)),
+            Ok(None) => Ok(Given::Unread(too_long(alloc, path)?)),
+            Err(error) if error.kind() == io::ErrorKind::OutOfMemory => Err(AllocError),
+            Err(_) => Ok(Given::Unread(cause_line(alloc, path.as_bytes(), notes.last())?)),
         }
     }
 }
 
-/// The bytes of the file of this path, one more than the limit at most, or none where it can't be
-/// read.
-fn front_of(rt: &HostRuntime, path: &str, notes: &Notes) -> Result<Option<Vec<u8>>, AllocError> {
-    let Ok(file) = open_to_read(rt, path, notes) else {
-        return Ok(None);
-    };
-    let mut text = Vec::new(rt.alloc());
-    match file.take(LIMIT + 1).read_to_end(&mut text) {
-        Ok(_) => Ok(Some(text)),
-        Err(error) if error.kind() == ErrorKind::OutOfMemory => Err(AllocError),
-        Err(_) => Ok(None),
-    }
-}
-
-/// The line that says of the file of this path that it has too many bytes.
-fn too_long(alloc: Global, path: &str) -> Result<Vec<u8>, AllocError> {
-    let mut line = shown_path(alloc, path.as_bytes())?;
-    line.extend_from_slice(TOO_LONG)?;
-    Ok(line)
+/// The bytes of the file of this path, or none where it has too many. A call to it that fails is
+/// noted.
+fn noted_bytes(rt: &HostRuntime, path: &str, notes: &Notes) -> io::Result<Option<Vec<u8>>> {
+    let file = open_to_read(rt, path, notes)?;
+    read_limited(rt.alloc(), file)
 }

@@ -1,12 +1,12 @@
 //! The program's word `inspect`: what a disk's file holds, on standard output.
 
-use crate::stand_ins;
-use ic_causes::{FileCall, NotedFile, NotedFiles, Notes};
+use crate::standing::stand_ins;
+use ic_causes::{NotedFile, NotedFiles, Notes};
 use ic_contents::{InspectFault, read_front};
-use ic_disk::DiskFault;
+use ic_disk::{DiskFault, open_plain};
 use ic_endings::Failure;
-use std::fs::{self, OpenOptions};
-use std::io::{self, ErrorKind};
+use std::fs::OpenOptions;
+use std::io;
 
 /// How often a file is looked at, at most, that is written meanwhile.
 const LOOKS: u32 = 20;
@@ -25,7 +25,7 @@ pub(crate) fn inspect(rt: &HostRuntime, path: &str, notes: &Notes) -> Result<(),
 /// Reads the file twice, one time after the other, and prints what it holds, if both times are alike.
 fn look(rt: &HostRuntime, path: &str, notes: &Notes) -> Result<bool, Failure> {
     let first = read_once(rt, path, notes)?;
-    let mut again = open_to_read(rt, path, notes)?;
+    let mut again = open_to_read(rt, path, notes).map_err(|_| Failure::Disk(DiskFault))?;
     let mut output = io::writer(rt);
     match ic_contents::inspect(rt.alloc(), &first, &mut again, &mut output) {
         Ok(()) => Ok(true),
@@ -36,7 +36,7 @@ fn look(rt: &HostRuntime, path: &str, notes: &Notes) -> Result<bool, Failure> {
 
 /// What the file of this path has now, in as many bytes as `inspect` looks at.
 fn read_once(rt: &HostRuntime, path: &str, notes: &Notes) -> Result<Vec<u8>, Failure> {
-    let mut file = open_to_read(rt, path, notes)?;
+    let mut file = open_to_read(rt, path, notes).map_err(|_| Failure::Disk(DiskFault))?;
     read_front(rt.alloc(), &mut file).map_err(Failure::Inspect)
 }
 
@@ -46,17 +46,10 @@ pub(crate) fn open_to_read<'a>(
     rt: &HostRuntime,
     path: &str,
     notes: &'a Notes,
-) -> Result<NotedFile<'a>, Failure> {
-    let _stand_ins = stand_ins(rt).map_err(|_| Failure::Disk(DiskFault))?;
-    if let Ok(about) = fs::metadata(rt, path) {
-        if !about.is_file() && !about.is_dir() {
-            let refused: io::Result<()> = Err(io::Error::from(ErrorKind::InvalidInput));
-            notes.note(false, FileCall::Open, &refused);
-            return Err(Failure::Disk(DiskFault));
-        }
-    }
+) -> io::Result<NotedFile<'a>> {
+    let _stand_ins = stand_ins(rt, notes)?;
     let files = NotedFiles { rt, path, notes };
     let mut how = OpenOptions::new();
     how.read(true);
-    how.open(&files, path).map_err(|_| Failure::Disk(DiskFault))
+    open_plain(&files, &how, path)
 }

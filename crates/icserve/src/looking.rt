@@ -1,37 +1,32 @@
-//! What the program does for whoever looks at nets, on standard input and output: `reduce`, `trace` and `draw`. Where the
-//! text is refused, the lines that tell its place are appended to `told`.
+//! What the program does for whoever looks at nets, on its input and standard output: `reduce`, `trace` and `draw`. Where
+//! the text is refused, the lines that tell its place are appended to `told`.
 
 use ic_endings::{Failure, stuck_line};
 use ic_looks::{Format, Reduction, Workers, reduce_stream, trace_stream};
 use ic_nets::draw_stream;
 use ic_words::TraceFormat;
-use std::io::{self, Write};
+use std::io::{self, Read, Write};
 use std::sync::Wait;
 use std::thread::Threads;
 
 /// Makes at most so many rounds until no step is possible, a round of many equations by so many workers, and prints the
 /// configuration. A stuck pair is told on standard error.
-pub(crate) fn reduce<T: Threads + Wait>(
+pub(crate) fn reduce<T: Threads + Wait, R: Read>(
     rt: &HostRuntime,
     threads: &T,
     rounds: u64,
     workers: u32,
+    input: &mut R,
     told: &mut Vec<u8>,
 ) -> Result<(), Failure> {
-    let mut input = rt.reader();
     let mut output = io::writer(rt);
     let maker = Workers {
         rt: threads,
         count: workers as usize,
     };
-    let reduction = reduce_stream(
-        rt.alloc(),
-        &maker,
-        rounds,
-        &mut input,
-        &mut output,
-        told,
-    ).map_err(Failure::Stream)?;
+    let reduction = reduce_stream(rt.alloc(), &maker, rounds, input, &mut output, told).map_err(
+        Failure::Stream,
+    )?;
     match reduction {
         Reduction::NotDone => Err(Failure::NotDone),
         Reduction::Done { stuck, .. } => {
@@ -51,24 +46,27 @@ fn tell_stuck(rt: &HostRuntime, pair: &[u8]) {
 }
 
 /// Prints what each of at most so many rounds does.
-pub(crate) fn trace(
+pub(crate) fn trace<R: Read>(
     rt: &HostRuntime,
     rounds: u64,
     format: TraceFormat,
+    input: &mut R,
     told: &mut Vec<u8>,
 ) -> Result<(), Failure> {
-    let mut input = rt.reader();
     let mut output = io::writer(rt);
     let format = match format {
         TraceFormat::Tsv => Format::Table,
         TraceFormat::Svg => Format::Picture,
     };
-    trace_stream(rt.alloc(), rounds, format, &mut input, &mut output, told).map_err(Failure::Stream)
+    trace_stream(rt.alloc(), rounds, format, input, &mut output, told).map_err(Failure::Stream)
 }
 
 /// Prints the net of the configuration as a graph.
-pub(crate) fn draw(rt: &HostRuntime, told: &mut Vec<u8>) -> Result<(), Failure> {
-    let mut input = rt.reader();
+pub(crate) fn draw<R: Read>(
+    rt: &HostRuntime,
+    input: &mut R,
+    told: &mut Vec<u8>,
+) -> Result<(), Failure> {
     let mut output = io::writer(rt);
-    draw_stream(rt.alloc(), &mut input, &mut output, told).map_err(Failure::Stream)
+    draw_stream(rt.alloc(), input, &mut output, told).map_err(Failure::Stream)
 }

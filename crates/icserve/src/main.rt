@@ -1,18 +1,22 @@
 //! The program `icserve`: a job server for the interaction calculus.
 #![tactic(auto)]
 
+mod batching;
 mod checking;
 mod dumping;
 mod inspecting;
 mod looking;
 mod progress;
 mod scripts;
+mod standing;
+mod texts;
 
 use crate::progress::{Progress, WipedFirst};
-use ic_causes::{NotedFile, NotedFiles, Notes};
+use crate::standing::stand_ins;
+use ic_causes::{NotedFile, NotedFiles, NotedInput, Notes};
 use ic_desk::Book;
 use ic_disk::{DiskFault, FileDisk};
-use ic_endings::Failure;
+use ic_endings::{Failure, opening_failure};
 use ic_inspect::is_unused;
 use ic_jobs::Command;
 use ic_places::{once_telling, settle_telling};
@@ -21,8 +25,7 @@ use ic_serving::{ServeFault, serve_watched};
 use ic_streams::StreamFault;
 use ic_words::{Task, WordsFault, read_words};
 use std::env;
-use std::fs::File;
-use std::io::{self, BufWriter, ErrorKind, Write};
+use std::io::{self, BufWriter, ErrorKind, Read, Write};
 use std::process::ExitCode;
 use std::sync::Wait;
 use std::thread::Threads;
@@ -31,7 +34,7 @@ use std::thread::Threads;
 const ANSWERS: usize = 65_536;
 
 /// A disk in a file, of which each call that fails is noted.
-type NotedDisk<'a> = FileDisk<NotedFile<'a>>;
+pub(crate) type NotedDisk<'a> = FileDisk<NotedFile<'a>>;
 
 fn main(rt: HostRuntime) -> ExitCode {
     let notes = Notes::new();
@@ -44,7 +47,7 @@ fn main(rt: HostRuntime) -> ExitCode {
 }
 
 /// Does what the words after the program's name ask for. It hands out the path of the disk's file,
-/// notes the calls to it that fail, and appends to `told` where a text is refused.
+/// notes the calls to it and to standard input that fail, and appends to `told` where a text is refused.
 fn begin<T: Threads + Wait + Copy + Send + Sync + 'static>(
     rt: &HostRuntime,
     threads: &T,
@@ -67,6 +70,7 @@ fn path_of(task: &Task) -> &str {
         Task::Attend { disk, .. } => disk.as_str(),
         Task::Dump { disk, .. } => disk.as_str(),
         Task::Inspect { disk } => disk.as_str(),
+        Task::Batch { disk, .. } => disk.as_str(),
         _ => "",
     }
 }
@@ -81,7 +85,7 @@ fn run<T: Threads + Wait + Copy + Send + Sync + 'static>(
     notes: &Notes,
     told: &mut Vec<u8>,
 ) -> Result<(), Failure> {
-    let mut input = rt.reader();
+    let mut input = NotedInput::new(rt.reader(), notes);
     let mut output = io::writer(rt);
     match task {
         Task::Settle => {
@@ -97,7 +101,7 @@ fn run<T: Threads + Wait + Copy + Send + Sync + 'static>(
             every,
         } => {
             let book = open(rt, disk.as_str(), notes)?;
-            serve(rt, threads, book, workers, every).map_err(Failure::Serve)
+            serve(rt, threads, book, &mut input, workers, every).map_err(Failure::Serve)
         }
         Task::Attend {
             disk,
@@ -111,12 +115,25 @@ fn run<T: Threads + Wait + Copy + Send + Sync + 'static>(
             let numbers = [runners, turns, workers];
             give(rt, threads, disk, scripts, numbers).map_err(Failure::Attend)
         }
-        Task::Reduce { rounds, workers } => looking::reduce(rt, threads, rounds, workers, told),
-        Task::Trace { rounds, format } => looking::trace(rt, rounds, format, told),
-        Task::Draw => looking::draw(rt, told),
+        Task::Reduce { rounds, workers } => {
+            looking::reduce(rt, threads, rounds, workers, &mut input, told)
+        }
+        Task::Trace { rounds, format } => looking::trace(rt, rounds, format, &mut input, told),
+        Task::Draw => looking::draw(rt, &mut input, told),
         Task::Dump { disk, names } => dumping::dump(rt, disk.as_str(), &names, notes),
         Task::Inspect { disk } => inspecting::inspect(rt, disk.as_str(), notes),
         Task::Check { files } => checking::check(rt, &files, told),
+        Task::Batch {
+            disk,
+            rounds,
+            every,
+            workers,
+            lines,
+        } => {
+            let numbers = [rounds, u64::from(workers), u64::from(every)];
+            let (disk, lines) = (disk.as_str(), lines.as_str());
+            batching::batch(rt, threads, disk, lines, numbers, notes, told)
+        }
         Task::Help(text) | Task::Version(text) => {
             show(&mut output, text.as_str()).map_err(Failure::Stream)
         }
@@ -137,17 +154,6 @@ fn task(rt: &HostRuntime) -> Result<Task, WordsFault> {
     read_words(alloc, &words)
 }
 
-/// Three open files, which stand where standard input, output or error is closed. While they are
-/// open no disk is opened there: what is written to standard output would be written to the disk.
-fn stand_ins(rt: &HostRuntime) -> io::Result<[File; 3]> {
-    let path = "/dev/null";
-    Ok([
-        File::open(rt, path)?,
-        File::open(rt, path)?,
-        File::open(rt, path)?,
-    ])
-}
-
 /// Opens the disk in the file of this path, which with `create` is made where it is missing.
 pub(crate) fn open_disk<'a>(
     rt: &HostRuntime,
@@ -155,9 +161,9 @@ pub(crate) fn open_disk<'a>(
     create: bool,
     notes: &'a Notes,
 ) -> Result<NotedDisk<'a>, Failure> {
-    let _stand_ins = stand_ins(rt).map_err(|_| Failure::Disk(DiskFault))?;
+    let _stand_ins = stand_ins(rt, notes).map_err(|_| Failure::Disk(DiskFault))?;
     let files = NotedFiles { rt, path, notes };
-    FileDisk::open(&files, path, create).map_err(Failure::Disk)
+    FileDisk::open(&files, path, create).map_err(|fault| opening_failure(fault, notes.last()))
 }
 
 /// Puts the empty table on the disk in the file of this path. What stands there and would be lost is
@@ -201,12 +207,13 @@ fn open<'a>(
     }
 }
 
-/// Serves the lines of standard input over the book, and closes it. Answers to lines that were read together are
+/// Serves the lines of an input over the book, and closes it. Answers to lines that were read together are
 /// written together; every answer is flushed before the input is waited for, and also where the serving ended at a fault.
-fn serve<T: Threads + Wait + Copy + Send + 'static>(
+fn serve<T: Threads + Wait + Copy + Send + 'static, R: Read>(
     rt: &HostRuntime,
     threads: &T,
     mut book: Book<NotedDisk<'_>>,
+    input: &mut R,
     workers: u32,
     every: u32,
 ) -> Result<(), ServeFault> {
@@ -218,12 +225,11 @@ fn serve<T: Threads + Wait + Copy + Send + 'static>(
         book.close();
         return Err(ServeFault::Memory);
     };
-    let mut input = rt.reader();
     let served = serve_watched(
         threads,
         rt.alloc(),
         &mut book,
-        &mut input,
+        input,
         &mut output,
         workers,
         every,

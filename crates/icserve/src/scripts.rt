@@ -1,10 +1,11 @@
 //! The scripts of the program's word `attend`, which stand in files.
 
+use crate::texts::{read_limited, too_long};
 use ic_causes::{NotedFiles, Notes, cause_line};
 use ic_jobs::Command;
 use ic_scripts::{ScriptsFault, add_script};
 use std::fs::OpenOptions;
-use std::io::{self, ErrorKind, Read};
+use std::io::{self, ErrorKind};
 
 /// Reads the scripts in the files of these paths, in their order. Of the first that can't be read the
 /// line that says why is appended to `told`.
@@ -21,27 +22,30 @@ pub(crate) fn read_scripts(
     Ok(scripts)
 }
 
-/// The bytes of the file of this path. Where it can't be read, why is appended to `told`.
-fn read_file(rt: &HostRuntime, path: &str, told: &mut Vec<u8>) -> Result<Vec<u8>, ScriptsFault> {
+/// The bytes of the file of this path. Where it can't be read, or has too many, that is appended to
+/// `told`.
+pub(crate) fn read_file(
+    rt: &HostRuntime,
+    path: &str,
+    told: &mut Vec<u8>,
+) -> Result<Vec<u8>, ScriptsFault> {
     let notes = Notes::new();
-    match noted_bytes(rt, path, &notes) {
-        Ok(text) => Ok(text),
-        Err(error) if error.kind() == ErrorKind::OutOfMemory => Err(ScriptsFault::Memory),
-        Err(_) => {
-            let line = cause_line(rt.alloc(), path.as_bytes(), notes.last())?;
-            told.extend_from_slice(&line)?;
-            Err(ScriptsFault::Read)
-        }
-    }
+    let line = match noted_bytes(rt, path, &notes) {
+        Ok(Some(text)) => return Ok(text),
+        Ok(None) => too_long(rt.alloc(), path)?,
+        Err(error) if error.kind() == ErrorKind::OutOfMemory => return Err(ScriptsFault::Memory),
+        Err(_) => cause_line(rt.alloc(), path.as_bytes(), notes.last())?,
+    };
+    told.extend_from_slice(&line)?;
+    Err(ScriptsFault::Read)
 }
 
-/// The bytes of the file of this path. A call to it that fails is noted.
-fn noted_bytes(rt: &HostRuntime, path: &str, notes: &Notes) -> io::Result<Vec<u8>> {
+/// The bytes of the file of this path, or none where it has too many. A call to it that fails is
+/// noted. It may be a pipe, which is read to its end.
+fn noted_bytes(rt: &HostRuntime, path: &str, notes: &Notes) -> io::Result<Option<Vec<u8>>> {
     let files = NotedFiles { rt, path, notes };
     let mut how = OpenOptions::new();
     how.read(true);
-    let mut file = how.open(&files, path)?;
-    let mut text = Vec::new(rt.alloc());
-    file.read_to_end(&mut text)?;
-    Ok(text)
+    let file = how.open(&files, path)?;
+    read_limited(rt.alloc(), file)
 }

@@ -6,7 +6,7 @@ use Rattle.clap.specs.declared.error.ErrorKind.TheVariants.{DisplayHelp, Display
 use Rattle.ic_words.specs.Help.{help_of}
 use Rattle.ic_words.specs.Words.{IsDecimal, format_word, is_flag_met, is_format, most_rounds, number_met, value_met, values_met, version_line}
 use Rattle.ic_words.specs.declared.words.Task.{Task}
-use Rattle.ic_words.specs.declared.words.Task.TheVariants.{Settle, Once, Create, Serve, Attend, Reduce, Trace, Draw, Dump, Inspect, Check, Help, Version}
+use Rattle.ic_words.specs.declared.words.Task.TheVariants.{Settle, Once, Create, Serve, Attend, Reduce, Trace, Draw, Dump, Inspect, Check, Batch, Help, Version}
 use Rattle.ic_words.specs.declared.words.WordsFault.{WordsFault}
 use Rattle.ic_words.specs.declared.words.WordsFault.TheVariants.{Words, Memory}
 
@@ -23,7 +23,7 @@ IsMet name met = option_map (λ p. p.0) met ≡ Some name
 abbrev pub commands : List Text
 commands = codes "settle" ∷ codes "once" ∷ codes "create" ∷ codes "serve" ∷ codes "attend"
     ∷ codes "reduce" ∷ codes "trace" ∷ codes "draw" ∷ codes "dump"
-    ∷ codes "inspect" ∷ codes "check" ∷ []
+    ∷ codes "inspect" ∷ codes "check" ∷ codes "batch" ∷ []
 
 -- it is one of these
 abbrev pub IsIn : Text → List Text → Type 0
@@ -63,6 +63,12 @@ Asks met (Ok (Inspect disk)) = IsMet (codes "inspect") met
     × (string_bytes disk ≡ value_met (codes "disk") met)
 Asks met (Ok (Check files)) = IsMet (codes "check") met
     × (map string_bytes files.items ≡ values_met (codes "file") met)
+Asks met (Ok (Batch disk rounds every workers lines)) = IsMet (codes "batch") met
+    × (string_bytes disk ≡ value_met (codes "disk") met)
+    × IsReadFrom (codes "rounds") 0 most_rounds met rounds
+    × IsReadFrom (codes "every") 1 1000000 met every
+    × IsReadFrom (codes "workers") 1 64 met workers
+    × (string_bytes lines ≡ value_met (codes "lines") met)
 Asks met (Ok (Help text)) = ⊥
 Asks met (Ok (Version text)) = ⊥
 Asks met (Err (Words text)) = IsMet (codes "trace") met

@@ -1,4 +1,4 @@
-use Rattle.ic_nets.proofs.CircleLemmas.{circles_alike}
+use Rattle.ic_nets.proofs.CircleLemmas.{circles_alike, cuts_alike}
 use Rattle.ic_nets.proofs.LikeLemmas.{alike_nets}
 use Rattle.ic_nets.proofs.laws.alike_nets_settle_to_one.Goals as goal
 
@@ -12,3 +12,6 @@ returns-clause-settled c = alike_nets (record {
 
 pub returns-clause-circle : goal.returns-clause-circle
 returns-clause-circle c = circles_alike
+
+pub returns-clause-cut : goal.returns-clause-cut
+returns-clause-cut c = cuts_alike

@@ -13,7 +13,8 @@ use Rattle.ic_serving.proofs.LineLemmas.{device_or_not, begun_none, begun_one, b
 use Rattle.ic_serving.proofs.PageLemmas.{command_goes, one_room, same_then, within_all, within_none}
 use Rattle.ic_serving.specs.Parts.{IsKeptWithin}
 use Rattle.ic_serving.specs.Moments.{IsKeptOrNow}
-use Rattle.ic_serving.proofs.StopLemmas.{kept_or_now, leaves_more, leaves_still, leaves_command}
+use Rattle.ic_serving.proofs.StopLemmas.{kept_or_now, leaves_still, leaves_command}
+use Rattle.ic_serving.specs.lemmas.Leaving.{leaves_more}
 use Rattle.ic_desk.specs.Moves.{answers}
 use Rattle.ic_lines.specs.Lines.{ended}
 use Rattle.ic_serving.proofs.TurnLemmas.{ends_then}

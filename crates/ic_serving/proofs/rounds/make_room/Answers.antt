@@ -4,7 +4,8 @@ use Rattle.ic_jobs.specs.History.{replay}
 use Rattle.ic_serving.specs.Booked.{last_kept}
 use Rattle.ic_serving.specs.Moments.{IsKeptOrNow}
 use Rattle.ic_desk.specs.lemmas.Chains.{by_keep, by_nothing}
-use Rattle.ic_serving.proofs.StopLemmas.{leaves_call, leaves_nothing}
+use Rattle.ic_serving.proofs.StopLemmas.{leaves_call}
+use Rattle.ic_serving.specs.lemmas.Leaving.{leaves_nothing}
 use Rattle.ic_serving.proofs.rounds.make_room.Goals as goal
 
 pub returns-in_err-new_page-clause-crash : goal.returns-in_err-new_page-clause-crash

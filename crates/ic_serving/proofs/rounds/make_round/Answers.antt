@@ -7,7 +7,8 @@ use Rattle.ic_desk.specs.Book.{table_of}
 use Rattle.ic_serving.specs.Moments.{IsKeptOrNow}
 use Rattle.ic_desk.specs.lemmas.Chains.{by_nothing}
 use Rattle.ic_serving.proofs.PageLemmas.{makes_round}
-use Rattle.ic_serving.proofs.StopLemmas.{leaves_nothing, leaves_still}
+use Rattle.ic_serving.proofs.StopLemmas.{leaves_still}
+use Rattle.ic_serving.specs.lemmas.Leaving.{leaves_nothing}
 use Rattle.ic_serving.proofs.rounds.make_round.Goals as goal
 
 pub returns-clause-low : goal.returns-clause-low

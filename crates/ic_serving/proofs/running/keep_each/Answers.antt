@@ -1,7 +1,7 @@
 use Rattle.std.proofs.Common.{inl, inr, refl}
 use Rattle.ic_serving.specs.Moments.{IsKeptOrNow}
 use Rattle.ic_desk.specs.lemmas.Chains.{by_nothing}
-use Rattle.ic_serving.proofs.StopLemmas.{leaves_nothing}
+use Rattle.ic_serving.specs.lemmas.Leaving.{leaves_nothing}
 use Rattle.ic_serving.proofs.running.keep_each.Goals as goal
 
 pub returns-clause-crash : goal.returns-clause-crash

@@ -7,7 +7,8 @@ use Rattle.ic_serving.proofs.PageLemmas.{page_first, page_more, page_whole, page
 use Rattle.ic_lines.specs.Turns.{turns}
 use Rattle.ic_serving.specs.Parts.{IsKeptWithin}
 use Rattle.ic_desk.specs.lemmas.Chains.{by_nothing}
-use Rattle.ic_serving.proofs.StopLemmas.{leaves_nothing, leaves_in_run}
+use Rattle.ic_serving.proofs.StopLemmas.{leaves_in_run}
+use Rattle.ic_serving.specs.lemmas.Leaving.{leaves_nothing}
 use Rattle.ic_serving.proofs.running.make_rounds.Given as given
 use Rattle.ic_serving.proofs.running.make_rounds.Goals as goal
 

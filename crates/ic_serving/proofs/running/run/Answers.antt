@@ -1,4 +1,3 @@
-use Rattle.std.proofs.Common.{◌≡◌}
 use Rattle.ic_desk.specs.Book.{table_of}
 use Rattle.ic_lines.specs.Turns.{turns}
 use Rattle.ic_serving.specs.Booked.{last_kept}
@@ -6,7 +5,8 @@ use Rattle.ic_serving.proofs.RunLemmas.{run_ended, on_err}
 use Rattle.ic_serving.proofs.PageLemmas.{goes_same, within_all}
 use Rattle.ic_serving.specs.Parts.{IsKeptWithin}
 use Rattle.ic_serving.specs.Moments.{IsKeptOrNow}
-use Rattle.ic_serving.proofs.StopLemmas.{kept_or_all, leaves_then}
+use Rattle.ic_serving.proofs.StopLemmas.{kept_or_all}
+use Rattle.ic_serving.specs.lemmas.Leaving.{leaves_then}
 use Rattle.ic_desk.specs.Moves.{keeps}
 use Rattle.ic_serving.proofs.TurnLemmas.{ends_then}
 use Rattle.ic_serving.proofs.running.run.Goals as goal

@@ -1,19 +1,20 @@
-use Rattle.std.proofs.Common.{◌≡◌, ◌≢◌, ◌+◌, ◌<◌, ◌∙◌, inl, inr, List, ℕ, Option, Ok, Err, [], ◌∷◌, ◌++◌, true, false, length, arith, refl, sym, ap}
-use Rattle.std.specs.Io.KnownBytes.{Appends}
+use Rattle.std.proofs.Common.{◌≡◌, ◌∙◌, inr, Ok, Err, [], ◌∷◌, ◌++◌, true, false, arith, refl, ap}
+use Rattle.std.specs.Io.KnownBytes.{Appends, Keeps}
 use Rattle.ic_commands.specs.LineText.{ReadsLine}
 use Rattle.ic_lines.specs.Answers.{events}
 use Rattle.ic_lines.specs.Taking.{to_come, TakesLine}
 use Rattle.ic_desk.specs.Book.{is_broken, number_of, table_of, disk_of, start_of, log_of, kept_of}
-use Rattle.ic_serving.specs.Booked.{last_kept, IsAllKept}
+use Rattle.ic_serving.specs.Booked.{last_kept, Begins, IsAllKept}
 use Rattle.ic_serving.specs.Faults.{fault_of_line}
-use Rattle.ic_serving.specs.declared.fault.ServeFault.{ServeFault}
 use Rattle.ic_serving.specs.declared.fault.ServeFault.TheVariants.{TooManyLines}
 use Rattle.ic_serving.specs.declared.limits.TheConstants.{MAX_LINES}
-use Rattle.ic_serving.specs.Answered.{IsAnswered, IsBegun}
+use Rattle.ic_serving.specs.Answered.{IsAnswered}
+use Rattle.ic_serving.specs.inner.Reading.{IsAnsweredAs}
 use Rattle.ic_serving.specs.Moments.{Leaves, IsKeptInLine}
 use Rattle.ic_desk.specs.lemmas.Chains.{by_nothing}
 use Rattle.ic_serving.specs.lemmas.Reaching.{kept_all, kept_or_same}
 use Rattle.ic_serving.proofs.TurnLemmas.{turns_more}
+use Rattle.ic_serving.proofs.ReadingLemmas.{fault_unbegun, keeps_then, leaves_in_line, line_answered, says_unbegun}
 use Rattle.ic_serving.proofs.ServeLemmas.{under_first, under_more, ahead, is_ahead, first_more, taken, ended_at, cut_behind, kept_part, left_within, says_book, not_taken, none_behind, not_write, counts_behind, ready_behind}
 use Rattle.ic_serving.proofs.StopLemmas.{stops_first, stops_more, stops_longer, serving_over, serving_err, serving_untaken, fault_behind, fault_untaken, fault_unwritten, still_all, still_last}
 use Rattle.ic_serving.proofs.serving.serve_with.Goals as goal
@@ -50,104 +51,132 @@ returns-then-not-branch-clause-serving g c = serving_over tt c.one_line_reading.
     c.args.book.now c.loop.book (g.W.Write.contents c.args.writer.now) (g.W.Write.contents c.loop.writer) (g.W.Write.contents c.take_line.new.writer)
     c.loop.invariant (c.in_ok-take_line.ensures.end (ap (λ b. Ok b) c.if-not-branch.true)) c.take_line.ensures.kept (by_nothing c.loop.book c.facts-in-loop.ensures.step)
 
+pub returns-in_err-reading-clause-serving : goal.returns-in_err-reading-clause-serving
+returns-in_err-reading-clause-serving g c =
+    let rest = to_come c.loop.lines (g.R.Read.remaining c.loop.reader) in
+    let next = to_come c.take_line.new.self (g.R.Read.remaining c.take_line.new.reader) in
+    let takes : TakesLine c.take_line.new.self.line rest next = c.in_ok-take_line.ensures.taken (ap (λ b. Ok b) c.if-not-branch.false) in
+    let last = kept_all (start_of c.loop.book) (table_of c.loop.book) (log_of c.loop.book) (kept_of c.loop.book) c.facts-in-loop.ensures.history.replayed in
+    let more = c.take_line.new.self.line ∷ ahead next in
+    let flushed : Keeps (g.W.Write.contents c.loop.writer) (g.W.Write.contents c.begin_line.new.writer) =
+    keeps_then (g.W.Write.contents c.loop.writer) (g.W.Write.contents c.take_line.new.writer) (g.W.Write.contents c.begin_line.new.writer) c.take_line.ensures.kept c.begin_line.ensures.kept in
+    serving_untaken c.from_residual-in_err-reading.result c.in_err-reading.field-0.0 c.from_residual-in_err-reading.ensures.1 c.one_line_reading.ensures.total (g.R.Read.remaining c.args.reader.now) rest c.loop.counter
+    c.args.book.now c.loop.book (g.W.Write.contents c.args.writer.now) (g.W.Write.contents c.loop.writer) (g.W.Write.contents c.begin_line.new.writer) more
+    c.loop.invariant flushed (taken c.take_line.new.self.line rest next takes) (says_unbegun c.in_err-reading.field-0.0 c.loop.invariant.way.front more c.in_err-reading.ensures.fault)
+    last (by_nothing c.loop.book c.facts-in-loop.ensures.step)
+
+pub returns-in_err-reading-clause-fault : goal.returns-in_err-reading-clause-fault
+returns-in_err-reading-clause-fault g c = fault_unbegun c.from_residual-in_err-reading.result c.in_err-reading.field-0.0 c.from_residual-in_err-reading.ensures.1 c.in_err-reading.ensures.fault
+    c.args.book.now c.loop.book c.loop.invariant.counted c.loop.invariant.ready
+
 pub returns-in_err-answer-clause-serving : goal.returns-in_err-answer-clause-serving
 returns-in_err-answer-clause-serving g c =
+    let flushed : Keeps (g.W.Write.contents c.loop.writer) (g.W.Write.contents c.begin_line.new.writer) =
+    keeps_then (g.W.Write.contents c.loop.writer) (g.W.Write.contents c.take_line.new.writer) (g.W.Write.contents c.begin_line.new.writer) c.take_line.ensures.kept c.begin_line.ensures.kept in
     let rest = to_come c.loop.lines (g.R.Read.remaining c.loop.reader) in
     let next = to_come c.take_line.new.self (g.R.Read.remaining c.take_line.new.reader) in
     let done = ap (λ b. Ok b) c.if-not-branch.false in
     let takes : TakesLine c.take_line.new.self.line rest next = c.in_ok-take_line.ensures.taken done in
     let last = kept_all (start_of c.loop.book) (table_of c.loop.book) (log_of c.loop.book) (kept_of c.loop.book) c.facts-in-loop.ensures.history.replayed in
-    let step : Leaves c.loop.book c.answer_watched.new.book (IsKeptInLine (table_of c.loop.book) (last_kept c.loop.book) c.take_line.new.self.line) =
-    rw c.line.ensures at c.answer_watched.ensures.crash in
-    let stops = stops_more c.one_line_reading.ensures.total (g.R.Read.remaining c.args.reader.now) rest c.loop.counter c.args.book.now c.loop.book c.answer_watched.new.book
+    let reads : ReadsLine c.take_line.new.self.line c.in_ok-reading.reading = rw c.line.ensures at c.in_ok-reading.ensures.read in
+    let step : Leaves c.loop.book c.answer_read.new.book (IsKeptInLine (table_of c.loop.book) (last_kept c.loop.book) c.take_line.new.self.line) =
+    leaves_in_line c.take_line.new.self.line c.in_ok-reading.reading c.loop.book c.answer_read.new.book reads c.answer_read.ensures.crash in
+    let stops = stops_more c.one_line_reading.ensures.total (g.R.Read.remaining c.args.reader.now) rest c.loop.counter c.args.book.now c.loop.book c.answer_read.new.book
     (g.W.Write.contents c.args.writer.now) (g.W.Write.contents c.loop.writer) c.take_line.new.self.line (ahead next) c.loop.invariant last step in
-    let begun : IsBegun c.line.result.now c.loop.book c.answer_watched.new.book = c.in_err-answer.ensures.begun in
-    let reads : ReadsLine c.take_line.new.self.line begun.reading = rw c.line.ensures at begun.read in
+    let begun : Begins (events (table_of c.loop.book) c.in_ok-reading.reading) c.loop.book c.answer_read.new.book = c.in_err-answer.ensures.begun in
     let sort = c.in_err-answer.ensures.fault.causes in
     serving_err c.from_residual-in_err-answer.result c.in_err-answer.field-0.0 c.from_residual-in_err-answer.ensures.1 (g.R.Read.remaining c.args.reader.now) rest
-    c.loop.invariant.way.front (c.take_line.new.self.line ∷ ahead next) c.args.book.now c.loop.book c.answer_watched.new.book (g.W.Write.contents c.args.writer.now) (g.W.Write.contents c.take_line.new.writer)
+    c.loop.invariant.way.front (c.take_line.new.self.line ∷ ahead next) c.args.book.now c.loop.book c.answer_read.new.book (g.W.Write.contents c.args.writer.now) (g.W.Write.contents c.begin_line.new.writer)
     c.loop.invariant.way.first (taken c.take_line.new.self.line rest next takes)
     (λ other. ended_at c.in_err-answer.field-0.0 (IsAllKept c.args.book.now) c.loop.invariant.way.front (c.take_line.new.self.line ∷ ahead next)
-    (table_of c.args.book.now) (table_of c.loop.book) (table_of c.answer_watched.new.book) (last_kept c.answer_watched.new.book) (g.W.Write.contents c.args.writer.now) (g.W.Write.contents c.loop.writer) (g.W.Write.contents c.take_line.new.writer)
-    c.loop.invariant.way.answered c.take_line.ensures.kept (says_book c.in_err-answer.field-0.0 c.loop.invariant.way.front (c.take_line.new.self.line ∷ ahead next) sort)
-    (left_within c.in_err-answer.field-0.0 (table_of c.loop.book) (table_of c.answer_watched.new.book) (c.take_line.new.self.line ∷ ahead next) sort
-    (record { reading = begun.reading; read = reads; part = begun.begun.table }))
-    (λ all. left_within c.in_err-answer.field-0.0 (table_of c.loop.book) (last_kept c.answer_watched.new.book) (c.take_line.new.self.line ∷ ahead next) sort
+    (table_of c.args.book.now) (table_of c.loop.book) (table_of c.answer_read.new.book) (last_kept c.answer_read.new.book) (g.W.Write.contents c.args.writer.now) (g.W.Write.contents c.loop.writer) (g.W.Write.contents c.begin_line.new.writer)
+    c.loop.invariant.way.answered flushed (says_book c.in_err-answer.field-0.0 c.loop.invariant.way.front (c.take_line.new.self.line ∷ ahead next) sort)
+    (left_within c.in_err-answer.field-0.0 (table_of c.loop.book) (table_of c.answer_read.new.book) (c.take_line.new.self.line ∷ ahead next) sort
+    (record { reading = c.in_ok-reading.reading; read = reads; part = begun.table }))
+    (λ all. left_within c.in_err-answer.field-0.0 (table_of c.loop.book) (last_kept c.answer_read.new.book) (c.take_line.new.self.line ∷ ahead next) sort
     (record {
-      reading = begun.reading;
+      reading = c.in_ok-reading.reading;
       read = reads;
-      part = kept_part (table_of c.loop.book) (last_kept c.loop.book) (events (table_of c.loop.book) begun.reading) (last_kept c.answer_watched.new.book)
-          (last (c.loop.invariant.kept all)) begun.begun.kept;
+      part = kept_part (table_of c.loop.book) (last_kept c.loop.book) (events (table_of c.loop.book) c.in_ok-reading.reading) (last_kept c.answer_read.new.book)
+          (last (c.loop.invariant.kept all)) begun.kept;
     })))
     (λ write. absurd (not_write c.in_err-answer.field-0.0 sort write))
     (λ write. absurd (not_write c.in_err-answer.field-0.0 sort write))
-    stops c.loop.invariant.turns c.answer_watched.ensures.crash.done
+    stops c.loop.invariant.turns c.answer_read.ensures.crash.done
 
 pub returns-in_err-answer-clause-fault : goal.returns-in_err-answer-clause-fault
 returns-in_err-answer-clause-fault g c = fault_behind c.from_residual-in_err-answer.result c.in_err-answer.field-0.0 c.from_residual-in_err-answer.ensures.1
-    c.args.book.now c.loop.book c.answer_watched.new.book c.loop.invariant.counted c.loop.invariant.ready c.in_err-answer.ensures.fault
+    c.args.book.now c.loop.book c.answer_read.new.book c.loop.invariant.counted c.loop.invariant.ready c.in_err-answer.ensures.fault
 
 pub returns-in_err-write_answer-clause-serving : goal.returns-in_err-write_answer-clause-serving
 returns-in_err-write_answer-clause-serving g c =
+    let flushed : Keeps (g.W.Write.contents c.loop.writer) (g.W.Write.contents c.begin_line.new.writer) =
+    keeps_then (g.W.Write.contents c.loop.writer) (g.W.Write.contents c.take_line.new.writer) (g.W.Write.contents c.begin_line.new.writer) c.take_line.ensures.kept c.begin_line.ensures.kept in
     let rest = to_come c.loop.lines (g.R.Read.remaining c.loop.reader) in
     let next = to_come c.take_line.new.self (g.R.Read.remaining c.take_line.new.reader) in
     let done = ap (λ b. Ok b) c.if-not-branch.false in
     let takes : TakesLine c.take_line.new.self.line rest next = c.in_ok-take_line.ensures.taken done in
     let last = kept_all (start_of c.loop.book) (table_of c.loop.book) (log_of c.loop.book) (kept_of c.loop.book) c.facts-in-loop.ensures.history.replayed in
-    let step : Leaves c.loop.book c.answer_watched.new.book (IsKeptInLine (table_of c.loop.book) (last_kept c.loop.book) c.take_line.new.self.line) =
-    rw c.line.ensures at c.answer_watched.ensures.crash in
-    let stops = stops_more c.one_line_reading.ensures.total (g.R.Read.remaining c.args.reader.now) rest c.loop.counter c.args.book.now c.loop.book c.answer_watched.new.book
+    let reads : ReadsLine c.take_line.new.self.line c.in_ok-reading.reading = rw c.line.ensures at c.in_ok-reading.ensures.read in
+    let step : Leaves c.loop.book c.answer_read.new.book (IsKeptInLine (table_of c.loop.book) (last_kept c.loop.book) c.take_line.new.self.line) =
+    leaves_in_line c.take_line.new.self.line c.in_ok-reading.reading c.loop.book c.answer_read.new.book reads c.answer_read.ensures.crash in
+    let stops = stops_more c.one_line_reading.ensures.total (g.R.Read.remaining c.args.reader.now) rest c.loop.counter c.args.book.now c.loop.book c.answer_read.new.book
     (g.W.Write.contents c.args.writer.now) (g.W.Write.contents c.loop.writer) c.take_line.new.self.line [] c.loop.invariant last step in
-    let answered : IsAnswered c.line.result.now c.in_ok-answer.answer.items c.loop.book c.answer_watched.new.book = c.in_ok-answer.ensures.answered in
-    let reads : ReadsLine c.take_line.new.self.line answered.reading = rw c.line.ensures at answered.read in
+    let is : IsAnsweredAs c.in_ok-reading.reading c.in_ok-answer.answer.items c.loop.book c.answer_read.new.book = c.in_ok-answer.ensures.answered in
+    let answered : IsAnswered c.take_line.new.self.line c.in_ok-answer.answer.items c.loop.book c.answer_read.new.book =
+    line_answered c.take_line.new.self.line c.in_ok-answer.answer.items c.in_ok-reading.reading c.loop.book c.answer_read.new.book reads is in
     serving_err c.from_residual-in_err-write_answer.result c.in_err-write_answer.field-0.0 c.from_residual-in_err-write_answer.ensures.1 (g.R.Read.remaining c.args.reader.now) next
-    (c.loop.invariant.way.front ++ c.take_line.new.self.line ∷ []) (ahead next) c.args.book.now c.answer_watched.new.book c.answer_watched.new.book
+    (c.loop.invariant.way.front ++ c.take_line.new.self.line ∷ []) (ahead next) c.args.book.now c.answer_read.new.book c.answer_read.new.book
     (g.W.Write.contents c.args.writer.now) (g.W.Write.contents c.write_answer.new.writer)
     (first_more (g.R.Read.remaining c.args.reader.now) rest next c.loop.invariant.way.front c.take_line.new.self.line c.loop.invariant.way.first takes) (is_ahead next)
     (λ other. absurd (other c.in_err-write_answer.ensures.fault))
-    (λ write. cut_behind c.loop.invariant.way.front c.loop.counter (table_of c.args.book.now) (table_of c.loop.book) (table_of c.answer_watched.new.book)
-    (g.W.Write.contents c.args.writer.now) (g.W.Write.contents c.loop.writer) (g.W.Write.contents c.take_line.new.writer) (g.W.Write.contents c.write_answer.new.writer)
-    c.take_line.new.self.line c.in_ok-answer.answer.items answered.reading
-    c.loop.invariant.way.answered c.loop.invariant.way.counted (c.in_ok-take_line.ensures.short done) c.loop-test.true reads answered.answer answered.table c.take_line.ensures.kept
+    (λ write. cut_behind c.loop.invariant.way.front c.loop.counter (table_of c.args.book.now) (table_of c.loop.book) (table_of c.answer_read.new.book)
+    (g.W.Write.contents c.args.writer.now) (g.W.Write.contents c.loop.writer) (g.W.Write.contents c.begin_line.new.writer) (g.W.Write.contents c.write_answer.new.writer)
+    c.take_line.new.self.line c.in_ok-answer.answer.items c.in_ok-reading.reading
+    c.loop.invariant.way.answered c.loop.invariant.way.counted (c.in_ok-take_line.ensures.short done) c.loop-test.true reads is.answer is.table flushed
     (rw c.deref.ensures.value at c.in_err-write_answer.ensures.cut))
-    (λ write all. still_all c.loop.book c.answer_watched.new.book (kept_or_same answered.reading c.loop.book c.answer_watched.new.book answered.kept) (c.loop.invariant.kept all))
-    (stops_longer c.one_line_reading.ensures.total c.args.book.now c.answer_watched.new.book (c.loop.invariant.way.front ++ c.take_line.new.self.line ∷ []) (ahead next) stops)
-    (turns_more c.loop.invariant.way.front c.take_line.new.self.line c.in_ok-answer.answer.items c.args.book.now c.loop.book c.answer_watched.new.book c.loop.invariant.turns
-    (rw c.line.ensures at answered))
-    (by_nothing c.answer_watched.new.book c.facts-in-loop-2.ensures.step)
+    (λ write all. still_all c.loop.book c.answer_read.new.book (kept_or_same c.in_ok-reading.reading c.loop.book c.answer_read.new.book is.kept) (c.loop.invariant.kept all))
+    (stops_longer c.one_line_reading.ensures.total c.args.book.now c.answer_read.new.book (c.loop.invariant.way.front ++ c.take_line.new.self.line ∷ []) (ahead next) stops)
+    (turns_more c.loop.invariant.way.front c.take_line.new.self.line c.in_ok-answer.answer.items c.args.book.now c.loop.book c.answer_read.new.book c.loop.invariant.turns
+    answered)
+    (by_nothing c.answer_read.new.book c.facts-in-loop-2.ensures.step)
 
 pub returns-in_err-write_answer-clause-fault : goal.returns-in_err-write_answer-clause-fault
 returns-in_err-write_answer-clause-fault g c = fault_unwritten c.from_residual-in_err-write_answer.result c.in_err-write_answer.field-0.0 c.from_residual-in_err-write_answer.ensures.1
-    c.in_err-write_answer.ensures.fault c.args.book.now c.answer_watched.new.book (c.in_ok-answer.ensures.fault.counted ∙ c.loop.invariant.counted)
+    c.in_err-write_answer.ensures.fault c.args.book.now c.answer_read.new.book (c.in_ok-answer.ensures.fault.counted ∙ c.loop.invariant.counted)
     (λ is. c.in_ok-answer.ensures.fault.ready (c.loop.invariant.ready is))
 
 pub loop-preserved : goal.loop-preserved
 loop-preserved g c =
+    let flushed : Keeps (g.W.Write.contents c.loop.writer) (g.W.Write.contents c.begin_line.new.writer) =
+    keeps_then (g.W.Write.contents c.loop.writer) (g.W.Write.contents c.take_line.new.writer) (g.W.Write.contents c.begin_line.new.writer) c.take_line.ensures.kept c.begin_line.ensures.kept in
     let rest = to_come c.loop.lines (g.R.Read.remaining c.loop.reader) in
     let next = to_come c.take_line.new.self (g.R.Read.remaining c.take_line.new.reader) in
     let done = ap (λ b. Ok b) c.if-not-branch.false in
     let takes : TakesLine c.take_line.new.self.line rest next = c.in_ok-take_line.ensures.taken done in
     let last = kept_all (start_of c.loop.book) (table_of c.loop.book) (log_of c.loop.book) (kept_of c.loop.book) c.facts-in-loop.ensures.history.replayed in
-    let step : Leaves c.loop.book c.answer_watched.new.book (IsKeptInLine (table_of c.loop.book) (last_kept c.loop.book) c.take_line.new.self.line) =
-    rw c.line.ensures at c.answer_watched.ensures.crash in
-    let stops = stops_more c.one_line_reading.ensures.total (g.R.Read.remaining c.args.reader.now) rest c.loop.counter c.args.book.now c.loop.book c.answer_watched.new.book
+    let reads : ReadsLine c.take_line.new.self.line c.in_ok-reading.reading = rw c.line.ensures at c.in_ok-reading.ensures.read in
+    let step : Leaves c.loop.book c.answer_read.new.book (IsKeptInLine (table_of c.loop.book) (last_kept c.loop.book) c.take_line.new.self.line) =
+    leaves_in_line c.take_line.new.self.line c.in_ok-reading.reading c.loop.book c.answer_read.new.book reads c.answer_read.ensures.crash in
+    let stops = stops_more c.one_line_reading.ensures.total (g.R.Read.remaining c.args.reader.now) rest c.loop.counter c.args.book.now c.loop.book c.answer_read.new.book
     (g.W.Write.contents c.args.writer.now) (g.W.Write.contents c.loop.writer) c.take_line.new.self.line [] c.loop.invariant last step in
-    let answered : IsAnswered c.line.result.now c.in_ok-answer.answer.items c.loop.book c.answer_watched.new.book = c.in_ok-answer.ensures.answered in
-    let reads : ReadsLine c.take_line.new.self.line answered.reading = rw c.line.ensures at answered.read in
-    let written : Appends (g.W.Write.contents c.take_line.new.writer) (g.W.Write.contents c.write_answer.new.writer) c.in_ok-answer.answer.items =
+    let is : IsAnsweredAs c.in_ok-reading.reading c.in_ok-answer.answer.items c.loop.book c.answer_read.new.book = c.in_ok-answer.ensures.answered in
+    let answered : IsAnswered c.take_line.new.self.line c.in_ok-answer.answer.items c.loop.book c.answer_read.new.book =
+    line_answered c.take_line.new.self.line c.in_ok-answer.answer.items c.in_ok-reading.reading c.loop.book c.answer_read.new.book reads is in
+    let written : Appends (g.W.Write.contents c.begin_line.new.writer) (g.W.Write.contents c.write_answer.new.writer) c.in_ok-answer.answer.items =
     rw c.deref.ensures.value at c.in_ok-write_answer.ensures.written in
     record {
       way = under_more c.lines_are_served_in_one_way.ensures.joined (g.R.Read.remaining c.args.reader.now) rest next c.loop.counter
-          (table_of c.args.book.now) (table_of c.loop.book) (table_of c.answer_watched.new.book)
-          (g.W.Write.contents c.args.writer.now) (g.W.Write.contents c.loop.writer) (g.W.Write.contents c.take_line.new.writer) (g.W.Write.contents c.write_answer.new.writer)
-          c.take_line.new.self.line c.in_ok-answer.answer.items answered.reading
-          c.loop.invariant.way takes (c.in_ok-take_line.ensures.short done) c.loop-test.true reads answered.answer answered.table c.take_line.ensures.kept written;
-      kept = λ all. still_all c.loop.book c.answer_watched.new.book (kept_or_same answered.reading c.loop.book c.answer_watched.new.book answered.kept) (c.loop.invariant.kept all);
+          (table_of c.args.book.now) (table_of c.loop.book) (table_of c.answer_read.new.book)
+          (g.W.Write.contents c.args.writer.now) (g.W.Write.contents c.loop.writer) (g.W.Write.contents c.begin_line.new.writer) (g.W.Write.contents c.write_answer.new.writer)
+          c.take_line.new.self.line c.in_ok-answer.answer.items c.in_ok-reading.reading
+          c.loop.invariant.way takes (c.in_ok-take_line.ensures.short done) c.loop-test.true reads is.answer is.table flushed written;
+      kept = λ all. still_all c.loop.book c.answer_read.new.book (kept_or_same c.in_ok-reading.reading c.loop.book c.answer_read.new.book is.kept) (c.loop.invariant.kept all);
       counted = c.in_ok-answer.ensures.fault.counted ∙ c.loop.invariant.counted;
       ready = λ is. c.in_ok-answer.ensures.fault.ready (c.loop.invariant.ready is);
-      last = still_last c.args.book.now c.loop.book c.answer_watched.new.book (kept_or_same answered.reading c.loop.book c.answer_watched.new.book answered.kept) c.loop.invariant.last;
-      turns = turns_more c.loop.invariant.way.front c.take_line.new.self.line c.in_ok-answer.answer.items c.args.book.now c.loop.book c.answer_watched.new.book c.loop.invariant.turns
-          (rw c.line.ensures at answered);
+      last = still_last c.args.book.now c.loop.book c.answer_read.new.book (kept_or_same c.in_ok-reading.reading c.loop.book c.answer_read.new.book is.kept) c.loop.invariant.last;
+      turns = turns_more c.loop.invariant.way.front c.take_line.new.self.line c.in_ok-answer.answer.items c.args.book.now c.loop.book c.answer_read.new.book c.loop.invariant.turns
+          answered;
       moments = stops;
     }
 

@@ -1,4 +1,3 @@
-use Rattle.std.proofs.Common.{◌≡◌}
 use Rattle.ic_serving.proofs.WriteLemmas.{sent_more, sent_kept}
 use Rattle.ic_serving.proofs.writing.write_answer.Goals as goal
 use Rattle.ic_serving.proofs.writing.write_answer.Goals.{in-Ok, in-Err}

@@ -1,8 +1,11 @@
 use Rattle.std.proofs.Common.{◌∙◌, sym, ap, codes, refl}
 use Rattle.std.specs.Prelude.{string_bytes, option_copied}
-use Rattle.ic_words.specs.Help.{attend_help, check_help, draw_help, dump_help, inspect_help, reduce_help, trace_help}
-use Rattle.ic_words.proofs.HelpLemmas.{other_first, own_first}
+use Rattle.ic_words.specs.Help.{attend_help, batch_help, check_help, draw_help, dump_help, inspect_help, reduce_help, trace_help}
+use Rattle.ic_words.proofs.HelpLemmas.{no_first, other_first, own_first}
 use Rattle.ic_words.proofs.help.help_of.Goals as goal
+
+pub returns-in_default : goal.returns-in_default
+returns-in_default c = sym (no_first c.args.words.now string_bytes (ap option_copied (sym c.in_default.is) ∙ c.first.ensures.value))
 
 pub returns-in_default-as_str : goal.returns-in_default-as_str
 returns-in_default-as_str c =
@@ -10,7 +13,7 @@ returns-in_default-as_str c =
     let text = c.as_str.ensures.value in
     sym (other_first c.args.words.now string_bytes c.in-Some.word.now (ap option_copied (sym c.in-Some.is) ∙ c.first.ensures.value)
     (λ e. other.not-settle (text ∙ e)) (λ e. other.not-once (text ∙ e)) (λ e. other.not-create (text ∙ e)) (λ e. other.not-serve (text ∙ e)) (λ e. other.not-attend (text ∙ e))
-    (λ e. other.not-reduce (text ∙ e)) (λ e. other.not-trace (text ∙ e)) (λ e. other.not-draw (text ∙ e)) (λ e. other.not-dump (text ∙ e)) (λ e. other.not-inspect (text ∙ e)) (λ e. other.not-check (text ∙ e)))
+    (λ e. other.not-reduce (text ∙ e)) (λ e. other.not-trace (text ∙ e)) (λ e. other.not-draw (text ∙ e)) (λ e. other.not-dump (text ∙ e)) (λ e. other.not-inspect (text ∙ e)) (λ e. other.not-check (text ∙ e)) (λ e. other.not-batch (text ∙ e)))
 
 pub returns-in-attend : goal.returns-in-attend
 returns-in-attend c =
@@ -46,3 +49,8 @@ pub returns-in-check : goal.returns-in-check
 returns-in-check c =
     sym (own_first c.args.words.now string_bytes c.in-Some.word.now (codes "check") check_help (ap option_copied (sym c.in-Some.is) ∙ c.first.ensures.value)
     (sym c.as_str.ensures.value ∙ c.in-check.is) (λ more. refl))
+
+pub returns-in-batch : goal.returns-in-batch
+returns-in-batch c =
+    sym (own_first c.args.words.now string_bytes c.in-Some.word.now (codes "batch") batch_help (ap option_copied (sym c.in-Some.is) ∙ c.first.ensures.value)
+    (sym c.as_str.ensures.value ∙ c.in-batch.is) (λ more. refl))

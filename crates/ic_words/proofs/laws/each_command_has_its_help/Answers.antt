@@ -18,10 +18,10 @@ pub returns-clause-attend : goal.returns-clause-attend
 returns-clause-attend c = λ words. refl
 
 pub returns-clause-program : goal.returns-clause-program
-returns-clause-program c = λ word words other. other_help word words other.0 other.1.0 other.1.1.0 other.1.1.1.0 other.1.1.1.1.0 other.1.1.1.1.1.0 other.1.1.1.1.1.1.0 other.1.1.1.1.1.1.1.0 other.1.1.1.1.1.1.1.1.0 other.1.1.1.1.1.1.1.1.1.0 other.1.1.1.1.1.1.1.1.1.1.0
+returns-clause-program c = λ word words other. other_help word words other.0 other.1.0 other.1.1.0 other.1.1.1.0 other.1.1.1.1.0 other.1.1.1.1.1.0 other.1.1.1.1.1.1.0 other.1.1.1.1.1.1.1.0 other.1.1.1.1.1.1.1.1.0 other.1.1.1.1.1.1.1.1.1.0 other.1.1.1.1.1.1.1.1.1.1.0 other.1.1.1.1.1.1.1.1.1.1.1.0
 
 pub returns-clause-commands : goal.returns-clause-commands
-returns-clause-commands c = ((417, refl), ((360, refl), ((608, refl), ((650, refl), ((724, refl), ((125, refl), ((205, refl), ((278, refl), ((815, refl), ((891, refl), ((485, refl), ((972, refl), ((1000, refl), tt)))))))))))))
+returns-clause-commands c = ((417, refl), ((360, refl), ((608, refl), ((650, refl), ((724, refl), ((125, refl), ((205, refl), ((278, refl), ((907, refl), ((983, refl), ((485, refl), ((815, refl), ((1064, refl), ((1092, refl), tt))))))))))))))
 
 pub returns-clause-reduce : goal.returns-clause-reduce
 returns-clause-reduce c = λ words. refl
@@ -67,3 +67,9 @@ returns-clause-check c = λ words. refl
 
 pub returns-clause-texts : goal.returns-clause-texts
 returns-clause-texts c = ((92, refl), ((106, refl), ((0, refl), tt)))
+
+pub returns-clause-batch : goal.returns-clause-batch
+returns-clause-batch c = λ words. refl
+
+pub returns-clause-lines : goal.returns-clause-lines
+returns-clause-lines c = ((89, refl), ((113, refl), ((124, refl), ((299, refl), ((351, refl), ((418, refl), ((470, refl), ((509, refl), ((571, refl), tt)))))))))

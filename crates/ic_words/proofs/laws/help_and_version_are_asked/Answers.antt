@@ -65,3 +65,7 @@ returns-clause-inspect c = refl
 pub returns-clause-check : goal.returns-clause-check
 unfolding clap_on_literals
 returns-clause-check c = refl
+
+pub returns-clause-batch : goal.returns-clause-batch
+unfolding clap_on_literals
+returns-clause-batch c = refl

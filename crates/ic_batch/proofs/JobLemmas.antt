@@ -1,0 +1,112 @@
+-- The job of a name, behind a round and a submit.
+use Rattle.std.proofs.Common.{◌≡◌, ℕ, List, [], ◌∷◌, ◌++◌, Bool, true, false, ◌&&◌, Option, None, Some, refl, sym, ap, subst, ◌∙◌, true≢false}
+use Rattle.std.specs.Prelude.{IfSome, IsSome, is_some, find, if◌then◌else◌, map, option_map}
+use Rattle.std.specs.List.{AllByRecursion, IsDistinct}
+use Rattle.std.specs.Option.{option_map_or, option_or}
+use Rattle.std.specs.Str.{bytes_eq}
+use Rattle.std.proofs.lemmas.List.Folds.{find-append}
+use Rattle.std.proofs.lemmas.Slice.Eq.{bytes_eq-Decides}
+use Rattle.std.proofs.lemmas.Map.Keys.{IsDistinct-head, IsDistinct-tail}
+use Rattle.ic_rules.specs.System.{SystemParts}
+use Rattle.ic_jobs.specs.declared.event.Event.{Event}
+use Rattle.ic_jobs.specs.declared.event.Event.TheVariants.{Round}
+use Rattle.ic_jobs.specs.declared.reply.Reply.TheVariants.{Moved, Halted}
+use Rattle.ic_jobs.specs.declared.state.State.TheVariants as state
+use Rattle.ic_jobs.specs.State.{is_running}
+use Rattle.ic_jobs.specs.Job.{JobParts, begun, can_move, moved, in_state}
+use Rattle.ic_jobs.specs.Table.{is_named, job_names, job_named, with_changed}
+use Rattle.ic_jobs.specs.Events.{Outcome, after_round, outcome, where_running}
+use Rattle.ic_jobs.specs.History.{table_after}
+use Rattle.ic_batch.specs.Way.{after_event}
+
+-- a change that keeps names changes the job of the name
+pub named_changed : (name : List ℕ) (f : JobParts → JobParts) → ((j : JobParts) → (f j).name ≡ j.name) → (t : List JobParts)
+    → job_named name (with_changed name f t) ≡ option_map f (job_named name t)
+named_changed name f keeps [] = refl
+named_changed name f keeps (j ∷ js) = go (named_changed name f keeps js) (is_named name j) refl
+  where
+    go : job_named name (with_changed name f js) ≡ option_map f (job_named name js) → (b : Bool) → is_named name j ≡ b
+        → job_named name (with_changed name f (j ∷ js)) ≡ option_map f (job_named name (j ∷ js))
+    go rest true is = rw (is, ap (bytes_eq name) (keeps j) ∙ is) refl
+    go rest false is = rw (is, is) rest
+
+-- the table behind a round of a running job
+round_table : (t : List JobParts) (name : List ℕ) (j : JobParts) → job_named name t ≡ Some j → is_running j.state ≡ true
+    → table_after t (Round name) ≡ (after_round t name j).table
+round_table t name j there runs =
+    ap (λ (o : Option JobParts). option_map_or (λ (p : Outcome). p.table) (where_running (after_round t name) o) t) there
+    ∙ ap (λ (b : Bool). option_map_or (λ (p : Outcome). p.table) (if b then Some (after_round t name j) else None) t) runs
+
+-- what a round makes of a running job of this name
+abbrev pub change : JobParts → JobParts → JobParts
+change j = if can_move j then moved else in_state state.Halted
+
+change_table : (t : List JobParts) (name : List ℕ) (b : Bool)
+    → (if b then outcome (with_changed name moved t) Moved else outcome (with_changed name (in_state state.Halted) t) Halted).table
+    ≡ with_changed name (if b then moved else in_state state.Halted) t
+change_table t name true = refl
+change_table t name false = refl
+
+pub round_changes : (t : List JobParts) (name : List ℕ) (j : JobParts) → job_named name t ≡ Some j → is_running j.state ≡ true
+    → table_after t (Round name) ≡ with_changed name (change j) t
+round_changes t name j there runs = round_table t name j there runs ∙ change_table t name (can_move j)
+
+keeps_name : (b : Bool) (k : JobParts) → ((if b then moved else in_state state.Halted) k).name ≡ k.name
+keeps_name true k = refl
+keeps_name false k = refl
+
+changed_is : (b : Bool) (j : JobParts) → (if b then moved else in_state state.Halted) j ≡ (if b then moved j else in_state state.Halted j)
+changed_is true j = refl
+changed_is false j = refl
+
+pub change_is : (j : JobParts) → change j j ≡ after_event j
+change_is j = changed_is (can_move j) j
+
+-- the job behind its round
+pub named_round : (t : List JobParts) (name : List ℕ) (j : JobParts) → job_named name t ≡ Some j → is_running j.state ≡ true
+    → job_named name (table_after t (Round name)) ≡ Some (after_event j)
+named_round t name j there runs =
+    ap (job_named name) (round_changes t name j there runs) ∙ named_changed name (change j) (keeps_name (can_move j)) t
+    ∙ ap (option_map (change j)) there ∙ ap (λ (k : JobParts). Some k) (change_is j)
+
+-- a job that was put last
+pub named_last : (name : List ℕ) (t : List JobParts) (b : JobParts) → job_named name t ≡ None → bytes_eq name b.name ≡ true
+    → job_named name (t ++ b ∷ []) ≡ Some b
+named_last name t b none is =
+    find-append (is_named name) t (b ∷ []) ∙ ap (λ (o : Option JobParts). option_or o (find (is_named name) (b ∷ []))) none
+    ∙ (rw is refl)
+
+pub same_name : (a b : List ℕ) → bytes_eq a b ≡ true → a ≡ b
+same_name a b is = (bytes_eq-Decides a b).0 is
+
+pub is_same : (a b : List ℕ) → a ≡ b → bytes_eq a b ≡ true
+is_same a b is = (bytes_eq-Decides a b).1 is
+
+-- what is there has a job
+pub some_there : {X : Type 0} (o : Option X) → IsSome o → (x : X) × (o ≡ Some x)
+some_there None is = cc
+some_there (Some x) is = (x, refl)
+
+-- no other job has the name of the first
+apart : (name : List ℕ) (x : JobParts) (xs : List JobParts) → name ≡ x.name → AllByRecursion (λ y. bytes_eq x.name y ≡ false) (job_names xs)
+    → AllByRecursion (λ y. is_named name y ≡ true → y ≡ x) xs
+apart name x [] same none = tt
+apart name x (y ∷ ys) same none =
+    (λ is. absurd (true≢false (sym is ∙ ap (λ (n : List ℕ). bytes_eq n y.name) same ∙ none.0)), apart name x ys same none.1)
+
+-- in a table one job has the name
+pub one_named : (name : List ℕ) (t : List JobParts) (j : JobParts) → IsDistinct bytes_eq (job_names t) → job_named name t ≡ Some j
+    → AllByRecursion (λ y. is_named name y ≡ true → y ≡ j) t
+one_named name [] j distinct there = tt
+one_named name (x ∷ xs) j distinct there =
+    go (IsDistinct-head bytes_eq x.name (job_names xs) distinct) (one_named name xs j (IsDistinct-tail bytes_eq x.name (job_names xs) distinct)) (is_named name x) refl
+  where
+    go : AllByRecursion (λ y. bytes_eq x.name y ≡ false) (job_names xs) → (job_named name xs ≡ Some j → AllByRecursion (λ y. is_named name y ≡ true → y ≡ j) xs)
+        → (b : Bool) → is_named name x ≡ b → AllByRecursion (λ y. is_named name y ≡ true → y ≡ j) (x ∷ xs)
+    go none rest true is =
+        let found : job_named name (x ∷ xs) ≡ Some x = rw is refl in
+        let first : x ≡ j = (let e = sym found ∙ there in cc) in
+        (λ named. first, subst (λ (k : JobParts). AllByRecursion (λ y. is_named name y ≡ true → y ≡ k) xs) first (apart name x xs (same_name name x.name is) none))
+    go none rest false is =
+        let behind : job_named name xs ≡ Some j = (let found : job_named name (x ∷ xs) ≡ job_named name xs = rw is refl in sym found ∙ there) in
+        (λ named. absurd (true≢false (sym named ∙ is)), rest behind)

@@ -1,0 +1,124 @@
+-- Ways and their ends.
+use Rattle.std.proofs.Common.{◌≡◌, ◌≢◌, ⊎_elim, ℕ, zero, suc, ◌+◌, ◌-◌, ◌<◌, ◌≤◌, List, [], ◌∷◌, ◌++◌, Bool, true, false, ◌&&◌, None, Some, Option, length, get_or, refl, sym, ap, ap₂, subst, ◌∙◌, arith}
+use Rattle.std.specs.Prelude.{IfSome, if◌then◌else◌, nat_lt, slice_get}
+use Rattle.std.specs.List.{AllByRecursion, AllZip}
+use Rattle.std.proofs.lemmas.Bool.{cases_lt, ltb-true}
+use Rattle.ic_round.specs.Rounds.{iterate, round}
+use Rattle.ic_term.specs.Configuration.{Configuration}
+use Rattle.ic_jobs.specs.declared.state.State.TheVariants.{Halted}
+use Rattle.ic_jobs.specs.Job.{JobParts, can_move, moved, in_state}
+use Rattle.ic_jobs.specs.Table.{job_named}
+use Rattle.ic_batch.specs.declared.jobs.NewJob.{NewJob}
+use Rattle.ic_batch.specs.declared.fault.Difference.{Difference}
+use Rattle.ic_batch.specs.declared.fault.Difference.TheVariants as difference
+use Rattle.ic_batch.specs.Faults.{Differs, HasAnother}
+use Rattle.ic_batch.specs.Jobs.{begun_by}
+use Rattle.ic_batch.specs.Way.{goes_on, after_event, gone_on, after, IsOnWay, ComesTo, AreOnWay, IsTextOf, IsIterate, lines_of}
+use Rattle.ic_batch.proofs.DueLemmas.{few}
+
+-- ---- one end
+
+stands : (most : ℕ) (j : JobParts) → goes_on most j ≡ false → gone_on most j ≡ j
+stands most j is = ap (λ (b : Bool). if b then after_event j else j) is
+
+stands_on : (most : ℕ) (j : JobParts) → goes_on most j ≡ false → (n : ℕ) → after most n j ≡ j
+stands_on most j is zero = refl
+stands_on most j is (suc n) = ap (gone_on most) (stands_on most j is n) ∙ stands most j is
+
+after_more : (most : ℕ) (from : JobParts) (n k : ℕ) → after most (k + n) from ≡ after most k (after most n from)
+after_more most from n zero = (let e : zero + n ≡ n = omega arith in ap (λ (m : ℕ). after most m from) e)
+after_more most from n (suc k) = (let e : suc k + n ≡ suc (k + n) = omega arith in ap (λ (m : ℕ). after most m from) e ∙ ap (gone_on most) (after_more most from n k))
+
+same_end : (most : ℕ) (from a b : JobParts) (n m : ℕ) → a ≡ after most n from → b ≡ after most m from → goes_on most a ≡ false → n ≤ m → b ≡ a
+same_end most from a b n m is_a is_b ends less =
+    let parts : m ≡ (m - n) + n = omega (arith, less) in
+    is_b ∙ ap (λ (k : ℕ). after most k from) parts ∙ after_more most from n (m - n) ∙ ap (after most (m - n)) (sym is_a) ∙ stands_on most a ends (m - n)
+
+pub one_end : (most : ℕ) (from a b : JobParts) → ComesTo most from a → ComesTo most from b → a ≡ b
+one_end most from a b first second = ⊎_elim
+    (λ (less : first.on_way.0 < second.on_way.0). sym (same_end most from a b first.on_way.0 second.on_way.0 first.on_way.1 second.on_way.1 first.ends (omega (arith, less))))
+    (λ (more : second.on_way.0 ≤ first.on_way.0). same_end most from b a second.on_way.0 first.on_way.0 second.on_way.1 first.on_way.1 second.ends more)
+    (cases_lt first.on_way.0 second.on_way.0)
+
+abbrev AreEnds : ℕ → List NewJob → List JobParts → Type 0
+AreEnds most jobs ends = AllZip (λ new end. ComesTo most (begun_by new) end) jobs ends
+
+same_ends : (most : ℕ) (jobs : List NewJob) (one other : List JobParts) → AreEnds most jobs one → AreEnds most jobs other → one ≡ other
+same_ends most [] [] [] first second = refl
+same_ends most [] (x ∷ xs) other first second = absurd first
+same_ends most [] [] (y ∷ ys) first second = absurd second
+same_ends most (new ∷ jobs) [] other first second = absurd first
+same_ends most (new ∷ jobs) (x ∷ xs) [] first second = absurd second
+same_ends most (new ∷ jobs) (x ∷ xs) (y ∷ ys) first second =
+    ap₂ (λ (a : JobParts) (b : List JobParts). a ∷ b) (one_end most (begun_by new) x y first.0 second.0) (same_ends most jobs xs ys first.1 second.1)
+
+pub one_text : (most : ℕ) (jobs : List NewJob) (one other : List ℕ) → IsTextOf most jobs one → IsTextOf most jobs other → one ≡ other
+one_text most jobs one other first second = first.2 ∙ ap lines_of (same_ends most jobs first.0 second.0 first.1 second.1) ∙ sym second.2
+
+-- ---- iterates
+
+module _ (new : NewJob) where
+  round_is : (j : JobParts) → IsIterate new j → IsIterate new (moved j)
+  round_is j is =
+      let next : j.rounds + 1 ≡ suc j.rounds = omega arith in
+      record {
+        name = is.name;
+        rules = is.rules;
+        budget = is.budget;
+        config = ap₂ (λ r c. round r c) (ap (λ rs. rs.rules) is.rules) is.config
+            ∙ ap (λ (n : ℕ). iterate new.system.rules.rules n new.system.config) (sym next);
+      }
+
+  event_is : (j : JobParts) (b : Bool) → IsIterate new j → IsIterate new (if b then moved j else in_state Halted j)
+  event_is j true is = round_is j is
+  event_is j false is = record { name = is.name; rules = is.rules; budget = is.budget; config = is.config }
+
+  gone_is : (j : JobParts) (b : Bool) → IsIterate new j → IsIterate new (if b then after_event j else j)
+  gone_is j true is = event_is j (can_move j) is
+  gone_is j false is = is
+
+  after_is : (most n : ℕ) → IsIterate new (after most n (begun_by new))
+  after_is most zero = record { name = refl; rules = refl; budget = refl; config = refl }
+  after_is most (suc n) = gone_is (after most n (begun_by new)) (goes_on most (after most n (begun_by new))) (after_is most n)
+
+  pub way_is : (most : ℕ) (j : JobParts) → IsOnWay most (begun_by new) j → IsIterate new j
+  way_is most j way = subst (IsIterate new) (sym way.1) (after_is most way.0)
+
+event_few : (most : ℕ) (j : JobParts) (b : Bool) → j.rounds < most → (if b then moved j else in_state Halted j).rounds ≤ most
+event_few most j true below = omega (arith, below)
+event_few most j false below = omega (arith, below)
+
+gone_few : (most : ℕ) (j : JobParts) (b : Bool) → goes_on most j ≡ b → j.rounds ≤ most → (if b then after_event j else j).rounds ≤ most
+gone_few most j true goes few_so_far = event_few most j (can_move j) (ltb-true j.rounds most (few most j goes))
+gone_few most j false goes few_so_far = few_so_far
+
+after_few : (most n : ℕ) (from : JobParts) → from.rounds ≤ most → (after most n from).rounds ≤ most
+after_few most zero from is = is
+after_few most (suc n) from is = gone_few most (after most n from) (goes_on most (after most n from)) refl (after_few most n from is)
+
+pub way_few : (most : ℕ) (new : NewJob) (j : JobParts) → IsOnWay most (begun_by new) j → j.rounds ≤ most
+way_few most new j way = subst (λ (k : JobParts). k.rounds ≤ most) (sym way.1) (after_few most way.0 (begun_by new) (omega arith))
+
+-- ---- no other job
+
+pub none_there : (most : ℕ) (jobs : List NewJob) → AreOnWay most jobs []
+none_there most [] = tt
+none_there most (new ∷ jobs) = (tt, none_there most jobs)
+
+not_other : (new : NewJob) (j : JobParts) (is : Difference) → IsIterate new j → ¬ Differs new j is
+not_other new j difference.Rules same other = other same.rules
+not_other new j difference.Budget same other = other same.budget
+not_other new j difference.Start same other = other.1 (same.config ∙ ap (λ (n : ℕ). iterate new.system.rules.rules n new.system.config) other.0)
+
+among : (P : NewJob → Type 0) (jobs : List NewJob) (k : ℕ) (new : NewJob) → AllByRecursion P jobs → slice_get jobs k ≡ Some new → P new
+among P [] k new all is = cc
+among P (x ∷ xs) zero new all is = (let same : x ≡ new = cc in subst P same all.0)
+among P (x ∷ xs) (suc k) new all is = among P xs k new all.1 is
+
+pub none_taken : (most : ℕ) (jobs : List NewJob) (t : List JobParts) (name : List ℕ) (is : Difference) → AreOnWay most jobs t → ¬ HasAnother jobs t name is
+none_taken most jobs t name is ways another =
+    let new = another.new in
+    let way = among (λ n. IfSome (job_named n.name t) (IsOnWay most (begun_by n))) jobs another.place new ways another.among in
+    let there : job_named new.name t ≡ Some another.job = ap (λ (n : List ℕ). job_named n t) another.named ∙ another.there in
+    let on = subst (λ (o : Option JobParts). IfSome o (IsOnWay most (begun_by new))) there way in
+    not_other new another.job is (way_is new most another.job on) another.differs

@@ -1,0 +1,12 @@
+pub mod LoopLemmas
+pub mod JobLemmas
+pub mod WayLemmas
+pub mod StayLemmas
+pub mod EndLemmas
+pub mod DueLemmas
+pub mod LeftLemmas
+pub mod ReadLemmas
+pub mod LawLemmas
+pub mod BatchLemmas
+pub mod OtherLemmas
+pub mod RoundLemmas

@@ -1,0 +1,6 @@
+-- What a reader of the public contracts must believe, and `inner`, which is for private functions.
+pub mod Jobs
+pub mod Way
+pub mod Faults
+pub mod Batch
+pub mod inner

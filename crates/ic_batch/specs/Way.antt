@@ -1,0 +1,62 @@
+-- To be believed: how far a batch takes a job, and what is on a disk meanwhile (this project's choice).
+use Rattle.std.specs.Prelude.{◌≡◌, ◌&&◌, ◌++◌, ℕ, zero, suc, List, Bool, false, nat_lt, if◌then◌else◌, IfSome}
+use Rattle.std.specs.List.{AllByRecursion, AllZip, flat_map}
+use Rattle.ic_round.specs.Rounds.{iterate}
+use Rattle.ic_jobs.specs.declared.state.State.TheVariants.{Halted}
+use Rattle.ic_jobs.specs.State.{is_running}
+use Rattle.ic_jobs.specs.Job.{JobParts, can_move, moved, in_state}
+use Rattle.ic_jobs.specs.Table.{job_named}
+use Rattle.ic_jobs.specs.Shown.{shown}
+use Rattle.ic_commands.specs.ReplyText.{shown_text}
+use Rattle.ic_lines.specs.Lines.{ended}
+use Rattle.ic_batch.specs.declared.jobs.NewJob.{NewJob}
+use Rattle.ic_batch.specs.Jobs.{begun_by}
+
+-- a batch goes on with a job that runs and has made fewer rounds than it may
+abbrev pub goes_on : ℕ → JobParts → Bool
+goes_on most j = is_running j.state && nat_lt j.rounds most
+
+-- a running job after its next event: a round where it can make one, and else its halt
+abbrev pub after_event : JobParts → JobParts
+after_event j = if can_move j then moved j else in_state Halted j
+
+-- the same of a job with which a batch goes on; any other stays as it is
+abbrev pub gone_on : ℕ → JobParts → JobParts
+gone_on most j = if goes_on most j then after_event j else j
+
+-- a job after so many events
+abbrev pub after : ℕ → ℕ → JobParts → JobParts
+after most zero j = j
+after most (suc n) j = gone_on most (after most n j)
+
+-- a job is on the way that a batch takes another one
+abbrev pub IsOnWay : (most : ℕ) (from : JobParts) → JobParts → Type 0
+IsOnWay most from j = (n : ℕ) × (j ≡ after most n from)
+
+-- a job is the end of the way
+pub record ComesTo (most : ℕ) (from end : JobParts) : Type 0 where
+  pub on_way : IsOnWay most from end
+  pub ends : goes_on most end ≡ false
+
+-- Each of these jobs that is in a table is there as it was on its way. So it is in a table without
+-- jobs, and in each that a batch leaves, wherever it is stopped.
+abbrev pub AreOnWay : (most : ℕ) → List NewJob → (t : List JobParts) → Type 0
+AreOnWay most jobs t =
+    AllByRecursion (λ new. IfSome (job_named new.name t) (IsOnWay most (begun_by new))) jobs
+
+-- the line of each job
+abbrev pub lines_of : List JobParts → List ℕ
+lines_of js = flat_map (λ j. ended (shown_text (shown j))) js
+
+-- What a batch writes of jobs: the line of the end to which each comes, in their order.
+abbrev pub IsTextOf : (most : ℕ) → List NewJob → List ℕ → Type 0
+IsTextOf most jobs text = (ends : List JobParts)
+    × AllZip (λ new end. ComesTo most (begun_by new) end) jobs ends × (text ≡ lines_of ends)
+
+-- A job is an iterate of a new one: it has its name, its rules and its budget, and its configuration is
+-- the iterate of the round, after its rounds, on the one that the new job begins with.
+pub record IsIterate (new : NewJob) (j : JobParts) : Type 0 where
+  pub name : j.name ≡ new.name
+  pub rules : j.rules ≡ new.system.rules
+  pub budget : j.budget ≡ new.budget
+  pub config : j.config ≡ iterate new.system.rules.rules j.rounds new.system.config

@@ -1,0 +1,125 @@
+//! Bringing jobs to their ends over a book.
+
+ghost use Rattle.std.specs.Prelude.{◌≡◌, ◌≤◌, [], IfErr, IfOk, IfSome, OnOk, OnErr};
+ghost use Rattle.std.specs.List.{IsDistinct};
+ghost use Rattle.std.specs.Str.{bytes_eq};
+ghost use Rattle.std.specs.Io.KnownBytes.{Appends};
+ghost use Rattle.ic_output.specs.Output.{AppendsFront};
+ghost use Rattle.ic_serving.specs.Booked.{IsAllKept};
+ghost use Rattle.ic_serving.specs.Faults.{ComesInLine};
+ghost use Rattle.ic_serving.specs.declared.fault.ServeFault.TheVariants.{Write as write_fault};
+ghost use Rattle.ic_batch.specs.Jobs.{names};
+ghost use Rattle.ic_batch.specs.Way.{AreOnWay, IsTextOf};
+ghost use Rattle.ic_batch.specs.Batch.{IsBatch, IsOnWay};
+ghost use Rattle.ic_batch.specs.Faults.{SaysTaken};
+ghost use Rattle.ic_batch.specs.inner.Staying.{StaysSuch};
+
+use crate::comparing::{are_all_there, first_taken};
+use crate::fault::BatchFault;
+use crate::jobs::NewJob;
+use crate::running::make_rounds;
+use crate::submitting::submit_missing;
+use crate::telling::told;
+use ic_desk::Book;
+use ic_disk::Disk;
+use ic_output::write_flushed;
+use ic_pool::Gate;
+use ic_serving::{Makers, ServeFault, keep_all};
+use std::alloc::Global;
+use std::io::Write;
+use std::sync::Wait;
+use std::thread::Threads;
+
+/// Submits those of the jobs that the table hasn't, makes rounds until no job goes on, keeps all, and
+/// writes for each of the jobs the line that a serving answers to its fetch. A job goes on while it
+/// runs and has made fewer rounds than `most`. Rounds are kept after each `every` of them; one of many
+/// equations is made by at most so many workers, which are joined before it returns. The gate is told
+/// of each round.
+///
+/// Nothing is written before all is kept, and where a job of one of the names is there that is
+/// another one nothing is done.
+pub fn batch<T: Threads + Wait + Copy + Send + 'static, D: Disk, W: Write, G: Gate>(
+    rt: &T,
+    alloc: Global,
+    book: &mut Book<D>,
+    jobs: &[NewJob],
+    most: u64,
+    workers: usize,
+    every: u64,
+    gate: &G,
+    writer: &mut W,
+) -> Result<(), BatchFault>
+    requires workers { 1 ≤ workers }
+    requires every { 1 ≤ every }
+    requires distinct { IsDistinct bytes_eq (names jobs.now) }
+    // Where the jobs that are there are on their way, all stay so at any moment, and what is written at
+    // Ok is told by the jobs that were to be there alone.
+    ensures batch { IsOnWay most jobs.now book.old → IsBatch result most jobs.now book.old book.new
+        (W.contents writer.old) (W.contents writer.new) }
+    // Where another job has the name of one of them, nothing is done.
+    ensures taken { IfErr result (SaysTaken jobs.now book.old book.new) }
+{
+    book.facts();
+    if let Some(fault) = first_taken(book.table(), jobs) {
+        return Err(fault);
+    }
+    let mut makers = Makers::new(alloc);
+    let brought = bring_to_ends(
+        rt,
+        alloc,
+        book,
+        jobs,
+        most,
+        workers,
+        every,
+        gate,
+        &mut makers,
+    );
+    makers.finish(rt);
+    match brought {
+        Ok(Some(text)) => write(writer, &text),
+        Ok(None) => Err(BatchFault::Full),
+        Err(fault) => Err(BatchFault::Serve(fault)),
+    }
+}
+
+/// The same without the writing: what is to be written, or nothing where the table has no room.
+fn bring_to_ends<T: Threads + Wait + Copy + Send + 'static, D: Disk, G: Gate>(
+    rt: &T,
+    alloc: Global,
+    book: &mut Book<D>,
+    jobs: &[NewJob],
+    most: u64,
+    workers: usize,
+    every: u64,
+    gate: &G,
+    makers: &mut Makers,
+) -> Result<Option<Vec<u8>>, ServeFault>
+    requires workers { 1 ≤ workers }
+    requires every { 1 ≤ every }
+    requires distinct { IsDistinct bytes_eq (names jobs.now) }
+    ensures stays { StaysSuch (AreOnWay most jobs.now) book.old book.new }
+    ensures text { IfOk result (λ text. IfSome text (λ bytes. IsOnWay most jobs.now book.old
+        → IsTextOf most jobs.now bytes.items)) }
+    ensures kept { IfOk result (λ text. IfSome text (λ bytes. IsAllKept book.new)) }
+    ensures causes { IfErr result ComesInLine }
+{
+    submit_missing(alloc, book, jobs)?;
+    if !are_all_there(book.table(), jobs) {
+        return Ok(None);
+    }
+    make_rounds(rt, alloc, book, most, workers, every, gate, makers)?;
+    keep_all(book)?;
+    Ok(Some(told(alloc, book.table(), jobs)?))
+}
+
+/// Writes a text and flushes it.
+fn write<W: Write>(writer: &mut W, text: &[u8]) -> Result<(), BatchFault>
+    ensures written { OnOk result
+        (Appends (W.contents writer.old) (W.contents writer.new) text.now) }
+    ensures cut { OnErr result
+        (AppendsFront (W.contents writer.old) (W.contents writer.new) [] text.now) }
+    ensures refused { IfErr result (λ fault. fault ≡ BatchFault.Serve write_fault) }
+{
+    write_flushed(writer, text).map_err(|_| BatchFault::Serve(ServeFault::Write))
+}

@@ -1,0 +1,98 @@
+//! Reading the lines that submit jobs.
+
+ghost use Rattle.std.specs.Prelude.{◌≡◌, ◌<◌, false, length, IfNone, IfOk};
+ghost use Rattle.ic_jobs.specs.declared.limits.TheConstants.{MAX_JOBS};
+ghost use Rattle.std.specs.List.{list_any};
+ghost use Rattle.std.specs.Str.{bytes_eq};
+ghost use Rattle.ic_batch.specs.Jobs.{AreJobsOf};
+
+use crate::fault::{JobsCause, JobsFault};
+use crate::jobs::NewJob;
+use ic_jobs::{Command, MAX_JOBS, Refusal};
+use ic_lines::read_script;
+use ic_text::{TextFault, is_blank};
+use std::alloc::Global;
+
+/// The jobs of lines, in their order, or the first line with a fault. A line ends with a line feed,
+/// and the last may go without; a blank one gives no job. Any other command than a submit is refused,
+/// and so is a name that a line before has, and a 33rd job.
+pub fn read_jobs(alloc: Global, text: &[u8]) -> Result<Vec<NewJob>, JobsFault>
+    ensures read { IfOk result (λ jobs. AreJobsOf text.now jobs.items) }
+{
+    let commands = match read_script(alloc, text) {
+        Ok(commands) => commands,
+        Err(refusal) if refusal.fault == TextFault::Memory => return Err(JobsFault::Memory),
+        Err(refusal) => {
+            let cause = JobsCause::Text(refusal.fault);
+            return Err(JobsFault::Line(refusal.line, cause));
+        }
+    };
+    let mut jobs = Vec::new(alloc);
+    for command in commands {
+        let Command::Submit(name, system, budget) = command else {
+            return Err(refused(text, &jobs, JobsCause::Text(TextFault::Syntax)));
+        };
+        let new = NewJob {
+            name,
+            system,
+            budget,
+        };
+        if let Some(refusal) = refusal_of(&jobs, &new) {
+            return Err(refused(text, &jobs, JobsCause::Refused(refusal)));
+        }
+        jobs.push(new)?;
+    }
+    Ok(jobs)
+}
+
+/// Why a job isn't taken behind others: one of them has its name, or they are 32.
+fn refusal_of(jobs: &[NewJob], new: &NewJob) -> Option<Refusal>
+    ensures other { IfNone result
+        (list_any (λ job. bytes_eq job.name new.now.name) jobs.now ≡ false) }
+    ensures room { IfNone result (length jobs.now < MAX_JOBS) }
+{
+    if is_taken(jobs, new) {
+        return Some(Refusal::Taken);
+    }
+    if jobs.len() >= MAX_JOBS {
+        return Some(Refusal::Full);
+    }
+    None
+}
+
+/// Whether one of these jobs has the name of another.
+fn is_taken(jobs: &[NewJob], new: &NewJob) -> bool
+    ensures { result ≡ list_any (λ job. bytes_eq job.name new.now.name) jobs.now }
+{
+    for job in jobs {
+        if job.name.as_bytes() == new.name.as_bytes() {
+            return true;
+        }
+    }
+    false
+}
+
+/// The line behind those of these jobs has this fault.
+fn refused(text: &[u8], jobs: &[NewJob], cause: JobsCause) -> JobsFault {
+    JobsFault::Line(line_behind(text, jobs.len()), cause)
+}
+
+/// The number, from 1, of the line behind so many lines that aren't blank and blank ones.
+fn line_behind(text: &[u8], many: usize) -> usize {
+    let mut line: usize = 1;
+    let mut left = many;
+    let mut is_begun = false;
+    for byte in text {
+        if *byte == b'\n' {
+            line = line.saturating_add(1);
+            is_begun = false;
+        } else if !is_begun && !is_blank(*byte) {
+            if left == 0 {
+                return line;
+            }
+            left -= 1;
+            is_begun = true;
+        }
+    }
+    line
+}

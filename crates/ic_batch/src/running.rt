@@ -1,0 +1,78 @@
+//! Making rounds until no job goes on.
+
+ghost use Rattle.std.specs.Prelude.{◌≡◌, ◌≤◌, ℕ, List, Some, IsSome, IfSome, IfErr, IfNone, OnOk, true, false, slice_get};
+ghost use Rattle.std.specs.List.{AllByRecursion};
+ghost use Rattle.ic_jobs.specs.Job.{JobParts};
+ghost use Rattle.ic_jobs.specs.Table.{job_named};
+ghost use Rattle.ic_desk.specs.Book.{table_of};
+ghost use Rattle.ic_serving.specs.Faults.{ComesInLine};
+ghost use Rattle.ic_batch.specs.declared.jobs.NewJob.{NewJob};
+ghost use Rattle.ic_batch.specs.Way.{goes_on, AreOnWay};
+ghost use Rattle.ic_batch.specs.inner.Staying.{StaysSuch};
+
+use ic_desk::Book;
+use ic_disk::Disk;
+use ic_jobs::{Job, State};
+use ic_pool::Gate;
+use ic_serving::{Makers, ServeFault, count_running, keep_each, make_round};
+use std::alloc::Global;
+use std::sync::Wait;
+use std::thread::Threads;
+
+/// Whether a batch goes on with a job: it runs, and has made fewer rounds than it may.
+fn goes_on(job: &Job, most: u64) -> bool
+    ensures { result ≡ goes_on most job.now }
+{
+    matches!(job.state(), State::Running) && job.rounds() < most
+}
+
+/// The place of the first job that goes on.
+fn next_place(jobs: &[Job], most: u64) -> Option<usize>
+    ensures goes { IfSome result (λ place. (job : JobParts)
+        × (slice_get jobs.now place ≡ Some job) × (goes_on most job ≡ true)) }
+    ensures none { IfNone result (AllByRecursion (λ job. goes_on most job ≡ false) jobs.now) }
+{
+    for (place, job) in jobs.iter().enumerate() {
+        if goes_on(job, most) {
+            return Some(place);
+        }
+    }
+    None
+}
+
+/// Makes rounds of the jobs that go on, of one job after the other, and keeps them after each `every`
+/// of them. The gate is told of each.
+pub(crate) fn make_rounds<T: Threads + Wait + Copy + Send + 'static, D: Disk, G: Gate>(
+    rt: &T,
+    alloc: Global,
+    book: &mut Book<D>,
+    most: u64,
+    workers: usize,
+    every: u64,
+    gate: &G,
+    makers: &mut Makers,
+) -> Result<(), ServeFault>
+    requires workers { 1 ≤ workers }
+    requires every { 1 ≤ every }
+    ensures stays { (jobs : List NewJob) → StaysSuch (AreOnWay most jobs) book.old book.new }
+    ensures there { (name : List ℕ) → IsSome (job_named name (table_of book.old))
+        → IsSome (job_named name (table_of book.new)) }
+    ensures causes { IfErr result ComesInLine }
+    ensures ended { OnOk result
+        (AllByRecursion (λ job. goes_on most job ≡ false) (table_of book.new)) }
+{
+    book.facts();
+    ic_jobs::laws::other_jobs_stay();
+    ic_jobs::laws::due_is_the_next_running_job();
+    ic_jobs::laws::what_is_due_is_awaited();
+    let mut made: u64 = 0;
+    loop {
+        let Some(place) = next_place(book.table().jobs(), most) else {
+            return Ok(());
+        };
+        make_round(rt, alloc, book, place, workers, makers)?;
+        gate.landed(count_running(book.table().jobs()));
+        made = made.wrapping_add(1);
+        keep_each(book, made, every)?;
+    }
+}

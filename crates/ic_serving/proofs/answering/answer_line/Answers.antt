@@ -1,0 +1,30 @@
+use Rattle.std.proofs.Common.{refl, inl, inr}
+use Rattle.ic_desk.specs.Book.{table_of}
+use Rattle.ic_desk.specs.lemmas.Chains.{by_nothing}
+use Rattle.ic_serving.specs.Booked.{last_kept}
+use Rattle.ic_serving.specs.Moments.{IsKeptInLine}
+use Rattle.ic_serving.specs.lemmas.Reaching.{in_line}
+use Rattle.ic_serving.proofs.RunLemmas.{on_err}
+use Rattle.ic_serving.specs.lemmas.Leaving.{leaves_nothing}
+use Rattle.ic_serving.proofs.ReadingLemmas.{if_answered, if_begun, leaves_in_line, no_line_begun}
+use Rattle.ic_serving.proofs.answering.answer_line.Goals as goal
+
+pub returns-in_err-reading-clause-begun : goal.returns-in_err-reading-clause-begun
+returns-in_err-reading-clause-begun g c = on_err c.from_residual.result _ (no_line_begun c.one_line_reading.ensures.total c.args.book.now c.args.line.now)
+
+pub returns-in_err-reading-clause-crash : goal.returns-in_err-reading-clause-crash
+returns-in_err-reading-clause-crash g c = leaves_nothing c.args.book.now (IsKeptInLine (table_of c.args.book.now) (last_kept c.args.book.now) c.args.line.now)
+    (g.met.D.Disk.left_is_image _) c.facts.ensures.either c.facts.ensures.history.replayed (by_nothing c.args.book.now c.facts.ensures.step) (inl refl)
+    (inr (in_line c.one_line_reading.ensures.total (table_of c.args.book.now) c.args.line.now))
+
+pub returns-clause-answered : goal.returns-clause-answered
+returns-clause-answered g c = if_answered c.args.line.now c.in_ok-reading.reading c.args.book.now c.answer_read-answered.new.book c.answer_read-answered.result (λ v. v.items)
+    c.in_ok-reading.ensures.read c.answer_read-answered.ensures.answered
+
+pub returns-clause-begun : goal.returns-clause-begun
+returns-clause-begun g c = if_begun c.args.line.now c.in_ok-reading.reading c.args.book.now c.answer_read-answered.new.book c.answer_read-answered.result
+    c.in_ok-reading.ensures.read c.answer_read-answered.ensures.begun
+
+pub returns-clause-crash : goal.returns-clause-crash
+returns-clause-crash g c = leaves_in_line c.args.line.now c.in_ok-reading.reading c.args.book.now c.answer_read-answered.new.book
+    c.in_ok-reading.ensures.read c.answer_read-answered.ensures.crash

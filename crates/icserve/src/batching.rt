@@ -1,0 +1,91 @@
+//! The program's word `batch`.
+
+ghost use Rattle.std.specs.List.{IsDistinct};
+ghost use Rattle.std.specs.Str.{bytes_eq};
+ghost use Rattle.ic_batch.specs.Jobs.{names};
+
+use crate::progress::{Progress, WipedFirst};
+use crate::scripts::read_file;
+use crate::{NotedDisk, open_disk};
+use ic_batch::{BatchFault, JobsFault, NewJob, read_jobs};
+use ic_causes::Notes;
+use ic_desk::Book;
+use ic_endings::Failure;
+use ic_inspect::is_unused;
+use ic_scripts::ScriptsFault;
+use std::io;
+use std::sync::Wait;
+use std::thread::Threads;
+
+/// Brings the jobs of the lines in a file to their ends, over the disk in another one, which is made
+/// where it is missing. The numbers are the most rounds of a job, the most workers of a round, and
+/// after how many rounds they are kept. Where the lines can't be read, why is appended to `told`.
+pub(crate) fn batch<T: Threads + Wait + Copy + Send + 'static>(
+    rt: &HostRuntime,
+    threads: &T,
+    disk: &str,
+    lines: &str,
+    numbers: [u64; 3],
+    notes: &Notes,
+    told: &mut Vec<u8>,
+) -> Result<(), Failure> {
+    let text = lines_of(rt, lines, told).map_err(Failure::Jobs)?;
+    let jobs = match read_jobs(rt.alloc(), &text) {
+        Ok(jobs) => jobs,
+        Err(fault) => return Err(Failure::Jobs(fault)),
+    };
+    let disk = made_disk(rt, disk, notes)?;
+    match Book::open(rt.alloc(), disk) {
+        Ok(book) => bring(rt, threads, book, &jobs, numbers).map_err(Failure::Batch),
+        Err(fault) => Err(Failure::Open(fault.cause)),
+    }
+}
+
+/// The bytes of the file of lines.
+fn lines_of(rt: &HostRuntime, path: &str, told: &mut Vec<u8>) -> Result<Vec<u8>, JobsFault> {
+    match read_file(rt, path, told) {
+        Ok(text) => Ok(text),
+        Err(ScriptsFault::Memory) => Err(JobsFault::Memory),
+        Err(_) => Err(JobsFault::Read),
+    }
+}
+
+/// The disk in the file of this path. Where there is none, or one without a job, or what a stopped
+/// `create` has left, an empty one is made.
+fn made_disk<'a>(rt: &HostRuntime, path: &str, notes: &'a Notes) -> Result<NotedDisk<'a>, Failure> {
+    let disk = open_disk(rt, path, true, notes)?;
+    let (mut disk, unused) = is_unused(rt.alloc(), disk);
+    if unused.map_err(Failure::Create)? {
+        ic_slots::create(rt.alloc(), &mut disk).map_err(Failure::Create)?;
+    }
+    Ok(disk)
+}
+
+/// Brings the jobs to their ends over the book, writes what they came to, and closes the book.
+fn bring<T: Threads + Wait + Copy + Send + 'static>(
+    rt: &HostRuntime,
+    threads: &T,
+    mut book: Book<NotedDisk<'_>>,
+    jobs: &[NewJob],
+    numbers: [u64; 3],
+) -> Result<(), BatchFault>
+    requires { IsDistinct bytes_eq (names jobs.now) }
+{
+    let [most, workers, every] = numbers;
+    let progress = Progress::new(rt);
+    let mut output = WipedFirst::new(&progress, io::writer(rt));
+    let brought = ic_batch::batch(
+        threads,
+        rt.alloc(),
+        &mut book,
+        jobs,
+        most,
+        workers.max(1) as usize,
+        every.max(1),
+        &progress,
+        &mut output,
+    );
+    progress.wipe();
+    book.close();
+    brought
+}

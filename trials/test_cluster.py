@@ -1,0 +1,148 @@
+"""The scripts of cluster/ by themselves: what they do with words, files and folders, whatever these have."""
+
+import os
+
+from known import LOOP, TWO
+from program import IN_MEMORY, Server
+from shards import Shards
+
+LOOPING = f"submit loop {LOOP.text}"
+TWICE = f"submit two {TWO.text}"
+NONE = "submit none {} <|>"
+
+
+class Scripts(Shards):
+    seconds = 15
+    rooms = IN_MEMORY
+
+    def is_left(self, *names):
+        """Fails unless the trial's folder has just these files and folders."""
+        self.equals(self.room, "what is there", sorted(names), sorted(it.name for it in self.room.iterdir()))
+
+    def test_misuse_is_told_in_a_line_with_status_2_and_leaves_nothing(self):
+        (self.room / "jobs.txt").write_text(TWICE + "\n")
+        (self.room / "there").mkdir()
+        words = {
+            "cut": [[], ["jobs.txt"], ["--jobs"], ["jobs.txt", "a", "b"], ["none.txt", "new"], [".", "new"], ["jobs.txt", "/"]]
+            + [["jobs.txt", "there"], ["jobs.txt", "jobs.txt"], ["jobs.txt", "there/"]]
+            + [["--jobs", it, "jobs.txt", "new"] for it in ("", "0", "33", "01", "-1", "x", "1 2", "10000000000000000000")],
+            "shard": [[], ["there"], ["none"], ["jobs.txt"], ["--rounds", "1", "there"]],
+            "gather": [[], ["there"], ["none"], ["jobs.txt"], ["there", "there"]],
+            "progress": [[], ["there"], ["none"], ["jobs.txt"], ["there", "there"]],
+        }
+        for script, tried in words.items():
+            for it in tried:
+                with self.subTest(script=script, words=it):
+                    ran = self.script(script, *it)
+                    self.equals(ran.command, "status and standard output", (2, b""), (ran.status, ran.out))
+                    is_line = ran.err.startswith(f"{script}: ".encode()) and ran.err.count(b"\n") == 1
+                    self.equals(ran.command, f"one line of the script: {ran.err}", True, is_line)
+                    self.is_left("jobs.txt", "there")
+                    self.equals(self.room / "there", "what is there", [], list((self.room / "there").iterdir()))
+
+    def test_without_the_program_each_script_says_so(self):
+        self.cut([TWICE])
+        for script, words in {"cut": ["jobs.txt", "new"], "shard": ["jobs/00001"], "progress": ["jobs"]}.items():
+            ran = self.script(script, *words, program_of_scripts="/none/icserve")
+            self.equals(ran.command, "status", 2, ran.status)
+            self.equals(ran.command, f"the path in {ran.err}", True, b"/none/icserve" in ran.err)
+            self.is_left("jobs", "jobs.txt")
+
+    def test_lines_are_cut_as_they_are_and_in_their_order(self):
+        lines = [TWICE, "", "  submit\tb 7{}<|>", "\r", "submit c {} <|>\r", LOOPING, "submit e  {} <|>"]
+        jobs = [it for it in lines if it.strip()]
+        for most in (1, 2, 3, 4, 5, 9, 10, 29, 32):
+            folder = self.cut(lines, most, f"by-{most}")
+            self.holds(folder / "names", "two\nb\nc\nloop\ne\n")
+            parts = [jobs[at : at + most] for at in range(0, len(jobs), most)]
+            wanted = {"names", *(f"{number:05}" for number in range(1, len(parts) + 1))}
+            self.equals(folder, "what is there", wanted, {it.name for it in folder.iterdir()})
+            for number, part in enumerate(parts, 1):
+                self.holds(folder / f"{number:05}" / "lines", "".join(f"{it}\n" for it in part))
+        self.equals(folder, "its rights", 0o755 & ~self.umask(), folder.stat().st_mode & 0o777)
+
+    def umask(self):
+        before = os.umask(0o22)
+        os.umask(before)
+        return before
+
+    def test_a_file_of_jobs_with_a_fault_is_refused_with_its_line(self):
+        """Three jobs a shard, so that a fault stands in a shard of its own and in a line of its own."""
+        good = [f"submit a{it} {{}} <|>" for it in range(10)]
+        for lines, said in (
+            (["", "\r", " \t"], "jobs.txt has no job"),
+            ([], "jobs.txt has no job"),
+            ([*good, "", "submit x {} <r|r=r>"], "jobs.txt:12:18: bad name r: in a configuration a name stands at most twice"),
+            (["submit x", *good], "jobs.txt:1:9: bad syntax: "),
+            ([*good, "", "list"], "jobs.txt:12: this is no submit"),
+            ([*good, "run 10", "list"], "jobs.txt:11: this is no submit"),
+            ([*good, "copy a1 submit"], "jobs.txt:11: this is no submit"),
+            (["", *good, "", good[3]], "jobs.txt:13: the name a3 is that of line 5"),
+            ([*good, "submit a3{}<|>"], "jobs.txt:11: the name a3 is that of line 4"),
+            ([*good, "submit x " + "S" * 300_000], "jobs.txt:11:262145: bad limit: "),
+            (["submit x\0 {} <|>"], "jobs.txt:1:9: bad syntax: "),
+        ):
+            with self.subTest(said=said):
+                (self.room / "jobs.txt").write_text("".join(f"{it}\n" for it in lines))
+                ran = self.script("cut", "--jobs", 3, "jobs.txt", "new")
+                self.equals(ran.command, "status and standard output", (1, b""), (ran.status, ran.out))
+                self.equals(ran.command, f"a line of {ran.err[:300]}", True, said.encode() in ran.err)
+                self.is_left("jobs.txt")
+
+    def test_all_faults_of_a_file_of_jobs_are_told_and_no_warning(self):
+        lines = ["", TWICE, "submit a {} <r|r=r>", "", "submit b {A><B} <|>", "submit c {", "submit d {} <|"]
+        (self.room / "jobs.txt").write_text("\n".join(lines))
+        ran = self.script("cut", "--jobs", 2, "jobs.txt", "new")
+        told = ran.err.decode().splitlines()
+        self.equals(ran.command, "the places", ["3:18", "6:11", "7:15"], [":".join(it.split(":")[1:3]) for it in told[:-1]])
+        self.equals(ran.command, "the last line", "cut: jobs.txt has faults", told[-1])
+
+    def test_a_file_larger_than_a_check_takes_is_cut(self):
+        filler = " " * 250_000
+        lines = [f"submit a{it} {{}}{filler}<|>" for it in range(68)] + ["submit last {} <r|r=r>"]
+        (self.room / "jobs.txt").write_text("\n".join(lines))
+        ran = self.script("cut", "jobs.txt", "new")
+        self.equals(ran.command, f"the place in {ran.err}", True, ran.err.startswith(b"jobs.txt:69:21: bad name r: "))
+        self.cut(lines[:-1])
+
+    def test_answers_that_are_missing_or_not_whole_are_not_gathered(self):
+        folder = self.cut([f"submit a{it} {{}} <|>" for it in range(5)], 2)
+        none = [f"gather: jobs/0000{it} has no answers yet" for it in (1, 2, 3)]
+        self.ended(self.script("gather", "jobs"), err=none, status=1)
+        answers = [["a0 done 0 <|>", "a1 done 0 <|>"], ["a2 done 0 <|>", "a3 spent 7 <|A=B>"], ["a4 done 0 <|>"]]
+        files = [folder / f"0000{it}" / "answers" for it in (1, 2, 3)]
+        for path, lines in zip(files, answers):
+            path.write_text("".join(f"{it}\n" for it in lines))
+        self.ended(self.script("gather", "jobs"), out=sum(answers, []))
+        for path in files:
+            whole = path.read_bytes()
+            for size in range(len(whole)):
+                path.write_bytes(whole[:size])
+                line = f"gather: jobs/{path.parent.name}/answers isn't whole: delete it, and run the shard again"
+                self.ended(self.script("gather", "jobs/"), err=[line], status=1)
+            path.write_bytes(whole)
+        files[1].unlink()
+        self.ended(self.script("gather", "jobs"), err=none[1:2], status=1)
+
+    def test_progress_adds_up_answers_and_disks(self):
+        folder = self.cut([LOOPING, TWICE, NONE, "submit a {} <|>", "submit b {} <|>"], 2)
+        waits = "3 shards: answered 0, begun 0, waiting 3"
+        jobs = "5 jobs: running 0, paused 0, done 0, spent 0, halted 0, waiting 5, rounds 0"
+        self.ended(self.script("progress", "jobs"), out=[waits, jobs])
+        disk = folder / "00001/disk"
+        self.runs("create", "--disk", disk)
+        with Server(disk) as server:
+            server.ask(LOOPING)
+            server.ask(TWICE)
+            self.equals(server.said(), "the run", "ran 12", server.ask("run 12"))
+            (folder / "00003/answers").write_text("b spent 4611686018427387904 <|A=B>\n")
+            begun = "00001: running 1, paused 0, done 1, spent 0, halted 0, rounds 12"
+            waits = "3 shards: answered 1, begun 1, waiting 1"
+            jobs = "5 jobs: running 1, paused 0, done 1, spent 1, halted 0, waiting 2, rounds 4611686018427387904"
+            self.ended(self.script("progress", "jobs/"), out=[begun, waits, jobs])
+        (self.room / "fails").write_text("#!/bin/sh\nexit 3\n")
+        (self.room / "fails").chmod(0o755)
+        lines = ["00001: running 0, paused 0, done 0, spent 0, halted 0, rounds 0", waits]
+        lines += ["5 jobs: running 0, paused 0, done 0, spent 1, halted 0, waiting 4, rounds 4611686018427387904"]
+        fault = "progress: jobs/00001/disk can't be looked at"
+        self.ended(self.script("progress", "jobs", program_of_scripts=self.room / "fails"), out=lines, err=[fault], status=1)

@@ -1,0 +1,220 @@
+"""A thousand drawn jobs in 40 shards under each engine, stopped again and again: the answers are those of one server. They
+take many minutes, and are run by name: python3 trials cluster_long."""
+
+import os
+import shutil
+import signal
+import socket
+import subprocess
+import time
+
+from program import PATIENCE, PROGRAM
+from shards import SCRIPTS, Shards, drawn_jobs
+
+SHARDS = 40
+MOST_ROUNDS = 2000
+
+
+def free_port():
+    with socket.socket() as it:
+        it.bind(("127.0.0.1", 0))
+        return it.getsockname()[1]
+
+
+class Thousand(Shards):
+    """The jobs, cut into their shards."""
+
+    def cut_thousand(self):
+        self.lines = drawn_jobs(self.draws(), 1000, MOST_ROUNDS)
+        return self.cut(self.lines, 1000 // SHARDS)
+
+    def wants(self, *programs):
+        """Skips the trial where a program isn't installed."""
+        path = f"{os.environ['PATH']}:/usr/sbin:/sbin"
+        found = {it: shutil.which(it, path=path) for it in programs}
+        missing = [it for it, place in found.items() if not place]
+        if missing:
+            self.skipTest(f"not installed: {' '.join(missing)}")
+        return found
+
+    def daemon(self, *command, **how):
+        """Starts a server of the trial's own in the foreground, which is ended by its own process id."""
+        with open(self.room / f"{os.path.basename(str(command[0]))}.out", "ab") as out:
+            command = [str(it) for it in command]
+            started = subprocess.Popen(command, stdin=subprocess.DEVNULL, stdout=out, stderr=out, **how)
+        self.addCleanup(self.end_daemon, started)
+        return started
+
+    @staticmethod
+    def end_daemon(started):
+        started.send_signal(signal.SIGTERM)
+        try:
+            started.wait(20)
+        except subprocess.TimeoutExpired:
+            started.kill()
+            started.wait()
+
+
+class Parallel(Thousand):
+    seconds = 300
+
+    def test_1000_jobs_under_gnu_parallel_killed_at_ten_moments(self):
+        self.cut_thousand()
+        begun = lambda: self.parallel(of_shards=["--every", 10])
+        kills = self.killed_often(begun, 10, self.draws("kills"), 1)
+        self.equals("40 shards", f"at least eight kills in their midst: {kills}", True, kills >= 8)
+        self.gathers(self.lines, MOST_ROUNDS)
+
+    def test_1000_jobs_whose_shells_are_killed_and_whose_programs_run_on(self):
+        self.cut_thousand()
+        draw = self.draws("kills")
+        begun = lambda: self.parallel(of_shards=["--every", 10])
+        orphans = 0
+        for share in (5, 15, 30):
+            with begun() as engine:
+                self.waits_for(lambda: engine.ended() is not None or self.answered() >= share)
+                time.sleep(draw.random())
+                engine.kill_shells()
+                orphans += len(engine.left())
+                with begun() as second:
+                    status, _ = second.end(10 * PATIENCE)
+                    self.equals(second.command, "whether it is refused or ends well", True, status is not None)
+                self.waits_for(lambda: not engine.left(), told=engine.left)
+        self.equals("40 shards", f"at least three programs that ran on: {orphans}", True, orphans >= 3)
+        self.ends_well(begun)
+        self.gathers(self.lines, MOST_ROUNDS)
+
+    def test_1000_jobs_over_two_hosts_killed_at_ten_moments(self):
+        """The hosts are two servers of ssh on ports of their own, which share the trial's folder."""
+        found = self.wants("sshd", "ssh", "ssh-keygen", "parallel")
+        self.cut_thousand()
+        hosts = [self.ssh_host(found, name) for name in ("one", "two")]
+        (self.room / "ssh").write_text(f'#!/bin/sh\nexec {found["ssh"]} -F {self.room}/ssh_config "$@"\n')
+        (self.room / "ssh").chmod(0o755)
+        words = ["--ssh", self.room / "ssh", "--sshlogin", "2/one,2/two", "--workdir", self.room, "--env", "ICSERVE"]
+        begun = lambda: self.parallel(*words, of_shards=["--every", 10])
+        kills = self.killed_often(begun, 10, self.draws("kills"), 1)
+        self.equals("40 shards", f"at least eight kills in their midst: {kills}", True, kills >= 8)
+        used = {it.split("\t")[1] for it in (self.room / "jobs.log").read_text().splitlines()[1:]}
+        self.equals("40 shards", "the hosts that ran them", {"one", "two"}, used)
+        self.gathers(self.lines, MOST_ROUNDS)
+        self.equals("the servers of ssh", "whether they still run", [None, None], [it.poll() for it in hosts])
+
+    def ssh_host(self, found, name):
+        """Starts a server of ssh on 127.0.0.1 with a port and a key of its own."""
+        keys = {"host": self.room / f"{name}.key", "user": self.room / "user.key"}
+        for key in keys.values():
+            if not key.exists():
+                subprocess.run([found["ssh-keygen"], "-q", "-t", "ed25519", "-N", "", "-f", key], check=True)
+        port, user = free_port(), os.environ.get("USER") or "root"
+        (self.room / f"{name}.sshd").write_text(
+            f"ListenAddress 127.0.0.1\nPort {port}\nHostKey {keys['host']}\nPidFile {self.room}/{name}.pid\n"
+            f"AuthorizedKeysFile {keys['user']}.pub\nStrictModes no\nUsePAM no\nPasswordAuthentication no\nMaxStartups 100\n"
+        )
+        with open(self.room / "ssh_config", "a") as config:
+            config.write(
+                f"Host {name}\n HostName 127.0.0.1\n Port {port}\n User {user}\n IdentityFile {keys['user']}\n"
+                " IdentitiesOnly yes\n StrictHostKeyChecking no\n UserKnownHostsFile /dev/null\n LogLevel ERROR\n BatchMode yes\n"
+            )
+        if os.geteuid() == 0:
+            os.makedirs("/run/sshd", exist_ok=True)
+        server = self.daemon(found["sshd"], "-D", "-e", "-f", self.room / f"{name}.sshd")
+        ask = [found["ssh"], "-F", self.room / "ssh_config", name, "true"]
+        self.waits_for(lambda: subprocess.run(ask, capture_output=True).returncode == 0 or server.poll() is not None, 20)
+        self.equals(f"the server of ssh {name}: {(self.room / 'sshd.out').read_text()[-600:]}", "its status", None, server.poll())
+        return server
+
+
+# A controller and a node of Slurm on this machine alone, in a folder of their own.
+SLURM = """ClusterName=trial
+SlurmctldHost={host}(127.0.0.1)
+SlurmUser={user}
+SlurmdUser={user}
+SlurmctldPort={controller}
+AuthType=auth/munge
+AuthInfo=socket={room}/munge/socket,cred_expire=5
+StateSaveLocation={room}/state
+SlurmdSpoolDir={room}/spool
+SlurmctldPidFile={room}/slurmctld.pid
+SlurmdPidFile={room}/slurmd.pid
+SlurmctldLogFile={room}/slurmctld.log
+SlurmdLogFile={room}/slurmd.log
+ProctrackType=proctrack/linuxproc
+TaskPlugin=task/none
+MpiDefault=none
+MailProg=/bin/true
+ReturnToService=2
+JobRequeue=1
+KillWait=5
+SchedulerType=sched/builtin
+SchedulerParameters=sched_interval=1
+SelectType=select/cons_tres
+SelectTypeParameters=CR_CPU
+NodeName={host} NodeAddr=127.0.0.1 Port={node} CPUs=4 RealMemory=1000 State=UNKNOWN
+PartitionName=all Nodes=ALL Default=YES MaxTime=INFINITE State=UP
+"""
+
+
+class Slurm(Thousand):
+    seconds = 300
+
+    def test_1000_jobs_under_slurm_requeued_while_they_run(self):
+        self.found = self.wants("munged", "slurmctld", "slurmd", "sbatch", "scontrol", "squeue", "sinfo")
+        self.cut_thousand()
+        self.start()
+        script = ["--chdir", self.room, f"--array=1-{SHARDS}", SCRIPTS / "array.sbatch", SCRIPTS, "jobs", "--every", 10]
+        self.asks("sbatch", *script)
+        draw, requeued = self.draws("requeues"), 0
+        for turn in range(10):
+            self.waits_for(lambda: self.answered() >= SHARDS * turn // 10 or self.has_ended())
+            time.sleep(draw.random())
+            running = [job for job, state in self.queue() if state == "RUNNING"]
+            for job in draw.sample(running, min(2, len(running))):
+                requeued += self.asks("scontrol", "requeue", job, may_fail=True)
+        self.equals("40 tasks", f"at least ten were requeued: {requeued}", True, requeued >= 10)
+        self.waits_for(self.has_ended, 10 * PATIENCE)
+        self.gathers(self.lines, MOST_ROUNDS)
+
+    def has_ended(self):
+        """Whether no task is left."""
+        time.sleep(0.2)
+        return not self.queue()
+
+    def start(self):
+        """Starts munged, slurmctld and slurmd in the foreground, and waits until the node is idle."""
+        for it in ("munge", "state", "spool"):
+            (self.room / it).mkdir()
+        self.room.chmod(0o755)
+        (self.room / "munge").chmod(0o711)
+        (self.room / "munge/key").write_bytes(os.urandom(1024))
+        (self.room / "munge/key").chmod(0o400)
+        names = {"host": socket.gethostname().split(".")[0], "user": "root" if os.geteuid() == 0 else os.environ["USER"]}
+        text = SLURM.format(room=self.room, controller=free_port(), node=free_port(), **names)
+        (self.room / "slurm.conf").write_text(text)
+        self.env = {**os.environ, "ICSERVE": PROGRAM, "SLURM_CONF": str(self.room / "slurm.conf")}
+        files = [f"--{it}-file={self.room}/munge/{it}" for it in ("key", "pid", "seed", "log")]
+        self.daemon(self.found["munged"], "--foreground", "--force", f"--socket={self.room}/munge/socket", *files)
+        self.waits_for(lambda: (self.room / "munge/socket").exists(), 20)
+        self.daemon(self.found["slurmctld"], "-D", "-f", self.room / "slurm.conf", env=self.env)
+        self.daemon(self.found["slurmd"], "-D", "-f", self.room / "slurm.conf", "-N", names["host"], env=self.env)
+        try:
+            self.waits_for(lambda: "idle" in self.told_by("sinfo", "-h", "-o", "%T"), 60)
+        except AssertionError:
+            logs = {it: (self.room / it).read_text()[-800:] for it in ("slurmctld.log", "slurmd.log") if (self.room / it).exists()}
+            self.skipTest(f"Slurm doesn't start here: {logs}")
+
+    def told_by(self, program, *words):
+        command = [str(it) for it in (self.found[program], *words)]
+        self.ran = subprocess.run(command, env=self.env, capture_output=True, text=True, timeout=PATIENCE)
+        return self.ran.stdout
+
+    def asks(self, program, *words, may_fail=False):
+        """Asks Slurm for something: whether it was done."""
+        self.told_by(program, *words)
+        if self.ran.returncode and not may_fail:
+            self.fail(f"{self.ran.args}: {self.ran.stderr}")
+        return self.ran.returncode == 0
+
+    def queue(self):
+        """The tasks that haven't ended, each with its state."""
+        return [it.split() for it in self.told_by("squeue", "-h", "-r", "-o", "%i %T").splitlines()]

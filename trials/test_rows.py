@@ -1,0 +1,155 @@
+"""The worked rows of `trials/rows`, which the built program answers. Those of `reduce` and `trace` are played in test_looks.py,
+those of `draw` in test_draw.py.
+
+- `settle TEXT`, `once TEXT`: the line that is printed, or the fault. `settle_told`, `once_told`: what is told of its place.
+- `checked TEXT`: what `check` tells of a file F with this text, and whether it has a fault. `sizes TEXT`: bytes and lines of a graph.
+- `alike N TEXT`: how a system ends after at most N rounds, by 1, 2, 7 and 64 workers.
+- `serve WORKERS EVERY LINES`: what lines with ` ; ` between them are answered on a new disk, by so many workers, with a keep
+  after each so many rounds. `slow`: the same, where each read and write takes one byte.
+- `stream WORKERS EVERY TEXT`: what is written for a text as it stands. `times COUNT LINE`: the answer that a line has so many times.
+  `feeds COUNT TEXT`: what is written for so many line feeds and a text after them.
+- `again WORKERS EVERY LINES + LINES`: lines, and more on the disk that these left.
+- `worn WORKERS EVERY LINES`, or `LINES + LINES`: lines on a disk whose numbers are used up, as the first lines have left it.
+- `newest WORKERS EVERY LINES`: the number of the newest slot after the lines."""
+
+from disks import EMPTY, SECOND, newest, put, slot
+from program import IN_MEMORY, Trial, run
+from shim import shimmed
+from worked_rows import expanded, rows
+
+LAST_NUMBER = 2**64 - 1
+
+
+def lines_of(text):
+    """The lines of a row, each with its end."""
+    return expanded(text).replace(b" ; ", b"\n") + b"\n"
+
+
+def on_one_line(ran):
+    """What was written, as it stands in a row: answers, and the line of a fault."""
+    return b" ; ".join(it for it in (ran.out + ran.err).split(b"\n") if it)
+
+
+class Texts(Trial):
+    rooms = IN_MEMORY
+    seconds = 3
+
+    def test_each_row_that_is_settled_or_makes_a_round(self):
+        for name, kind, text, answer in rows("texts", "settle", "once"):
+            with self.subTest(name=name, kind=kind):
+                if answer.startswith(b"<"):
+                    self.runs(kind, given=expanded(text), out=answer + b"\n")
+                else:
+                    self.runs(kind, given=expanded(text), err=b"icserve: " + answer + b"\n", status=1)
+
+    def test_each_row_that_tells_a_place(self):
+        for name, kind, text, answer in rows("texts", "settle_told", "once_told"):
+            with self.subTest(name=name, kind=kind):
+                ran = run(kind.removesuffix("_told"), given=expanded(text))
+                self.agrees(ran.command, "what is told after the first line", answer, ran.behind or b"nothing")
+
+    def test_each_row_that_is_checked(self):
+        for name, _, text, answer in rows("texts", "checked"):
+            with self.subTest(name=name):
+                (self.room / "F").write_bytes(expanded(text))
+                ran = run("check", "F", cwd=self.room)
+                verdict = {0: b"fine", 1: b"faulty"}.get(ran.status, b"neither")
+                self.agrees(ran.command, "what is told, and the verdict", answer, ran.out + verdict)
+
+    def test_each_row_of_sizes(self):
+        for name, _, text, answer in rows("texts", "sizes"):
+            with self.subTest(name=name):
+                ran = run("draw", given=expanded(text))
+                self.agrees(ran.command, "bytes and lines", answer, b"%d %d" % (len(ran.out), ran.out.count(b"\n")))
+
+    def test_each_row_that_workers_reduce_alike(self):
+        for name, _, text, answer in rows("texts", "alike"):
+            count, _, text = text.partition(" ")
+            with self.subTest(name=name):
+                told = [run("reduce", "--rounds", count, "--workers", it, given=expanded(text)) for it in (1, 2, 7, 64)]
+                ends = {(it.status, it.out, it.err) for it in told}
+                self.equals(told[0].command, "how many ends there are", 1, len(ends))
+                self.agrees(told[0].command, "how it ends", answer, self.end_of(told[0], int(count), expanded(text)))
+
+    def end_of(self, ran, most, text):
+        """How a reduction ended, in the words of a row: the number of rounds is the least that is done."""
+        if ran.status == 1:
+            return ran.err.removeprefix(b"icserve: ").rstrip()
+        if ran.status == 5:
+            return b"not done"
+        rounds = next(it for it in range(most + 1) if run("reduce", "--rounds", it, given=text).status == 0)
+        stuck = ran.err.removeprefix(b"icserve:").rstrip()
+        return b"done %d" % rounds + stuck
+
+
+class Lines(Trial):
+    rooms = IN_MEMORY
+    seconds = 8
+
+    def served(self, disk, options, given, **how):
+        workers, every = options
+        return run("serve", "--disk", disk, "--workers", workers, "--every", every, given=given, **how)
+
+    def parted(self, *kinds):
+        """The rows of these kinds: name, kind, workers and every, what else stands in the row, and the answer."""
+        for name, kind, text, answer in rows("lines", *kinds):
+            workers, every, rest = text.split(" ", 2)
+            yield name, kind, (workers, every), rest, answer
+
+    def test_each_row_that_is_served(self):
+        for at, (name, _, options, text, answer) in enumerate(self.parted("serve")):
+            with self.subTest(name=name):
+                ran = self.served(self.disk(f"{at}.disk"), options, lines_of(text))
+                self.agrees(ran.command, "what is answered", answer, on_one_line(ran))
+
+    def test_each_row_that_is_served_slowly(self):
+        for at, (name, _, options, text, answer) in enumerate(self.parted("slow")):
+            for call in ("read", "write"):
+                with self.subTest(name=name, call=call):
+                    disk = self.disk(f"{at}.{call}.disk")
+                    ran = self.served(disk, options, lines_of(text), env=shimmed(f"{call} 1 short"))
+                    self.agrees(ran.command, "what is answered", answer, on_one_line(ran))
+
+    def test_each_row_of_a_text_as_it_stands(self):
+        for at, (name, _, options, text, answer) in enumerate(self.parted("stream")):
+            with self.subTest(name=name):
+                ran = self.served(self.disk(f"{at}.disk"), options, expanded(text))
+                self.agrees(ran.command, "what is written", answer, ran.out + ran.err or b"nothing")
+
+    def test_each_row_of_many_lines(self):
+        for at, (name, kind, text, answer) in enumerate(rows("lines", "times", "feeds")):
+            count, _, rest = text.partition(" ")
+            given = lines_of(rest) * int(count) if kind == "times" else b"\n" * int(count) + expanded(rest)
+            wanted = (answer + b"\n") * int(count) if kind == "times" else answer
+            with self.subTest(name=name):
+                ran = self.served(self.disk(f"{at}.disk"), (1, 1), given)
+                self.agrees(ran.command[:200], "what is written", wanted, ran.out + ran.err or b"nothing")
+
+    def test_each_row_that_goes_on_after_a_stop(self):
+        for at, (name, _, options, text, answer) in enumerate(self.parted("again")):
+            with self.subTest(name=name):
+                disk = self.disk(f"{at}.disk")
+                parts = [on_one_line(self.served(disk, options, lines_of(it))) for it in text.split(" + ")]
+                self.agrees(f"serve {text}", "what is answered", answer, b" ; ".join(parts))
+
+    def test_each_row_of_the_newest_slot(self):
+        for at, (name, _, options, text, answer) in enumerate(self.parted("newest")):
+            with self.subTest(name=name):
+                disk = self.disk(f"{at}.disk")
+                ran = self.served(disk, options, lines_of(text))
+                _, number, _ = newest(disk.read_bytes())
+                self.agrees(ran.command, "the number of the newest slot", answer, b"%d" % number)
+
+    def test_each_row_of_a_disk_whose_numbers_are_used_up(self):
+        for at, (name, _, options, text, answer) in enumerate(self.parted("worn")):
+            with self.subTest(name=name):
+                disk = self.disk(f"{at}.disk")
+                before, plus, lines = text.rpartition(" + ")
+                if plus:
+                    self.served(disk, options, lines_of(before))
+                body = newest(disk.read_bytes())[2] if plus else EMPTY
+                put(disk, slot(LAST_NUMBER, body))
+                left = disk.read_bytes()
+                ran = self.served(disk, options, lines_of(lines))
+                stays = b" ; the disk is as it was" if disk.read_bytes() == left else b" ; the disk has changed"
+                self.agrees(ran.command, "what is answered, and the disk", answer, on_one_line(ran) + stays)
