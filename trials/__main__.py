@@ -44,7 +44,8 @@ def tried(name):
     faults = [text for _, text in result.errors + result.failures]
     skipped = [reason for _, reason in result.skipped]
     how = "FAILED" if faults else "skipped" if skipped else "ok"
-    text = "\n".join(faults or skipped).encode("ascii", "backslashreplace").decode()
+    # A trial of many parts may skip each for the same reason.
+    text = "\n".join(dict.fromkeys(faults or skipped)).encode("ascii", "backslashreplace").decode()
     return name, time.monotonic() - began, how, text
 
 
@@ -78,7 +79,7 @@ def main(words):
         return 1
     prepare()
     counts = {"ok": 0, "FAILED": 0, "skipped": 0}
-    failed = []
+    failed, reasons = [], set()
     watch = threading.Timer(AT_MOST, give_up, [counts])
     watch.daemon = True
     watch.start()
@@ -87,6 +88,8 @@ def main(words):
         for done in as_completed([pool.submit(tried, name) for name in found(words)]):
             name, seconds, how, text = done.result()
             counts[how] += 1
+            text = "as above" if how == "skipped" and text in reasons else text
+            reasons.add(text)
             line = f"trials: {name}: {how}, {seconds:.1f} s{': ' + text if text else ''}"
             print(line, flush=True)
             if how == "FAILED":
