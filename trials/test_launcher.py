@@ -3,6 +3,7 @@ one where that is there, else one that isn't proved. Scripts stand for the prove
 is proved here; one trial makes the real build that proves nothing."""
 
 import os
+import select
 import shutil
 import signal
 import subprocess
@@ -11,16 +12,22 @@ import time
 from program import PATIENCE, PROGRAM, TOP, Trial, heeds_signals, run
 from test_pages import blocks_of, typed_in
 
-# What the launcher and the build call, but for make and rt.
-TOOLS = "sh env cat cp dirname find flock grep install mkdir mv nice python3 readlink rm sed setsid sha256sum sleep sort xargs"
+# What the launcher and the builds call, but for make and rt.
+TOOLS = "sh env cat cp dirname find flock grep install mkdir nproc python3 readlink rm sed setsid sha256sum sleep sort tail tee xargs"
 
-# Stands for `rt lib` in the room of a library, and for `rt run` in crates/icserve: notes its calls, and puts the program where
-# the prover would.
+# Stands for `rt lib` in crates/ic_flat_round, and for `rt all check` and `rt run` in crates/icserve: notes its calls, keeps work
+# of a library that it proves, or fails to, and puts the program where the prover would.
 RT = f"""#!/bin/sh
 echo "$1" >> "$CALLS"
 [ -z "$SLOW" ] || sleep "$SLOW"
-[ "$FAILS" != "$1" ] || exit 1
-if [ "$1" = lib ]; then mkdir -p out/rlib; else cp "{PROGRAM}" out/icserve; fi
+[ "$1" != "$FAILS" ] || [ "$1" = all ] || exit 1
+case $1 in run) exec cp "{PROGRAM}" out/icserve ;; lib) exit ;; esac
+mkdir -p ../low/out/incremental ../low/out/rlib
+rm -f ../low/out/rlib/stamp
+[ "$FAILS" = all ] || echo proved >../low/out/rlib/stamp
+echo "== low"
+[ "$FAILS" = all ] && printf '== summary\nlow: failed (1)\nicserve: not run, since low failed\n0 of 2 crates ok\n' && exit 1
+printf '== icserve\n== summary\nlow: ok\nicserve: ok\n2 of 2 crates ok\n'
 """
 
 # Stands for `build.py`, which builds without a proof.
@@ -47,6 +54,7 @@ class Launcher(Trial):
         for part in ("src", "specs", "proofs"):
             (self.room / "crates/icserve" / part).mkdir(parents=True)
             (self.room / "crates/low" / part).mkdir(parents=True)
+        (self.room / "crates/ic_flat_round").mkdir()
         self.source = self.room / "crates/icserve/src/main.rt"
         self.source.write_text("first\n")
         self.tools = self.room / "tools"
@@ -94,20 +102,20 @@ class Launcher(Trial):
 
     def test_the_proved_program_is_run_where_it_is_there_of_these_sources(self):
         self.make("prove")
-        self.calls_are("lib", "run")
+        self.calls_are("lib", "all", "run")
         self.agrees("./icserve settle", "standard error", "", self.settles())
         (self.room / "crates/icserve/out/icserve").write_text("#!/bin/sh\necho proved\n")
-        (self.make("build"), self.calls_are("lib", "run", "build"))
+        (self.make("build"), self.calls_are("lib", "all", "run", "build"))
         self.ended(self.launch("settle"), out=["proved"])
         self.says("is proved", self.make("install", "PREFIX=prefix"))
         self.ended(run(program=self.room / "prefix/bin/icserve"), out=["proved"])
         self.source.write_text("second\n")
         self.says(ISNT_PROVED, self.settles())
-        self.says("isn't proved", self.make("install", "PREFIX=prefix"))
+        self.says("isn't proved", self.make("install", "PREFIX=~/prefix"))
         self.runs("settle", given="<r|r=Z>", out=["<Z|>"], program=self.room / "prefix/bin/icserve")
         self.source.write_text("first\n")
         self.ended(self.launch("settle"), out=["proved"])
-        self.calls_are("lib", "run", "build", "build")
+        self.calls_are("lib", "all", "run", "build", "build")
 
     def test_neither_program_passes_for_the_other(self):
         self.settles()
@@ -115,20 +123,20 @@ class Launcher(Trial):
         shutil.copy(self.room / "out/sources", self.room / "crates/icserve/out/sources")
         self.says("isn't proved", self.make("install", "PREFIX=prefix"))
         self.make("prove")
-        self.calls_are("build", "lib", "run")
+        self.calls_are("build", "lib", "all", "run")
 
     def test_where_it_cant_be_built_without_a_proof_it_is_proved(self):
         told = self.settles(REFUSES="1")
         self.says("it can't be built so with this kit, for the reason above, and is proved first", told)
         self.agrees("./icserve settle, once more", "standard error", "", self.settles())
-        self.calls_are("build", "lib", "run")
+        self.calls_are("build", "lib", "all", "run")
 
     def test_where_the_kit_lacks_what_builds_without_a_proof_it_is_proved(self):
         shutil.copy(TOP / "build.py", self.room / "build.py")
         told = self.settles()
         self.says("this kit has other tools", told)
         self.says("and is proved first", told)
-        self.calls_are("lib", "run")
+        self.calls_are("lib", "all", "run")
 
     def test_status_4_and_no_proof_where_the_sources_are_refused(self):
         ran = self.launch("settle", REFUSES="3")
@@ -144,12 +152,19 @@ class Launcher(Trial):
             self.ended(self.launch("serve", "--disk", "no file", path=path), err=["icserve: device"], status=3)
 
     def test_status_4_where_what_it_is_made_from_isnt_proved(self):
-        for fails, name in (("lib", "low"), ("run", "icserve")):
+        for fails, crates in (("all", "low: failed (1)\n0 of 2 crates ok\n"), ("run", "2 of 2 crates ok\n")):
             ran = self.launch("settle", FAILS=fails, REFUSES="1")
             self.ended(ran._replace(err=b""), status=4)
-            told = f"icserve: {name} could not be proved and built; see {self.room}/crates/{name}/out/build.log\n".encode()
-            self.equals(ran.command, f"whether it told {told}; it told {ran.err}", True, told in ran.err)
+            log = self.room / "crates/icserve/out/build.log"
+            self.says(f"{crates}icserve: it could not be proved and built; see {log}\n", ran.err.decode())
         self.settles()
+
+    def test_what_the_prover_keeps_of_a_crate_stays_where_there_was_some_or_it_isnt_proved(self):
+        kept = self.room / "crates/low/out/incremental"
+        for fails, stays in (("", False), ("all", True), ("", True), ("lib", True)):
+            self.launch("settle", FAILS=fails, REFUSES="1", ICSERVE_BUILD="proved")
+            self.equals(f"./icserve, where the prover fails: {fails}", f"whether {kept} is there", stays, kept.exists())
+            (self.room / "crates/icserve/out/sources").unlink(missing_ok=True)
 
     def test_status_4_where_make_is_wanting_for_a_proof(self):
         (self.tools / "make").unlink()
@@ -158,21 +173,27 @@ class Launcher(Trial):
         self.settles()
 
     def test_two_launches_build_once(self):
-        """The build goes on until two launches have said that they wait for it."""
+        """The build goes on until two launches have said that they wait for it. What one of them runs then holds up no other."""
         env = {**self.env, "UNTIL": str(self.room / "all wait")}
         errors = [open(self.room / f"errors {i}", "w+b") for i in range(3)]
         self.addCleanup(lambda: [it.close() for it in errors])
-        pipes = {"stdin": subprocess.DEVNULL, "stdout": subprocess.DEVNULL}
-        started = [subprocess.Popen([self.room / "icserve", "--version"], env=env, stderr=it, **pipes) for it in errors]
+        pipes = {"stdin": subprocess.PIPE, "stdout": subprocess.PIPE, "bufsize": 0}
+        words = [[self.room / "icserve", "serve", "--disk", self.disk(f"{i}.disk")] for i in range(3)]
+        started = [subprocess.Popen(it, env=env, stderr=err, **pipes) for it, err in zip(words, errors)]
+        self.addCleanup(lambda: [it.kill() for it in started])
         told = lambda: [(self.room / f"errors {i}").read_bytes() for i in range(3)]
         end = time.monotonic() + PATIENCE
         while sum(b"waiting for another launch" in it for it in told()) < 2 and time.monotonic() < end:
             time.sleep(0.05)
         (self.room / "all wait").write_text("")
-        ends = [it.wait(PATIENCE) for it in started]
+        for it in started:
+            it.stdin.write(b"list\n")
+        answers = [it.stdout.readline() if select.select([it.stdout], [], [], PATIENCE)[0] else b"" for it in started]
+        self.equals("three launches of a server", "what they answer", [b"jobs\n"] * 3, answers)
         waiting = sum(b"waiting for another launch" in it for it in told())
-        self.equals("three launches", f"ends, and how many waited; told {told()}", ([0, 0, 0], 2), (ends, waiting))
         self.calls_are("build")
+        ends = [it.communicate(timeout=PATIENCE) and it.returncode for it in started]
+        self.equals("three launches", f"ends, and how many waited; told {told()}", ([0, 0, 0], 2), (ends, waiting))
 
     def interrupted(self, rooms, seen, **variables):
         """Sends each signal to a launch once its build has made what is to be seen: it ends and leaves no rooms."""
@@ -182,7 +203,7 @@ class Launcher(Trial):
             started = subprocess.Popen([self.room / "icserve", "settle"], env=env, preexec_fn=heeds_signals, **pipes)
             self.addCleanup(started.kill)
             end = time.monotonic() + PATIENCE
-            while not self.calls.read_text() and started.poll() is None and time.monotonic() < end:
+            while not (self.calls.read_text() and seen.exists()) and started.poll() is None and time.monotonic() < end:
                 time.sleep(0.02)
             what = f"./icserve settle {variables}, {sign!r} while it builds"
             self.equals(what, f"whether {seen} is there", True, seen.exists())
@@ -198,9 +219,9 @@ class Launcher(Trial):
 
     def test_a_proof_that_is_interrupted_ends_with_its_launch_and_is_begun_anew(self):
         rooms = self.room / "crates/icserve/out/rooms"
-        self.interrupted(rooms, rooms / "low", ICSERVE_BUILD="proved")
+        self.interrupted(rooms, self.room / "crates/icserve/out/build.log", ICSERVE_BUILD="proved")
         self.make("prove")
-        self.calls_are("lib", "run")
+        self.calls_are("lib", "all", "run")
 
 
 class FirstCommands(Trial):
