@@ -17,9 +17,8 @@ trials: # tries the program that ./icserve runs
 	ICSERVE=$$(ICSERVE_BUILD=found ./icserve) python3 trials
 install: # puts the program into PREFIX/bin (if not said ~/.local/bin): the proved one where it is there
 	install -vD "$$(ICSERVE_BUILD=found ./icserve)" "$(DESTDIR)$(patsubst ~/%,$(HOME)/%,$(PREFIX))/bin/icserve"
-bench: # times the program by another one that is given its path: BENCH=..
-	[ -x "$(BENCH)" ] || { echo 'make bench: say BENCH=.., the path of a program that times the one it is given' >&2; exit 1; }
-	"$(BENCH)" "$$(ICSERVE_BUILD=found ./icserve)"
+bench: # times the program on the systems of docs/speed.md; WITH=.. hands on words, of which WITH=--help tells
+	python3 bench "$$(ICSERVE_BUILD=found ./icserve)" $(WITH)
 clean: # removes what was built, and what is kept of proofs
 	rm -rf out crates/*/out
 

@@ -1,0 +1,99 @@
+"""Times programs on the systems of docs/speed.md, each from its start to its end: the median of some runs, in turn."""
+
+import argparse
+import os
+import re
+import shutil
+import statistics
+import subprocess
+import sys
+import tempfile
+import time
+from pathlib import Path
+
+from systems import rows
+
+IN_MEMORY = "/dev/shm" if os.access("/dev/shm", os.W_OK) else None
+
+
+class Bench:
+    """Runs programs on a row, in folders of its own: one in memory, where there is one, and one on a disk."""
+
+    def __init__(self, memory, disk):
+        self.given, self.out, self.err = (f"{memory}/{it}" for it in ("given", "out", "err"))
+        self.disks = {False: f"{memory}/jobs.disk", True: f"{disk}/jobs.disk"}
+
+    def run(self, command, given):
+        """How long a run took, and its status."""
+        files = [(os.POSIX_SPAWN_OPEN, 0, given, os.O_RDONLY, 0)]
+        files += [(os.POSIX_SPAWN_OPEN, i, it, os.O_WRONLY | os.O_CREAT | os.O_TRUNC, 0o600) for i, it in ((1, self.out), (2, self.err))]
+        began = time.perf_counter()
+        _, status = os.waitpid(os.posix_spawnp(command[0], command, os.environ, file_actions=files), 0)
+        return time.perf_counter() - began, status
+
+    def tried(self, program, row, before=()):
+        """A run of a program on a row, over a new disk if it serves: how long it took, its status, and what it wrote."""
+        words, disk = row.words, self.disks[row.keeps]
+        Path(self.given).write_text(row.given)
+        if words[0] == "serve":
+            Path(disk).unlink(missing_ok=True)
+            self.run([program, "create", "--disk", disk], os.devnull)
+            words = ["serve", "--disk", disk, *words[1:]]
+        took, status = self.run([*before, program, *words], self.given)
+        return took, status, Path(self.out).read_bytes()
+
+    def instructions(self, program, row):
+        """How many instructions valgrind counts."""
+        self.tried(program, row, ["valgrind", "--tool=cachegrind", "--cache-sim=no", "--cachegrind-out-file=/dev/null"])
+        told = re.search(r"I\s+refs:\s+([\d,]+)", Path(self.err).read_text(errors="replace"))
+        return int(told[1].replace(",", "")) if told else float("nan")
+
+    def interactions(self, program, row, out):
+        """The interactions that a program tells: of a serving by the rounds that it ran, else by `trace`."""
+        if row.words[0] == "serve":
+            return row.pairs * sum(int(it) for it in re.findall(rb"(?m)^ran (\d+)", out))
+        rounds = row.words[2] if row.words[0] == "reduce" else "1"
+        told = subprocess.run([program, "trace", "--rounds", rounds], input=row.given.encode(), stdout=subprocess.PIPE).stdout
+        return sum(int(it.split()[1]) for it in told.splitlines()[1:])
+
+
+def figures(bench, row, options):
+    """What a line of the table says of each program: a median of seconds, millions of instructions, and a rate."""
+    first = [bench.tried(it, row) for it in options.program]
+    took = [[bench.tried(it, row)[0] for it in options.program] for _ in range(options.times)]
+    count = bench.interactions(options.program[0], row, first[0][2]) if row.pairs else 0
+    for program, seconds, tried in zip(options.program, map(statistics.median, zip(*took)), first):
+        yield f"{seconds:.4f}"
+        if options.instructions:
+            yield f"{bench.instructions(program, row) / 1e6:.1f}"
+        yield f"{count / seconds:,.0f}" if count else "-"
+        if tried[1:] != first[0][1:]:
+            yield "answers otherwise"
+
+
+def as_line(what, cells):
+    return f"{what:52}{''.join(f'{it:>19}' for it in cells)}"
+
+
+def main():
+    parser = argparse.ArgumentParser(prog="bench", description=__doc__)
+    parser.add_argument("program", nargs="+", help="the paths of programs: the first tells how many interactions there are")
+    parser.add_argument("--times", type=int, default=7, help="runs of each program (7 if not said), after one that isn't counted")
+    parser.add_argument("--size", type=float, default=1, help="takes each number of a system times this (1 if not said)")
+    parser.add_argument("--only", default="", metavar="WORD", help="takes only rows that have this word")
+    parser.add_argument("--instructions", action="store_true", help="has valgrind count instructions, which takes long")
+    options = parser.parse_intermixed_args()
+    if options.instructions and not shutil.which("valgrind"):
+        parser.error("valgrind isn't installed: apt install valgrind")
+    heads = ["seconds", *["M instructions"] * options.instructions, "interactions/s"]
+    for at, program in enumerate(options.program, 1):
+        print(f"{at}: {program}")
+    print(as_line("", [f"{at}: {it}" for at in range(1, len(options.program) + 1) for it in heads]))
+    with tempfile.TemporaryDirectory(dir=IN_MEMORY) as memory, tempfile.TemporaryDirectory() as disk:
+        for row in rows(options.size):
+            if options.only in row.what:
+                print(as_line(row.what, figures(Bench(memory, disk), row, options)), flush=True)
+
+
+if __name__ == "__main__":
+    sys.exit(main())

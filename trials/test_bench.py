@@ -1,0 +1,48 @@
+"""`make bench` times the program on each of its systems: here on tiny ones."""
+
+import os
+import re
+import shutil
+import subprocess
+import sys
+
+from program import PROGRAM, TOP, Trial
+
+sys.path.insert(0, str(TOP / "bench"))
+
+from systems import rows  # noqa: E402
+
+
+class Bench(Trial):
+    seconds = 5
+
+    def setUp(self):
+        """A copy whose launcher tells the program that is tried."""
+        super().setUp()
+        shutil.copy(TOP / "Makefile", self.room / "Makefile")
+        shutil.copytree(TOP / "bench", self.room / "bench", ignore=shutil.ignore_patterns("__pycache__"))
+        (self.room / "icserve").write_text(f"#!/bin/sh\necho '{PROGRAM}'\n")
+        (self.room / "icserve").chmod(0o755)
+        if not os.access(self.room / "icserve", os.X_OK):
+            self.skipTest("programs in a trial's folder can't be started here")
+
+    def figures(self, words):
+        """What `make bench` prints with these words: what each row is, with its figures."""
+        command = ["make", "-s", "bench", f"WITH={words}"]
+        ran = subprocess.run(command, cwd=self.room, stdin=subprocess.DEVNULL, capture_output=True, text=True, timeout=120)
+        self.equals(" ".join(command), "status and standard error", (0, ""), (ran.returncode, ran.stderr))
+        return [re.split(r" {2,}", it.strip()) for it in ran.stdout.splitlines() if re.match(r"[a-z]+: ", it)]
+
+    def test_each_row_is_printed_with_its_seconds_and_the_interactions_that_are_told(self):
+        found = self.figures("--size 0.01 --times 1")
+        self.equals("make bench", "the rows", [it.what for it in rows(0.01)], [it[0] for it in found])
+        for row, (what, seconds, rate) in zip(rows(0.01), found):
+            self.equals(what, "whether it tells seconds", True, float(seconds) > 0)
+            self.equals(what, "whether it tells interactions", row.pairs > 0, rate != "-")
+
+    def test_another_program_stands_beside_and_one_that_answers_otherwise_is_told(self):
+        for other, more in ((PROGRAM, []), (shutil.which("true"), ["answers otherwise"])):
+            (found,) = self.figures(f"--size 0.01 --times 1 --only once {other}")
+            self.equals(other, "how many figures there are", 5 + len(more), len(found))
+            self.equals(other, "what stands after them", more, found[5:])
+            self.equals(other, "whether the program tells interactions", False, found[2] == "-")
