@@ -1,0 +1,81 @@
+"""`./gate` sums its parts, tells how long each proof took, and tells at its end what has failed. Scripts stand for its parts, so
+nothing is proved or tried here."""
+
+import os
+import re
+import shutil
+import subprocess
+import time
+
+from program import TOP, Trial
+
+# Stands for `rt`: proves a library in a copy, and then the program here, and says what the variables have it say.
+RT = """#!/bin/sh
+echo "$*, $RT_JOBS" >>"$CALLS"
+out=$TMPDIR/rt-copy-$$-x/repo/crates/ic_low/out last='2 passed, 0 failed (alone)'
+[ -n "$2" ] || out=crates/icserve/out last='7 passed, 0 failed'
+mkdir -p $out
+sleep 1.2
+[ -z "$2" ] && [ -n "$FAILS" ] && last='6 passed, 1 failed' &&
+    printf '== icserve\\n./src/main.rt:3:1: error: a type\\nfn main: not proved\\nrt: icserve NOT PROVED\\nrt: FAILED: icserve\\n'
+if [ -n "$2" ]; then echo "rt: ic_low proved"; elif [ -z "$FAILS" ]; then echo "rt: icserve proved"; fi
+echo "$last"
+[ "$last" != '6 passed, 1 failed' ]
+"""
+
+# Stands for the trials: one fails where the program isn't said to be proved of its sources.
+TRIALS = """import os, sys
+told = open("crates/icserve/out/sources").read() if os.path.exists("crates/icserve/out/sources") else ""
+print(f"trials: SEED={os.environ['SEED']}")
+print("trials: test_a.A.test_b: " + ("ok, 0.1 s" if told else "FAILED, 0.1 s: Traceback"))
+print("1 passed, 0 failed" if told else "0 passed, 1 failed")
+sys.exit(not told)
+"""
+
+LAYOUT = "print('docs/a.md:3: a sentence of 41 words')\nprint('layout: sentences are short: FAILED')\nprint('8 passed, 1 failed')\n"
+
+
+class Gate(Trial):
+    def setUp(self):
+        super().setUp()
+        for name in ("gate", "icserve"):
+            shutil.copy(TOP / name, self.room / name)
+        files = {"crates.txt": "icserve:\n", "tools/rt": RT, "trials/__main__.py": TRIALS, "checks/layout.py": "print('9 passed, 0 failed')\n"}
+        for part in ("src", "specs", "proofs"):
+            files[f"crates/icserve/{part}/file"] = "text\n"
+        for path, text in files.items():
+            (self.room / path).parent.mkdir(parents=True, exist_ok=True)
+            (self.room / path).write_text(text)
+        (self.room / "tools/rt").chmod(0o755)
+        if not os.access(self.room / "tools/rt", os.X_OK):
+            self.skipTest("programs in a trial's folder can't be started here")
+
+    def gate(self, status, **variables):
+        """Runs the gate, which must end so: its lines."""
+        env = {**os.environ, "PATH": f"{self.room}/tools:{os.environ['PATH']}", "TMPDIR": str(self.room), "CALLS": f"{self.room}/calls"}
+        for name in ("SEED", "RT_JOBS"):
+            env.pop(name, None)
+        ran = subprocess.run([self.room / "gate"], cwd="/", env={**env, **variables}, capture_output=True, text=True, timeout=60)
+        self.equals("./gate", f"status; it said {ran.stdout}{ran.stderr}", status, ran.returncode)
+        return ran.stdout.splitlines()
+
+    def test_it_sums_its_parts_and_tells_how_long_each_proof_took(self):
+        before = time.monotonic()
+        lines = self.gate(0)
+        took = time.monotonic() - before
+        self.equals("./gate", "its last line", "17 passed, 0 failed", lines[-1])
+        self.equals("./gate", f"whether the trials draw by one seed: {lines}", True, "trials: SEED=1" in lines)
+        for name in ("ic_low", "icserve"):
+            seconds = [int(it[1]) for it in (re.fullmatch(rf"gate: +(\d+) s  {name}", line) for line in lines) if it]
+            self.equals("./gate", f"how often it tells {name}: {lines}", 1, len(seconds))
+            is_told = int(subprocess.check_output(["stat", "-c", "%W", self.room])) > 0
+            self.equals("./gate", f"whether {name} took some of {took} seconds: {lines}", is_told, 1 <= seconds[0] <= took)
+        processors = len(os.sched_getaffinity(0))
+        self.holds(self.room / "calls", f"ci ic_flat_round, \nci, {processors}\n")
+
+    def test_what_has_failed_is_told_last(self):
+        (self.room / "checks/layout.py").write_text(LAYOUT)
+        lines = self.gate(1, FAILS="yes")
+        wanted = ["docs/a.md:3: a sentence of 41 words", "layout: sentences are short: FAILED", "./src/main.rt:3:1: error: a type"]
+        wanted += ["fn main: not proved", "rt: icserve NOT PROVED", "rt: FAILED: icserve", "trials: test_a.A.test_b: FAILED, 0.1 s: Traceback"]
+        self.equals("./gate", "its last lines", [*(f"once more: {it}" for it in wanted), "14 passed, 3 failed"], lines[-8:])
