@@ -104,6 +104,10 @@ class Engine:
                 kill(it)
         self.process.wait()
 
+    def programs(self):
+        """The words of the programs that run in its session."""
+        return [words for _, _, words in started_by(self.process.pid) if words[0] == PROGRAM.encode()]
+
     def left(self):
         """What still runs in its session."""
         return list(started_by(self.process.pid))

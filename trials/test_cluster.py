@@ -3,7 +3,7 @@
 import os
 
 from known import LOOP, TWO
-from program import IN_MEMORY, Server
+from program import IN_MEMORY, Server, grows_to
 from shards import Shards
 
 LOOPING = f"submit loop {LOOP.text}"
@@ -104,6 +104,15 @@ class Scripts(Shards):
         ran = self.script("cut", "jobs.txt", "new")
         self.equals(ran.command, f"the place in {ran.err}", True, ran.err.startswith(b"jobs.txt:69:21: bad name r: "))
         self.cut(lines[:-1])
+
+    def test_a_cut_whose_device_is_full_leaves_nothing(self):
+        lines = [f"submit a{it} {{}} <|>" for it in range(100)]
+        (self.room / "jobs.txt").write_text("".join(f"{it}\n" for it in lines))
+        for most in (0, 100, 1000, 2000):
+            ran = self.script("cut", "--jobs", 30, "jobs.txt", "new", **grows_to(most))
+            self.equals(ran.command, f"status with {most} bytes a file; it said {ran.err}", 4, ran.status)
+            self.is_left("jobs.txt")
+        self.cut(lines, 30)
 
     def test_answers_that_are_missing_or_not_whole_are_not_gathered(self):
         folder = self.cut([f"submit a{it} {{}} <|>" for it in range(5)], 2)

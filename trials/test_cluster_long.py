@@ -66,23 +66,34 @@ class Parallel(Thousand):
         self.gathers(self.lines, MOST_ROUNDS)
 
     def test_1000_jobs_whose_shells_are_killed_and_whose_programs_run_on(self):
+        """Meanwhile their shards are refused, and another engine goes on with the others. It is killed once they have ended, so that
+        each turn begins in the midst."""
         self.cut_thousand()
         draw = self.draws("kills")
         begun = lambda: self.parallel(of_shards=["--every", 10])
-        orphans = 0
-        for share in (5, 15, 30):
+        orphans = refused = 0
+        for share in (5, 15, 25):
             with begun() as engine:
                 self.waits_for(lambda: engine.ended() is not None or self.answered() >= share)
                 time.sleep(draw.random())
+                self.waits_for(lambda: engine.ended() is not None or engine.programs())
                 engine.kill_shells()
-                orphans += len(engine.left())
-                with begun() as second:
-                    status, _ = second.end(10 * PATIENCE)
-                    self.equals(second.command, "whether it is refused or ends well", True, status is not None)
-                self.waits_for(lambda: not engine.left(), told=engine.left)
+                programs = engine.programs()
+                orphans += len(programs)
+                refused += sum(self.is_refused(os.path.dirname(words[-2].decode())) for words in programs)
+                with begun():
+                    self.waits_for(lambda: not engine.left(), told=engine.left)
         self.equals("40 shards", f"at least three programs that ran on: {orphans}", True, orphans >= 3)
+        self.equals("40 shards", f"at least two that were refused meanwhile: {refused}", True, refused >= 2)
         self.ends_well(begun)
         self.gathers(self.lines, MOST_ROUNDS)
+
+    def is_refused(self, shard):
+        """Whether a shard is refused, since its program runs still. Else it has ended, and the shard is run again."""
+        ran = self.script("shard", shard, "--every", 10)
+        if ran.status not in (0, 6):
+            self.told(ran.command, f"status; it said {ran.err}", "0 or 6", ran.status)
+        return ran.status == 6
 
     def test_1000_jobs_over_two_hosts_killed_at_ten_moments(self):
         """The hosts are two servers of ssh on ports of their own, which share the trial's folder."""
