@@ -40,7 +40,7 @@ class Check(Trial):
         return ran.out.decode()
 
     def test_each_row(self):
-        texts = [expanded(text) for where in ("ic_rows", "texts") for _, _, text, _ in rows(where, *CONFIGS, *SYSTEMS)]
+        texts = [expanded(text) for _, _, text, _ in rows("texts", *CONFIGS, *SYSTEMS)]
         files = self.put(*texts)
         for at in range(0, len(files), 50):
             self.tells(files[at : at + 50])

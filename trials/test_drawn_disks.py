@@ -11,6 +11,7 @@ from test_drawn_rounds import ADDITION, LOOP
 from test_drawn_serving import job_names, session, small_systems
 
 TWO = f"submit two {ADDITION}<r|Add(r,S(Z))=S(Z)>"
+SPENT = TWO.replace("two ", "two 1 ", 1)
 QUESTIONS = ["list", "fetch two", f"submit loop {LOOP}<|A(x)=B(x)>", "run 3", "list"]
 
 
@@ -222,6 +223,10 @@ class DrawnDisks(ModelTrial):
         disk = self.kept(TWO, "run 10")
         self.changed(bytes(disk.content), range(HEAD + 114), self.draws(), 3)
 
+    def test_one_byte_of_a_spent_table_changed(self):
+        disk = self.kept(SPENT, "run 10")
+        self.changed(bytes(disk.content), range(HEAD + 134), self.draws(), 3)
+
     def test_each_value_of_some_bytes(self):
         drawn = self.draws()
         disk = self.kept(TWO)
@@ -230,7 +235,7 @@ class DrawnDisks(ModelTrial):
         self.changed(bytes(disk.content), [SECOND_SLOT + 12, drawn.choice(body)], drawn, 100)
 
     def test_each_front_of_a_table(self):
-        for lines in ([TWO], [TWO, "run 10"], [TWO, "pause two", f"submit loop {LOOP}<|A(x)=B(x)>"]):
+        for lines in ([TWO], [TWO, "run 10"], [SPENT, "run 1"], [TWO, "pause two", f"submit loop {LOOP}<|A(x)=B(x)>"]):
             disk = self.kept(*lines)
             for form in (model_disk.encode(disk.open(), it) for it in (FORM, OLD_FORM)):
                 for length in range(len(form) + 1):

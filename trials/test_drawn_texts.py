@@ -5,13 +5,12 @@ import model
 from against_model import ModelTrial
 from worked_rows import short_texts
 
-SYSTEMS = [*short_texts("ic_rows", "system"), *short_texts("texts", "once")]
+SYSTEMS = short_texts("texts", "system", "once")
 CONFIGS = [
-    *short_texts("ic_rows", "config"),
-    *short_texts("texts", "settle"),
+    *short_texts("texts", "config", "settle"),
     *short_texts("ic_round_rows", "both_bodies"),
 ]
-LINES = short_texts("ic_job_rows", "line")
+LINES = short_texts("commands", "line")
 
 
 def nested(depth, closed=True):

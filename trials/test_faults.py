@@ -230,6 +230,38 @@ class Faults(Stops):
             self.are(50, self.served(lines, ("once", "on", "done", "half"), "disk", (4, "device"), (3, "device")))
         self.have_come((4, "device"), (3, "device"))
 
+    def test_a_disk_that_takes_and_gives_a_byte_at_a_time(self):
+        """All goes as on another one, and leaves the same file."""
+        disks = [self.room / name for name in ("slow.disk", "jobs.disk")]
+        for disk, how in zip(disks, ({"env": shimmed("disk 1 short")}, {})):
+            self.runs("create", "--disk", disk, **how)
+            self.serves(disk, LOOPING, [it for it in self.answers_to(LOOPING, 100) if it], **how)
+        self.holds(disks[0], disks[1].read_bytes())
+
+    def test_no_call_is_made_on_the_disk_after_one_that_failed(self):
+        """Neither a write nor a sync: after a sync that failed the file would take the next one."""
+        disk, script = self.room / "jobs.disk", self.room / "script"
+        script.write_text("".join(f"{it}\n" for it in LOOPING if not it.startswith("run")))
+
+        def attempt(words, env, call):
+            put(disk, slot(1, EMPTY))
+            ran = run(*words, given=LOOPING, env=env)
+            calls = [it.kind for it in noted(self.log)]
+            behind = calls[calls.index("E") + 1 :] if "E" in calls else []
+            self.equals(ran.command, f"writes and syncs after it went wrong: {call}", [], [it for it in behind if it in "WS"])
+
+        for words in (["create", "--overwrite"], ["serve"], ["attend", "--runners", 0, script]):
+            self.are(10, self.in_turn("disk", ["once"], lambda *it, words=words: attempt([*words, "--disk", disk], *it)))
+
+    def test_create_syncs_a_new_file_and_its_folder_before_it_writes(self):
+        """One sync more than where the file is there: that of the folder, whatever the path is."""
+        (self.room / "a").mkdir()
+        for path in ("one.disk", "a/two.disk", "./a/../three.disk", self.room / "a/four.disk"):
+            for words, wanted in (["create"], 3), (["create", "--overwrite"], 2), (["serve"], 2):
+                ran = run(*words, "--disk", path, given="", cwd=self.room, env=shimmed(log=self.log))
+                calls = "".join(it.kind for it in noted(self.log) if it.kind in "WS")
+                self.equals(ran.command, f"syncs before the first write, of {calls}", wanted, len(calls.partition("W")[0]))
+
     def test_each_read_of_a_serving_fails_in_turn(self):
         self.are(len(LOOPING) + 1, self.served(LOOPING, ("once", "on"), "read", (4, "read")))
         self.served(LOOPING, ("interrupt", "short"), "read", may_go_well=True)

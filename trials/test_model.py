@@ -104,7 +104,7 @@ class TheModelAnswersTheRows(Trial):
 
     def test_of_texts(self):
         reads = {"config": model.read_configuration, "system": model.read_system}
-        self.answers(lambda kind, text: printed_or_fault(reads[kind], expanded(text)), "ic_rows", "config", "system")
+        self.answers(lambda kind, text: printed_or_fault(reads[kind], expanded(text)), "texts", "config", "system")
 
     def test_of_rounds(self):
         def answer(kind, text):
@@ -114,7 +114,7 @@ class TheModelAnswersTheRows(Trial):
         self.answers(answer, "ic_round_rows", "rounds", "ends")
 
     def test_of_lines(self):
-        self.answers(lambda _, text: line_told(expanded(text)), "ic_job_rows", "line")
+        self.answers(lambda _, text: line_told(expanded(text)), "commands", "line")
 
     def test_of_served_lines(self):
         self.answers(lambda _, text: served(text)[0], "lines", "serve", "again")
@@ -128,9 +128,12 @@ class TheModelAnswersTheRows(Trial):
                 commands = model_disk.read_script(expanded(text).replace(b"/", b"\n"))
             except Fault as fault:
                 return str(fault).replace(":", "")
-            return " ; ".join(map(asked_told, commands)) or "nothing"
+            disk = model_disk.Disk()
+            disk.create()
+            server = model_disk.Server(disk)
+            return " ; ".join(server.command(*it) for it in commands) or "nothing"
 
-        self.answers(answer, "ic_job_rows", "read_script")
+        self.answers(answer, "commands", "script")
 
     def test_of_byte_forms(self):
         def answer(_, text):
@@ -138,7 +141,7 @@ class TheModelAnswersTheRows(Trial):
             table = model_disk.decode(form)
             return "not a table" if table is None else table.apply("list")
 
-        self.answers(answer, "ic_job_rows", "bytes")
+        self.answers(answer, "forms", "bytes")
 
 
 if __name__ == "__main__":

@@ -18,12 +18,11 @@ SYSTEMS = ("system", "once", "system_place", "once_told")
 
 
 def rows_of(*kinds):
-    """The rows of these kinds, be they answered by a program of rows or by the built program."""
-    return [it for where in ("ic_rows", "texts") for it in rows(where, *kinds)]
+    return rows("texts", *kinds)
 
 
 def short_texts_of(*kinds):
-    return [it for where in ("ic_rows", "texts") for it in short_texts(where, *kinds)]
+    return short_texts("texts", *kinds)
 
 
 def near(drawn, most):

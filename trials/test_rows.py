@@ -2,8 +2,12 @@
 those of `draw` in test_draw.py.
 
 - `settle TEXT`, `once TEXT`: the line that is printed, or the fault. `settle_told`, `once_told`: what is told of its place.
+- `config TEXT`, `system TEXT`: the configuration as it is read, or the fault. `config_place`, `system_place`: the fault and the byte
+  at which it stands. `byte TEXT`: in the place of `?`, the bytes that are dropped, as blanks are, and those that stand in the text
+  that is printed; with all others the text is refused as none. `system_byte`: those with which a text means a system of nothing.
 - `checked TEXT`: what `check` tells of a file F with this text, and whether it has a fault. `sizes TEXT`: bytes and lines of a graph.
 - `alike N TEXT`: how a system ends after at most N rounds, by 1, 2, 7 and 64 workers.
+- `words WORDS ~ PART`: whether words after the program's name are refused or answered by a help, and whether this part stands there.
 - `serve WORKERS EVERY LINES`: what lines with ` ; ` between them are answered on a new disk, by so many workers, with a keep
   after each so many rounds. `slow`: the same, where each read and write takes one byte.
 - `stream WORKERS EVERY TEXT`: what is written for a text as it stands. `times COUNT LINE`: the answer that a line has so many times.
@@ -12,12 +16,20 @@ those of `draw` in test_draw.py.
 - `worn WORKERS EVERY LINES`, or `LINES + LINES`: lines on a disk whose numbers are used up, as the first lines have left it.
 - `newest WORKERS EVERY LINES`: the number of the newest slot after the lines."""
 
+import os
+
 from disks import EMPTY, SECOND, newest, put, slot
 from program import IN_MEMORY, Trial, run
 from shim import shimmed
 from worked_rows import expanded, rows
 
 LAST_NUMBER = 2**64 - 1
+
+# Which word of the program reads which kind of text.
+WORDS = {"config": "settle", "system": "once"}
+
+# A text of more bytes doesn't stand in a line.
+MOST_IN_A_LINE = 262_000
 
 
 def lines_of(text):
@@ -47,6 +59,62 @@ class Texts(Trial):
             with self.subTest(name=name, kind=kind):
                 ran = run(kind.removesuffix("_told"), given=expanded(text))
                 self.agrees(ran.command, "what is told after the first line", answer, ran.behind or b"nothing")
+
+    def test_each_row_that_is_read(self):
+        for name, kind, text, answer in rows("texts", "config", "system"):
+            with self.subTest(name=name, kind=kind):
+                text = expanded(text)
+                if answer.startswith(b"bad") or len(text) > MOST_IN_A_LINE:
+                    self.agrees(text, "the fault, or the text", answer, self.printed(kind, text))
+                else:
+                    self.agrees(text, "the text", answer, self.shown(kind, text)[0])
+
+    def printed(self, kind, text):
+        """The line of a text that is settled, or makes a round; or its fault."""
+        ran = run(WORDS[kind], given=text)
+        return (ran.out + ran.err).removeprefix(b"icserve: ").rstrip(b"\n")
+
+    def shown(self, kind, *texts):
+        """The configurations of texts as they are shown of jobs, or the faults. A line feed is given as a space."""
+        before = b"{}" if kind == "config" else b""
+        lines = [it for text in texts for it in (b"submit a " + before + text.replace(b"\n", b" "), b"fetch a", b"cancel a")]
+        disk = self.room / "jobs.disk"
+        put(disk, slot(1, EMPTY))
+        answers = run("serve", "--disk", disk, given=lines).out.splitlines()
+        pairs = zip(answers[::3], answers[1::3])
+        return [second.split(b" ", 3)[3] if first == b"accepted" else first for first, second in pairs]
+
+    def test_each_row_of_bytes(self):
+        """A line feed ends a line of a serving, so a text with one is given by itself."""
+        for name, kind, text, answer in rows("texts", "byte", "system_byte"):
+            with self.subTest(name=name, kind=kind):
+                read, text = {"byte": "config", "system_byte": "system"}[kind], expanded(text)
+                texts = [text.replace(b"?", bytes([it])) for it in range(256)]
+                # In front of rules digits would be a budget.
+                told = self.shown(read, *texts) if kind == "byte" else [self.printed(read, it) for it in texts]
+                told[10] = self.printed(read, texts[10])
+                without, dropped, kept = self.printed(read, text.replace(b"?", b"")), bytearray(), bytearray()
+                for byte, (whole, line) in enumerate(zip(texts, told)):
+                    fate = kept if line == whole else dropped if line == without else None
+                    if fate is None:
+                        self.agrees(whole, "the fault", "bad syntax", line)
+                    else:
+                        fate.append(byte)
+                self.agrees(text, "the bytes", answer, dropped + (b" " + kept if kind == "byte" else b""))
+
+    def test_each_row_of_a_place(self):
+        """Where a text ends too early, the place behind its last word is told."""
+        for name, kind, text, answer in rows("texts", "config_place", "system_place"):
+            with self.subTest(name=name, kind=kind):
+                text = expanded(text)
+                ran = run(WORDS[kind.removesuffix("_place")], given=text)
+                fault, _, at = answer.partition(b" at ")
+                if at:
+                    place = len(text.rstrip()) if int(at) == len(text) else int(at)
+                    line = text[:place].count(b"\n") + 1
+                    wanted = b"line %d, column %d" % (line, place - text.rfind(b"\n", 0, place))
+                    self.agrees(ran.command, "the place", wanted, ran.behind.split(b"\n")[0])
+                self.agrees(ran.command, "the fault", fault.replace(b"none", b""), ran.err.removeprefix(b"icserve: ").rstrip())
 
     def test_each_row_that_is_checked(self):
         for name, _, text, answer in rows("texts", "checked"):
@@ -80,6 +148,20 @@ class Texts(Trial):
         rounds = next(it for it in range(most + 1) if run("reduce", "--rounds", it, given=text).status == 0)
         stuck = ran.err.removeprefix(b"icserve:").rstrip()
         return b"done %d" % rounds + stuck
+
+
+class Words(Trial):
+    rooms = IN_MEMORY
+
+    def test_each_row_of_words(self):
+        for name, _, text, answer in rows("words", "words"):
+            words, _, part = text.partition(" ~ ")
+            with self.subTest(name=name, words=words):
+                ran = run(*words.split(), cwd=self.room)
+                how, told = {0: ("help", ran.out), 2: ("refused", ran.err)}.get(ran.status, ("", b""))
+                came = f"{how} {'with' if part.encode() in told else 'without'} it"
+                self.agrees(ran.command, f"how it ends, and whether {part} is told", answer, came)
+                self.equals(ran.command, "the files that it made", [], os.listdir(self.room))
 
 
 class Lines(Trial):

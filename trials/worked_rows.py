@@ -13,6 +13,9 @@ def expanded(text):
         repeat, found, rest = part.partition("]")
         if found:
             count, _, piece = repeat.partition(" ")
+            if "#" not in piece and "^" not in piece:
+                parts.append(piece * int(count))
+                count = 0
             for time in range(1, int(count) + 1):
                 parts.append(piece.replace("#", str(time)).replace("^", str(time + 1)))
         else:
