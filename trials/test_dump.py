@@ -1,5 +1,7 @@
 """`dump`: jobs of a disk as lines that submit them."""
 
+from collections import Counter
+
 import draws
 import model
 from against_model import ModelTrial
@@ -19,11 +21,14 @@ def growing(pairs):
 
 
 def with_text_names(config):
-    """The configuration with names that may stand in a text: its own, or where one is too great numbered by first occurrence."""
+    """The configuration with names that may stand in a text: its own, or where one is too great numbered by first occurrence,
+    but for names that stand once: these are kept, and their numbers passed over."""
     names = model.names_of(config)
     if all(it < model.MAX_NAME for it in names):
         return config
-    number = {name: place for place, name in enumerate(dict.fromkeys(names))}
+    kept = {name for name, times in Counter(names).items() if times == 1 and name < model.MAX_NAME}
+    spare = [it for it in range(2 * len(names)) if it not in kept]
+    number = {name: name if name in kept else spare[place] for place, name in enumerate(dict.fromkeys(names))}
 
     def told(term):
         return tuple(number[it] if it >= 0 else it for it in term)
@@ -137,3 +142,15 @@ class Dump(ModelTrial):
         short = [it for it in table.jobs if len(line_of(it)) <= model.MAX_TEXT]
         self.dumps(disk, [it.name for it in short], short)
         self.read_again(model.Table(short))
+
+    def test_free_names_are_kept_beside_great_ones(self):
+        """Two jobs that differ in a free name, and one whose free names are the first numbers."""
+        disk = self.new_disk()
+        rules = "{A(B(x))><B(A(x))}"
+        given = [("q", f"q|A({GREATEST})=B({GREATEST})"), ("r", f"r|A({GREATEST})=B({GREATEST})"), ("ba", f"b,a|A({GREATEST})=B({GREATEST})")]
+        self.serve(disk, [*(f"submit {name} {rules} <{text}>" for name, text in given), "run 6"])
+        rules = "{A(B(a))><B(A(a))}"
+        told = [("q", "q|B(b)=A(b)"), ("r", "r|B(b)=A(b)"), ("ba", "b,a|B(e)=A(e)")]
+        lines = [f"submit {name} {rules} <{text}>" for name, text in told]
+        self.runs("dump", "--disk", self.path, out=lines)
+        self.read_again(disk.open())

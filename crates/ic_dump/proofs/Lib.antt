@@ -1,6 +1,10 @@
 pub mod Places
 pub mod PrintLemmas
 pub mod RuleLemmas
+pub mod Occurring
+pub mod Spare
+pub mod ToldNames
+pub mod Numberings
 pub mod Numbered
 pub mod WordNames
 pub mod Dumps
@@ -13,6 +17,7 @@ pub mod Rules
 pub mod Sense
 pub mod Told
 pub mod Submitting
+pub mod FreeNames
 pub mod Filling
 pub mod Feeds
 pub mod Served

@@ -1,18 +1,20 @@
--- A configuration with its names numbered by first occurrence is one, and keeps its symbols.
-use Rattle.std.proofs.Common.{◌≡◌, ℕ, suc, ◌+◌, ◌<◌, ◌≤◌, ◌==◌, ◌||◌, ◌&&◌, Bool, true, false, cond, List, [], ◌∷◌, ◌++◌, length, map, slice_get, refl, sym, ap, ◌∙◌, subst, arith, length-append, one-add}
+-- A configuration whose names are turned into those that it is told by is one, and keeps its symbols.
+use Rattle.std.proofs.Common.{◌≡◌, ℕ, suc, ◌+◌, ◌<◌, ◌≤◌, ◌==◌, ◌&&◌, Bool, true, false, cond, List, [], ◌∷◌, ◌++◌, length, map, slice_get, refl, sym, ap, ◌∙◌, subst, arith, length-append}
 use Rattle.std.specs.Prelude.{sum_by}
 use Rattle.std.specs.Cmp.{unsigned_Decides}
-use Rattle.std.specs.List.{flat_map, list_all, list_any, AllByRecursion}
-use Rattle.std.proofs.lemmas.Bool.{false≢true}
+use Rattle.std.specs.List.{flat_map, list_all, AllByRecursion}
 use Rattle.std.proofs.lemmas.List.{length-map, map-append}
-use Rattle.std.proofs.lemmas.List.Sums.{sum_by-append, sum_by-cons}
+use Rattle.std.proofs.lemmas.List.Sums.{sum_by-cons}
 use Rattle.ic_term.specs.Symbol.{Symbol, has_arity, is_tree_over, are_trees_over, is_pair_over, is_over}
 use Rattle.ic_term.specs.Tree.{Tree, name, agent, Trees, no_trees, more_trees, Pair, list_of, names, names_of, nodes, nodes_of, pair_names, pair_nodes}
 use Rattle.ic_term.specs.Configuration.{Configuration, IsConfiguration, configuration_names, configuration_nodes, occurrences}
-use Rattle.ic_rules.specs.Renaming.{renamed, renamed_trees, first_behind, first_occurrences, number_among}
+use Rattle.ic_rules.specs.Renaming.{renamed, renamed_trees}
 use Rattle.ic_rules.specs.lemmas.RenamingLaws.{names-renamed, flat_names-renamed}
-use Rattle.ic_rules.specs.lemmas.NumberingLaws.{Undone, Among, each_among, each_undone, name_at}
-use Rattle.ic_dump.specs.Naming.{renamed_pair, renumbered}
+use Rattle.ic_rules.specs.lemmas.NumberingLaws.{Undone}
+use Rattle.ic_text.specs.declared.limits.TheConstants.{MAX_NAME}
+use Rattle.ic_dump.specs.Naming.{renamed_pair, renumbered, told_name}
+use Rattle.ic_dump.proofs.Occurring.{occurrences-cons}
+use Rattle.ic_dump.proofs.ToldNames.{all_low, named, told_undone}
 
 module _ (f : ℕ → ℕ) where
   -- ---- a term keeps its nodes and its symbols
@@ -72,30 +74,9 @@ module _ (f : ℕ → ℕ) where
 
 -- ---- numbers
 
-place_below : (n : ℕ) (firsts : List ℕ) → list_any (λ m. n == m) firsts ≡ true → number_among firsts n < length firsts
-place_below n [] there = absurd (false≢true there)
-place_below n (m ∷ ms) there = by_test (n == m) refl there (place_below n ms)
-  where
-    by_test : (b : Bool) → (n == m) ≡ b → (b || list_any (λ k. n == k) ms) ≡ true → (list_any (λ k. n == k) ms ≡ true → number_among ms n < length ms) → number_among (m ∷ ms) n < suc (length ms)
-    by_test true is e below = rw is (omega arith)
-    by_test false is e below = let rest : number_among ms n < length ms = below e in rw (is, one-add) (omega (arith, rest))
-
-pub numbers_below : (firsts ns : List ℕ) → Among firsts ns → AllByRecursion (λ n. n < length firsts) (map (number_among firsts) ns)
-numbers_below firsts [] all = tt
-numbers_below firsts (n ∷ ns) all = (place_below n firsts all.0, numbers_below firsts ns all.1)
-
-few_firsts : (ns seen : List ℕ) → length (first_behind seen ns) ≤ length seen + length ns
-few_firsts [] seen = omega arith
-few_firsts (n ∷ ns) seen = by_test (list_any (λ m. n == m) seen) (few_firsts ns seen) (few_firsts ns (seen ++ n ∷ []))
-  where
-    by_test : (b : Bool) → length (first_behind seen ns) ≤ length seen + length ns → length (first_behind (seen ++ n ∷ []) ns) ≤ length (seen ++ n ∷ []) + length ns
-        → length (cond b (first_behind seen ns) (first_behind (seen ++ n ∷ []) ns)) ≤ length seen + suc (length ns)
-    by_test true known new = omega (arith, known)
-    by_test false known new = omega (arith, new, length-append seen (n ∷ []))
-
--- there are no more first occurrences than names
-pub firsts_within : (ns : List ℕ) → length (first_occurrences ns) ≤ length ns
-firsts_within ns = omega (arith, few_firsts ns [])
+below : (ns : List ℕ) → AllByRecursion (λ n. n ≤ MAX_NAME) ns → AllByRecursion (λ n. n < MAX_NAME + 1) ns
+below [] all = tt
+below (n ∷ ns) all = (omega (arith, all.0), below ns all.1)
 
 -- ---- names are nodes
 mutual
@@ -122,10 +103,7 @@ all_names_within c =
 
 -- ---- no name stands more often than before
 
-occurrences-cons : (q n : ℕ) (ns : List ℕ) → occurrences q (n ∷ ns) ≡ cond (n == q) 1 0 + occurrences q ns
-occurrences-cons q n ns = sum_by-append (λ m. cond (m == q) 1 0) (n ∷ []) ns ∙ ap (λ k. k + occurrences q ns) (omega arith)
-
-no_more : (f back : ℕ → ℕ) (q : ℕ) (ns : List ℕ) → Undone f back ns → occurrences q (map f ns) ≤ occurrences (back q) ns
+pub no_more : (f back : ℕ → ℕ) (q : ℕ) (ns : List ℕ) → Undone f back ns → occurrences q (map f ns) ≤ occurrences (back q) ns
 no_more f back q [] undone = omega arith
 no_more f back q (n ∷ ns) undone =
     omega (arith, occurrences-cons q (f n) (map f ns), occurrences-cons (back q) n ns, one_more (f n == q) (n == back q) same, no_more f back q ns undone.1)
@@ -138,29 +116,30 @@ no_more f back q (n ∷ ns) undone =
     one_more false true to = omega arith
     one_more false false to = omega arith
 
-pub renumbered-names : (c : Configuration) → configuration_names (renumbered c) ≡ map (number_among (first_occurrences (configuration_names c))) (configuration_names c)
-renumbered-names c = all_names-renamed (number_among (first_occurrences (configuration_names c))) c.interface c.equations
+pub renumbered-names : (c : Configuration) → configuration_names (renumbered c) ≡ map (told_name (configuration_names c)) (configuration_names c)
+renumbered-names c = all_names-renamed (told_name (configuration_names c)) c.interface c.equations
+
+pub few_names : (c : Configuration) → IsConfiguration c → length (configuration_names c) ≤ 8192
+few_names c is = omega (arith, all_names_within c, is.nodes)
 
 pub renumbered-is : (c : Configuration) → IsConfiguration c → IsConfiguration (renumbered c)
 renumbered-is c is =
     let ns = configuration_names c in
-    let firsts = first_occurrences ns in
-    let f : ℕ → ℕ = number_among firsts in
+    let f : ℕ → ℕ = told_name ns in
     let same : configuration_names (renumbered c) ≡ map f ns = renumbered-names c in
     let count : configuration_nodes (renumbered c) ≡ configuration_nodes c = (λ i. interface_nodes f c.interface i + equations_nodes f c.equations i) in
-    let few : length firsts ≤ 8192 = omega (arith, firsts_within ns, all_names_within c, is.nodes) in
     record {
       nodes = omega (arith, count, is.nodes);
       interface = omega (arith, length-map c.interface (renamed f), is.interface);
-      next = omega (arith, few);
-      below = subst (λ l. AllByRecursion (λ n. n < length firsts) l) (sym same) (numbers_below firsts ns (each_among [] ns));
-      twice = λ n. let more : occurrences n (map f ns) ≤ occurrences (name_at firsts n) ns = no_more f (name_at firsts) n ns (each_undone ns) in
-          let two : occurrences (name_at firsts n) ns ≤ 2 = is.twice (name_at firsts n) in
+      next = omega arith;
+      below = subst (λ l. AllByRecursion (λ n. n < MAX_NAME + 1) l) (sym same) (below (map f ns) (all_low ns (few_names c is)));
+      twice = λ n. let more : occurrences n (map f ns) ≤ occurrences (named ns n) ns = no_more f (named ns) n ns (told_undone ns) in
+          let two : occurrences (named ns n) ns ≤ 2 = is.twice (named ns n) in
           let moved : occurrences n (configuration_names (renumbered c)) ≡ occurrences n (map f ns) = ap (occurrences n) same in
           omega (arith, more, two, moved);
     }
 
 pub renumbered-over : (ss : List Symbol) (c : Configuration) → is_over ss (renumbered c) ≡ is_over ss c
 renumbered-over ss c =
-    let f : ℕ → ℕ = number_among (first_occurrences (configuration_names c)) in
+    let f : ℕ → ℕ = told_name (configuration_names c) in
     λ i. interface_over f ss c.interface i && equations_over f ss c.equations i

@@ -28,7 +28,8 @@ use Rattle.ic_text.specs.SystemSense.{system_table, is_system_in_limits, rule_ov
 use Rattle.ic_text.specs.Text.{source_of, sides_of}
 use Rattle.ic_dump.specs.Writing.{rule_of, system_of}
 use Rattle.ic_dump.proofs.Lists.{All-join, All-split, All-at}
-use Rattle.ic_dump.proofs.Numbered.{numbers_below, firsts_within, list_names_within}
+use Rattle.ic_dump.proofs.Numbered.{list_names_within}
+use Rattle.ic_dump.proofs.ToldNames.{firsts_within, numbers_below}
 use Rattle.ic_dump.proofs.Known.{Known, known_rules, known_interface, known_equations, interface_is, equations_are, rules_are}
 use Rattle.ic_dump.proofs.Table.{Placed, all_placed, all_agree, no_more_symbols}
 use Rattle.ic_dump.proofs.Turned.{turned_rule, rule_names_written, rule_nodes_written, interface_names_written, equation_names_written, interface_nodes_written, equation_nodes_written, interface_back, equations_back, rule_back, numbered_turned}

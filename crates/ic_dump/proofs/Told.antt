@@ -1,18 +1,19 @@
 -- A configuration as it is told is the job's but for the names of its wires.
-use Rattle.std.proofs.Common.{◌≡◌, ℕ, ◌<◌, ◌≤◌, Bool, true, false, cond, List, [], ◌∷◌, map, length, refl, sym, ap, ◌∙◌, arith}
+use Rattle.std.proofs.Common.{◌≡◌, ℕ, ◌≤◌, Bool, true, false, cond, List, [], ◌∷◌, map, refl, sym, ap, ◌∙◌}
 use Rattle.std.specs.Prelude.{nat_le}
 use Rattle.std.specs.List.{list_all, AllByRecursion}
 use Rattle.std.proofs.lemmas.Bool.{and_from, le-leb}
 use Rattle.ic_term.specs.Tree.{Tree, name, agent, Trees, no_trees, more_trees, Pair}
 use Rattle.ic_term.specs.Configuration.{Configuration, configuration_names}
-use Rattle.ic_rules.specs.Renaming.{renamed, renamed_trees, first_occurrences, number_among}
-use Rattle.ic_rules.specs.lemmas.NumberingLaws.{Undone, name_at, each_undone, each_among}
+use Rattle.ic_rules.specs.Renaming.{renamed, renamed_trees}
+use Rattle.ic_rules.specs.lemmas.NumberingLaws.{Undone}
 use Rattle.ic_jobs.specs.Job.{JobParts, IsJob}
 use Rattle.ic_text.specs.declared.limits.TheConstants.{MAX_NAME}
-use Rattle.ic_dump.specs.Naming.{renamed_pair, renumbered, has_names_of_texts, told}
+use Rattle.ic_dump.specs.Naming.{renamed_pair, renumbered, has_names_of_texts, told, told_name}
 use Rattle.ic_dump.specs.Telling.{told_system}
 use Rattle.ic_dump.specs.Alike.{IsOneToOne, IsRenaming}
-use Rattle.ic_dump.proofs.Numbered.{renumbered-is, renumbered-over, renumbered-names, numbers_below, firsts_within, all_names_within}
+use Rattle.ic_dump.proofs.Numbered.{few_names, renumbered-is, renumbered-over, renumbered-names}
+use Rattle.ic_dump.proofs.ToldNames.{all_low, named, told_keeps, told_undone}
 use Rattle.ic_dump.proofs.Sense.{IsWhole}
 
 -- ---- names that stay
@@ -57,15 +58,17 @@ renamed_by : (c : Configuration) (b : Bool) → Renamed c (cond b c (renumbered 
 renamed_by c true = record {
   rename = λ n. n;
   is = record {
+    free = λ n once low. refl;
     one_to_one = one_to_one (λ n. n) (λ n. n) (configuration_names c) (same_undone (configuration_names c));
     interface = sym (kept_interface c.interface);
     equations = sym (kept_equations c.equations);
   };
 }
 renamed_by c false = record {
-  rename = number_among (first_occurrences (configuration_names c));
+  rename = told_name (configuration_names c);
   is = record {
-    one_to_one = one_to_one (number_among (first_occurrences (configuration_names c))) (name_at (first_occurrences (configuration_names c))) (configuration_names c) (each_undone (configuration_names c));
+    free = told_keeps (configuration_names c);
+    one_to_one = one_to_one (told_name (configuration_names c)) (named (configuration_names c)) (configuration_names c) (told_undone (configuration_names c));
     interface = refl;
     equations = refl;
   };
@@ -76,22 +79,20 @@ told_renamed c = renamed_by c (has_names_of_texts c)
 
 -- ---- the told configuration is one, with names of texts
 
-low : (k : ℕ) (ns : List ℕ) → k ≤ 8192 → AllByRecursion (λ n. n < k) ns → list_all (λ n. nat_le n MAX_NAME) ns ≡ true
-low k [] few all = refl
-low k (n ∷ ns) few all = let here : n ≤ MAX_NAME = omega (arith, all.0) in and_from _ _ (le-leb n MAX_NAME here) (low k ns few all.1)
+low : (ns : List ℕ) → AllByRecursion (λ n. n ≤ MAX_NAME) ns → list_all (λ n. nat_le n MAX_NAME) ns ≡ true
+low [] all = refl
+low (n ∷ ns) all = and_from _ _ (le-leb n MAX_NAME all.0) (low ns all.1)
 
 whole_by : (j : JobParts) → IsJob j → (b : Bool) → has_names_of_texts j.config ≡ b → IsWhole (record { rules = j.rules; config = cond b j.config (renumbered j.config) })
 whole_by j is true e = record { symbols = is.symbols; rules = is.rules; config = is.config; over = is.over; names = e }
 whole_by j is false e =
     let ns = configuration_names j.config in
-    let firsts = first_occurrences ns in
-    let few : length firsts ≤ 8192 = omega (arith, firsts_within ns, all_names_within j.config, is.config.nodes) in
     record {
       symbols = is.symbols;
       rules = is.rules;
       config = renumbered-is j.config is.config;
       over = renumbered-over j.rules.symbols j.config ∙ is.over;
-      names = ap (list_all (λ n. nat_le n MAX_NAME)) (renumbered-names j.config) ∙ low (length firsts) (map (number_among firsts) ns) few (numbers_below firsts ns (each_among [] ns));
+      names = ap (list_all (λ n. nat_le n MAX_NAME)) (renumbered-names j.config) ∙ low (map (told_name ns) ns) (all_low ns (few_names j.config is.config));
     }
 
 pub told_whole : (j : JobParts) → IsJob j → IsWhole (told_system j)

@@ -1,11 +1,12 @@
 -- To be believed: when a line submits a job.
-use Rattle.std.specs.Prelude.{◌≡◌, ℕ, List, Ok, map}
+use Rattle.std.specs.Prelude.{◌≡◌, ◌≤◌, ℕ, List, Ok, map}
 use Rattle.std.specs.List.{AllByRecursion}
-use Rattle.ic_term.specs.Configuration.{Configuration, configuration_names}
+use Rattle.ic_term.specs.Configuration.{Configuration, configuration_names, occurrences}
 use Rattle.ic_rules.specs.Renaming.{renamed}
 use Rattle.ic_rules.specs.System.{SystemParts}
 use Rattle.ic_jobs.specs.Job.{JobParts}
 use Rattle.ic_jobs.specs.declared.command.Command.TheVariants as command
+use Rattle.ic_text.specs.declared.limits.TheConstants.{MAX_NAME}
 use Rattle.ic_commands.specs.declared.line.Line.TheVariants.{Command as Asks}
 use Rattle.ic_commands.specs.LineText.{ReadsLine}
 use Rattle.ic_dump.specs.Naming.{renamed_pair}
@@ -15,8 +16,22 @@ use Rattle.ic_dump.specs.Writing.{system_of}
 abbrev pub IsOneToOne : (ℕ → ℕ) → List ℕ → Type 0
 IsOneToOne f ns = AllByRecursion (λ m. AllByRecursion (λ n. f m ≡ f n → m ≡ n) ns) ns
 
--- A configuration is another one but for the names of its wires.
+-- a name is free in a configuration: it stands there once
+abbrev pub IsFree : Configuration → ℕ → Type 0
+IsFree c n = occurrences n (configuration_names c) ≡ 1
+
+-- each free name may stand in a text
+abbrev pub HasFreeNamesOfTexts : Configuration → Type 0
+HasFreeNamesOfTexts c = (n : ℕ) → IsFree c n → n ≤ MAX_NAME
+
+-- free names stay as they are, where they may stand in a text
+abbrev pub KeepsFree : (ℕ → ℕ) → Configuration → Type 0
+KeepsFree f c = (n : ℕ) → IsFree c n → n ≤ MAX_NAME → f n ≡ n
+
+-- A configuration is another one but for the names of its wires, and free names that can't stand in a
+-- text.
 pub record IsRenaming (f : ℕ → ℕ) (c d : Configuration) : Type 0 where
+  pub free : KeepsFree f c
   pub one_to_one : IsOneToOne f (configuration_names c)
   pub interface : d.interface ≡ map (renamed f) c.interface
   pub equations : d.equations ≡ map (renamed_pair f) c.equations

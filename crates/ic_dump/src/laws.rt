@@ -10,7 +10,7 @@ ghost use Rattle.ic_commands.specs.declared.line.Line.TheVariants.{Command as As
 ghost use Rattle.ic_commands.specs.LineText.{ReadsLine};
 ghost use Rattle.ic_text.specs.declared.limits.TheConstants.{MAX_TEXT};
 ghost use Rattle.ic_dump.specs.declared.fault.DumpFault.{DumpFault};
-ghost use Rattle.ic_dump.specs.Alike.{Submits};
+ghost use Rattle.ic_dump.specs.Alike.{HasFreeNamesOfTexts, IsFree, Submits};
 ghost use Rattle.ic_lines.specs.Lines.{lines};
 ghost use Rattle.ic_lines.specs.Serving.{IsServed};
 ghost use Rattle.ic_dump.specs.Dumping.{all_dump_faults, chosen, dump_fault_number, dumped, first_missing, is_chosen};
@@ -75,6 +75,24 @@ pub fn a_dump_is_served_as_its_jobs()
 pub fn names_of_texts_are_kept()
     ensures { (c : Configuration) → has_names_of_texts c ≡ true → told c ≡ c }
 {}
+
+/// What is read back of a job has the free names of the job, and no others, where these may stand in a text. So jobs that
+/// differ in a free name have two lines.
+pub fn free_names_are_read_again()
+    ensures read { (j : JobParts) → IsJob j → HasFreeNamesOfTexts j.config → (n : ℕ) →
+        IsFree (read_again j).config n ↔ IsFree j.config n }
+    ensures lines { (j k : JobParts) (n : ℕ) → IsJob j → IsJob k →
+        HasFreeNamesOfTexts j.config → HasFreeNamesOfTexts k.config →
+        length (job_line j) ≤ MAX_TEXT → job_line j ≡ job_line k →
+        IsFree j.config n ↔ IsFree k.config n }
+{
+    ic_term::laws::third_occurrence_is_the_first();
+    ic_rules::laws::level_rules_are_their_own_mirrors();
+    ic_text::laws::printed_spells();
+    ic_text::laws::one_system_reading();
+    ic_commands::laws::commands_ask();
+    ic_commands::laws::one_line_reading();
+}
 
 /// Where no name is given, all jobs are asked for.
 pub fn all_jobs_are_asked_for_without_names()
