@@ -129,6 +129,16 @@ impl Heap {
         }
     }
 
+    /// The arguments of the agent in a block.
+    pub fn get(&self, block: u32) -> &[Word]
+        requires { block < self.now.count }
+        ensures { result.now ≡ block_at self.now block }
+    {
+        let arity = self.arity as usize;
+        let at = block as usize * arity;
+        &self.words[at..at + arity]
+    }
+
     /// Takes the arguments of an agent out of its block, which is free then.
     pub fn take(&mut self, block: u32, registers: &mut Vec<Word>)
         requires there { block < self.old.count }

@@ -1,0 +1,5 @@
+pub mod Plan
+pub mod Separate
+pub mod Steps
+pub mod Net
+pub mod lemmas

@@ -1,0 +1,31 @@
+-- The net that a machine holds.
+use Rattle.std.specs.Prelude.{◌≡◌, ℕ, ◌+◌, ◌<◌, ◌++◌, List, length, map, None}
+use Rattle.ic_arena.specs.declared.word.Word.{Word}
+use Rattle.ic_arena.specs.declared.word.TheConstants.{NAME}
+use Rattle.ic_arena.specs.Piece.{Piece, equated}
+use Rattle.ic_machine.specs.declared.equation.Equation.{Equation}
+use Rattle.ic_machine.specs.Plan.{Plans, plan_of}
+
+-- What a machine holds: the arities of the symbols; the words of the interface; the equations that are still to be looked
+-- at, and those set aside; what each place holds; and how many pairs it has fired.
+pub record Net : Type 0 where
+  pub arities : List ℕ
+  pub interface : List Word
+  pub pending : List Equation
+  pub aside : List Equation
+  pub places : List Piece
+  pub interactions : ℕ
+
+abbrev pub equated_of : Equation → Piece
+equated_of e = equated e.left e.right
+
+-- all pieces of a net
+abbrev pub pieces : Net → List Piece
+pieces n = map equated_of n.pending ++ (map equated_of n.aside ++ n.places)
+
+-- No step of this equation is possible: neither side is a name, and their symbols, if both are known, have no plan.
+pub record IsStuck (p : Plans) (e : Equation) : Type 0 where
+  pub left : ¬ (e.left.tag ≡ NAME)
+  pub right : ¬ (e.right.tag ≡ NAME)
+  pub no_plan : (a b : ℕ) → e.left.tag ≡ a + 1 → e.right.tag ≡ b + 1 → a < length p.arities
+      → b < length p.arities → plan_of p a b ≡ None

@@ -1,0 +1,8 @@
+-- What is proved of the definitions of specs/, for proofs of this crate and of those above.
+pub mod Orders
+pub mod StepsOn
+pub mod Separation
+pub mod Counting
+pub mod FiringKeeps
+pub mod FiresKeep
+pub mod Balance

@@ -1,0 +1,10 @@
+//! Equations between words.
+
+use ic_arena::Word;
+
+/// Two words that are to be made equal.
+#[derive(Clone, Copy, Debug)]
+pub struct Equation {
+    pub left: Word,
+    pub right: Word,
+}
