@@ -1,0 +1,10 @@
+pub mod NameRooms
+pub mod LinkSteps
+pub mod Links
+pub mod Heaps
+pub mod Fresh
+pub mod Making
+pub mod Firings
+pub mod Running
+pub mod Starting
+pub mod Sound

@@ -2,4 +2,6 @@ pub mod Plan
 pub mod Separate
 pub mod Steps
 pub mod Net
+pub mod Runs
 pub mod lemmas
+pub mod inner

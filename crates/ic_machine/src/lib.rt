@@ -1,11 +1,17 @@
-//! Nets in pieces, and steps of them in any order: equations between words, and what each place holds.
+//! A machine that reduces a net in place, by steps in any order.
 //!
-//! A plan says what a rule makes of two agents, ready to be made, and a program has the plans of pairs of symbols.
+//! The net is held in pieces: equations between words, and what each place holds. A step takes time by the size of a
+//! rule, and not by that of the net, and places that are used up are used again.
 #![tactic(auto)]
 
 mod equation;
+mod firing;
 pub mod laws;
+mod linking;
+mod machine;
 mod plan;
+mod tables;
 
 pub use equation::Equation;
+pub use machine::{Ended, Machine, MachineFault};
 pub use plan::{Link, Make, Plan, Program};

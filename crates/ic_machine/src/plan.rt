@@ -1,9 +1,13 @@
 //! Plans: what a rule makes of two agents, ready to be made.
 
-ghost use Rattle.std.specs.Prelude.{◌≡◌, ◌<◌, length, map};
+ghost use Rattle.std.specs.Prelude.{◌≡◌, ◌<◌, length, map, IfSome, IfNone};
 ghost use Rattle.std.specs.Option.{option_map};
 ghost use Rattle.ic_machine.specs.Plan.{planned, plan_of, ArePlans};
+ghost use Rattle.ic_machine.specs.Net.{IsStuck};
+ghost use Rattle.ic_machine.specs.inner.Linking.{IsPair};
+ghost use Rattle.ic_machine.specs.inner.Pairs.{HasPlan};
 
+use crate::equation::Equation;
 use std::marker::Model;
 
 /// The registers of two words that are to be made equal.
@@ -99,5 +103,18 @@ impl Program {
             None => None,
             Some(plan) => self.plans.get(plan as usize),
         }
+    }
+
+    /// The plan of an equation, where both sides are agents whose symbols have one.
+    pub(crate) fn plan_for(&self, equation: Equation) -> Option<&Plan>
+        ensures found { IfSome result (λ p. HasPlan self.now equation (planned p.now)) }
+        ensures none { IfNone result (IsPair equation → IsStuck self.now equation) }
+    {
+        let count = self.arities.len();
+        let (left, right) = (equation.left.tag, equation.right.tag);
+        if left == 0 || right == 0 || count < left as usize || count < right as usize {
+            return None;
+        }
+        self.plan(left - 1, right - 1)
     }
 }

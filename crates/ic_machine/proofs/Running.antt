@@ -1,0 +1,291 @@
+-- What a run leads to, from its parts.
+use Rattle.std.proofs.Common.{◌≡◌, ℕ, zero, suc, ◌+◌, ◌-◌, ◌<◌, List, [], ◌∷◌, ◌++◌, length, map, take, Option, None, Some, slice_get, IfSome, refl, ap, sym, subst, ◌∙◌, append_assoc, add_assoc, add-zero, arith, sum_by}
+use Rattle.std.specs.List.{AllByRecursion}
+use Rattle.std.specs.List.Sorted.{IsPermutation}
+use Rattle.std.proofs.Math.Seq.{take-append_seam}
+use Rattle.std.proofs.lemmas.List.{append-nil, length-append, length_push, map-append}
+use Rattle.std.proofs.lemmas.List.Sorted.{IsPermutation-refl, IsPermutation-sym, IsPermutation-trans, IsPermutation-append_left, IsPermutation-append_right, IsPermutation-append_comm, IsPermutation-cons, IsPermutation-map, IsPermutation-to_front}
+use Rattle.std.proofs.lemmas.List.Sums.{sum_by-append}
+use Rattle.ic_arena.specs.declared.word.Word.{Word}
+use Rattle.ic_arena.specs.Word.{count}
+use Rattle.ic_arena.specs.Piece.{Piece, room, uses}
+use Rattle.ic_machine.specs.declared.equation.Equation.{Equation}
+use Rattle.ic_machine.specs.Plan.{Planned, Plans, ArePlans, IsPlan, plan_at, number_of}
+use Rattle.ic_machine.specs.Net.{Net, equated_of, pieces, IsStuck}
+use Rattle.ic_machine.specs.Runs.{Ran}
+use Rattle.ic_machine.specs.Separate.{IsSeparate}
+use Rattle.ic_machine.specs.Steps.{Steps, no_step}
+use Rattle.ic_machine.specs.inner.Linking.{IsPair}
+use Rattle.ic_machine.specs.inner.Pairs.{HasPlan, CanFire, IsLast, Passed}
+use Rattle.ic_machine.specs.inner.Tables.{IsNumbered}
+use Rattle.ic_machine.specs.lemmas.Balance.{equations_room}
+use Rattle.ic_machine.specs.lemmas.FiresKeep.{steps_keep}
+use Rattle.ic_machine.specs.lemmas.FiringKeeps.{all_append}
+use Rattle.ic_machine.specs.lemmas.Orders.{to_front}
+use Rattle.ic_machine.specs.lemmas.Separation.{separate_in_order}
+use Rattle.ic_machine.specs.lemmas.StepsOn.{steps_through, steps_to}
+use Rattle.ic_machine.proofs.Fresh.{all_front}
+use Rattle.ic_machine.proofs.Links.{steps_from}
+
+-- what can't fire is set aside: the same pieces
+pub passed_order : (p : Plans) (ps us ps' us' : List Equation) (rest : List Piece) → Passed p ps us ps' us'
+    → IsPermutation (map equated_of ps ++ (map equated_of us ++ rest))
+    (map equated_of ps' ++ (map equated_of us' ++ rest))
+passed_order p ps us ps' us' rest h =
+    let f : List Piece = map equated_of ps' in
+    let a : List Piece = map equated_of us in
+    let r : List Piece = map equated_of h.rest in
+    let m : List Piece = map equated_of h.more in
+    let before : map equated_of ps ++ (a ++ rest) ≡ f ++ (r ++ (a ++ rest)) =
+    ap (λ (l : List Equation). map equated_of l ++ (a ++ rest)) h.before
+    ∙ (ap (λ (l : List Piece). l ++ (a ++ rest)) (map-append equated_of ps' h.rest)
+    ∙ append_assoc f r (a ++ rest)) in
+    let after : f ++ (map equated_of us' ++ rest) ≡ f ++ (a ++ (m ++ rest)) =
+    ap (λ (l : List Equation). f ++ (map equated_of l ++ rest)) h.after
+    ∙ (ap (λ (l : List Piece). f ++ (l ++ rest)) (map-append equated_of us h.more)
+    ∙ ap (λ (l : List Piece). f ++ l) (append_assoc a m rest)) in
+    let moved : IsPermutation (f ++ (r ++ (a ++ rest))) (f ++ (a ++ (m ++ rest))) =
+    IsPermutation-append_right f (r ++ (a ++ rest)) (a ++ (m ++ rest))
+    (IsPermutation-trans (r ++ (a ++ rest)) (a ++ (r ++ rest)) (a ++ (m ++ rest)) (to_front r a rest)
+    (IsPermutation-append_right a (r ++ rest) (m ++ rest)
+    (IsPermutation-append_left rest r m (IsPermutation-map equated_of h.rest h.more h.order)))) in
+    subst (λ (l : List Piece). IsPermutation l (f ++ (map equated_of us' ++ rest))) (sym before)
+    (subst (λ (l : List Piece). IsPermutation (f ++ (r ++ (a ++ rest))) l) (sym after) moved)
+
+-- nothing is set aside yet
+pub passed_none : (p : Plans) (ps us : List Equation) → Passed p ps us ps us
+passed_none p ps us = record {
+  rest = [];
+  more = [];
+  before = sym (append-nil ps);
+  after = sym (append-nil us);
+  order = IsPermutation-refl [];
+  stuck = tt;
+}
+
+-- one more is set aside
+pub passed_more : (p : Plans) (ps us mid us' : List Equation) (e : Equation) → Passed p ps us (mid ++ e ∷ []) us'
+    → IsStuck p e → Passed p ps us mid (us' ++ e ∷ [])
+passed_more p ps us mid us' e h stuck = record {
+  rest = e ∷ h.rest;
+  more = h.more ++ e ∷ [];
+  before = h.before ∙ append_assoc mid (e ∷ []) h.rest;
+  after = ap (λ (l : List Equation). l ++ e ∷ []) h.after ∙ append_assoc us h.more (e ∷ []);
+  order = IsPermutation-trans (e ∷ h.rest) (e ∷ h.more) (h.more ++ e ∷ [])
+      (IsPermutation-cons e h.rest h.more h.order)
+      (IsPermutation-sym (h.more ++ e ∷ []) (e ∷ h.more) (IsPermutation-to_front h.more e));
+  stuck = all_append (IsStuck p) h.more (e ∷ []) h.stuck (stuck, tt);
+}
+
+-- the pieces of a net, in the order of the tables
+pub held_order : (p a n h : List Piece) → IsPermutation (p ++ (a ++ (n ++ h))) (n ++ (h ++ (p ++ a)))
+held_order p a n h =
+    subst (λ (l : List Piece). IsPermutation l (n ++ (h ++ (p ++ a)))) (append_assoc p a (n ++ h))
+    (subst (λ (l : List Piece). IsPermutation ((p ++ a) ++ (n ++ h)) l) (append_assoc n h (p ++ a))
+    (IsPermutation-append_comm (p ++ a) (n ++ h)))
+
+-- steps of what the tables hold are steps of the net
+pub net_steps : (q : Plans) (is : List ℕ) (p p' a n n' h h' : List Piece)
+    → Steps q is (n ++ (h ++ (p ++ a))) (n' ++ (h' ++ (p' ++ a)))
+    → Steps q is (p ++ (a ++ (n ++ h))) (p' ++ (a ++ (n' ++ h')))
+net_steps q is p p' a n n' h h' s =
+    steps_to q is (p ++ (a ++ (n ++ h))) (n' ++ (h' ++ (p' ++ a))) (p' ++ (a ++ (n' ++ h')))
+    (steps_from q is (p ++ (a ++ (n ++ h))) (n ++ (h ++ (p ++ a))) (n' ++ (h' ++ (p' ++ a)))
+    (held_order p a n h) s)
+    (IsPermutation-sym (p' ++ (a ++ (n' ++ h'))) (n' ++ (h' ++ (p' ++ a))) (held_order p' a n' h'))
+
+-- The tables alone are separate, where the whole net is.
+pub held_separate : (arities : List ℕ) (i : List Word) (p n h : List Piece) (us : List Equation)
+    → IsSeparate arities i (p ++ (map equated_of us ++ (n ++ h)))
+    → IsSeparate arities [] (n ++ (h ++ (p ++ [])))
+held_separate arities i p n h us s = record {
+  each = λ w c.
+      let before = s.each w c in
+      let none = equations_room w us in
+      let nothing : p ++ [] ≡ p = append-nil p in
+      let u1 = sum_by-append (uses w) p (map equated_of us ++ (n ++ h)) in
+      let u2 = sum_by-append (uses w) (map equated_of us) (n ++ h) in
+      let u3 = sum_by-append (uses w) n h in
+      let r1 = sum_by-append (room w) p (map equated_of us ++ (n ++ h)) in
+      let r2 = sum_by-append (room w) (map equated_of us) (n ++ h) in
+      let r3 = sum_by-append (room w) n h in
+      let v1 = sum_by-append (uses w) n (h ++ (p ++ [])) in
+      let v2 = sum_by-append (uses w) h (p ++ []) in
+      let v3 = ap (sum_by (uses w)) nothing in
+      let t1 = sum_by-append (room w) n (h ++ (p ++ [])) in
+      let t2 = sum_by-append (room w) h (p ++ []) in
+      let t3 = ap (sum_by (room w)) nothing in
+      let z : count w [] ≡ 0 = refl in
+      omega arith;
+}
+
+-- what is known has an arity
+get_known : (xs : List ℕ) (i : ℕ) → i < length xs → (v : ℕ) × (slice_get xs i ≡ Some v)
+get_known [] i h = absurd (omega arith)
+get_known (x ∷ xs) zero h = (x, refl)
+get_known (x ∷ xs) (suc i) h = get_known xs i (omega arith)
+
+-- a pair that has a plan can fire by it
+pub can_fire : (p : Plans) (e : Equation) (plan : Planned) → HasPlan p e plan → CanFire p.arities e plan
+can_fire p e plan h =
+    let l : (v : ℕ) × (slice_get p.arities h.left ≡ Some v) = get_known p.arities h.left h.left_known in
+    let r : (v : ℕ) × (slice_get p.arities h.right ≡ Some v) = get_known p.arities h.right h.right_known in
+    record {
+      left = h.left;
+      right = h.right;
+      left_tag = h.left_tag;
+      right_tag = h.right_tag;
+      left_args = l.0;
+      right_args = r.0;
+      left_arity = l.1;
+      right_arity = r.1;
+      is_plan = subst (λ (o : Option Planned). IfSome o (IsPlan p.arities (l.0 + r.0))) h.is
+          (h.sound.each h.left h.right l.0 r.0 l.1 r.1);
+    }
+
+-- the number of a plan that was found
+plan_number : (ps : List Planned) (o : Option ℕ) (plan : Planned) → plan_at ps o ≡ Some plan
+    → (i : ℕ) × ((o ≡ Some i) × (slice_get ps i ≡ Some plan))
+plan_number ps None plan e = absurd (none_some plan e)
+  where
+    none_some : (x : Planned) → ◌≡◌ {A = Option Planned} None (Some x) → ⊥
+    none_some x e = cc
+plan_number ps (Some i) plan e = (i, (refl, e))
+
+pub numbered : (p : Plans) (e : Equation) (plan : Planned) (h : HasPlan p e plan)
+    → (i : ℕ) × IsNumbered p i h.left h.right plan
+numbered p e plan h =
+    let n : (i : ℕ) × ((number_of p h.left h.right ≡ Some i) × (slice_get p.plans i ≡ Some plan)) =
+    plan_number p.plans (number_of p h.left h.right) plan h.is in
+    (n.0, record { number = n.1.0; has_plan = n.1.1 })
+
+-- The net stays separate where equations are set aside, and no side of what is pending is a name.
+pub passed_separate : (arities : List ℕ) (i : List Word) (p : Plans) (ps us ps' us' : List Equation)
+    (rest : List Piece) → Passed p ps us ps' us'
+    → IsSeparate arities i (map equated_of ps ++ (map equated_of us ++ rest))
+    → IsSeparate arities i (map equated_of ps' ++ (map equated_of us' ++ rest))
+passed_separate arities i p ps us ps' us' rest h s =
+    separate_in_order arities i (map equated_of ps ++ (map equated_of us ++ rest))
+    (map equated_of ps' ++ (map equated_of us' ++ rest)) (passed_order p ps us ps' us' rest h) s
+
+pub passed_pairs : (p : Plans) (ps us ps' us' : List Equation) → Passed p ps us ps' us'
+    → AllByRecursion IsPair ps → AllByRecursion IsPair ps'
+passed_pairs p ps us ps' us' h pairs =
+    all_front IsPair ps' h.rest (subst (λ (l : List Equation). AllByRecursion IsPair l) h.before pairs)
+
+-- nothing fires where equations are set aside
+pub passed_steps : (p : Plans) (ps us ps' us' : List Equation) (rest : List Piece) → Passed p ps us ps' us'
+    → Steps p [] (map equated_of ps ++ (map equated_of us ++ rest))
+    (map equated_of ps' ++ (map equated_of us' ++ rest))
+passed_steps p ps us ps' us' rest h =
+    no_step (map equated_of ps ++ (map equated_of us ++ rest)) (map equated_of ps' ++ (map equated_of us' ++ rest))
+    (passed_order p ps us ps' us' rest h)
+
+-- a pair fires, after equations were set aside
+pub passed_then : (p : Plans) (is : List ℕ) (ps us ps' us' qs : List Equation) (n h n' h' : List Piece)
+    → Passed p ps us ps' us'
+    → Steps p is (n ++ (h ++ (map equated_of ps' ++ map equated_of us')))
+    (n' ++ (h' ++ (map equated_of qs ++ map equated_of us')))
+    → Steps p is (map equated_of ps ++ (map equated_of us ++ (n ++ h)))
+    (map equated_of qs ++ (map equated_of us' ++ (n' ++ h')))
+passed_then p is ps us ps' us' qs n h n' h' passed s =
+    steps_from p is (map equated_of ps ++ (map equated_of us ++ (n ++ h)))
+    (map equated_of ps' ++ (map equated_of us' ++ (n ++ h)))
+    (map equated_of qs ++ (map equated_of us' ++ (n' ++ h')))
+    (passed_order p ps us ps' us' (n ++ h) passed)
+    (net_steps p is (map equated_of ps') (map equated_of qs) (map equated_of us') n n' h h' s)
+
+-- one run after another
+pub ran_on : (p : Plans) (a b c : Net) → Ran p a b → Ran p b c → Ran p a c
+ran_on p a b c r s = record {
+  fired = r.fired ++ s.fired;
+  steps = steps_through p r.fired s.fired (pieces a) (pieces b) (pieces c) r.steps s.steps;
+  counted = s.counted ∙ (ap (λ (n : ℕ). n + length s.fired) r.counted
+      ∙ (add_assoc a.interactions (length r.fired) (length s.fired)
+      ∙ ap (λ (n : ℕ). a.interactions + n) (sym (length-append r.fired s.fired))));
+  arities = s.arities ∙ r.arities;
+  interface = s.interface ∙ r.interface;
+  more = r.more ++ s.more;
+  aside = s.aside ∙ (ap (λ (l : List Equation). l ++ s.more) r.aside ∙ append_assoc a.aside r.more s.more);
+  stuck = all_append (IsStuck p) r.more s.more r.stuck s.stuck;
+}
+
+-- nothing was run
+pub ran_none : (p : Plans) (a : Net) → Ran p a a
+ran_none p a = record {
+  fired = [];
+  steps = no_step (pieces a) (pieces a) (IsPermutation-refl (pieces a));
+  counted = sym (add-zero a.interactions);
+  arities = refl;
+  interface = refl;
+  more = [];
+  aside = sym (append-nil a.aside);
+  stuck = tt;
+}
+
+-- the last of some equations
+pub last_of : (es : List Equation) (n : ℕ) (e : Equation) → n + 1 ≡ length es → slice_get es n ≡ Some e
+    → IsLast e es
+last_of [] n e len h = absurd (omega arith)
+last_of (x ∷ []) zero e len h = record { front = []; is = ap (λ (v : Equation). v ∷ []) (inside x e h) }
+  where
+    inside : (a b : Equation) → ◌≡◌ {A = Option Equation} (Some a) (Some b) → a ≡ b
+    inside a b e = cc
+last_of (x ∷ []) (suc n) e len h = absurd (omega arith)
+last_of (x ∷ (y ∷ ys)) zero e len h = absurd (omega arith)
+last_of (x ∷ (y ∷ ys)) (suc n) e len h =
+    let ih : IsLast e (y ∷ ys) = last_of (y ∷ ys) n e (omega arith) h in
+    record { front = x ∷ ih.front; is = ap (λ (l : List Equation). x ∷ l) ih.is }
+
+-- what is left where the last is taken out
+pub popped : (es new : List Equation) (n : ℕ) (e : Equation) → IsLast e es → n + 1 ≡ length es
+    → new ≡ take n es → es ≡ new ++ e ∷ []
+popped es new n e last len rest =
+    let whole : length es ≡ length last.front + 1 = ap length last.is ∙ length_push last.front e in
+    let here : n ≡ length last.front = omega arith in
+    let front : new ≡ last.front =
+    rest ∙ (ap (λ (k : ℕ). take k es) here
+    ∙ (ap (take (length last.front)) last.is ∙ take-append_seam last.front (e ∷ []))) in
+    last.is ∙ ap (λ (l : List Equation). l ++ e ∷ []) (sym front)
+
+-- What a net leads to where equations are set aside alone.
+pub passed_ran : (p : Plans) (a b : Net) → Passed p a.pending a.aside b.pending b.aside → b.arities ≡ a.arities
+    → b.interface ≡ a.interface → b.places ≡ a.places → b.interactions ≡ a.interactions → Ran p a b
+passed_ran p a b h arities interface places interactions = record {
+  fired = [];
+  steps = subst (λ (l : List Piece). Steps p [] (pieces a)
+      (map equated_of b.pending ++ (map equated_of b.aside ++ l))) (sym places)
+      (passed_steps p a.pending a.aside b.pending b.aside a.places h);
+  counted = interactions ∙ sym (add-zero a.interactions);
+  arities = arities;
+  interface = interface;
+  more = h.more;
+  aside = h.after;
+  stuck = h.stuck;
+}
+
+-- the last of some equations, if there is one
+pub last_here : (es : List Equation) (e : Equation) → slice_get es (length es - 1) ≡ Some e
+    → IsLast e es × ((length es - 1) + 1 ≡ length es)
+last_here [] e h = absurd (none_some e h)
+  where
+    none_some : (x : Equation) → ◌≡◌ {A = Option Equation} None (Some x) → ⊥
+    none_some x h = cc
+last_here (x ∷ xs) e h =
+    let len : (length (x ∷ xs) - 1) + 1 ≡ length (x ∷ xs) = omega arith in
+    (last_of (x ∷ xs) (length (x ∷ xs) - 1) e len h, len)
+
+-- The net stays separate over steps of what the tables hold.
+pub held_steps_separate : (q : Plans) (is : List ℕ) (arities : List ℕ) (i : List Word) (ps us qs : List Equation)
+    (n h n' h' : List Piece) → ArePlans q → arities ≡ q.arities
+    → Steps q is (n ++ (h ++ (map equated_of ps ++ map equated_of us)))
+    (n' ++ (h' ++ (map equated_of qs ++ map equated_of us)))
+    → IsSeparate arities i (map equated_of ps ++ (map equated_of us ++ (n ++ h)))
+    → IsSeparate arities i (map equated_of qs ++ (map equated_of us ++ (n' ++ h')))
+held_steps_separate q is arities i ps us qs n h n' h' sound same steps s =
+    let before : List Piece = map equated_of ps ++ (map equated_of us ++ (n ++ h)) in
+    let after : List Piece = map equated_of qs ++ (map equated_of us ++ (n' ++ h')) in
+    subst (λ (a : List ℕ). IsSeparate a i after) (sym same)
+    (steps_keep q is i before after sound
+    (net_steps q is (map equated_of ps) (map equated_of qs) (map equated_of us) n n' h h' steps)
+    (subst (λ (a : List ℕ). IsSeparate a i before) same s))

@@ -1,0 +1,96 @@
+-- What a machine begins with.
+use Rattle.std.proofs.Common.{◌≡◌, ℕ, ◌+◌, ◌*◌, ◌<◌, ◌≤◌, List, [], ◌++◌, cond, length, map, refl, subst, arith, count_by, slice_get, Some}
+use Rattle.std.specs.List.{AllByRecursion, flat_map}
+use Rattle.std.proofs.lemmas.List.{append-nil}
+use Rattle.std.proofs.lemmas.List.Sorted.{IsPermutation-sym}
+use Rattle.std.proofs.lemmas.List.Sums.{sum_by-append}
+use Rattle.ic_arena.specs.declared.word.Word.{Word}
+use Rattle.ic_arena.specs.Word.{word_eq, count}
+use Rattle.ic_arena.specs.Piece.{Piece}
+use Rattle.ic_arena.specs.Tables.{names_pieces, register}
+use Rattle.ic_machine.specs.declared.tables.Tables.{Tables}
+use Rattle.ic_machine.specs.Net.{equated_of}
+use Rattle.ic_machine.specs.Plan.{Planned, Plans, constants, link_operands, operands_of, pieces_made}
+use Rattle.ic_machine.specs.Runs.{IsStart}
+use Rattle.ic_machine.specs.Separate.{IsSeparate}
+use Rattle.ic_machine.specs.Steps.{AreFresh, Steps}
+use Rattle.ic_machine.specs.inner.Firing.{heaps_pieces}
+use Rattle.ic_machine.specs.inner.Tables.{held, IsMade}
+use Rattle.ic_machine.specs.lemmas.FiringKeeps.{all_append, all_of, counted_in, few_of, made_within, plan_room, plan_uses}
+use Rattle.ic_machine.specs.lemmas.StepsOn.{steps_to}
+use Rattle.ic_machine.proofs.Running.{held_order}
+
+-- what a plan makes of no arguments is separate, together with its interface
+pub start_separate : (arities : List ℕ) (p : Planned) (interface : List ℕ) (names made : List Word)
+    → IsStart arities p interface → length names ≡ p.names → length made ≡ length p.made
+    → IsSeparate arities (map (register (constants (length arities) ++ (names ++ made))) interface)
+    (pieces_made p (constants (length arities) ++ (names ++ made)) names made)
+start_separate arities p interface names made start en em = record {
+  each = λ w place.
+      let n : ℕ = length arities in
+      let rs : List Word = constants n ++ (names ++ made) in
+      let m : ℕ = 0 + (length names + length made) in
+      let plan = start.plan in
+      let below : AllByRecursion (λ k. k < n + m) (interface ++ operands_of p) =
+      all_append (λ k. k < n + m) interface (operands_of p)
+      (all_of (λ k. k < n + p.names + length p.made) (λ k. k < n + m) interface (λ k lt. omega arith) start.filled)
+      (all_append (λ k. k < n + m) (flat_map (λ m. m.operands) p.made) (flat_map link_operands p.links)
+      (all_of (λ k. k < (n + 0 + p.names) + length p.made) (λ k. k < n + m)
+      (flat_map (λ m. m.operands) p.made) (λ k lt. omega arith)
+      (made_within arities (n + 0 + p.names) p.made plan.made))
+      (all_of (λ k. k < n + 0 + p.names + length p.made) (λ k. k < n + m)
+      (flat_map link_operands p.links) (λ k lt. omega arith) plan.links)) in
+      let constant : AllByRecursion (λ k. k < n → slice_get arities k ≡ Some 0) (interface ++ operands_of p) =
+      all_append (λ k. k < n → slice_get arities k ≡ Some 0) interface (operands_of p) start.constant plan.constant in
+      let zero_more : n + 0 ≡ n = omega arith in
+      let few : count_by (λ k. word_eq w (register rs k)) (interface ++ operands_of p)
+      ≤ count w [] + (count w names * 2 + count w made) =
+      few_of arities w p.names (interface ++ operands_of p) [] names made below constant
+      (λ k le. rw zero_more (start.linear k le)) en place in
+      let both = sum_by-append (λ k. cond (word_eq w (register rs k)) 1 0) interface (operands_of p) in
+      let named = counted_in w rs interface in
+      let um = plan_uses w p rs names made em in
+      let rm = plan_room w p rs names made em in
+      let none : count w [] ≡ 0 = refl in
+      omega arith;
+}
+
+-- tables of nothing hold nothing
+nothing_held : (t : Tables) → t.names.entries ≡ [] → heaps_pieces 0 t.heaps.items ≡ [] → t.pending.items ≡ []
+    → held t [] ≡ []
+nothing_held t names heaps pending = rw (names, heaps, pending) refl
+
+-- the places of what a plan makes are fresh, where nothing was held before
+pub start_fresh : (p : Planned) (t u : Tables) (made : IsMade p t u) → t.names.entries ≡ []
+    → heaps_pieces 0 t.heaps.items ≡ [] → t.pending.items ≡ [] → AreFresh (made.names ++ made.made) []
+start_fresh p t u made names heaps pending =
+    subst (λ (l : List Piece). AreFresh (made.names ++ made.made) l) (nothing_held t names heaps pending) (made.fresh [])
+
+-- what a plan makes comes to be held, where nothing was held before
+pub start_steps : (q : Plans) (p : Planned) (t u : Tables) (made : IsMade p t u) → t.names.entries ≡ []
+    → heaps_pieces 0 t.heaps.items ≡ [] → t.pending.items ≡ []
+    → t.registers.items ≡ constants (length q.arities)
+    → Steps q [] (pieces_made p (constants (length q.arities) ++ (made.names ++ made.made)) made.names made.made)
+    (map equated_of u.pending.items
+    ++ ([] ++ (names_pieces 0 u.names.entries ++ heaps_pieces 0 u.heaps.items)))
+start_steps q p t u made names heaps pending registers =
+    let n : List Piece = names_pieces 0 u.names.entries in
+    let h : List Piece = heaps_pieces 0 u.heaps.items in
+    let e : List Piece = map equated_of u.pending.items in
+    let regs : List Word = constants (length q.arities) ++ (made.names ++ made.made) in
+    let whole : Steps q [] (pieces_made p (t.registers.items ++ (made.names ++ made.made)) made.names made.made ++ held t [])
+    (n ++ (h ++ (e ++ []))) = made.steps q [] in
+    let empty : Steps q [] (pieces_made p (t.registers.items ++ (made.names ++ made.made)) made.names made.made ++ [])
+    (n ++ (h ++ (e ++ []))) =
+    subst (λ (l : List Piece). Steps q []
+    (pieces_made p (t.registers.items ++ (made.names ++ made.made)) made.names made.made ++ l) (n ++ (h ++ (e ++ []))))
+    (nothing_held t names heaps pending) whole in
+    let alone : Steps q [] (pieces_made p (t.registers.items ++ (made.names ++ made.made)) made.names made.made)
+    (n ++ (h ++ (e ++ []))) =
+    subst (λ (l : List Piece). Steps q [] l (n ++ (h ++ (e ++ []))))
+    (append-nil (pieces_made p (t.registers.items ++ (made.names ++ made.made)) made.names made.made)) empty in
+    let start : Steps q [] (pieces_made p regs made.names made.made) (n ++ (h ++ (e ++ []))) =
+    subst (λ (l : List Word). Steps q [] (pieces_made p (l ++ (made.names ++ made.made)) made.names made.made)
+    (n ++ (h ++ (e ++ [])))) registers alone in
+    steps_to q [] (pieces_made p regs made.names made.made) (n ++ (h ++ (e ++ []))) (e ++ ([] ++ (n ++ h))) start
+    (IsPermutation-sym (e ++ ([] ++ (n ++ h))) (n ++ (h ++ (e ++ []))) (held_order e [] n h))

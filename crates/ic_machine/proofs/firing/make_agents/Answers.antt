@@ -1,0 +1,223 @@
+use Rattle.std.proofs.Common.{◌≡◌, ◌+◌, ◌-◌, ◌*◌, ◌^◌, ◌<◌, ◌≤◌, ℕ, suc, List, [], ◌∷◌, ◌++◌, length, map, take, slice_get, slice_set, sum_by, zero-add, ap, sym, subst, ◌∙◌, refl, arith}
+use Rattle.std.specs.List.{AllByRecursion}
+use Rattle.std.proofs.Math.Nat.{suc-mul}
+use Rattle.std.proofs.lemmas.List.{length-map}
+use Rattle.ic_arena.specs.declared.word.Word.{Word}
+use Rattle.ic_arena.specs.declared.word.TheConstants.{GIVEN, IDLE}
+use Rattle.ic_arena.specs.Word.{agent_word}
+use Rattle.ic_arena.specs.Piece.{agent_of, room}
+use Rattle.ic_arena.specs.Tables.{Blocks, Replaced, blocks_pieces, register}
+use Rattle.ic_machine.specs.declared.plan.Make.{Make}
+use Rattle.ic_machine.specs.Plan.{Made, made_of}
+use Rattle.ic_machine.specs.inner.Firing.{arities_of, heaps_pieces, table, HasRoom, Makes}
+use Rattle.ic_machine.specs.lemmas.FiringKeeps.{all_append, all_of}
+use Rattle.ic_machine.proofs.Fresh.{earlier_within, fact_now, front_more, makes_more, planned_now, IsMadeOf}
+use Rattle.ic_machine.proofs.Heaps.{arities_set, arity_known, room_taken, table_read, table_replaced, table_room}
+use Rattle.ic_machine.proofs.firing.make_agents.Goals as goal
+
+-- the symbol of an agent that is made has a table of its arity
+known : (h0 hs : List Blocks) (n : ℕ) (m : Made) → arities_of hs ≡ arities_of h0 → IsMadeOf (arities_of h0) n m
+    → (m.symbol < length hs) × ((table hs m.symbol).arity ≡ length m.operands)
+known h0 hs n m same p =
+    arity_known hs m.symbol (length m.operands) (ap (λ (l : List ℕ). slice_get l m.symbol) same ∙ p.arity)
+
+same_count : (h0 hs : List Blocks) → arities_of hs ≡ arities_of h0 → length hs ≡ length h0
+same_count h0 hs same =
+    sym (length-map hs (λ b. b.arity)) ∙ (ap length same ∙ length-map h0 (λ b. b.arity))
+
+-- the first of some more agents has memory
+room_for_one : (hs : List Blocks) (n i : ℕ) (m : Made) → i < n → HasRoom hs (n - i) m
+    → (length (table hs m.symbol).words + (table hs m.symbol).arity ≤ (table hs m.symbol).capacity)
+    × ((table hs m.symbol).count + 1 < 2 ^ 32)
+room_for_one hs n i m lt h =
+    let some : n - i ≡ suc (n - suc i) = omega arith in
+    let a : ℕ = (table hs m.symbol).arity in
+    let more : (n - i) * a ≡ (n - suc i) * a + a =
+    ap (λ (k : ℕ). k * a) some ∙ suc-mul (n - suc i) a in
+    let fits : length (table hs m.symbol).words + (n - i) * a ≤ (table hs m.symbol).capacity = h.0 in
+    let few : (table hs m.symbol).count + (n - i) < 2 ^ 32 = h.1 in
+    (omega arith, omega arith)
+
+pub index_mut-heap-requires : goal.index_mut-heap-requires
+index_mut-heap-requires c =
+    let hs : List Blocks = c.loop-make.heaps.items in
+    let h0 : List Blocks = c.args.heaps.now.items in
+    let filled : ℕ = length c.args.registers.now.items in
+    let item : Make = c.make-item.result in
+    let planned = planned_now (arities_of h0) filled c.loop-make.make-index c.args.makes.now item
+    c.requires.made c.loop-make-test.true c.make-item.is in
+    let there : (item.symbol < length hs) × ((table hs item.symbol).arity ≡ length item.operands.items) =
+    known h0 hs (filled + c.loop-make.make-index) (made_of item) c.loop-make.invariant.arities planned in
+    let below : item.symbol < length hs = there.0 in
+    let whole = c.loop-make.heaps.ok.0 in
+    omega arith
+
+pub put-block-requires-clause-arity : goal.put-block-requires-clause-arity
+put-block-requires-clause-arity c =
+    let hs : List Blocks = c.loop-make.heaps.items in
+    let h0 : List Blocks = c.args.heaps.now.items in
+    let filled : ℕ = length c.args.registers.now.items in
+    let item : Make = c.make-item.result in
+    let planned = planned_now (arities_of h0) filled c.loop-make.make-index c.args.makes.now item
+    c.requires.made c.loop-make-test.true c.make-item.is in
+    let there : (item.symbol < length hs) × ((table hs item.symbol).arity ≡ length item.operands.items) =
+    known h0 hs (filled + c.loop-make.make-index) (made_of item) c.loop-make.invariant.arities planned in
+    let same : c.index_mut-heap.result.now ≡ table hs item.symbol =
+    table_read hs item.symbol c.index_mut-heap.result.now there.0 c.index_mut-heap.ensures.value in
+    ap length c.deref.ensures.value ∙ sym (ap (λ (x : Blocks). x.arity) same ∙ there.1)
+
+pub put-block-requires-clause-some : goal.put-block-requires-clause-some
+put-block-requires-clause-some c =
+    let hs : List Blocks = c.loop-make.heaps.items in
+    let h0 : List Blocks = c.args.heaps.now.items in
+    let filled : ℕ = length c.args.registers.now.items in
+    let item : Make = c.make-item.result in
+    let planned = planned_now (arities_of h0) filled c.loop-make.make-index c.args.makes.now item
+    c.requires.made c.loop-make-test.true c.make-item.is in
+    let there : (item.symbol < length hs) × ((table hs item.symbol).arity ≡ length item.operands.items) =
+    known h0 hs (filled + c.loop-make.make-index) (made_of item) c.loop-make.invariant.arities planned in
+    let same : c.index_mut-heap.result.now ≡ table hs item.symbol =
+    table_read hs item.symbol c.index_mut-heap.result.now there.0 c.index_mut-heap.ensures.value in
+    let arity : c.index_mut-heap.result.now.arity ≡ length item.operands.items =
+    ap (λ (x : Blocks). x.arity) same ∙ there.1 in
+    let some : 1 ≤ length item.operands.items = planned.some in
+    omega arith
+
+pub put-block-requires-clause-filled : goal.put-block-requires-clause-filled
+put-block-requires-clause-filled c =
+    let h0 : List Blocks = c.args.heaps.now.items in
+    let filled : ℕ = length c.args.registers.now.items in
+    let item : Make = c.make-item.result in
+    let planned = planned_now (arities_of h0) filled c.loop-make.make-index c.args.makes.now item
+    c.requires.made c.loop-make-test.true c.make-item.is in
+    let before = c.args.registers.now.ok.0 in
+    let now = c.loop-make.registers.ok.0 in
+    let len = c.loop-make.invariant.len in
+    let read : length c.deref-in-loop-make.result.now ≡ length c.loop-make.registers.items =
+    ap length c.deref-in-loop-make.ensures.value in
+    subst (λ (l : List ℕ). AllByRecursion (λ k. k < length c.deref-in-loop-make.result.now) l)
+    (sym c.deref.ensures.value)
+    (all_of (λ k. k < filled + c.loop-make.make-index) (λ k. k < length c.deref-in-loop-make.result.now)
+    item.operands.items (λ k lt. omega arith) planned.within)
+
+pub put-block-requires-clause-room : goal.put-block-requires-clause-room
+put-block-requires-clause-room c =
+    let hs : List Blocks = c.loop-make.heaps.items in
+    let h0 : List Blocks = c.args.heaps.now.items in
+    let filled : ℕ = length c.args.registers.now.items in
+    let i : ℕ = c.loop-make.make-index in
+    let item : Make = c.make-item.result in
+    let planned = planned_now (arities_of h0) filled i c.args.makes.now item
+    c.requires.made c.loop-make-test.true c.make-item.is in
+    let there : (item.symbol < length hs) × ((table hs item.symbol).arity ≡ length item.operands.items) =
+    known h0 hs (filled + i) (made_of item) c.loop-make.invariant.arities planned in
+    let same : c.index_mut-heap.result.now ≡ table hs item.symbol =
+    table_read hs item.symbol c.index_mut-heap.result.now there.0 c.index_mut-heap.ensures.value in
+    let memory : HasRoom hs (length c.args.makes.now - i) (made_of item) =
+    fact_now (HasRoom hs (length c.args.makes.now - i)) i c.args.makes.now item c.loop-make.invariant.room
+    c.loop-make-test.true c.make-item.is in
+    subst (λ (x : Blocks). length x.words + x.arity ≤ x.capacity) (sym same)
+    (room_for_one hs (length c.args.makes.now) i (made_of item) c.loop-make-test.true memory).0
+
+pub put-block-requires-clause-few : goal.put-block-requires-clause-few
+put-block-requires-clause-few c =
+    let hs : List Blocks = c.loop-make.heaps.items in
+    let h0 : List Blocks = c.args.heaps.now.items in
+    let filled : ℕ = length c.args.registers.now.items in
+    let i : ℕ = c.loop-make.make-index in
+    let item : Make = c.make-item.result in
+    let planned = planned_now (arities_of h0) filled i c.args.makes.now item
+    c.requires.made c.loop-make-test.true c.make-item.is in
+    let there : (item.symbol < length hs) × ((table hs item.symbol).arity ≡ length item.operands.items) =
+    known h0 hs (filled + i) (made_of item) c.loop-make.invariant.arities planned in
+    let same : c.index_mut-heap.result.now ≡ table hs item.symbol =
+    table_read hs item.symbol c.index_mut-heap.result.now there.0 c.index_mut-heap.ensures.value in
+    let memory : HasRoom hs (length c.args.makes.now - i) (made_of item) =
+    fact_now (HasRoom hs (length c.args.makes.now - i)) i c.args.makes.now item c.loop-make.invariant.room
+    c.loop-make-test.true c.make-item.is in
+    subst (λ (x : Blocks). x.count + 1 < 2 ^ 32) (sym same)
+    (room_for_one hs (length c.args.makes.now) i (made_of item) c.loop-make-test.true memory).1
+
+pub agent-requires : goal.agent-requires
+agent-requires c =
+    let hs : List Blocks = c.loop-make.heaps.items in
+    let h0 : List Blocks = c.args.heaps.now.items in
+    let filled : ℕ = length c.args.registers.now.items in
+    let item : Make = c.make-item.result in
+    let planned = planned_now (arities_of h0) filled c.loop-make.make-index c.args.makes.now item
+    c.requires.made c.loop-make-test.true c.make-item.is in
+    let there : (item.symbol < length hs) × ((table hs item.symbol).arity ≡ length item.operands.items) =
+    known h0 hs (filled + c.loop-make.make-index) (made_of item) c.loop-make.invariant.arities planned in
+    let below : item.symbol < length hs = there.0 in
+    let len : length hs ≡ length h0 = same_count h0 hs c.loop-make.invariant.arities in
+    let few : length h0 < GIVEN = c.requires.symbols in
+    omega arith
+
+pub loop-make-preserved : goal.loop-make-preserved
+loop-make-preserved c =
+    let hs : List Blocks = c.loop-make.heaps.items in
+    let h0 : List Blocks = c.args.heaps.now.items in
+    let r0 : List Word = c.args.registers.now.items in
+    let rs : List Word = c.loop-make.registers.items in
+    let ms : List Make = c.args.makes.now in
+    let i : ℕ = c.loop-make.make-index in
+    let item : Make = c.make-item.result in
+    let s : ℕ = item.symbol in
+    let b : Blocks = c.index_mut-heap.result.now in
+    let b' : Blocks = c.put-block.new.self in
+    let w : Word = agent_word s c.put-block.result in
+    let lt : i < length ms = c.loop-make-test.true in
+    let before = c.args.registers.now.ok.0 in
+    let now = c.loop-make.registers.ok.0 in
+    let len = c.loop-make.invariant.len in
+    let planned = planned_now (arities_of h0) (length r0) i ms item c.requires.made lt c.make-item.is in
+    let there : (s < length hs) × ((table hs s).arity ≡ length item.operands.items) =
+    known h0 hs (length r0 + i) (made_of item) c.loop-make.invariant.arities planned in
+    let below : s < length hs = there.0 in
+    let count : length hs ≡ length h0 = same_count h0 hs c.loop-make.invariant.arities in
+    let few : length h0 < GIVEN = c.requires.symbols in
+    let same : b ≡ table hs s = table_read hs s b there.0 c.index_mut-heap.ensures.value in
+    let pushed : c.push_reserved.new.self.items ≡ rs ++ w ∷ [] =
+    c.push_reserved.ensures.items ∙ ap (λ (v : Word). rs ++ v ∷ []) c.agent.ensures in
+    let block : Replaced [] (agent_of w (map (register rs) item.operands.items) ∷ [])
+    (blocks_pieces s (table hs s)) (blocks_pieces s b') =
+    subst (λ (l : List ℕ). Replaced [] (agent_of w (map (register rs) l) ∷ [])
+    (blocks_pieces s (table hs s)) (blocks_pieces s b')) c.deref.ensures.value
+    (subst (λ (l : List Word). Replaced [] (agent_of w (map (register l) c.deref.result.now) ∷ [])
+    (blocks_pieces s (table hs s)) (blocks_pieces s b')) c.deref-in-loop-make.ensures.value
+    (subst (λ (x : Blocks). Replaced [] (agent_of w (map (register c.deref-in-loop-make.result.now) c.deref.result.now) ∷ [])
+    (blocks_pieces s x) (blocks_pieces s b')) same (c.put-block.ensures.made s))) in
+    let none : sum_by (room w) (heaps_pieces 0 hs) ≡ 0 =
+    table_room w hs 0 s s (sym (zero-add s)) refl
+    ∙ subst (λ (x : Blocks). sum_by (room w) (blocks_pieces s x) ≡ 0) same (c.put-block.ensures.fresh s) in
+    let made : Makes (map made_of (take i ms) ++ made_of item ∷ []) (heaps_pieces 0 h0)
+    (heaps_pieces 0 (slice_set hs s b')) r0 (rs ++ w ∷ []) =
+    makes_more (map made_of (take i ms)) (made_of item) (heaps_pieces 0 h0) (heaps_pieces 0 hs)
+    (heaps_pieces 0 (slice_set hs s b')) r0 rs w c.loop-make.invariant.made
+    (earlier_within (arities_of h0) (length r0) i (length rs) ms c.requires.made (omega arith) (omega arith))
+    (all_of (λ k. k < length r0 + i) (λ k. k < length rs) item.operands.items (λ k le. omega arith) planned.within)
+    (table_replaced hs 0 s s b' [] (agent_of w (map (register rs) item.operands.items) ∷ []) (sym (zero-add s))
+    there.0 block) none (omega arith) in
+    let arity : b'.arity ≡ (table hs s).arity = c.put-block.ensures.arity ∙ ap (λ (x : Blocks). x.arity) same in
+    let fewer : b'.count ≤ (table hs s).count + 1 =
+    subst (λ (x : Blocks). b'.count ≤ x.count + 1) same c.put-block.ensures.count in
+    let shorter : length b'.words ≤ length (table hs s).words + (table hs s).arity =
+    subst (λ (x : Blocks). length b'.words ≤ length x.words + x.arity) same c.put-block.ensures.len in
+    let capacity : b'.capacity ≡ (table hs s).capacity =
+    c.put-block.ensures.capacity ∙ ap (λ (x : Blocks). x.capacity) same in
+    let left : length ms - i ≡ suc (length ms - (i + 1)) = omega arith in
+    record {
+      made = subst (λ (l : List Made). Makes l (heaps_pieces 0 h0) (heaps_pieces 0 (slice_set hs s b')) r0
+          c.push_reserved.new.self.items) (sym (front_more i ms item lt c.make-item.is))
+          (subst (λ (l : List Word). Makes (map made_of (take i ms) ++ made_of item ∷ []) (heaps_pieces 0 h0)
+          (heaps_pieces 0 (slice_set hs s b')) r0 l) (sym pushed) made);
+      words = subst (λ (l : List Word). AllByRecursion (λ v. v.tag < IDLE) l) (sym pushed)
+          (all_append (λ v. v.tag < IDLE) rs (w ∷ []) c.loop-make.invariant.words (omega arith, tt));
+      arities = arities_set hs s b' arity ∙ c.loop-make.invariant.arities;
+      room = all_of (HasRoom hs (length ms - i)) (HasRoom (slice_set hs s b') (length ms - (i + 1)))
+          (map made_of ms)
+          (λ m h. room_taken hs s (length ms - (i + 1)) b' m arity fewer shorter capacity
+          (subst (λ (k : ℕ). HasRoom hs k m) left h)) c.loop-make.invariant.room;
+      len = omega (arith, c.push_reserved.ensures.len);
+      capacity = c.push_reserved.ensures.capacity ∙ c.loop-make.invariant.capacity;
+    }

@@ -1,0 +1,18 @@
+use Rattle.std.proofs.Common.{◌≡◌, ◌+◌, ◌-◌, ◌<◌, length, map, take, vec_len, vec_capacity}
+use Rattle.std.specs.List.{AllByRecursion}
+use Rattle.ic_arena.specs.declared.word.TheConstants.{IDLE}
+use Rattle.ic_machine.specs.Plan.{made_of}
+use Rattle.ic_machine.specs.inner.Firing.{heaps_pieces, arities_of, HasRoom, Makes}
+use Rattle.ic_machine.proofs.firing.make_agents.Given as goal
+
+abbrev pub invariant-loop-make : goal.invariant-loop-make
+invariant-loop-make l = record {
+  made : Makes (map made_of (take l.make-index l.makes))
+      (heaps_pieces 0 l.initial.heaps.items) (heaps_pieces 0 l.heaps.items)
+      l.initial.registers.items l.registers.items;
+  words : AllByRecursion (λ w. w.tag < IDLE) l.registers.items;
+  arities : arities_of l.heaps.items ≡ arities_of l.initial.heaps.items;
+  room : AllByRecursion (HasRoom l.heaps.items (length l.makes - l.make-index)) (map made_of l.makes);
+  len : vec_len l.registers ≡ vec_len l.initial.registers + l.make-index;
+  capacity : vec_capacity l.registers ≡ vec_capacity l.initial.registers;
+}

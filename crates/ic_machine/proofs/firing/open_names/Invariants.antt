@@ -1,0 +1,13 @@
+use Rattle.std.proofs.Common.{◌≡◌, ◌+◌, ◌≤◌, length, vec_len, vec_capacity}
+use Rattle.ic_machine.specs.inner.Firing.{Opened}
+use Rattle.ic_machine.proofs.firing.open_names.Given as goal
+
+abbrev pub invariant-loop-opened : goal.invariant-loop-opened
+invariant-loop-opened l = record {
+  opened : Opened l.opened l.initial.names.entries l.names.entries
+      l.initial.registers.items l.registers.items;
+  few : length l.names.entries ≤ length l.initial.names.entries + l.opened;
+  memory : l.names.capacity ≡ l.initial.names.capacity;
+  len : vec_len l.registers ≡ vec_len l.initial.registers + l.opened;
+  capacity : vec_capacity l.registers ≡ vec_capacity l.initial.registers;
+}

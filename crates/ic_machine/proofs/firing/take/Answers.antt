@@ -1,0 +1,44 @@
+use Rattle.std.proofs.Common.{◌≡◌, ◌+◌, ◌-◌, ◌<◌, ◌≤◌, ℕ, List, length, ap, sym, subst, ◌∙◌, arith}
+use Rattle.ic_arena.specs.declared.word.Word.{Word}
+use Rattle.ic_arena.specs.Tables.{Blocks}
+use Rattle.ic_machine.specs.inner.Firing.{table}
+use Rattle.ic_machine.proofs.Heaps.{agent_block, arities_set, in_block, table_read, taken_args}
+use Rattle.ic_machine.proofs.firing.take.Goals as goal
+
+pub take-requires-clause-there : goal.take-requires-clause-there
+take-requires-clause-there c =
+    let hs : List Blocks = c.args.heaps.now.items in
+    let w : Word = c.args.agent in
+    let s : ℕ = w.tag - 1 in
+    let b : Blocks = c.index_mut-heap.result.now in
+    let tag : w.tag ≡ s + 1 = omega arith in
+    let lt : s < length hs = omega arith in
+    let same : b ≡ table hs s = table_read hs s b lt c.index_mut-heap.ensures.value in
+    let arity : b.arity ≡ (table hs s).arity = ap (λ (x : Blocks). x.arity) same in
+    let some : 1 ≤ (table hs s).arity = omega arith in
+    let below : w.index < (table hs s).count =
+    in_block s w.index (table hs s) (agent_block hs w s tag (c.requires.there some)) in
+    subst (λ (x : Blocks). w.index < x.count) (sym same) below
+
+pub returns-then-arity-gt0-clause-taken : goal.returns-then-arity-gt0-clause-taken
+returns-then-arity-gt0-clause-taken c =
+    let hs : List Blocks = c.args.heaps.now.items in
+    let w : Word = c.args.agent in
+    let s : ℕ = w.tag - 1 in
+    let b : Blocks = c.index_mut-heap.result.now in
+    let tag : w.tag ≡ s + 1 = omega arith in
+    let lt : s < length hs = omega arith in
+    let same : b ≡ table hs s = table_read hs s b lt c.index_mut-heap.ensures.value in
+    let arity : b.arity ≡ (table hs s).arity = ap (λ (x : Blocks). x.arity) same in
+    let some : 1 ≤ (table hs s).arity = omega arith in
+    taken_args hs w s b c.take.new.self c.args.registers.now.items c.take.new.registers.items tag lt same
+    c.arity.ensures.sound (c.requires.there some) c.take.ensures.taken c.take.ensures.freed
+
+pub returns-then-arity-gt0-clause-arities : goal.returns-then-arity-gt0-clause-arities
+returns-then-arity-gt0-clause-arities c =
+    let hs : List Blocks = c.args.heaps.now.items in
+    let s : ℕ = c.args.agent.tag - 1 in
+    let b : Blocks = c.index_mut-heap.result.now in
+    let lt : s < length hs = omega arith in
+    let same : b ≡ table hs s = table_read hs s b lt c.index_mut-heap.ensures.value in
+    arities_set hs s c.take.new.self (c.take.ensures.arity ∙ ap (λ (x : Blocks). x.arity) same)

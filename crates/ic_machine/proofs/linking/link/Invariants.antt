@@ -1,0 +1,23 @@
+use Rattle.std.proofs.Common.{◌≡◌, List, [], ◌∷◌, ◌++◌, length, vec_len, vec_capacity}
+use Rattle.ic_arena.specs.Piece.{Piece, equated}
+use Rattle.ic_arena.specs.Tables.{names_pieces}
+use Rattle.ic_machine.specs.Plan.{Plans}
+use Rattle.ic_machine.specs.Net.{equated_of}
+use Rattle.ic_machine.specs.Steps.{Steps}
+use Rattle.ic_machine.specs.inner.Linking.{AreNamed}
+use Rattle.ic_machine.proofs.linking.link.Given as goal
+
+abbrev pub invariant-follow : goal.invariant-follow
+invariant-follow l = record {
+  steps : (p : Plans) (rest : List Piece) → Steps p []
+      (equated_of l.fn.equation ∷ (names_pieces 0 l.initial.names.entries ++ rest))
+      (equated l.left l.right ∷ (names_pieces 0 l.names.entries ++ rest));
+  named : AreNamed l.left l.right l.names.entries;
+  names : length l.names.entries ≡ length l.initial.names.entries;
+  pending : l.pending.items ≡ l.initial.pending.items;
+  len : vec_len l.pending ≡ vec_len l.initial.pending;
+  capacity : vec_capacity l.pending ≡ vec_capacity l.initial.pending;
+}
+
+abbrev pub decreases-follow : goal.decreases-follow
+decreases-follow l = length (names_pieces 0 l.names.entries)

@@ -1,0 +1,294 @@
+use Rattle.std.proofs.Common.{◌≡◌, ◌+◌, ◌<◌, ℕ, List, [], ◌++◌, length, map, ap, sym, subst, ◌∙◌, arith}
+use Rattle.std.specs.List.{AllByRecursion}
+use Rattle.std.proofs.lemmas.List.{append-nil, length-append, length-map}
+use Rattle.ic_arena.specs.declared.word.Word.{Word}
+use Rattle.ic_arena.specs.declared.word.TheConstants.{GIVEN}
+use Rattle.ic_arena.specs.Piece.{Piece}
+use Rattle.ic_arena.specs.Tables.{Blocks, names_pieces, register}
+use Rattle.ic_machine.specs.declared.equation.Equation.{Equation}
+use Rattle.ic_machine.specs.declared.tables.Tables.{Tables}
+use Rattle.ic_machine.specs.Plan.{AreMade, IsPlan, Planned, Plans, constants, pieces_made, planned}
+use Rattle.ic_machine.specs.Net.{equated_of}
+use Rattle.ic_machine.specs.Separate.{IsSeparate}
+use Rattle.ic_machine.specs.Steps.{Steps}
+use Rattle.ic_machine.specs.inner.Firing.{arities_of, heaps_pieces}
+use Rattle.ic_machine.specs.inner.Linking.{IsPair}
+use Rattle.ic_machine.specs.lemmas.FiresKeep.{steps_keep}
+use Rattle.ic_machine.specs.lemmas.FiringKeeps.{all_of}
+use Rattle.ic_machine.proofs.Heaps.{made_known, same_arities, same_pieces}
+use Rattle.ic_machine.proofs.Making.{filled_count}
+use Rattle.ic_machine.proofs.Sound.{first_of, first_registers}
+use Rattle.ic_machine.proofs.Starting.{start_fresh, start_separate, start_steps}
+use Rattle.ic_machine.proofs.machine.Machine.new.Goals as goal
+
+pub reserve-requires-clause-known : goal.reserve-requires-clause-known
+reserve-requires-clause-known c =
+    let q : Plans = c.args.program.now in
+    let p : Planned = planned c.args.plan.now in
+    let start = c.requires.start in
+    let t0 : Tables = c.in_ok-tables.tables in
+    let h0 : List Blocks = t0.heaps.items in
+    let known0 : arities_of h0 ≡ q.arities = c.in_ok-tables.ensures.arities ∙ c.arities.ensures.arities in
+    made_known h0 (length q.arities + 0 + p.names) p.made
+    (subst (λ (a : List ℕ). AreMade a (length q.arities + 0 + p.names) p.made) (sym known0) start.plan.made)
+
+pub make-requires-clause-ready : goal.make-requires-clause-ready
+make-requires-clause-ready c =
+    let q : Plans = c.args.program.now in
+    let p : Planned = planned c.args.plan.now in
+    let start = c.requires.start in
+    let t0 : Tables = c.in_ok-tables.tables in
+    let h0 : List Blocks = t0.heaps.items in
+    let known0 : arities_of h0 ≡ q.arities = c.in_ok-tables.ensures.arities ∙ c.arities.ensures.arities in
+    let t1 : Tables = c.reserve.new.self in
+    let h1 : List Blocks = t1.heaps.items in
+    let known1 : arities_of h1 ≡ q.arities = same_arities h0 h1 c.reserve.ensures.heaps ∙ known0 in
+    let many1 : length h1 ≡ length q.arities = sym (length-map h1 (λ x. x.arity)) ∙ ap length known1 in
+    let many0 : length h0 ≡ length q.arities = sym (length-map h0 (λ x. x.arity)) ∙ ap length known0 in
+    let names1 : t1.names.entries ≡ [] = c.reserve.ensures.names ∙ c.in_ok-tables.ensures.names in
+    let pieces1 : heaps_pieces 0 h1 ≡ [] = same_pieces h0 h1 0 c.reserve.ensures.heaps ∙ c.in_ok-tables.ensures.heaps in
+    let pending1 : t1.pending.items ≡ [] = c.reserve.ensures.pending ∙ c.in_ok-tables.ensures.pending in
+    let n : ℕ = length q.arities in
+    let given : t0.registers.items ≡ constants n =
+    c.in_ok-tables.ensures.registers ∙ ap (λ (l : List ℕ). constants (length l)) c.arities.ensures.arities in
+    let registers1 : t1.registers.items ≡ constants n =
+    c.reserve.ensures.registers
+    ∙ (first_registers n (length h0) t0.registers.items many0 given ∙ ap constants many0) in
+    record {
+      args = [];
+      filled = registers1 ∙ (ap constants (sym many1) ∙ sym (append-nil (constants (length h1))));
+      plan = subst (λ (a : List ℕ). IsPlan a 0 p) (sym known1) start.plan;
+      words = tt;
+      symbols = subst (λ (k : ℕ). k < GIVEN) (sym many1) c.requires.symbols;
+      named = λ i. rw names1 (omega arith);
+    }
+
+pub words_at-requires : goal.words_at-requires
+words_at-requires c =
+    let q : Plans = c.args.program.now in
+    let p : Planned = planned c.args.plan.now in
+    let start = c.requires.start in
+    let t0 : Tables = c.in_ok-tables.tables in
+    let h0 : List Blocks = t0.heaps.items in
+    let known0 : arities_of h0 ≡ q.arities = c.in_ok-tables.ensures.arities ∙ c.arities.ensures.arities in
+    let t1 : Tables = c.reserve.new.self in
+    let h1 : List Blocks = t1.heaps.items in
+    let known1 : arities_of h1 ≡ q.arities = same_arities h0 h1 c.reserve.ensures.heaps ∙ known0 in
+    let many1 : length h1 ≡ length q.arities = sym (length-map h1 (λ x. x.arity)) ∙ ap length known1 in
+    let many0 : length h0 ≡ length q.arities = sym (length-map h0 (λ x. x.arity)) ∙ ap length known0 in
+    let names1 : t1.names.entries ≡ [] = c.reserve.ensures.names ∙ c.in_ok-tables.ensures.names in
+    let pieces1 : heaps_pieces 0 h1 ≡ [] = same_pieces h0 h1 0 c.reserve.ensures.heaps ∙ c.in_ok-tables.ensures.heaps in
+    let pending1 : t1.pending.items ≡ [] = c.reserve.ensures.pending ∙ c.in_ok-tables.ensures.pending in
+    let n : ℕ = length q.arities in
+    let given : t0.registers.items ≡ constants n =
+    c.in_ok-tables.ensures.registers ∙ ap (λ (l : List ℕ). constants (length l)) c.arities.ensures.arities in
+    let registers1 : t1.registers.items ≡ constants n =
+    c.reserve.ensures.registers
+    ∙ (first_registers n (length h0) t0.registers.items many0 given ∙ ap constants many0) in
+    let t2 : Tables = c.make.new.self in
+    let h2 : List Blocks = t2.heaps.items in
+    let made = c.make.ensures.made in
+    let regs : List Word = constants n ++ (made.names ++ made.made) in
+    let registers2 : t2.registers.items ≡ regs =
+    made.registers ∙ ap (λ (l : List Word). l ++ (made.names ++ made.made)) registers1 in
+    let known2 : arities_of h2 ≡ q.arities = c.make.ensures.arities ∙ known1 in
+    let many2 : length h2 ≡ n = sym (length-map h2 (λ x. x.arity)) ∙ ap length known2 in
+    let filled : length c.deref.result.now ≡ n + length (made.names ++ made.made) =
+    ap length (c.deref.ensures.value ∙ registers2) ∙ filled_count n (made.names ++ made.made) in
+    let both = length-append made.names made.made in
+    let names_count : length made.names ≡ p.names = made.names_count in
+    let made_count : length made.made ≡ length p.made = made.made_count in
+    all_of (λ k. k < n + p.names + length p.made) (λ k. k < length c.deref.result.now) c.args.interface.now
+    (λ k lt. omega arith) start.filled
+
+pub invariant_of-result : goal.invariant_of-result
+invariant_of-result c =
+    let q : Plans = c.args.program.now in
+    let p : Planned = planned c.args.plan.now in
+    let start = c.requires.start in
+    let t0 : Tables = c.in_ok-tables.tables in
+    let h0 : List Blocks = t0.heaps.items in
+    let known0 : arities_of h0 ≡ q.arities = c.in_ok-tables.ensures.arities ∙ c.arities.ensures.arities in
+    let t1 : Tables = c.reserve.new.self in
+    let h1 : List Blocks = t1.heaps.items in
+    let known1 : arities_of h1 ≡ q.arities = same_arities h0 h1 c.reserve.ensures.heaps ∙ known0 in
+    let many1 : length h1 ≡ length q.arities = sym (length-map h1 (λ x. x.arity)) ∙ ap length known1 in
+    let many0 : length h0 ≡ length q.arities = sym (length-map h0 (λ x. x.arity)) ∙ ap length known0 in
+    let names1 : t1.names.entries ≡ [] = c.reserve.ensures.names ∙ c.in_ok-tables.ensures.names in
+    let pieces1 : heaps_pieces 0 h1 ≡ [] = same_pieces h0 h1 0 c.reserve.ensures.heaps ∙ c.in_ok-tables.ensures.heaps in
+    let pending1 : t1.pending.items ≡ [] = c.reserve.ensures.pending ∙ c.in_ok-tables.ensures.pending in
+    let n : ℕ = length q.arities in
+    let given : t0.registers.items ≡ constants n =
+    c.in_ok-tables.ensures.registers ∙ ap (λ (l : List ℕ). constants (length l)) c.arities.ensures.arities in
+    let registers1 : t1.registers.items ≡ constants n =
+    c.reserve.ensures.registers
+    ∙ (first_registers n (length h0) t0.registers.items many0 given ∙ ap constants many0) in
+    let t2 : Tables = c.make.new.self in
+    let h2 : List Blocks = t2.heaps.items in
+    let made = c.make.ensures.made in
+    let regs : List Word = constants n ++ (made.names ++ made.made) in
+    let registers2 : t2.registers.items ≡ regs =
+    made.registers ∙ ap (λ (l : List Word). l ++ (made.names ++ made.made)) registers1 in
+    let known2 : arities_of h2 ≡ q.arities = c.make.ensures.arities ∙ known1 in
+    let many2 : length h2 ≡ n = sym (length-map h2 (λ x. x.arity)) ∙ ap length known2 in
+    let words : List Word = c.in_ok-interface.interface.items in
+    let interface : words ≡ map (register regs) c.args.interface.now =
+    c.in_ok-interface.ensures
+    ∙ ap (λ (l : List Word). map (register l) c.args.interface.now) (c.deref.ensures.value ∙ registers2) in
+    let nothing : List Equation = c.new-2.result.items in
+    let end : List Piece = map equated_of t2.pending.items
+    ++ (map equated_of nothing ++ (names_pieces 0 t2.names.entries ++ heaps_pieces 0 h2)) in
+    let steps : Steps q [] (pieces_made p regs made.names made.made) end =
+    subst (λ (l : List Equation). Steps q [] (pieces_made p regs made.names made.made) (map equated_of t2.pending.items
+    ++ (map equated_of l ++ (names_pieces 0 t2.names.entries ++ heaps_pieces 0 h2)))) (sym c.new-2.ensures.items)
+    (start_steps q p t1 t2 made names1 pieces1 pending1 registers1) in
+    let separate : IsSeparate q.arities words end =
+    subst (λ (l : List Word). IsSeparate q.arities l end) (sym interface)
+    (steps_keep q [] (map (register regs) c.args.interface.now) (pieces_made p regs made.names made.made) end
+    c.arities.ensures.sound steps
+    (start_separate q.arities p c.args.interface.now made.names made.made start made.names_count made.made_count)) in
+    record {
+      separate = subst (λ (a : List ℕ). IsSeparate a words end) (sym known2) separate;
+      pairs = subst (λ (l : List Equation). AllByRecursion IsPair l) (sym c.make.ensures.pushed.after)
+          (subst (λ (l : List Equation). AllByRecursion IsPair (l ++ c.make.ensures.pushed.more)) (sym pending1)
+          c.make.ensures.pushed.pairs);
+      names = c.make.ensures.few;
+      symbols = subst (λ (k : ℕ). k < GIVEN) (sym many2) c.requires.symbols;
+      registers = first_of n (length h2) t2.registers.items (made.names ++ made.made) many2 registers2;
+    }
+
+pub returns-clause-arities : goal.returns-clause-arities
+returns-clause-arities c =
+    let q : Plans = c.args.program.now in
+    let p : Planned = planned c.args.plan.now in
+    let start = c.requires.start in
+    let t0 : Tables = c.in_ok-tables.tables in
+    let h0 : List Blocks = t0.heaps.items in
+    let known0 : arities_of h0 ≡ q.arities = c.in_ok-tables.ensures.arities ∙ c.arities.ensures.arities in
+    let t1 : Tables = c.reserve.new.self in
+    let h1 : List Blocks = t1.heaps.items in
+    let known1 : arities_of h1 ≡ q.arities = same_arities h0 h1 c.reserve.ensures.heaps ∙ known0 in
+    let many1 : length h1 ≡ length q.arities = sym (length-map h1 (λ x. x.arity)) ∙ ap length known1 in
+    let many0 : length h0 ≡ length q.arities = sym (length-map h0 (λ x. x.arity)) ∙ ap length known0 in
+    let names1 : t1.names.entries ≡ [] = c.reserve.ensures.names ∙ c.in_ok-tables.ensures.names in
+    let pieces1 : heaps_pieces 0 h1 ≡ [] = same_pieces h0 h1 0 c.reserve.ensures.heaps ∙ c.in_ok-tables.ensures.heaps in
+    let pending1 : t1.pending.items ≡ [] = c.reserve.ensures.pending ∙ c.in_ok-tables.ensures.pending in
+    let n : ℕ = length q.arities in
+    let given : t0.registers.items ≡ constants n =
+    c.in_ok-tables.ensures.registers ∙ ap (λ (l : List ℕ). constants (length l)) c.arities.ensures.arities in
+    let registers1 : t1.registers.items ≡ constants n =
+    c.reserve.ensures.registers
+    ∙ (first_registers n (length h0) t0.registers.items many0 given ∙ ap constants many0) in
+    let t2 : Tables = c.make.new.self in
+    let h2 : List Blocks = t2.heaps.items in
+    let made = c.make.ensures.made in
+    let regs : List Word = constants n ++ (made.names ++ made.made) in
+    let registers2 : t2.registers.items ≡ regs =
+    made.registers ∙ ap (λ (l : List Word). l ++ (made.names ++ made.made)) registers1 in
+    let known2 : arities_of h2 ≡ q.arities = c.make.ensures.arities ∙ known1 in
+    let many2 : length h2 ≡ n = sym (length-map h2 (λ x. x.arity)) ∙ ap length known2 in
+    known2
+
+pub returns-clause-starts : goal.returns-clause-starts
+returns-clause-starts c =
+    let q : Plans = c.args.program.now in
+    let p : Planned = planned c.args.plan.now in
+    let start = c.requires.start in
+    let t0 : Tables = c.in_ok-tables.tables in
+    let h0 : List Blocks = t0.heaps.items in
+    let known0 : arities_of h0 ≡ q.arities = c.in_ok-tables.ensures.arities ∙ c.arities.ensures.arities in
+    let t1 : Tables = c.reserve.new.self in
+    let h1 : List Blocks = t1.heaps.items in
+    let known1 : arities_of h1 ≡ q.arities = same_arities h0 h1 c.reserve.ensures.heaps ∙ known0 in
+    let many1 : length h1 ≡ length q.arities = sym (length-map h1 (λ x. x.arity)) ∙ ap length known1 in
+    let many0 : length h0 ≡ length q.arities = sym (length-map h0 (λ x. x.arity)) ∙ ap length known0 in
+    let names1 : t1.names.entries ≡ [] = c.reserve.ensures.names ∙ c.in_ok-tables.ensures.names in
+    let pieces1 : heaps_pieces 0 h1 ≡ [] = same_pieces h0 h1 0 c.reserve.ensures.heaps ∙ c.in_ok-tables.ensures.heaps in
+    let pending1 : t1.pending.items ≡ [] = c.reserve.ensures.pending ∙ c.in_ok-tables.ensures.pending in
+    let n : ℕ = length q.arities in
+    let given : t0.registers.items ≡ constants n =
+    c.in_ok-tables.ensures.registers ∙ ap (λ (l : List ℕ). constants (length l)) c.arities.ensures.arities in
+    let registers1 : t1.registers.items ≡ constants n =
+    c.reserve.ensures.registers
+    ∙ (first_registers n (length h0) t0.registers.items many0 given ∙ ap constants many0) in
+    let t2 : Tables = c.make.new.self in
+    let h2 : List Blocks = t2.heaps.items in
+    let made = c.make.ensures.made in
+    let regs : List Word = constants n ++ (made.names ++ made.made) in
+    let registers2 : t2.registers.items ≡ regs =
+    made.registers ∙ ap (λ (l : List Word). l ++ (made.names ++ made.made)) registers1 in
+    let known2 : arities_of h2 ≡ q.arities = c.make.ensures.arities ∙ known1 in
+    let many2 : length h2 ≡ n = sym (length-map h2 (λ x. x.arity)) ∙ ap length known2 in
+    let words : List Word = c.in_ok-interface.interface.items in
+    let interface : words ≡ map (register regs) c.args.interface.now =
+    c.in_ok-interface.ensures
+    ∙ ap (λ (l : List Word). map (register l) c.args.interface.now) (c.deref.ensures.value ∙ registers2) in
+    let nothing : List Equation = c.new-2.result.items in
+    let end : List Piece = map equated_of t2.pending.items
+    ++ (map equated_of nothing ++ (names_pieces 0 t2.names.entries ++ heaps_pieces 0 h2)) in
+    let steps : Steps q [] (pieces_made p regs made.names made.made) end =
+    subst (λ (l : List Equation). Steps q [] (pieces_made p regs made.names made.made) (map equated_of t2.pending.items
+    ++ (map equated_of l ++ (names_pieces 0 t2.names.entries ++ heaps_pieces 0 h2)))) (sym c.new-2.ensures.items)
+    (start_steps q p t1 t2 made names1 pieces1 pending1 registers1) in
+    let separate : IsSeparate q.arities words end =
+    subst (λ (l : List Word). IsSeparate q.arities l end) (sym interface)
+    (steps_keep q [] (map (register regs) c.args.interface.now) (pieces_made p regs made.names made.made) end
+    c.arities.ensures.sound steps
+    (start_separate q.arities p c.args.interface.now made.names made.made start made.names_count made.made_count)) in
+    record {
+      names = made.names;
+      made = made.made;
+      names_count = made.names_count;
+      made_count = made.made_count;
+      fresh = start_fresh p t1 t2 made names1 pieces1 pending1;
+      steps = steps;
+      interface_is = interface;
+    }
+
+pub returns-clause-separate : goal.returns-clause-separate
+returns-clause-separate c =
+    let q : Plans = c.args.program.now in
+    let p : Planned = planned c.args.plan.now in
+    let start = c.requires.start in
+    let t0 : Tables = c.in_ok-tables.tables in
+    let h0 : List Blocks = t0.heaps.items in
+    let known0 : arities_of h0 ≡ q.arities = c.in_ok-tables.ensures.arities ∙ c.arities.ensures.arities in
+    let t1 : Tables = c.reserve.new.self in
+    let h1 : List Blocks = t1.heaps.items in
+    let known1 : arities_of h1 ≡ q.arities = same_arities h0 h1 c.reserve.ensures.heaps ∙ known0 in
+    let many1 : length h1 ≡ length q.arities = sym (length-map h1 (λ x. x.arity)) ∙ ap length known1 in
+    let many0 : length h0 ≡ length q.arities = sym (length-map h0 (λ x. x.arity)) ∙ ap length known0 in
+    let names1 : t1.names.entries ≡ [] = c.reserve.ensures.names ∙ c.in_ok-tables.ensures.names in
+    let pieces1 : heaps_pieces 0 h1 ≡ [] = same_pieces h0 h1 0 c.reserve.ensures.heaps ∙ c.in_ok-tables.ensures.heaps in
+    let pending1 : t1.pending.items ≡ [] = c.reserve.ensures.pending ∙ c.in_ok-tables.ensures.pending in
+    let n : ℕ = length q.arities in
+    let given : t0.registers.items ≡ constants n =
+    c.in_ok-tables.ensures.registers ∙ ap (λ (l : List ℕ). constants (length l)) c.arities.ensures.arities in
+    let registers1 : t1.registers.items ≡ constants n =
+    c.reserve.ensures.registers
+    ∙ (first_registers n (length h0) t0.registers.items many0 given ∙ ap constants many0) in
+    let t2 : Tables = c.make.new.self in
+    let h2 : List Blocks = t2.heaps.items in
+    let made = c.make.ensures.made in
+    let regs : List Word = constants n ++ (made.names ++ made.made) in
+    let registers2 : t2.registers.items ≡ regs =
+    made.registers ∙ ap (λ (l : List Word). l ++ (made.names ++ made.made)) registers1 in
+    let known2 : arities_of h2 ≡ q.arities = c.make.ensures.arities ∙ known1 in
+    let many2 : length h2 ≡ n = sym (length-map h2 (λ x. x.arity)) ∙ ap length known2 in
+    let words : List Word = c.in_ok-interface.interface.items in
+    let interface : words ≡ map (register regs) c.args.interface.now =
+    c.in_ok-interface.ensures
+    ∙ ap (λ (l : List Word). map (register l) c.args.interface.now) (c.deref.ensures.value ∙ registers2) in
+    let nothing : List Equation = c.new-2.result.items in
+    let end : List Piece = map equated_of t2.pending.items
+    ++ (map equated_of nothing ++ (names_pieces 0 t2.names.entries ++ heaps_pieces 0 h2)) in
+    let steps : Steps q [] (pieces_made p regs made.names made.made) end =
+    subst (λ (l : List Equation). Steps q [] (pieces_made p regs made.names made.made) (map equated_of t2.pending.items
+    ++ (map equated_of l ++ (names_pieces 0 t2.names.entries ++ heaps_pieces 0 h2)))) (sym c.new-2.ensures.items)
+    (start_steps q p t1 t2 made names1 pieces1 pending1 registers1) in
+    let separate : IsSeparate q.arities words end =
+    subst (λ (l : List Word). IsSeparate q.arities l end) (sym interface)
+    (steps_keep q [] (map (register regs) c.args.interface.now) (pieces_made p regs made.names made.made) end
+    c.arities.ensures.sound steps
+    (start_separate q.arities p c.args.interface.now made.names made.made start made.names_count made.made_count)) in
+    separate

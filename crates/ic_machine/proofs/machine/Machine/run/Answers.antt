@@ -1,0 +1,42 @@
+use Rattle.std.proofs.Common.{◌≡◌, ◌+◌, arith, sym, add-zero}
+use Rattle.ic_machine.proofs.Running.{ran_none, ran_on}
+use Rattle.ic_machine.proofs.machine.Machine.run.Goals as goal
+
+pub loop-step-init : goal.loop-step-init
+loop-step-init c = record {
+  ran = ran_none c.args.program.now c.args.self.now;
+  counted = sym (add-zero c.args.self.now.interactions);
+}
+
+pub returns-in_err-step-clause-ran : goal.returns-in_err-step-clause-ran
+returns-in_err-step-clause-ran c =
+    ran_on c.args.program.now c.args.self.now c.loop-step.self c.step.new.self c.loop-step.invariant.ran c.step.ensures.ran
+
+pub returns-then-not-branch-clause-ran : goal.returns-then-not-branch-clause-ran
+returns-then-not-branch-clause-ran c =
+    ran_on c.args.program.now c.args.self.now c.loop-step.self c.step.new.self c.loop-step.invariant.ran c.step.ensures.ran
+
+pub loop-step-preserved : goal.loop-step-preserved
+loop-step-preserved c =
+    let once : c.step.new.self.interactions ≡ c.loop-step.self.interactions + 1 =
+    c.in_ok-step.ensures.fired (cc (c.if-not-branch.false)) in
+    record {
+      ran = ran_on c.args.program.now c.args.self.now c.loop-step.self c.step.new.self c.loop-step.invariant.ran
+          c.step.ensures.ran;
+      counted = omega arith;
+    }
+
+pub returns-in_err-is_quiet-clause-ran : goal.returns-in_err-is_quiet-clause-ran
+returns-in_err-is_quiet-clause-ran c =
+    ran_on c.args.program.now c.args.self.now c.loop-step.self c.is_quiet.new.self c.loop-step.invariant.ran
+    c.is_quiet.ensures.ran
+
+pub returns-then-branch-clause-ran : goal.returns-then-branch-clause-ran
+returns-then-branch-clause-ran c =
+    ran_on c.args.program.now c.args.self.now c.loop-step.self c.is_quiet.new.self c.loop-step.invariant.ran
+    c.is_quiet.ensures.ran
+
+pub returns-else-branch-clause-ran : goal.returns-else-branch-clause-ran
+returns-else-branch-clause-ran c =
+    ran_on c.args.program.now c.args.self.now c.loop-step.self c.is_quiet.new.self c.loop-step.invariant.ran
+    c.is_quiet.ensures.ran

@@ -1,0 +1,322 @@
+use Rattle.std.proofs.Common.{◌≡◌, ◌+◌, ◌<◌, ℕ, List, [], ◌∷◌, ◌++◌, length, map, ap, sym, subst, refl, ◌∙◌, add-zero}
+use Rattle.std.proofs.lemmas.List.Sorted.{IsPermutation-refl}
+use Rattle.ic_arena.specs.declared.word.TheConstants.{GIVEN}
+use Rattle.ic_arena.specs.Piece.{Piece}
+use Rattle.ic_arena.specs.Tables.{Blocks, names_pieces}
+use Rattle.ic_machine.specs.declared.equation.Equation.{Equation}
+use Rattle.ic_machine.specs.declared.machine.Machine.TheInside.{Inside}
+use Rattle.ic_machine.specs.Plan.{Planned, Plans, planned}
+use Rattle.ic_machine.specs.Net.{Net, equated_of}
+use Rattle.ic_machine.specs.Runs.{Ran}
+use Rattle.ic_machine.specs.Separate.{IsSeparate}
+use Rattle.ic_machine.specs.Steps.{Steps, no_step}
+use Rattle.ic_machine.specs.inner.Firing.{arities_of, heaps_pieces}
+use Rattle.ic_machine.specs.inner.Machine.{net_of}
+use Rattle.ic_machine.specs.inner.Pairs.{CanFire, HasPlan}
+use Rattle.ic_machine.specs.inner.Tables.{IsNumbered}
+use Rattle.ic_machine.proofs.Heaps.{as_many}
+use Rattle.ic_machine.proofs.Running.{can_fire, held_separate, held_steps_separate, numbered, passed_pairs, passed_ran, passed_separate, passed_then}
+use Rattle.ic_machine.proofs.Sound.{passed_sound}
+use Rattle.ic_machine.proofs.machine.Machine.step.Goals as goal
+
+pub invariant_of-self : goal.invariant_of-self
+invariant_of-self c =
+    let new : Inside = record c.self.inside { aside = c.find_plan.new.aside; tables = record c.self.inside.tables { pending = c.find_plan.new.pending } } in
+    passed_sound c.args.program.now c.self.inside new c.self.invariant c.find_plan.ensures.passed refl refl refl refl
+
+pub invariant_of-self-in_default : goal.invariant_of-self-in_default
+invariant_of-self-in_default c =
+    let new : Inside = record c.self.inside { aside = c.find_plan.new.aside; tables = record c.self.inside.tables { pending = c.find_plan.new.pending } } in
+    passed_sound c.args.program.now c.self.inside new c.self.invariant c.find_plan.ensures.passed refl refl refl refl
+
+pub returns-in_err-found-clause-ran : goal.returns-in_err-found-clause-ran
+returns-in_err-found-clause-ran c =
+    let new : Inside = record c.self.inside { aside = c.find_plan.new.aside; tables = record c.self.inside.tables { pending = c.find_plan.new.pending } } in
+    subst (λ (n : Net). Ran c.args.program.now n (net_of new)) c.self.view_is
+    (passed_ran c.args.program.now (net_of c.self.inside) (net_of new) c.find_plan.ensures.passed refl refl refl refl)
+
+pub returns-in_default-clause-ran : goal.returns-in_default-clause-ran
+returns-in_default-clause-ran c =
+    let new : Inside = record c.self.inside { aside = c.find_plan.new.aside; tables = record c.self.inside.tables { pending = c.find_plan.new.pending } } in
+    subst (λ (n : Net). Ran c.args.program.now n (net_of new)) c.self.view_is
+    (passed_ran c.args.program.now (net_of c.self.inside) (net_of new) c.find_plan.ensures.passed refl refl refl refl)
+
+pub returns-in_err-found-clause-separate : goal.returns-in_err-found-clause-separate
+returns-in_err-found-clause-separate c =
+    let new : Inside = record c.self.inside { aside = c.find_plan.new.aside; tables = record c.self.inside.tables { pending = c.find_plan.new.pending } } in
+    (passed_sound c.args.program.now c.self.inside new c.self.invariant c.find_plan.ensures.passed refl refl refl refl).separate
+
+pub returns-in_default-clause-separate : goal.returns-in_default-clause-separate
+returns-in_default-clause-separate c =
+    let new : Inside = record c.self.inside { aside = c.find_plan.new.aside; tables = record c.self.inside.tables { pending = c.find_plan.new.pending } } in
+    (passed_sound c.args.program.now c.self.inside new c.self.invariant c.find_plan.ensures.passed refl refl refl refl).separate
+
+pub fire-requires-clause-plan : goal.fire-requires-clause-plan
+fire-requires-clause-plan c =
+    let q : Plans = c.args.program.now in
+    let e : Equation = c.in-Some.pair in
+    let plan : Planned = planned c.in-Some.plan.now in
+    let found = rw c.in-Some.is at c.in_ok-found.ensures.found in
+    let has : HasPlan q e plan = found.1 in
+    let m : Inside = c.self.inside in
+    let hs : List Blocks = m.tables.heaps.items in
+    let known : arities_of hs ≡ q.arities = ap (λ (n : Net). n.arities) c.self.view_is ∙ c.requires.arities in
+    let us : List Equation = c.find_plan.new.aside.items in
+    let ps : List Equation = c.find_plan.new.pending.items in
+    let n : List Piece = names_pieces 0 m.tables.names.entries in
+    let h : List Piece = heaps_pieces 0 hs in
+    let separate : IsSeparate (arities_of hs) m.interface.items (map equated_of ps ++ (map equated_of us ++ (n ++ h))) =
+    passed_separate (arities_of hs) m.interface.items q m.tables.pending.items m.aside.items ps us (n ++ h)
+    c.find_plan.ensures.passed c.self.invariant.separate in
+    subst (λ (a : List ℕ). CanFire a e plan) (sym known) (can_fire q e plan has)
+
+pub fire-requires-clause-separate : goal.fire-requires-clause-separate
+fire-requires-clause-separate c =
+    let q : Plans = c.args.program.now in
+    let e : Equation = c.in-Some.pair in
+    let plan : Planned = planned c.in-Some.plan.now in
+    let found = rw c.in-Some.is at c.in_ok-found.ensures.found in
+    let has : HasPlan q e plan = found.1 in
+    let m : Inside = c.self.inside in
+    let hs : List Blocks = m.tables.heaps.items in
+    let known : arities_of hs ≡ q.arities = ap (λ (n : Net). n.arities) c.self.view_is ∙ c.requires.arities in
+    let us : List Equation = c.find_plan.new.aside.items in
+    let ps : List Equation = c.find_plan.new.pending.items in
+    let n : List Piece = names_pieces 0 m.tables.names.entries in
+    let h : List Piece = heaps_pieces 0 hs in
+    let separate : IsSeparate (arities_of hs) m.interface.items (map equated_of ps ++ (map equated_of us ++ (n ++ h))) =
+    passed_separate (arities_of hs) m.interface.items q m.tables.pending.items m.aside.items ps us (n ++ h)
+    c.find_plan.ensures.passed c.self.invariant.separate in
+    held_separate (arities_of hs) m.interface.items (map equated_of ps) n h us separate
+
+pub invariant_of-self-in_err-fire : goal.invariant_of-self-in_err-fire
+invariant_of-self-in_err-fire c =
+    let q : Plans = c.args.program.now in
+    let e : Equation = c.in-Some.pair in
+    let plan : Planned = planned c.in-Some.plan.now in
+    let found = rw c.in-Some.is at c.in_ok-found.ensures.found in
+    let has : HasPlan q e plan = found.1 in
+    let m : Inside = c.self.inside in
+    let hs : List Blocks = m.tables.heaps.items in
+    let known : arities_of hs ≡ q.arities = ap (λ (n : Net). n.arities) c.self.view_is ∙ c.requires.arities in
+    let us : List Equation = c.find_plan.new.aside.items in
+    let ps : List Equation = c.find_plan.new.pending.items in
+    let n : List Piece = names_pieces 0 m.tables.names.entries in
+    let h : List Piece = heaps_pieces 0 hs in
+    let separate : IsSeparate (arities_of hs) m.interface.items (map equated_of ps ++ (map equated_of us ++ (n ++ h))) =
+    passed_separate (arities_of hs) m.interface.items q m.tables.pending.items m.aside.items ps us (n ++ h)
+    c.find_plan.ensures.passed c.self.invariant.separate in
+    let after : Inside = record m { aside = c.find_plan.new.aside; tables = c.fire.new.self; interactions = m.interactions } in
+    let gs : List Blocks = after.tables.heaps.items in
+    let qs : List Equation = after.tables.pending.items in
+    let n' : List Piece = names_pieces 0 after.tables.names.entries in
+    let h' : List Piece = heaps_pieces 0 gs in
+    let same : arities_of gs ≡ arities_of hs = c.fire.ensures.arities in
+    let many : length gs ≡ length hs = as_many hs gs same in
+    let start : List Piece = n ++ (h ++ (map equated_of ps ++ map equated_of us)) in
+    let end : List Piece = n' ++ (h' ++ (map equated_of qs ++ map equated_of us)) in
+    let stays : end ≡ start = c.in_err-fire.ensures.same us in
+    let steps : Steps q [] start end =
+    subst (λ (l : List Piece). Steps q [] start l) (sym stays) (no_step start start (IsPermutation-refl start)) in
+    let whole : IsSeparate (arities_of hs) m.interface.items (map equated_of qs ++ (map equated_of us ++ (n' ++ h'))) =
+    held_steps_separate q ([]) (arities_of hs) m.interface.items ps us qs n h n' h' has.sound known steps separate in
+    record {
+      separate = subst (λ (a : List ℕ). IsSeparate a m.interface.items (map equated_of qs ++ (map equated_of us ++ (n' ++ h'))))
+          (sym same) whole;
+      pairs = c.fire.ensures.pairs (passed_pairs q m.tables.pending.items m.aside.items ps us c.find_plan.ensures.passed
+          c.self.invariant.pairs);
+      names = c.fire.ensures.few;
+      symbols = subst (λ (k : ℕ). k < GIVEN) (sym many) c.self.invariant.symbols;
+      registers = c.fire.ensures.registers;
+    }
+
+pub returns-in_err-fire-clause-ran : goal.returns-in_err-fire-clause-ran
+returns-in_err-fire-clause-ran c =
+    let q : Plans = c.args.program.now in
+    let e : Equation = c.in-Some.pair in
+    let plan : Planned = planned c.in-Some.plan.now in
+    let found = rw c.in-Some.is at c.in_ok-found.ensures.found in
+    let has : HasPlan q e plan = found.1 in
+    let m : Inside = c.self.inside in
+    let hs : List Blocks = m.tables.heaps.items in
+    let known : arities_of hs ≡ q.arities = ap (λ (n : Net). n.arities) c.self.view_is ∙ c.requires.arities in
+    let us : List Equation = c.find_plan.new.aside.items in
+    let ps : List Equation = c.find_plan.new.pending.items in
+    let n : List Piece = names_pieces 0 m.tables.names.entries in
+    let h : List Piece = heaps_pieces 0 hs in
+    let separate : IsSeparate (arities_of hs) m.interface.items (map equated_of ps ++ (map equated_of us ++ (n ++ h))) =
+    passed_separate (arities_of hs) m.interface.items q m.tables.pending.items m.aside.items ps us (n ++ h)
+    c.find_plan.ensures.passed c.self.invariant.separate in
+    let after : Inside = record m { aside = c.find_plan.new.aside; tables = c.fire.new.self; interactions = m.interactions } in
+    let gs : List Blocks = after.tables.heaps.items in
+    let qs : List Equation = after.tables.pending.items in
+    let n' : List Piece = names_pieces 0 after.tables.names.entries in
+    let h' : List Piece = heaps_pieces 0 gs in
+    let same : arities_of gs ≡ arities_of hs = c.fire.ensures.arities in
+    let many : length gs ≡ length hs = as_many hs gs same in
+    let start : List Piece = n ++ (h ++ (map equated_of ps ++ map equated_of us)) in
+    let end : List Piece = n' ++ (h' ++ (map equated_of qs ++ map equated_of us)) in
+    let stays : end ≡ start = c.in_err-fire.ensures.same us in
+    let steps : Steps q [] start end =
+    subst (λ (l : List Piece). Steps q [] start l) (sym stays) (no_step start start (IsPermutation-refl start)) in
+    subst (λ (o : Net). Ran q o (net_of after)) c.self.view_is (record {
+      fired = [];
+      steps = passed_then q ([]) m.tables.pending.items m.aside.items ps us qs n h n' h'
+          c.find_plan.ensures.passed steps;
+      counted = sym (add-zero m.interactions);
+      arities = same;
+      interface = refl;
+      more = c.find_plan.ensures.passed.more;
+      aside = c.find_plan.ensures.passed.after;
+      stuck = c.find_plan.ensures.passed.stuck;
+    })
+
+pub returns-in_err-fire-clause-separate : goal.returns-in_err-fire-clause-separate
+returns-in_err-fire-clause-separate c =
+    let q : Plans = c.args.program.now in
+    let e : Equation = c.in-Some.pair in
+    let plan : Planned = planned c.in-Some.plan.now in
+    let found = rw c.in-Some.is at c.in_ok-found.ensures.found in
+    let has : HasPlan q e plan = found.1 in
+    let m : Inside = c.self.inside in
+    let hs : List Blocks = m.tables.heaps.items in
+    let known : arities_of hs ≡ q.arities = ap (λ (n : Net). n.arities) c.self.view_is ∙ c.requires.arities in
+    let us : List Equation = c.find_plan.new.aside.items in
+    let ps : List Equation = c.find_plan.new.pending.items in
+    let n : List Piece = names_pieces 0 m.tables.names.entries in
+    let h : List Piece = heaps_pieces 0 hs in
+    let separate : IsSeparate (arities_of hs) m.interface.items (map equated_of ps ++ (map equated_of us ++ (n ++ h))) =
+    passed_separate (arities_of hs) m.interface.items q m.tables.pending.items m.aside.items ps us (n ++ h)
+    c.find_plan.ensures.passed c.self.invariant.separate in
+    let after : Inside = record m { aside = c.find_plan.new.aside; tables = c.fire.new.self; interactions = m.interactions } in
+    let gs : List Blocks = after.tables.heaps.items in
+    let qs : List Equation = after.tables.pending.items in
+    let n' : List Piece = names_pieces 0 after.tables.names.entries in
+    let h' : List Piece = heaps_pieces 0 gs in
+    let same : arities_of gs ≡ arities_of hs = c.fire.ensures.arities in
+    let many : length gs ≡ length hs = as_many hs gs same in
+    let start : List Piece = n ++ (h ++ (map equated_of ps ++ map equated_of us)) in
+    let end : List Piece = n' ++ (h' ++ (map equated_of qs ++ map equated_of us)) in
+    let stays : end ≡ start = c.in_err-fire.ensures.same us in
+    let steps : Steps q [] start end =
+    subst (λ (l : List Piece). Steps q [] start l) (sym stays) (no_step start start (IsPermutation-refl start)) in
+    let whole : IsSeparate (arities_of hs) m.interface.items (map equated_of qs ++ (map equated_of us ++ (n' ++ h'))) =
+    held_steps_separate q ([]) (arities_of hs) m.interface.items ps us qs n h n' h' has.sound known steps separate in
+    subst (λ (a : List ℕ). IsSeparate a m.interface.items (map equated_of qs ++ (map equated_of us ++ (n' ++ h'))))
+    (sym same) whole
+
+pub invariant_of-self-2 : goal.invariant_of-self-2
+invariant_of-self-2 c =
+    let q : Plans = c.args.program.now in
+    let e : Equation = c.in-Some.pair in
+    let plan : Planned = planned c.in-Some.plan.now in
+    let found = rw c.in-Some.is at c.in_ok-found.ensures.found in
+    let has : HasPlan q e plan = found.1 in
+    let m : Inside = c.self.inside in
+    let hs : List Blocks = m.tables.heaps.items in
+    let known : arities_of hs ≡ q.arities = ap (λ (n : Net). n.arities) c.self.view_is ∙ c.requires.arities in
+    let us : List Equation = c.find_plan.new.aside.items in
+    let ps : List Equation = c.find_plan.new.pending.items in
+    let n : List Piece = names_pieces 0 m.tables.names.entries in
+    let h : List Piece = heaps_pieces 0 hs in
+    let separate : IsSeparate (arities_of hs) m.interface.items (map equated_of ps ++ (map equated_of us ++ (n ++ h))) =
+    passed_separate (arities_of hs) m.interface.items q m.tables.pending.items m.aside.items ps us (n ++ h)
+    c.find_plan.ensures.passed c.self.invariant.separate in
+    let after : Inside = record m { aside = c.find_plan.new.aside; tables = c.fire.new.self; interactions = m.interactions + 1 } in
+    let gs : List Blocks = after.tables.heaps.items in
+    let qs : List Equation = after.tables.pending.items in
+    let n' : List Piece = names_pieces 0 after.tables.names.entries in
+    let h' : List Piece = heaps_pieces 0 gs in
+    let same : arities_of gs ≡ arities_of hs = c.fire.ensures.arities in
+    let many : length gs ≡ length hs = as_many hs gs same in
+    let number : (i : ℕ) × IsNumbered q i has.left has.right plan = numbered q e plan has in
+    let start : List Piece = n ++ (h ++ (map equated_of ps ++ map equated_of us)) in
+    let end : List Piece = n' ++ (h' ++ (map equated_of qs ++ map equated_of us)) in
+    let steps : Steps q (number.0 ∷ []) start end =
+    c.in_ok-fire.ensures.fires q number.0 has.left has.right us has.left_tag has.right_tag (sym known) number.1 in
+    let whole : IsSeparate (arities_of hs) m.interface.items (map equated_of qs ++ (map equated_of us ++ (n' ++ h'))) =
+    held_steps_separate q (number.0 ∷ []) (arities_of hs) m.interface.items ps us qs n h n' h' has.sound known steps separate in
+    record {
+      separate = subst (λ (a : List ℕ). IsSeparate a m.interface.items (map equated_of qs ++ (map equated_of us ++ (n' ++ h'))))
+          (sym same) whole;
+      pairs = c.fire.ensures.pairs (passed_pairs q m.tables.pending.items m.aside.items ps us c.find_plan.ensures.passed
+          c.self.invariant.pairs);
+      names = c.fire.ensures.few;
+      symbols = subst (λ (k : ℕ). k < GIVEN) (sym many) c.self.invariant.symbols;
+      registers = c.fire.ensures.registers;
+    }
+
+pub returns-clause-ran : goal.returns-clause-ran
+returns-clause-ran c =
+    let q : Plans = c.args.program.now in
+    let e : Equation = c.in-Some.pair in
+    let plan : Planned = planned c.in-Some.plan.now in
+    let found = rw c.in-Some.is at c.in_ok-found.ensures.found in
+    let has : HasPlan q e plan = found.1 in
+    let m : Inside = c.self.inside in
+    let hs : List Blocks = m.tables.heaps.items in
+    let known : arities_of hs ≡ q.arities = ap (λ (n : Net). n.arities) c.self.view_is ∙ c.requires.arities in
+    let us : List Equation = c.find_plan.new.aside.items in
+    let ps : List Equation = c.find_plan.new.pending.items in
+    let n : List Piece = names_pieces 0 m.tables.names.entries in
+    let h : List Piece = heaps_pieces 0 hs in
+    let separate : IsSeparate (arities_of hs) m.interface.items (map equated_of ps ++ (map equated_of us ++ (n ++ h))) =
+    passed_separate (arities_of hs) m.interface.items q m.tables.pending.items m.aside.items ps us (n ++ h)
+    c.find_plan.ensures.passed c.self.invariant.separate in
+    let after : Inside = record m { aside = c.find_plan.new.aside; tables = c.fire.new.self; interactions = m.interactions + 1 } in
+    let gs : List Blocks = after.tables.heaps.items in
+    let qs : List Equation = after.tables.pending.items in
+    let n' : List Piece = names_pieces 0 after.tables.names.entries in
+    let h' : List Piece = heaps_pieces 0 gs in
+    let same : arities_of gs ≡ arities_of hs = c.fire.ensures.arities in
+    let many : length gs ≡ length hs = as_many hs gs same in
+    let number : (i : ℕ) × IsNumbered q i has.left has.right plan = numbered q e plan has in
+    let start : List Piece = n ++ (h ++ (map equated_of ps ++ map equated_of us)) in
+    let end : List Piece = n' ++ (h' ++ (map equated_of qs ++ map equated_of us)) in
+    let steps : Steps q (number.0 ∷ []) start end =
+    c.in_ok-fire.ensures.fires q number.0 has.left has.right us has.left_tag has.right_tag (sym known) number.1 in
+    subst (λ (o : Net). Ran q o (net_of after)) c.self.view_is (record {
+      fired = number.0 ∷ [];
+      steps = passed_then q (number.0 ∷ []) m.tables.pending.items m.aside.items ps us qs n h n' h'
+          c.find_plan.ensures.passed steps;
+      counted = refl;
+      arities = same;
+      interface = refl;
+      more = c.find_plan.ensures.passed.more;
+      aside = c.find_plan.ensures.passed.after;
+      stuck = c.find_plan.ensures.passed.stuck;
+    })
+
+pub returns-clause-separate : goal.returns-clause-separate
+returns-clause-separate c =
+    let q : Plans = c.args.program.now in
+    let e : Equation = c.in-Some.pair in
+    let plan : Planned = planned c.in-Some.plan.now in
+    let found = rw c.in-Some.is at c.in_ok-found.ensures.found in
+    let has : HasPlan q e plan = found.1 in
+    let m : Inside = c.self.inside in
+    let hs : List Blocks = m.tables.heaps.items in
+    let known : arities_of hs ≡ q.arities = ap (λ (n : Net). n.arities) c.self.view_is ∙ c.requires.arities in
+    let us : List Equation = c.find_plan.new.aside.items in
+    let ps : List Equation = c.find_plan.new.pending.items in
+    let n : List Piece = names_pieces 0 m.tables.names.entries in
+    let h : List Piece = heaps_pieces 0 hs in
+    let separate : IsSeparate (arities_of hs) m.interface.items (map equated_of ps ++ (map equated_of us ++ (n ++ h))) =
+    passed_separate (arities_of hs) m.interface.items q m.tables.pending.items m.aside.items ps us (n ++ h)
+    c.find_plan.ensures.passed c.self.invariant.separate in
+    let after : Inside = record m { aside = c.find_plan.new.aside; tables = c.fire.new.self; interactions = m.interactions + 1 } in
+    let gs : List Blocks = after.tables.heaps.items in
+    let qs : List Equation = after.tables.pending.items in
+    let n' : List Piece = names_pieces 0 after.tables.names.entries in
+    let h' : List Piece = heaps_pieces 0 gs in
+    let same : arities_of gs ≡ arities_of hs = c.fire.ensures.arities in
+    let many : length gs ≡ length hs = as_many hs gs same in
+    let number : (i : ℕ) × IsNumbered q i has.left has.right plan = numbered q e plan has in
+    let start : List Piece = n ++ (h ++ (map equated_of ps ++ map equated_of us)) in
+    let end : List Piece = n' ++ (h' ++ (map equated_of qs ++ map equated_of us)) in
+    let steps : Steps q (number.0 ∷ []) start end =
+    c.in_ok-fire.ensures.fires q number.0 has.left has.right us has.left_tag has.right_tag (sym known) number.1 in
+    let whole : IsSeparate (arities_of hs) m.interface.items (map equated_of qs ++ (map equated_of us ++ (n' ++ h'))) =
+    held_steps_separate q (number.0 ∷ []) (arities_of hs) m.interface.items ps us qs n h n' h' has.sound known steps separate in
+    subst (λ (a : List ℕ). IsSeparate a m.interface.items (map equated_of qs ++ (map equated_of us ++ (n' ++ h'))))
+    (sym same) whole

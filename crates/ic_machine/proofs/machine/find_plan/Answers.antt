@@ -1,0 +1,43 @@
+use Rattle.std.proofs.Common.{◌≡◌, ◌+◌, ◌-◌, ℕ, List, [], ◌∷◌, ◌++◌, Bool, true, cond, length, take, slice_get, Some, ap, not, sym, subst, ◌∙◌}
+use Rattle.std.specs.List.{AllByRecursion}
+use Rattle.ic_machine.specs.declared.equation.Equation.{Equation}
+use Rattle.ic_machine.specs.inner.Linking.{IsPair}
+use Rattle.ic_machine.specs.inner.Pairs.{IsLast, Passed}
+use Rattle.ic_machine.proofs.Fresh.{all_back, all_front}
+use Rattle.ic_machine.proofs.Running.{last_here, passed_more, passed_none, popped}
+use Rattle.ic_machine.proofs.machine.find_plan.Goals as goal
+
+pub loop-pair-init : goal.loop-pair-init
+loop-pair-init c = record {
+  pairs = c.requires;
+  passed = passed_none c.args.program.now c.args.pending.now.items c.args.aside.now.items;
+}
+
+pub loop-pair-preserved : goal.loop-pair-preserved
+loop-pair-preserved c =
+    let es : List Equation = c.loop-pair.pending.items in
+    let us : List Equation = c.loop-pair.aside.items in
+    let new : List Equation = c.pop.new.self.items in
+    let e : Equation = c.in-Some.pair.now in
+    let at : slice_get es (length es - 1) ≡ Some e =
+    subst (λ (l : List Equation). slice_get l (length l - 1) ≡ Some e) c.deref.ensures.value
+    (sym c.in-Some.ensures.value) in
+    let last : IsLast e es × ((length es - 1) + 1 ≡ length es) = last_here es e at in
+    let rest : new ≡ take (length es - 1) es =
+    c.pop.ensures.rest ∙ ap (λ (k : ℕ). take (k - 1) es) c.loop-pair.pending.ok.0 in
+    let parts : es ≡ new ++ e ∷ [] = popped es new (length es - 1) e last.0 last.1 rest in
+    let pairs : AllByRecursion IsPair (new ++ e ∷ []) =
+    subst (λ (l : List Equation). AllByRecursion IsPair l) parts c.loop-pair.invariant.pairs in
+    let fine : ◌≡◌ {A = Bool} true (not c.is_err.result) = sym (ap not c.if-is_err.false) in
+    let pushed : c.push.new.self.items ≡ us ++ e ∷ [] =
+    c.push.ensures.items
+    ∙ ap (λ (b : Bool). cond b (us ++ e ∷ []) us) (c.is_err.ensures.negation ∙ sym fine) in
+    record {
+      pairs = all_front IsPair new (e ∷ []) pairs;
+      passed = subst (λ (l : List Equation). Passed c.args.program.now c.args.pending.now.items c.args.aside.now.items new l)
+          (sym pushed)
+          (passed_more c.args.program.now c.args.pending.now.items c.args.aside.now.items new us e
+          (subst (λ (l : List Equation). Passed c.args.program.now c.args.pending.now.items c.args.aside.now.items l us)
+          parts c.loop-pair.invariant.passed)
+          (c.in_default-plan_for.ensures.none (all_back IsPair new (e ∷ []) pairs).0));
+    }

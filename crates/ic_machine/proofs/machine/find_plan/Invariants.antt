@@ -1,0 +1,14 @@
+use Rattle.std.proofs.Common.{vec_len}
+use Rattle.std.specs.List.{AllByRecursion}
+use Rattle.ic_machine.specs.inner.Linking.{IsPair}
+use Rattle.ic_machine.specs.inner.Pairs.{Passed}
+use Rattle.ic_machine.proofs.machine.find_plan.Given as goal
+
+abbrev pub invariant-loop-pair : goal.invariant-loop-pair
+invariant-loop-pair l = record {
+  pairs : AllByRecursion IsPair l.pending.items;
+  passed : Passed l.program l.initial.pending.items l.initial.aside.items l.pending.items l.aside.items;
+}
+
+abbrev pub decreases-loop-pair : goal.decreases-loop-pair
+decreases-loop-pair l = vec_len l.pending

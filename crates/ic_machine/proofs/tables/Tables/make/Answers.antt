@@ -1,0 +1,157 @@
+use Rattle.std.proofs.Common.{◌≡◌, ◌+◌, ◌<◌, ◌≤◌, ℕ, List, [], ◌++◌, length, map, ap, sym, subst, ◌∙◌, append_assoc, arith, vec_capacity}
+use Rattle.std.specs.List.{AllByRecursion}
+use Rattle.std.proofs.lemmas.List.{length-append, length-map}
+use Rattle.ic_arena.specs.declared.word.Word.{Word}
+use Rattle.ic_arena.specs.declared.word.TheConstants.{IDLE}
+use Rattle.ic_arena.specs.Tables.{Blocks, names_pieces}
+use Rattle.ic_machine.specs.declared.equation.Equation.{Equation}
+use Rattle.ic_machine.specs.declared.plan.Link.{Link}
+use Rattle.ic_machine.specs.declared.plan.Make.{Make}
+use Rattle.ic_machine.specs.declared.tables.Tables.{Tables}
+use Rattle.ic_machine.specs.Plan.{Planned, AreMade, constants, linked, made_of, pieces_made, planned}
+use Rattle.ic_machine.specs.Net.{equated_of}
+use Rattle.ic_machine.specs.Steps.{Steps}
+use Rattle.ic_machine.specs.inner.Firing.{arities_of, heaps_pieces, HasRoom, Makes, Opened}
+use Rattle.ic_machine.specs.inner.Linking.{AreLinks}
+use Rattle.ic_machine.specs.lemmas.FiringKeeps.{all_append}
+use Rattle.ic_machine.proofs.Making.{constant_words, filled_count, made_fresh, made_steps, name_words, plan_links}
+use Rattle.ic_machine.proofs.tables.Tables.make.Goals as goal
+
+pub make_agents-requires-clause-made : goal.make_agents-requires-clause-made
+make_agents-requires-clause-made c =
+    let t : Tables = c.args.self.now in
+    let p : Planned = planned c.args.plan.now in
+    let ready = c.requires.ready in
+    let opened = c.open_names.ensures.opened in
+    let symbols : ℕ = length t.heaps.items in
+    let arities : length (arities_of t.heaps.items) ≡ symbols = length-map t.heaps.items (λ b. b.arity) in
+    let a : length t.registers.items ≡ symbols + length ready.args =
+    ap length ready.filled ∙ filled_count symbols ready.args in
+    let b : length c.open_names.new.registers.items ≡ length t.registers.items + length opened.names =
+    ap length opened.pushed ∙ length-append t.registers.items opened.names in
+    let n : length opened.names ≡ p.names = opened.count in
+    let filled : length (arities_of t.heaps.items) + length ready.args + p.names
+    ≡ length c.open_names.new.registers.items = omega arith in
+    subst (λ (l : List Make). AreMade (arities_of t.heaps.items) (length c.open_names.new.registers.items) (map made_of l))
+    (sym c.deref.ensures.value)
+    (subst (λ (k : ℕ). AreMade (arities_of t.heaps.items) k p.made) filled ready.plan.made)
+
+pub make_agents-requires-clause-words : goal.make_agents-requires-clause-words
+make_agents-requires-clause-words c =
+    let t : Tables = c.args.self.now in
+    let ready = c.requires.ready in
+    let opened = c.open_names.ensures.opened in
+    let symbols : ℕ = length t.heaps.items in
+    let is : c.open_names.new.registers.items ≡ (constants symbols ++ ready.args) ++ opened.names =
+    opened.pushed ∙ ap (λ (l : List Word). l ++ opened.names) ready.filled in
+    subst (λ (l : List Word). AllByRecursion (λ w. w.tag < IDLE) l) (sym is)
+    (all_append (λ w. w.tag < IDLE) (constants symbols ++ ready.args) opened.names
+    (all_append (λ w. w.tag < IDLE) (constants symbols) ready.args (constant_words symbols ready.symbols) ready.words)
+    (name_words opened.names opened.tags))
+
+pub make_agents-requires-clause-room : goal.make_agents-requires-clause-room
+make_agents-requires-clause-room c =
+    let t : Tables = c.args.self.now in
+    subst (λ (l : List Make). AllByRecursion (HasRoom t.heaps.items (length l)) (map made_of l))
+    (sym c.deref.ensures.value)
+    (subst (λ (k : ℕ). AllByRecursion (HasRoom t.heaps.items k) (map made_of c.args.plan.now.makes.items))
+    (length-map c.args.plan.now.makes.items made_of) c.requires.memory.heaps)
+
+pub make_agents-requires-clause-registers : goal.make_agents-requires-clause-registers
+make_agents-requires-clause-registers c =
+    let t : Tables = c.args.self.now in
+    let p : Planned = planned c.args.plan.now in
+    let opened = c.open_names.ensures.opened in
+    let enough : length t.registers.items + (0 + p.names + length p.made) ≤ vec_capacity t.registers =
+    c.requires.memory.registers in
+    let b : length c.open_names.new.registers.items ≡ length t.registers.items + length opened.names =
+    ap length opened.pushed ∙ length-append t.registers.items opened.names in
+    let n : length opened.names ≡ p.names = opened.count in
+    let whole = c.open_names.new.registers.ok.0 in
+    let made : length c.deref.result.now ≡ length p.made =
+    ap length c.deref.ensures.value ∙ sym (length-map c.args.plan.now.makes.items made_of) in
+    omega (arith, c.open_names.ensures.capacity)
+
+pub link_each-requires-clause-links : goal.link_each-requires-clause-links
+link_each-requires-clause-links c =
+    let t : Tables = c.args.self.now in
+    let p : Planned = planned c.args.plan.now in
+    let ready = c.requires.ready in
+    let opened = c.open_names.ensures.opened in
+    let makes = c.make_agents.ensures.made in
+    let symbols : ℕ = length t.heaps.items in
+    let arities : length (arities_of t.heaps.items) ≡ symbols = length-map t.heaps.items (λ b. b.arity) in
+    let made : length makes.places ≡ length p.made =
+    makes.count ∙ ap (λ (l : List Make). length (map made_of l)) c.deref.ensures.value in
+    let is : c.make_agents.new.registers.items
+    ≡ constants (length (arities_of t.heaps.items)) ++ (ready.args ++ (opened.names ++ makes.places)) =
+    makes.pushed
+    ∙ (ap (λ (l : List Word). l ++ makes.places) (opened.pushed ∙ ap (λ (l : List Word). l ++ opened.names) ready.filled)
+    ∙ (append_assoc (constants symbols ++ ready.args) opened.names makes.places
+    ∙ (append_assoc (constants symbols) ready.args (opened.names ++ makes.places)
+    ∙ ap (λ (k : ℕ). constants k ++ (ready.args ++ (opened.names ++ makes.places))) (sym arities)))) in
+    subst (λ (l : List Link). AreLinks l c.deref-3.result.now c.open_names.new.names.entries)
+    (sym c.deref-2.ensures.value)
+    (subst (λ (l : List Word). AreLinks p.links l c.open_names.new.names.entries) (sym (c.deref-3.ensures.value ∙ is))
+    (plan_links (arities_of t.heaps.items) p ready.args opened.names makes.places t.names.entries
+    c.open_names.new.names.entries ready.plan opened.count made makes.tags
+    (subst (λ (l : List Word). AllByRecursion (λ w. w.tag < IDLE) l) is c.make_agents.ensures.words)
+    opened.pieces ready.named))
+
+pub link_each-requires-clause-room : goal.link_each-requires-clause-room
+link_each-requires-clause-room c =
+    let t : Tables = c.args.self.now in
+    let p : Planned = planned c.args.plan.now in
+    let whole = t.pending.ok.0 in
+    let enough : length t.pending.items + length p.links ≤ vec_capacity t.pending = c.requires.memory.pending in
+    let links : length c.deref-2.result.now ≡ length p.links = ap length c.deref-2.ensures.value in
+    omega arith
+
+pub returns-clause-made : goal.returns-clause-made
+returns-clause-made c =
+    let t : Tables = c.args.self.now in
+    let p : Planned = planned c.args.plan.now in
+    let r0 : List Word = t.registers.items in
+    let r1 : List Word = c.open_names.new.registers.items in
+    let r2 : List Word = c.make_agents.new.registers.items in
+    let ns : List Word = t.names.entries in
+    let ns' : List Word = c.open_names.new.names.entries in
+    let ns'' : List Word = c.link_each.new.names.entries in
+    let hs : List Blocks = t.heaps.items in
+    let hs' : List Blocks = c.make_agents.new.heaps.items in
+    let ps : List Equation = t.pending.items in
+    let qs : List Equation = c.link_each.new.pending.items in
+    let opened : Opened p.names ns ns' r0 r1 = c.open_names.ensures.opened in
+    let makes : Makes p.made (heaps_pieces 0 hs) (heaps_pieces 0 hs') r1 r2 =
+    subst (λ (l : List Make). Makes (map made_of l) (heaps_pieces 0 hs) (heaps_pieces 0 hs') r1 r2)
+    c.deref.ensures.value c.make_agents.ensures.made in
+    let is : r2 ≡ r0 ++ (opened.names ++ makes.places) =
+    makes.pushed ∙ (ap (λ (l : List Word). l ++ makes.places) opened.pushed
+    ∙ append_assoc r0 opened.names makes.places) in
+    record {
+      names = opened.names;
+      made = makes.places;
+      names_count = opened.count;
+      made_count = makes.count;
+      registers = is;
+      fresh = λ rest. made_fresh p.names p.made ns ns' hs (heaps_pieces 0 hs') r0 r1 r2 ps rest opened makes;
+      steps = λ q rest. subst (λ (l : List Word). Steps q []
+          (pieces_made p l opened.names makes.places
+          ++ (names_pieces 0 ns ++ (heaps_pieces 0 hs ++ (map equated_of ps ++ rest))))
+          (names_pieces 0 ns'' ++ (heaps_pieces 0 hs' ++ (map equated_of qs ++ rest)))) is
+          (made_steps q p p.names ns ns' ns'' hs hs' r0 r1 r2 (map equated_of ps) (map equated_of qs) rest opened makes
+          (λ others. subst (λ (l : List Link). Steps q []
+          (map (linked r2) l ++ (names_pieces 0 ns' ++ (map equated_of ps ++ others)))
+          (names_pieces 0 ns'' ++ (map equated_of qs ++ others))) c.deref-2.ensures.value
+          (subst (λ (l : List Word). Steps q []
+          (map (linked l) c.deref-2.result.now ++ (names_pieces 0 ns' ++ (map equated_of ps ++ others)))
+          (names_pieces 0 ns'' ++ (map equated_of qs ++ others))) c.deref-3.ensures.value
+          (c.link_each.ensures.steps q others))));
+    }
+
+pub returns-clause-few : goal.returns-clause-few
+returns-clause-few c =
+    let few = c.requires.memory.few in
+    let linked_names = c.link_each.ensures.names in
+    let opened_names = c.open_names.ensures.few in
+    omega arith

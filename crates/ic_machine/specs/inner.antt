@@ -1,0 +1,6 @@
+-- For private functions. No public clause needs what stands here.
+pub mod Linking
+pub mod Firing
+pub mod Pairs
+pub mod Tables
+pub mod Machine

@@ -1,0 +1,31 @@
+-- The net that the tables of a machine hold, and what they keep.
+use Rattle.std.specs.Prelude.{◌≡◌, ◌^◌, ◌<◌, ◌++◌, length, take}
+use Rattle.std.specs.List.{AllByRecursion}
+use Rattle.ic_arena.specs.declared.word.TheConstants.{GIVEN}
+use Rattle.ic_arena.specs.Tables.{names_pieces}
+use Rattle.ic_machine.specs.declared.machine.Machine.TheInside.{Inside}
+use Rattle.ic_machine.specs.Plan.{constants}
+use Rattle.ic_machine.specs.Net.{Net, pieces}
+use Rattle.ic_machine.specs.Separate.{IsSeparate}
+use Rattle.ic_machine.specs.inner.Firing.{heaps_pieces, arities_of}
+use Rattle.ic_machine.specs.inner.Linking.{IsPair}
+
+abbrev pub net_of : Inside → Net
+net_of m = record {
+  arities = arities_of m.tables.heaps.items;
+  interface = m.interface.items;
+  pending = m.tables.pending.items;
+  aside = m.aside.items;
+  places = names_pieces 0 m.tables.names.entries ++ heaps_pieces 0 m.tables.heaps.items;
+  interactions = m.interactions;
+}
+
+-- The net is separate, and no side of a pending pair is a name. There are numbers for all names and symbols, and the first
+-- registers hold the agents without arguments.
+pub record IsSound (m : Inside) : Type 0 where
+  pub separate : IsSeparate (arities_of m.tables.heaps.items) m.interface.items (pieces (net_of m))
+  pub pairs : AllByRecursion IsPair m.tables.pending.items
+  pub names : length m.tables.names.entries < 2 ^ 32
+  pub symbols : length m.tables.heaps.items < GIVEN
+  pub registers : take (length m.tables.heaps.items) m.tables.registers.items
+      ≡ constants (length m.tables.heaps.items)

@@ -1,0 +1,54 @@
+-- The tables of a machine, and what a firing does to them.
+use Rattle.std.specs.Prelude.{◌≡◌, ℕ, ◌+◌, ◌^◌, ◌<◌, ◌≤◌, List, [], ◌++◌, Some, length, map, slice_get, sum_by, vec_capacity}
+use Rattle.std.specs.List.{AllByRecursion}
+use Rattle.ic_arena.specs.declared.word.Word.{Word}
+use Rattle.ic_arena.specs.declared.word.TheConstants.{IDLE, GIVEN}
+use Rattle.ic_arena.specs.Word.{name_word, count}
+use Rattle.ic_arena.specs.Piece.{Piece, room, uses}
+use Rattle.ic_arena.specs.Tables.{names_pieces}
+use Rattle.ic_machine.specs.declared.equation.Equation.{Equation}
+use Rattle.ic_machine.specs.declared.tables.Tables.{Tables}
+use Rattle.ic_machine.specs.Plan.{Planned, Plans, IsPlan, constants, number_of, pieces_made}
+use Rattle.ic_machine.specs.Net.{equated_of}
+use Rattle.ic_machine.specs.Steps.{AreFresh, Steps}
+use Rattle.ic_machine.specs.inner.Firing.{heaps_pieces, arities_of, HasRoom}
+
+-- what the tables say, and after it other pieces
+abbrev pub held : Tables → List Piece → List Piece
+held t rest = names_pieces 0 t.names.entries
+    ++ (heaps_pieces 0 t.heaps.items ++ (map equated_of t.pending.items ++ rest))
+
+-- there is memory for what a plan makes, after so many arguments
+pub record HasMemory (p : Planned) (arguments : ℕ) (t : Tables) : Type 0 where
+  pub names : length t.names.entries + p.names ≤ t.names.capacity
+  pub few : length t.names.entries + p.names < 2 ^ 32
+  pub pending : length t.pending.items + length p.links ≤ vec_capacity t.pending
+  pub registers : length t.registers.items + (arguments + p.names + length p.made) ≤ vec_capacity t.registers
+  pub heaps : AllByRecursion (HasRoom t.heaps.items (length p.made)) p.made
+
+-- The registers hold the agents without arguments and these arguments, of which a plan can make what it makes: no word is a
+-- mark, and each name is named at most as often as there is room.
+pub record IsReady (p : Planned) (t : Tables) : Type 0 where
+  pub args : List Word
+  pub filled : t.registers.items ≡ constants (length t.heaps.items) ++ args
+  pub plan : IsPlan (arities_of t.heaps.items) (length args) p
+  pub words : AllByRecursion (λ w. w.tag < IDLE) args
+  pub symbols : length t.heaps.items < GIVEN
+  pub named : (i : ℕ) → count (name_word i) args + sum_by (uses (name_word i)) (names_pieces 0 t.names.entries)
+      ≤ sum_by (room (name_word i)) (names_pieces 0 t.names.entries)
+
+-- What a plan makes is made, at places that were free, and its equations are linked.
+pub record IsMade (p : Planned) (old new : Tables) : Type 0 where
+  pub names : List Word
+  pub made : List Word
+  pub names_count : length names ≡ p.names
+  pub made_count : length made ≡ length p.made
+  pub registers : new.registers.items ≡ old.registers.items ++ (names ++ made)
+  pub fresh : (rest : List Equation) → AreFresh (names ++ made) (held old (map equated_of rest))
+  pub steps : (q : Plans) (rest : List Piece) → Steps q []
+      (pieces_made p (old.registers.items ++ (names ++ made)) names made ++ held old rest) (held new rest)
+
+-- The plan of these symbols has this number in a program.
+pub record IsNumbered (p : Plans) (i : ℕ) (left right : ℕ) (plan : Planned) : Type 0 where
+  pub number : number_of p left right ≡ Some i
+  pub has_plan : slice_get p.plans i ≡ Some plan

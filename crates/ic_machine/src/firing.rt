@@ -1,0 +1,92 @@
+//! What a firing takes, opens and makes.
+
+ghost use Rattle.std.specs.Prelude.{◌≡◌, ℕ, ◌+◌, ◌-◌, ◌^◌, ◌<◌, ◌≤◌, List, [], ◌∷◌, ◌++◌, map, length, sum_by, vec_len, vec_capacity, OnOk};
+ghost use Rattle.std.specs.List.{AllByRecursion};
+ghost use Rattle.ic_arena.specs.Piece.{room};
+ghost use Rattle.ic_arena.specs.declared.word.TheConstants.{GIVEN, IDLE};
+ghost use Rattle.ic_machine.specs.Plan.{made_of, AreMade};
+ghost use Rattle.ic_machine.specs.inner.Firing.{heaps_pieces, arities_of, table, Taken, Opened, Makes, SameSize, AreSame, HasRoom};
+
+use crate::machine::MachineFault;
+use crate::plan::Make;
+use ic_arena::{Heap, Names, Word};
+
+/// Entries of a table: numbers of names and of blocks are below this.
+pub(crate) const MAX_ENTRIES: usize = 0xffff_ffff;
+
+/// Takes the memory for agents.
+pub(crate) fn reserve_blocks(heaps: &mut Vec<Heap>, makes: &[Make]) -> Result<(), MachineFault>
+    requires known { AllByRecursion (λ m. m.symbol < length heaps.old.items)
+        (map made_of makes.now) }
+    ensures same { AreSame heaps.old.items heaps.new.items }
+    ensures room { OnOk result (AllByRecursion (HasRoom heaps.new.items (length makes.now))
+        (map made_of makes.now)) }
+{
+    for make in makes {
+        let heap = &mut heaps[make.symbol as usize];
+        if makes.len() > MAX_ENTRIES - heap.count() as usize {
+            return Err(MachineFault::Limit);
+        }
+        heap.reserve(makes.len() * heap.arity() as usize)?;
+    }
+    Ok(())
+}
+
+/// Takes the arguments of an agent out of its block.
+pub(crate) fn take(heaps: &mut Vec<Heap>, agent: Word, registers: &mut Vec<Word>)
+    requires some { 1 ≤ agent.tag }
+    requires symbol { agent.tag ≤ length heaps.old.items }
+    requires there { 1 ≤ (table heaps.old.items (agent.tag - 1)).arity
+        → 1 ≤ sum_by (room agent) (heaps_pieces 0 heaps.old.items) }
+    requires room { vec_len registers.old + (table heaps.old.items (agent.tag - 1)).arity
+        ≤ vec_capacity registers.old }
+    ensures taken { Taken agent (table heaps.old.items (agent.tag - 1)).arity
+        (heaps_pieces 0 heaps.old.items) (heaps_pieces 0 heaps.new.items)
+        registers.old.items registers.new.items }
+    ensures sizes { (s : ℕ) → SameSize (table heaps.old.items s) (table heaps.new.items s) }
+    ensures arities { arities_of heaps.new.items ≡ arities_of heaps.old.items }
+    ensures capacity { vec_capacity registers.new ≡ vec_capacity registers.old }
+{
+    let heap = &mut heaps[agent.tag as usize - 1];
+    if heap.arity() > 0 {
+        heap.take(agent.index, registers);
+    }
+}
+
+/// Opens so many names.
+pub(crate) fn open_names(names: &mut Names, count: u32, registers: &mut Vec<Word>)
+    requires room { length names.old.entries + count ≤ names.old.capacity }
+    requires few { length names.old.entries + count < 2 ^ 32 }
+    requires registers { vec_len registers.old + count ≤ vec_capacity registers.old }
+    ensures opened { Opened count names.old.entries names.new.entries
+        registers.old.items registers.new.items }
+    ensures few { length names.new.entries ≤ length names.old.entries + count }
+    ensures capacity { vec_capacity registers.new ≡ vec_capacity registers.old }
+{
+    for opened in 0..count {
+        let name = names.open();
+        registers.push_reserved(Word::name(name));
+    }
+}
+
+/// Makes agents.
+pub(crate) fn make_agents(heaps: &mut Vec<Heap>, makes: &[Make], registers: &mut Vec<Word>)
+    requires made { AreMade (arities_of heaps.old.items) (length registers.old.items)
+        (map made_of makes.now) }
+    requires words { AllByRecursion (λ w. w.tag < IDLE) registers.old.items }
+    requires symbols { length heaps.old.items < GIVEN }
+    requires room { AllByRecursion (HasRoom heaps.old.items (length makes.now))
+        (map made_of makes.now) }
+    requires registers { vec_len registers.old + length makes.now ≤ vec_capacity registers.old }
+    ensures made { Makes (map made_of makes.now)
+        (heaps_pieces 0 heaps.old.items) (heaps_pieces 0 heaps.new.items)
+        registers.old.items registers.new.items }
+    ensures words { AllByRecursion (λ w. w.tag < IDLE) registers.new.items }
+    ensures arities { arities_of heaps.new.items ≡ arities_of heaps.old.items }
+{
+    for make in makes {
+        let heap = &mut heaps[make.symbol as usize];
+        let block = heap.put(&make.operands, registers);
+        registers.push_reserved(Word::agent(make.symbol, block));
+    }
+}

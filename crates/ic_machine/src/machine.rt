@@ -1,0 +1,217 @@
+//! The machine.
+
+ghost use Rattle.std.specs.Prelude.{◌≡◌, ℕ, ◌+◌, ◌^◌, ◌<◌, ◌≤◌, List, [], ◌∷◌, ◌++◌, true, false, Ok, length, map, IfOk, OnErr, MatchOption};
+ghost use Rattle.std.specs.List.{AllByRecursion};
+ghost use Rattle.ic_arena.specs.declared.word.TheConstants.{GIVEN};
+ghost use Rattle.ic_arena.specs.Tables.{register};
+ghost use Rattle.ic_machine.specs.Plan.{planned};
+ghost use Rattle.ic_machine.specs.Separate.{IsSeparate};
+ghost use Rattle.ic_machine.specs.Runs.{IsStart, Starts, Ran};
+ghost use Rattle.ic_machine.specs.Net.{pieces};
+ghost use Rattle.ic_machine.specs.inner.Linking.{IsPair};
+ghost use Rattle.ic_machine.specs.inner.Pairs.{HasPlan, IsLast, Passed};
+
+use crate::equation::Equation;
+use crate::plan::{Plan, Program};
+use crate::tables::Tables;
+use ic_arena::Word;
+use std::alloc::{AllocError, Global};
+use std::marker::Model;
+
+/// How a run has ended.
+#[derive(Clone, Copy, Debug, PartialEq, Eq)]
+pub enum Ended {
+    /// No pair is left that could fire.
+    Quiet,
+    /// As many pairs have fired as were asked for, and there is one that could fire next.
+    Steps,
+}
+
+/// Why a run was broken off, with the net as it stood before the next pair.
+#[derive(Clone, Copy, Debug, PartialEq, Eq)]
+pub enum MachineFault {
+    /// A table would have 2^32 entries or more.
+    Limit,
+    /// A growth was refused.
+    Memory,
+}
+
+impl From<AllocError> for MachineFault {
+    fn from(_error: AllocError) -> MachineFault {
+        MachineFault::Memory
+    }
+}
+
+/// A net in tables.
+#[derive(Drop)]
+pub struct Machine {
+    interface: Vec<Word>,
+    aside: Vec<Equation>,
+    tables: Tables,
+    interactions: u64,
+}
+
+impl Model for Machine {
+    ghost use Rattle.ic_machine.specs.Net.{Net};
+
+    ghost Value = { Net };
+
+    ghost use Rattle.ic_machine.specs.inner.Machine.{net_of, IsSound};
+
+    ghost view = { net_of };
+
+    ghost invariant = { IsSound };
+}
+
+impl Machine {
+    /// The machine that holds what a plan makes of no arguments. The words of these registers are the interface.
+    pub fn new(
+        alloc: Global,
+        program: &Program,
+        plan: &Plan,
+        interface: &[u32],
+    ) -> Result<Machine, MachineFault>
+        requires symbols { length program.now.arities < GIVEN }
+        requires start { IsStart program.now.arities (planned plan.now) interface.now }
+        ensures arities { IfOk result (λ m. m.arities ≡ program.now.arities) }
+        ensures starts { IfOk result (Starts program.now (planned plan.now) interface.now) }
+        ensures aside { IfOk result (λ m. m.aside ≡ []) }
+        ensures interactions { IfOk result (λ m. m.interactions ≡ 0) }
+        ensures separate { IfOk result (λ m.
+            IsSeparate program.now.arities m.interface (pieces m)) }
+    {
+        let mut tables = Tables::new(alloc, program.arities())?;
+        tables.reserve(plan, 0)?;
+        tables.make(plan);
+        let interface = words_at(alloc, &tables.registers, interface)?;
+        Ok(Machine {
+            interface,
+            aside: Vec::new(alloc),
+            tables,
+            interactions: 0,
+        })
+    }
+
+    /// Fires pairs until none is left, or so many have fired. Where it is broken off, the net is that before the next pair.
+    pub fn run(&mut self, program: &Program, steps: u64) -> Result<Ended, MachineFault>
+        requires arities { self.old.arities ≡ program.now.arities }
+        requires few { self.old.interactions + steps < 2 ^ 64 }
+        ensures ran { Ran program.now self.old self.new }
+        ensures at_most { self.new.interactions ≤ self.old.interactions + steps }
+        ensures quiet { result ≡ Ok Ended.Quiet → self.new.pending ≡ [] }
+        ensures all { result ≡ Ok Ended.Steps
+            → self.new.interactions ≡ self.old.interactions + steps }
+        ensures more { result ≡ Ok Ended.Steps → 1 ≤ length self.new.pending }
+        ensures separate { IsSeparate self.new.arities self.new.interface (pieces self.new) }
+    {
+        for step in 0..steps {
+            if !self.step(program)? {
+                return Ok(Ended::Quiet);
+            }
+        }
+        if self.is_quiet(program)? {
+            Ok(Ended::Quiet)
+        } else {
+            Ok(Ended::Steps)
+        }
+    }
+
+    /// Fires the last pending pair that has a plan, if there is one. Those that come after it are set aside.
+    fn step(&mut self, program: &Program) -> Result<bool, MachineFault>
+        requires arities { self.old.arities ≡ program.now.arities }
+        requires few { self.old.interactions + 1 < 2 ^ 64 }
+        ensures ran { Ran program.now self.old self.new }
+        ensures fired { result ≡ Ok true
+            → self.new.interactions ≡ self.old.interactions + 1 }
+        ensures none { result ≡ Ok false → (self.new.pending ≡ [])
+            × (self.new.interactions ≡ self.old.interactions) }
+        ensures err { OnErr result (self.new.interactions ≡ self.old.interactions) }
+        ensures separate { IsSeparate self.new.arities self.new.interface (pieces self.new) }
+    {
+        let found = find_plan(program, &mut self.tables.pending, &mut self.aside)?;
+        let Some((pair, plan)) = found else {
+            return Ok(false);
+        };
+        self.tables.fire(pair, plan)?;
+        self.interactions += 1;
+        Ok(true)
+    }
+
+    /// Whether no pending pair has a plan. Those that come after the last one that has are set aside.
+    fn is_quiet(&mut self, program: &Program) -> Result<bool, MachineFault>
+        requires arities { self.old.arities ≡ program.now.arities }
+        ensures ran { Ran program.now self.old self.new }
+        ensures interactions { self.new.interactions ≡ self.old.interactions }
+        ensures quiet { result ≡ Ok true → self.new.pending ≡ [] }
+        ensures more { result ≡ Ok false → 1 ≤ length self.new.pending }
+        ensures separate { IsSeparate self.new.arities self.new.interface (pieces self.new) }
+    {
+        let found = find_plan(program, &mut self.tables.pending, &mut self.aside)?;
+        Ok(found.is_none())
+    }
+
+    /// The words of the interface.
+    pub fn interface(&self) -> &[Word]
+        ensures { result.now ≡ self.now.interface }
+    {
+        self.interface.as_slice()
+    }
+
+    /// The pairs that are still to be looked at.
+    pub fn pending(&self) -> &[Equation]
+        ensures { result.now ≡ self.now.pending }
+    {
+        self.tables.pending.as_slice()
+    }
+
+    /// The pairs that were set aside, since they have no plan.
+    pub fn aside(&self) -> &[Equation]
+        ensures { result.now ≡ self.now.aside }
+    {
+        self.aside.as_slice()
+    }
+
+    /// How many pairs have fired.
+    pub fn interactions(&self) -> u64
+        ensures { result ≡ self.now.interactions }
+    {
+        self.interactions
+    }
+}
+
+/// The last pending pair that has a plan, with its plan. Those that come after it are set aside.
+fn find_plan<'a>(
+    program: &'a Program,
+    pending: &mut Vec<Equation>,
+    aside: &mut Vec<Equation>,
+) -> Result<Option<(Equation, &'a Plan)>, MachineFault>
+    requires { AllByRecursion IsPair pending.old.items }
+    ensures passed { Passed program.now
+        pending.old.items aside.old.items pending.new.items aside.new.items }
+    ensures found { IfOk result (λ o. MatchOption o (pending.new.items ≡ [])
+        (λ f. IsLast f.0 pending.new.items × HasPlan program.now f.0 (planned f.1.now))) }
+{
+    while let Some(pair) = pending.last() {
+        let pair = *pair;
+        if let Some(plan) = program.plan_for(pair) {
+            return Ok(Some((pair, plan)));
+        }
+        if aside.push(pair).is_err() {
+            return Err(MachineFault::Memory);
+        }
+        pending.pop();
+    }
+    Ok(None)
+}
+
+/// The words in these registers.
+fn words_at(alloc: Global, registers: &[Word], places: &[u32]) -> Result<Vec<Word>, AllocError>
+    requires { AllByRecursion (λ k. k < length registers.now) places.now }
+    ensures { IfOk result (λ v. v.items ≡ map (register registers.now) places.now) }
+{
+    let mut words = Vec::with_capacity(alloc, places.len())?;
+    for place in places {
+        words.push_reserved(registers[*place as usize]);
+    }
+    Ok(words)
+}

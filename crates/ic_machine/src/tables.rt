@@ -1,0 +1,139 @@
+//! The tables of a machine.
+
+ghost use Rattle.std.specs.Prelude.{◌≡◌, ℕ, ◌+◌, ◌-◌, ◌^◌, ◌<◌, ◌≤◌, List, [], ◌∷◌, ◌++◌, Some, map, length, take, slice_get, vec_len, vec_capacity, OnOk, OnErr, IfOk};
+ghost use Rattle.std.specs.List.{AllByRecursion};
+ghost use Rattle.ic_arena.specs.declared.word.TheConstants.{GIVEN};
+ghost use Rattle.ic_machine.specs.Net.{equated_of};
+ghost use Rattle.ic_machine.specs.Plan.{Plans, planned, made_of, constants};
+ghost use Rattle.ic_machine.specs.Separate.{IsSeparate};
+ghost use Rattle.ic_machine.specs.Steps.{Steps};
+ghost use Rattle.ic_machine.specs.inner.Firing.{heaps_pieces, arities_of, AreSame, table};
+ghost use Rattle.ic_machine.specs.inner.Linking.{IsPair, Pushed};
+ghost use Rattle.ic_machine.specs.inner.Pairs.{CanFire, IsLast};
+
+use crate::equation::Equation;
+use crate::firing::{MAX_ENTRIES, make_agents, open_names, reserve_blocks, take};
+use crate::linking::link_each;
+use crate::machine::MachineFault;
+use crate::plan::Plan;
+use ic_arena::{Heap, Names, Word};
+use std::alloc::{AllocError, Global};
+
+/// What is at each place, the pairs that are still to be looked at, and the registers of the plan that is made.
+#[derive(Drop)]
+pub(crate) struct Tables {
+    pub(crate) names: Names,
+    pub(crate) heaps: Vec<Heap>,
+    pub(crate) pending: Vec<Equation>,
+    pub(crate) registers: Vec<Word>,
+}
+
+impl Tables {
+    ghost use Rattle.ic_machine.specs.inner.Tables.{held, HasMemory, IsReady, IsMade, IsNumbered};
+
+    /// Tables of nothing, for symbols of these arities. The registers hold the agents without arguments.
+    pub(crate) fn new(alloc: Global, arities: &[u32]) -> Result<Tables, AllocError>
+        requires { length arities.now < GIVEN }
+        ensures names { IfOk result (λ t. t.names.entries ≡ []) }
+        ensures arities { IfOk result (λ t. arities_of t.heaps.items ≡ arities.now) }
+        ensures heaps { IfOk result (λ t. heaps_pieces 0 t.heaps.items ≡ []) }
+        ensures pending { IfOk result (λ t. t.pending.items ≡ []) }
+        ensures registers { IfOk result (λ t.
+            t.registers.items ≡ constants (length arities.now)) }
+    {
+        let mut heaps = Vec::with_capacity(alloc, arities.len())?;
+        let mut registers = Vec::with_capacity(alloc, arities.len())?;
+        let mut symbol = 0u32;
+        for arity in arities {
+            heaps.push_reserved(Heap::new(alloc, *arity));
+            registers.push_reserved(Word::agent(symbol, 0));
+            symbol += 1;
+        }
+        Ok(Tables {
+            names: Names::new(alloc),
+            heaps,
+            pending: Vec::new(alloc),
+            registers,
+        })
+    }
+
+    /// Takes all memory that a plan may need with so many arguments, before anything is changed.
+    pub(crate) fn reserve(&mut self, plan: &Plan, arguments: usize) -> Result<(), MachineFault>
+        requires few { length self.old.names.entries < 2 ^ 32 }
+        requires arguments { arguments < 2 ^ 33 }
+        requires known { AllByRecursion (λ m. m.symbol < length self.old.heaps.items)
+            (map made_of plan.now.makes.items) }
+        ensures names { self.new.names.entries ≡ self.old.names.entries }
+        ensures heaps { AreSame self.old.heaps.items self.new.heaps.items }
+        ensures pending { self.new.pending.items ≡ self.old.pending.items }
+        ensures registers { self.new.registers.items
+            ≡ take (length self.old.heaps.items) self.old.registers.items }
+        ensures memory { OnOk result (HasMemory (planned plan.now) arguments self.new) }
+    {
+        self.registers.truncate(self.heaps.len());
+        reserve_blocks(&mut self.heaps, &plan.makes)?;
+        if plan.names as usize > MAX_ENTRIES - self.names.len() {
+            return Err(MachineFault::Limit);
+        }
+        self.names.reserve(plan.names as usize)?;
+        self.pending.reserve(plan.links.len())?;
+        self.registers
+            .reserve(arguments + plan.names as usize + plan.makes.len())?;
+        Ok(())
+    }
+
+    /// Makes what a plan makes of the arguments in the registers.
+    pub(crate) fn make(&mut self, plan: &Plan)
+        requires ready { IsReady (planned plan.now) self.old }
+        requires memory { HasMemory (planned plan.now) 0 self.old }
+        ensures made { IsMade (planned plan.now) self.old self.new }
+        ensures pushed { Pushed self.old.pending.items self.new.pending.items }
+        ensures arities { arities_of self.new.heaps.items ≡ arities_of self.old.heaps.items }
+        ensures few { length self.new.names.entries < 2 ^ 32 }
+    {
+        open_names(&mut self.names, plan.names, &mut self.registers);
+        make_agents(&mut self.heaps, &plan.makes, &mut self.registers);
+        link_each(
+            &mut self.names,
+            &mut self.pending,
+            &plan.links,
+            &self.registers,
+        );
+    }
+
+    /// Fires the last pending pair. Where memory is refused, it is pending as before.
+    pub(crate) fn fire(&mut self, pair: Equation, plan: &Plan) -> Result<(), MachineFault>
+        requires few { length self.old.names.entries < 2 ^ 32 }
+        requires symbols { length self.old.heaps.items < GIVEN }
+        requires registers { take (length self.old.heaps.items) self.old.registers.items
+            ≡ constants (length self.old.heaps.items) }
+        requires last { IsLast pair self.old.pending.items }
+        requires plan { CanFire (arities_of self.old.heaps.items) pair (planned plan.now) }
+        requires separate { IsSeparate (arities_of self.old.heaps.items) [] (held self.old []) }
+        ensures fires { OnOk result ((p : Plans) (i left right : ℕ) (rest : List Equation)
+            → pair.left.tag ≡ left + 1 → pair.right.tag ≡ right + 1
+            → p.arities ≡ arities_of self.old.heaps.items
+            → IsNumbered p i left right (planned plan.now)
+            → Steps p (i ∷ []) (held self.old (map equated_of rest))
+            (held self.new (map equated_of rest))) }
+        ensures pairs { AllByRecursion IsPair self.old.pending.items
+            → AllByRecursion IsPair self.new.pending.items }
+        ensures pending { OnErr result (self.new.pending.items ≡ self.old.pending.items) }
+        ensures same { OnErr result ((rest : List Equation)
+            → held self.new (map equated_of rest) ≡ held self.old (map equated_of rest)) }
+        ensures arities { arities_of self.new.heaps.items ≡ arities_of self.old.heaps.items }
+        ensures few { length self.new.names.entries < 2 ^ 32 }
+        ensures registers { take (length self.new.heaps.items) self.new.registers.items
+            ≡ constants (length self.new.heaps.items) }
+    {
+        let left = &self.heaps[pair.left.tag as usize - 1];
+        let right = &self.heaps[pair.right.tag as usize - 1];
+        let arguments = left.arity() as usize + right.arity() as usize;
+        self.reserve(plan, arguments)?;
+        self.pending.pop();
+        take(&mut self.heaps, pair.left, &mut self.registers);
+        take(&mut self.heaps, pair.right, &mut self.registers);
+        self.make(plan);
+        Ok(())
+    }
+}
