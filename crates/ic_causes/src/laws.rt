@@ -8,6 +8,7 @@ ghost use Rattle.std.specs.IoError.{error_kind, raw_os_error};
 ghost use Rattle.std.specs.Fmt.{decimal};
 ghost use Rattle.std.specs.declared.io.ErrorKind.{ErrorKind};
 ghost use Rattle.std.specs.declared.io.ErrorKind.TheVariants.{NotFound, PermissionDenied, WouldBlock, StorageFull, Interrupted, Uncategorized};
+ghost use Rattle.std.specs.declared.io.ErrorKind.TheVariants as kind;
 ghost use Rattle.ic_causes.specs.declared.cause.Cause.{Cause};
 ghost use Rattle.ic_causes.specs.declared.cause.FileCall.{FileCall};
 ghost use Rattle.ic_causes.specs.declared.cause.FileCall.TheVariants as call;
@@ -123,9 +124,9 @@ pub fn the_last_failure_is_noted(error: &io::Error)
         → noted_after before (Some cause) ≡ Some cause }
 {}
 
-/// The reason of errors of the system with the numbers 2, 13, 28, 5 and 6, or with none. Only of one
-/// that says that a call would have to wait it goes by the call: a lock is held by another open of the
-/// file, and any other call may not wait.
+/// The reason of each kind of error that has one of its own, and of others by their number: 5 is an
+/// error of the device. Only the reason of a call that would have to wait depends on the call: a lock
+/// is held by another open of the file, and any other call may not wait.
 pub fn reasons_are()
     ensures missing { (c : FileCall) → reason_of c NotFound (Some (pos 2)) ≡ reason.Missing }
     ensures rights { (c : FileCall)
@@ -134,6 +135,20 @@ pub fn reasons_are()
     ensures waits { (c : FileCall) (number : Option ℤ) → c ≢ call.Lock
         → reason_of c WouldBlock number ≡ reason.NoWait }
     ensures full { (c : FileCall) → reason_of c StorageFull (Some (pos 28)) ≡ reason.NoRoom }
+    ensures path { (c : FileCall) (number : Option ℤ) → map (λ is. reason_of c is number)
+        (kind.IsADirectory ∷ kind.NotADirectory ∷ kind.InvalidFilename ∷ kind.FilesystemLoop ∷ [])
+        ≡ reason.Folder ∷ reason.NoFolder ∷ reason.LongName ∷ reason.Links ∷ [] }
+    ensures taken { (c : FileCall) (number : Option ℤ) → map (λ is. reason_of c is number)
+        (kind.ReadOnlyFilesystem ∷ kind.ExecutableFileBusy ∷ [])
+        ≡ reason.ReadOnly ∷ reason.Running ∷ [] }
+    ensures room { (c : FileCall) (number : Option ℤ) → map (λ is. reason_of c is number)
+        (kind.QuotaExceeded ∷ kind.FileTooLarge ∷ kind.OutOfMemory ∷ [])
+        ≡ reason.NoShare ∷ reason.TooLong ∷ reason.NoMemory ∷ [] }
+    ensures short { (c : FileCall) (number : Option ℤ)
+        → reason_of c kind.UnexpectedEof number ≡ reason.TooShort }
+    ensures not_possible { (c : FileCall) (number : Option ℤ) → map (λ is. reason_of c is number)
+        (kind.InvalidInput ∷ kind.NotSeekable ∷ kind.Unsupported ∷ [])
+        ≡ reason.NotPossible ∷ reason.NotPossible ∷ reason.NotPossible ∷ [] }
     ensures device { (c : FileCall) → reason_of c Uncategorized (Some (pos 5)) ≡ reason.Device }
     ensures other { (c : FileCall) → reason_of c Uncategorized (Some (pos 6)) ≡ reason.Other 6 }
     ensures untold { (c : FileCall) → reason_of c Uncategorized None ≡ reason.Untold }

@@ -1,6 +1,6 @@
 //! Laws of what the program makes of its failures.
 
-ghost use Rattle.std.specs.Prelude.{◌≡◌, ◌≢◌, ℕ, List, [], ◌∷◌, ◌++◌, Option, None, Some, map, codes, string_bytes};
+ghost use Rattle.std.specs.Prelude.{◌≡◌, ◌≢◌, ℕ, List, [], ◌∷◌, ◌++◌, Option, None, Some, Ok, Err, map, codes, string_bytes};
 ghost use Rattle.std.specs.Fmt.{decimal};
 ghost use Rattle.ic_disk.specs.declared.disk.DiskFault.{DiskFault};
 ghost use Rattle.ic_text.specs.Text.{fault_text};
@@ -18,7 +18,10 @@ ghost use Rattle.ic_streams.specs.declared.fault.StreamFault.TheVariants as stre
 ghost use Rattle.ic_serving.specs.declared.fault.ServeFault.{ServeFault};
 ghost use Rattle.ic_serving.specs.declared.fault.ServeFault.TheVariants as serve;
 ghost use Rattle.ic_words.specs.declared.words.WordsFault.TheVariants as words;
+ghost use Rattle.ic_dump.specs.declared.fault.DumpFault.{DumpFault};
 ghost use Rattle.ic_dump.specs.declared.fault.DumpFault.TheVariants as dump;
+ghost use Rattle.ic_dump.specs.declared.fault.DiskDumpFault.TheVariants as disk_dump;
+ghost use Rattle.ic_check.specs.declared.files.Verdict.TheVariants as verdict;
 ghost use Rattle.ic_contents.specs.declared.fault.InspectFault.TheVariants as inspect;
 ghost use Rattle.ic_lines.specs.declared.script.ScriptFault.{ScriptFault};
 ghost use Rattle.ic_scripts.specs.declared.fault.ScriptsFault.TheVariants as scripts;
@@ -26,13 +29,14 @@ ghost use Rattle.ic_endings.specs.declared.failure.Failure.TheVariants.{Words, S
 ghost use Rattle.ic_jobs.specs.declared.reply.Refusal.TheVariants.{Taken, Full};
 ghost use Rattle.ic_batch.specs.declared.fault.JobsCause.{JobsCause};
 ghost use Rattle.ic_batch.specs.declared.fault.JobsCause.TheVariants as cause_of_line;
+ghost use Rattle.ic_batch.specs.declared.fault.JobsFault.{JobsFault};
 ghost use Rattle.ic_batch.specs.declared.fault.JobsFault.TheVariants as jobs;
 ghost use Rattle.ic_batch.specs.declared.fault.BatchFault.TheVariants as batch;
 ghost use Rattle.ic_batch.specs.declared.fault.Difference.{Difference};
 ghost use Rattle.ic_batch.specs.declared.fault.Difference.TheVariants as difference;
 ghost use Rattle.ic_causes.specs.declared.cause.FileCall.{FileCall};
 ghost use Rattle.ic_causes.specs.declared.cause.Reason.TheVariants as reason;
-ghost use Rattle.ic_endings.specs.Endings.{status_of, failure_line, opening_failure, stuck_line};
+ghost use Rattle.ic_endings.specs.Endings.{status_of, check_ending, failure_line, failure_of_dump, opening_failure, stuck_line};
 ghost use Rattle.ic_endings.specs.Behind.{lines_behind};
 ghost use Rattle.ic_causes.specs.declared.cause.Cause.{Cause};
 ghost use Rattle.ic_causes.specs.declared.cause.Target.{Target};
@@ -198,6 +202,15 @@ pub fn openings_end_so()
         → opening_failure fault (Some cause) ≡ Disk fault }
 {}
 
+/// `check` tells a file that can't be read before faults of others, and is fine only where all are.
+/// `dump` of a disk that isn't opened ends as any other opening of it.
+pub fn endings_are()
+    ensures check { map check_ending (verdict.Fine ∷ verdict.Faulty ∷ verdict.Unread ∷ [])
+        ≡ Ok tt ∷ Err Faults ∷ Err (Stream stream.Read) ∷ [] }
+    ensures open { (cause : OpenCause) → failure_of_dump (disk_dump.Open cause) ≡ Open cause }
+    ensures dump { (fault : DumpFault) → failure_of_dump (disk_dump.Dump fault) ≡ Dump fault }
+{}
+
 /// The line on standard error of each fault of `inspect`.
 pub fn lines_of_inspections_are()
     ensures read { failure_line (Inspect inspect.Read) ≡ codes "icserve: device" ++ 10 ∷ [] }
@@ -248,6 +261,15 @@ pub fn lines_behind_are(text: &String)
     ensures damaged { (path : List ℕ) (cause : Option Cause)
         → lines_behind (Open opening.Damaged) path cause ≡ shown_path path ++ codes ": "
         ++ codes "something else has changed the file, or it was copied in part" ++ 10 ∷ [] }
+    ensures two_alike { (path : List ℕ) (cause : Option Cause)
+        → lines_behind (Open opening.TwoAlike) path cause
+        ≡ lines_behind (Open opening.Damaged) path cause }
+    ensures scripts { (refused : OpenCause) (path : List ℕ) (cause : Option Cause)
+        → lines_behind (Attend (scripts.Open refused)) path cause
+        ≡ lines_behind (Open refused) path cause }
+    ensures broken { (path : List ℕ) (cause : Option Cause)
+        → (lines_behind (Serve (serve.Book book.Broken)) path cause ≡ cause_line path cause)
+        × (lines_behind (Attend (scripts.Book book.Broken)) path cause ≡ cause_line path cause) }
     ensures input { (path : List ℕ) (cause : Cause) → cause.target ≡ Input
         → (lines_behind (Stream stream.Read) path (Some cause) ≡ cause_line path (Some cause))
         × (lines_behind (Serve serve.Read) path (Some cause) ≡ cause_line path (Some cause)) }
@@ -274,6 +296,15 @@ pub fn lines_behind_are(text: &String)
         → lines_behind (Stream (stream.Text fault)) path cause ≡ [] }
     ensures faults { (path : List ℕ) (cause : Option Cause)
         → lines_behind Faults path cause ≡ [] }
+    ensures not_done { (path : List ℕ) (cause : Option Cause)
+        → lines_behind NotDone path cause ≡ [] }
+    ensures book { (path : List ℕ) (cause : Option Cause)
+        → map (λ fault. lines_behind (Serve (serve.Book fault)) path cause)
+        (book.LogFull ∷ book.Worn ∷ book.Memory ∷ []) ≡ [] ∷ [] ∷ [] ∷ [] }
+    ensures dump { (fault : DumpFault) (path : List ℕ) (cause : Option Cause)
+        → lines_behind (Dump fault) path cause ≡ [] }
+    ensures jobs { (fault : JobsFault) (path : List ℕ) (cause : Option Cause)
+        → lines_behind (Jobs fault) path cause ≡ [] }
     ensures words { (path : List ℕ) (cause : Option Cause)
         → lines_behind (Words (words.Words text.now)) path cause ≡ [] }
 {}

@@ -111,7 +111,7 @@ reduce_help = text_of ((codes "Makes rounds of the system on standard input unti
     ++ codes " from 1 to 64 [default: 2]")
     ∷ codes "  -h, --help         Print help"
     ∷ []
-    ∷ codes "The exit status is 5 where a step is still possible behind the last round."
+    ∷ codes "The exit status is 5 where a step is still possible after the last round."
     ∷ [])
 
 abbrev pub trace_help : Text

@@ -103,7 +103,7 @@ Options:
       --workers <N>  Threads for a round of 4000 equations or more, from 1 to 64 [default: 2]
   -h, --help         Print help
 
-The exit status is 5 where a step is still possible behind the last round.
+The exit status is 5 where a step is still possible after the last round.
 ";
 
 /// The help of `trace`.

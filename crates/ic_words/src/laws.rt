@@ -1,6 +1,6 @@
 //! Laws of the words after the program's name, in words of their own.
 
-ghost use Rattle.std.specs.Prelude.{◌≡◌, ◌≢◌, ◌↔◌, ◌⊎◌, ◌<◌, ◌≤◌, ◌^◌, ℕ, Bool, List, [], ◌∷◌, ◌++◌, Ok, Err, codes, map, string_bytes};
+ghost use Rattle.std.specs.Prelude.{◌≡◌, ◌≢◌, ◌↔◌, ◌⊎◌, ◌<◌, ◌≤◌, ◌^◌, ℕ, Bool, true, false, List, [], ◌∷◌, ◌++◌, Ok, Err, codes, map, string_bytes};
 ghost use Rattle.std.specs.List.{AllByRecursion};
 ghost use Rattle.std.specs.Fmt.{decimal};
 ghost use Rattle.clap.specs.Words.{Text};
@@ -12,7 +12,7 @@ ghost use Rattle.ic_words.specs.declared.words.WordsFault.TheVariants.{Words, Me
 ghost use Rattle.ic_words.specs.Words.{AnswersWords, format_word, mistakes_of, words_fault_number, IsDecimal, Names};
 ghost use Rattle.ic_words.specs.Help.{help_of, Says, program_help, settle_help, once_help, create_help, serve_help, attend_help};
 ghost use Rattle.ic_words.specs.Help.{batch_help, check_help, draw_help, dump_help, inspect_help, reduce_help, trace_help};
-ghost use Rattle.ic_words.specs.Lines.{IsAttendLine, IsCheckLine, IsCreateLine, IsDumpLine, IsInspectLine, IsReduceLine, IsServeLine, IsTraceLine};
+ghost use Rattle.ic_words.specs.Lines.{HasNoHyphen, IsAttendLine, IsCheckLine, IsCreateLine, IsDumpLine, IsInspectLine, IsReduceLine, IsServeLine, IsTraceLine};
 
 /// A number's text is the number in decimal digits, before which a plus may stand, and no other
 /// number's; the empty text is none's.
@@ -46,7 +46,7 @@ pub fn answers_go_by_mistakes(text: &String)
     ensures task { (mistake : ErrorKind) → ¬ AnswersWords (mistake ∷ []) (Ok Settle) }
 {}
 
-/// The words that are taken with no value: a command alone, and a `--` behind it. No other words name
+/// The words that are taken with no value: a command alone, and a `--` after it. No other words name
 /// `settle`, `once` and `draw`.
 pub fn commands_are_taken()
     ensures settle { mistakes_of (codes "settle" ∷ []) ≡ [] }
@@ -230,4 +230,33 @@ pub fn check_lines_are_taken(files: &Vec<String>)
     ensures named { (words paths : List Text) → IsCheckLine words paths
         → Names words (Check files.now) → map string_bytes files.now.items ≡ paths }
     ensures none { mistakes_of (codes "check" ∷ []) ≡ MissingRequiredArgument ∷ [] }
+{}
+
+/// Words that are commonly written are well-formed lines, whatever path stands there: with the
+/// disk alone, and with each option of the command, in both ways of writing.
+pub fn common_lines_are_well_formed()
+    ensures create { (path : Text) → HasNoHyphen path
+        → IsCreateLine path false (codes "create" ∷ codes "--disk" ∷ path ∷ []) }
+    ensures overwrite { (path : Text) → HasNoHyphen path
+        → IsCreateLine path true (codes "create" ∷ codes "--disk" ∷ path
+        ∷ codes "--overwrite" ∷ []) }
+    ensures serve { (path : Text) → HasNoHyphen path
+        → IsServeLine (codes "serve" ∷ codes "--disk" ∷ path ∷ []) path (codes "2") (codes "100") }
+    ensures served { (path : Text) → HasNoHyphen path → IsServeLine (codes "serve"
+        ∷ codes "--workers=4" ∷ codes "--every" ∷ codes "7" ∷ codes "--disk" ∷ path ∷ [])
+        path (codes "4") (codes "7") }
+    ensures attend { (path script : Text) → HasNoHyphen path → HasNoHyphen script
+        → IsAttendLine (codes "attend" ∷ codes "--disk" ∷ path ∷ codes "--turns=9" ∷ script ∷ [])
+        path (codes "2") (codes "9") (codes "2") (script ∷ []) }
+    ensures reduce { IsReduceLine (codes "reduce" ∷ []) (codes "1000000") (codes "2") }
+    ensures reduced { IsReduceLine (codes "reduce" ∷ codes "--workers=3" ∷ codes "--rounds"
+        ∷ codes "10" ∷ []) (codes "10") (codes "3") }
+    ensures trace { IsTraceLine (codes "trace" ∷ codes "--format" ∷ codes "svg" ∷ [])
+        (codes "1000000") (codes "svg") }
+    ensures dump { (path name : Text) → HasNoHyphen path → HasNoHyphen name
+        → IsDumpLine (codes "dump" ∷ codes "--disk" ∷ path ∷ name ∷ []) path (name ∷ []) }
+    ensures inspect { (path : Text) → HasNoHyphen path
+        → IsInspectLine path (codes "inspect" ∷ codes "--disk" ∷ path ∷ []) }
+    ensures check { (path other : Text) → HasNoHyphen path → HasNoHyphen other
+        → IsCheckLine (codes "check" ∷ path ∷ other ∷ []) (path ∷ other ∷ []) }
 {}
