@@ -8,3 +8,4 @@ pub mod Firings
 pub mod Running
 pub mod Starting
 pub mod Sound
+pub mod Reading

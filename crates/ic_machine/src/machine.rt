@@ -1,8 +1,11 @@
 //! The machine.
 
-ghost use Rattle.std.specs.Prelude.{◌≡◌, ℕ, ◌+◌, ◌^◌, ◌<◌, ◌≤◌, List, [], ◌∷◌, ◌++◌, true, false, Ok, length, map, IfOk, OnErr, MatchOption};
+ghost use Rattle.std.specs.Prelude.{◌≡◌, ℕ, ◌+◌, ◌^◌, ◌<◌, ◌≤◌, List, [], ◌∷◌, ◌++◌, true, false, Ok, Contains, length, map, sum_by, IfOk, OnErr, IfSome, IfNone, MatchOption};
 ghost use Rattle.std.specs.List.{AllByRecursion};
+ghost use Rattle.ic_arena.specs.declared.word.Word.{Word as AnyWord};
 ghost use Rattle.ic_arena.specs.declared.word.TheConstants.{GIVEN};
+ghost use Rattle.ic_arena.specs.Word.{name_word};
+ghost use Rattle.ic_arena.specs.Piece.{agent_of, room, waits};
 ghost use Rattle.ic_arena.specs.Tables.{register};
 ghost use Rattle.ic_machine.specs.Plan.{planned};
 ghost use Rattle.ic_machine.specs.Separate.{IsSeparate};
@@ -14,7 +17,7 @@ ghost use Rattle.ic_machine.specs.inner.Pairs.{HasPlan, IsLast, Passed};
 use crate::equation::Equation;
 use crate::plan::{Plan, Program};
 use crate::tables::Tables;
-use ic_arena::Word;
+use ic_arena::{IDLE, Word};
 use std::alloc::{AllocError, Global};
 use std::marker::Model;
 
@@ -176,6 +179,29 @@ impl Machine {
         ensures { result ≡ self.now.interactions }
     {
         self.interactions
+    }
+
+    /// The word that waits for a name, if one does.
+    pub fn waiting(&self, name: u32) -> Option<Word>
+        ensures found { IfSome result (λ w. Contains self.now.places (waits (name_word name) w)) }
+        ensures none { IfNone result ((w : AnyWord)
+            → ¬ Contains self.now.places (waits (name_word name) w)) }
+    {
+        if self.tables.names.len() <= name as usize {
+            return None;
+        }
+        let word = self.tables.names.get(name);
+        if word.tag < IDLE { Some(word) } else { None }
+    }
+
+    /// What the arguments of an agent begin with.
+    pub fn arguments(&self, agent: Word) -> &[Word]
+        requires some { 1 ≤ agent.tag }
+        requires known { agent.tag ≤ length self.now.arities }
+        requires there { 1 ≤ sum_by (room agent) self.now.places }
+        ensures { Contains self.now.places (agent_of agent result.now) }
+    {
+        self.tables.heaps[agent.tag as usize - 1].get(agent.index)
     }
 }
 
