@@ -1,0 +1,12 @@
+use Rattle.std.proofs.Common.{◌≡◌}
+use Rattle.ic_slots.specs.Held.{the_table}
+use Rattle.ic_desk.specs.Book.{start_of}
+use Rattle.ic_attend_laws.proofs.laws.what_is_torn_is_not_borne_out.Goals as goal
+
+pub returns : goal.returns
+returns g c = λ scripts runners turns workers torn keeps held history.
+    let start = start_of c.args.attended.now.book in
+    let one : the_table start ≡ the_table torn.opening =
+    c.one_is_held.ensures (g.D.Disk.content c.args.disk.now) (the_table start) (the_table torn.opening) held (torn.held keeps) in
+    let same : start ≡ torn.opening = cc in
+    torn.torn.differs same history
