@@ -2,9 +2,11 @@
 //!
 //! `laws` says what the definitions of one serving come to, and `stops` what those of a stop in its
 //! midst do. `served` says what a server has after any number of servings, each ended or stopped at any
-//! moment, and `words` what its words come to.
+//! moment, and `words` what its words come to. `keeps` says how many calls to its disk a keep
+//! makes.
 #![tactic(auto)]
 
+pub mod keeps;
 pub mod laws;
 pub mod served;
 pub mod stops;
