@@ -1,26 +1,22 @@
 //! What is answered to a row, by its kind.
 //!
 //! A script is words with `, ` between two, each of which is answered in turn: `o` or `e` says that a call went well or was
-//! refused, `y` or `n` whether something is so. Bytes are hexadecimal digits, `-` none, `[COUNT DIGITS]` so many times, and
-//! `pattern FROM TO` a part of a long pattern. What is read is written over the bytes that a word names.
+//! refused, `y` or `n` whether something is so. Bytes are hexadecimal digits, `-` none, and `[COUNT DIGITS]` so many times. What is
+//! read is written over the bytes that a word names.
 //!
 //! - `memory SCRIPT`: over an empty disk in memory. `has BYTES` puts another in its place, all synced. `fuse CALL BLOW THEN` lets
 //!   a call fail, counted from 1: `before` it is made, `after` it or torn behind so many bytes; and then `stop` or go `on`.
 //!   `crash CHOICE` leaves what a crash leaves, and `bytes` tells the bytes.
 //! - `file SCRIPT`: over a file. `open` and `create` open the disk in it, and `shut` closes it. `read PLACE BYTES` tells as many
-//!   bytes, `reads PLACE BYTES` whether these are read. Of the file itself `file BYTES` makes it, `cut` makes it empty, `there`
-//!   tells whether it is there, `bytes` and `size` what it has, and `ends BYTES` whether it ends so.
-//! - `slow NAME FOLDER, SCRIPT`: over a file that takes and gives a byte at a time, opened by this name, in this folder. Between
-//!   `refuse` and `allow` no sync is made, between `fill` and `empty` no write. `counts` tells the whole syncs, those of data
-//!   alone, and how often the folder was opened.
+//!   bytes. `cut` makes the file empty, and `there` tells whether it is there.
 //! - Of any disk: `write PLACE BYTES`, `sync`, `len`, `synced PLACE BYTES` for a write and a sync, `mark PLACE BYTE PLACE BYTES`
 //!   for those of the bytes and then of the byte, `touch` for a read of nothing, `look PLACE BYTES` for the length and as many
 //!   bytes.
-//! - Of the frames on it: `begin BODY` makes the first, `find` opens them, `keep BODY` keeps one, `stage BODY` writes it behind a
+//! - Of the frames on a disk in memory: `begin BODY` makes the first, `find` opens them, `keep BODY` keeps one, `stage BODY` writes it behind a
 //!   closed gate, `usable` tells whether they are neither broken nor worn, `leave` closes them. `holds BODY` tells what was found.
 //! - `opens PATH`: whether a disk is opened there, without making it and with. `laws`: the calls that are laws.
 
-use crate::files::{in_file, in_slow_file, opens};
+use crate::files::{in_file, opens};
 use crate::laws::of_the_laws;
 use crate::memory::in_memory;
 use ic_notation::{Answers, Row, Trouble};
@@ -46,7 +42,6 @@ impl Answers for Kinds<'_> {
 fn of_files(rt: &HostRuntime, row: &Row<'_>) -> Result<Vec<u8>, AllocError> {
     match row.kind {
         "file" => in_file(rt, row.name, row.text),
-        "slow" => in_slow_file(rt, row.name, row.text),
         _ => opens(rt, row.text),
     }
 }

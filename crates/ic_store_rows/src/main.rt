@@ -2,13 +2,10 @@
 #![tactic(auto)]
 
 mod answers;
-mod bench;
 mod calls;
 mod files;
 mod laws;
 mod memory;
-mod place;
-mod slow_files;
 mod told;
 mod words;
 

@@ -24,22 +24,7 @@ pub fn byte(text: &str) -> u8 {
     (number(text) % 256) as u8
 }
 
-/// The bytes of a text: two hexadecimal digits each, `[COUNT DIGITS]` so many times and `-` for none, or `pattern FROM TO`.
+/// The bytes of a text: two hexadecimal digits each, `[COUNT DIGITS]` so many times and `-` for none.
 pub fn body_of(alloc: Global, text: &str) -> Result<Vec<u8>, AllocError> {
-    match text.strip_prefix("pattern ") {
-        Some(range) => {
-            let (from, to) = number_and_rest(range);
-            pattern(alloc, from, number(to))
-        }
-        None => bytes_of(alloc, &expanded(alloc, text)?),
-    }
-}
-
-/// The bytes at these places of a pattern in which no two that stand a page apart are alike.
-fn pattern(alloc: Global, from: u64, to: u64) -> Result<Vec<u8>, AllocError> {
-    let mut bytes = Vec::new(alloc);
-    for place in from..to {
-        bytes.push((place % 251) as u8)?;
-    }
-    Ok(bytes)
+    bytes_of(alloc, &expanded(alloc, text)?)
 }
