@@ -1,29 +1,21 @@
-//! What a row may ask. Commands of a script stand between ` ; `, scripts between ` | `.
+//! What is answered to a row: what each client is told, why a runner ended that made no more rounds, and the jobs that are left,
+//! with their states. Commands of a script stand between ` ; `, scripts between ` | `.
 //!
-//! - `attended RUNNERS TURNS WORKERS SCRIPTS`: what each client is answered, and the jobs that are left.
-//! - `meeting WANTED RUNNERS TURNS WORKERS SCRIPTS`: the same, where each work waits until so many have begun.
-//! - `pair RUNNERS TURNS WORKERS SCRIPTS`: the same, where each answer of one of two clients waits until the other was answered.
-//! - `during COMMAND | SCRIPT`: a script of two commands, the second answered while a round of the job is made.
-//! - `drawn SEED COUNT`: so many drawn sets of scripts.
-//! - `counted DISK RUNNERS TURNS WORKERS SCRIPTS`: how many answers each client has, and why it ended; on a `new` disk or
-//!   a changed one.
-//! - `rounds RUNNERS TURNS WORKERS SUBMIT`: how many rounds are made of a job that is on the disk, without a script.
-//! - `unopened DISK`: why a disk isn't attended that is cut to a length, or has a slot `twice`.
-//! - `served SCRIPT`: a script attended, and given to a book.
-//! - `fused WHEN CALLS`: two clients on a disk that fails at a call, once for each call up to this one, `before` the call
-//!   is made or `after`.
+//! - `attended RUNNERS TURNS WORKERS SCRIPTS`: with no gate.
+//! - `meeting RUNNERS TURNS WORKERS COUNT SCRIPTS`: each work waits until so many have begun.
+//! - `pair RUNNERS TURNS WORKERS SCRIPTS`: each answer of one of two clients waits until the other was answered.
+//! - `during RUNNERS TURNS WORKERS SCRIPTS`: the first answer waits until a work has begun, and each work until the second answer
+//!   was given.
 
-use crate::attending::{Asked, Wanted, attended};
-use crate::disks::{changed, new_disk, unopened};
-use crate::drawn::drawn;
-use crate::failing::each_fused;
-use crate::gates::{Meeting, Pair, answered_during_round};
-use crate::served::served;
-use crate::turns::rounds_made;
-use ic_disk::Blow;
+use crate::gates::{Held, Way};
+use crate::scripts::scripts_of;
+use ic_attend::{Attended, ClientRun, RunnerEnd, attend};
+use ic_commands::print_reply;
+use ic_disk::MemDisk;
+use ic_jobs::{Job, State};
 use ic_notation::{Row, Trouble, expanded};
-use ic_pool::{Gate, OpenGate};
-use std::alloc::Global;
+use ic_slots::create;
+use std::alloc::{AllocError, Global};
 use std::sync::Wait;
 use std::thread::Threads;
 use std::time::Clock;
@@ -34,117 +26,140 @@ fn number_first(text: &str) -> (usize, &str) {
     (usize::from_str_radix(first, 10).unwrap_or(0), rest)
 }
 
+/// How a row wants its scripts attended.
+#[derive(Clone, Copy)]
+struct Wanted<'a> {
+    runners: usize,
+    turns: usize,
+    workers: usize,
+    way: Way,
+    scripts: &'a str,
+}
+
+/// What a row of this kind wants.
+fn wanted_of<'a>(kind: &str, text: &'a str) -> Option<Wanted<'a>> {
+    let (runners, rest) = number_first(text);
+    let (turns, rest) = number_first(rest);
+    let (workers, rest) = number_first(rest);
+    let (count, behind) = number_first(rest);
+    let (way, scripts) = match kind {
+        "attended" => (Way::Open, rest),
+        "meeting" => (Way::Meeting(count as u64), behind),
+        "pair" => (Way::Pair, rest),
+        "during" => (Way::During, rest),
+        _ => return None,
+    };
+    Some(Wanted {
+        runners,
+        turns,
+        workers,
+        way,
+        scripts,
+    })
+}
+
 /// What is answered to a row.
 pub fn answer<R: Threads + Wait + Clock + Sync>(
     rt: &R,
     alloc: Global,
     row: &Row<'_>,
 ) -> Result<Vec<u8>, Trouble> {
-    let Ok(text) = String::from_utf8(expanded(alloc, row.text)?) else {
-        return Err(Trouble("no text"));
-    };
-    answer_text(rt, alloc, row.kind, &text)
-}
-
-fn answer_text<R: Threads + Wait + Clock + Sync>(
-    rt: &R,
-    alloc: Global,
-    kind: &str,
-    text: &str,
-) -> Result<Vec<u8>, Trouble> {
-    match kind {
-        "attended" => attended_by(rt, alloc, text, &OpenGate),
-        "meeting" => {
-            let (count, rest) = number_first(text);
-            attended_meeting(rt, alloc, count, rest)
-        }
-        "pair" => attended_pair(rt, alloc, text),
-        "during" => answered_during_round(rt, alloc, text),
-        "drawn" => {
-            let (seed, rest) = number_first(text);
-            drawn(rt, alloc, seed as u64, number_first(rest).0)
-        }
-        "counted" => counted(rt, alloc, text),
-        "rounds" => {
-            let (wanted, submit) = wanted_of(text);
-            rounds_made(rt, alloc, wanted, submit)
-        }
-        "unopened" => unopened(rt, alloc, text),
-        "served" => served(rt, alloc, text),
-        "fused" => fused_of(rt, alloc, text),
-        _ => Err(Trouble("no such kind")),
+    let text = expanded(alloc, row.text)?;
+    match str::from_utf8(&text)
+        .ok()
+        .and_then(|it| wanted_of(row.kind, it))
+    {
+        Some(wanted) => attended(rt, alloc, wanted),
+        None => Err(Trouble("no such kind")),
     }
 }
 
-/// What each client is answered behind a gate, and the jobs that are left.
-fn attended_by<R: Threads + Wait + Sync, G: Gate>(
+/// A new disk with the empty table.
+fn new_disk(alloc: Global) -> Result<MemDisk, Trouble> {
+    let mut disk = MemDisk::new(alloc);
+    match create(alloc, &mut disk) {
+        Ok(()) => Ok(disk),
+        Err(_fault) => Err(Trouble("not created")),
+    }
+}
+
+/// What is told of scripts that are attended at a gate.
+fn attended<R: Threads + Wait + Clock + Sync>(
     rt: &R,
     alloc: Global,
-    text: &str,
-    gate: &G,
+    wanted: Wanted<'_>,
 ) -> Result<Vec<u8>, Trouble> {
-    let (wanted, scripts) = wanted_of(text);
+    let scripts = scripts_of(alloc, wanted.scripts)?;
     let disk = new_disk(alloc)?;
-    attended(rt, alloc, disk, wanted, scripts, gate, Asked::Answers)
-}
-
-fn attended_meeting<R: Threads + Wait + Clock + Sync>(
-    rt: &R,
-    alloc: Global,
-    count: usize,
-    text: &str,
-) -> Result<Vec<u8>, Trouble> {
-    let meeting = Meeting::new(rt, count as u64);
-    let line = attended_by(rt, alloc, text, &meeting)?;
-    meeting.kept()?;
-    Ok(line)
-}
-
-fn attended_pair<R: Threads + Wait + Clock + Sync>(
-    rt: &R,
-    alloc: Global,
-    text: &str,
-) -> Result<Vec<u8>, Trouble> {
-    let pair = Pair::new(rt);
-    let line = attended_by(rt, alloc, text, &pair)?;
-    pair.kept()?;
-    Ok(line)
-}
-
-fn counted<R: Threads + Wait + Sync>(
-    rt: &R,
-    alloc: Global,
-    text: &str,
-) -> Result<Vec<u8>, Trouble> {
-    let (disk, rest) = text.split_once(' ').unwrap_or((text, ""));
-    let (wanted, scripts) = wanted_of(rest);
-    let disk = changed(alloc, disk)?;
-    attended(rt, alloc, disk, wanted, scripts, &OpenGate, Asked::Counts)
-}
-
-/// How a row wants its scripts attended: runners, turns and workers, and then the scripts.
-fn wanted_of(text: &str) -> (Wanted, &str) {
-    let (runners, rest) = number_first(text);
-    let (turns, rest) = number_first(rest);
-    let (workers, scripts) = number_first(rest);
-    let wanted = Wanted {
+    let gate = Held::new(rt, wanted.way);
+    let Wanted {
         runners,
         turns,
         workers,
-    };
-    (wanted, scripts)
+        ..
+    } = wanted;
+    match attend(rt, alloc, disk, scripts, runners, turns, workers, &gate) {
+        Ok(done) if gate.has_held() => told(alloc, &done),
+        Ok(_) => Err(Trouble("a wait ran out")),
+        Err(_fault) => Err(Trouble("not attended")),
+    }
 }
 
-fn fused_of<R: Threads + Wait + Sync>(
-    rt: &R,
-    alloc: Global,
-    text: &str,
-) -> Result<Vec<u8>, Trouble> {
-    let (when, calls) = text.split_once(' ').unwrap_or((text, ""));
-    let blow = if when == "after" {
-        Blow::After
-    } else {
-        Blow::Before
-    };
-    each_fused(rt, alloc, number_first(calls).0 as u64, blow)
+/// What is told of a history, with ` ; ` behind each part.
+fn told(alloc: Global, done: &Attended<MemDisk>) -> Result<Vec<u8>, Trouble> {
+    let mut line = Vec::new(alloc);
+    for run in &done.answers {
+        tell_run(alloc, &mut line, run)?;
+    }
+    for end in &done.ends {
+        line.extend_from_slice(end_words(end))?;
+    }
+    tell_jobs(alloc, &mut line, done.book.table().jobs())?;
+    Ok(line)
+}
+
+/// What a client was answered.
+fn tell_run(alloc: Global, line: &mut Vec<u8>, run: &ClientRun) -> Result<(), Trouble> {
+    if run.end.is_some() {
+        return Err(Trouble("a client was refused"));
+    }
+    for (_, reply) in &run.answers {
+        line.append(&mut print_reply(alloc, reply)?)?;
+        line.extend_from_slice(b" ; ")?;
+    }
+    line.extend_from_slice(b"| ")?;
+    Ok(())
+}
+
+fn end_words(end: &RunnerEnd) -> &'static [u8] {
+    match end {
+        RunnerEnd::Idle | RunnerEnd::Turns => b"",
+        RunnerEnd::Book(_) => b"refused ; ",
+        RunnerEnd::Pool(_) => b"not played ; ",
+    }
+}
+
+/// The jobs in the order of their names, since that of the table differs from run to run.
+fn tell_jobs(alloc: Global, line: &mut Vec<u8>, jobs: &[Job]) -> Result<(), AllocError> {
+    let mut told = Vec::new(alloc);
+    for job in jobs {
+        told.push(job_words(alloc, job)?)?;
+    }
+    told.sort()?;
+    for text in &mut told {
+        line.append(text)?;
+    }
+    Ok(())
+}
+
+fn job_words(alloc: Global, job: &Job) -> Result<Vec<u8>, AllocError> {
+    let mut words = Vec::from_slice(alloc, job.name().as_bytes())?;
+    words.extend_from_slice(match job.state() {
+        State::Running => b" running ; ",
+        State::Paused => b" paused ; ",
+        State::Done => b" done ; ",
+        State::Halted => b" halted ; ",
+        State::Spent => b" spent ; ",
+    })?;
+    Ok(words)
 }

@@ -1,17 +1,10 @@
-//! The worked rows of clients and runners: sets of scripts that are attended on a disk in memory, each history looked over
-//! by a checker of its own. `answers` says what a row may ask.
+//! The worked rows of clients and runners behind gates: scripts that are attended on a disk in memory, where works and answers wait
+//! for one another. `answers` says what a row may ask. What needs no gate is tried of the built program, in `trials/`.
 #![tactic(auto)]
 
 mod answers;
-mod attending;
-mod checker;
-mod disks;
-mod drawn;
-mod failing;
 mod gates;
 mod scripts;
-mod served;
-mod turns;
 
 use crate::answers::answer;
 use ic_notation::{Row, Tally};

@@ -6,7 +6,7 @@ use ic_notation::Trouble;
 use std::alloc::Global;
 
 /// The command of a line.
-pub fn command_of(alloc: Global, line: &str) -> Result<Command, Trouble> {
+fn command_of(alloc: Global, line: &str) -> Result<Command, Trouble> {
     match read_command(alloc, line.as_bytes()) {
         Ok(Line::Command(command)) => Ok(command),
         _ => Err(Trouble("no command")),
@@ -30,7 +30,7 @@ fn add_scripts(alloc: Global, text: &str, scripts: &mut Vec<Vec<Command>>) -> Re
 }
 
 /// The commands of one script; none where there is no text.
-pub fn script_of(alloc: Global, text: &str) -> Result<Vec<Command>, Trouble> {
+fn script_of(alloc: Global, text: &str) -> Result<Vec<Command>, Trouble> {
     let mut commands = Vec::new(alloc);
     if !text.is_empty() {
         add_commands(alloc, text, &mut commands)?;
