@@ -1,35 +1,35 @@
--- What a batch leaves, by how it ends.
-use Rattle.std.proofs.Common.{◌≡◌, ◌≢◌, ◌⊎◌, inl, inr, ℕ, List, [], ◌∷◌, ◌++◌, Option, None, Some, Result, Ok, Err, refl, sym, ap, subst, ◌∙◌}
-use Rattle.std.specs.Prelude.{IsSome, IfErr, OnOk, OnErr, false}
-use Rattle.std.specs.List.{AllByRecursion, flat_map}
+-- What a batch brings, by how it ends.
+use Rattle.std.proofs.Common.{◌≡◌, ◌≢◌, inl, inr, ℕ, List, [], Option, None, Some, Result, Ok, Err, refl, sym, subst, append-nil}
+use Rattle.std.specs.Prelude.{IfErr, OnOk, OnErr, false}
+use Rattle.std.specs.List.{AllByRecursion, IsDistinct}
+use Rattle.std.specs.Str.{bytes_eq}
 use Rattle.std.specs.Io.KnownBytes.{Appends, Keeps}
 use Rattle.ic_disk.specs.declared.disk.Disk.{Ghosts}
 use Rattle.ic_output.specs.Output.{AppendsFront}
 use Rattle.ic_jobs.specs.Job.{JobParts}
-use Rattle.ic_jobs.specs.Table.{job_named}
 use Rattle.ic_desk.specs.declared.book.Book.{Book}
-use Rattle.ic_desk.specs.Book.{table_of}
+use Rattle.ic_desk.specs.Book.{disk_of, table_of, IsUnchanged}
 use Rattle.ic_serving.specs.Booked.{last_kept, IsAllKept}
-use Rattle.ic_serving.specs.Moments.{Leaves, IsKeptOrNow}
-use Rattle.ic_serving.specs.Faults.{ComesInLine}
+use Rattle.ic_serving.specs.Moments.{FaultLeaves, Leaves}
+use Rattle.ic_serving.specs.Faults.{ComesInLine, CountsServe}
 use Rattle.ic_serving.specs.declared.fault.ServeFault.{ServeFault}
 use Rattle.ic_serving.specs.declared.fault.ServeFault.TheVariants.{Read, Write, TooManyLines, Book as of_book, Pool, LongLine, Memory}
+use Rattle.ic_serving.specs.lemmas.Leaving.{leaves_more}
 use Rattle.ic_batch.specs.declared.fault.BatchFault.{BatchFault}
 use Rattle.ic_batch.specs.declared.fault.BatchFault.TheVariants.{Taken, Full, Serve}
 use Rattle.ic_batch.specs.declared.jobs.NewJob.{NewJob}
-use Rattle.ic_batch.specs.Faults.{IsTaken, SaysTaken}
-use Rattle.ic_batch.specs.Way.{goes_on, AreOnWay, IsTextOf}
-use Rattle.ic_batch.specs.Batch.{IsBatch, IsOnWay}
-use Rattle.ic_batch.specs.inner.Staying.{IsAt, Stays, StaysSuch, fetched}
-use Rattle.ic_batch.proofs.EndLemmas.{text_of_ends}
+use Rattle.ic_batch.specs.Faults.{AreSame, HasNoRoom, IsTaken, Says, Succeeds}
+use Rattle.ic_batch.specs.Jobs.{names}
+use Rattle.ic_batch.specs.Way.{all_of, fetched_all, goes_on, missing, AreOnWay, AreWays, HaveEnded, IsKeptOr, IsTextOf, IsUnderWay}
+use Rattle.ic_batch.specs.Batch.{Brings, IsBatch, IsOnWay}
+use Rattle.ic_batch.specs.inner.Staying.{AreBegun, Leads}
+use Rattle.ic_batch.proofs.LeadLemmas.{leads_more, leads_then}
+use Rattle.ic_batch.proofs.KeepLemmas.{keeps_on_way, text_at_end}
+use Rattle.ic_batch.proofs.WayLemmas.{ways_end, ways_same}
 
-pub keeps_same : (c : Option (List ℕ)) → Keeps c c
+keeps_same : (c : Option (List ℕ)) → Keeps c c
 keeps_same None = tt
 keeps_same (Some bytes) = refl
-
-pub all_weaker : {X : Type 0} (P Q : X → Type 0) → ((x : X) → P x → Q x) → (xs : List X) → AllByRecursion P xs → AllByRecursion Q xs
-all_weaker P Q weaker [] all = tt
-all_weaker P Q weaker (x ∷ xs) all = (weaker x all.0, all_weaker P Q weaker xs all.1)
 
 -- a fault of a call over a book isn't the writer's
 pub not_writing : (fault : ServeFault) → ComesInLine fault → Serve fault ≢ Serve Write
@@ -42,67 +42,159 @@ not_writing LongLine comes = λ e. cc
 not_writing Memory comes = λ e. cc
 
 -- another fault than the writer's
-not_write : (jobs : List NewJob) (t : List JobParts) (fault : BatchFault) → IsTaken jobs t fault → fault ≢ Serve Write
+pub not_write : (jobs : List NewJob) (t : List JobParts) (fault : BatchFault) → IsTaken jobs t fault → fault ≢ Serve Write
 not_write jobs t (Taken name is) taken = λ e. cc
 not_write jobs t Full taken = absurd taken
 not_write jobs t (Serve other) taken = absurd taken
 
+-- ---- tables
+
+pub under_begun : (most : ℕ) (jobs : List NewJob) (t u : List JobParts) → AreBegun jobs t u → IsUnderWay most jobs t u
+under_begun most jobs t u begun = record {
+  front = begun.front;
+  rest = begun.rest;
+  parted = begun.parted;
+  ways = subst (λ (from : List JobParts). AreWays most from u) begun.table (ways_same most u);
+}
+
+pub under_none : (most : ℕ) (jobs : List NewJob) (t : List JobParts) → IsUnderWay most jobs t t
+under_none most jobs t = under_begun most jobs t t (record { front = []; rest = missing t jobs; parted = refl; table = sym (append-nil t) })
+
+-- all are there, and on their ways
+pub under_all : (most : ℕ) (jobs : List NewJob) (t u v : List JobParts) → u ≡ all_of jobs t → AreWays most u v → IsUnderWay most jobs t v
+under_all most jobs t u v all ways = record {
+  front = missing t jobs;
+  rest = [];
+  parted = sym (append-nil (missing t jobs));
+  ways = subst (λ (from : List JobParts). AreWays most from v) all ways;
+}
+
+pub all_ended : (most : ℕ) (jobs : List NewJob) (t u v : List JobParts) → u ≡ all_of jobs t → AreWays most u v → AllByRecursion (λ j. goes_on most j ≡ false) v → HaveEnded most jobs t v
+all_ended most jobs t u v all ways over = ways_end most (all_of jobs t) v (subst (λ (from : List JobParts). AreWays most from v) all ways) over
+
+-- submits and rounds of a book
+pub leads_under : {D : Type 0} {ghosts : Ghosts D} (most : ℕ) (jobs : List NewJob) (old mid new : Book D ghosts) → Leads (AreBegun jobs (table_of old)) old mid
+    → table_of mid ≡ all_of jobs (table_of old) → Leads (AreWays most (table_of mid)) mid new → Leads (IsUnderWay most jobs (table_of old)) old new
+leads_under most jobs old mid new begun all rounds =
+    let such = IsUnderWay most jobs (table_of old) in
+    leads_then such (AreWays most (table_of mid)) old mid new
+    (leads_more (AreBegun jobs (table_of old)) such old mid begun (λ u is. under_begun most jobs (table_of old) u is)) rounds
+    (λ u ways. under_all most jobs (table_of old) (table_of mid) u all ways)
+
+-- nothing was done
+pub leads_none : {D : Type 0} {ghosts : Ghosts D} (most : ℕ) (jobs : List NewJob) (book : Book D ghosts) → Leaves book book (IsKeptOr (last_kept book) (IsUnderWay most jobs (table_of book)))
+    → Leads (IsUnderWay most jobs (table_of book)) book book
+leads_none most jobs book crash = record { table = under_none most jobs (table_of book); kept = inl refl; crash = crash }
+
+-- ---- how it ends
+
 module _ {D : Type 0} {ghosts : Ghosts D} (most : ℕ) (jobs : List NewJob) where
-  pub at_of : (book : Book D ghosts) → IsOnWay most jobs book → IsAt (AreOnWay most jobs) book
-  at_of book on = record { table = on.table; kept = on.kept }
-
-  on_of : (book : Book D ghosts) → IsAt (AreOnWay most jobs) book → IsOnWay most jobs book
-  on_of book at = record { table = at.table; kept = at.kept }
-
   -- a fault ended it, and nothing was written
-  pub batch_ended : {T : Type 0} (r : Result T BatchFault) (old new : Book D ghosts) (bytes : Option (List ℕ)) → OnOk r ⊥ → IfErr r (λ fault. fault ≢ Serve Write)
-      → Stays (AreOnWay most jobs) old new → IsBatch r most jobs old new bytes bytes
-  batch_ended (Ok value) old new bytes ended other stays = absurd ended
-  batch_ended (Err fault) old new bytes ended other stays = record {
-    on_way = on_of new stays.at;
-    crash = stays.crash;
-    written = tt;
+  pub brings_less : {T : Type 0} (r : Result T BatchFault) (old new : Book D ghosts) (bytes : Option (List ℕ)) → OnOk r ⊥ → IfErr r (λ fault. fault ≢ Serve Write)
+      → Leads (IsUnderWay most jobs (table_of old)) old new → Brings r most jobs old new bytes bytes
+  brings_less (Ok value) old new bytes ended other leads = absurd ended
+  brings_less (Err fault) old new bytes ended other leads = record {
+    table = leads.table;
+    last = leads.kept;
+    crash = leads.crash;
+    ended = tt;
     kept = tt;
+    written = tt;
+    ended_at_cut = λ is. absurd (other (let e : fault ≡ Serve Write = cc in e));
+    kept_at_cut = λ is. absurd (other (let e : fault ≡ Serve Write = cc in e));
     cut = λ is. absurd (other (let e : fault ≡ Serve Write = cc in e));
     silent = λ not. keeps_same bytes;
   }
 
-  -- another job has one of the names
-  pub batch_taken : {T : Type 0} (fault : BatchFault) (old new : Book D ghosts) (t : List JobParts) (bytes : Option (List ℕ)) → IsTaken jobs t fault
-      → Stays (AreOnWay most jobs) old new → IsBatch {T = T} (Err fault) most jobs old new bytes bytes
-  batch_taken fault old new t bytes taken stays = batch_ended (Err fault) old new bytes tt (not_write jobs t fault taken) stays
-
   -- the text was written, or a front of it
-  pub batch_written : {T : Type 0} (r : Result T BatchFault) (old new : Book D ghosts) (before behind : Option (List ℕ)) (text : List ℕ) → IsTextOf most jobs text
-      → IsAllKept new → OnOk r (Appends before behind text) → OnErr r (AppendsFront before behind [] text) → IfErr r (λ fault. fault ≡ Serve Write)
-      → Stays (AreOnWay most jobs) old new → IsBatch r most jobs old new before behind
-  batch_written (Ok value) old new before behind text is all written cut refused stays = record {
-    on_way = on_of new stays.at;
-    crash = stays.crash;
-    written = (text, is, written);
+  pub brings_all : {T : Type 0} (r : Result T BatchFault) (old new : Book D ghosts) (before behind : Option (List ℕ)) (text : List ℕ) → text ≡ fetched_all jobs (table_of new)
+      → HaveEnded most jobs (table_of old) (table_of new) → IsAllKept new → OnOk r (Appends before behind text) → OnErr r (AppendsFront before behind [] text)
+      → IfErr r (λ fault. fault ≡ Serve Write) → Leads (IsUnderWay most jobs (table_of old)) old new → Brings r most jobs old new before behind
+  brings_all (Ok value) old new before behind text is ended all written cut refused leads = record {
+    table = leads.table;
+    last = leads.kept;
+    crash = leads.crash;
+    ended = ended;
     kept = all;
+    written = subst (λ (l : List ℕ). Appends before behind l) is written;
+    ended_at_cut = λ e. cc;
+    kept_at_cut = λ e. cc;
     cut = λ e. cc;
     silent = tt;
   }
-  batch_written (Err fault) old new before behind text is all written cut refused stays = record {
-    on_way = on_of new stays.at;
-    crash = stays.crash;
-    written = tt;
+  brings_all (Err fault) old new before behind text is ended all written cut refused leads = record {
+    table = leads.table;
+    last = leads.kept;
+    crash = leads.crash;
+    ended = tt;
     kept = tt;
-    cut = λ e. (text, is, cut);
+    written = tt;
+    ended_at_cut = λ e. ended;
+    kept_at_cut = λ e. all;
+    cut = λ e. subst (λ (l : List ℕ). AppendsFront before behind [] l) is cut;
     silent = λ not. absurd (not refused);
   }
 
--- the text of jobs of which none goes on
-pub text_is : (most : ℕ) (jobs : List NewJob) (t u : List JobParts) (text : List ℕ) → AreOnWay most jobs u → AllByRecursion (λ new. IsSome (job_named new.name t)) jobs
-    → ((name : List ℕ) → IsSome (job_named name t) → IsSome (job_named name u)) → AllByRecursion (λ j. goes_on most j ≡ false) u
-    → text ≡ flat_map (fetched u) jobs → IsTextOf most jobs text
-text_is most jobs t u text ways there still over is =
-    let behind = all_weaker (λ new. IsSome (job_named new.name t)) (λ new. IsSome (job_named new.name u)) (λ new. still new.name) jobs there in
-    subst (IsTextOf most jobs) (sym is) (text_of_ends most jobs u ways behind over)
+on_ok : {T : Type 0} (r : Result T BatchFault) (P Q : Type 0) → (P → Q) → OnOk r P → OnOk r Q
+on_ok (Ok value) P Q so is = so is
+on_ok (Err fault) P Q so is = tt
 
--- what is said of the book where another job has one of the names
-pub says_taken : {D : Type 0} {ghosts : Ghosts D} (jobs : List NewJob) (book : Book D ghosts) (fault : BatchFault) → IsTaken jobs (table_of book) fault → SaysTaken jobs book book fault
-says_taken jobs book (Taken name is) taken = (taken, record { same_start = refl; same_log = refl; same_table = refl; same_kept = refl; same_keeper = refl })
-says_taken jobs book Full taken = tt
-says_taken jobs book (Serve fault) taken = tt
+-- where jobs were on their way
+module _ {T : Type 0} {D : Type 0} {ghosts : Ghosts D} (r : Result T BatchFault) (most : ℕ) (jobs : List NewJob) (old new : Book D ghosts) (before behind : Option (List ℕ))
+    (distinct : IsDistinct bytes_eq (names jobs)) (on : IsOnWay most jobs old) (brings : Brings r most jobs old new before behind) where
+  still : (u : List JobParts) → IsUnderWay most jobs (table_of old) u → AreOnWay most jobs u
+  still u under = keeps_on_way most jobs (table_of old) u under distinct on.table
+
+  either : (u : List JobParts) → IsKeptOr (last_kept old) (IsUnderWay most jobs (table_of old)) u → AreOnWay most jobs u
+  either u (inl same) = subst (AreOnWay most jobs) (sym same) on.kept
+  either u (inr under) = still u under
+
+  text : HaveEnded most jobs (table_of old) (table_of new) → IsTextOf most jobs (fetched_all jobs (table_of new))
+  text ended = text_at_end most jobs (table_of old) (table_of new) ended (still (table_of new) brings.table)
+
+  pub is_batch : IsBatch r most jobs old new
+  is_batch = record {
+    on_way = record { table = still (table_of new) brings.table; kept = either (last_kept new) brings.last };
+    crash = leaves_more old new (IsKeptOr (last_kept old) (IsUnderWay most jobs (table_of old))) (AreOnWay most jobs) brings.crash either;
+    text = on_ok r (HaveEnded most jobs (table_of old) (table_of new)) (IsTextOf most jobs (fetched_all jobs (table_of new))) text brings.ended;
+    text_at_cut = λ is. text (brings.ended_at_cut is);
+  }
+
+-- ---- what it says
+
+unchanged : {D : Type 0} {ghosts : Ghosts D} (book : Book D ghosts) → IsUnchanged book book
+unchanged book = record { same_start = refl; same_log = refl; same_table = refl; same_kept = refl; same_keeper = refl }
+
+pub says_taken : {D : Type 0} {ghosts : Ghosts D} (jobs : List NewJob) (book : Book D ghosts) (fault : BatchFault) → IsTaken jobs (table_of book) fault → Says jobs book book fault
+says_taken jobs book (Taken name is) taken = (taken, unchanged book)
+says_taken jobs book Full taken = absurd taken
+says_taken jobs book (Serve fault) taken = absurd taken
+
+pub says_full : {D : Type 0} {ghosts : Ghosts D} (jobs : List NewJob) (book : Book D ghosts) → AreSame jobs (table_of book) → HasNoRoom jobs (table_of book) → Says jobs book book Full
+says_full jobs book same full = (same, full, unchanged book)
+
+counts : (T : Type 0) (fault : ServeFault) (old new : ℕ) → CountsServe {T = T} (Err fault) old new → CountsServe {T = Unit {0}} (Err fault) old new
+counts T Read old new is = is
+counts T Write old new is = is
+counts T TooManyLines old new is = is
+counts T (of_book it) old new is = is
+counts T (Pool it) old new is = is
+counts T LongLine old new is = is
+counts T Memory old new is = is
+
+module _ {D : Type 0} {ghosts : Ghosts D} (jobs : List NewJob) (old new : Book D ghosts) (same : AreSame jobs (table_of old)) where
+  pub says_failed : (U : Type 0) (fault : ServeFault) → FaultLeaves {T = U} ComesInLine (Err fault) old new → Says jobs old new (Serve fault)
+  says_failed U fault leaves = (
+    same,
+    record {
+      comes = inr leaves.causes;
+      counted = counts U fault (ghosts.failures (disk_of old)) (ghosts.failures (disk_of new)) leaves.counted;
+      breaks = leaves.breaks;
+    },
+  )
+
+  pub succeeds : {U : Type 0} (value : U) → FaultLeaves ComesInLine (Ok value) old new → Succeeds jobs old new
+  succeeds value leaves = record { same = same; counted = leaves.counted; ready = leaves.ready }
+
+  pub says_cut : Succeeds jobs old new → Says jobs old new (Serve Write)
+  says_cut done = (same, record { comes = inl refl; counted = done.counted; breaks = done.ready })

@@ -1,5 +1,5 @@
 -- The round that is due from the place of a job that goes on.
-use Rattle.std.proofs.Common.{◌≡◌, ◌⊎◌, ⊎_elim, ℕ, ◌<◌, ◌≤◌, List, Bool, true, false, ◌&&◌, Option, None, Some, refl, sym, ap, subst, ◌∙◌, arith}
+use Rattle.std.proofs.Common.{◌≡◌, ⊎_elim, ℕ, ◌<◌, ◌≤◌, List, Bool, true, false, ◌&&◌, Option, None, Some, refl, sym, ap, ◌∙◌, arith}
 use Rattle.std.specs.Prelude.{◌↔◌, IfNone, IfSome, nat_lt, slice_get}
 use Rattle.std.proofs.lemmas.Bool.{cases_lt}
 use Rattle.ic_disk.specs.declared.disk.Disk.{Ghosts}
@@ -11,7 +11,7 @@ use Rattle.ic_jobs.specs.State.{is_running}
 use Rattle.ic_jobs.specs.Job.{JobParts}
 use Rattle.ic_jobs.specs.Table.{IsTable, job_named}
 use Rattle.ic_jobs.specs.History.{table_after}
-use Rattle.ic_jobs.specs.Landing.{Awaits, due, flight_of}
+use Rattle.ic_jobs.specs.Landing.{Awaits, due}
 use Rattle.ic_jobs.specs.Turns.{RunsAt, IsFlightOf}
 use Rattle.ic_desk.specs.declared.book.Book.{Book}
 use Rattle.ic_desk.specs.Book.{table_of}

@@ -1,21 +1,18 @@
 -- Jobs at their ends, and rounds that are left until then.
-use Rattle.std.proofs.Common.{◌≡◌, ℕ, ◌+◌, ◌-◌, ◌<◌, ◌≤◌, List, [], ◌∷◌, ◌++◌, Bool, true, false, ◌&&◌, Option, None, Some, refl, sym, ap, subst, ◌∙◌, true≢false, arith}
-use Rattle.std.specs.Prelude.{IfSome, IsSome, if◌then◌else◌, nat_lt}
-use Rattle.std.specs.List.{AllByRecursion, AllZip, flat_map}
-use Rattle.std.specs.Str.{bytes_eq}
+use Rattle.std.proofs.Common.{◌≡◌, ℕ, List, [], ◌∷◌, ◌++◌, Bool, true, false, Option, Some, refl, sym, ap, subst, ◌∙◌}
+use Rattle.std.specs.Prelude.{IfSome, IsSome}
+use Rattle.std.specs.List.{AllByRecursion, flat_map}
 use Rattle.std.proofs.lemmas.List.Concat.{flat_map-cons}
-use Rattle.ic_jobs.specs.declared.command.Command.TheVariants.{Fetch}
 use Rattle.ic_jobs.specs.Job.{JobParts}
-use Rattle.ic_jobs.specs.Table.{is_named, job_named, with_changed}
-use Rattle.ic_jobs.specs.Events.{after_command, outcome, unless_missing}
+use Rattle.ic_jobs.specs.Table.{is_named, job_named}
+use Rattle.ic_jobs.specs.Events.{outcome, unless_missing}
 use Rattle.ic_jobs.specs.declared.reply.Reply.TheVariants.{Shown}
 use Rattle.ic_jobs.specs.Shown.{shown}
 use Rattle.ic_commands.specs.ReplyText.{reply_text, shown_text}
 use Rattle.ic_lines.specs.Lines.{ended}
 use Rattle.ic_batch.specs.declared.jobs.NewJob.{NewJob}
 use Rattle.ic_batch.specs.Jobs.{begun_by}
-use Rattle.ic_batch.specs.Way.{goes_on, IsOnWay, AreOnWay, ComesTo, IsTextOf, lines_of}
-use Rattle.ic_batch.specs.inner.Staying.{fetched}
+use Rattle.ic_batch.specs.Way.{goes_on, fetched, fetched_all, IsOnWay, AreOnWay, IsTextOf}
 use Rattle.ic_batch.proofs.JobLemmas.{some_there}
 
 -- what is so of each job of a table is so of the one of a name
@@ -32,7 +29,7 @@ fetched_is t new j there = ap (λ (o : Option JobParts). ended (reply_text (unle
 
 -- the text of jobs that have come to their ends
 pub text_of_ends : (most : ℕ) (jobs : List NewJob) (t : List JobParts) → AreOnWay most jobs t → AllByRecursion (λ new. IsSome (job_named new.name t)) jobs
-    → AllByRecursion (λ j. goes_on most j ≡ false) t → IsTextOf most jobs (flat_map (fetched t) jobs)
+    → AllByRecursion (λ j. goes_on most j ≡ false) t → IsTextOf most jobs (fetched_all jobs t)
 text_of_ends most [] t ways there over = ([], tt, refl)
 text_of_ends most (new ∷ jobs) t ways there over =
     let job = some_there (job_named new.name t) there.0 in

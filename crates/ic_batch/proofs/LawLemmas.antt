@@ -1,20 +1,20 @@
 -- Ways and their ends.
-use Rattle.std.proofs.Common.{◌≡◌, ◌≢◌, ⊎_elim, ℕ, zero, suc, ◌+◌, ◌-◌, ◌<◌, ◌≤◌, List, [], ◌∷◌, ◌++◌, Bool, true, false, ◌&&◌, None, Some, Option, length, get_or, refl, sym, ap, ap₂, subst, ◌∙◌, arith}
-use Rattle.std.specs.Prelude.{IfSome, if◌then◌else◌, nat_lt, slice_get}
+use Rattle.std.proofs.Common.{◌≡◌, ⊎_elim, ℕ, zero, suc, ◌+◌, ◌-◌, ◌<◌, ◌≤◌, List, [], ◌∷◌, ◌++◌, Bool, true, false, None, Some, Option, refl, sym, ap, ap₂, subst, ◌∙◌, arith}
+use Rattle.std.specs.Prelude.{IfSome, if◌then◌else◌}
 use Rattle.std.specs.List.{AllByRecursion, AllZip}
 use Rattle.std.proofs.lemmas.Bool.{cases_lt, ltb-true}
 use Rattle.ic_round.specs.Rounds.{iterate, round}
-use Rattle.ic_term.specs.Configuration.{Configuration}
 use Rattle.ic_jobs.specs.declared.state.State.TheVariants.{Halted}
 use Rattle.ic_jobs.specs.Job.{JobParts, can_move, moved, in_state}
 use Rattle.ic_jobs.specs.Table.{job_named}
 use Rattle.ic_batch.specs.declared.jobs.NewJob.{NewJob}
 use Rattle.ic_batch.specs.declared.fault.Difference.{Difference}
 use Rattle.ic_batch.specs.declared.fault.Difference.TheVariants as difference
-use Rattle.ic_batch.specs.Faults.{Differs, HasAnother}
+use Rattle.ic_batch.specs.Faults.{AreSame, HasAnother, IsSame}
 use Rattle.ic_batch.specs.Jobs.{begun_by}
 use Rattle.ic_batch.specs.Way.{goes_on, after_event, gone_on, after, IsOnWay, ComesTo, AreOnWay, IsTextOf, IsIterate, lines_of}
 use Rattle.ic_batch.proofs.DueLemmas.{few}
+use Rattle.ic_batch.proofs.WayLemmas.{after_more}
 
 -- ---- one end
 
@@ -24,10 +24,6 @@ stands most j is = ap (λ (b : Bool). if b then after_event j else j) is
 stands_on : (most : ℕ) (j : JobParts) → goes_on most j ≡ false → (n : ℕ) → after most n j ≡ j
 stands_on most j is zero = refl
 stands_on most j is (suc n) = ap (gone_on most) (stands_on most j is n) ∙ stands most j is
-
-after_more : (most : ℕ) (from : JobParts) (n k : ℕ) → after most (k + n) from ≡ after most k (after most n from)
-after_more most from n zero = (let e : zero + n ≡ n = omega arith in ap (λ (m : ℕ). after most m from) e)
-after_more most from n (suc k) = (let e : suc k + n ≡ suc (k + n) = omega arith in ap (λ (m : ℕ). after most m from) e ∙ ap (gone_on most) (after_more most from n k))
 
 same_end : (most : ℕ) (from a b : JobParts) (n m : ℕ) → a ≡ after most n from → b ≡ after most m from → goes_on most a ≡ false → n ≤ m → b ≡ a
 same_end most from a b n m is_a is_b ends less =
@@ -105,20 +101,29 @@ pub none_there : (most : ℕ) (jobs : List NewJob) → AreOnWay most jobs []
 none_there most [] = tt
 none_there most (new ∷ jobs) = (tt, none_there most jobs)
 
-not_other : (new : NewJob) (j : JobParts) (is : Difference) → IsIterate new j → ¬ Differs new j is
-not_other new j difference.Rules same other = other same.rules
-not_other new j difference.Budget same other = other same.budget
-not_other new j difference.Start same other = other.1 (same.config ∙ ap (λ (n : ℕ). iterate new.system.rules.rules n new.system.config) other.0)
+not_other : (new : NewJob) (j : JobParts) → IsIterate new j → IsSame new j
+not_other new j same difference.Rules other = other same.rules
+not_other new j same difference.Budget other = other.1 same.budget
+not_other new j same difference.Start other = other.3 (same.config ∙ ap (λ (n : ℕ). iterate new.system.rules.rules n new.system.config) other.2)
 
-among : (P : NewJob → Type 0) (jobs : List NewJob) (k : ℕ) (new : NewJob) → AllByRecursion P jobs → slice_get jobs k ≡ Some new → P new
-among P [] k new all is = cc
-among P (x ∷ xs) zero new all is = (let same : x ≡ new = cc in subst P same all.0)
-among P (x ∷ xs) (suc k) new all is = among P xs k new all.1 is
+same_or_none : (most : ℕ) (new : NewJob) (o : Option JobParts) → IfSome o (IsOnWay most (begun_by new)) → IfSome o (IsSame new)
+same_or_none most new None way = tt
+same_or_none most new (Some j) way = not_other new j (way_is new most j way)
 
-pub none_taken : (most : ℕ) (jobs : List NewJob) (t : List JobParts) (name : List ℕ) (is : Difference) → AreOnWay most jobs t → ¬ HasAnother jobs t name is
-none_taken most jobs t name is ways another =
+pub none_other : (most : ℕ) (jobs : List NewJob) (t : List JobParts) → AreOnWay most jobs t → AreSame jobs t
+none_other most [] t ways = tt
+none_other most (new ∷ jobs) t ways = (same_or_none most new (job_named new.name t) ways.0, none_other most jobs t ways.1)
+
+among : (P : NewJob → Type 0) (before : List NewJob) (new : NewJob) (behind : List NewJob) → AllByRecursion P (before ++ new ∷ behind) → P new
+among P [] new behind all = all.0
+among P (x ∷ xs) new behind all = among P xs new behind all.1
+
+-- another job and the same one don't go together
+pub not_same : (jobs : List NewJob) (t : List JobParts) (name : List ℕ) (is : Difference) → AreSame jobs t → ¬ HasAnother jobs t name is
+not_same jobs t name is same another =
     let new = another.new in
-    let way = among (λ n. IfSome (job_named n.name t) (IsOnWay most (begun_by n))) jobs another.place new ways another.among in
+    let all = subst (λ (l : List NewJob). AreSame l t) another.among same in
+    let one = among (λ k. IfSome (job_named k.name t) (IsSame k)) another.before new another.behind all in
     let there : job_named new.name t ≡ Some another.job = ap (λ (n : List ℕ). job_named n t) another.named ∙ another.there in
-    let on = subst (λ (o : Option JobParts). IfSome o (IsOnWay most (begun_by new))) there way in
-    not_other new another.job is (way_is new most another.job on) another.differs
+    let on = subst (λ (o : Option JobParts). IfSome o (IsSame new)) there one in
+    on is another.differs

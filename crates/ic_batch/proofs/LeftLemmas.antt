@@ -1,14 +1,11 @@
 -- How many rounds are left at most until no job goes on.
-use Rattle.std.proofs.Common.{◌≡◌, ℕ, ◌+◌, ◌-◌, ◌<◌, ◌≤◌, List, [], ◌∷◌, Bool, true, false, ◌&&◌, Option, None, Some, refl, sym, ap, subst, ◌∙◌, true≢false, arith}
-use Rattle.std.specs.Prelude.{IsSome, if◌then◌else◌, nat_lt}
+use Rattle.std.proofs.Common.{◌≡◌, ℕ, ◌+◌, ◌-◌, ◌<◌, ◌≤◌, List, [], ◌∷◌, Bool, true, false, Option, refl, sym, ap, subst, ◌∙◌, arith}
+use Rattle.std.specs.Prelude.{IsSome, if◌then◌else◌}
 use Rattle.std.specs.List.{AllByRecursion}
 use Rattle.std.proofs.lemmas.Bool.{ltb-true}
-use Rattle.ic_jobs.specs.declared.event.Event.TheVariants.{Round}
 use Rattle.ic_jobs.specs.declared.state.State.TheVariants as state
-use Rattle.ic_jobs.specs.State.{is_running}
 use Rattle.ic_jobs.specs.Job.{JobParts, can_move, moved, in_state}
 use Rattle.ic_jobs.specs.Table.{IsTable, is_named, job_named, with_changed}
-use Rattle.ic_jobs.specs.History.{table_after}
 use Rattle.ic_batch.specs.Way.{goes_on, after_event}
 use Rattle.ic_batch.proofs.JobLemmas.{change, change_is, one_named, round_changes}
 use Rattle.ic_batch.proofs.WayLemmas.{runs}

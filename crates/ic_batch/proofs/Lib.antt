@@ -1,8 +1,10 @@
 pub mod LoopLemmas
 pub mod JobLemmas
 pub mod WayLemmas
-pub mod StayLemmas
+pub mod NewLemmas
+pub mod LeadLemmas
 pub mod EndLemmas
+pub mod KeepLemmas
 pub mod DueLemmas
 pub mod LeftLemmas
 pub mod ReadLemmas
@@ -10,3 +12,5 @@ pub mod LawLemmas
 pub mod BatchLemmas
 pub mod OtherLemmas
 pub mod RoundLemmas
+pub mod RunLemmas
+pub mod TakenLemmas

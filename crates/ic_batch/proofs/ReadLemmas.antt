@@ -1,14 +1,25 @@
 -- Jobs that are read one behind the other.
-use Rattle.std.proofs.Common.{◌≡◌, ℕ, ◌+◌, ◌<◌, ◌≤◌, List, [], ◌∷◌, ◌++◌, Bool, true, false, ◌||◌, Ok, length, map, refl, sym, ap, subst, ◌∙◌, append_assoc, arith, length-append}
+use Rattle.std.proofs.Common.{◌≡◌, ℕ, ◌≤◌, List, [], ◌∷◌, ◌++◌, Bool, true, false, ◌||◌, Ok, Option, Some, length, map, refl, sym, ap, subst, ◌∙◌, append_assoc, arith, length-append}
+use Rattle.std.specs.Prelude.{is_some, nat_lt, if◌then◌else◌}
 use Rattle.std.specs.List.{AllByRecursion, IsDistinct, list_any}
 use Rattle.std.specs.Str.{bytes_eq}
-use Rattle.std.proofs.lemmas.List.{map-append}
+use Rattle.std.proofs.lemmas.Bool.{le-ltb}
+use Rattle.std.proofs.lemmas.List.{length-map, map-append}
 use Rattle.std.proofs.lemmas.Map.Keys.{IsDistinct-cons, IsDistinct-head, IsDistinct-tail}
 use Rattle.ic_jobs.specs.declared.command.Command.{Command}
 use Rattle.ic_jobs.specs.declared.limits.TheConstants.{MAX_JOBS}
+use Rattle.ic_jobs.specs.declared.reply.Reply.TheVariants.{Accepted, Refused}
+use Rattle.ic_jobs.specs.declared.reply.Refusal.TheVariants.{Taken, Full}
+use Rattle.ic_jobs.specs.Events.{after_command, outcome, refused}
+use Rattle.ic_jobs.specs.Job.{JobParts}
+use Rattle.ic_jobs.specs.Table.{job_named}
 use Rattle.ic_lines.specs.Script.{ReadsScript}
+use Rattle.ic_batch.specs.declared.fault.JobsCause.{JobsCause}
+use Rattle.ic_batch.specs.Faults.{IsRefused, StopsAt}
 use Rattle.ic_batch.specs.declared.jobs.NewJob.{NewJob}
-use Rattle.ic_batch.specs.Jobs.{names, submit_of}
+use Rattle.ic_batch.specs.Jobs.{begun_by, names, submit_of}
+use Rattle.ic_batch.specs.inner.Taking.{IsNext}
+use Rattle.ic_batch.proofs.NewLemmas.{swapped, swapped_not}
 
 neither : (a b : Bool) → a || b ≡ false → (a ≡ false) × (b ≡ false)
 neither true b is = cc
@@ -34,14 +45,26 @@ pub record AreSoFar (text : List ℕ) (jobs : List NewJob) (rest : List Command)
   pub distinct : IsDistinct bytes_eq (names jobs)
   pub few : length jobs ≤ MAX_JOBS
 
-pub one_read : (text : List ℕ) (jobs : List NewJob) (new : NewJob) (command : Command) (rest : List Command) → command ≡ submit_of new
-    → list_any (λ job. bytes_eq job.name new.name) jobs ≡ false → length jobs < MAX_JOBS → AreSoFar text jobs (command ∷ rest) → AreSoFar text (jobs ++ new ∷ []) rest
-one_read text jobs new command rest is other room so_far = record {
+pub one_read : (text : List ℕ) (jobs : List NewJob) (new : NewJob) (command : Command) (rest : List Command) → IsNext jobs command new
+    → AreSoFar text jobs (command ∷ rest) → AreSoFar text (jobs ++ new ∷ []) rest
+one_read text jobs new command rest next so_far = record {
   read = subst (λ (l : List Command). ReadsScript text (Ok l))
-      (ap (λ (c : Command). map submit_of jobs ++ c ∷ rest) is ∙ sym (append_assoc (map submit_of jobs) (submit_of new ∷ []) rest)
+      (ap (λ (c : Command). map submit_of jobs ++ c ∷ rest) next.submits ∙ sym (append_assoc (map submit_of jobs) (submit_of new ∷ []) rest)
       ∙ ap (λ (l : List Command). l ++ rest) (sym (map-append submit_of jobs (new ∷ [])))) so_far.read;
-  distinct = distinct_more jobs new other so_far.distinct;
-  few = omega (arith, room, length-append jobs (new ∷ []));
+  distinct = distinct_more jobs new next.other so_far.distinct;
+  few = omega (arith, next.room, length-append jobs (new ∷ []));
+}
+
+pub stops_at : (text : List ℕ) (jobs : List NewJob) (command : Command) (rest : List Command) (is : JobsCause) → IsRefused jobs command is → AreSoFar text jobs (command ∷ rest)
+    → StopsAt text is
+stops_at text jobs command rest is refused so_far = record {
+  jobs = jobs;
+  command = command;
+  behind = rest;
+  read = so_far.read;
+  distinct = so_far.distinct;
+  few = so_far.few;
+  refused = refused;
 }
 
 pub first_read : (text : List ℕ) (commands : List Command) (jobs : List NewJob) (rest : List Command) → jobs ≡ [] → rest ≡ commands → ReadsScript text (Ok commands)
@@ -53,3 +76,37 @@ first_read text commands jobs rest none all read =
       distinct = tt;
       few = omega arith;
     })
+
+-- ---- what a table of jobs answers to a submit
+
+-- whether one of the jobs has a name
+pub named_begun : (name : List ℕ) (jobs : List NewJob) → is_some (job_named name (map begun_by jobs)) ≡ list_any (λ job. bytes_eq job.name name) jobs
+named_begun name [] = refl
+named_begun name (x ∷ xs) = go (named_begun name xs) (bytes_eq name x.name) refl
+  where
+    go : is_some (job_named name (map begun_by xs)) ≡ list_any (λ job. bytes_eq job.name name) xs → (b : Bool) → bytes_eq name x.name ≡ b
+        → is_some (job_named name (map begun_by (x ∷ xs))) ≡ list_any (λ job. bytes_eq job.name name) (x ∷ xs)
+    go rest true is =
+        let found : job_named name (map begun_by (x ∷ xs)) ≡ Some (begun_by x) = rw is refl in
+        let any : list_any (λ job. bytes_eq job.name name) (x ∷ xs) ≡ true = rw (swapped name x.name is) refl in
+        ap (λ (o : Option JobParts). is_some o) found ∙ sym any
+    go rest false is =
+        let found : job_named name (map begun_by (x ∷ xs)) ≡ job_named name (map begun_by xs) = rw is refl in
+        let any : list_any (λ job. bytes_eq job.name name) (x ∷ xs) ≡ list_any (λ job. bytes_eq job.name name) xs = rw (swapped_not name x.name is) refl in
+        ap (λ (o : Option JobParts). is_some o) found ∙ rest ∙ sym any
+
+module _ (jobs : List NewJob) (new : NewJob) where
+  abbrev t : List JobParts
+  t = map begun_by jobs
+
+  pub taken_is : list_any (λ job. bytes_eq job.name new.name) jobs ≡ true → (after_command t (submit_of new)).reply ≡ Refused Taken
+  taken_is any = ap (λ (b : Bool). (if b then refused t Taken else (if nat_lt (length t) MAX_JOBS then outcome (t ++ begun_by new ∷ []) Accepted else refused t Full)).reply)
+      (named_begun new.name jobs ∙ any)
+
+  pub full_is : list_any (λ job. bytes_eq job.name new.name) jobs ≡ false → MAX_JOBS ≤ length jobs → (after_command t (submit_of new)).reply ≡ Refused Full
+  full_is any many =
+      let size : length t ≡ length jobs = length-map jobs begun_by in
+      let over : nat_lt (length t) MAX_JOBS ≡ false = le-ltb (length t) MAX_JOBS (omega (arith, size, many)) in
+      ap (λ (b : Bool). (if b then refused t Taken else (if nat_lt (length t) MAX_JOBS then outcome (t ++ begun_by new ∷ []) Accepted else refused t Full)).reply)
+      (named_begun new.name jobs ∙ any)
+      ∙ ap (λ (b : Bool). (if b then outcome (t ++ begun_by new ∷ []) Accepted else refused t Full).reply) over

@@ -1,25 +1,17 @@
--- Jobs on their way, behind a round and a submit.
-use Rattle.std.proofs.Common.{◌≡◌, ◌⊎◌, inl, inr, ℕ, zero, suc, ◌+◌, ◌-◌, ◌<◌, List, [], ◌∷◌, ◌++◌, Bool, true, false, ◌&&◌, Option, None, Some, length, refl, sym, ap, subst, ◌∙◌, true≢false, arith}
-use Rattle.std.specs.Prelude.{IfSome, IsSome, is_some, if◌then◌else◌, map, nat_lt, slice_get}
-use Rattle.std.specs.List.{AllByRecursion, IsDistinct}
-use Rattle.std.specs.Option.{option_map_or}
+-- Ways of the jobs of tables: where they end, and what a change of a job makes of them.
+use Rattle.std.proofs.Common.{◌≡◌, ℕ, zero, suc, ◌+◌, List, [], ◌∷◌, Bool, true, false, ◌&&◌, Option, None, Some, refl, sym, ap, subst, ◌∙◌, arith}
+use Rattle.std.specs.Prelude.{if◌then◌else◌, nat_lt}
+use Rattle.std.specs.List.{AllByRecursion, AllZip}
 use Rattle.std.specs.Str.{bytes_eq}
-use Rattle.std.proofs.lemmas.Map.Keys.{IsDistinct-head, IsDistinct-tail}
-use Rattle.ic_jobs.specs.declared.limits.TheConstants.{MAX_JOBS}
 use Rattle.ic_jobs.specs.declared.event.Event.{Event}
-use Rattle.ic_jobs.specs.declared.event.Event.TheVariants.{Command as by_command, Round}
+use Rattle.ic_jobs.specs.declared.state.State.TheVariants.{Halted}
 use Rattle.ic_jobs.specs.State.{is_running}
-use Rattle.ic_jobs.specs.Job.{JobParts, begun}
-use Rattle.ic_jobs.specs.Table.{job_named}
+use Rattle.ic_jobs.specs.Job.{JobParts, can_move, moved, in_state}
+use Rattle.ic_jobs.specs.Table.{is_named, job_named, with_changed}
 use Rattle.ic_jobs.specs.Names.{mentions}
-use Rattle.ic_jobs.specs.Events.{Outcome, outcome, refused, submitted}
-use Rattle.ic_jobs.specs.declared.reply.Reply.TheVariants.{Accepted}
-use Rattle.ic_jobs.specs.declared.reply.Refusal.TheVariants.{Taken, Full}
 use Rattle.ic_jobs.specs.History.{table_after}
-use Rattle.ic_batch.specs.declared.jobs.NewJob.{NewJob}
-use Rattle.ic_batch.specs.Jobs.{begun_by, names, submit_of}
-use Rattle.ic_batch.specs.Way.{goes_on, after_event, gone_on, after, IsOnWay, AreOnWay}
-use Rattle.ic_batch.proofs.JobLemmas.{named_round, named_last, same_name, is_same}
+use Rattle.ic_batch.specs.Way.{goes_on, after_event, gone_on, after, ComesTo, IsOnWay, AreWays}
+use Rattle.ic_batch.proofs.JobLemmas.{change, change_is}
 
 -- an event leaves the jobs of the names that it doesn't mention
 abbrev pub OthersStay : Type 0
@@ -32,95 +24,112 @@ runs most j goes = both (is_running j.state) (nat_lt j.rounds most) goes
     both true b is = refl
     both false b is = is
 
-pub on_way_more : (most : ℕ) (from j : JobParts) → goes_on most j ≡ true → IsOnWay most from j → IsOnWay most from (after_event j)
+on_way_more : (most : ℕ) (from j : JobParts) → goes_on most j ≡ true → IsOnWay most from j → IsOnWay most from (after_event j)
 on_way_more most from j goes way =
     let event : gone_on most j ≡ after_event j = ap (λ (b : Bool). if b then after_event j else j) goes in
     (suc way.0, sym event ∙ ap (gone_on most) way.1)
 
-module _ (law : OthersStay) (most : ℕ) (t : List JobParts) (name : List ℕ) (j : JobParts) (there : job_named name t ≡ Some j) (goes : goes_on most j ≡ true) where
-  behind : job_named name (table_after t (Round name)) ≡ Some (after_event j)
-  behind = named_round t name j there (runs most j goes)
+pub after_more : (most : ℕ) (from : JobParts) (n k : ℕ) → after most (k + n) from ≡ after most k (after most n from)
+after_more most from n zero = (let e : zero + n ≡ n = omega arith in ap (λ (m : ℕ). after most m from) e)
+after_more most from n (suc k) = (let e : suc k + n ≡ suc (k + n) = omega arith in ap (λ (m : ℕ). after most m from) e ∙ ap (gone_on most) (after_more most from n k))
 
-  one_round : (new : NewJob) (b : Bool) → bytes_eq new.name name ≡ b → IfSome (job_named new.name t) (IsOnWay most (begun_by new))
-      → IfSome (job_named new.name (table_after t (Round name))) (IsOnWay most (begun_by new))
-  one_round new false other way = subst (λ (o : Option JobParts). IfSome o (IsOnWay most (begun_by new))) (sym (law t (Round name) new.name other)) way
-  one_round new true same way =
-      let n = same_name new.name name same in
-      let before : job_named new.name t ≡ Some j = ap (λ (m : List ℕ). job_named m t) n ∙ there in
-      let now : job_named new.name (table_after t (Round name)) ≡ Some (after_event j) = ap (λ (m : List ℕ). job_named m (table_after t (Round name))) n ∙ behind in
-      subst (λ (o : Option JobParts). IfSome o (IsOnWay most (begun_by new))) (sym now)
-      (on_way_more most (begun_by new) j goes (subst (λ (o : Option JobParts). IfSome o (IsOnWay most (begun_by new))) before way))
+-- a way behind a way
+pub way_then : (most : ℕ) (from mid j : JobParts) → IsOnWay most from mid → IsOnWay most mid j → IsOnWay most from j
+way_then most from mid j first second =
+    (second.0 + first.0, second.1 ∙ ap (after most second.0) first.1 ∙ sym (after_more most from first.0 second.0))
 
-  -- a round of a job that goes on keeps all on their way
-  pub round_on_way : (jobs : List NewJob) → AreOnWay most jobs t → AreOnWay most jobs (table_after t (Round name))
-  round_on_way [] ways = tt
-  round_on_way (new ∷ jobs) ways = (one_round new (bytes_eq new.name name) refl ways.0, round_on_way jobs ways.1)
+-- a job keeps its name on its way
+event_name : (j : JobParts) (b : Bool) → (if b then moved j else in_state Halted j).name ≡ j.name
+event_name j true = refl
+event_name j false = refl
 
-  there_still : (other : List ℕ) (b : Bool) → bytes_eq other name ≡ b → IsSome (job_named other t) → IsSome (job_named other (table_after t (Round name)))
-  there_still other false apart is = subst (λ (o : Option JobParts). IsSome o) (sym (law t (Round name) other apart)) is
-  there_still other true same is =
-      let n = same_name other name same in
-      subst (λ (o : Option JobParts). IsSome o) (sym (ap (λ (m : List ℕ). job_named m (table_after t (Round name))) n ∙ behind)) refl
+gone_name : (j : JobParts) (b : Bool) → (if b then after_event j else j).name ≡ j.name
+gone_name j true = event_name j (can_move j)
+gone_name j false = refl
 
-  -- and leaves each job there
-  pub round_there : (other : List ℕ) → IsSome (job_named other t) → IsSome (job_named other (table_after t (Round name)))
-  round_there other is = there_still other (bytes_eq other name) refl is
+after_name : (most n : ℕ) (from : JobParts) → (after most n from).name ≡ from.name
+after_name most zero from = refl
+after_name most (suc n) from = gone_name (after most n from) (goes_on most (after most n from)) ∙ after_name most n from
 
--- ---- a submit
+pub way_name : (most : ℕ) (from j : JobParts) → IsOnWay most from j → j.name ≡ from.name
+way_name most from j way = ap (λ (k : JobParts). k.name) way.1 ∙ after_name most way.0 from
 
--- the jobs of one name among jobs of distinct names are one
-abbrev IsAlone : NewJob → List NewJob → Type 0
-IsAlone new jobs = AllByRecursion (λ k. bytes_eq k.name new.name ≡ true → k ≡ new) jobs
+-- ---- of tables
 
-swapped : (a b : List ℕ) → bytes_eq a b ≡ true → bytes_eq b a ≡ true
-swapped a b is = is_same b a (sym (same_name a b is))
+pub ways_same : (most : ℕ) (t : List JobParts) → AreWays most t t
+ways_same most [] = tt
+ways_same most (j ∷ js) = ((0, refl), ways_same most js)
 
-apart_from : (new : NewJob) (jobs : List NewJob) → AllByRecursion (λ y. bytes_eq new.name y ≡ false) (names jobs) → IsAlone new jobs
-apart_from new [] none = tt
-apart_from new (k ∷ jobs) none = (λ is. absurd (true≢false (sym (swapped k.name new.name is) ∙ none.0)), apart_from new jobs none.1)
+-- none goes on: so each has come to its end
+pub ways_end : (most : ℕ) (from t : List JobParts) → AreWays most from t → AllByRecursion (λ j. goes_on most j ≡ false) t → AllZip (ComesTo most) from t
+ways_end most [] [] ways over = tt
+ways_end most [] (y ∷ ys) ways over = absurd ways
+ways_end most (x ∷ xs) [] ways over = absurd ways
+ways_end most (x ∷ xs) (y ∷ ys) ways over = (record { on_way = ways.0; ends = over.0 }, ways_end most xs ys ways.1 over.1)
 
-name_among : (k : List ℕ) (jobs : List NewJob) (i : ℕ) (new : NewJob) → slice_get jobs i ≡ Some new → AllByRecursion (λ y. bytes_eq k y ≡ false) (names jobs)
-    → bytes_eq k new.name ≡ false
-name_among k [] i new is none = cc
-name_among k (x ∷ xs) zero new is none = (let same : x ≡ new = cc in subst (λ (y : NewJob). bytes_eq k y.name ≡ false) same none.0)
-name_among k (x ∷ xs) (suc i) new is none = name_among k xs i new is none.1
+pub end_ways : (most : ℕ) (from t : List JobParts) → AllZip (ComesTo most) from t → AreWays most from t
+end_ways most [] [] ends = tt
+end_ways most [] (y ∷ ys) ends = absurd ends
+end_ways most (x ∷ xs) [] ends = absurd ends
+end_ways most (x ∷ xs) (y ∷ ys) ends = (ends.0.on_way, end_ways most xs ys ends.1)
 
-pub alone : (jobs : List NewJob) (i : ℕ) (new : NewJob) → slice_get jobs i ≡ Some new → IsDistinct bytes_eq (names jobs) → IsAlone new jobs
-alone [] i new is distinct = tt
-alone (x ∷ xs) zero new is distinct =
-    let same : x ≡ new = cc in
-    (λ named. same, subst (λ (y : NewJob). IsAlone y xs) same (apart_from x xs (IsDistinct-head bytes_eq x.name (names xs) distinct)))
-alone (x ∷ xs) (suc i) new is distinct =
-    (λ named. absurd (true≢false (sym named ∙ name_among x.name xs i new is (IsDistinct-head bytes_eq x.name (names xs) distinct))), alone xs i new is (IsDistinct-tail bytes_eq x.name (names xs) distinct))
+pub end_over : (most : ℕ) (from t : List JobParts) → AllZip (ComesTo most) from t → AllByRecursion (λ j. goes_on most j ≡ false) t
+end_over most [] [] ends = tt
+end_over most [] (y ∷ ys) ends = absurd ends
+end_over most (x ∷ xs) [] ends = absurd ends
+end_over most (x ∷ xs) (y ∷ ys) ends = (ends.0.ends, end_over most xs ys ends.1)
 
-module _ (law : OthersStay) (most : ℕ) (t : List JobParts) (new : NewJob) (missing : job_named new.name t ≡ None) where
-  abbrev later : List JobParts
-  later = table_after t (by_command (submit_of new))
+-- a change of the jobs of a name makes of each what comes next
+abbrev GoOn : ℕ → (JobParts → JobParts) → List ℕ → List JobParts → Type 0
+GoOn most f name t = AllByRecursion (λ y. is_named name y ≡ true → (f y ≡ after_event y) × (goes_on most y ≡ true)) t
 
-  put_or_not : (b : Bool) → (if b then outcome (t ++ begun_by new ∷ []) Accepted else refused t Full).table ≡ (if b then t ++ begun_by new ∷ [] else t)
-  put_or_not true = refl
-  put_or_not false = refl
+way_changed : (most : ℕ) (f : JobParts → JobParts) (from y : JobParts) (b : Bool) → (b ≡ true → (f y ≡ after_event y) × (goes_on most y ≡ true)) → IsOnWay most from y
+    → IsOnWay most from (if b then f y else y)
+way_changed most f from y true next way = (let n = next refl in subst (IsOnWay most from) (sym n.0) (on_way_more most from y n.1 way))
+way_changed most f from y false next way = way
 
-  leaves : later ≡ (if nat_lt (length t) MAX_JOBS then t ++ begun_by new ∷ [] else t)
-  leaves =
-      ap (λ (o : Option JobParts). (if is_some o then refused t Taken else (if nat_lt (length t) MAX_JOBS then outcome (t ++ begun_by new ∷ []) Accepted else refused t Full)).table) missing
-      ∙ put_or_not (nat_lt (length t) MAX_JOBS)
+ways_changed : (most : ℕ) (f : JobParts → JobParts) (name : List ℕ) (from t : List JobParts) → GoOn most f name t → AreWays most from t → AreWays most from (with_changed name f t)
+ways_changed most f name [] [] next ways = tt
+ways_changed most f name [] (y ∷ ys) next ways = absurd ways
+ways_changed most f name (x ∷ xs) [] next ways = absurd ways
+ways_changed most f name (x ∷ xs) (y ∷ ys) next ways = (way_changed most f x y (is_named name y) next.0 ways.0, ways_changed most f name xs ys next.1 ways.1)
 
-  begins : (from : JobParts) (b : Bool) → from ≡ begun_by new → IfSome (job_named new.name (if b then t ++ begun_by new ∷ [] else t)) (IsOnWay most from)
-  begins from true same =
-      let put = named_last new.name t (begun_by new) missing (is_same new.name new.name refl) in
-      subst (λ (o : Option JobParts). IfSome o (IsOnWay most from)) (sym put) (0, sym same)
-  begins from false same = subst (λ (o : Option JobParts). IfSome o (IsOnWay most from)) (sym missing) tt
+go_on_of : (most : ℕ) (name : List ℕ) (j : JobParts) (t : List JobParts) → goes_on most j ≡ true → AllByRecursion (λ y. is_named name y ≡ true → y ≡ j) t → GoOn most (change j) name t
+go_on_of most name j [] goes one = tt
+go_on_of most name j (y ∷ ys) goes one = (
+  λ named. (let same : y ≡ j = one.0 named in
+      subst (λ (x : JobParts). (change j x ≡ after_event x) × (goes_on most x ≡ true)) (sym same) (change_is j, goes)),
+  go_on_of most name j ys goes one.1,
+)
 
-  one_submit : (k : NewJob) (b : Bool) → bytes_eq k.name new.name ≡ b → (bytes_eq k.name new.name ≡ true → k ≡ new)
-      → IfSome (job_named k.name t) (IsOnWay most (begun_by k)) → IfSome (job_named k.name later) (IsOnWay most (begun_by k))
-  one_submit k false other is way = subst (λ (o : Option JobParts). IfSome o (IsOnWay most (begun_by k))) (sym (law t (by_command (submit_of new)) k.name other)) way
-  one_submit k true same is way =
-      let k_is = is same in
-      subst (λ (x : NewJob). IfSome (job_named x.name later) (IsOnWay most (begun_by x))) (sym k_is)
-      (subst (λ (u : List JobParts). IfSome (job_named new.name u) (IsOnWay most (begun_by new))) (sym leaves) (begins (begun_by new) (nat_lt (length t) MAX_JOBS) refl))
+-- the job of this name, of which there is one, goes on
+pub ways_more : (most : ℕ) (name : List ℕ) (j : JobParts) (from t : List JobParts) → goes_on most j ≡ true → AllByRecursion (λ y. is_named name y ≡ true → y ≡ j) t
+    → AreWays most from t → AreWays most from (with_changed name (change j) t)
+ways_more most name j from t goes one ways = ways_changed most (change j) name from t (go_on_of most name j t goes one) ways
 
-  -- a submit of one of the jobs keeps all on their way
-  pub submit_on_way : (jobs : List NewJob) → IsAlone new jobs → AreOnWay most jobs t → AreOnWay most jobs later
-  submit_on_way [] only ways = tt
-  submit_on_way (k ∷ jobs) only ways = (one_submit k (bytes_eq k.name new.name) refl only.0 ways.0, submit_on_way jobs only.1 ways.1)
+-- ---- of a name
+
+-- the job of a name among others, and the one on its way
+abbrev pub IsNamedWay : (most : ℕ) → Option JobParts → Option JobParts → Type 0
+IsNamedWay most None now = now ≡ None
+IsNamedWay most (Some from) now = (j : JobParts) × (now ≡ Some j) × IsOnWay most from j
+
+pub named_way : (most : ℕ) (name : List ℕ) (from t : List JobParts) → AreWays most from t → IsNamedWay most (job_named name from) (job_named name t)
+named_way most name [] [] ways = refl
+named_way most name [] (y ∷ ys) ways = absurd ways
+named_way most name (x ∷ xs) [] ways = absurd ways
+named_way most name (x ∷ xs) (y ∷ ys) ways = go (named_way most name xs ys ways.1) (is_named name x) refl
+  where
+    same : bytes_eq name y.name ≡ bytes_eq name x.name
+    same = ap (bytes_eq name) (way_name most x y ways.0)
+
+    go : IsNamedWay most (job_named name xs) (job_named name ys) → (b : Bool) → is_named name x ≡ b → IsNamedWay most (job_named name (x ∷ xs)) (job_named name (y ∷ ys))
+    go rest true is =
+        let there : job_named name (x ∷ xs) ≡ Some x = rw is refl in
+        let now : job_named name (y ∷ ys) ≡ Some y = rw (same ∙ is) refl in
+        subst (λ (o : Option JobParts). IsNamedWay most o (job_named name (y ∷ ys))) (sym there) (y, now, ways.0)
+    go rest false is =
+        let there : job_named name (x ∷ xs) ≡ job_named name xs = rw is refl in
+        let now : job_named name (y ∷ ys) ≡ job_named name ys = rw (same ∙ is) refl in
+        subst (λ (o : Option JobParts). IsNamedWay most o (job_named name (y ∷ ys))) (sym there)
+        (subst (λ (o : Option JobParts). IsNamedWay most (job_named name xs) o) (sym now) rest)

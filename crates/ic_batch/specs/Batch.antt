@@ -11,7 +11,26 @@ use Rattle.ic_serving.specs.declared.fault.ServeFault.TheVariants.{Write}
 use Rattle.ic_batch.specs.declared.fault.BatchFault.{BatchFault}
 use Rattle.ic_batch.specs.declared.fault.BatchFault.TheVariants.{Serve}
 use Rattle.ic_batch.specs.declared.jobs.NewJob.{NewJob}
-use Rattle.ic_batch.specs.Way.{AreOnWay, IsTextOf}
+use Rattle.ic_batch.specs.Way.{fetched_all, AreOnWay, HaveEnded, IsKeptOr, IsTextOf, IsUnderWay}
+
+-- What a batch makes of any book. Its jobs go on from where they are, and those that are missing begin
+-- behind them: at each moment, so that a crash leaves such a table, or the one that was kept before. At
+-- Ok each job has come to its end, all is kept, and just what their fetches are answered is written, of
+-- the jobs that were to be there. So it is at a fault of the writer, but that only a front is written.
+-- At any other fault nothing is.
+pub record Brings {T : Type 0} {D : Type 0} {ghosts : Ghosts D} (result : Result T BatchFault) (most : ℕ)
+    (jobs : List NewJob) (old new : Book D ghosts) (before behind : Option (List ℕ)) : Type 0 where
+  pub table : IsUnderWay most jobs (table_of old) (table_of new)
+  pub last : IsKeptOr (last_kept old) (IsUnderWay most jobs (table_of old)) (last_kept new)
+  pub crash : Leaves old new (IsKeptOr (last_kept old) (IsUnderWay most jobs (table_of old)))
+  pub ended : OnOk result (HaveEnded most jobs (table_of old) (table_of new))
+  pub kept : OnOk result (IsAllKept new)
+  pub written : OnOk result (Appends before behind (fetched_all jobs (table_of new)))
+  pub ended_at_cut : result ≡ Err (Serve Write) → HaveEnded most jobs (table_of old) (table_of new)
+  pub kept_at_cut : result ≡ Err (Serve Write) → IsAllKept new
+  pub cut : result ≡ Err (Serve Write)
+      → AppendsFront before behind [] (fetched_all jobs (table_of new))
+  pub silent : IfErr result (λ fault. fault ≢ Serve Write → Keeps before behind)
 
 -- a book's table and the one that was kept last have jobs on their way
 pub record IsOnWay {D : Type 0} {ghosts : Ghosts D} (most : ℕ) (jobs : List NewJob)
@@ -19,24 +38,11 @@ pub record IsOnWay {D : Type 0} {ghosts : Ghosts D} (most : ℕ) (jobs : List Ne
   pub table : AreOnWay most jobs (table_of book)
   pub kept : AreOnWay most jobs (last_kept book)
 
--- the text of jobs is appended to what was written
-abbrev pub Writes : (most : ℕ) → List NewJob → (before behind : Option (List ℕ)) → Type 0
-Writes most jobs before behind =
-    (text : List ℕ) × IsTextOf most jobs text × Appends before behind text
-
--- a front of it is
-abbrev pub WritesFront : (most : ℕ) → List NewJob → (before behind : Option (List ℕ)) → Type 0
-WritesFront most jobs before behind =
-    (text : List ℕ) × IsTextOf most jobs text × AppendsFront before behind [] text
-
--- What a batch leaves of a book with jobs on their way. They are on their way behind it, however it
--- ends, and in each table that a crash at any moment leaves. At Ok the text of the jobs is written,
--- and all is kept. At a fault of the writer a front of the text is, and at any other nothing.
+-- What it makes of a book with jobs on their way. They are on their way behind it, however it ends, and
+-- in each table that a crash at any moment leaves. At Ok what is written is the text of the jobs.
 pub record IsBatch {T : Type 0} {D : Type 0} {ghosts : Ghosts D} (result : Result T BatchFault) (most : ℕ)
-    (jobs : List NewJob) (old new : Book D ghosts) (before behind : Option (List ℕ)) : Type 0 where
+    (jobs : List NewJob) (old new : Book D ghosts) : Type 0 where
   pub on_way : IsOnWay most jobs new
   pub crash : Leaves old new (AreOnWay most jobs)
-  pub written : OnOk result (Writes most jobs before behind)
-  pub kept : OnOk result (IsAllKept new)
-  pub cut : result ≡ Err (Serve Write) → WritesFront most jobs before behind
-  pub silent : IfErr result (λ fault. fault ≢ Serve Write → Keeps before behind)
+  pub text : OnOk result (IsTextOf most jobs (fetched_all jobs (table_of new)))
+  pub text_at_cut : result ≡ Err (Serve Write) → IsTextOf most jobs (fetched_all jobs (table_of new))

@@ -1,5 +1,5 @@
 -- To be believed: the jobs that lines submit (this project's choice).
-use Rattle.std.specs.Prelude.{◌≡◌, ◌≤◌, ℕ, List, Ok, length, map}
+use Rattle.std.specs.Prelude.{◌≤◌, ℕ, List, Ok, length, map}
 use Rattle.std.specs.List.{IsDistinct}
 use Rattle.std.specs.Str.{bytes_eq}
 use Rattle.ic_jobs.specs.declared.command.Command.{Command}

@@ -3,4 +3,5 @@ pub mod Jobs
 pub mod Way
 pub mod Faults
 pub mod Batch
+pub mod Served
 pub mod inner

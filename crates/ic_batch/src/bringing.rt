@@ -1,24 +1,27 @@
 //! Bringing jobs to their ends over a book.
 
-ghost use Rattle.std.specs.Prelude.{◌≡◌, ◌≤◌, [], IfErr, IfOk, IfSome, OnOk, OnErr};
+ghost use Rattle.std.specs.Prelude.{◌≡◌, ◌+◌, ◌≤◌, [], length, IfErr, IfOk, OnOk, OnErr};
 ghost use Rattle.std.specs.List.{IsDistinct};
 ghost use Rattle.std.specs.Str.{bytes_eq};
 ghost use Rattle.std.specs.Io.KnownBytes.{Appends};
 ghost use Rattle.ic_output.specs.Output.{AppendsFront};
+ghost use Rattle.ic_desk.specs.Book.{table_of};
+ghost use Rattle.ic_jobs.specs.declared.limits.TheConstants.{MAX_JOBS};
 ghost use Rattle.ic_serving.specs.Booked.{IsAllKept};
 ghost use Rattle.ic_serving.specs.Faults.{ComesInLine};
+ghost use Rattle.ic_serving.specs.Moments.{FaultLeaves};
 ghost use Rattle.ic_serving.specs.declared.fault.ServeFault.TheVariants.{Write as write_fault};
 ghost use Rattle.ic_batch.specs.Jobs.{names};
-ghost use Rattle.ic_batch.specs.Way.{AreOnWay, IsTextOf};
-ghost use Rattle.ic_batch.specs.Batch.{IsBatch, IsOnWay};
-ghost use Rattle.ic_batch.specs.Faults.{SaysTaken};
-ghost use Rattle.ic_batch.specs.inner.Staying.{StaysSuch};
+ghost use Rattle.ic_batch.specs.Way.{fetched_all, missing, HaveEnded, IsUnderWay};
+ghost use Rattle.ic_batch.specs.Batch.{Brings, IsBatch, IsOnWay};
+ghost use Rattle.ic_batch.specs.Faults.{Says, Succeeds};
+ghost use Rattle.ic_batch.specs.inner.Staying.{Leads};
 
-use crate::comparing::{are_all_there, first_taken};
+use crate::comparing::first_taken;
 use crate::fault::BatchFault;
 use crate::jobs::NewJob;
 use crate::running::make_rounds;
-use crate::submitting::submit_missing;
+use crate::submitting::{has_room, submit_missing};
 use crate::telling::told;
 use ic_desk::Book;
 use ic_disk::Disk;
@@ -36,8 +39,8 @@ use std::thread::Threads;
 /// equations is made by at most so many workers, which are joined before it returns. The gate is told
 /// of each round.
 ///
-/// Nothing is written before all is kept, and where a job of one of the names is there that is
-/// another one nothing is done.
+/// Nothing is written before all is kept. Where a job of one of the names is there that is another
+/// one, or where the table has no room for those that it hasn't, nothing is done.
 pub fn batch<T: Threads + Wait + Copy + Send + 'static, D: Disk, W: Write, G: Gate>(
     rt: &T,
     alloc: Global,
@@ -52,16 +55,22 @@ pub fn batch<T: Threads + Wait + Copy + Send + 'static, D: Disk, W: Write, G: Ga
     requires workers { 1 ≤ workers }
     requires every { 1 ≤ every }
     requires distinct { IsDistinct bytes_eq (names jobs.now) }
+    // Whatever the book has, its jobs go on from where they are, and those that are missing begin.
+    ensures brings { Brings result most jobs.now book.old book.new
+        (W.contents writer.old) (W.contents writer.new) }
     // Where the jobs that are there are on their way, all stay so at any moment, and what is written at
     // Ok is told by the jobs that were to be there alone.
-    ensures batch { IsOnWay most jobs.now book.old → IsBatch result most jobs.now book.old book.new
-        (W.contents writer.old) (W.contents writer.new) }
-    // Where another job has the name of one of them, nothing is done.
-    ensures taken { IfErr result (SaysTaken jobs.now book.old book.new) }
+    ensures batch { IsOnWay most jobs.now book.old
+        → IsBatch result most jobs.now book.old book.new }
+    ensures fault { IfErr result (Says jobs.now book.old book.new) }
+    ensures done { OnOk result (Succeeds jobs.now book.old book.new) }
 {
     book.facts();
     if let Some(fault) = first_taken(book.table(), jobs) {
         return Err(fault);
+    }
+    if !has_room(book.table(), jobs) {
+        return Err(BatchFault::Full);
     }
     let mut makers = Makers::new(alloc);
     let brought = bring_to_ends(
@@ -77,13 +86,12 @@ pub fn batch<T: Threads + Wait + Copy + Send + 'static, D: Disk, W: Write, G: Ga
     );
     makers.finish(rt);
     match brought {
-        Ok(Some(text)) => write(writer, &text),
-        Ok(None) => Err(BatchFault::Full),
+        Ok(text) => write(writer, &text),
         Err(fault) => Err(BatchFault::Serve(fault)),
     }
 }
 
-/// The same without the writing: what is to be written, or nothing where the table has no room.
+/// The same without the writing: what is to be written.
 fn bring_to_ends<T: Threads + Wait + Copy + Send + 'static, D: Disk, G: Gate>(
     rt: &T,
     alloc: Global,
@@ -94,23 +102,21 @@ fn bring_to_ends<T: Threads + Wait + Copy + Send + 'static, D: Disk, G: Gate>(
     every: u64,
     gate: &G,
     makers: &mut Makers,
-) -> Result<Option<Vec<u8>>, ServeFault>
+) -> Result<Vec<u8>, ServeFault>
     requires workers { 1 ≤ workers }
     requires every { 1 ≤ every }
     requires distinct { IsDistinct bytes_eq (names jobs.now) }
-    ensures stays { StaysSuch (AreOnWay most jobs.now) book.old book.new }
-    ensures text { IfOk result (λ text. IfSome text (λ bytes. IsOnWay most jobs.now book.old
-        → IsTextOf most jobs.now bytes.items)) }
-    ensures kept { IfOk result (λ text. IfSome text (λ bytes. IsAllKept book.new)) }
-    ensures causes { IfErr result ComesInLine }
+    requires room { length (missing (table_of book.old) jobs.now) + length (table_of book.old) ≤ MAX_JOBS }
+    ensures leads { Leads (IsUnderWay most jobs.now (table_of book.old)) book.old book.new }
+    ensures ended { OnOk result (HaveEnded most jobs.now (table_of book.old) (table_of book.new)) }
+    ensures text { IfOk result (λ text. text.items ≡ fetched_all jobs.now (table_of book.new)) }
+    ensures kept { OnOk result (IsAllKept book.new) }
+    ensures fault { FaultLeaves ComesInLine result book.old book.new }
 {
     submit_missing(alloc, book, jobs)?;
-    if !are_all_there(book.table(), jobs) {
-        return Ok(None);
-    }
     make_rounds(rt, alloc, book, most, workers, every, gate, makers)?;
     keep_all(book)?;
-    Ok(Some(told(alloc, book.table(), jobs)?))
+    Ok(told(alloc, book.table(), jobs)?)
 }
 
 /// Writes a text and flushes it.

@@ -1,12 +1,9 @@
 //! Whether the jobs of a table are those that are to be there.
 
-ghost use Rattle.std.specs.Prelude.{◌≡◌, Some, not, IsSome, IfSome};
+ghost use Rattle.std.specs.Prelude.{◌≡◌, not, IfNone, IfSome};
 ghost use Rattle.ic_term.specs.Configuration.{configuration_eq};
 ghost use Rattle.ic_rules.specs.RuleSet.{rules_eq};
-ghost use Rattle.std.specs.List.{AllByRecursion};
-ghost use Rattle.std.specs.Bool.{OnTrue};
-ghost use Rattle.ic_jobs.specs.Table.{job_named};
-ghost use Rattle.ic_batch.specs.Faults.{IsTaken, Differs};
+ghost use Rattle.ic_batch.specs.Faults.{AreSame, Differs, IsSame, IsTaken};
 
 use crate::fault::{BatchFault, Difference};
 use crate::jobs::NewJob;
@@ -14,7 +11,8 @@ use ic_jobs::{Job, Table};
 
 /// The first of the jobs whose name another job has, as a fault.
 pub(crate) fn first_taken(table: &Table, jobs: &[NewJob]) -> Option<BatchFault>
-    ensures { IfSome result (IsTaken jobs.now table.now) }
+    ensures taken { IfSome result (IsTaken jobs.now table.now) }
+    ensures none { IfNone result (AreSame jobs.now table.now) }
 {
     for new in jobs {
         if let Some(job) = table.get(new.name)
@@ -26,10 +24,11 @@ pub(crate) fn first_taken(table: &Table, jobs: &[NewJob]) -> Option<BatchFault>
     None
 }
 
-/// In what a job differs from the one that is to be there. Of one that has made rounds it isn't known
+/// In what a job differs first from the one that is to be there. Of one that has made rounds it isn't known
 /// with which configuration it began.
 fn difference_of(new: &NewJob, job: &Job) -> Option<Difference>
-    ensures { IfSome result (Differs new.now job.now) }
+    ensures differs { IfSome result (Differs new.now job.now) }
+    ensures same { IfNone result (IsSame new.now job.now) }
 {
     if has_other_rules(new, job) {
         return Some(Difference::Rules);
@@ -57,17 +56,4 @@ fn has_other_config(new: &NewJob, job: &Job) -> bool
 {
     let same = *new.system.config() == *job.config();
     !same
-}
-
-/// Whether each of the jobs is there.
-pub(crate) fn are_all_there(table: &Table, jobs: &[NewJob]) -> bool
-    ensures { OnTrue result
-        (AllByRecursion (λ new. IsSome (job_named new.name table.now)) jobs.now) }
-{
-    for new in jobs {
-        if table.get(new.name).is_none() {
-            return false;
-        }
-    }
-    true
 }

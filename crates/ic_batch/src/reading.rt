@@ -1,10 +1,11 @@
 //! Reading the lines that submit jobs.
 
-ghost use Rattle.std.specs.Prelude.{◌≡◌, ◌<◌, false, length, IfNone, IfOk};
-ghost use Rattle.ic_jobs.specs.declared.limits.TheConstants.{MAX_JOBS};
+ghost use Rattle.std.specs.Prelude.{◌≡◌, ◌<◌, false, length, IfErr, IfOk};
 ghost use Rattle.std.specs.List.{list_any};
 ghost use Rattle.std.specs.Str.{bytes_eq};
+ghost use Rattle.ic_batch.specs.Faults.{IsRefused, SaysOfLines};
 ghost use Rattle.ic_batch.specs.Jobs.{AreJobsOf};
+ghost use Rattle.ic_batch.specs.inner.Taking.{IsNext};
 
 use crate::fault::{JobsCause, JobsFault};
 use crate::jobs::NewJob;
@@ -14,10 +15,11 @@ use ic_text::{TextFault, is_blank};
 use std::alloc::Global;
 
 /// The jobs of lines, in their order, or the first line with a fault. A line ends with a line feed,
-/// and the last may go without; a blank one gives no job. Any other command than a submit is refused,
-/// and so is a name that a line before has, and a 33rd job.
+/// and the last may go without; a blank one gives no job. Where each line can be read, any other command
+/// than a submit is refused, and so is a name that a line before has, and a 33rd job.
 pub fn read_jobs(alloc: Global, text: &[u8]) -> Result<Vec<NewJob>, JobsFault>
     ensures read { IfOk result (λ jobs. AreJobsOf text.now jobs.items) }
+    ensures refused { IfErr result (SaysOfLines text.now) }
 {
     let commands = match read_script(alloc, text) {
         Ok(commands) => commands,
@@ -29,35 +31,35 @@ pub fn read_jobs(alloc: Global, text: &[u8]) -> Result<Vec<NewJob>, JobsFault>
     };
     let mut jobs = Vec::new(alloc);
     for command in commands {
-        let Command::Submit(name, system, budget) = command else {
-            return Err(refused(text, &jobs, JobsCause::Text(TextFault::Syntax)));
+        let new = match next_job(&jobs, command) {
+            Ok(new) => new,
+            Err(cause) => return Err(JobsFault::Line(line_behind(text, jobs.len()), cause)),
         };
-        let new = NewJob {
-            name,
-            system,
-            budget,
-        };
-        if let Some(refusal) = refusal_of(&jobs, &new) {
-            return Err(refused(text, &jobs, JobsCause::Refused(refusal)));
-        }
         jobs.push(new)?;
     }
     Ok(jobs)
 }
 
-/// Why a job isn't taken behind others: one of them has its name, or they are 32.
-fn refusal_of(jobs: &[NewJob], new: &NewJob) -> Option<Refusal>
-    ensures other { IfNone result
-        (list_any (λ job. bytes_eq job.name new.now.name) jobs.now ≡ false) }
-    ensures room { IfNone result (length jobs.now < MAX_JOBS) }
+/// The job that a command submits, or why it isn't taken behind others.
+fn next_job(jobs: &[NewJob], command: Command) -> Result<NewJob, JobsCause>
+    ensures next { IfOk result (IsNext jobs.now command) }
+    ensures refused { IfErr result (IsRefused jobs.now command) }
 {
-    if is_taken(jobs, new) {
-        return Some(Refusal::Taken);
+    let Command::Submit(name, system, budget) = command else {
+        return Err(JobsCause::Text(TextFault::Syntax));
+    };
+    let new = NewJob {
+        name,
+        system,
+        budget,
+    };
+    if is_taken(jobs, &new) {
+        return Err(JobsCause::Refused(Refusal::Taken));
     }
     if jobs.len() >= MAX_JOBS {
-        return Some(Refusal::Full);
+        return Err(JobsCause::Refused(Refusal::Full));
     }
-    None
+    Ok(new)
 }
 
 /// Whether one of these jobs has the name of another.
@@ -70,11 +72,6 @@ fn is_taken(jobs: &[NewJob], new: &NewJob) -> bool
         }
     }
     false
-}
-
-/// The line behind those of these jobs has this fault.
-fn refused(text: &[u8], jobs: &[NewJob], cause: JobsCause) -> JobsFault {
-    JobsFault::Line(line_behind(text, jobs.len()), cause)
 }
 
 /// The number, from 1, of the line behind so many lines that aren't blank and blank ones.

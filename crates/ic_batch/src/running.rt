@@ -1,14 +1,13 @@
 //! Making rounds until no job goes on.
 
-ghost use Rattle.std.specs.Prelude.{◌≡◌, ◌≤◌, ℕ, List, Some, IsSome, IfSome, IfErr, IfNone, OnOk, true, false, slice_get};
+ghost use Rattle.std.specs.Prelude.{◌≡◌, ◌≤◌, Some, IfSome, IfNone, OnOk, true, false, slice_get};
 ghost use Rattle.std.specs.List.{AllByRecursion};
 ghost use Rattle.ic_jobs.specs.Job.{JobParts};
-ghost use Rattle.ic_jobs.specs.Table.{job_named};
 ghost use Rattle.ic_desk.specs.Book.{table_of};
 ghost use Rattle.ic_serving.specs.Faults.{ComesInLine};
-ghost use Rattle.ic_batch.specs.declared.jobs.NewJob.{NewJob};
-ghost use Rattle.ic_batch.specs.Way.{goes_on, AreOnWay};
-ghost use Rattle.ic_batch.specs.inner.Staying.{StaysSuch};
+ghost use Rattle.ic_serving.specs.Moments.{FaultLeaves};
+ghost use Rattle.ic_batch.specs.Way.{goes_on, AreWays};
+ghost use Rattle.ic_batch.specs.inner.Staying.{Leads};
 
 use ic_desk::Book;
 use ic_disk::Disk;
@@ -54,10 +53,8 @@ pub(crate) fn make_rounds<T: Threads + Wait + Copy + Send + 'static, D: Disk, G:
 ) -> Result<(), ServeFault>
     requires workers { 1 ≤ workers }
     requires every { 1 ≤ every }
-    ensures stays { (jobs : List NewJob) → StaysSuch (AreOnWay most jobs) book.old book.new }
-    ensures there { (name : List ℕ) → IsSome (job_named name (table_of book.old))
-        → IsSome (job_named name (table_of book.new)) }
-    ensures causes { IfErr result ComesInLine }
+    ensures leads { Leads (AreWays most (table_of book.old)) book.old book.new }
+    ensures fault { FaultLeaves ComesInLine result book.old book.new }
     ensures ended { OnOk result
         (AllByRecursion (λ job. goes_on most job ≡ false) (table_of book.new)) }
 {

@@ -1,20 +1,47 @@
 //! Submitting the jobs that aren't there.
 
-ghost use Rattle.std.specs.Prelude.{◌≡◌, ℕ, not, is_some, IfErr, IfOk};
+ghost use Rattle.std.specs.Prelude.{◌≡◌, ◌+◌, ◌≤◌, length, not, is_some, IfOk, OnOk};
+ghost use Rattle.std.specs.Bool.{OnFalse, OnTrue};
 ghost use Rattle.std.specs.List.{IsDistinct};
 ghost use Rattle.std.specs.Str.{bytes_eq};
+ghost use Rattle.ic_desk.specs.Book.{table_of};
 ghost use Rattle.ic_jobs.specs.Table.{job_named};
+ghost use Rattle.ic_jobs.specs.declared.limits.TheConstants.{MAX_JOBS};
 ghost use Rattle.ic_serving.specs.Faults.{ComesInLine};
+ghost use Rattle.ic_serving.specs.Moments.{FaultLeaves};
+ghost use Rattle.ic_batch.specs.Faults.{HasNoRoom};
 ghost use Rattle.ic_batch.specs.Jobs.{names, submit_of};
-ghost use Rattle.ic_batch.specs.Way.{AreOnWay};
-ghost use Rattle.ic_batch.specs.inner.Staying.{StaysSuch, Takes};
+ghost use Rattle.ic_batch.specs.Way.{all_of, missing};
+ghost use Rattle.ic_batch.specs.inner.Staying.{AreBegun, Leads};
 
 use crate::jobs::NewJob;
 use ic_desk::Book;
 use ic_disk::Disk;
-use ic_jobs::{Command, Table};
+use ic_jobs::{Command, MAX_JOBS, Table};
 use ic_serving::{ServeFault, answer_command};
 use std::alloc::{AllocError, Global};
+
+/// Whether a table has room for those of the jobs that it hasn't.
+pub(crate) fn has_room(table: &Table, jobs: &[NewJob]) -> bool
+    ensures room { OnTrue result (length (missing table.now jobs.now) + length table.now ≤ MAX_JOBS) }
+    ensures full { OnFalse result (HasNoRoom jobs.now table.now) }
+{
+    let held = table.jobs().len();
+    count_missing(table, jobs) <= MAX_JOBS - held
+}
+
+/// How many of the jobs a table hasn't.
+fn count_missing(table: &Table, jobs: &[NewJob]) -> usize
+    ensures { result ≡ length (missing table.now jobs.now) }
+{
+    let mut count = 0;
+    for new in jobs {
+        if is_missing(table, new) {
+            count += 1;
+        }
+    }
+    count
+}
 
 /// Submits each of the jobs that the table hasn't. Each is kept.
 pub(crate) fn submit_missing<D: Disk>(
@@ -22,15 +49,18 @@ pub(crate) fn submit_missing<D: Disk>(
     book: &mut Book<D>,
     jobs: &[NewJob],
 ) -> Result<(), ServeFault>
-    requires { IsDistinct bytes_eq (names jobs.now) }
-    ensures causes { IfErr result ComesInLine }
-    ensures stays { (most : ℕ) → StaysSuch (AreOnWay most jobs.now) book.old book.new }
+    requires distinct { IsDistinct bytes_eq (names jobs.now) }
+    requires room { length (missing (table_of book.old) jobs.now) + length (table_of book.old) ≤ MAX_JOBS }
+    ensures leads { Leads (AreBegun jobs.now (table_of book.old)) book.old book.new }
+    ensures all { OnOk result (table_of book.new ≡ all_of jobs.now (table_of book.old)) }
+    ensures fault { FaultLeaves ComesInLine result book.old book.new }
 {
     book.facts();
     ic_jobs::laws::other_jobs_stay();
     for new in jobs {
         if is_missing(book.table(), new) {
-            submit(alloc, book, new)?;
+            let command = submission(alloc, new)?;
+            answer_command(alloc, book, command)?;
         }
     }
     Ok(())
@@ -41,17 +71,6 @@ fn is_missing(table: &Table, new: &NewJob) -> bool
     ensures { result ≡ not (is_some (job_named new.now.name table.now)) }
 {
     table.get(new.name).is_none()
-}
-
-/// Submits a job.
-fn submit<D: Disk>(alloc: Global, book: &mut Book<D>, new: &NewJob) -> Result<(), ServeFault>
-    ensures causes { IfErr result ComesInLine }
-    ensures takes { Takes new.now book.old book.new }
-{
-    book.facts();
-    let command = submission(alloc, new)?;
-    answer_command(alloc, book, command)?;
-    Ok(())
 }
 
 /// The command that submits a job.

@@ -1,8 +1,7 @@
 //! What jobs have come to, told in lines.
 
 ghost use Rattle.std.specs.Prelude.{◌≡◌, ◌++◌, IfOk, OnOk};
-ghost use Rattle.std.specs.List.{flat_map};
-ghost use Rattle.ic_batch.specs.inner.Staying.{fetched};
+ghost use Rattle.ic_batch.specs.Way.{fetched, fetched_all};
 
 use crate::jobs::NewJob;
 use ic_commands::print_reply;
@@ -11,7 +10,7 @@ use std::alloc::{AllocError, Global};
 
 /// For each of the jobs the line that a serving answers to its fetch, with its line feed.
 pub(crate) fn told(alloc: Global, table: &Table, jobs: &[NewJob]) -> Result<Vec<u8>, AllocError>
-    ensures { IfOk result (λ text. text.items ≡ flat_map (fetched table.now) jobs.now) }
+    ensures { IfOk result (λ text. text.items ≡ fetched_all jobs.now table.now) }
 {
     let mut copy = table.copy(alloc)?;
     let mut text = Vec::new(alloc);

@@ -1,44 +1,26 @@
 -- For private functions: what a part of a batch leaves on its way.
-use Rattle.std.specs.Prelude.{◌≡◌, ℕ, List}
+use Rattle.std.specs.Prelude.{◌≡◌, List, ◌++◌, map}
 use Rattle.ic_disk.specs.declared.disk.Disk.{Ghosts}
-use Rattle.ic_jobs.specs.declared.command.Command.TheVariants.{Fetch}
-use Rattle.ic_jobs.specs.declared.event.Event.TheVariants.{Command as by_command}
-use Rattle.ic_jobs.specs.Events.{after_command}
-use Rattle.ic_jobs.specs.History.{table_after}
 use Rattle.ic_jobs.specs.Job.{JobParts}
-use Rattle.ic_commands.specs.ReplyText.{reply_text}
-use Rattle.ic_lines.specs.Lines.{ended}
 use Rattle.ic_desk.specs.declared.book.Book.{Book}
 use Rattle.ic_desk.specs.Book.{table_of}
 use Rattle.ic_serving.specs.Booked.{last_kept}
 use Rattle.ic_serving.specs.Moments.{Leaves}
 use Rattle.ic_batch.specs.declared.jobs.NewJob.{NewJob}
-use Rattle.ic_batch.specs.Jobs.{submit_of}
-use Rattle.ic_batch.specs.Way.{AreOnWay}
+use Rattle.ic_batch.specs.Jobs.{begun_by}
+use Rattle.ic_batch.specs.Way.{missing, IsKeptOr}
 
--- the table and the one that was kept last are such
-pub record IsAt {D : Type 0} {ghosts : Ghosts D} (such : List JobParts → Type 0) (book : Book D ghosts)
-    : Type 0 where
-  pub table : such (table_of book)
-  pub kept : such (last_kept book)
-
--- they are such, and so is each table that a crash leaves
-pub record Stays {D : Type 0} {ghosts : Ghosts D} (such : List JobParts → Type 0)
+-- The table is such. So is the one that is kept now, and each that a crash leaves, but for the one that
+-- was kept before.
+pub record Leads {D : Type 0} {ghosts : Ghosts D} (such : List JobParts → Type 0)
     (old new : Book D ghosts) : Type 0 where
-  pub at : IsAt such new
-  pub crash : Leaves old new such
+  pub table : such (table_of new)
+  pub kept : IsKeptOr (last_kept old) such (last_kept new)
+  pub crash : Leaves old new (IsKeptOr (last_kept old) such)
 
--- where they were such they stay so
-abbrev pub StaysSuch : {D : Type 0} {ghosts : Ghosts D} → (such : List JobParts → Type 0)
-    → (old new : Book D ghosts) → Type 0
-StaysSuch such old new = IsAt such old → Stays such old new
-
--- jobs on their way stay so, if they are behind a submit, too
-abbrev pub Takes : {D : Type 0} {ghosts : Ghosts D} → NewJob → (old new : Book D ghosts) → Type 0
-Takes new old later = (most : ℕ) (jobs : List NewJob)
-    → AreOnWay most jobs (table_after (table_of old) (by_command (submit_of new)))
-    → StaysSuch (AreOnWay most jobs) old later
-
--- the line that answers the fetch of a job
-abbrev pub fetched : List JobParts → NewJob → List ℕ
-fetched t new = ended (reply_text (after_command t (Fetch new.name)).reply)
+-- the first of the jobs that were missing in a table are behind it
+pub record AreBegun (jobs : List NewJob) (old t : List JobParts) : Type 0 where
+  pub front : List NewJob
+  pub rest : List NewJob
+  pub parted : missing old jobs ≡ front ++ rest
+  pub table : t ≡ old ++ map begun_by front

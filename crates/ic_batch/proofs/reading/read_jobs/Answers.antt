@@ -1,10 +1,8 @@
-use Rattle.std.proofs.Common.{◌≡◌, ◌<◌, ◌∙◌, ℕ, List, [], ◌∷◌, false, length, refl, sym, ap, subst, arith}
-use Rattle.std.specs.List.{list_any}
-use Rattle.std.specs.Str.{bytes_eq}
-use Rattle.std.specs.Vec.Iter.{into_iter_items, into_iter_len}
+use Rattle.std.proofs.Common.{◌≡◌, ◌∙◌, List, length, sym, ap, subst, arith}
+use Rattle.std.specs.Vec.Iter.{into_iter_items}
 use Rattle.ic_jobs.specs.declared.command.Command.{Command}
-use Rattle.ic_jobs.specs.declared.limits.TheConstants.{MAX_JOBS}
 use Rattle.ic_batch.specs.declared.jobs.NewJob.{NewJob}
+use Rattle.ic_batch.specs.inner.Taking.{IsNext}
 use Rattle.ic_batch.proofs.ReadLemmas.{AreSoFar, first_read, one_read}
 use Rattle.ic_batch.proofs.reading.read_jobs.Goals as goal
 
@@ -21,14 +19,11 @@ loop-command-preserved c =
     let text = c.args.text.now in
     let jobs = c.loop-command.jobs.items in
     let rest = into_iter_items c.next.new.self in
-    let new : NewJob = record { name = c.in-Submit.name; system = c.in-Submit.system; budget = c.in-Submit.budget } in
-    let seen : c.deref-in-loop-command.result.now ≡ jobs = c.deref-in-loop-command.ensures.value in
-    let other : list_any (λ (job : NewJob). bytes_eq job.name new.name) c.deref-in-loop-command.result.now ≡ false = rw c.in_default-refusal_of.is at c.refusal_of.ensures.other in
-    let room : length c.deref-in-loop-command.result.now < MAX_JOBS = rw c.in_default-refusal_of.is at c.refusal_of.ensures.room in (
+    let seen : c.deref.result.now ≡ jobs = c.deref.ensures.value in
+    let next : IsNext c.deref.result.now c.in-Some.command c.in-Ok-next_job.new = rw c.in-Ok-next_job.is at c.next_job.ensures.next in (
       omega (arith, c.in-Some.ensures.steps.1, c.loop-command.invariant.0, ap length first),
       subst (λ (js : List NewJob). AreSoFar text js rest) (sym c.in_ok-push.ensures.items)
-          (one_read text jobs new c.in-Some.command rest c.in-Submit.is
-          (subst (λ (js : List NewJob). list_any (λ (job : NewJob). bytes_eq job.name new.name) js ≡ false) seen other)
-          (subst (λ (js : List NewJob). length js < MAX_JOBS) seen room)
+          (one_read text jobs c.in-Ok-next_job.new c.in-Some.command rest
+          (subst (λ (js : List NewJob). IsNext js c.in-Some.command c.in-Ok-next_job.new) seen next)
           (subst (λ (l : List Command). AreSoFar text jobs l) first c.loop-command.invariant.1)),
     )

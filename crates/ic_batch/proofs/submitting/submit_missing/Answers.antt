@@ -1,43 +1,90 @@
-use Rattle.std.proofs.Common.{◌≡◌, ◌∙◌, ℕ, List, Bool, true, false, Option, None, Some, sym, ap}
-use Rattle.std.specs.Prelude.{is_some, not}
+use Rattle.std.proofs.Common.{◌≡◌, ◌+◌, ◌∙◌, inl, inr, List, [], drop, sym, refl, subst}
+use Rattle.std.proofs.lemmas.List.{drop_all}
+use Rattle.ic_jobs.specs.declared.event.Event.TheVariants.{Command as by_command}
+use Rattle.ic_jobs.specs.History.{table_after}
 use Rattle.ic_jobs.specs.Job.{JobParts}
-use Rattle.ic_jobs.specs.Table.{job_named}
-use Rattle.ic_desk.specs.Book.{table_of}
+use Rattle.ic_desk.specs.Book.{table_of, start_of, log_of, kept_of}
 use Rattle.ic_desk.specs.lemmas.Chains.{by_nothing}
+use Rattle.ic_desk.specs.lemmas.Facts.{history_of}
+use Rattle.ic_serving.specs.Booked.{last_kept}
 use Rattle.ic_serving.specs.lemmas.Leaving.{leaves_nothing}
-use Rattle.ic_batch.specs.Way.{AreOnWay}
-use Rattle.ic_batch.specs.inner.Staying.{StaysSuch}
-use Rattle.ic_batch.proofs.LoopLemmas.{item_at, none_is}
-use Rattle.ic_batch.proofs.StayLemmas.{stays_then}
-use Rattle.ic_batch.proofs.WayLemmas.{alone, submit_on_way}
-use Rattle.ic_batch.proofs.submitting.submit_missing.Given as given
+use Rattle.ic_serving.specs.lemmas.Reaching.{kept_all}
+use Rattle.ic_batch.specs.declared.jobs.NewJob.{NewJob}
+use Rattle.ic_batch.specs.Way.{IsKeptOr}
+use Rattle.ic_batch.specs.inner.Staying.{AreBegun}
+use Rattle.ic_batch.proofs.LeadLemmas.{leads_begun, leads_done}
+use Rattle.ic_batch.proofs.LoopLemmas.{split_here}
+use Rattle.ic_batch.proofs.NewLemmas.{AreSubmitted, all_begun, begun_so_far, is_new, new_here, none_yet, passed_here, submitted_here}
 use Rattle.ic_batch.proofs.submitting.submit_missing.Goals as goal
-use Rattle.ic_batch.proofs.submitting.submit_missing.Goals.{then-is_missing+in_ok-submit, else-is_missing}
+use Rattle.ic_batch.proofs.submitting.submit_missing.Goals.{then-is_missing+in_ok-command+in_ok-answer_command, else-is_missing}
 
 pub loop-new-init : goal.loop-new-init
-loop-new-init g c = λ most at. record {
-  at = at;
-  crash = leaves_nothing c.args.book.now (AreOnWay most c.args.jobs.now) (g.met.D.Disk.left_is_image _) c.facts.ensures.either c.facts.ensures.history.replayed
-      (by_nothing c.args.book.now c.facts.ensures.step) at.kept at.table;
-}
+loop-new-init g c =
+    let t = table_of c.args.book.now in
+    let first = none_yet c.args.jobs.now t in
+    let now = begun_so_far c.args.jobs.now t c.args.jobs.now t first in
+    record {
+      so_far = first;
+      leads = record {
+        table = now;
+        kept = inl refl;
+        crash = leaves_nothing c.args.book.now (IsKeptOr (last_kept c.args.book.now) (AreBegun c.args.jobs.now t)) (g.met.D.Disk.left_is_image _) c.facts.ensures.either
+            c.facts.ensures.history.replayed (by_nothing c.args.book.now c.facts.ensures.step) (inl refl) (inr now);
+      };
+      counted = refl;
+      ready = λ is. is;
+    }
 
-pub returns-in_err-submit-clause-stays : goal.returns-in_err-submit-clause-stays
-returns-in_err-submit-clause-stays g c = λ most.
-    let such = AreOnWay most c.args.jobs.now in
-    let t = table_of c.loop-new.book in
-    let missing : job_named c.new-item.result.name t ≡ None = none_is (job_named c.new-item.result.name t) (ap (λ (u : List JobParts). not (is_some (job_named c.new-item.result.name u))) (sym c.table.ensures) ∙ sym c.is_missing.ensures ∙ c.if-is_missing.true) in
-    let only = alone c.args.jobs.now c.loop-new.new-index c.new-item.result (item_at c.args.jobs.now c.loop-new.new-index c.new-item.result c.loop-new-test.true c.new-item.is) c.requires in
-    stays_then such c.args.book.now c.loop-new.book c.submit.new.book (c.loop-new.invariant most)
-    (λ at. c.submit.ensures.takes most c.args.jobs.now (submit_on_way c.other_jobs_stay.ensures most t c.new-item.result missing c.args.jobs.now only at.table) at)
+pub returns-in_err-answer_command-clause-leads : goal.returns-in_err-answer_command-clause-leads
+returns-in_err-answer_command-clause-leads g c =
+    let jobs = c.args.jobs.now in
+    let old = c.args.book.now in
+    let t = table_of old in
+    let mid = c.loop-new.book in
+    let new = c.new-item.result in
+    let i = c.loop-new.new-index in
+    let split = split_here jobs i new c.loop-new-test.true c.new-item.is in
+    let is : is_new (table_of mid) new ≡ c.is_missing.result = new_here c.table.result.now (table_of mid) new c.is_missing.result c.table.ensures c.is_missing.ensures in
+    let more = submitted_here jobs t i new (table_of mid) split c.loop-new.invariant.so_far c.other_jobs_stay.ensures c.requires.distinct c.requires.room (is ∙ c.if-is_missing.true)
+    c.in_ok-command.command c.in_ok-command.ensures in
+    let e = by_command c.in_ok-command.command in
+    leads_begun (AreBegun jobs t) old mid c.answer_command.new.book e c.loop-new.invariant.leads
+    (begun_so_far jobs t (drop (i + 1) jobs) (table_after (table_of mid) e) more) c.in_err-answer_command.ensures.begun c.answer_command.ensures.crash
 
 pub loop-new-preserved : goal.loop-new-preserved
-loop-new-preserved g c = elim c.if-is_missing.branch [
-  | then-is_missing+in_ok-submit w ↦ rw w.book-is (λ most.
-      let such = AreOnWay most c.args.jobs.now in
-      let t = table_of c.loop-new.book in
-      let missing : job_named c.new-item.result.name t ≡ None = none_is (job_named c.new-item.result.name t) (ap (λ (u : List JobParts). not (is_some (job_named c.new-item.result.name u))) (sym c.table.ensures) ∙ sym c.is_missing.ensures ∙ w.if-is_missing.true) in
-      let only = alone c.args.jobs.now c.loop-new.new-index c.new-item.result (item_at c.args.jobs.now c.loop-new.new-index c.new-item.result c.loop-new-test.true c.new-item.is) c.requires in
-      stays_then such c.args.book.now c.loop-new.book w.submit.new.book (c.loop-new.invariant most)
-      (λ at. w.submit.ensures.takes most c.args.jobs.now (submit_on_way c.other_jobs_stay.ensures most t c.new-item.result missing c.args.jobs.now only at.table) at))
-  | else-is_missing w ↦ rw w.book-is c.loop-new.invariant
-]
+loop-new-preserved g c =
+    let jobs = c.args.jobs.now in
+    let old = c.args.book.now in
+    let t = table_of old in
+    let mid = c.loop-new.book in
+    let new = c.new-item.result in
+    let i = c.loop-new.new-index in
+    let split = split_here jobs i new c.loop-new-test.true c.new-item.is in
+    let is : is_new (table_of mid) new ≡ c.is_missing.result = new_here c.table.result.now (table_of mid) new c.is_missing.result c.table.ensures c.is_missing.ensures in
+    elim c.if-is_missing.branch [
+      | then-is_missing+in_ok-command+in_ok-answer_command w ↦
+          let e = by_command w.in_ok-command.command in
+          let later = w.answer_command.new.book in
+          let more = submitted_here jobs t i new (table_of mid) split c.loop-new.invariant.so_far c.other_jobs_stay.ensures c.requires.distinct c.requires.room (is ∙ w.if-is_missing.true)
+          w.in_ok-command.command w.in_ok-command.ensures in
+          rw w.book-is (record {
+            so_far = subst (λ (u : List JobParts). AreSubmitted jobs t (drop (i + 1) jobs) u) (sym w.in_ok-answer_command.ensures.table) more;
+            leads = leads_done (AreBegun jobs t) old mid later e c.loop-new.invariant.leads (begun_so_far jobs t (drop (i + 1) jobs) (table_after (table_of mid) e) more)
+                w.in_ok-answer_command.ensures.table
+                (kept_all (start_of later) (table_of later) (log_of later) (kept_of later) (history_of later).replayed w.in_ok-answer_command.ensures.kept) w.answer_command.ensures.crash;
+            counted = w.in_ok-answer_command.ensures.fault.counted ∙ c.loop-new.invariant.counted;
+            ready = λ whole. w.in_ok-answer_command.ensures.fault.ready (c.loop-new.invariant.ready whole);
+          })
+      | else-is_missing w ↦ rw w.book-is (record {
+        so_far = passed_here jobs t i new (table_of mid) split c.loop-new.invariant.so_far (is ∙ w.if-is_missing.false);
+        leads = c.loop-new.invariant.leads;
+        counted = c.loop-new.invariant.counted;
+        ready = c.loop-new.invariant.ready;
+      })
+    ]
+
+pub returns-clause-all : goal.returns-clause-all
+returns-clause-all g c =
+    let over : drop c.loop-new.new-index c.args.jobs.now ≡ [] = drop_all c.loop-new.new-index c.args.jobs.now c.loop-new-test.false in
+    all_begun c.args.jobs.now (table_of c.args.book.now) (table_of c.loop-new.book)
+    (subst (λ (l : List NewJob). AreSubmitted c.args.jobs.now (table_of c.args.book.now) l (table_of c.loop-new.book)) over c.loop-new.invariant.so_far)

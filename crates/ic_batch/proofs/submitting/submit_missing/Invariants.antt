@@ -1,8 +1,14 @@
-use Rattle.std.proofs.Common.{ℕ}
-use Rattle.ic_batch.specs.Way.{AreOnWay}
-use Rattle.ic_batch.specs.inner.Staying.{StaysSuch}
+use Rattle.std.proofs.Common.{◌≡◌, drop, false}
+use Rattle.ic_desk.specs.Book.{disk_of, is_broken, table_of}
+use Rattle.ic_batch.specs.inner.Staying.{AreBegun, Leads}
+use Rattle.ic_batch.proofs.NewLemmas.{AreSubmitted}
 use Rattle.ic_batch.proofs.submitting.submit_missing.Given as goal
 
--- jobs on their way are so still
+-- those that were missing of the jobs so far are there, and no failure of the disk was told
 abbrev pub invariant-loop-new : goal.invariant-loop-new
-invariant-loop-new g l = (most : ℕ) → StaysSuch (AreOnWay most l.jobs) l.fn.book l.book
+invariant-loop-new g l = record {
+  so_far : AreSubmitted l.jobs (table_of l.fn.book) (drop l.new-index l.jobs) (table_of l.book);
+  leads : Leads (AreBegun l.jobs (table_of l.fn.book)) l.fn.book l.book;
+  counted : g.D.Disk.failures (disk_of l.book) ≡ g.D.Disk.failures (disk_of l.fn.book);
+  ready : is_broken l.fn.book ≡ false → is_broken l.book ≡ false;
+}

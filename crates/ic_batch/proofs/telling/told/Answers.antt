@@ -1,6 +1,6 @@
-use Rattle.std.proofs.Common.{◌≡◌, ◌∙◌, ◌++◌, List, ℕ, ap, refl}
+use Rattle.std.proofs.Common.{◌∙◌, ◌++◌, List, ap, refl}
 use Rattle.ic_jobs.specs.Job.{JobParts}
-use Rattle.ic_batch.specs.inner.Staying.{fetched}
+use Rattle.ic_batch.specs.Way.{fetched}
 use Rattle.ic_batch.proofs.LoopLemmas.{text_more, text_over}
 use Rattle.ic_batch.proofs.telling.told.Goals as goal
 

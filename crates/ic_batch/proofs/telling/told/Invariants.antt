@@ -1,6 +1,6 @@
 use Rattle.std.proofs.Common.{◌≡◌, ◌++◌, drop}
 use Rattle.std.specs.List.{flat_map}
-use Rattle.ic_batch.specs.inner.Staying.{fetched}
+use Rattle.ic_batch.specs.Way.{fetched}
 use Rattle.ic_batch.proofs.telling.told.Given as goal
 
 -- the lines of those so far are told
