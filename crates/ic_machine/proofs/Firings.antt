@@ -9,12 +9,12 @@ use Rattle.std.proofs.lemmas.List.{length-map, map-append}
 use Rattle.std.proofs.lemmas.List.Sorted.{IsPermutation-refl, IsPermutation-sym, IsPermutation-trans, IsPermutation-middle, IsPermutation-append_left, IsPermutation-append_right}
 use Rattle.std.proofs.lemmas.List.Sums.{sum_by-cons, sum_by-append}
 use Rattle.ic_arena.specs.declared.word.Word.{Word}
-use Rattle.ic_arena.specs.declared.word.TheConstants.{IDLE, GIVEN}
+use Rattle.ic_arena.specs.declared.word.TheConstants.{NAME, IDLE, GIVEN}
 use Rattle.ic_arena.specs.Word.{name_word, agent_word, word_eq, count}
 use Rattle.ic_arena.specs.Piece.{Piece, equated, agent_with, room, uses}
 use Rattle.ic_arena.specs.Tables.{Replaced, Blocks, names_pieces}
 use Rattle.ic_machine.specs.declared.equation.Equation.{Equation}
-use Rattle.ic_machine.specs.Plan.{Planned, Plans, constants, pieces_made}
+use Rattle.ic_machine.specs.Plan.{Made, Planned, Plans, constants, pieces_made}
 use Rattle.ic_machine.specs.Net.{equated_of}
 use Rattle.ic_machine.specs.Separate.{IsSeparate, is_constant_tag}
 use Rattle.ic_machine.specs.Steps.{AreFresh, Fires, fires, Steps}
@@ -79,12 +79,14 @@ pub fire_steps : (q : Plans) (i a b : ℕ) (p : Planned) (front : List Equation)
     → e.left.tag ≡ a + 1 → e.right.tag ≡ b + 1
     → slice_get q.arities a ≡ Some k → slice_get q.arities b ≡ Some m → IsNumbered q i a b p
     → r0 ≡ constants (length q.arities) → length names ≡ p.names → length made ≡ length p.made
+    → AllByRecursion (λ w. w.tag ≡ NAME) names
+    → map (λ (w : Word). w.tag) made ≡ map (λ (m : Made). m.symbol + 1) p.made
     → AreFresh (names ++ made) (names_pieces 0 ns ++ (heaps_pieces 0 h2 ++ (map equated_of front ++ rest)))
     → Steps q [] (pieces_made p (r2 ++ (names ++ made)) names made
     ++ (names_pieces 0 ns ++ (heaps_pieces 0 h2 ++ (map equated_of front ++ rest)))) end
     → Steps q (i ∷ [])
     (names_pieces 0 ns ++ (heaps_pieces 0 h0 ++ (map equated_of (front ++ e ∷ []) ++ rest))) end
-fire_steps q i a b p front e k m ns h0 h1 h2 r0 r1 r2 names made rest end l r la ra ka kb number first nc mc fresh links =
+fire_steps q i a b p front e k m ns h0 h1 h2 r0 r1 r2 names made rest end l r la ra ka kb number first nc mc nt mt fresh links =
     let others : List Piece = names_pieces 0 ns ++ (heaps_pieces 0 h2 ++ (map equated_of front ++ rest)) in
     let xs : List Piece = names_pieces 0 ns
     ++ (heaps_pieces 0 h0 ++ (map equated_of (front ++ e ∷ []) ++ rest)) in
@@ -129,6 +131,8 @@ fire_steps q i a b p front e k m ns h0 h1 h2 r0 r1 r2 names made rest end l r la
       given = given;
       names_count = nc;
       made_count = mc;
+      name_tags = nt;
+      made_tags = mt;
       fresh = fresh;
       result = IsPermutation-refl mid;
     } in

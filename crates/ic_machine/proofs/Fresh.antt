@@ -176,7 +176,7 @@ pub makes_more : (ms : List Made) (m : Made) (xs ys zs : List Piece) (before aft
     → AllByRecursion (λ k. k < length after) (flat_map (λ n. n.operands) ms)
     → AllByRecursion (λ k. k < length after) m.operands
     → Replaced [] (agent_of w (map (register after) m.operands) ∷ []) ys zs
-    → sum_by (room w) ys ≡ 0 → 0 < w.tag
+    → sum_by (room w) ys ≡ 0 → w.tag ≡ m.symbol + 1
     → Makes (ms ++ m ∷ []) xs zs before (after ++ w ∷ [])
 makes_more ms m xs ys zs before after w o earlier now r none agent =
     let same : sum_by (room w) (made_each after ms o.places ++ xs) ≡ sum_by (room w) ys =
@@ -191,7 +191,10 @@ makes_more ms m xs ys zs before after w o earlier now r none agent =
       places = o.places ++ w ∷ [];
       count = length_push o.places w ∙ (ap (λ (k : ℕ). k + 1) o.count ∙ sym (length_push ms m));
       pushed = ap (λ (l : List Word). l ++ w ∷ []) o.pushed ∙ append_assoc before o.places (w ∷ []);
-      tags = all_append (λ v. 0 < v.tag) o.places (w ∷ []) o.tags (agent, tt);
+      tags = map-append (λ (v : Word). v.tag) o.places (w ∷ [])
+          ∙ (ap (λ (l : List ℕ). l ++ w.tag ∷ []) o.tags
+          ∙ (ap (λ (t : ℕ). map (λ (n : Made). n.symbol + 1) ms ++ t ∷ []) agent
+          ∙ sym (map-append (λ (n : Made). n.symbol + 1) ms (m ∷ []))));
       pieces = subst (λ (l : List Piece). IsPermutation zs (l ++ xs)) moved
           (pushed_order (made_each after ms o.places) xs (made_at after m w) ys zs o.pieces
           (put_first (made_at after m w) ys zs r));
@@ -204,10 +207,21 @@ makes_none xs before = record {
   places = [];
   count = refl;
   pushed = sym (append-nil before);
-  tags = tt;
+  tags = refl;
   pieces = IsPermutation-refl xs;
   fresh = tt;
 }
+
+-- the places of agents are no names
+pub agent_tags : (ms : List Made) (ws : List Word)
+    → map (λ (w : Word). w.tag) ws ≡ map (λ (m : Made). m.symbol + 1) ms
+    → AllByRecursion (λ w. 0 < w.tag) ws
+agent_tags ms [] h = tt
+agent_tags [] (w ∷ ws) h =
+    let none : suc (length (map (λ (v : Word). v.tag) ws)) ≡ 0 = ap length h in absurd (omega arith)
+agent_tags (m ∷ ms) (w ∷ ws) h =
+    let first : w.tag ≡ m.symbol + 1 = ap (λ (l : List ℕ). slice_index_or l 0 0) h in
+    (omega arith, agent_tags ms ws (ap (drop 1) h))
 
 -- what is planned of one agent
 pub record IsMadeOf (arities : List ℕ) (filled : ℕ) (m : Made) : Type 0 where

@@ -8,4 +8,5 @@ pub mod Firings
 pub mod Running
 pub mod Starting
 pub mod Sound
+pub mod Places
 pub mod Reading

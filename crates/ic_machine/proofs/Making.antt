@@ -22,7 +22,7 @@ use Rattle.ic_machine.specs.lemmas.Balance.{equations_room}
 use Rattle.ic_machine.specs.lemmas.FiringKeeps.{all_of, idle_uses, idle_room, links_uses, uses_few}
 use Rattle.ic_machine.specs.lemmas.Orders.{to_front}
 use Rattle.ic_machine.specs.lemmas.StepsOn.{steps_to}
-use Rattle.ic_machine.proofs.Fresh.{fresh_append, fresh_as, no_name}
+use Rattle.ic_machine.proofs.Fresh.{agent_tags, fresh_append, fresh_as, no_name}
 use Rattle.ic_machine.proofs.Heaps.{tables_elsewhere}
 use Rattle.ic_machine.proofs.Links.{steps_from}
 
@@ -108,9 +108,9 @@ made_fresh n ms ns ns' hs ys r0 r1 r2 ps rest o m =
     (λ w h. name_room w ns hs ps rest h) o.tags))
     (fresh_as m.places (heaps_pieces 0 hs) xs m.fresh
     (all_map (λ w. 0 < w.tag) (λ w. sum_by (room w) xs ≡ sum_by (room w) (heaps_pieces 0 hs)) m.places
-    (λ w h. agent_room_only w ns hs ps rest h) m.tags))
+    (λ w h. agent_room_only w ns hs ps rest h) (agent_tags ms m.places m.tags)))
     (all_map (λ w. w.tag ≡ NAME) (λ w. count w m.places ≡ 0) o.names
-    (λ w h. no_name w m.places h m.tags) o.tags)
+    (λ w h. no_name w m.places h (agent_tags ms m.places m.tags)) o.tags)
 
 -- what a plan makes comes to be held by steps that fire nothing
 pub made_steps : (q : Plans) (p : Planned) (n : ℕ) (ns ns' ns'' : List Word) (hs hs' : List Blocks)

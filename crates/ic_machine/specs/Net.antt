@@ -2,7 +2,7 @@
 use Rattle.std.specs.Prelude.{◌≡◌, ℕ, ◌+◌, ◌<◌, ◌++◌, List, length, map, None}
 use Rattle.ic_arena.specs.declared.word.Word.{Word}
 use Rattle.ic_arena.specs.declared.word.TheConstants.{NAME}
-use Rattle.ic_arena.specs.Piece.{Piece, equated}
+use Rattle.ic_arena.specs.Piece.{Piece, equated, idle, waits, agent_of}
 use Rattle.ic_machine.specs.declared.equation.Equation.{Equation}
 use Rattle.ic_machine.specs.Plan.{Plans, plan_of}
 
@@ -29,3 +29,10 @@ pub record IsStuck (p : Plans) (e : Equation) : Type 0 where
   pub right : ¬ (e.right.tag ≡ NAME)
   pub no_plan : (a b : ℕ) → e.left.tag ≡ a + 1 → e.right.tag ≡ b + 1 → a < length p.arities
       → b < length p.arities → plan_of p a b ≡ None
+
+-- what is at a place, and no equation
+abbrev pub IsAtPlace : Piece → Type 0
+IsAtPlace (equated l r) = ⊥
+IsAtPlace (idle x) = Unit {0}
+IsAtPlace (waits x u) = Unit {0}
+IsAtPlace (agent_of a ws) = Unit {0}

@@ -2,6 +2,7 @@
 use Rattle.std.specs.Prelude.{◌≡◌, ℕ, ◌+◌, ◌<◌, ◌≤◌, ◌==◌, List, [], ◌++◌, Some, length, map, count_by, slice_get}
 use Rattle.std.specs.List.{AllByRecursion}
 use Rattle.ic_arena.specs.declared.word.Word.{Word}
+use Rattle.ic_arena.specs.declared.word.TheConstants.{NAME}
 use Rattle.ic_arena.specs.Tables.{register}
 use Rattle.ic_machine.specs.declared.equation.Equation.{Equation}
 use Rattle.ic_machine.specs.Plan.{Planned, Plans, IsPlan, allowance, constants, operands_of, pieces_made}
@@ -28,6 +29,8 @@ pub record Starts (p : Plans) (plan : Planned) (interface : List ℕ) (n : Net) 
   pub made : List Word
   pub names_count : length names ≡ plan.names
   pub made_count : length made ≡ length plan.made
+  pub name_tags : AllByRecursion (λ w. w.tag ≡ NAME) names
+  pub made_tags : map (λ w. w.tag) made ≡ map (λ m. m.symbol + 1) plan.made
   pub fresh : AreFresh (names ++ made) []
   pub steps : Steps p [] (pieces_made plan (first_registers p names made) names made) (pieces n)
   pub interface_is : n.interface ≡ map (register (first_registers p names made)) interface

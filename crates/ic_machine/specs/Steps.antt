@@ -1,6 +1,8 @@
 -- Steps of a net in pieces. The order of pieces means nothing.
-use Rattle.std.specs.Prelude.{◌≡◌, ℕ, List, [], ◌∷◌, ◌++◌, Some, length, slice_get, sum_by, IsPermutation}
+use Rattle.std.specs.Prelude.{◌≡◌, ℕ, ◌+◌, List, [], ◌∷◌, ◌++◌, Some, length, map, slice_get, sum_by, IsPermutation}
+use Rattle.std.specs.List.{AllByRecursion}
 use Rattle.ic_arena.specs.declared.word.Word.{Word}
+use Rattle.ic_arena.specs.declared.word.TheConstants.{NAME}
 use Rattle.ic_arena.specs.Word.{count, agent_word}
 use Rattle.ic_arena.specs.Piece.{Piece, equated, idle, waits, agent_with, room}
 use Rattle.ic_machine.specs.Plan.{Planned, Plans, number_of, constants, pieces_made}
@@ -57,6 +59,8 @@ pub record Fires (p : Plans) (fired : ℕ) (xs ys : List Piece) : Type 0 where
       ++ (agent_with (agent_word right right_place) right_args ++ rest)))
   pub names_count : length names ≡ plan.names
   pub made_count : length made ≡ length plan.made
+  pub name_tags : AllByRecursion (λ w. w.tag ≡ NAME) names
+  pub made_tags : map (λ w. w.tag) made ≡ map (λ m. m.symbol + 1) plan.made
   pub fresh : AreFresh (names ++ made) rest
   pub result : IsPermutation ys
       (pieces_made plan

@@ -10,7 +10,7 @@ ghost use Rattle.ic_arena.specs.Tables.{register};
 ghost use Rattle.ic_machine.specs.Plan.{planned};
 ghost use Rattle.ic_machine.specs.Separate.{IsSeparate};
 ghost use Rattle.ic_machine.specs.Runs.{IsStart, Starts, Ran};
-ghost use Rattle.ic_machine.specs.Net.{pieces};
+ghost use Rattle.ic_machine.specs.Net.{pieces, IsAtPlace};
 ghost use Rattle.ic_machine.specs.inner.Linking.{IsPair};
 ghost use Rattle.ic_machine.specs.inner.Pairs.{HasPlan, IsLast, Passed};
 
@@ -106,6 +106,7 @@ impl Machine {
             → self.new.interactions ≡ self.old.interactions + steps }
         ensures more { result ≡ Ok Ended.Steps → 1 ≤ length self.new.pending }
         ensures separate { IsSeparate self.new.arities self.new.interface (pieces self.new) }
+        ensures places { AllByRecursion IsAtPlace self.new.places }
     {
         for step in 0..steps {
             if !self.step(program)? {
@@ -130,6 +131,7 @@ impl Machine {
             × (self.new.interactions ≡ self.old.interactions) }
         ensures err { OnErr result (self.new.interactions ≡ self.old.interactions) }
         ensures separate { IsSeparate self.new.arities self.new.interface (pieces self.new) }
+        ensures places { AllByRecursion IsAtPlace self.new.places }
     {
         let found = find_plan(program, &mut self.tables.pending, &mut self.aside)?;
         let Some((pair, plan)) = found else {
@@ -148,6 +150,7 @@ impl Machine {
         ensures quiet { result ≡ Ok true → self.new.pending ≡ [] }
         ensures more { result ≡ Ok false → 1 ≤ length self.new.pending }
         ensures separate { IsSeparate self.new.arities self.new.interface (pieces self.new) }
+        ensures places { AllByRecursion IsAtPlace self.new.places }
     {
         let found = find_plan(program, &mut self.tables.pending, &mut self.aside)?;
         Ok(found.is_none())

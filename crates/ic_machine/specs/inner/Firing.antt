@@ -64,6 +64,6 @@ pub record Makes (made : List Made) (xs ys : List Piece) (before after : List Wo
   pub places : List Word
   pub count : length places ≡ length made
   pub pushed : after ≡ before ++ places
-  pub tags : AllByRecursion (λ w. 0 < w.tag) places
+  pub tags : map (λ w. w.tag) places ≡ map (λ m. m.symbol + 1) made
   pub pieces : IsPermutation ys (made_each after made places ++ xs)
   pub fresh : AreFresh places xs

@@ -2,7 +2,7 @@
 use Rattle.std.specs.Prelude.{◌≡◌, ℕ, ◌+◌, ◌^◌, ◌<◌, ◌≤◌, List, [], ◌++◌, Some, length, map, slice_get, sum_by, vec_capacity}
 use Rattle.std.specs.List.{AllByRecursion}
 use Rattle.ic_arena.specs.declared.word.Word.{Word}
-use Rattle.ic_arena.specs.declared.word.TheConstants.{IDLE, GIVEN}
+use Rattle.ic_arena.specs.declared.word.TheConstants.{NAME, IDLE, GIVEN}
 use Rattle.ic_arena.specs.Word.{name_word, count}
 use Rattle.ic_arena.specs.Piece.{Piece, room, uses}
 use Rattle.ic_arena.specs.Tables.{names_pieces}
@@ -43,6 +43,8 @@ pub record IsMade (p : Planned) (old new : Tables) : Type 0 where
   pub made : List Word
   pub names_count : length names ≡ p.names
   pub made_count : length made ≡ length p.made
+  pub name_tags : AllByRecursion (λ w. w.tag ≡ NAME) names
+  pub made_tags : map (λ w. w.tag) made ≡ map (λ m. m.symbol + 1) p.made
   pub registers : new.registers.items ≡ old.registers.items ++ (names ++ made)
   pub fresh : (rest : List Equation) → AreFresh (names ++ made) (held old (map equated_of rest))
   pub steps : (q : Plans) (rest : List Piece) → Steps q []

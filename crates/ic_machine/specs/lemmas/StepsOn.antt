@@ -50,6 +50,8 @@ step_to p is xs ys zs (fires i a b s) h = fires i a zs (record {
   given = s.given;
   names_count = s.names_count;
   made_count = s.made_count;
+  name_tags = s.name_tags;
+  made_tags = s.made_tags;
   fresh = s.fresh;
   result = IsPermutation-trans zs b _ (IsPermutation-sym b zs h) s.result;
 })

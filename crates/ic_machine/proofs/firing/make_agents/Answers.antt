@@ -197,7 +197,7 @@ loop-make-preserved c =
     (earlier_within (arities_of h0) (length r0) i (length rs) ms c.requires.made (omega arith) (omega arith))
     (all_of (λ k. k < length r0 + i) (λ k. k < length rs) item.operands.items (λ k le. omega arith) planned.within)
     (table_replaced hs 0 s s b' [] (agent_of w (map (register rs) item.operands.items) ∷ []) (sym (zero-add s))
-    there.0 block) none (omega arith) in
+    there.0 block) none refl in
     let arity : b'.arity ≡ (table hs s).arity = c.put-block.ensures.arity ∙ ap (λ (x : Blocks). x.arity) same in
     let fewer : b'.count ≤ (table hs s).count + 1 =
     subst (λ (x : Blocks). b'.count ≤ x.count + 1) same c.put-block.ensures.count in

@@ -3,6 +3,7 @@ use Rattle.ic_machine.specs.declared.machine.Machine.TheInside.{Inside}
 use Rattle.ic_machine.specs.Net.{Net}
 use Rattle.ic_machine.specs.Runs.{Ran}
 use Rattle.ic_machine.specs.inner.Machine.{net_of}
+use Rattle.ic_machine.proofs.Places.{tables_at_places}
 use Rattle.ic_machine.proofs.Running.{passed_ran}
 use Rattle.ic_machine.proofs.Sound.{passed_sound}
 use Rattle.ic_machine.proofs.machine.Machine.is_quiet.Goals as goal
@@ -38,3 +39,9 @@ pub returns-clause-separate : goal.returns-clause-separate
 returns-clause-separate c =
     let new : Inside = record c.self.inside { aside = c.find_plan.new.aside; tables = record c.self.inside.tables { pending = c.find_plan.new.pending } } in
     (passed_sound c.args.program.now c.self.inside new c.self.invariant c.find_plan.ensures.passed refl refl refl refl).separate
+
+pub returns-in_err-found-clause-places : goal.returns-in_err-found-clause-places
+returns-in_err-found-clause-places c = tables_at_places c.self.inside.tables.names.entries c.self.inside.tables.heaps.items
+
+pub returns-clause-places : goal.returns-clause-places
+returns-clause-places c = tables_at_places c.self.inside.tables.names.entries c.self.inside.tables.heaps.items

@@ -15,6 +15,7 @@ use Rattle.ic_machine.specs.inner.Machine.{net_of}
 use Rattle.ic_machine.specs.inner.Pairs.{CanFire, HasPlan}
 use Rattle.ic_machine.specs.inner.Tables.{IsNumbered}
 use Rattle.ic_machine.proofs.Heaps.{as_many}
+use Rattle.ic_machine.proofs.Places.{tables_at_places}
 use Rattle.ic_machine.proofs.Running.{can_fire, held_separate, held_steps_separate, numbered, passed_pairs, passed_ran, passed_separate, passed_then}
 use Rattle.ic_machine.proofs.Sound.{passed_sound}
 use Rattle.ic_machine.proofs.machine.Machine.step.Goals as goal
@@ -320,3 +321,15 @@ returns-clause-separate c =
     held_steps_separate q (number.0 ∷ []) (arities_of hs) m.interface.items ps us qs n h n' h' has.sound known steps separate in
     subst (λ (a : List ℕ). IsSeparate a m.interface.items (map equated_of qs ++ (map equated_of us ++ (n' ++ h'))))
     (sym same) whole
+
+pub returns-in_err-found-clause-places : goal.returns-in_err-found-clause-places
+returns-in_err-found-clause-places c = tables_at_places c.self.inside.tables.names.entries c.self.inside.tables.heaps.items
+
+pub returns-in_default-clause-places : goal.returns-in_default-clause-places
+returns-in_default-clause-places c = tables_at_places c.self.inside.tables.names.entries c.self.inside.tables.heaps.items
+
+pub returns-in_err-fire-clause-places : goal.returns-in_err-fire-clause-places
+returns-in_err-fire-clause-places c = tables_at_places c.fire.new.self.names.entries c.fire.new.self.heaps.items
+
+pub returns-clause-places : goal.returns-clause-places
+returns-clause-places c = tables_at_places c.fire.new.self.names.entries c.fire.new.self.heaps.items

@@ -490,7 +490,7 @@ returns-clause-fires c = λ q i a b rest left_tag right_tag arities number.
     fire_steps q i a b (planned c.args.plan.now) last.front e (table h1 (e.left.tag - 1)).arity
     (table h2 (e.right.tag - 1)).arity t1.names.entries h1 h2 h3 t1.registers.items c.take.new.registers.items
     c.take-2.new.registers.items made.names made.made (map equated_of rest) end l r left_tag right_tag ka kb number r0
-    made.names_count made.made_count fresh links in
+    made.names_count made.made_count made.name_tags made.made_tags fresh links in
     subst (λ (n : List Word). Steps q (i ∷ []) (names_pieces 0 n ++ (heaps_pieces 0 h0 ++ (map equated_of t.pending.items ++ map equated_of rest))) end)
     c.reserve.ensures.names
     (subst (λ (x : List Piece). Steps q (i ∷ []) (names_pieces 0 t1.names.entries ++ (x ++ (map equated_of t.pending.items ++ map equated_of rest))) end)

@@ -14,6 +14,7 @@ use Rattle.ic_machine.specs.Steps.{Steps}
 use Rattle.ic_machine.specs.inner.Firing.{arities_of, heaps_pieces, HasRoom, Makes, Opened}
 use Rattle.ic_machine.specs.inner.Linking.{AreLinks}
 use Rattle.ic_machine.specs.lemmas.FiringKeeps.{all_append}
+use Rattle.ic_machine.proofs.Fresh.{agent_tags}
 use Rattle.ic_machine.proofs.Making.{constant_words, filled_count, made_fresh, made_steps, name_words, plan_links}
 use Rattle.ic_machine.proofs.tables.Tables.make.Goals as goal
 
@@ -94,7 +95,8 @@ link_each-requires-clause-links c =
     (sym c.deref-2.ensures.value)
     (subst (λ (l : List Word). AreLinks p.links l c.open_names.new.names.entries) (sym (c.deref-3.ensures.value ∙ is))
     (plan_links (arities_of t.heaps.items) p ready.args opened.names makes.places t.names.entries
-    c.open_names.new.names.entries ready.plan opened.count made makes.tags
+    c.open_names.new.names.entries ready.plan opened.count made
+    (agent_tags (map made_of c.deref.result.now) makes.places makes.tags)
     (subst (λ (l : List Word). AllByRecursion (λ w. w.tag < IDLE) l) is c.make_agents.ensures.words)
     opened.pieces ready.named))
 
@@ -133,6 +135,8 @@ returns-clause-made c =
       made = makes.places;
       names_count = opened.count;
       made_count = makes.count;
+      name_tags = opened.tags;
+      made_tags = makes.tags;
       registers = is;
       fresh = λ rest. made_fresh p.names p.made ns ns' hs (heaps_pieces 0 hs') r0 r1 r2 ps rest opened makes;
       steps = λ q rest. subst (λ (l : List Word). Steps q []
