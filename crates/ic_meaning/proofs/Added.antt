@@ -1,0 +1,37 @@
+-- Lemmas: the plan of addition.
+use Rattle.std.proofs.Common.{◌≡◌, ℕ, zero, suc, ◌+◌, ◌≤◌, ◌<◌, ◌==◌, refl, arith, inl, inr}
+use Rattle.std.proofs.lemmas.List.Sorted.{IsPermutation-refl}
+use Rattle.std.specs.Prelude.{count_by}
+use Rattle.ic_machine.specs.Plan.{operands_of}
+use Rattle.ic_meaning.specs.Example.{addition_arities, addition_rule, addition_plan}
+use Rattle.ic_meaning.specs.Plans.{StandsFor, HasRegister, arguments_of, equations_made}
+
+-- y is read from the register of the argument that it is, and r from that of the fresh name
+abbrev place : ℕ → ℕ
+place zero = 3
+place (suc x) = 5
+
+read_at : (x : ℕ) → x < 2 → HasRegister (arguments_of 2 addition_rule) place 5 1 x
+read_at zero low = inr (1, refl)
+read_at (suc zero) low = inl ((let h : 5 ≤ 5 = omega arith in h), (let h : 5 < 5 + 1 = omega arith in h))
+read_at (suc (suc x)) low = absurd (omega arith)
+
+apart_at : (x y : ℕ) → x < 2 → y < 2 → place x ≡ place y → x ≡ y
+apart_at zero zero lx ly same = refl
+apart_at zero (suc y) lx ly same = absurd (omega arith)
+apart_at (suc x) zero lx ly same = absurd (omega arith)
+apart_at (suc x) (suc y) lx ly same = omega arith
+
+used_at : (k : ℕ) → k < 2 → count_by (λ m. m == 6 + k) (operands_of addition_plan) ≡ 1
+used_at zero low = refl
+used_at (suc zero) low = refl
+used_at (suc (suc k)) low = absurd (omega arith)
+
+pub addition_stands : StandsFor addition_arities addition_rule addition_plan
+addition_stands = record {
+  registers = place;
+  read = read_at;
+  apart = apart_at;
+  used = used_at;
+  equations = λ held constants. IsPermutation-refl (equations_made 6 addition_plan held);
+}

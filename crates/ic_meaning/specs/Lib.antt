@@ -1,0 +1,4 @@
+pub mod Words
+pub mod Nets
+pub mod Plans
+pub mod Example
