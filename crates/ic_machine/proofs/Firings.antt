@@ -140,7 +140,7 @@ fire_steps q i a b p front e k m ns h0 h1 h2 r0 r1 r2 names made rest end l r la
     (subst (λ (z : List Word). Steps q [] (pieces_made p z names made ++ others) end) filled links)
 
 -- what is past the end of a list
-get_past : (xs : List ℕ) (s : ℕ) → length xs ≤ s → slice_get xs s ≡ None
+pub get_past : (xs : List ℕ) (s : ℕ) → length xs ≤ s → slice_get xs s ≡ None
 get_past [] s h = refl
 get_past (x ∷ xs) zero h = absurd (omega arith)
 get_past (x ∷ xs) (suc s) h = get_past xs s (omega arith)

@@ -1,39 +1,50 @@
 -- What a machine begins with, and what a run leads to.
 use Rattle.std.specs.Prelude.{◌≡◌, ℕ, ◌+◌, ◌<◌, ◌≤◌, ◌==◌, List, [], ◌++◌, Some, length, map, count_by, slice_get}
-use Rattle.std.specs.List.{AllByRecursion}
+use Rattle.std.specs.List.{AllByRecursion, range_with_len}
 use Rattle.ic_arena.specs.declared.word.Word.{Word}
-use Rattle.ic_arena.specs.declared.word.TheConstants.{NAME}
+use Rattle.ic_arena.specs.declared.word.TheConstants.{NAME, GIVEN}
+use Rattle.ic_arena.specs.Piece.{Piece}
 use Rattle.ic_arena.specs.Tables.{register}
 use Rattle.ic_machine.specs.declared.equation.Equation.{Equation}
 use Rattle.ic_machine.specs.Plan.{Planned, Plans, IsPlan, allowance, constants, operands_of, pieces_made}
 use Rattle.ic_machine.specs.Net.{Net, pieces, IsStuck}
 use Rattle.ic_machine.specs.Steps.{AreFresh, Steps}
 
--- A plan without arguments and the registers of an interface: each is filled, and what the plan and the interface use
--- together is no more than each register may be used.
-pub record IsStart (arities : List ℕ) (p : Planned) (interface : List ℕ) : Type 0 where
-  pub plan : IsPlan arities 0 p
-  pub filled : AllByRecursion (λ k. k < length arities + p.names + length p.made) interface
+-- the words of so many given names
+abbrev pub given_words : ℕ → List Word
+given_words count = map (λ i. record { tag = GIVEN; index = i }) (range_with_len 0 count)
+
+-- A plan of so many given names and the registers of an interface: each is filled, and what the plan and the interface
+-- use together is no more than each register may be used.
+pub record IsStart (arities : List ℕ) (given : ℕ) (p : Planned) (interface : List ℕ) : Type 0 where
+  pub plan : IsPlan arities given p
+  pub filled : AllByRecursion (λ k. k < length arities + given + p.names + length p.made) interface
   pub constant : AllByRecursion (λ k. k < length arities → slice_get arities k ≡ Some 0) interface
   pub linear : (k : ℕ) → length arities ≤ k
-      → count_by (λ m. m == k) (interface ++ operands_of p) ≤ allowance (length arities) p.names k
+      → count_by (λ m. m == k) (interface ++ operands_of p) ≤ allowance (length arities + given) p.names k
 
--- what is in registers: the agents without arguments, fresh names, and the agents that are made
-abbrev pub first_registers : Plans → List Word → List Word → List Word
-first_registers p names made = constants (length p.arities) ++ (names ++ made)
+-- what is in registers: the agents without arguments, given names, fresh names, and the agents that are made
+abbrev pub first_registers : List ℕ → ℕ → List Word → List Word → List Word
+first_registers arities given names made = constants (length arities) ++ (given_words given ++ (names ++ made))
 
--- A net is what a plan makes of no arguments, linked by steps that fire nothing. The words of these registers are its
--- interface.
-pub record Starts (p : Plans) (plan : Planned) (interface : List ℕ) (n : Net) : Type 0 where
+-- What a machine begins with: what a plan makes of given names, at places that are different, and the words of registers
+-- as its interface.
+pub record Begins (arities : List ℕ) (given : ℕ) (p : Planned) (operands : List ℕ)
+    (interface : List Word) (ps : List Piece) : Type 0 where
   pub names : List Word
   pub made : List Word
-  pub names_count : length names ≡ plan.names
-  pub made_count : length made ≡ length plan.made
+  pub names_count : length names ≡ p.names
   pub name_tags : AllByRecursion (λ w. w.tag ≡ NAME) names
-  pub made_tags : map (λ w. w.tag) made ≡ map (λ m. m.symbol + 1) plan.made
+  pub made_tags : map (λ w. w.tag) made ≡ map (λ m. m.symbol + 1) p.made
   pub fresh : AreFresh (names ++ made) []
-  pub steps : Steps p [] (pieces_made plan (first_registers p names made) names made) (pieces n)
-  pub interface_is : n.interface ≡ map (register (first_registers p names made)) interface
+  pub interface_is : interface ≡ map (register (first_registers arities given names made)) operands
+  pub pieces : ps ≡ pieces_made p (first_registers arities given names made) names made
+
+-- A net is what a machine begins with, linked by steps that fire nothing.
+pub record Starts (p : Plans) (given : ℕ) (plan : Planned) (operands : List ℕ) (n : Net) : Type 0 where
+  pub first : List Piece
+  pub begins : Begins p.arities given plan operands n.interface first
+  pub steps : Steps p [] first (pieces n)
 
 -- Steps lead from one net to another. They fired as many pairs as were counted, and set aside equations that are stuck.
 pub record Ran (p : Plans) (old new : Net) : Type 0 where

@@ -5,11 +5,12 @@ ghost use Rattle.std.specs.List.{AllByRecursion};
 ghost use Rattle.ic_arena.specs.Piece.{room};
 ghost use Rattle.ic_arena.specs.declared.word.TheConstants.{GIVEN, IDLE};
 ghost use Rattle.ic_machine.specs.Plan.{made_of, AreMade};
+ghost use Rattle.ic_machine.specs.Runs.{given_words};
 ghost use Rattle.ic_machine.specs.inner.Firing.{heaps_pieces, arities_of, table, Taken, Opened, Makes, SameSize, AreSame, HasRoom};
 
 use crate::machine::MachineFault;
 use crate::plan::Make;
-use ic_arena::{Heap, Names, Word};
+use ic_arena::{GIVEN, Heap, Names, Word};
 
 /// Entries of a table: numbers of names and of blocks are below this.
 pub(crate) const MAX_ENTRIES: usize = 0xffff_ffff;
@@ -66,6 +67,17 @@ pub(crate) fn open_names(names: &mut Names, count: u32, registers: &mut Vec<Word
     for opened in 0..count {
         let name = names.open();
         registers.push_reserved(Word::name(name));
+    }
+}
+
+/// Puts so many given names after what is in registers.
+pub(crate) fn push_given(registers: &mut Vec<Word>, given: u32)
+    requires { vec_len registers.old + given ≤ vec_capacity registers.old }
+    ensures pushed { registers.new.items ≡ registers.old.items ++ given_words given }
+    ensures capacity { vec_capacity registers.new ≡ vec_capacity registers.old }
+{
+    for index in 0..given {
+        registers.push_reserved(Word { tag: GIVEN, index });
     }
 }
 

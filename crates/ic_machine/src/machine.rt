@@ -15,6 +15,7 @@ ghost use Rattle.ic_machine.specs.inner.Linking.{IsPair};
 ghost use Rattle.ic_machine.specs.inner.Pairs.{HasPlan, IsLast, Passed};
 
 use crate::equation::Equation;
+use crate::firing::push_given;
 use crate::plan::{Plan, Program};
 use crate::tables::Tables;
 use ic_arena::{IDLE, Word};
@@ -67,24 +68,27 @@ impl Model for Machine {
 }
 
 impl Machine {
-    /// The machine that holds what a plan makes of no arguments. The words of these registers are the interface.
+    /// The machine that holds what a plan makes of so many given names. The words of these registers are the
+    /// interface.
     pub fn new(
         alloc: Global,
         program: &Program,
         plan: &Plan,
+        given: u32,
         interface: &[u32],
     ) -> Result<Machine, MachineFault>
         requires symbols { length program.now.arities < GIVEN }
-        requires start { IsStart program.now.arities (planned plan.now) interface.now }
+        requires start { IsStart program.now.arities given (planned plan.now) interface.now }
         ensures arities { IfOk result (λ m. m.arities ≡ program.now.arities) }
-        ensures starts { IfOk result (Starts program.now (planned plan.now) interface.now) }
+        ensures starts { IfOk result (Starts program.now given (planned plan.now) interface.now) }
         ensures aside { IfOk result (λ m. m.aside ≡ []) }
         ensures interactions { IfOk result (λ m. m.interactions ≡ 0) }
         ensures separate { IfOk result (λ m.
             IsSeparate program.now.arities m.interface (pieces m)) }
     {
         let mut tables = Tables::new(alloc, program.arities())?;
-        tables.reserve(plan, 0)?;
+        tables.reserve(plan, given as usize)?;
+        push_given(&mut tables.registers, given);
         tables.make(plan);
         let interface = words_at(alloc, &tables.registers, interface)?;
         Ok(Machine {

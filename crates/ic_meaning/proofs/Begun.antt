@@ -22,11 +22,12 @@ use Rattle.ic_arena.specs.Piece.{Piece, idle}
 use Rattle.ic_arena.specs.Tables.{register}
 use Rattle.ic_machine.specs.declared.plan.Link.{Link}
 use Rattle.ic_machine.specs.Plan.{Made, Planned, IsPlan, AreMade, constants, made_each, linked, link_operands, operands_of, pieces_made}
+use Rattle.ic_machine.specs.Runs.{given_words, Begins}
 use Rattle.ic_machine.specs.Separate.{IsSeparate, is_constant_tag}
 use Rattle.ic_machine.specs.Steps.{AreFresh}
 use Rattle.ic_meaning.specs.Words.{Numbers, AreNumbers, term}
 use Rattle.ic_meaning.specs.Nets.{equations_of, net_of, IsPiece, ArePieces, AreNetPieces}
-use Rattle.ic_meaning.specs.Plans.{held_with, held_made, linked_terms, equations_made, named_terms, first_made, given_words, Begins, StandsForNet}
+use Rattle.ic_meaning.specs.Plans.{held_with, held_made, linked_terms, equations_made, named_terms, first_made, StandsForNet}
 use Rattle.ic_meaning.proofs.Given.{NetLaws}
 use Rattle.ic_meaning.proofs.Once.{HoldOnce, made_once}
 use Rattle.ic_meaning.proofs.Orders.{all_front, all_back, all_parts}

@@ -1,17 +1,12 @@
 -- When a plan stands for a rule, and when for a configuration.
 use Rattle.std.specs.Prelude.{◌≡◌, ◌⊎◌, ℕ, ◌+◌, ◌-◌, ◌<◌, ◌≤◌, ◌==◌, List, [], ◌∷◌, ◌++◌, Bool, true, false, not, Option, None, Some, length, map, slice_get, slice_index_or, count_by, if◌then◌else◌, nat_lt, IsPermutation}
-use Rattle.std.specs.List.{filter, range_with_len, AllByRecursion}
+use Rattle.std.specs.List.{filter, AllByRecursion}
 use Rattle.ic_term.specs.Tree.{Tree, name, agent, Trees, no_trees, more_trees, trees_of, Pair}
 use Rattle.ic_term.specs.Configuration.{Configuration, occurrences}
 use Rattle.ic_rules.specs.Rule.{Rule, swapped}
 use Rattle.ic_rules.specs.RuleSet.{Rules, rule_for}
 use Rattle.ic_machine.specs.declared.plan.Link.{Link}
-use Rattle.ic_arena.specs.declared.word.Word.{Word}
-use Rattle.ic_arena.specs.declared.word.TheConstants.{NAME, GIVEN}
-use Rattle.ic_arena.specs.Piece.{Piece}
-use Rattle.ic_arena.specs.Tables.{register}
-use Rattle.ic_machine.specs.Plan.{Made, Planned, Plans, constants, number_of, operands_of, pieces_made}
-use Rattle.ic_machine.specs.Steps.{AreFresh}
+use Rattle.ic_machine.specs.Plan.{Made, Planned, Plans, number_of, operands_of}
 
 -- a term with a term put for each name
 abbrev mutual
@@ -160,22 +155,3 @@ pub record StandsForNet (arities given : List ℕ) (c : Configuration) (p : Plan
   pub equations : IsPermutation
       (equations_made (first_made arities (length given) p) p
       (named_terms (length arities) (given ++ names))) c.equations
-
--- the words of so many given names
-abbrev pub given_words : ℕ → List Word
-given_words count = map (λ i. record { tag = GIVEN; index = i }) (range_with_len 0 count)
-
--- What a machine begins with: what a plan makes of given names, at places that are different, and the words of registers
--- as its interface.
-pub record Begins (arities : List ℕ) (given : ℕ) (p : Planned) (operands : List ℕ)
-    (interface : List Word) (ps : List Piece) : Type 0 where
-  pub names : List Word
-  pub made : List Word
-  pub names_count : length names ≡ p.names
-  pub name_tags : AllByRecursion (λ w. w.tag ≡ NAME) names
-  pub made_tags : map (λ w. w.tag) made ≡ map (λ m. m.symbol + 1) p.made
-  pub fresh : AreFresh (names ++ made) []
-  pub interface_is : interface
-      ≡ map (register (constants (length arities) ++ (given_words given ++ (names ++ made)))) operands
-  pub pieces : ps
-      ≡ pieces_made p (constants (length arities) ++ (given_words given ++ (names ++ made))) names made

@@ -13,11 +13,12 @@ ghost use Rattle.ic_arena.specs.declared.word.Word.{Word};
 ghost use Rattle.ic_arena.specs.declared.word.TheConstants.{GIVEN};
 ghost use Rattle.ic_arena.specs.Piece.{Piece};
 ghost use Rattle.ic_machine.specs.Plan.{Planned, Plans, ArePlans, IsPlan};
+ghost use Rattle.ic_machine.specs.Runs.{Begins};
 ghost use Rattle.ic_machine.specs.Separate.{IsSeparate};
 ghost use Rattle.ic_machine.specs.Steps.{Turns, Puts, Meets, Fires, Step, Steps};
 ghost use Rattle.ic_meaning.specs.Words.{Numbers, AreNumbers};
 ghost use Rattle.ic_meaning.specs.Nets.{net_of, ArePieces, AreNetPieces, IsStuckPiece};
-ghost use Rattle.ic_meaning.specs.Plans.{ArePlansOf, Begins, StandsFor, StandsForNet, rule_number};
+ghost use Rattle.ic_meaning.specs.Plans.{ArePlansOf, StandsFor, StandsForNet, rule_number};
 ghost use Rattle.ic_meaning.specs.Example.{addition_arities, addition_plan, addition_rule};
 
 /// The order of pieces is no matter to the net that they are, and steps that fire nothing keep it.

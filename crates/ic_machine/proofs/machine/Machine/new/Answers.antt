@@ -1,24 +1,27 @@
-use Rattle.std.proofs.Common.{◌≡◌, ◌+◌, ◌<◌, ℕ, List, [], ◌++◌, length, map, ap, sym, subst, ◌∙◌, arith}
+use Rattle.std.proofs.Common.{◌≡◌, ◌+◌, ◌<◌, ◌≤◌, ℕ, List, [], ◌++◌, length, map, refl, ap, sym, subst, ◌∙◌, append_assoc, arith, vec_capacity}
 use Rattle.std.specs.List.{AllByRecursion}
-use Rattle.std.proofs.lemmas.List.{append-nil, length-append, length-map}
+use Rattle.std.proofs.lemmas.List.{length-append, length-map}
 use Rattle.ic_arena.specs.declared.word.Word.{Word}
 use Rattle.ic_arena.specs.declared.word.TheConstants.{GIVEN}
 use Rattle.ic_arena.specs.Piece.{Piece}
+use Rattle.ic_arena.specs.Word.{count, name_word}
 use Rattle.ic_arena.specs.Tables.{Blocks, names_pieces, register}
 use Rattle.ic_machine.specs.declared.equation.Equation.{Equation}
 use Rattle.ic_machine.specs.declared.tables.Tables.{Tables}
 use Rattle.ic_machine.specs.Plan.{AreMade, IsPlan, Planned, Plans, constants, pieces_made, planned}
 use Rattle.ic_machine.specs.Net.{equated_of}
+use Rattle.ic_machine.specs.Runs.{given_words}
 use Rattle.ic_machine.specs.Separate.{IsSeparate}
 use Rattle.ic_machine.specs.Steps.{Steps}
 use Rattle.ic_machine.specs.inner.Firing.{arities_of, heaps_pieces}
+use Rattle.ic_machine.specs.inner.Tables.{HasMemory}
 use Rattle.ic_machine.specs.inner.Linking.{IsPair}
 use Rattle.ic_machine.specs.lemmas.FiresKeep.{steps_keep}
 use Rattle.ic_machine.specs.lemmas.FiringKeeps.{all_of}
 use Rattle.ic_machine.proofs.Heaps.{made_known, same_arities, same_pieces}
 use Rattle.ic_machine.proofs.Making.{filled_count}
 use Rattle.ic_machine.proofs.Sound.{first_of, first_registers}
-use Rattle.ic_machine.proofs.Starting.{start_fresh, start_separate, start_steps}
+use Rattle.ic_machine.proofs.Starting.{given_length, given_marks, given_none, start_fresh, start_separate, start_steps}
 use Rattle.ic_machine.proofs.machine.Machine.new.Goals as goal
 
 pub reserve-requires-clause-known : goal.reserve-requires-clause-known
@@ -29,8 +32,8 @@ reserve-requires-clause-known c =
     let t0 : Tables = c.in_ok-tables.tables in
     let h0 : List Blocks = t0.heaps.items in
     let known0 : arities_of h0 ≡ q.arities = c.in_ok-tables.ensures.arities ∙ c.arities.ensures.arities in
-    made_known h0 (length q.arities + 0 + p.names) p.made
-    (subst (λ (a : List ℕ). AreMade a (length q.arities + 0 + p.names) p.made) (sym known0) start.plan.made)
+    made_known h0 (length q.arities + c.args.given + p.names) p.made
+    (subst (λ (a : List ℕ). AreMade a (length q.arities + c.args.given + p.names) p.made) (sym known0) start.plan.made)
 
 pub make-requires-clause-ready : goal.make-requires-clause-ready
 make-requires-clause-ready c =
@@ -40,7 +43,9 @@ make-requires-clause-ready c =
     let t0 : Tables = c.in_ok-tables.tables in
     let h0 : List Blocks = t0.heaps.items in
     let known0 : arities_of h0 ≡ q.arities = c.in_ok-tables.ensures.arities ∙ c.arities.ensures.arities in
-    let t1 : Tables = c.reserve.new.self in
+    let g : ℕ = c.args.given in
+    let gs : List Word = given_words g in
+    let t1 : Tables = record c.reserve.new.self { registers = c.push_given.new.registers } in
     let h1 : List Blocks = t1.heaps.items in
     let known1 : arities_of h1 ≡ q.arities = same_arities h0 h1 c.reserve.ensures.heaps ∙ known0 in
     let many1 : length h1 ≡ length q.arities = sym (length-map h1 (λ x. x.arity)) ∙ ap length known1 in
@@ -51,17 +56,50 @@ make-requires-clause-ready c =
     let n : ℕ = length q.arities in
     let given : t0.registers.items ≡ constants n =
     c.in_ok-tables.ensures.registers ∙ ap (λ (l : List ℕ). constants (length l)) c.arities.ensures.arities in
-    let registers1 : t1.registers.items ≡ constants n =
+    let registers0 : c.reserve.new.self.registers.items ≡ constants n =
     c.reserve.ensures.registers
     ∙ (first_registers n (length h0) t0.registers.items many0 given ∙ ap constants many0) in
+    let registers1 : t1.registers.items ≡ constants n ++ gs =
+    c.push_given.ensures.pushed ∙ ap (λ (l : List Word). l ++ gs) registers0 in
     record {
-      args = [];
-      filled = registers1 ∙ (ap constants (sym many1) ∙ sym (append-nil (constants (length h1))));
-      plan = subst (λ (a : List ℕ). IsPlan a 0 p) (sym known1) start.plan;
-      words = tt;
+      args = gs;
+      filled = registers1 ∙ ap (λ (k : ℕ). constants k ++ gs) (sym many1);
+      plan = subst (λ (a : List ℕ). IsPlan a (length gs) p) (sym known1)
+          (subst (λ (k : ℕ). IsPlan q.arities k p) (sym (given_length g)) start.plan);
+      words = given_marks 0 g;
       symbols = subst (λ (k : ℕ). k < GIVEN) (sym many1) c.requires.symbols;
-      named = λ i. rw names1 (omega arith);
+      named = λ i. let none : count (name_word i) gs ≡ 0 = given_none (name_word i) 0 g (λ e. omega arith) in
+          rw names1 (omega arith);
     }
+
+pub make-requires-clause-memory : goal.make-requires-clause-memory
+make-requires-clause-memory c =
+    let p : Planned = planned c.args.plan.now in
+    let g : ℕ = c.args.given in
+    let t : Tables = c.reserve.new.self in
+    let memory : HasMemory p g t = c.in_ok-reserve.ensures.memory in
+    let enough : length t.registers.items + (g + p.names + length p.made) ≤ vec_capacity t.registers = memory.registers in
+    let len : length c.push_given.new.registers.items ≡ length t.registers.items + length (given_words g) =
+    ap length c.push_given.ensures.pushed ∙ length-append t.registers.items (given_words g) in
+    let many : length (given_words g) ≡ g = given_length g in
+    let same : vec_capacity c.push_given.new.registers ≡ vec_capacity t.registers = c.push_given.ensures.capacity in
+    record {
+      names = memory.names;
+      few = memory.few;
+      pending = memory.pending;
+      registers = omega arith;
+      heaps = memory.heaps;
+    }
+
+pub push_given-requires : goal.push_given-requires
+push_given-requires c =
+    let p : Planned = planned c.args.plan.now in
+    let g : ℕ = c.args.given in
+    let t : Tables = c.reserve.new.self in
+    let memory : HasMemory p g t = c.in_ok-reserve.ensures.memory in
+    let enough : length t.registers.items + (g + p.names + length p.made) ≤ vec_capacity t.registers = memory.registers in
+    let whole = t.registers.ok.0 in
+    omega arith
 
 pub words_at-requires : goal.words_at-requires
 words_at-requires c =
@@ -71,7 +109,9 @@ words_at-requires c =
     let t0 : Tables = c.in_ok-tables.tables in
     let h0 : List Blocks = t0.heaps.items in
     let known0 : arities_of h0 ≡ q.arities = c.in_ok-tables.ensures.arities ∙ c.arities.ensures.arities in
-    let t1 : Tables = c.reserve.new.self in
+    let g : ℕ = c.args.given in
+    let gs : List Word = given_words g in
+    let t1 : Tables = record c.reserve.new.self { registers = c.push_given.new.registers } in
     let h1 : List Blocks = t1.heaps.items in
     let known1 : arities_of h1 ≡ q.arities = same_arities h0 h1 c.reserve.ensures.heaps ∙ known0 in
     let many1 : length h1 ≡ length q.arities = sym (length-map h1 (λ x. x.arity)) ∙ ap length known1 in
@@ -82,23 +122,28 @@ words_at-requires c =
     let n : ℕ = length q.arities in
     let given : t0.registers.items ≡ constants n =
     c.in_ok-tables.ensures.registers ∙ ap (λ (l : List ℕ). constants (length l)) c.arities.ensures.arities in
-    let registers1 : t1.registers.items ≡ constants n =
+    let registers0 : c.reserve.new.self.registers.items ≡ constants n =
     c.reserve.ensures.registers
     ∙ (first_registers n (length h0) t0.registers.items many0 given ∙ ap constants many0) in
+    let registers1 : t1.registers.items ≡ constants n ++ gs =
+    c.push_given.ensures.pushed ∙ ap (λ (l : List Word). l ++ gs) registers0 in
     let t2 : Tables = c.make.new.self in
     let h2 : List Blocks = t2.heaps.items in
     let made = c.make.ensures.made in
-    let regs : List Word = constants n ++ (made.names ++ made.made) in
+    let regs : List Word = constants n ++ (gs ++ (made.names ++ made.made)) in
     let registers2 : t2.registers.items ≡ regs =
-    made.registers ∙ ap (λ (l : List Word). l ++ (made.names ++ made.made)) registers1 in
+    made.registers ∙ (ap (λ (l : List Word). l ++ (made.names ++ made.made)) registers1
+    ∙ append_assoc (constants n) gs (made.names ++ made.made)) in
     let known2 : arities_of h2 ≡ q.arities = c.make.ensures.arities ∙ known1 in
     let many2 : length h2 ≡ n = sym (length-map h2 (λ x. x.arity)) ∙ ap length known2 in
-    let filled : length c.deref.result.now ≡ n + length (made.names ++ made.made) =
-    ap length (c.deref.ensures.value ∙ registers2) ∙ filled_count n (made.names ++ made.made) in
+    let filled : length c.deref.result.now ≡ n + length (gs ++ (made.names ++ made.made)) =
+    ap length (c.deref.ensures.value ∙ registers2) ∙ filled_count n (gs ++ (made.names ++ made.made)) in
+    let all = length-append gs (made.names ++ made.made) in
+    let many_given : length gs ≡ g = given_length g in
     let both = length-append made.names made.made in
     let names_count : length made.names ≡ p.names = made.names_count in
     let made_count : length made.made ≡ length p.made = made.made_count in
-    all_of (λ k. k < n + p.names + length p.made) (λ k. k < length c.deref.result.now) c.args.interface.now
+    all_of (λ k. k < n + g + p.names + length p.made) (λ k. k < length c.deref.result.now) c.args.interface.now
     (λ k lt. omega arith) start.filled
 
 pub invariant_of-result : goal.invariant_of-result
@@ -109,7 +154,9 @@ invariant_of-result c =
     let t0 : Tables = c.in_ok-tables.tables in
     let h0 : List Blocks = t0.heaps.items in
     let known0 : arities_of h0 ≡ q.arities = c.in_ok-tables.ensures.arities ∙ c.arities.ensures.arities in
-    let t1 : Tables = c.reserve.new.self in
+    let g : ℕ = c.args.given in
+    let gs : List Word = given_words g in
+    let t1 : Tables = record c.reserve.new.self { registers = c.push_given.new.registers } in
     let h1 : List Blocks = t1.heaps.items in
     let known1 : arities_of h1 ≡ q.arities = same_arities h0 h1 c.reserve.ensures.heaps ∙ known0 in
     let many1 : length h1 ≡ length q.arities = sym (length-map h1 (λ x. x.arity)) ∙ ap length known1 in
@@ -120,15 +167,18 @@ invariant_of-result c =
     let n : ℕ = length q.arities in
     let given : t0.registers.items ≡ constants n =
     c.in_ok-tables.ensures.registers ∙ ap (λ (l : List ℕ). constants (length l)) c.arities.ensures.arities in
-    let registers1 : t1.registers.items ≡ constants n =
+    let registers0 : c.reserve.new.self.registers.items ≡ constants n =
     c.reserve.ensures.registers
     ∙ (first_registers n (length h0) t0.registers.items many0 given ∙ ap constants many0) in
+    let registers1 : t1.registers.items ≡ constants n ++ gs =
+    c.push_given.ensures.pushed ∙ ap (λ (l : List Word). l ++ gs) registers0 in
     let t2 : Tables = c.make.new.self in
     let h2 : List Blocks = t2.heaps.items in
     let made = c.make.ensures.made in
-    let regs : List Word = constants n ++ (made.names ++ made.made) in
+    let regs : List Word = constants n ++ (gs ++ (made.names ++ made.made)) in
     let registers2 : t2.registers.items ≡ regs =
-    made.registers ∙ ap (λ (l : List Word). l ++ (made.names ++ made.made)) registers1 in
+    made.registers ∙ (ap (λ (l : List Word). l ++ (made.names ++ made.made)) registers1
+    ∙ append_assoc (constants n) gs (made.names ++ made.made)) in
     let known2 : arities_of h2 ≡ q.arities = c.make.ensures.arities ∙ known1 in
     let many2 : length h2 ≡ n = sym (length-map h2 (λ x. x.arity)) ∙ ap length known2 in
     let words : List Word = c.in_ok-interface.interface.items in
@@ -141,12 +191,12 @@ invariant_of-result c =
     let steps : Steps q [] (pieces_made p regs made.names made.made) end =
     subst (λ (l : List Equation). Steps q [] (pieces_made p regs made.names made.made) (map equated_of t2.pending.items
     ++ (map equated_of l ++ (names_pieces 0 t2.names.entries ++ heaps_pieces 0 h2)))) (sym c.new-2.ensures.items)
-    (start_steps q p t1 t2 made names1 pieces1 pending1 registers1) in
+    (start_steps q p g t1 t2 made names1 pieces1 pending1 registers1) in
     let separate : IsSeparate q.arities words end =
     subst (λ (l : List Word). IsSeparate q.arities l end) (sym interface)
     (steps_keep q [] (map (register regs) c.args.interface.now) (pieces_made p regs made.names made.made) end
     c.arities.ensures.sound steps
-    (start_separate q.arities p c.args.interface.now made.names made.made start made.names_count made.made_count)) in
+    (start_separate q.arities g p c.args.interface.now made.names made.made c.requires.symbols start made.names_count made.made_count)) in
     record {
       separate = subst (λ (a : List ℕ). IsSeparate a words end) (sym known2) separate;
       pairs = subst (λ (l : List Equation). AllByRecursion IsPair l) (sym c.make.ensures.pushed.after)
@@ -154,7 +204,7 @@ invariant_of-result c =
           c.make.ensures.pushed.pairs);
       names = c.make.ensures.few;
       symbols = subst (λ (k : ℕ). k < GIVEN) (sym many2) c.requires.symbols;
-      registers = first_of n (length h2) t2.registers.items (made.names ++ made.made) many2 registers2;
+      registers = first_of n (length h2) t2.registers.items (gs ++ (made.names ++ made.made)) many2 registers2;
     }
 
 pub returns-clause-arities : goal.returns-clause-arities
@@ -165,7 +215,9 @@ returns-clause-arities c =
     let t0 : Tables = c.in_ok-tables.tables in
     let h0 : List Blocks = t0.heaps.items in
     let known0 : arities_of h0 ≡ q.arities = c.in_ok-tables.ensures.arities ∙ c.arities.ensures.arities in
-    let t1 : Tables = c.reserve.new.self in
+    let g : ℕ = c.args.given in
+    let gs : List Word = given_words g in
+    let t1 : Tables = record c.reserve.new.self { registers = c.push_given.new.registers } in
     let h1 : List Blocks = t1.heaps.items in
     let known1 : arities_of h1 ≡ q.arities = same_arities h0 h1 c.reserve.ensures.heaps ∙ known0 in
     let many1 : length h1 ≡ length q.arities = sym (length-map h1 (λ x. x.arity)) ∙ ap length known1 in
@@ -176,15 +228,18 @@ returns-clause-arities c =
     let n : ℕ = length q.arities in
     let given : t0.registers.items ≡ constants n =
     c.in_ok-tables.ensures.registers ∙ ap (λ (l : List ℕ). constants (length l)) c.arities.ensures.arities in
-    let registers1 : t1.registers.items ≡ constants n =
+    let registers0 : c.reserve.new.self.registers.items ≡ constants n =
     c.reserve.ensures.registers
     ∙ (first_registers n (length h0) t0.registers.items many0 given ∙ ap constants many0) in
+    let registers1 : t1.registers.items ≡ constants n ++ gs =
+    c.push_given.ensures.pushed ∙ ap (λ (l : List Word). l ++ gs) registers0 in
     let t2 : Tables = c.make.new.self in
     let h2 : List Blocks = t2.heaps.items in
     let made = c.make.ensures.made in
-    let regs : List Word = constants n ++ (made.names ++ made.made) in
+    let regs : List Word = constants n ++ (gs ++ (made.names ++ made.made)) in
     let registers2 : t2.registers.items ≡ regs =
-    made.registers ∙ ap (λ (l : List Word). l ++ (made.names ++ made.made)) registers1 in
+    made.registers ∙ (ap (λ (l : List Word). l ++ (made.names ++ made.made)) registers1
+    ∙ append_assoc (constants n) gs (made.names ++ made.made)) in
     let known2 : arities_of h2 ≡ q.arities = c.make.ensures.arities ∙ known1 in
     let many2 : length h2 ≡ n = sym (length-map h2 (λ x. x.arity)) ∙ ap length known2 in
     known2
@@ -197,7 +252,9 @@ returns-clause-starts c =
     let t0 : Tables = c.in_ok-tables.tables in
     let h0 : List Blocks = t0.heaps.items in
     let known0 : arities_of h0 ≡ q.arities = c.in_ok-tables.ensures.arities ∙ c.arities.ensures.arities in
-    let t1 : Tables = c.reserve.new.self in
+    let g : ℕ = c.args.given in
+    let gs : List Word = given_words g in
+    let t1 : Tables = record c.reserve.new.self { registers = c.push_given.new.registers } in
     let h1 : List Blocks = t1.heaps.items in
     let known1 : arities_of h1 ≡ q.arities = same_arities h0 h1 c.reserve.ensures.heaps ∙ known0 in
     let many1 : length h1 ≡ length q.arities = sym (length-map h1 (λ x. x.arity)) ∙ ap length known1 in
@@ -208,15 +265,18 @@ returns-clause-starts c =
     let n : ℕ = length q.arities in
     let given : t0.registers.items ≡ constants n =
     c.in_ok-tables.ensures.registers ∙ ap (λ (l : List ℕ). constants (length l)) c.arities.ensures.arities in
-    let registers1 : t1.registers.items ≡ constants n =
+    let registers0 : c.reserve.new.self.registers.items ≡ constants n =
     c.reserve.ensures.registers
     ∙ (first_registers n (length h0) t0.registers.items many0 given ∙ ap constants many0) in
+    let registers1 : t1.registers.items ≡ constants n ++ gs =
+    c.push_given.ensures.pushed ∙ ap (λ (l : List Word). l ++ gs) registers0 in
     let t2 : Tables = c.make.new.self in
     let h2 : List Blocks = t2.heaps.items in
     let made = c.make.ensures.made in
-    let regs : List Word = constants n ++ (made.names ++ made.made) in
+    let regs : List Word = constants n ++ (gs ++ (made.names ++ made.made)) in
     let registers2 : t2.registers.items ≡ regs =
-    made.registers ∙ ap (λ (l : List Word). l ++ (made.names ++ made.made)) registers1 in
+    made.registers ∙ (ap (λ (l : List Word). l ++ (made.names ++ made.made)) registers1
+    ∙ append_assoc (constants n) gs (made.names ++ made.made)) in
     let known2 : arities_of h2 ≡ q.arities = c.make.ensures.arities ∙ known1 in
     let many2 : length h2 ≡ n = sym (length-map h2 (λ x. x.arity)) ∙ ap length known2 in
     let words : List Word = c.in_ok-interface.interface.items in
@@ -229,22 +289,25 @@ returns-clause-starts c =
     let steps : Steps q [] (pieces_made p regs made.names made.made) end =
     subst (λ (l : List Equation). Steps q [] (pieces_made p regs made.names made.made) (map equated_of t2.pending.items
     ++ (map equated_of l ++ (names_pieces 0 t2.names.entries ++ heaps_pieces 0 h2)))) (sym c.new-2.ensures.items)
-    (start_steps q p t1 t2 made names1 pieces1 pending1 registers1) in
+    (start_steps q p g t1 t2 made names1 pieces1 pending1 registers1) in
     let separate : IsSeparate q.arities words end =
     subst (λ (l : List Word). IsSeparate q.arities l end) (sym interface)
     (steps_keep q [] (map (register regs) c.args.interface.now) (pieces_made p regs made.names made.made) end
     c.arities.ensures.sound steps
-    (start_separate q.arities p c.args.interface.now made.names made.made start made.names_count made.made_count)) in
+    (start_separate q.arities g p c.args.interface.now made.names made.made c.requires.symbols start made.names_count made.made_count)) in
     record {
-      names = made.names;
-      made = made.made;
-      names_count = made.names_count;
-      made_count = made.made_count;
-      name_tags = made.name_tags;
-      made_tags = made.made_tags;
-      fresh = start_fresh p t1 t2 made names1 pieces1 pending1;
+      first = pieces_made p regs made.names made.made;
+      begins = record {
+        names = made.names;
+        made = made.made;
+        names_count = made.names_count;
+        name_tags = made.name_tags;
+        made_tags = made.made_tags;
+        fresh = start_fresh p t1 t2 made names1 pieces1 pending1;
+        interface_is = interface;
+        pieces = refl;
+      };
       steps = steps;
-      interface_is = interface;
     }
 
 pub returns-clause-separate : goal.returns-clause-separate
@@ -255,7 +318,9 @@ returns-clause-separate c =
     let t0 : Tables = c.in_ok-tables.tables in
     let h0 : List Blocks = t0.heaps.items in
     let known0 : arities_of h0 ≡ q.arities = c.in_ok-tables.ensures.arities ∙ c.arities.ensures.arities in
-    let t1 : Tables = c.reserve.new.self in
+    let g : ℕ = c.args.given in
+    let gs : List Word = given_words g in
+    let t1 : Tables = record c.reserve.new.self { registers = c.push_given.new.registers } in
     let h1 : List Blocks = t1.heaps.items in
     let known1 : arities_of h1 ≡ q.arities = same_arities h0 h1 c.reserve.ensures.heaps ∙ known0 in
     let many1 : length h1 ≡ length q.arities = sym (length-map h1 (λ x. x.arity)) ∙ ap length known1 in
@@ -266,15 +331,18 @@ returns-clause-separate c =
     let n : ℕ = length q.arities in
     let given : t0.registers.items ≡ constants n =
     c.in_ok-tables.ensures.registers ∙ ap (λ (l : List ℕ). constants (length l)) c.arities.ensures.arities in
-    let registers1 : t1.registers.items ≡ constants n =
+    let registers0 : c.reserve.new.self.registers.items ≡ constants n =
     c.reserve.ensures.registers
     ∙ (first_registers n (length h0) t0.registers.items many0 given ∙ ap constants many0) in
+    let registers1 : t1.registers.items ≡ constants n ++ gs =
+    c.push_given.ensures.pushed ∙ ap (λ (l : List Word). l ++ gs) registers0 in
     let t2 : Tables = c.make.new.self in
     let h2 : List Blocks = t2.heaps.items in
     let made = c.make.ensures.made in
-    let regs : List Word = constants n ++ (made.names ++ made.made) in
+    let regs : List Word = constants n ++ (gs ++ (made.names ++ made.made)) in
     let registers2 : t2.registers.items ≡ regs =
-    made.registers ∙ ap (λ (l : List Word). l ++ (made.names ++ made.made)) registers1 in
+    made.registers ∙ (ap (λ (l : List Word). l ++ (made.names ++ made.made)) registers1
+    ∙ append_assoc (constants n) gs (made.names ++ made.made)) in
     let known2 : arities_of h2 ≡ q.arities = c.make.ensures.arities ∙ known1 in
     let many2 : length h2 ≡ n = sym (length-map h2 (λ x. x.arity)) ∙ ap length known2 in
     let words : List Word = c.in_ok-interface.interface.items in
@@ -287,10 +355,10 @@ returns-clause-separate c =
     let steps : Steps q [] (pieces_made p regs made.names made.made) end =
     subst (λ (l : List Equation). Steps q [] (pieces_made p regs made.names made.made) (map equated_of t2.pending.items
     ++ (map equated_of l ++ (names_pieces 0 t2.names.entries ++ heaps_pieces 0 h2)))) (sym c.new-2.ensures.items)
-    (start_steps q p t1 t2 made names1 pieces1 pending1 registers1) in
+    (start_steps q p g t1 t2 made names1 pieces1 pending1 registers1) in
     let separate : IsSeparate q.arities words end =
     subst (λ (l : List Word). IsSeparate q.arities l end) (sym interface)
     (steps_keep q [] (map (register regs) c.args.interface.now) (pieces_made p regs made.names made.made) end
     c.arities.ensures.sound steps
-    (start_separate q.arities p c.args.interface.now made.names made.made start made.names_count made.made_count)) in
+    (start_separate q.arities g p c.args.interface.now made.names made.made c.requires.symbols start made.names_count made.made_count)) in
     separate
