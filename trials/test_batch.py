@@ -123,7 +123,9 @@ class Batch(Trial):
         others = [submitted(f"j{it}", STILL) for it in range(31)]
         self.serves(self.path, others, ["accepted"] * 31)
         lines = [submitted("two", TWO), submitted("loop", LOOP)]
+        before = self.path.read_bytes()
         ran = self.refuses(*self.words(lines), line="full", status=1)
+        self.holds(self.path, before)
         words = f"{self.path}: it has jobs of other names, and no disk has more than 32\n"
         self.equals(ran.command, "what is told behind", words.encode(), ran.behind)
         self.serves(self.path, "cancel j7", ["ok"])
