@@ -63,10 +63,11 @@ class Lives(Shards):
     def test_a_shard_that_is_killed_at_30_drawn_moments_goes_on(self):
         """Each is killed whole, and each third the shell alone, whose program then runs on."""
         draw = self.draws()
-        kills = 0
+        kills = number = 0
         while kills < 30:
+            number += 1
             lines = drawn_jobs(draw, 20, 400)
-            folder = self.cut(lines, folder=f"jobs-{kills}")
+            folder = self.cut(lines, folder=f"jobs-{number}")
             status, longest = None, 0.1
             while status != 0:
                 with self.engine(SCRIPTS / "shard", folder / "00001", "--every", draw.choice([1, 10])) as shard:
