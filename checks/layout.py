@@ -131,7 +131,7 @@ def what_is_believed_is_counted():
     for path, number, line in lines_of(str(page)):
         cells = [it.strip() for it in line.split("|")]
         if len(cells) == 5 and re.fullmatch(r"`\w+`", cells[1]):
-            files = re.findall(r"`(\w+)` (\d+):", cells[3])
+            files = re.findall(r"`(\w+)` (\d+)", cells[3])
             told |= {(cells[1].strip("`"), *it): number for it in files or [("", cells[2])]}
             if files and sum(int(it[1]) for it in files) != int(cells[2]):
                 yield path, number, "its lines have another sum"
