@@ -4,7 +4,7 @@ ghost use Rattle.std.specs.Prelude.{◌≡◌, ◌+◌, ◌*◌, ◌<◌, ◌≤
 ghost use Rattle.std.specs.List.{list_all};
 ghost use Rattle.ic_term.specs.Symbol.{is_over};
 ghost use Rattle.ic_flat.specs.Words.{arguments, forest, IsWhole, is_word_over};
-ghost use Rattle.ic_flat.specs.Flat.{pairs_of};
+ghost use Rattle.ic_flat.specs.Flat.{configuration_of, pairs_of};
 ghost use Rattle.ic_text.specs.Text.{printed};
 ghost use Rattle.ic_text.specs.inner.Printing.{term_text, terms_text, equation_text, equations_text};
 ghost use Rattle.ic_text.specs.inner.WordTexts.{word_text, closing, lacking, behind_word, Begins, comma_before, first_text};
@@ -185,6 +185,31 @@ fn put_equations(
     Ok(())
 }
 
+/// Appends the text of the configuration that words write, so many of their terms in its interface, the others as the sides
+/// of so many equations. Where a growth is refused a part of it may stand there.
+pub fn put_words(
+    alloc: Global,
+    symbols: &Symbols,
+    words: &[Word],
+    terms: usize,
+    equations: usize,
+    out: &mut Vec<u8>,
+) -> Result<(), AllocError>
+    requires whole { IsWhole words.now }
+    requires over { IsTrue (list_all (is_word_over symbols.now) words.now) }
+    requires counted { length (forest words.now) ≡ terms + 2 * equations }
+    ensures { OnOk result (out.new.items
+        ≡ out.old.items ++ printed symbols.now (configuration_of words.now terms 0)) }
+{
+    let mut due = Vec::new(alloc);
+    out.push(b'<')?;
+    let place = put_interface(symbols, words, terms, &mut due, out)?;
+    out.push(b'|')?;
+    put_equations(symbols, words, place, equations, &mut due, out)?;
+    out.push(b'>')?;
+    Ok(())
+}
+
 /// Appends the text of a configuration, as `print_flat` writes it. Where a growth is refused a part of it may stand there.
 pub fn put_flat(
     alloc: Global,
@@ -195,15 +220,8 @@ pub fn put_flat(
     requires { IsTrue (is_over symbols.now flat.now) }
     ensures { OnOk result (out.new.items ≡ out.old.items ++ printed symbols.now flat.now) }
 {
-    let words = flat.words();
-    let mut due = Vec::new(alloc);
-    out.push(b'<')?;
-    let place = put_interface(symbols, words, flat.interface_len(), &mut due, out)?;
-    out.push(b'|')?;
-    let equations = flat.equations_len();
-    put_equations(symbols, words, place, equations, &mut due, out)?;
-    out.push(b'>')?;
-    Ok(())
+    let (terms, equations) = (flat.interface_len(), flat.equations_len());
+    put_words(alloc, symbols, flat.words(), terms, equations, out)
 }
 
 /// The text of a configuration without blanks, each name in its one spelling: what `print_config` writes of the same

@@ -5,9 +5,9 @@
 //! `read_flat_system` answers the same system in flat form. `find_config`, `find_system`,
 //! `find_flat_config` and `find_flat_system` also tell the place of a refusal.
 //! `print_config` and `put_config` write the tokens of a configuration without blanks, `print_flat` and `put_flat` the same
-//! of one in flat form, and `print_fault` the line of a refusal. For texts that hold others, `is_blank`, `is_word_byte`,
-//! `is_numeral` and `number_in` say what parts words and what digits write. `laws` holds what is proved of the definitions
-//! alone.
+//! of one in flat form, `put_words` of one that words write, which may pass the limits, and `print_fault` the line of a
+//! refusal. For texts that hold others, `is_blank`, `is_word_byte`, `is_numeral` and `number_in` say what parts words and
+//! what digits write. `laws` holds what is proved of the definitions alone.
 #![tactic(auto)]
 
 mod blame;
@@ -32,7 +32,7 @@ mod tail;
 mod token;
 
 pub use fault::TextFault;
-pub use flat_print::{print_flat, put_flat};
+pub use flat_print::{print_flat, put_flat, put_words};
 pub use limits::{MAX_NAME, MAX_TEXT};
 pub use misread::{Detail, Limit, Misread};
 pub use name::{is_numeral, number_in};
