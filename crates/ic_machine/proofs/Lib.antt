@@ -8,5 +8,7 @@ pub mod Firings
 pub mod Running
 pub mod Starting
 pub mod Sound
-pub mod Places
+pub mod AtPlaces
 pub mod Reading
+pub mod Standing
+pub mod Taking

@@ -3,5 +3,6 @@ pub mod Separate
 pub mod Steps
 pub mod Net
 pub mod Runs
+pub mod Held
 pub mod lemmas
 pub mod inner

@@ -4,3 +4,4 @@ pub mod Firing
 pub mod Pairs
 pub mod Tables
 pub mod Machine
+pub mod Places

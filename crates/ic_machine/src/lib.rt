@@ -9,9 +9,11 @@ mod firing;
 pub mod laws;
 mod linking;
 mod machine;
+mod places;
 mod plan;
 mod tables;
 
 pub use equation::Equation;
 pub use machine::{Ended, Machine, MachineFault};
+pub use places::{Parts, Places};
 pub use plan::{Link, Make, Plan, Program};

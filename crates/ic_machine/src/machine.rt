@@ -16,6 +16,7 @@ ghost use Rattle.ic_machine.specs.inner.Pairs.{HasPlan, IsLast, Passed};
 
 use crate::equation::Equation;
 use crate::firing::push_given;
+use crate::places::{Parts, Places};
 use crate::plan::{Plan, Program};
 use crate::tables::Tables;
 use ic_arena::{IDLE, Word};
@@ -209,6 +210,23 @@ impl Machine {
         ensures { Contains self.now.places (agent_of agent result.now) }
     {
         self.tables.heaps[agent.tag as usize - 1].get(agent.index)
+    }
+
+    /// Takes the machine apart.
+    pub fn into_parts(self) -> Parts
+        ensures interface { result.interface.items ≡ self.interface }
+        ensures pending { result.pending.items ≡ self.pending }
+        ensures aside { result.aside.items ≡ self.aside }
+        ensures arities { result.places.arities ≡ self.arities }
+        ensures pieces { result.places.pieces ≡ self.places }
+    {
+        let tables = self.tables;
+        Parts {
+            interface: self.interface,
+            pending: tables.pending,
+            aside: self.aside,
+            places: Places::from_tables(tables.names, tables.heaps),
+        }
     }
 }
 

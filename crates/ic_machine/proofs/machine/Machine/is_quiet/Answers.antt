@@ -3,7 +3,7 @@ use Rattle.ic_machine.specs.declared.machine.Machine.TheInside.{Inside}
 use Rattle.ic_machine.specs.Net.{Net}
 use Rattle.ic_machine.specs.Runs.{Ran}
 use Rattle.ic_machine.specs.inner.Machine.{net_of}
-use Rattle.ic_machine.proofs.Places.{tables_at_places}
+use Rattle.ic_machine.proofs.AtPlaces.{tables_at_places}
 use Rattle.ic_machine.proofs.Running.{passed_ran}
 use Rattle.ic_machine.proofs.Sound.{passed_sound}
 use Rattle.ic_machine.proofs.machine.Machine.is_quiet.Goals as goal

@@ -15,7 +15,7 @@ use Rattle.ic_machine.specs.inner.Machine.{net_of}
 use Rattle.ic_machine.specs.inner.Pairs.{CanFire, HasPlan}
 use Rattle.ic_machine.specs.inner.Tables.{IsNumbered}
 use Rattle.ic_machine.proofs.Heaps.{as_many}
-use Rattle.ic_machine.proofs.Places.{tables_at_places}
+use Rattle.ic_machine.proofs.AtPlaces.{tables_at_places}
 use Rattle.ic_machine.proofs.Running.{can_fire, held_separate, held_steps_separate, numbered, passed_pairs, passed_ran, passed_separate, passed_then}
 use Rattle.ic_machine.proofs.Sound.{passed_sound}
 use Rattle.ic_machine.proofs.machine.Machine.step.Goals as goal
