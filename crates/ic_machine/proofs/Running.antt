@@ -1,5 +1,5 @@
 -- What a run leads to, from its parts.
-use Rattle.std.proofs.Common.{◌≡◌, ℕ, zero, suc, ◌+◌, ◌-◌, ◌<◌, List, [], ◌∷◌, ◌++◌, length, map, take, Option, None, Some, slice_get, IfSome, refl, ap, sym, subst, ◌∙◌, append_assoc, add_assoc, add-zero, arith, sum_by}
+use Rattle.std.proofs.Common.{◌≡◌, ℕ, zero, suc, ◌+◌, ◌-◌, ◌<◌, List, [], ◌∷◌, ◌++◌, length, map, take, Option, None, Some, MatchOption, is_none, false, slice_get, IfSome, refl, ap, sym, subst, ◌∙◌, append_assoc, add_assoc, add-zero, arith, sum_by}
 use Rattle.std.specs.List.{AllByRecursion}
 use Rattle.std.specs.List.Sorted.{IsPermutation}
 use Rattle.std.proofs.Math.Seq.{take-append_seam}
@@ -11,7 +11,7 @@ use Rattle.ic_arena.specs.Word.{count}
 use Rattle.ic_arena.specs.Piece.{Piece, room, uses}
 use Rattle.ic_machine.specs.declared.equation.Equation.{Equation}
 use Rattle.ic_machine.specs.Plan.{Planned, Plans, ArePlans, IsPlan, plan_at, number_of}
-use Rattle.ic_machine.specs.Net.{Net, equated_of, pieces, IsStuck}
+use Rattle.ic_machine.specs.Net.{Net, equated_of, pieces, HasNext, IsStuck}
 use Rattle.ic_machine.specs.Runs.{Ran}
 use Rattle.ic_machine.specs.Separate.{IsSeparate}
 use Rattle.ic_machine.specs.Steps.{Steps, no_step}
@@ -289,3 +289,24 @@ held_steps_separate q is arities i ps us qs n h n' h' sound same steps s =
     (steps_keep q is i before after sound
     (net_steps q is (map equated_of ps) (map equated_of qs) (map equated_of us) n n' h h' steps)
     (subst (λ (a : List ℕ). IsSeparate a i before) same s))
+
+-- a pair that was found, and is the last, is the next
+pub found_next : {X : Type 0} (pair : X → Equation) (plan : X → Planned) (p : Plans) (es : List Equation) (o : Option X)
+    → MatchOption o (es ≡ []) (λ f. IsLast (pair f) es × HasPlan p (pair f) (plan f)) → is_none o ≡ false
+    → HasNext p es
+found_next pair plan p es None h e = absurd (cc e)
+found_next pair plan p es (Some f) h e = record {
+  front = h.0.front;
+  pair = pair f;
+  last = h.0.is;
+  active = record {
+    left = h.1.left;
+    right = h.1.right;
+    left_tag = h.1.left_tag;
+    right_tag = h.1.right_tag;
+    left_known = h.1.left_known;
+    right_known = h.1.right_known;
+    plan = plan f;
+    is = h.1.is;
+  };
+}

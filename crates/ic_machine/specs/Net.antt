@@ -1,10 +1,10 @@
 -- The net that a machine holds.
-use Rattle.std.specs.Prelude.{◌≡◌, ℕ, ◌+◌, ◌<◌, ◌++◌, List, length, map, None}
+use Rattle.std.specs.Prelude.{◌≡◌, ℕ, ◌+◌, ◌<◌, [], ◌∷◌, ◌++◌, List, length, map, None, Some}
 use Rattle.ic_arena.specs.declared.word.Word.{Word}
 use Rattle.ic_arena.specs.declared.word.TheConstants.{NAME}
 use Rattle.ic_arena.specs.Piece.{Piece, equated, idle, waits, agent_of}
 use Rattle.ic_machine.specs.declared.equation.Equation.{Equation}
-use Rattle.ic_machine.specs.Plan.{Plans, plan_of}
+use Rattle.ic_machine.specs.Plan.{Planned, Plans, plan_of}
 
 -- What a machine holds: the arities of the symbols; the words of the interface; the equations that are still to be looked
 -- at, and those set aside; what each place holds; and how many pairs it has fired.
@@ -29,6 +29,24 @@ pub record IsStuck (p : Plans) (e : Equation) : Type 0 where
   pub right : ¬ (e.right.tag ≡ NAME)
   pub no_plan : (a b : ℕ) → e.left.tag ≡ a + 1 → e.right.tag ≡ b + 1 → a < length p.arities
       → b < length p.arities → plan_of p a b ≡ None
+
+-- Both sides of an equation are agents, and their symbols have a plan.
+pub record IsActive (p : Plans) (e : Equation) : Type 0 where
+  pub left : ℕ
+  pub right : ℕ
+  pub left_tag : e.left.tag ≡ left + 1
+  pub right_tag : e.right.tag ≡ right + 1
+  pub left_known : left < length p.arities
+  pub right_known : right < length p.arities
+  pub plan : Planned
+  pub is : plan_of p left right ≡ Some plan
+
+-- the last of some equations can fire
+pub record HasNext (p : Plans) (es : List Equation) : Type 0 where
+  pub front : List Equation
+  pub pair : Equation
+  pub last : es ≡ front ++ pair ∷ []
+  pub active : IsActive p pair
 
 -- what is at a place, and no equation
 abbrev pub IsAtPlace : Piece → Type 0

@@ -6,3 +6,4 @@ pub mod Counting
 pub mod FiringKeeps
 pub mod FiresKeep
 pub mod Balance
+pub mod Active

@@ -10,13 +10,13 @@ ghost use Rattle.ic_arena.specs.Tables.{register};
 ghost use Rattle.ic_machine.specs.Plan.{planned};
 ghost use Rattle.ic_machine.specs.Separate.{IsSeparate};
 ghost use Rattle.ic_machine.specs.Runs.{IsStart, Starts, Ran};
-ghost use Rattle.ic_machine.specs.Net.{pieces, IsAtPlace};
+ghost use Rattle.ic_machine.specs.Net.{pieces, HasNext, IsAtPlace};
 ghost use Rattle.ic_machine.specs.inner.Linking.{IsPair};
 ghost use Rattle.ic_machine.specs.inner.Pairs.{HasPlan, IsLast, Passed};
 
 use crate::equation::Equation;
 use crate::firing::push_given;
-use crate::places::{Parts, Places};
+use crate::places::{Parts, Places, count_places};
 use crate::plan::{Plan, Program};
 use crate::tables::Tables;
 use ic_arena::{IDLE, Word};
@@ -109,7 +109,7 @@ impl Machine {
         ensures quiet { result ≡ Ok Ended.Quiet → self.new.pending ≡ [] }
         ensures all { result ≡ Ok Ended.Steps
             → self.new.interactions ≡ self.old.interactions + steps }
-        ensures more { result ≡ Ok Ended.Steps → 1 ≤ length self.new.pending }
+        ensures more { result ≡ Ok Ended.Steps → HasNext program.now self.new.pending }
         ensures separate { IsSeparate self.new.arities self.new.interface (pieces self.new) }
         ensures places { AllByRecursion IsAtPlace self.new.places }
     {
@@ -153,7 +153,7 @@ impl Machine {
         ensures ran { Ran program.now self.old self.new }
         ensures interactions { self.new.interactions ≡ self.old.interactions }
         ensures quiet { result ≡ Ok true → self.new.pending ≡ [] }
-        ensures more { result ≡ Ok false → 1 ≤ length self.new.pending }
+        ensures more { result ≡ Ok false → HasNext program.now self.new.pending }
         ensures separate { IsSeparate self.new.arities self.new.interface (pieces self.new) }
         ensures places { AllByRecursion IsAtPlace self.new.places }
     {
@@ -210,6 +210,13 @@ impl Machine {
         ensures { Contains self.now.places (agent_of agent result.now) }
     {
         self.tables.heaps[agent.tag as usize - 1].get(agent.index)
+    }
+
+    /// How many places there are, the free ones too: names, and blocks of agents. A pass over the symbols.
+    pub fn places(&self) -> u64
+        ensures { length self.now.places ≤ result }
+    {
+        count_places(&self.tables.names, &self.tables.heaps)
     }
 
     /// Takes the machine apart.

@@ -1,12 +1,17 @@
-use Rattle.std.proofs.Common.{refl, subst}
+use Rattle.std.proofs.Common.{◌≡◌, Bool, true, false, not, Result, Ok, ap, refl, subst, ◌∙◌}
 use Rattle.ic_machine.specs.declared.machine.Machine.TheInside.{Inside}
+use Rattle.ic_machine.specs.Plan.{planned}
 use Rattle.ic_machine.specs.Net.{Net}
 use Rattle.ic_machine.specs.Runs.{Ran}
 use Rattle.ic_machine.specs.inner.Machine.{net_of}
 use Rattle.ic_machine.proofs.AtPlaces.{tables_at_places}
-use Rattle.ic_machine.proofs.Running.{passed_ran}
+use Rattle.ic_machine.proofs.Running.{found_next, passed_ran}
 use Rattle.ic_machine.proofs.Sound.{passed_sound}
 use Rattle.ic_machine.proofs.machine.Machine.is_quiet.Goals as goal
+
+answered : {E : Type 0} (b : Bool) → ◌≡◌ {A = Result Bool E} (Ok b) (Ok false) → b ≡ false
+answered true e = absurd (cc e)
+answered false e = refl
 
 pub invariant_of-self : goal.invariant_of-self
 invariant_of-self c =
@@ -45,3 +50,9 @@ returns-in_err-found-clause-places c = tables_at_places c.self.inside.tables.nam
 
 pub returns-clause-places : goal.returns-clause-places
 returns-clause-places c = tables_at_places c.self.inside.tables.names.entries c.self.inside.tables.heaps.items
+
+pub returns-clause-more : goal.returns-clause-more
+returns-clause-more c = λ e.
+    found_next (λ f. f.0) (λ f. planned f.1.now) c.args.program.now c.find_plan.new.pending.items c.in_ok-found.found
+    c.in_ok-found.ensures.found
+    (ap not c.is_none.ensures ∙ ap (λ (b : Bool). not (not b)) (answered c.is_none.result e))
