@@ -12,3 +12,4 @@ pub mod AtPlaces
 pub mod Reading
 pub mod Standing
 pub mod Taking
+pub mod Limits

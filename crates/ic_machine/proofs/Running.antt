@@ -290,23 +290,27 @@ held_steps_separate q is arities i ps us qs n h n' h' sound same steps s =
     (net_steps q is (map equated_of ps) (map equated_of qs) (map equated_of us) n n' h h' steps)
     (subst (λ (a : List ℕ). IsSeparate a i before) same s))
 
--- a pair that was found, and is the last, is the next
+-- a pair that has a plan, and is the last, is the next
+abbrev pub next_pair : (p : Plans) (es : List Equation) (e : Equation) (plan : Planned) → IsLast e es → HasPlan p e plan
+    → HasNext p es
+next_pair p es e plan last has = record {
+  front = last.front;
+  pair = e;
+  last = last.is;
+  active = record {
+    left = has.left;
+    right = has.right;
+    left_tag = has.left_tag;
+    right_tag = has.right_tag;
+    left_known = has.left_known;
+    right_known = has.right_known;
+    plan = plan;
+    is = has.is;
+  };
+}
+
 pub found_next : {X : Type 0} (pair : X → Equation) (plan : X → Planned) (p : Plans) (es : List Equation) (o : Option X)
     → MatchOption o (es ≡ []) (λ f. IsLast (pair f) es × HasPlan p (pair f) (plan f)) → is_none o ≡ false
     → HasNext p es
 found_next pair plan p es None h e = absurd (cc e)
-found_next pair plan p es (Some f) h e = record {
-  front = h.0.front;
-  pair = pair f;
-  last = h.0.is;
-  active = record {
-    left = h.1.left;
-    right = h.1.right;
-    left_tag = h.1.left_tag;
-    right_tag = h.1.right_tag;
-    left_known = h.1.left_known;
-    right_known = h.1.right_known;
-    plan = plan f;
-    is = h.1.is;
-  };
-}
+found_next pair plan p es (Some f) h e = next_pair p es (pair f) (plan f) h.0 h.1

@@ -1,13 +1,14 @@
 -- The net that a machine holds.
-use Rattle.std.specs.Prelude.{◌≡◌, ℕ, ◌+◌, ◌<◌, [], ◌∷◌, ◌++◌, List, length, map, None, Some}
+use Rattle.std.specs.Prelude.{◌≡◌, ℕ, ◌+◌, ◌^◌, ◌<◌, ◌≤◌, ◌⊎◌, [], ◌∷◌, ◌++◌, List, length, map, None, Some, Contains, slice_index_or}
 use Rattle.ic_arena.specs.declared.word.Word.{Word}
 use Rattle.ic_arena.specs.declared.word.TheConstants.{NAME}
 use Rattle.ic_arena.specs.Piece.{Piece, equated, idle, waits, agent_of}
 use Rattle.ic_machine.specs.declared.equation.Equation.{Equation}
-use Rattle.ic_machine.specs.Plan.{Planned, Plans, plan_of}
+use Rattle.ic_machine.specs.Plan.{Made, Planned, Plans, plan_of}
 
 -- What a machine holds: the arities of the symbols; the words of the interface; the equations that are still to be looked
--- at, and those set aside; what each place holds; and how many pairs it has fired.
+-- at, and those set aside; what each place holds; how many pairs it has fired; and how many names there are, and places for
+-- agents of each symbol, the free ones too.
 pub record Net : Type 0 where
   pub arities : List ℕ
   pub interface : List Word
@@ -15,6 +16,8 @@ pub record Net : Type 0 where
   pub aside : List Equation
   pub places : List Piece
   pub interactions : ℕ
+  pub names : ℕ
+  pub agents : List ℕ
 
 abbrev pub equated_of : Equation → Piece
 equated_of e = equated e.left e.right
@@ -47,6 +50,12 @@ pub record HasNext (p : Plans) (es : List Equation) : Type 0 where
   pub pair : Equation
   pub last : es ≡ front ++ pair ∷ []
   pub active : IsActive p pair
+
+-- With the names that a plan makes there are 2^32 or more. Or there are 2^32 places or more for agents of a symbol of which
+-- it makes one, with as many more as it makes agents.
+abbrev pub IsFull : Planned → Net → Type 0
+IsFull p n = (2 ^ 32 ≤ n.names + p.names)
+    ⊎ ((m : Made) × Contains p.made m × (2 ^ 32 ≤ slice_index_or n.agents m.symbol 0 + length p.made))
 
 -- what is at a place, and no equation
 abbrev pub IsAtPlace : Piece → Type 0

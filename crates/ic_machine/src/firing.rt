@@ -1,10 +1,10 @@
 //! What a firing takes, opens and makes.
 
-ghost use Rattle.std.specs.Prelude.{◌≡◌, ℕ, ◌+◌, ◌-◌, ◌^◌, ◌<◌, ◌≤◌, List, [], ◌∷◌, ◌++◌, map, length, sum_by, vec_len, vec_capacity, OnOk};
+ghost use Rattle.std.specs.Prelude.{◌≡◌, ℕ, ◌+◌, ◌-◌, ◌^◌, ◌<◌, ◌≤◌, List, [], ◌∷◌, ◌++◌, Err, Contains, map, length, sum_by, vec_len, vec_capacity, OnOk};
 ghost use Rattle.std.specs.List.{AllByRecursion};
 ghost use Rattle.ic_arena.specs.Piece.{room};
 ghost use Rattle.ic_arena.specs.declared.word.TheConstants.{GIVEN, IDLE};
-ghost use Rattle.ic_machine.specs.Plan.{made_of, AreMade};
+ghost use Rattle.ic_machine.specs.Plan.{Made, made_of, AreMade};
 ghost use Rattle.ic_machine.specs.Runs.{given_words};
 ghost use Rattle.ic_machine.specs.inner.Firing.{heaps_pieces, arities_of, table, Taken, Opened, Makes, SameSize, AreSame, HasRoom};
 
@@ -22,6 +22,8 @@ pub(crate) fn reserve_blocks(heaps: &mut Vec<Heap>, makes: &[Make]) -> Result<()
     ensures same { AreSame heaps.old.items heaps.new.items }
     ensures room { OnOk result (AllByRecursion (HasRoom heaps.new.items (length makes.now))
         (map made_of makes.now)) }
+    ensures limit { result ≡ Err MachineFault.Limit → (m : Made) × Contains (map made_of makes.now) m
+        × (2 ^ 32 ≤ (table heaps.new.items m.symbol).count + length makes.now) }
 {
     for make in makes {
         let heap = &mut heaps[make.symbol as usize];

@@ -1,6 +1,6 @@
 //! The machine.
 
-ghost use Rattle.std.specs.Prelude.{◌≡◌, ℕ, ◌+◌, ◌^◌, ◌<◌, ◌≤◌, List, [], ◌∷◌, ◌++◌, true, false, Ok, Contains, length, map, sum_by, IfOk, OnErr, IfSome, IfNone, MatchOption};
+ghost use Rattle.std.specs.Prelude.{◌≡◌, ◌≢◌, ℕ, ◌+◌, ◌^◌, ◌<◌, ◌≤◌, List, [], ◌∷◌, ◌++◌, true, false, Ok, Err, Contains, length, map, sum, sum_by, IfOk, OnErr, IfSome, IfNone, MatchOption};
 ghost use Rattle.std.specs.List.{AllByRecursion};
 ghost use Rattle.ic_arena.specs.declared.word.Word.{Word as AnyWord};
 ghost use Rattle.ic_arena.specs.declared.word.TheConstants.{GIVEN};
@@ -10,7 +10,7 @@ ghost use Rattle.ic_arena.specs.Tables.{register};
 ghost use Rattle.ic_machine.specs.Plan.{planned};
 ghost use Rattle.ic_machine.specs.Separate.{IsSeparate};
 ghost use Rattle.ic_machine.specs.Runs.{IsStart, Starts, Ran};
-ghost use Rattle.ic_machine.specs.Net.{pieces, HasNext, IsAtPlace};
+ghost use Rattle.ic_machine.specs.Net.{pieces, HasNext, IsAtPlace, IsFull};
 ghost use Rattle.ic_machine.specs.inner.Linking.{IsPair};
 ghost use Rattle.ic_machine.specs.inner.Pairs.{HasPlan, IsLast, Passed};
 
@@ -35,13 +35,17 @@ pub enum Ended {
 /// Why a run was broken off, with the net as it stood before the next pair.
 #[derive(Clone, Copy, Debug, PartialEq, Eq)]
 pub enum MachineFault {
-    /// A table would have 2^32 entries or more.
+    /// With as many entries more as the plan makes, a table would have 2^32 or more.
     Limit,
     /// A growth was refused.
     Memory,
 }
 
 impl From<AllocError> for MachineFault {
+    ghost use Rattle.ic_machine.specs.declared.machine.MachineFault.TheVariants.{Memory};
+
+    ghost from_gives = { λ _ fault. fault ≡ Memory };
+
     fn from(_error: AllocError) -> MachineFault {
         MachineFault::Memory
     }
@@ -86,6 +90,7 @@ impl Machine {
         ensures interactions { IfOk result (λ m. m.interactions ≡ 0) }
         ensures separate { IfOk result (λ m.
             IsSeparate program.now.arities m.interface (pieces m)) }
+        ensures limit { result ≡ Err MachineFault.Limit → 2 ^ 32 ≤ length plan.now.makes.items }
     {
         let mut tables = Tables::new(alloc, program.arities())?;
         tables.reserve(plan, given as usize)?;
@@ -112,6 +117,8 @@ impl Machine {
         ensures more { result ≡ Ok Ended.Steps → HasNext program.now self.new.pending }
         ensures separate { IsSeparate self.new.arities self.new.interface (pieces self.new) }
         ensures places { AllByRecursion IsAtPlace self.new.places }
+        ensures limit { result ≡ Err MachineFault.Limit
+            → (next : HasNext program.now self.new.pending) × IsFull next.active.plan self.new }
     {
         for step in 0..steps {
             if !self.step(program)? {
@@ -137,6 +144,8 @@ impl Machine {
         ensures err { OnErr result (self.new.interactions ≡ self.old.interactions) }
         ensures separate { IsSeparate self.new.arities self.new.interface (pieces self.new) }
         ensures places { AllByRecursion IsAtPlace self.new.places }
+        ensures limit { result ≡ Err MachineFault.Limit
+            → (next : HasNext program.now self.new.pending) × IsFull next.active.plan self.new }
     {
         let found = find_plan(program, &mut self.tables.pending, &mut self.aside)?;
         let Some((pair, plan)) = found else {
@@ -156,6 +165,7 @@ impl Machine {
         ensures more { result ≡ Ok false → HasNext program.now self.new.pending }
         ensures separate { IsSeparate self.new.arities self.new.interface (pieces self.new) }
         ensures places { AllByRecursion IsAtPlace self.new.places }
+        ensures limit { result ≢ Err MachineFault.Limit }
     {
         let found = find_plan(program, &mut self.tables.pending, &mut self.aside)?;
         Ok(found.is_none())
@@ -214,7 +224,8 @@ impl Machine {
 
     /// How many places there are, the free ones too: names, and blocks of agents. A pass over the symbols.
     pub fn places(&self) -> u64
-        ensures { length self.now.places ≤ result }
+        ensures count { result ≡ self.now.names + sum self.now.agents }
+        ensures pieces { length self.now.places ≤ result }
     {
         count_places(&self.tables.names, &self.tables.heaps)
     }
@@ -248,6 +259,7 @@ fn find_plan<'a>(
         pending.old.items aside.old.items pending.new.items aside.new.items }
     ensures found { IfOk result (λ o. MatchOption o (pending.new.items ≡ [])
         (λ f. IsLast f.0 pending.new.items × HasPlan program.now f.0 (planned f.1.now))) }
+    ensures limit { result ≢ Err MachineFault.Limit }
 {
     while let Some(pair) = pending.last() {
         let pair = *pair;

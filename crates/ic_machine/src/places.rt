@@ -177,6 +177,7 @@ pub(crate) fn count_places(names: &Names, heaps: &[Heap]) -> u64
     ensures count { length (names_pieces 0 names.now.entries ++ heaps_pieces 0 heaps.now)
         ≤ result }
     ensures sound { AllByRecursion AreBlocks heaps.now }
+    ensures is { result ≡ length names.now.entries + sum_by (λ b. b.count) heaps.now }
 {
     let mut count = names.len() as u64;
     for heap in heaps {

@@ -1,6 +1,6 @@
 //! The tables of a machine.
 
-ghost use Rattle.std.specs.Prelude.{◌≡◌, ℕ, ◌+◌, ◌-◌, ◌^◌, ◌<◌, ◌≤◌, List, [], ◌∷◌, ◌++◌, Some, map, length, take, slice_get, vec_len, vec_capacity, OnOk, OnErr, IfOk};
+ghost use Rattle.std.specs.Prelude.{◌≡◌, ℕ, ◌+◌, ◌-◌, ◌^◌, ◌<◌, ◌≤◌, List, [], ◌∷◌, ◌++◌, Some, Err, map, length, take, slice_get, vec_len, vec_capacity, OnOk, OnErr, IfOk};
 ghost use Rattle.std.specs.List.{AllByRecursion};
 ghost use Rattle.ic_arena.specs.declared.word.TheConstants.{GIVEN};
 ghost use Rattle.ic_machine.specs.Net.{equated_of};
@@ -29,7 +29,7 @@ pub(crate) struct Tables {
 }
 
 impl Tables {
-    ghost use Rattle.ic_machine.specs.inner.Tables.{held, HasMemory, IsReady, IsMade, IsNumbered};
+    ghost use Rattle.ic_machine.specs.inner.Tables.{held, HasMemory, IsReady, IsMade, IsNumbered, IsTooMuch};
 
     /// Tables of nothing, for symbols of these arities. The registers hold the agents without arguments.
     pub(crate) fn new(alloc: Global, arities: &[u32]) -> Result<Tables, AllocError>
@@ -40,6 +40,7 @@ impl Tables {
         ensures pending { IfOk result (λ t. t.pending.items ≡ []) }
         ensures registers { IfOk result (λ t.
             t.registers.items ≡ constants (length arities.now)) }
+        ensures counts { IfOk result (λ t. AllByRecursion (λ b. b.count ≡ 0) t.heaps.items) }
     {
         let mut heaps = Vec::with_capacity(alloc, arities.len())?;
         let mut registers = Vec::with_capacity(alloc, arities.len())?;
@@ -69,16 +70,20 @@ impl Tables {
         ensures registers { self.new.registers.items
             ≡ take (length self.old.heaps.items) self.old.registers.items }
         ensures memory { OnOk result (HasMemory (planned plan.now) arguments self.new) }
+        ensures limit { result ≡ Err MachineFault.Limit
+            → IsTooMuch (planned plan.now) (length self.new.names.entries) self.new.heaps.items }
+        ensures range { plan.now.names < 2 ^ 32 }
     {
+        let names = plan.names as usize;
         self.registers.truncate(self.heaps.len());
         reserve_blocks(&mut self.heaps, &plan.makes)?;
-        if plan.names as usize > MAX_ENTRIES - self.names.len() {
+        if names > MAX_ENTRIES - self.names.len() {
             return Err(MachineFault::Limit);
         }
-        self.names.reserve(plan.names as usize)?;
+        self.names.reserve(names)?;
         self.pending.reserve(plan.links.len())?;
         self.registers
-            .reserve(arguments + plan.names as usize + plan.makes.len())?;
+            .reserve(arguments + names + plan.makes.len())?;
         Ok(())
     }
 
@@ -125,6 +130,8 @@ impl Tables {
         ensures few { length self.new.names.entries < 2 ^ 32 }
         ensures registers { take (length self.new.heaps.items) self.new.registers.items
             ≡ constants (length self.new.heaps.items) }
+        ensures limit { result ≡ Err MachineFault.Limit
+            → IsTooMuch (planned plan.now) (length self.new.names.entries) self.new.heaps.items }
     {
         let left = &self.heaps[pair.left.tag as usize - 1];
         let right = &self.heaps[pair.right.tag as usize - 1];

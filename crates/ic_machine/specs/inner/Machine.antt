@@ -1,5 +1,5 @@
 -- The net that the tables of a machine hold, and what they keep.
-use Rattle.std.specs.Prelude.{◌≡◌, ◌^◌, ◌<◌, ◌++◌, length, take}
+use Rattle.std.specs.Prelude.{◌≡◌, ◌^◌, ◌<◌, ◌++◌, length, map, take}
 use Rattle.std.specs.List.{AllByRecursion}
 use Rattle.ic_arena.specs.declared.word.TheConstants.{GIVEN}
 use Rattle.ic_arena.specs.Tables.{names_pieces}
@@ -18,6 +18,8 @@ net_of m = record {
   aside = m.aside.items;
   places = names_pieces 0 m.tables.names.entries ++ heaps_pieces 0 m.tables.heaps.items;
   interactions = m.interactions;
+  names = length m.tables.names.entries;
+  agents = map (λ b. b.count) m.tables.heaps.items;
 }
 
 -- The net is separate, and no side of a pending pair is a name. There are numbers for all names and symbols, and the first

@@ -1,22 +1,28 @@
 -- The tables of a machine, and what a firing does to them.
-use Rattle.std.specs.Prelude.{◌≡◌, ℕ, ◌+◌, ◌^◌, ◌<◌, ◌≤◌, List, [], ◌++◌, Some, length, map, slice_get, sum_by, vec_capacity}
+use Rattle.std.specs.Prelude.{◌≡◌, ℕ, ◌+◌, ◌^◌, ◌<◌, ◌≤◌, ◌⊎◌, Contains, List, [], ◌++◌, Some, length, map, slice_get, sum_by, vec_capacity}
 use Rattle.std.specs.List.{AllByRecursion}
 use Rattle.ic_arena.specs.declared.word.Word.{Word}
 use Rattle.ic_arena.specs.declared.word.TheConstants.{NAME, IDLE, GIVEN}
 use Rattle.ic_arena.specs.Word.{name_word, count}
 use Rattle.ic_arena.specs.Piece.{Piece, room, uses}
-use Rattle.ic_arena.specs.Tables.{names_pieces}
+use Rattle.ic_arena.specs.Tables.{Blocks, names_pieces}
 use Rattle.ic_machine.specs.declared.equation.Equation.{Equation}
 use Rattle.ic_machine.specs.declared.tables.Tables.{Tables}
-use Rattle.ic_machine.specs.Plan.{Planned, Plans, IsPlan, constants, number_of, pieces_made}
+use Rattle.ic_machine.specs.Plan.{Made, Planned, Plans, IsPlan, constants, number_of, pieces_made}
 use Rattle.ic_machine.specs.Net.{equated_of}
 use Rattle.ic_machine.specs.Steps.{AreFresh, Steps}
-use Rattle.ic_machine.specs.inner.Firing.{heaps_pieces, arities_of, HasRoom}
+use Rattle.ic_machine.specs.inner.Firing.{heaps_pieces, arities_of, table, HasRoom}
 
 -- what the tables say, and after it other pieces
 abbrev pub held : Tables → List Piece → List Piece
 held t rest = names_pieces 0 t.names.entries
     ++ (heaps_pieces 0 t.heaps.items ++ (map equated_of t.pending.items ++ rest))
+
+-- With the names that a plan makes there are 2^32 or more. Or there are 2^32 places or more for agents of a symbol of which
+-- it makes one, with as many more as it makes agents.
+abbrev pub IsTooMuch : Planned → ℕ → List Blocks → Type 0
+IsTooMuch p names hs = (2 ^ 32 ≤ names + p.names)
+    ⊎ ((m : Made) × Contains p.made m × (2 ^ 32 ≤ (table hs m.symbol).count + length p.made))
 
 -- there is memory for what a plan makes, after so many arguments
 pub record HasMemory (p : Planned) (arguments : ℕ) (t : Tables) : Type 0 where

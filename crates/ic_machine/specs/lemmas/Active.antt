@@ -1,7 +1,7 @@
 -- A pair that can fire isn't stuck.
 use Rattle.std.proofs.Common.{◌≡◌, Option, None, Some, sym, ◌∙◌}
 use Rattle.ic_machine.specs.declared.equation.Equation.{Equation}
-use Rattle.ic_machine.specs.Plan.{Planned, Plans, plan_of}
+use Rattle.ic_machine.specs.Plan.{Planned, Plans}
 use Rattle.ic_machine.specs.Net.{IsActive, IsStuck}
 
 none_some : (plan : Planned) → ◌≡◌ {A = Option Planned} None (Some plan) → ⊥

@@ -7,6 +7,7 @@ use Rattle.ic_machine.specs.inner.Firing.{HasRoom, table}
 use Rattle.ic_machine.specs.lemmas.FiringKeeps.{all_append, all_of}
 use Rattle.ic_machine.proofs.Fresh.{fact_now, front_more}
 use Rattle.ic_machine.proofs.Heaps.{room_grown, same_all, same_length, same_set, table_read, table_set}
+use Rattle.ic_machine.proofs.Limits.{made_contained}
 use Rattle.ic_machine.proofs.firing.reserve_blocks.Goals as goal
 
 pub loop-make-init : goal.loop-make-init
@@ -42,6 +43,24 @@ returns-in_err-reserve-clause-same c =
     (c.reserve.ensures.arity ∙ ap (λ (x : Blocks). x.arity) same)
     (c.reserve.ensures.count ∙ ap (λ (x : Blocks). x.count) same)
     (c.reserve.ensures.words ∙ ap (λ (x : Blocks). x.words) same) memory
+
+pub returns-then-makes-count-clause-limit : goal.returns-then-makes-count-clause-limit
+returns-then-makes-count-clause-limit c = λ e.
+    let h0 : List Blocks = c.args.heaps.now.items in
+    let hs : List Blocks = c.loop-make.heaps.items in
+    let i : ℕ = c.loop-make.make-index in
+    let ms : List Make = c.args.makes.now in
+    let item : Make = c.make-item.result in
+    let b : Blocks = c.index_mut-heap.result.now in
+    let known : item.symbol < length h0 =
+    fact_now (λ m. m.symbol < length h0) i ms item c.requires.known c.loop-make-test.true c.make-item.is in
+    let len : length hs ≡ length h0 = same_length h0 hs c.loop-make.invariant.same in
+    let lt : item.symbol < length hs = omega arith in
+    let many : 2 ^ 32 ≤ b.count + length ms = omega (arith, c.count.ensures.count, c.if-makes-count.true) in (
+      made_of item,
+      made_contained ms i item c.loop-make-test.true c.make-item.is,
+      subst (λ (x : Blocks). 2 ^ 32 ≤ x.count + length ms) (sym (table_set hs item.symbol b lt)) many,
+    )
 
 pub loop-make-preserved : goal.loop-make-preserved
 loop-make-preserved c =

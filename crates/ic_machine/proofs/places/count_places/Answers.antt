@@ -1,6 +1,7 @@
-use Rattle.std.proofs.Common.{◌≡◌, ◌+◌, ◌≤◌, ℕ, List, [], ◌∷◌, ◌++◌, length, take, ap, sym, subst, ◌∙◌, arith}
+use Rattle.std.proofs.Common.{◌≡◌, ◌+◌, ◌≤◌, ℕ, List, [], ◌∷◌, ◌++◌, length, take, ap, sym, subst, ◌∙◌, arith, sum_by}
 use Rattle.std.specs.List.{AllByRecursion}
 use Rattle.std.proofs.lemmas.List.{length-append, take_more}
+use Rattle.std.proofs.lemmas.List.Sums.{sum_by-append}
 use Rattle.ic_arena.specs.Piece.{Piece}
 use Rattle.ic_arena.specs.Tables.{Blocks, AreBlocks, names_pieces}
 use Rattle.ic_machine.specs.inner.Firing.{heaps_pieces}
@@ -17,6 +18,7 @@ loop-heap-init c =
     record {
       few = omega (arith, c.len-count.ensures);
       sound = tt;
+      is = omega (arith, c.len-count.ensures);
       fits = omega (arith, c.len-count.ensures);
     }
 
@@ -39,5 +41,9 @@ loop-heap-preserved c =
       few = subst (λ (l : List Blocks). length (ns ++ heaps_pieces 0 l) ≤ c.loop-heap.count + c.count.result) (sym more) all;
       sound = subst (λ (l : List Blocks). AllByRecursion AreBlocks l) (sym more)
           (all_append AreBlocks front (b ∷ []) c.loop-heap.invariant.sound (c.count.ensures.sound, tt));
+      is = let sums : sum_by (λ (x : Blocks). x.count) (take (i + 1) hs) ≡ sum_by (λ (x : Blocks). x.count) front + b.count =
+          ap (sum_by (λ (x : Blocks). x.count)) more ∙ (sum_by-append (λ (x : Blocks). x.count) front (b ∷ []) ∙ omega arith) in
+          let was = c.loop-heap.invariant.is in
+          omega (arith, c.count.ensures.count);
       fits = omega (arith, c.loop-heap.invariant.fits);
     }

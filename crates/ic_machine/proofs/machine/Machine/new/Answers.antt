@@ -1,24 +1,27 @@
-use Rattle.std.proofs.Common.{◌≡◌, ◌+◌, ◌<◌, ◌≤◌, ℕ, List, [], ◌++◌, length, map, refl, ap, sym, subst, ◌∙◌, append_assoc, arith, vec_capacity}
+use Rattle.std.proofs.Common.{◌≡◌, ◌+◌, ◌^◌, ◌<◌, ◌≤◌, inl, inr, Err, ℕ, List, [], ◌++◌, length, map, refl, ap, sym, subst, ◌∙◌, append_assoc, arith, vec_capacity}
 use Rattle.std.specs.List.{AllByRecursion}
 use Rattle.std.proofs.lemmas.List.{length-append, length-map}
+use Rattle.std.proofs.lemmas.Result.{err_from_is_err_and}
 use Rattle.ic_arena.specs.declared.word.Word.{Word}
 use Rattle.ic_arena.specs.declared.word.TheConstants.{GIVEN}
 use Rattle.ic_arena.specs.Piece.{Piece}
 use Rattle.ic_arena.specs.Word.{count, name_word}
 use Rattle.ic_arena.specs.Tables.{Blocks, names_pieces, register}
 use Rattle.ic_machine.specs.declared.equation.Equation.{Equation}
+use Rattle.ic_machine.specs.declared.machine.MachineFault.TheVariants.{Limit}
 use Rattle.ic_machine.specs.declared.tables.Tables.{Tables}
-use Rattle.ic_machine.specs.Plan.{AreMade, IsPlan, Planned, Plans, constants, pieces_made, planned}
+use Rattle.ic_machine.specs.Plan.{AreMade, IsPlan, Planned, Plans, constants, made_of, pieces_made, planned}
 use Rattle.ic_machine.specs.Net.{equated_of}
 use Rattle.ic_machine.specs.Runs.{given_words}
 use Rattle.ic_machine.specs.Separate.{IsSeparate}
 use Rattle.ic_machine.specs.Steps.{Steps}
-use Rattle.ic_machine.specs.inner.Firing.{arities_of, heaps_pieces}
-use Rattle.ic_machine.specs.inner.Tables.{HasMemory}
+use Rattle.ic_machine.specs.inner.Firing.{arities_of, heaps_pieces, table}
+use Rattle.ic_machine.specs.inner.Tables.{HasMemory, IsTooMuch}
 use Rattle.ic_machine.specs.inner.Linking.{IsPair}
 use Rattle.ic_machine.specs.lemmas.FiresKeep.{steps_keep}
 use Rattle.ic_machine.specs.lemmas.FiringKeeps.{all_of}
-use Rattle.ic_machine.proofs.Heaps.{made_known, same_arities, same_pieces}
+use Rattle.ic_machine.proofs.Heaps.{made_known, same_arities, same_at, same_pieces}
+use Rattle.ic_machine.proofs.Limits.{none_yet, same_fault}
 use Rattle.ic_machine.proofs.Making.{filled_count}
 use Rattle.ic_machine.proofs.Sound.{first_of, first_registers}
 use Rattle.ic_machine.proofs.Starting.{given_length, given_marks, given_none, start_fresh, start_separate, start_steps}
@@ -362,3 +365,25 @@ returns-clause-separate c =
     c.arities.ensures.sound steps
     (start_separate q.arities g p c.args.interface.now made.names made.made c.requires.symbols start made.names_count made.made_count)) in
     separate
+
+pub returns-in_err-reserve-clause-limit : goal.returns-in_err-reserve-clause-limit
+returns-in_err-reserve-clause-limit c = λ e.
+    let p : Planned = planned c.args.plan.now in
+    let h0 : List Blocks = c.in_ok-tables.tables.heaps.items in
+    let h1 : List Blocks = c.reserve.new.self.heaps.items in
+    let given = err_from_is_err_and c.from_residual-in_err-reserve.result c.from_residual-in_err-reserve.ensures.1 in
+    let same : c.in_err-reserve.field-0.0 ≡ Limit =
+    same_fault c.from_residual-in_err-reserve.result given.0 c.in_err-reserve.field-0.0 Limit given.1 given.2 e in
+    let much : IsTooMuch p (length c.reserve.new.self.names.entries) h1 =
+    c.in_err-reserve.ensures.limit (ap Err same) in
+    let names : length c.reserve.new.self.names.entries ≡ 0 =
+    ap length (c.reserve.ensures.names ∙ c.in_ok-tables.ensures.names) in
+    let few : c.args.plan.now.names < 2 ^ 32 = c.reserve.ensures.range in
+    let made : length p.made ≡ length c.args.plan.now.makes.items = length-map c.args.plan.now.makes.items made_of in
+    elim much [
+      | inl most ↦ absurd (omega arith)
+      | inr most ↦ (let none : (table h1 most.0.symbol).count ≡ 0 = (same_at h0 h1 c.reserve.ensures.heaps most.0.symbol).1
+          ∙ none_yet h0 most.0.symbol c.in_ok-tables.ensures.counts in
+          let many = most.2 in
+          omega arith)
+    ]

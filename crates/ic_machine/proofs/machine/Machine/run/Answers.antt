@@ -1,4 +1,7 @@
-use Rattle.std.proofs.Common.{◌≡◌, ◌+◌, arith, sym, add-zero}
+use Rattle.std.proofs.Common.{◌≡◌, ◌+◌, Err, ap, arith, sym, add-zero}
+use Rattle.std.proofs.lemmas.Result.{err_from_is_err_and}
+use Rattle.ic_machine.specs.declared.machine.MachineFault.TheVariants.{Limit}
+use Rattle.ic_machine.proofs.Limits.{same_fault}
 use Rattle.ic_machine.proofs.Running.{ran_none, ran_on}
 use Rattle.ic_machine.proofs.machine.Machine.run.Goals as goal
 
@@ -40,3 +43,9 @@ pub returns-else-branch-clause-ran : goal.returns-else-branch-clause-ran
 returns-else-branch-clause-ran c =
     ran_on c.args.program.now c.args.self.now c.loop-step.self c.is_quiet.new.self c.loop-step.invariant.ran
     c.is_quiet.ensures.ran
+
+pub returns-in_err-step-clause-limit : goal.returns-in_err-step-clause-limit
+returns-in_err-step-clause-limit c = λ e.
+    let given = err_from_is_err_and c.from_residual.result c.from_residual.ensures.1 in
+    c.in_err-step.ensures.limit
+    (ap Err (same_fault c.from_residual.result given.0 c.in_err-step.field-0.0 Limit given.1 given.2 e))

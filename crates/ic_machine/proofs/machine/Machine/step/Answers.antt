@@ -1,10 +1,12 @@
-use Rattle.std.proofs.Common.{◌≡◌, ◌+◌, ◌<◌, ℕ, List, [], ◌∷◌, ◌++◌, length, map, ap, sym, subst, refl, ◌∙◌, add-zero}
+use Rattle.std.proofs.Common.{◌≡◌, ◌+◌, ◌<◌, ℕ, List, [], ◌∷◌, ◌++◌, Err, length, map, ap, sym, subst, refl, ◌∙◌, add-zero}
 use Rattle.std.proofs.lemmas.List.Sorted.{IsPermutation-refl}
+use Rattle.std.proofs.lemmas.Result.{err_from_is_err_and}
 use Rattle.ic_arena.specs.declared.word.TheConstants.{GIVEN}
 use Rattle.ic_arena.specs.Piece.{Piece}
 use Rattle.ic_arena.specs.Tables.{Blocks, names_pieces}
 use Rattle.ic_machine.specs.declared.equation.Equation.{Equation}
 use Rattle.ic_machine.specs.declared.machine.Machine.TheInside.{Inside}
+use Rattle.ic_machine.specs.declared.machine.MachineFault.TheVariants.{Limit}
 use Rattle.ic_machine.specs.Plan.{Planned, Plans, planned}
 use Rattle.ic_machine.specs.Net.{Net, equated_of}
 use Rattle.ic_machine.specs.Runs.{Ran}
@@ -12,11 +14,12 @@ use Rattle.ic_machine.specs.Separate.{IsSeparate}
 use Rattle.ic_machine.specs.Steps.{Steps, no_step}
 use Rattle.ic_machine.specs.inner.Firing.{arities_of, heaps_pieces}
 use Rattle.ic_machine.specs.inner.Machine.{net_of}
-use Rattle.ic_machine.specs.inner.Pairs.{CanFire, HasPlan}
-use Rattle.ic_machine.specs.inner.Tables.{IsNumbered}
+use Rattle.ic_machine.specs.inner.Pairs.{CanFire, HasPlan, IsLast}
+use Rattle.ic_machine.specs.inner.Tables.{IsNumbered, IsTooMuch}
 use Rattle.ic_machine.proofs.Heaps.{as_many}
 use Rattle.ic_machine.proofs.AtPlaces.{tables_at_places}
-use Rattle.ic_machine.proofs.Running.{can_fire, held_separate, held_steps_separate, numbered, passed_pairs, passed_ran, passed_separate, passed_then}
+use Rattle.ic_machine.proofs.Limits.{full_net, same_fault}
+use Rattle.ic_machine.proofs.Running.{can_fire, held_separate, held_steps_separate, next_pair, numbered, passed_pairs, passed_ran, passed_separate, passed_then}
 use Rattle.ic_machine.proofs.Sound.{passed_sound}
 use Rattle.ic_machine.proofs.machine.Machine.step.Goals as goal
 
@@ -333,3 +336,22 @@ returns-in_err-fire-clause-places c = tables_at_places c.fire.new.self.names.ent
 
 pub returns-clause-places : goal.returns-clause-places
 returns-clause-places c = tables_at_places c.fire.new.self.names.entries c.fire.new.self.heaps.items
+
+pub returns-in_err-fire-clause-limit : goal.returns-in_err-fire-clause-limit
+returns-in_err-fire-clause-limit c = λ e.
+    let q : Plans = c.args.program.now in
+    let plan : Planned = planned c.in-Some.plan.now in
+    let found = rw c.in-Some.is at c.in_ok-found.ensures.found in
+    let has : HasPlan q c.in-Some.pair plan = found.1 in
+    let m : Inside = c.self.inside in
+    let after : Inside = record m { aside = c.find_plan.new.aside; tables = c.fire.new.self; interactions = m.interactions } in
+    let last : IsLast c.in-Some.pair after.tables.pending.items =
+    record { front = found.0.front; is = c.in_err-fire.ensures.pending ∙ found.0.is } in
+    let hs : List Blocks = after.tables.heaps.items in
+    let given = err_from_is_err_and c.from_residual-in_err-fire.result c.from_residual-in_err-fire.ensures.1 in
+    let same : c.in_err-fire.field-0.0 ≡ Limit =
+    same_fault c.from_residual-in_err-fire.result given.0 c.in_err-fire.field-0.0 Limit given.1 given.2 e in
+    let much : IsTooMuch plan (length after.tables.names.entries) hs = c.in_err-fire.ensures.limit (ap Err same) in (
+      next_pair q after.tables.pending.items c.in-Some.pair plan last has,
+      full_net plan (net_of after) (length after.tables.names.entries) hs refl refl much,
+    )

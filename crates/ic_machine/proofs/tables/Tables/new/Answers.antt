@@ -1,4 +1,5 @@
-use Rattle.std.proofs.Common.{◌≡◌, ◌+◌, ℕ, List, [], ◌∷◌, ◌++◌, take, ap, sym, ◌∙◌, arith}
+use Rattle.std.proofs.Common.{◌≡◌, ◌+◌, ℕ, List, [], ◌∷◌, ◌++◌, take, ap, sym, subst, ◌∙◌, arith}
+use Rattle.std.specs.List.{AllByRecursion}
 use Rattle.std.proofs.lemmas.List.{map-append, take_more}
 use Rattle.std.proofs.lemmas.List.FromFn.{map-range_with_len_more}
 use Rattle.ic_arena.specs.declared.word.Word.{Word}
@@ -6,6 +7,7 @@ use Rattle.ic_arena.specs.Word.{agent_word}
 use Rattle.ic_arena.specs.Tables.{Blocks}
 use Rattle.ic_machine.specs.Plan.{constants}
 use Rattle.ic_machine.specs.inner.Firing.{arities_of, heaps_pieces}
+use Rattle.ic_machine.specs.lemmas.FiringKeeps.{all_append}
 use Rattle.ic_machine.proofs.Heaps.{heaps_pushed}
 use Rattle.ic_machine.proofs.tables.Tables.new.Goals as goal
 
@@ -29,6 +31,8 @@ loop-arity-preserved c =
           ∙ (ap (λ (k : ℕ). take i as_many ++ k ∷ []) c.new.ensures.arity
           ∙ sym (take_more as_many i 0 c.loop-arity-test.true))));
       heaps = ap (heaps_pieces 0) pushed ∙ (heaps_pushed 0 hs b c.new.ensures.count ∙ inv.heaps);
+      counts = subst (λ (l : List Blocks). AllByRecursion (λ x. x.count ≡ 0) l) (sym pushed)
+          (all_append (λ x. x.count ≡ 0) hs (b ∷ []) inv.counts (c.new.ensures.count, tt));
       registers = word ∙ (ap (λ (l : List Word). l ++ agent_word c.loop-arity.symbol 0 ∷ []) inv.registers
           ∙ (ap (λ (k : ℕ). constants i ++ agent_word k 0 ∷ []) inv.symbol ∙ sym more));
       heaps_len = omega (arith, c.push_reserved.ensures.len);
