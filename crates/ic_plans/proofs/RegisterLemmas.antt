@@ -1,0 +1,144 @@
+-- The registers of names: a name more, and what each name is read from.
+use Rattle.std.proofs.Common.{◌≡◌, ◌⊎◌, ℕ, zero, suc, ◌+◌, ◌≤◌, ◌<◌, ◌==◌, List, [], ◌∷◌, ◌++◌, Bool, true, false, cond, Some, length, slice_get, refl, sym, ap, subst, ◌∙◌, arith, inl, inr}
+use Rattle.std.specs.Prelude.{unwrap_or}
+use Rattle.std.proofs.lemmas.Option.{none-some}
+use Rattle.std.specs.Cmp.{unsigned_Decides}
+use Rattle.std.specs.List.{AllByRecursion}
+use Rattle.ic_term.specs.Tree.{Tree, name}
+use Rattle.ic_meaning.specs.Plans.{Argument, arguments_from}
+use Rattle.ic_plans.specs.inner.Registers.{Registers, found, AreRegisters}
+
+-- ---- lists
+
+pub some_same : {X : Type 0} (x y : X) → Some x ≡ Some y → x ≡ y
+some_same x y e = ap (λ o. unwrap_or o x) e
+
+pub all_there : {X : Type 0} (P : X → Type 0) (xs : List X) (i : ℕ) (x : X) → AllByRecursion P xs → slice_get xs i ≡ Some x → P x
+all_there P [] i x all there = absurd (none-some x there)
+all_there P (y ∷ ys) zero x all there = subst P (some_same y x there) all.0
+all_there P (y ∷ ys) (suc i) x all there = all_there P ys i x all.1 there
+
+pub there_front : {X : Type 0} (xs ys : List X) (i : ℕ) (x : X) → slice_get xs i ≡ Some x → slice_get (xs ++ ys) i ≡ Some x
+there_front [] ys i x there = absurd (none-some x there)
+there_front (y ∷ xs) ys zero x there = there
+there_front (y ∷ xs) ys (suc i) x there = there_front xs ys i x there
+
+pub there_last : {X : Type 0} (xs : List X) (x : X) → slice_get (xs ++ x ∷ []) (length xs) ≡ Some x
+there_last [] x = refl
+there_last (y ∷ xs) x = there_last xs x
+
+-- ---- arguments
+
+pub arguments-more : (k : ℕ) (ts : List Tree) (t : Tree)
+    → arguments_from k (ts ++ t ∷ []) ≡ arguments_from k ts ++ record { register = k + length ts; term = t } ∷ []
+arguments-more k [] t = let same : k ≡ k + 0 = omega arith in ap (λ j. record { register = j; term = t } ∷ []) same
+arguments-more k (u ∷ ts) t =
+    let same : (k + 1) + length ts ≡ k + length (u ∷ ts) = omega arith in
+    ap (λ l. record { register = k; term = u } ∷ l) (arguments-more (k + 1) ts t ∙ ap (λ j. arguments_from (k + 1) ts ++ record { register = j; term = t } ∷ []) same)
+
+pub arguments-below : (k : ℕ) (ts : List Tree) (bound : ℕ) → k + length ts ≤ bound → AllByRecursion (λ a. a.register < bound) (arguments_from k ts)
+arguments-below k [] bound high = tt
+arguments-below k (t ∷ ts) bound high = (omega arith, arguments-below (k + 1) ts bound (omega arith))
+
+pub arguments-at : (k : ℕ) (ts : List Tree) (i : ℕ) (a : Argument) → slice_get (arguments_from k ts) i ≡ Some a → (a.register ≡ k + i) × (i < length ts)
+arguments-at k [] i a there = absurd (none-some a there)
+arguments-at k (t ∷ ts) zero a there =
+    let same = ap (λ b. b.register) (some_same (record { register = k; term = t }) a there) in
+    (omega arith, omega arith)
+arguments-at k (t ∷ ts) (suc i) a there = let rest = arguments-at (k + 1) ts i a there in (omega arith, omega arith)
+
+-- ---- a name more
+
+module _ (arguments : List Argument) (start fresh : ℕ) (old new : Registers) (x r : ℕ)
+    (updated : (q : ℕ) → found new q ≡ cond (x == q) (Some r) (found old q))
+    (regs : AreRegisters arguments start fresh old) (other : (y : ℕ) → found old y ≡ Some r → ⊥) where
+  -- it has its register, and the others have theirs
+  which : (y s : ℕ) → found new y ≡ Some s → ((x ≡ y) × (r ≡ s)) ⊎ (found old y ≡ Some s)
+  which y s there = at (x == y) refl
+    where
+      at : (b : Bool) → (x == y) ≡ b → ((x ≡ y) × (r ≡ s)) ⊎ (found old y ≡ Some s)
+      at true e = inl ((unsigned_Decides x y).0 e, some_same r s (sym (updated y ∙ ap (λ b. cond b (Some r) (found old y)) e) ∙ there))
+      at false e = inr (sym (updated y ∙ ap (λ b. cond b (Some r) (found old y)) e) ∙ there)
+
+  new_apart : (y z s : ℕ) → found new y ≡ Some s → found new z ≡ Some s → y ≡ z
+  new_apart y z s a b = at (which y s a) (which z s b)
+    where
+      at : ((x ≡ y) × (r ≡ s)) ⊎ (found old y ≡ Some s) → ((x ≡ z) × (r ≡ s)) ⊎ (found old z ≡ Some s) → y ≡ z
+      at (inl p) (inl q) = sym p.0 ∙ q.0
+      at (inl p) (inr q) = absurd (other z (q ∙ ap Some (sym p.1)))
+      at (inr p) (inl q) = absurd (other y (p ∙ ap Some (sym q.1)))
+      at (inr p) (inr q) = regs.apart y z s p q
+
+pub argument-kept : (arguments : List Argument) (start : ℕ) (a : Argument) (registers : Registers) → AreRegisters arguments start 0 registers
+    → AreRegisters (arguments ++ a ∷ []) start 0 registers
+argument-kept arguments start a registers regs = record {
+  read = λ x r there. at x r (regs.read x r there);
+  apart = regs.apart;
+}
+  where
+    at : (x r : ℕ) → ((start ≤ r) × (r < start + 0)) ⊎ ((i : ℕ) × (slice_get arguments i ≡ Some (record { register = r; term = name x })))
+        → ((start ≤ r) × (r < start + 0)) ⊎ ((i : ℕ) × (slice_get (arguments ++ a ∷ []) i ≡ Some (record { register = r; term = name x })))
+    at x r (inl p) = inl p
+    at x r (inr q) = inr (q.0, there_front arguments (a ∷ []) q.0 (record { register = r; term = name x }) q.1)
+
+-- a register that no name of so few arguments has
+unread : (arguments : List Argument) (start fresh : ℕ) (old : Registers) (r : ℕ) → AreRegisters arguments start fresh old
+    → AllByRecursion (λ a. a.register < r) arguments → (start ≤ r → r < start + fresh → ⊥) → (y : ℕ) → found old y ≡ Some r → ⊥
+unread arguments start fresh old r regs below out y there = at (regs.read y r there)
+  where
+    at : ((start ≤ r) × (r < start + fresh)) ⊎ ((i : ℕ) × (slice_get arguments i ≡ Some (record { register = r; term = name y }))) → ⊥
+    at (inl p) = out p.0 p.1
+    at (inr q) =
+        let low = all_there (λ (a : Argument). a.register < r) arguments q.0 (record { register = r; term = name y }) below q.1 in
+        omega arith
+
+-- an argument that is a name with no register yet
+pub argument-added : (arguments : List Argument) (start : ℕ) (old new : Registers) (x own : ℕ)
+    → ((q : ℕ) → found new q ≡ cond (x == q) (Some own) (found old q))
+    → AllByRecursion (λ a. a.register < own) arguments → AreRegisters arguments start 0 old
+    → AreRegisters (arguments ++ record { register = own; term = name x } ∷ []) start 0 new
+argument-added arguments start old new x own updated below regs = record {
+  read = λ y s there. at y s (which arguments start 0 old new x own updated regs other y s there);
+  apart = new_apart arguments start 0 old new x own updated regs other;
+}
+  where
+    mine : Argument
+    mine = record { register = own; term = name x }
+
+    other : (y : ℕ) → found old y ≡ Some own → ⊥
+    other = unread arguments start 0 old own regs below (λ a b. omega arith)
+
+    kept : AreRegisters (arguments ++ mine ∷ []) start 0 old
+    kept = argument-kept arguments start mine old regs
+
+    at : (y s : ℕ) → ((x ≡ y) × (own ≡ s)) ⊎ (found old y ≡ Some s)
+        → ((start ≤ s) × (s < start + 0)) ⊎ ((i : ℕ) × (slice_get (arguments ++ mine ∷ []) i ≡ Some (record { register = s; term = name y })))
+    at y s (inl p) = inr (length arguments, there_last arguments mine ∙ (λ i. Some (record { register = p.1 i; term = name (p.0 i) })))
+    at y s (inr q) = kept.read y s q
+
+-- a fresh one
+pub fresh-added : (arguments : List Argument) (start fresh : ℕ) (old new : Registers) (x : ℕ)
+    → ((q : ℕ) → found new q ≡ cond (x == q) (Some (start + fresh)) (found old q))
+    → AllByRecursion (λ a. a.register < start) arguments → AreRegisters arguments start fresh old
+    → AreRegisters arguments start (fresh + 1) new
+fresh-added arguments start fresh old new x updated below regs = record {
+  read = λ y s there. at y s (which arguments start fresh old new x (start + fresh) updated regs other y s there);
+  apart = new_apart arguments start fresh old new x (start + fresh) updated regs other;
+}
+  where
+    lower : (xs : List Argument) → AllByRecursion (λ a. a.register < start) xs → AllByRecursion (λ a. a.register < start + fresh) xs
+    lower [] all = tt
+    lower (a ∷ xs) all = (omega (arith, all.0), lower xs all.1)
+
+    other : (y : ℕ) → found old y ≡ Some (start + fresh) → ⊥
+    other = unread arguments start fresh old (start + fresh) regs (lower arguments below) (λ a b. omega arith)
+
+    wider : (y s : ℕ) → ((start ≤ s) × (s < start + fresh)) ⊎ ((i : ℕ) × (slice_get arguments i ≡ Some (record { register = s; term = name y })))
+        → ((start ≤ s) × (s < start + (fresh + 1))) ⊎ ((i : ℕ) × (slice_get arguments i ≡ Some (record { register = s; term = name y })))
+    wider y s (inl p) = inl (p.0, omega (arith, p.1))
+    wider y s (inr q) = inr q
+
+    at : (y s : ℕ) → ((x ≡ y) × (start + fresh ≡ s)) ⊎ (found old y ≡ Some s)
+        → ((start ≤ s) × (s < start + (fresh + 1))) ⊎ ((i : ℕ) × (slice_get arguments i ≡ Some (record { register = s; term = name y })))
+    at y s (inl p) = let same = p.1 in inl (omega arith, omega arith)
+    at y s (inr q) = wider y s (regs.read y s q)

@@ -1,0 +1,15 @@
+use Rattle.std.proofs.Common.{◌≡◌, ℕ, ◌+◌, ◌≤◌, List, map, length, reverse, drop}
+use Rattle.ic_flat.specs.Words.{forest}
+use Rattle.ic_machine.specs.Plan.{made_of}
+use Rattle.ic_plans.specs.inner.Registers.{register_of}
+use Rattle.ic_plans.specs.inner.Flattening.{WouldBeFlat}
+use Rattle.ic_plans.proofs.flattening.flatten.Given as goal
+
+-- the words from here on
+abbrev pub invariant-loop-i : goal.invariant-loop-i
+invariant-loop-i l = record {
+  count : length l.operands.items ≡ length (forest (drop l.i l.words));
+  few : length l.makes.items + l.i ≤ length l.words;
+  flat : (arities : List ℕ)
+      → WouldBeFlat arities (register_of l.registers) l.first (drop l.i l.words) (map made_of l.makes.items) (reverse l.operands.items);
+}

@@ -1,0 +1,22 @@
+use Rattle.std.proofs.Common.{◌+◌, sym, ◌∙◌, arith}
+use Rattle.ic_plans.proofs.LinkLemmas.{all-added, all-kept}
+use Rattle.ic_plans.proofs.RegisterLemmas.{fresh-added}
+use Rattle.ic_plans.proofs.rule.add_fresh.Goals as goal
+use Rattle.ic_plans.proofs.rule.add_fresh.Goals.{then-not-contains_key+in_ok-insert, else-not-contains_key}
+
+pub loop-number-preserved : goal.loop-number-preserved
+loop-number-preserved c =
+    let i = c.loop-number.invariant in
+    elim c.if-not-contains_key.branch [
+      | then-not-contains_key+in_ok-insert w ↦ rw (w.registers-is, w.fresh-is) (record {
+        few = omega (arith, i.few);
+        all = all-added c.loop-number.number (c.args.start + c.loop-number.fresh) c.loop-number.registers w.insert.new.self w.in_ok-insert.ensures.updates.0 i.all;
+        registers = λ arguments below regs. fresh-added arguments c.args.start c.loop-number.fresh c.loop-number.registers w.insert.new.self c.loop-number.number
+            w.in_ok-insert.ensures.updates.0 below (i.registers arguments below regs);
+      })
+      | else-not-contains_key w ↦ rw (w.registers-is, w.fresh-is) (record {
+        few = omega (arith, i.few);
+        all = all-kept c.loop-number.number c.loop-number.registers i.all (sym c.contains_key.ensures ∙ w.if-not-contains_key.false);
+        registers = i.registers;
+      })
+    ]
