@@ -6,3 +6,5 @@ pub mod PlanLemmas
 pub mod LinkLemmas
 pub mod MetLemmas
 pub mod EntryLemmas
+pub mod GivenLemmas
+pub mod NetLemmas

@@ -2,3 +2,4 @@
 pub mod Registers
 pub mod Flattening
 pub mod Entries
+pub mod Given

@@ -1,0 +1,24 @@
+-- For private functions: the registers of the names of a configuration.
+use Rattle.std.specs.Prelude.{◌≡◌, ◌↔◌, ◌⊎◌, ℕ, ◌+◌, ◌≤◌, List, [], ◌∷◌, None, Some, slice_get}
+use Rattle.ic_term.specs.Configuration.{occurrences}
+use Rattle.ic_machine.specs.declared.plan.Link.{Link}
+use Rattle.ic_plans.specs.inner.Registers.{Registers, found}
+
+-- The names of a list that stand there once: these have registers, from one on, and no others have.
+pub record AreGiven (ns : List ℕ) (start : ℕ) (given : List ℕ) (registers : Registers) : Type 0 where
+  pub once : (x : ℕ) → (occurrences x ns ≡ 1) ↔ ((j : ℕ) × (slice_get given j ≡ Some x))
+  pub registers_are : (x r : ℕ) → (found registers x ≡ Some r)
+      ↔ ((j : ℕ) × (slice_get given j ≡ Some x) × (r ≡ start + j))
+
+-- The names of a list that had no register: these have registers, from one on, and all others those that they had.
+pub record AreFresh (ns : List ℕ) (start : ℕ) (names : List ℕ) (old new : Registers) : Type 0 where
+  pub others : (x : ℕ) → ((found old x ≡ None) × (1 ≤ occurrences x ns))
+      ↔ ((j : ℕ) × (slice_get names j ≡ Some x))
+  pub registers_are : (x r : ℕ) → (found new x ≡ Some r)
+      ↔ ((found old x ≡ Some r) ⊎ ((j : ℕ) × (slice_get names j ≡ Some x) × (r ≡ start + j)))
+
+-- registers two by two
+abbrev pub operand_links : List ℕ → List Link
+operand_links [] = []
+operand_links (k ∷ []) = []
+operand_links (k ∷ m ∷ ks) = record { left = k; right = m } ∷ operand_links ks
