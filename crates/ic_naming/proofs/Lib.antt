@@ -1,0 +1,4 @@
+pub mod Places
+pub mod Numberings
+pub mod Kept
+pub mod Forgetting

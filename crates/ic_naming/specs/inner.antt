@@ -1,0 +1,2 @@
+-- For private functions: by what names are numbered. No public clause needs what stands here.
+pub mod Numbering
