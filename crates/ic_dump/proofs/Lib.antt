@@ -1,12 +1,6 @@
-pub mod Places
 pub mod PrintLemmas
 pub mod RuleLemmas
-pub mod Occurring
-pub mod Spare
-pub mod ToldNames
-pub mod Numberings
-pub mod Numbered
-pub mod WordNames
+pub mod NodeNames
 pub mod Dumps
 pub mod Lists
 pub mod Tokens

@@ -26,10 +26,10 @@ use Rattle.ic_text.specs.SystemSource.{IsSystemPhrase, rule_symbols, system_symb
 use Rattle.ic_text.specs.Sense.{has_its_arity}
 use Rattle.ic_text.specs.SystemSense.{system_table, is_system_in_limits, rule_over, rules_over, system_parts, unless_found, system_sense}
 use Rattle.ic_text.specs.Text.{source_of, sides_of}
+use Rattle.ic_naming.specs.lemmas.ToldNames.{firsts_within, numbers_below}
 use Rattle.ic_dump.specs.Writing.{rule_of, system_of}
 use Rattle.ic_dump.proofs.Lists.{All-join, All-split, All-at}
-use Rattle.ic_dump.proofs.Numbered.{list_names_within}
-use Rattle.ic_dump.proofs.ToldNames.{firsts_within, numbers_below}
+use Rattle.ic_dump.proofs.NodeNames.{list_names_within}
 use Rattle.ic_dump.proofs.Known.{Known, known_rules, known_interface, known_equations, interface_is, equations_are, rules_are}
 use Rattle.ic_dump.proofs.Table.{Placed, all_placed, all_agree, no_more_symbols}
 use Rattle.ic_dump.proofs.Turned.{turned_rule, rule_names_written, rule_nodes_written, interface_names_written, equation_names_written, interface_nodes_written, equation_nodes_written, interface_back, equations_back, rule_back, numbered_turned}

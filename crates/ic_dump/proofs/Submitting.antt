@@ -7,7 +7,7 @@ use Rattle.ic_rules.specs.Rule.{Rule, numbered, is_lopsided}
 use Rattle.ic_rules.specs.System.{SystemParts}
 use Rattle.ic_rules.specs.Mirror.{IsOwnMirror}
 use Rattle.ic_jobs.specs.Job.{JobParts, IsJob}
-use Rattle.ic_text.specs.declared.limits.TheConstants.{MAX_TEXT}
+use Rattle.ic_text.specs.declared.limits.TheConstants.{MAX_NAME, MAX_TEXT}
 use Rattle.ic_text.specs.Source.{IsPhrase}
 use Rattle.ic_text.specs.SystemSource.{SystemPhrase}
 use Rattle.ic_text.specs.SystemSense.{system_sense, system_parts}
@@ -17,9 +17,10 @@ use Rattle.ic_commands.specs.declared.line.Line.{Line}
 use Rattle.ic_commands.specs.declared.line.Line.TheVariants.{Command as Asks}
 use Rattle.ic_commands.specs.LineText.{ReadsLine}
 use Rattle.ic_commands.specs.LinePlain.{IsPlainly, budget_text}
+use Rattle.ic_naming.specs.Naming.{told_name}
 use Rattle.ic_dump.specs.Writing.{system_of, system_text}
 use Rattle.ic_dump.specs.Telling.{told_system, job_line}
-use Rattle.ic_dump.specs.Naming.{told}
+use Rattle.ic_dump.specs.Told.{told}
 use Rattle.ic_dump.specs.Filling.{read_again, submit_of}
 use Rattle.ic_dump.specs.Alike.{Submits}
 use Rattle.ic_dump.proofs.Tokens.{system_read}
@@ -70,17 +71,18 @@ module _ (spells : (table : List Symbol) (c : Configuration) → IsPhrase (phras
             reads = system_reads s (told_whole j is) fits;
           })
 
-      pub job_submitted : (j : JobParts) → IsJob j → length (job_line j) ≤ MAX_TEXT → Submits (job_line j) j
-      job_submitted j is short =
-          let names = told_renamed j.config in
-          record {
-            system = read_again j;
-            reads = line_read j is short;
-            rename = names.rename;
-            config = told j.config;
-            renaming = names.is;
-            alike = written_again (told_system j) (told_whole j is);
-          }
+      module _ (keeps : (ns : List ℕ) (n : ℕ) → occurrences n ns ≡ 1 → n ≤ MAX_NAME → told_name ns n ≡ n) where
+        pub job_submitted : (j : JobParts) → IsJob j → length (job_line j) ≤ MAX_TEXT → Submits (job_line j) j
+        job_submitted j is short =
+            let names = told_renamed keeps j.config in
+            record {
+              system = read_again j;
+              reads = line_read j is short;
+              rename = names.rename;
+              config = told j.config;
+              renaming = names.is;
+              alike = written_again (told_system j) (told_whole j is);
+            }
 
 -- the system that is read is written as the told one is
 pub read_alike : (j : JobParts) → IsJob j → system_of (read_again j) ≡ system_of (told_system j)

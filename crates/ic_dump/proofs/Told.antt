@@ -4,16 +4,17 @@ use Rattle.std.specs.Prelude.{nat_le}
 use Rattle.std.specs.List.{list_all, AllByRecursion}
 use Rattle.std.proofs.lemmas.Bool.{and_from, le-leb}
 use Rattle.ic_term.specs.Tree.{Tree, name, agent, Trees, no_trees, more_trees, Pair}
-use Rattle.ic_term.specs.Configuration.{Configuration, configuration_names}
+use Rattle.ic_term.specs.Configuration.{Configuration, configuration_names, occurrences}
 use Rattle.ic_rules.specs.Renaming.{renamed, renamed_trees}
 use Rattle.ic_rules.specs.lemmas.NumberingLaws.{Undone}
 use Rattle.ic_jobs.specs.Job.{JobParts, IsJob}
 use Rattle.ic_text.specs.declared.limits.TheConstants.{MAX_NAME}
-use Rattle.ic_dump.specs.Naming.{renamed_pair, renumbered, has_names_of_texts, told, told_name}
+use Rattle.ic_naming.specs.Naming.{renamed_pair, renumbered, told_name}
+use Rattle.ic_naming.specs.lemmas.Renumbered.{few_names, renumbered-is, renumbered-over, renumbered-names}
+use Rattle.ic_naming.specs.lemmas.ToldNames.{all_low, one_to_one, told_apart}
+use Rattle.ic_dump.specs.Told.{has_names_of_texts, told}
 use Rattle.ic_dump.specs.Telling.{told_system}
-use Rattle.ic_dump.specs.Alike.{IsOneToOne, IsRenaming}
-use Rattle.ic_dump.proofs.Numbered.{few_names, renumbered-is, renumbered-over, renumbered-names}
-use Rattle.ic_dump.proofs.ToldNames.{all_low, named, told_keeps, told_undone}
+use Rattle.ic_dump.specs.Alike.{IsRenaming}
 use Rattle.ic_dump.proofs.Sense.{IsWhole}
 
 -- ---- names that stay
@@ -34,17 +35,6 @@ kept_equations : (es : List Pair) → map (renamed_pair (λ n. n)) es ≡ es
 kept_equations [] = refl
 kept_equations (e ∷ es) = λ i. record { left = kept_tree e.left i; right = kept_tree e.right i } ∷ kept_equations es i
 
-one_to_one : (f back : ℕ → ℕ) (ns : List ℕ) → Undone f back ns → IsOneToOne f ns
-one_to_one f back ns undone = each ns undone
-  where
-    inner : (m : ℕ) → back (f m) ≡ m → (ks : List ℕ) → Undone f back ks → AllByRecursion (λ n. f m ≡ f n → m ≡ n) ks
-    inner m um [] uk = tt
-    inner m um (k ∷ ks) uk = ((λ e. sym um ∙ ap back e ∙ uk.0), inner m um ks uk.1)
-
-    each : (ms : List ℕ) → Undone f back ms → AllByRecursion (λ m. AllByRecursion (λ n. f m ≡ f n → m ≡ n) ns) ms
-    each [] um = tt
-    each (m ∷ ms) um = (inner m um.0 ns undone, each ms um.1)
-
 same_undone : (ns : List ℕ) → Undone (λ n. n) (λ n. n) ns
 same_undone [] = tt
 same_undone (n ∷ ns) = (refl, same_undone ns)
@@ -54,28 +44,30 @@ pub record Renamed (c d : Configuration) : Type 0 where
   pub rename : ℕ → ℕ
   pub is : IsRenaming rename c d
 
-renamed_by : (c : Configuration) (b : Bool) → Renamed c (cond b c (renumbered c))
-renamed_by c true = record {
-  rename = λ n. n;
-  is = record {
-    free = λ n once low. refl;
-    one_to_one = one_to_one (λ n. n) (λ n. n) (configuration_names c) (same_undone (configuration_names c));
-    interface = sym (kept_interface c.interface);
-    equations = sym (kept_equations c.equations);
-  };
-}
-renamed_by c false = record {
-  rename = told_name (configuration_names c);
-  is = record {
-    free = told_keeps (configuration_names c);
-    one_to_one = one_to_one (told_name (configuration_names c)) (named (configuration_names c)) (configuration_names c) (told_undone (configuration_names c));
-    interface = refl;
-    equations = refl;
-  };
-}
+-- free names stay as they are, where they may stand in a text
+module _ (keeps : (ns : List ℕ) (n : ℕ) → occurrences n ns ≡ 1 → n ≤ MAX_NAME → told_name ns n ≡ n) where
+  renamed_by : (c : Configuration) (b : Bool) → Renamed c (cond b c (renumbered c))
+  renamed_by c true = record {
+    rename = λ n. n;
+    is = record {
+      free = λ n once low. refl;
+      one_to_one = one_to_one (λ n. n) (λ n. n) (configuration_names c) (same_undone (configuration_names c));
+      interface = sym (kept_interface c.interface);
+      equations = sym (kept_equations c.equations);
+    };
+  }
+  renamed_by c false = record {
+    rename = told_name (configuration_names c);
+    is = record {
+      free = keeps (configuration_names c);
+      one_to_one = told_apart (configuration_names c);
+      interface = refl;
+      equations = refl;
+    };
+  }
 
-pub told_renamed : (c : Configuration) → Renamed c (told c)
-told_renamed c = renamed_by c (has_names_of_texts c)
+  pub told_renamed : (c : Configuration) → Renamed c (told c)
+  told_renamed c = renamed_by c (has_names_of_texts c)
 
 -- ---- the told configuration is one, with names of texts
 

@@ -1,6 +1,5 @@
 -- To be believed: when a line submits a job.
 use Rattle.std.specs.Prelude.{◌≡◌, ◌≤◌, ℕ, List, Ok, map}
-use Rattle.std.specs.List.{AllByRecursion}
 use Rattle.ic_term.specs.Configuration.{Configuration, configuration_names, occurrences}
 use Rattle.ic_rules.specs.Renaming.{renamed}
 use Rattle.ic_rules.specs.System.{SystemParts}
@@ -9,12 +8,8 @@ use Rattle.ic_jobs.specs.declared.command.Command.TheVariants as command
 use Rattle.ic_text.specs.declared.limits.TheConstants.{MAX_NAME}
 use Rattle.ic_commands.specs.declared.line.Line.TheVariants.{Command as Asks}
 use Rattle.ic_commands.specs.LineText.{ReadsLine}
-use Rattle.ic_dump.specs.Naming.{renamed_pair}
+use Rattle.ic_naming.specs.Naming.{IsOneToOne, renamed_pair}
 use Rattle.ic_dump.specs.Writing.{system_of}
-
--- different names stay different
-abbrev pub IsOneToOne : (ℕ → ℕ) → List ℕ → Type 0
-IsOneToOne f ns = AllByRecursion (λ m. AllByRecursion (λ n. f m ≡ f n → m ≡ n) ns) ns
 
 -- a name is free in a configuration: it stands there once
 abbrev pub IsFree : Configuration → ℕ → Type 0

@@ -1,5 +1,5 @@
 -- What a reader of the public contracts must believe, and `inner`, which is for private functions.
-pub mod Naming
+pub mod Told
 pub mod Writing
 pub mod Telling
 pub mod Alike

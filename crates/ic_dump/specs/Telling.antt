@@ -4,7 +4,7 @@ use Rattle.ic_rules.specs.System.{SystemParts}
 use Rattle.ic_jobs.specs.Job.{JobParts}
 use Rattle.ic_text.specs.declared.limits.TheConstants.{MAX_TEXT}
 use Rattle.ic_commands.specs.LinePlain.{budget_text}
-use Rattle.ic_dump.specs.Naming.{told}
+use Rattle.ic_dump.specs.Told.{told}
 use Rattle.ic_dump.specs.Writing.{system_text}
 
 -- the system of a job, as it is told

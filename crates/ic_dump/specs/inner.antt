@@ -1,4 +1,2 @@
 -- For private functions: the texts of the parts of rules. No public clause needs what stands here.
 pub mod Printing
-pub mod WordNaming
-pub mod Numbering

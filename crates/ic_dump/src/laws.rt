@@ -16,7 +16,7 @@ ghost use Rattle.ic_lines.specs.Serving.{IsServed};
 ghost use Rattle.ic_dump.specs.Dumping.{all_dump_faults, chosen, dump_fault_number, dumped, first_missing, is_chosen};
 ghost use Rattle.ic_dump.specs.Filling.{accepted, begun_again, read_again, submit_of, table_after};
 ghost use Rattle.ic_dump.specs.Missing.{AreHad, IsFirstMissing};
-ghost use Rattle.ic_dump.specs.Naming.{has_names_of_texts, told};
+ghost use Rattle.ic_dump.specs.Told.{has_names_of_texts, told};
 ghost use Rattle.ic_dump.specs.Telling.{job_line, told_system};
 ghost use Rattle.ic_dump.specs.Writing.{system_of};
 
@@ -29,6 +29,7 @@ pub fn a_line_submits_its_job()
     ic_rules::laws::level_rules_are_their_own_mirrors();
     ic_text::laws::printed_spells();
     ic_text::laws::one_system_reading();
+    ic_naming::laws::names_are_told_apart();
     ic_commands::laws::commands_ask();
 }
 
@@ -90,6 +91,7 @@ pub fn free_names_are_read_again()
     ic_rules::laws::level_rules_are_their_own_mirrors();
     ic_text::laws::printed_spells();
     ic_text::laws::one_system_reading();
+    ic_naming::laws::names_are_told_apart();
     ic_commands::laws::commands_ask();
     ic_commands::laws::one_line_reading();
 }

@@ -4,10 +4,10 @@ ghost use Rattle.std.specs.Prelude.{◌≡◌, ◌++◌, IfOk, OnOk, IsTrue};
 ghost use Rattle.ic_term.specs.Symbol.{is_over};
 ghost use Rattle.ic_text.specs.Text.{printed};
 ghost use Rattle.ic_commands.specs.LinePlain.{budget_text};
-ghost use Rattle.ic_dump.specs.Naming.{told};
+ghost use Rattle.ic_dump.specs.Told.{told};
 ghost use Rattle.ic_dump.specs.Telling.{job_line};
 
-use crate::naming::{are_of_texts, names_of, renumbered};
+use crate::naming::{has_names_of_texts, renumbered};
 use crate::printing::put_rules;
 use ic_flat::Flat;
 use ic_jobs::{Budget, Job};
@@ -53,10 +53,9 @@ fn put_told(
     ensures { OnOk result
         (out.new.items ≡ out.old.items ++ printed symbols.now (told flat.now)) }
 {
-    let names = names_of(alloc, flat)?;
-    if are_of_texts(&names) {
+    if has_names_of_texts(flat) {
         return put_flat(alloc, symbols, flat, out);
     }
-    let numbered = renumbered(alloc, flat, &names)?;
+    let numbered = renumbered(alloc, flat)?;
     put_flat(alloc, symbols, &numbered, out)
 }

@@ -1,5 +1,5 @@
 use Rattle.std.proofs.Common.{cond, ap}
-use Rattle.ic_dump.specs.Naming.{renumbered}
+use Rattle.ic_naming.specs.Naming.{renumbered}
 use Rattle.ic_dump.proofs.laws.names_of_texts_are_kept.Goals as goal
 
 pub returns : goal.returns

@@ -1,8 +1,0 @@
-use Rattle.std.proofs.Common.{◌≡◌, map, take}
-use Rattle.ic_dump.specs.inner.Numbering.{told_by}
-use Rattle.ic_dump.specs.inner.WordNaming.{renamed_word}
-use Rattle.ic_dump.proofs.naming.number_words.Given as goal
-
--- those so far are numbered
-abbrev pub invariant-loop-word : goal.invariant-loop-word
-invariant-loop-word l = l.numbered.items ≡ map (renamed_word (told_by l.numbering)) (take l.word-index l.words)
