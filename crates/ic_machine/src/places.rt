@@ -1,6 +1,6 @@
 //! The places of a net, from which its pieces are taken.
 
-ghost use Rattle.std.specs.Prelude.{◌≡◌, ℕ, ◌+◌, ◌^◌, ◌<◌, ◌≤◌, List, ◌∷◌, ◌++◌, true, false, Ok, Contains, IsPermutation, length, sum_by, take, drop, reverse, vec_len, OnErr, IfSome, IfNone};
+ghost use Rattle.std.specs.Prelude.{◌≡◌, ℕ, ◌+◌, ◌^◌, ◌<◌, ◌≤◌, List, ◌∷◌, ◌++◌, true, false, Ok, Contains, IsPermutation, length, slice_get, sum_by, take, drop, reverse, vec_len, OnErr, IfSome, IfNone};
 ghost use Rattle.std.specs.List.{AllByRecursion};
 ghost use Rattle.ic_arena.specs.declared.word.Word.{Word as AnyWord};
 ghost use Rattle.ic_arena.specs.declared.word.TheConstants.{GIVEN};
@@ -88,6 +88,16 @@ impl Places {
         ensures held { AllByRecursion (IsHeld self.now.arities) self.now.pieces }
     {
         self.heaps.len() as u32
+    }
+
+    /// How many arguments an agent of a symbol has, where the symbol is known.
+    pub fn arity(&self, symbol: u32) -> Option<u32>
+        ensures { result ≡ slice_get self.now.arities symbol }
+    {
+        match self.heaps.get(symbol as usize) {
+            Some(heap) => Some(heap.arity()),
+            None => None,
+        }
     }
 
     /// How many places there are for agents of a symbol, the free ones too. Where the symbol isn't known, there are none.
