@@ -1,0 +1,11 @@
+pub mod Rows
+pub mod Orders
+pub mod Given
+pub mod RowNets
+pub mod Chains
+pub mod Words
+pub mod StepNets
+pub mod Ends
+pub mod Moves
+pub mod Readers
+pub mod Results

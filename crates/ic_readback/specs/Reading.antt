@@ -1,0 +1,42 @@
+-- What the tokens of a net that was read back say.
+use Rattle.std.specs.Prelude.{◌≡◌, ℕ, ◌+◌, ◌<◌, ◌≤◌, ◌==◌, List, [], ◌∷◌, length, map, sum_by, slice_index_or, take, drop, if◌then◌else◌}
+use Rattle.std.specs.List.{flat_map}
+use Rattle.ic_term.specs.Configuration.{Configuration, configured}
+use Rattle.ic_arena.specs.declared.word.Word.{Word}
+use Rattle.ic_arena.specs.declared.word.TheConstants.{GIVEN}
+use Rattle.ic_arena.specs.Word.{count}
+use Rattle.ic_arena.specs.Piece.{Piece, uses}
+use Rattle.ic_machine.specs.declared.equation.Equation.{Equation}
+use Rattle.ic_flat.specs.declared.word.Word.{Word as FlatWord}
+use Rattle.ic_flat.specs.declared.word.Word.TheVariants.{Name as FlatName, Agent as FlatAgent}
+use Rattle.ic_flat.specs.Words.{forest}
+use Rattle.ic_flat.specs.Flat.{pairs_of}
+use Rattle.ic_meaning.specs.Words.{Numbers}
+use Rattle.ic_readback.specs.declared.token.Token.{Token}
+use Rattle.ic_readback.specs.declared.token.Token.TheVariants.{Name, Agent}
+
+-- the number of the name that a word stands for
+abbrev pub number_of : Numbers → Word → ℕ
+number_of n w = if w.tag == GIVEN then slice_index_or n.given w.index 0 else n.of_place w
+
+-- a token as a word in prefix order
+abbrev pub flat_word : Numbers → Token → FlatWord
+flat_word n (Name w) = FlatName (number_of n w)
+flat_word n (Agent s) = FlatAgent s (slice_index_or n.arities s 0)
+
+abbrev pub flat_words : Numbers → List Token → List FlatWord
+flat_words n ts = map (flat_word n) ts
+
+-- the configuration that tokens write, so many of their terms in its interface, the others two by two as equations
+abbrev pub configuration_read : Numbers → List Token → ℕ → Configuration
+configuration_read n ts terms = configured
+    (take terms (forest (flat_words n ts)))
+    (pairs_of (drop terms (forest (flat_words n ts))))
+
+-- each given name that words or pieces name has a number
+abbrev pub AreGiven : List ℕ → List Word → List Piece → Type 0
+AreGiven given ws ps = (w : Word) → w.tag ≡ GIVEN → 1 ≤ count w ws + sum_by (uses w) ps → w.index < length given
+
+-- the sides of equations, the left one of each before the right one
+abbrev pub sides_of : List Equation → List Word
+sides_of es = flat_map (λ e. e.left ∷ e.right ∷ []) es

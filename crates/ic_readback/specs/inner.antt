@@ -1,0 +1,3 @@
+-- For private functions. No public clause needs what stands here.
+pub mod Expanding
+pub mod Reading

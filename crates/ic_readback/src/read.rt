@@ -1,0 +1,48 @@
+//! Reading a net back.
+
+ghost use Rattle.std.specs.Prelude.{◌≡◌, ℕ, ◌+◌, ◌*◌, length, IfOk};
+ghost use Rattle.ic_round.specs.Naming.{HasNames};
+ghost use Rattle.ic_reaching.specs.OneNet.{OneNet};
+ghost use Rattle.ic_machine.specs.Net.{pieces};
+ghost use Rattle.ic_flat.specs.Words.{forest, IsWhole};
+ghost use Rattle.ic_meaning.specs.Words.{Numbers, AreNumbers};
+ghost use Rattle.ic_meaning.specs.Nets.{net_of, AreNetPieces};
+ghost use Rattle.ic_readback.specs.Reading.{flat_words, configuration_read, AreGiven};
+
+use crate::reader::Reader;
+use crate::token::ReadBack;
+use ic_machine::Machine;
+use std::alloc::{AllocError, Global};
+
+/// Reads the net of a machine back into terms.
+pub fn read_back(alloc: Global, machine: Machine) -> Result<ReadBack, AllocError>
+    ensures terms { IfOk result (λ r. r.terms ≡ length machine.interface) }
+    ensures whole { IfOk result (λ r. (n : Numbers) → n.arities ≡ machine.arities
+        → IsWhole (flat_words n r.tokens.items)) }
+    ensures counted { IfOk result (λ r. (n : Numbers) → n.arities ≡ machine.arities
+        → length (forest (flat_words n r.tokens.items)) ≡ r.terms + 2 * r.equations) }
+    ensures net { IfOk result (λ r. (n : Numbers) → n.arities ≡ machine.arities → AreNumbers n
+        → AreNetPieces n.arities machine.interface (pieces machine)
+        → AreGiven n.given machine.interface (pieces machine)
+        → HasNames (net_of n machine.interface (pieces machine))
+        → OneNet (net_of n machine.interface (pieces machine))
+        (configuration_read n r.tokens.items r.terms)) }
+{
+    ic_reaching::laws::one_net_is_an_equivalence();
+    ic_reaching::laws::a_name_step_leads_to_one_net();
+    ic_reaching::laws::the_order_of_equations_is_no_matter();
+    ic_reaching::laws::a_piece_is_put_for_its_name();
+    let parts = machine.into_parts();
+    let mut reader = Reader {
+        places: parts.places,
+        stack: Vec::new(alloc),
+        tokens: Vec::new(alloc),
+        equations: 0,
+    };
+    reader.expand_all(&parts.interface, &parts.pending, &parts.aside)?;
+    Ok(ReadBack {
+        tokens: reader.tokens,
+        terms: parts.interface.len(),
+        equations: reader.equations,
+    })
+}
