@@ -240,7 +240,7 @@ idle_equations n (equated l r ∷ ps) all = absurd all.0
 idle_equations n (waits x u ∷ ps) all = absurd all.0
 idle_equations n (agent_of a ws ∷ ps) all = absurd all.0
 
-sides_given : (given : List ℕ) (is : List Word) (es fs : List Equation) (ps : List Piece) → AreGiven given is (map equated_of es ++ (map equated_of fs ++ ps))
+pub sides_given : (given : List ℕ) (is : List Word) (es fs : List Equation) (ps : List Piece) → AreGiven given is (map equated_of es ++ (map equated_of fs ++ ps))
     → AreGiven given (is ++ (sides_of es ++ sides_of fs)) ps
 sides_given given is es fs ps are w tag some =
     let a = sum_by-append (λ v. cond (word_eq w v) 1 0) is (sides_of es ++ sides_of fs) in

@@ -9,3 +9,4 @@ pub mod Ends
 pub mod Moves
 pub mod Readers
 pub mod Results
+pub mod Heads

@@ -1,9 +1,10 @@
 -- What the tokens of a net that was read back say.
-use Rattle.std.specs.Prelude.{◌≡◌, ℕ, ◌+◌, ◌<◌, ◌≤◌, ◌==◌, List, [], ◌∷◌, length, map, sum_by, slice_index_or, take, drop, if◌then◌else◌}
+use Rattle.std.specs.Prelude.{◌≡◌, ℕ, ◌+◌, ◌<◌, ◌≤◌, ◌==◌, List, [], ◌∷◌, length, map, sum_by, slice_index_or, take, drop, if◌then◌else◌, Some, slice_get}
 use Rattle.std.specs.List.{flat_map}
+use Rattle.ic_term.specs.Tree.{Tree, name, agent}
 use Rattle.ic_term.specs.Configuration.{Configuration, configured}
 use Rattle.ic_arena.specs.declared.word.Word.{Word}
-use Rattle.ic_arena.specs.declared.word.TheConstants.{GIVEN}
+use Rattle.ic_arena.specs.declared.word.TheConstants.{NAME, GIVEN}
 use Rattle.ic_arena.specs.Word.{count}
 use Rattle.ic_arena.specs.Piece.{Piece, uses}
 use Rattle.ic_machine.specs.declared.equation.Equation.{Equation}
@@ -40,3 +41,14 @@ AreGiven given ws ps = (w : Word) → w.tag ≡ GIVEN → 1 ≤ count w ws + sum
 -- the sides of equations, the left one of each before the right one
 abbrev pub sides_of : List Equation → List Word
 sides_of es = flat_map (λ e. e.left ∷ e.right ∷ []) es
+
+-- what a term that is read for a word begins with, but for a name: a given name, or an agent of the same symbol
+abbrev pub HeadIs : Numbers → Word → Tree → Type 0
+HeadIs n w (name x) = (w.tag ≡ GIVEN) × (slice_get n.given w.index ≡ Some x)
+HeadIs n w (agent s ts) = w.tag ≡ s + 1
+
+-- terms begin with one for each of these words, in order
+abbrev pub BeginAs : Numbers → List Word → List Tree → Type 0
+BeginAs n [] ts = Unit {0}
+BeginAs n (w ∷ ws) [] = ⊥
+BeginAs n (w ∷ ws) (t ∷ ts) = (¬ (w.tag ≡ NAME) → HeadIs n w t) × BeginAs n ws ts

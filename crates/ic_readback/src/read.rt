@@ -1,13 +1,13 @@
 //! Reading a net back.
 
-ghost use Rattle.std.specs.Prelude.{◌≡◌, ℕ, ◌+◌, ◌*◌, length, IfOk};
+ghost use Rattle.std.specs.Prelude.{◌≡◌, ℕ, ◌+◌, ◌*◌, ◌++◌, length, IfOk};
 ghost use Rattle.ic_round.specs.Naming.{HasNames};
 ghost use Rattle.ic_reaching.specs.OneNet.{OneNet};
 ghost use Rattle.ic_machine.specs.Net.{pieces};
 ghost use Rattle.ic_flat.specs.Words.{forest, IsWhole};
 ghost use Rattle.ic_meaning.specs.Words.{Numbers, AreNumbers};
 ghost use Rattle.ic_meaning.specs.Nets.{net_of, AreNetPieces};
-ghost use Rattle.ic_readback.specs.Reading.{flat_words, configuration_read, AreGiven};
+ghost use Rattle.ic_readback.specs.Reading.{flat_words, configuration_read, AreGiven, BeginAs, sides_of};
 
 use crate::reader::Reader;
 use crate::token::ReadBack;
@@ -27,6 +27,11 @@ pub fn read_back(alloc: Global, machine: Machine) -> Result<ReadBack, AllocError
         → HasNames (net_of n machine.interface (pieces machine))
         → OneNet (net_of n machine.interface (pieces machine))
         (configuration_read n r.tokens.items r.terms)) }
+    ensures heads { IfOk result (λ r. (n : Numbers) → n.arities ≡ machine.arities
+        → AreNetPieces n.arities machine.interface (pieces machine)
+        → AreGiven n.given machine.interface (pieces machine)
+        → BeginAs n (machine.interface ++ (sides_of machine.pending ++ sides_of machine.aside))
+        (forest (flat_words n r.tokens.items))) }
 {
     ic_reaching::laws::one_net_is_an_equivalence();
     ic_reaching::laws::a_name_step_leads_to_one_net();

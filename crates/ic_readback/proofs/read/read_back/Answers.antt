@@ -6,6 +6,7 @@ use Rattle.ic_readback.specs.declared.reader.Reader.{Reader}
 use Rattle.ic_readback.specs.Reading.{configuration_read}
 use Rattle.ic_readback.proofs.Given.{NetLaws}
 use Rattle.ic_readback.proofs.Results.{ReadsNet, reads_net, result_whole, result_counted, result_net}
+use Rattle.ic_readback.proofs.Heads.{result_heads}
 use Rattle.ic_readback.proofs.read.read_back.Goals as goal
 
 pub returns-clause-whole : goal.returns-clause-whole
@@ -67,3 +68,19 @@ returns-clause-net c = λ n same sound are given has.
     } in
     subst (λ (k : ℕ). OneNet (net_of n m.interface (pieces m)) (configuration_read n new.tokens.items k)) (sym terms)
     (result_net laws m new read n same sound are given has)
+
+pub returns-clause-heads : goal.returns-clause-heads
+returns-clause-heads c =
+    let m : Net = c.args.machine in
+    let old : Reader = record { places = c.into_parts-parts.result.places; stack = c.new.result; tokens = c.new-2.result; equations = 0 } in
+    let new : Reader = c.expand_all.new.self in
+    let read : ReadsNet m.arities m new = reads_net m c.deref.result.now c.deref-2.result.now c.deref-3.result.now old new (record {
+      interface = c.deref.ensures.value ∙ c.into_parts-parts.ensures.interface;
+      pending = c.deref-2.ensures.value ∙ c.into_parts-parts.ensures.pending;
+      aside = c.deref-3.ensures.value ∙ c.into_parts-parts.ensures.aside;
+      arities = c.into_parts-parts.ensures.arities;
+      pieces = c.into_parts-parts.ensures.pieces;
+      tokens = c.new-2.ensures.items;
+      equations = refl;
+    }) c.in_ok-expand_all.ensures in
+    result_heads m new read
