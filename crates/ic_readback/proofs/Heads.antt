@@ -98,7 +98,7 @@ pub record Kept (n : Numbers) (s : State) : Type 0 where
   pub are : ArePieces n.arities s.pieces
   pub given : AreGiven n.given s.words s.pieces
 
-kept_step : (n : Numbers) (s t : State) → Step n.arities s t → Kept n s → Kept n t
+pub kept_step : (n : Numbers) (s t : State) → Step n.arities s t → Kept n s → Kept n t
 kept_step n s t step kept = record {
   separate = record {
     each = λ w place.
@@ -201,7 +201,7 @@ longer_on s t u first second = record {
   tokens = second.tokens ∙ (ap (λ l. l ++ second.more) first.tokens ∙ append_assoc s.tokens first.more second.more);
 }
 
-longer_steps : (arities : List ℕ) (s t : State) → Steps arities s t → Longer s t
+pub longer_steps : (arities : List ℕ) (s t : State) → Steps arities s t → Longer s t
 longer_steps arities s t (no_step a) = record { more = []; tokens = sym (append-nil a.tokens) }
 longer_steps arities s t (one_more a b c first rest) = longer_on a b c (longer_step arities a b first) (longer_steps arities b c rest)
 
@@ -237,7 +237,7 @@ all_behind : {X : Type 0} (P : X → Type 0) (xs ys : List X) → AllByRecursion
 all_behind P [] ys all = all
 all_behind P (x ∷ xs) ys all = all_behind P xs ys all.1
 
-first_kept : (n : Numbers) (is : List Word) (es fs : List Equation) (ps : List Piece) → AreNetPieces n.arities is (map equated_of es ++ (map equated_of fs ++ ps))
+pub first_kept : (n : Numbers) (is : List Word) (es fs : List Equation) (ps : List Piece) → AreNetPieces n.arities is (map equated_of es ++ (map equated_of fs ++ ps))
     → AreGiven n.given is (map equated_of es ++ (map equated_of fs ++ ps)) → Kept n (first_state is es fs ps)
 first_kept n is es fs ps are given = record {
   separate = record { each = apart };

@@ -10,3 +10,4 @@ pub mod Moves
 pub mod Readers
 pub mod Results
 pub mod Heads
+pub mod Circles

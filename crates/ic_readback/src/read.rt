@@ -7,7 +7,7 @@ ghost use Rattle.ic_machine.specs.Net.{pieces};
 ghost use Rattle.ic_flat.specs.Words.{forest, IsWhole};
 ghost use Rattle.ic_meaning.specs.Words.{Numbers, AreNumbers};
 ghost use Rattle.ic_meaning.specs.Nets.{net_of, AreNetPieces};
-ghost use Rattle.ic_readback.specs.Reading.{flat_words, configuration_read, AreGiven, BeginAs, sides_of};
+ghost use Rattle.ic_readback.specs.Reading.{flat_words, configuration_read, AreGiven, BeginAs, sides_of, AreCirclesAfter};
 
 use crate::reader::Reader;
 use crate::token::ReadBack;
@@ -32,6 +32,11 @@ pub fn read_back(alloc: Global, machine: Machine) -> Result<ReadBack, AllocError
         → AreGiven n.given machine.interface (pieces machine)
         → BeginAs n (machine.interface ++ (sides_of machine.pending ++ sides_of machine.aside))
         (forest (flat_words n r.tokens.items))) }
+    ensures circles { IfOk result (λ r. (n : Numbers) → n.arities ≡ machine.arities → AreNumbers n
+        → AreNetPieces n.arities machine.interface (pieces machine)
+        → AreGiven n.given machine.interface (pieces machine)
+        → AreCirclesAfter n (length machine.pending + length machine.aside)
+        (configuration_read n r.tokens.items r.terms)) }
 {
     ic_reaching::laws::one_net_is_an_equivalence();
     ic_reaching::laws::a_name_step_leads_to_one_net();

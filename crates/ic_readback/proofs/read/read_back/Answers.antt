@@ -3,9 +3,10 @@ use Rattle.ic_machine.specs.Net.{Net, pieces}
 use Rattle.ic_reaching.specs.OneNet.{OneNet}
 use Rattle.ic_meaning.specs.Nets.{net_of}
 use Rattle.ic_readback.specs.declared.reader.Reader.{Reader}
-use Rattle.ic_readback.specs.Reading.{configuration_read}
+use Rattle.ic_readback.specs.Reading.{configuration_read, AreCirclesAfter}
 use Rattle.ic_readback.proofs.Given.{NetLaws}
 use Rattle.ic_readback.proofs.Results.{ReadsNet, reads_net, result_whole, result_counted, result_net}
+use Rattle.ic_readback.proofs.Circles.{result_circles}
 use Rattle.ic_readback.proofs.Heads.{result_heads}
 use Rattle.ic_readback.proofs.read.read_back.Goals as goal
 
@@ -84,3 +85,22 @@ returns-clause-heads c =
       equations = refl;
     }) c.in_ok-expand_all.ensures in
     result_heads m new read
+
+pub returns-clause-circles : goal.returns-clause-circles
+returns-clause-circles c = λ n same sound are given.
+    let m : Net = c.args.machine in
+    let old : Reader = record { places = c.into_parts-parts.result.places; stack = c.new.result; tokens = c.new-2.result; equations = 0 } in
+    let new : Reader = c.expand_all.new.self in
+    let read : ReadsNet m.arities m new = reads_net m c.deref.result.now c.deref-2.result.now c.deref-3.result.now old new (record {
+      interface = c.deref.ensures.value ∙ c.into_parts-parts.ensures.interface;
+      pending = c.deref-2.ensures.value ∙ c.into_parts-parts.ensures.pending;
+      aside = c.deref-3.ensures.value ∙ c.into_parts-parts.ensures.aside;
+      arities = c.into_parts-parts.ensures.arities;
+      pieces = c.into_parts-parts.ensures.pieces;
+      tokens = c.new-2.ensures.items;
+      equations = refl;
+    }) c.in_ok-expand_all.ensures in
+    let terms : c.len.result ≡ length m.interface =
+    omega (arith, c.len.ensures, c.into_parts-parts.result.interface.ok, ap length c.into_parts-parts.ensures.interface) in
+    subst (λ (k : ℕ). AreCirclesAfter n (length m.pending + length m.aside) (configuration_read n new.tokens.items k)) (sym terms)
+    (result_circles m new read n same sound are given)
