@@ -41,7 +41,7 @@ begin_name : (n : Numbers) (x u : Word) (ws : List Word) (ts : List Tree) → x.
 begin_name n x u ws [] tag begin = absurd begin
 begin_name n x u ws (t ∷ ts) tag begin = ((λ other. absurd (other tag)), begin.1)
 
-begin_after : (n : Numbers) (vs ws : List Word) (ts : List Tree) → BeginAs n (vs ++ ws) ts → (length vs ≤ length ts) × BeginAs n ws (drop (length vs) ts)
+pub begin_after : (n : Numbers) (vs ws : List Word) (ts : List Tree) → BeginAs n (vs ++ ws) ts → (length vs ≤ length ts) × BeginAs n ws (drop (length vs) ts)
 begin_after n [] ws ts begin = (omega arith, begin)
 begin_after n (v ∷ vs) ws [] begin = absurd begin
 begin_after n (v ∷ vs) ws (t ∷ ts) begin =

@@ -11,3 +11,4 @@ pub mod Readers
 pub mod Results
 pub mod Heads
 pub mod Circles
+pub mod Quiets

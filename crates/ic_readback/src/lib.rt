@@ -4,6 +4,7 @@
 //! then are circles: pieces whose names occur within one another alone.
 #![tactic(auto)]
 
+pub mod laws;
 mod read;
 mod reader;
 mod token;

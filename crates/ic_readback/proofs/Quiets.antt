@@ -1,0 +1,207 @@
+-- Lemmas: what is read of stuck pairs is quiet.
+use Rattle.std.proofs.Common.{◌≡◌, ℕ, zero, suc, ◌+◌, ◌*◌, ◌-◌, ◌≤◌, ◌<◌, ◌==◌, List, [], ◌∷◌, ◌++◌, Bool, true, false, Option, None, Some, IfSome, length, drop, slice_get, refl, sym, ap, ◌∙◌, eq-eqb, arith, inl, inr, subst as transport}
+use Rattle.std.specs.Prelude.{◌⊎◌}
+use Rattle.std.specs.List.{flat_map, AllByRecursion}
+use Rattle.std.specs.Cmp.{unsigned_Decides}
+use Rattle.std.proofs.lemmas.Bool.{and_parts}
+use Rattle.std.proofs.lemmas.List.{length-map, length-drop}
+use Rattle.std.proofs.lemmas.List.Concat.{flat_map-append}
+use Rattle.std.proofs.lemmas.Option.{slice_get_within}
+use Rattle.ic_term.specs.Tree.{Tree, name, agent, names, Pair, pair_names}
+use Rattle.ic_term.specs.Symbol.{Symbol, has_arity}
+use Rattle.ic_term.specs.Configuration.{Configuration, configuration_names, occurrences}
+use Rattle.ic_rules.specs.Rule.{Rule}
+use Rattle.ic_rules.specs.RuleSet.{Rules, IsRuleSet, rule_for, stands_turned}
+use Rattle.ic_rules.specs.lemmas.FitLaws.{rule_over_at}
+use Rattle.ic_rules.specs.lemmas.FindLaws.{rule_for-found}
+use Rattle.ic_settle.specs.Settling.{Binding}
+use Rattle.ic_settle.specs.NameSteps.{Binds}
+use Rattle.ic_settle.specs.lemmas.SubstitutionLaws.{occurrences-append, occurrences_some}
+use Rattle.ic_round.specs.Firing.{Active, active_pair, oriented, rule_of_sides}
+use Rattle.ic_round.specs.Rounds.{IsQuiet}
+use Rattle.ic_round.specs.Steps.{Step, interaction, indirection, collect}
+use Rattle.ic_arena.specs.declared.word.Word.{Word}
+use Rattle.ic_machine.specs.declared.equation.Equation.{Equation}
+use Rattle.ic_machine.specs.Net.{Net, IsStuck}
+use Rattle.ic_machine.specs.Plan.{Planned, Plans, number_of, plan_at, plan_of}
+use Rattle.ic_flat.specs.Words.{forest}
+use Rattle.ic_flat.specs.Flat.{pairs_of}
+use Rattle.ic_meaning.specs.Words.{Numbers}
+use Rattle.ic_meaning.specs.Plans.{IsPlanOf, IsOfRule, ArePlansOf}
+use Rattle.ic_readback.specs.declared.token.Token.{Token}
+use Rattle.ic_readback.specs.Reading.{flat_words, configuration_read, sides_of, HeadIs, BeginAs}
+use Rattle.ic_readback.proofs.Heads.{begin_after}
+use Rattle.ic_readback.proofs.Words.{true_false}
+
+-- two symbols without a plan have no rule
+known_symbol : (ss : List Symbol) (s k : ℕ) → has_arity k (slice_get ss s) ≡ true → s < length ss
+known_symbol ss s k is = at (slice_get ss s) refl is
+  where
+    at : (o : Option Symbol) → slice_get ss s ≡ o → has_arity k o ≡ true → s < length ss
+    at None e h = absurd (true_false (sym h))
+    at (Some x) e h = slice_get_within ss s x e
+
+pub no_rule : (rs : Rules) (numbers : List ℕ) (p : Plans) (a b : ℕ) → IsRuleSet rs → ArePlansOf rs numbers p
+    → (a < length p.arities → b < length p.arities → plan_of p a b ≡ None) → rule_for rs.rules a b ≡ None
+no_rule rs numbers p a b set plans none = at (rule_for rs.rules a b) refl
+  where
+    count : length p.arities ≡ length rs.symbols
+    count = ap length plans.arities ∙ length-map rs.symbols (λ s. s.arity)
+
+    symbols_known : (turned : Bool) (r : Rule) → stands_turned a b turned r → (r.left < length p.arities) × (r.right < length p.arities) → (a < length p.arities) × (b < length p.arities)
+    symbols_known false r stands known =
+        let both = and_parts (r.left == a) (r.right == b) stands in
+        let left = (unsigned_Decides r.left a).0 both.0 in
+        let right = (unsigned_Decides r.right b).0 both.1 in
+        (transport (λ (k : ℕ). k < length p.arities) left known.0, transport (λ (k : ℕ). k < length p.arities) right known.1)
+    symbols_known true r stands known =
+        let both = and_parts (r.left == b) (r.right == a) stands.0 in
+        let left = (unsigned_Decides r.left b).0 both.0 in
+        let right = (unsigned_Decides r.right a).0 both.1 in
+        (transport (λ (k : ℕ). k < length p.arities) right known.1, transport (λ (k : ℕ). k < length p.arities) left known.0)
+
+    planned_so : plan_of p a b ≡ None → (i j : ℕ) (turned : Bool) → number_of p a b ≡ Some i → IsPlanOf rs numbers p i j turned → ⊥
+    planned_so absent i j turned e of =
+        let is : plan_of p a b ≡ Some of.plan = ap (plan_at p.plans) e ∙ of.plan_there in
+        some_none is absent
+      where
+        some_none : {x : Planned} {o : Option Planned} → o ≡ Some x → o ≡ None → ⊥
+        some_none e f = let both = sym e ∙ f in cc
+
+    with_number : plan_of p a b ≡ None → (o : Option ℕ) (j : ℕ) (turned : Bool) → number_of p a b ≡ o → IsOfRule rs numbers p o (Some (j, turned)) → ⊥
+    with_number absent None j turned e of = of
+    with_number absent (Some i) j turned e of = planned_so absent i j turned e of
+
+    with_rule : (j : ℕ) (turned : Bool) (o : Option Rule) → rule_for rs.rules a b ≡ Some (j, turned) → slice_get rs.rules j ≡ o → ⊥
+    with_rule j turned None e there = past rs.rules j (rule_for-found rs.rules a b j turned e).there there
+      where
+        some_apart : {r : Rule} → Some r ≡ None → ⊥
+        some_apart e = cc
+
+        past : (rs : List Rule) (j : ℕ) → j < length rs → slice_get rs j ≡ None → ⊥
+        past [] j low none = absurd (omega arith)
+        past (r ∷ rs) zero low none = some_apart none
+        past (r ∷ rs) (suc j) low none = past rs j (omega arith) none
+    with_rule j turned (Some r) e there =
+        let same_count = count in
+        let over = rule_over_at rs.symbols rs.rules j r set.fitting there in
+        let at_rule : IfSome (Some r) (stands_turned a b turned) = rw there at (rule_for-found rs.rules a b j turned e).of_pair in
+        let left = known_symbol rs.symbols r.left (length r.left_args) over.left in
+        let right = known_symbol rs.symbols r.right (length r.right_args) over.right in
+        let known = symbols_known turned r at_rule ((let h : r.left < length p.arities = omega arith in h), (let h : r.right < length p.arities = omega arith in h)) in
+        with_number (none known.0 known.1) (number_of p a b) j turned refl (transport (IsOfRule rs numbers p (number_of p a b)) e (plans.each a b known.0 known.1))
+
+    at : (q : Option (ℕ × Bool)) → rule_for rs.rules a b ≡ q → rule_for rs.rules a b ≡ None
+    at None e = e
+    at (Some (j, turned)) e = absurd (with_rule j turned (slice_get rs.rules j) e refl)
+
+-- ---- equations that no step is possible of
+
+-- an equation is of no rule, and each side that is a name occurs once
+abbrev IsEnded : List Rule → (ℕ → ℕ) → Pair → Type 0
+IsEnded rs total e = (active_pair rs e ≡ None) × ((y : ℕ) → (e.left ≡ name y) ⊎ (e.right ≡ name y) → total y ≡ 1)
+
+inert : (rs : Rules) (numbers : List ℕ) (p : Plans) (n : Numbers) (e : Equation) (t u : Tree) → IsRuleSet rs → ArePlansOf rs numbers p → IsStuck p e
+    → HeadIs n e.left t → HeadIs n e.right u → oriented t u (rule_of_sides rs.rules t u) ≡ None
+inert rs numbers p n e (name x) u set plans stuck left right = refl
+inert rs numbers p n e (agent a ts) (name y) set plans stuck left right = refl
+inert rs numbers p n e (agent a ts) (agent b us) set plans stuck left right =
+    ap (oriented (agent a ts) (agent b us)) (no_rule rs numbers p a b set plans (stuck.no_plan a b left right))
+
+side_once : (n : Numbers) (total : ℕ → ℕ) (w : Word) (t : Tree) (y : ℕ) → ((j x : ℕ) → slice_get n.given j ≡ Some x → total x ≡ 1) → HeadIs n w t → t ≡ name y → total y ≡ 1
+side_once n total w (name x) y once head is =
+    let same : x ≡ y = cc in
+    transport (λ (z : ℕ). total z ≡ 1) same (once w.index x head.1)
+side_once n total w (agent a ts) y once head is = absurd (agent_name is)
+  where
+    agent_name : agent a ts ≡ name y → ⊥
+    agent_name e = cc
+
+all_ended : (rs : Rules) (numbers : List ℕ) (p : Plans) (n : Numbers) (total : ℕ → ℕ) (es : List Equation) (ts : List Tree) → IsRuleSet rs → ArePlansOf rs numbers p
+    → ((j x : ℕ) → slice_get n.given j ≡ Some x → total x ≡ 1) → AllByRecursion (IsStuck p) es → BeginAs n (sides_of es) ts → length ts ≡ 2 * length es
+    → AllByRecursion (IsEnded rs.rules total) (pairs_of ts)
+all_ended rs numbers p n total [] [] set plans once stuck begin even = tt
+all_ended rs numbers p n total [] (t ∷ ts) set plans once stuck begin even = absurd (omega arith)
+all_ended rs numbers p n total (e ∷ es) [] set plans once stuck begin even = absurd (omega arith)
+all_ended rs numbers p n total (e ∷ es) (t ∷ []) set plans once stuck begin even = absurd (omega arith)
+all_ended rs numbers p n total (e ∷ es) (t ∷ u ∷ ts) set plans once stuck begin even =
+    let left : HeadIs n e.left t = begin.0 stuck.0.left in
+    let right : HeadIs n e.right u = begin.1.0 stuck.0.right in (
+      (inert rs numbers p n e t u set plans stuck.0 left right, λ y. sides_once left right y),
+      all_ended rs numbers p n total es ts set plans once stuck.1 begin.1.1 (omega arith),
+    )
+  where
+    sides_once : HeadIs n e.left t → HeadIs n e.right u → (y : ℕ) → (t ≡ name y) ⊎ (u ≡ name y) → total y ≡ 1
+    sides_once left right y (inl is) = side_once n total e.left t y once left is
+    sides_once left right y (inr is) = side_once n total e.right u y once right is
+
+-- ---- no step
+
+all_at_middle : {X : Type 0} (P : X → Type 0) (before : List X) (x : X) (after : List X) → AllByRecursion P (before ++ x ∷ after) → P x
+all_at_middle P [] x after all = all.0
+all_at_middle P (y ∷ before) x after all = all_at_middle P before x after all.1
+
+some_none : {a : Active} {o : Option Active} → o ≡ Some a → o ≡ None → ⊥
+some_none e f = let both = sym e ∙ f in cc
+
+name_itself : (x : ℕ) → occurrences x (x ∷ []) ≡ 1
+name_itself x = rw (eq-eqb x x refl) refl
+
+ended_quiet : (rs : List Rule) (c : Configuration) → AllByRecursion (IsEnded rs (λ x. occurrences x (configuration_names c))) c.equations → IsQuiet rs c
+ended_quiet rs c all d step = at step
+  where
+    at_place : (before : List Pair) (e : Pair) (after : List Pair) → c.equations ≡ before ++ e ∷ after → IsEnded rs (λ x. occurrences x (configuration_names c)) e
+    at_place before e after parts =
+        all_at_middle (IsEnded rs (λ x. occurrences x (configuration_names c))) before e after
+        (transport (AllByRecursion (IsEnded rs (λ x. occurrences x (configuration_names c)))) parts all)
+
+    side_of : (e : Pair) (b : Binding) → Binds e b → (e.left ≡ name b.name) ⊎ (e.right ≡ name b.name)
+    side_of e b (inl here) = inl (ap (λ (p : Pair). p.left) here)
+    side_of e b (inr here) = inr (ap (λ (p : Pair). p.right) here)
+
+    some_side : (e : Pair) (y : ℕ) → (e.left ≡ name y) ⊎ (e.right ≡ name y) → 1 ≤ occurrences y (pair_names e)
+    some_side e y (inl is) =
+        let here = ap (λ (t : Tree). occurrences y (names t)) is ∙ name_itself y in
+        let parts = occurrences-append y (names e.left) (names e.right) in
+        omega arith
+    some_side e y (inr is) =
+        let here = ap (λ (t : Tree). occurrences y (names t)) is ∙ name_itself y in
+        let parts = occurrences-append y (names e.left) (names e.right) in
+        omega arith
+
+    no_side : (before : List Pair) (e : Pair) (after : List Pair) (b : Binding) → c.equations ≡ before ++ e ∷ after → Binds e b
+        → 1 ≤ occurrences b.name (flat_map names c.interface) + occurrences b.name (flat_map pair_names (before ++ after)) → ⊥
+    no_side before e after b parts side some =
+        let y : ℕ = b.name in
+        let one = (at_place before e after parts).1 y (side_of e b side) in
+        let here = some_side e y (side_of e b side) in
+        let all_names = occurrences-append y (flat_map names c.interface) (flat_map pair_names c.equations) in
+        let split = ap (λ l. occurrences y (flat_map pair_names l)) parts
+        ∙ (ap (occurrences y) (flat_map-append pair_names before (e ∷ after)) ∙ occurrences-append y (flat_map pair_names before) (pair_names e ++ flat_map pair_names after)) in
+        let more = occurrences-append y (pair_names e) (flat_map pair_names after) in
+        let others = ap (occurrences y) (flat_map-append pair_names before after) ∙ occurrences-append y (flat_map pair_names before) (flat_map pair_names after) in
+        absurd (omega arith)
+
+    at : Step rs c d → ⊥
+    at (interaction x y place i) = some_none i.has_rule (at_place i.before i.equation i.after i.stands.parts).0
+    at (indirection x y place i) =
+        no_side i.before i.equation i.after i.bound i.stands.parts i.side
+        (let some = occurrences_some i.bound.name (flat_map pair_names (i.before ++ i.after)) i.elsewhere in omega arith)
+    at (collect x y place i) =
+        no_side i.before i.equation i.after i.bound i.stands.parts i.side
+        (let some = occurrences_some i.bound.name (flat_map names c.interface) i.elsewhere in omega arith)
+
+pub stuck_quiet : (rs : Rules) (numbers : List ℕ) (p : Plans) (n : Numbers) (m : Net) (ts : List Token) → IsRuleSet rs → ArePlansOf rs numbers p
+    → m.pending ≡ [] → AllByRecursion (IsStuck p) m.aside
+    → BeginAs n (m.interface ++ (sides_of m.pending ++ sides_of m.aside)) (forest (flat_words n ts))
+    → length (forest (flat_words n ts)) ≡ length m.interface + 2 * length m.aside
+    → ((j x : ℕ) → slice_get n.given j ≡ Some x → occurrences x (configuration_names (configuration_read n ts (length m.interface))) ≡ 1)
+    → IsQuiet rs.rules (configuration_read n ts (length m.interface))
+stuck_quiet rs numbers p n m ts set plans none stuck begin counted once =
+    let c : Configuration = configuration_read n ts (length m.interface) in
+    let F : List Tree = forest (flat_words n ts) in
+    let aside : BeginAs n (m.interface ++ sides_of m.aside) F = transport (λ (l : List Equation). BeginAs n (m.interface ++ (sides_of l ++ sides_of m.aside)) F) none begin in
+    let after = begin_after n m.interface (sides_of m.aside) F aside in
+    let even : length (drop (length m.interface) F) ≡ 2 * length m.aside = omega (arith, length-drop (length m.interface) F) in
+    ended_quiet rs.rules c
+    (all_ended rs numbers p n (λ x. occurrences x (configuration_names c)) m.aside (drop (length m.interface) F) set plans once stuck after.1 even)
