@@ -24,7 +24,7 @@ use Rattle.ic_machine.specs.lemmas.StepsOn.{steps_through}
 use Rattle.ic_meaning.specs.Words.{Numbers, AreNumbers}
 use Rattle.ic_meaning.specs.Nets.{net_of, AreNetPieces, IsStuckPiece}
 use Rattle.ic_meaning.specs.Plans.{ArePlansOf, StandsForNet, rule_number}
-use Rattle.ic_in_place.proofs.Running.{all_of_both}
+use Rattle.ic_in_place.proofs.Onward.{all_of_both}
 use Rattle.ic_in_place.specs.Holding.{AreGiven, AreCompiled, HasRun, Holds, HasEnded}
 
 -- what the laws say that this one builds on

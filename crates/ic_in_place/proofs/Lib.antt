@@ -1,2 +1,12 @@
-pub mod Running
+pub mod Onward
+pub mod Pieces
 pub mod Holding
+pub mod Words
+pub mod Naming
+pub mod InRange
+pub mod Stopping
+pub mod Answering
+pub mod Orders
+pub mod OneText
+pub mod Answered
+pub mod Written

@@ -1,1 +1,5 @@
 pub mod Holding
+pub mod Running
+pub mod Reducing
+pub mod Reductions
+pub mod inner

@@ -1,17 +1,24 @@
 //! Laws of what a machine holds.
 
-ghost use Rattle.std.specs.Prelude.{ℕ, List, IsTrue, length, map};
+ghost use Rattle.std.specs.Prelude.{◌≡◌, ℕ, List, [], IsTrue, length, map};
 ghost use Rattle.ic_term.specs.Configuration.{Configuration};
 ghost use Rattle.ic_term.specs.Symbol.{is_over};
 ghost use Rattle.ic_rules.specs.RuleSet.{Rules, IsRuleSet};
+ghost use Rattle.ic_naming.specs.Naming.{renumbered};
 ghost use Rattle.ic_round.specs.Naming.{HasNames};
-ghost use Rattle.ic_round.specs.Rounds.{IsQuiet};
-ghost use Rattle.ic_reaching.specs.OneNet.{OneNet};
+ghost use Rattle.ic_rules.specs.System.{SystemParts};
+ghost use Rattle.ic_round.specs.Rounds.{IsQuiet, iterate};
+ghost use Rattle.ic_confluence.specs.Kinds.{Kind, Chain};
+ghost use Rattle.ic_reaching.specs.OneNet.{OneNet, SameButNext};
+ghost use Rattle.ic_reaching.specs.Reaching.{rules_fired};
 ghost use Rattle.ic_machine.specs.Net.{Net, pieces};
 ghost use Rattle.ic_machine.specs.Plan.{Planned, Plans};
 ghost use Rattle.ic_machine.specs.Runs.{Ran};
 ghost use Rattle.ic_meaning.specs.Nets.{net_of};
 ghost use Rattle.ic_meaning.specs.Plans.{rule_number};
+ghost use Rattle.ic_in_place.specs.declared.running.Bounds.{Bounds};
+ghost use Rattle.ic_in_place.specs.declared.running.End.TheVariants.{Quiet};
+ghost use Rattle.ic_in_place.specs.Reducing.{IsReached};
 ghost use Rattle.ic_in_place.specs.Holding.{AreCompiled, HasRun, Holds, HasEnded};
 
 /// Runs go on: what a run leads to, and what a run from there leads to.
@@ -41,4 +48,46 @@ pub fn what_a_machine_holds_is_reached()
     ic_meaning::laws::where_all_pairs_are_stuck_the_net_is_quiet();
     ic_meaning::laws::what_is_reached_has_the_same_free_names();
     ic_reaching::laws::what_is_reached_is_one_net();
+}
+
+/// Where a reduction ends quiet, its answer is the net of every order: each chain of steps that ends quiet ends in it, with
+/// as many interactions. Some number of rounds ends quiet, and does so in this net, wherever fresh names begin.
+pub fn a_quiet_end_is_that_of_every_order()
+    ensures every_order { (s : SystemParts) (bounds : Bounds) (answer e : Configuration)
+        (interactions places : ℕ) (kinds : List Kind)
+        → IsRuleSet s.rules → IsTrue (is_over s.rules.symbols s.config) → HasNames s.config
+        → IsReached s bounds answer Quiet interactions places
+        → Chain s.rules.rules kinds s.config e → IsQuiet s.rules.rules e
+        → OneNet answer e × (length (rules_fired kinds) ≡ interactions) }
+    ensures rounds { (s : SystemParts) (bounds : Bounds) (answer : Configuration)
+        (interactions places n : ℕ)
+        → IsRuleSet s.rules → IsTrue (is_over s.rules.symbols s.config) → HasNames s.config
+        → IsReached s bounds answer Quiet interactions places
+        → IsQuiet s.rules.rules (iterate s.rules.rules n s.config)
+        → (e : Configuration) × OneNet answer e
+        × SameButNext e (iterate s.rules.rules n s.config) }
+    ensures some_rounds { (s : SystemParts) (bounds : Bounds) (answer : Configuration)
+        (interactions places : ℕ)
+        → IsRuleSet s.rules → IsTrue (is_over s.rules.symbols s.config) → HasNames s.config
+        → IsReached s bounds answer Quiet interactions places
+        → (n : ℕ) × IsQuiet s.rules.rules (iterate s.rules.rules n s.config) }
+{
+    ic_reaching::laws::one_net_is_an_equivalence();
+    ic_reaching::laws::what_is_reached_is_one_net();
+    ic_reaching::laws::what_is_reached_goes_on();
+    ic_reaching::laws::what_is_reached_quiet_is_the_end_of_every_order();
+}
+
+/// Where a reduction ends quiet and leaves no equation, its answer is written as the end of every order is.
+pub fn without_equations_every_order_has_one_text()
+    ensures { (s : SystemParts) (bounds : Bounds) (answer e : Configuration)
+        (interactions places : ℕ) (kinds : List Kind)
+        → IsRuleSet s.rules → IsTrue (is_over s.rules.symbols s.config) → HasNames s.config
+        → IsReached s bounds answer Quiet interactions places → answer.equations ≡ []
+        → Chain s.rules.rules kinds s.config e → IsQuiet s.rules.rules e
+        → renumbered answer ≡ renumbered e }
+{
+    a_quiet_end_is_that_of_every_order();
+    ic_confluence::laws::same_nets_have_one_shape();
+    ic_naming::laws::what_is_renumbered_forgets_names();
 }

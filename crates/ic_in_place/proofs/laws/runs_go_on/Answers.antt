@@ -1,4 +1,4 @@
-use Rattle.ic_in_place.proofs.Running.{ran_through}
+use Rattle.ic_in_place.proofs.Onward.{ran_through}
 use Rattle.ic_in_place.proofs.laws.runs_go_on.Goals as goal
 
 pub returns : goal.returns

@@ -1,10 +1,12 @@
 -- Lemmas: runs one after another.
-use Rattle.std.proofs.Common.{List, [], ◌∷◌, ◌++◌, ap, ◌∙◌, arith, append_assoc}
+use Rattle.std.proofs.Common.{List, [], ◌∷◌, ◌++◌, refl, sym, ap, ◌∙◌, arith, append_assoc, append-nil}
 use Rattle.std.proofs.lemmas.List.{length-append}
+use Rattle.std.proofs.lemmas.List.Sorted.{IsPermutation-refl}
 use Rattle.std.specs.List.{AllByRecursion}
 use Rattle.ic_machine.specs.Net.{Net, pieces, IsStuck}
 use Rattle.ic_machine.specs.Plan.{Plans}
 use Rattle.ic_machine.specs.Runs.{Ran}
+use Rattle.ic_machine.specs.Steps.{no_step}
 use Rattle.ic_machine.specs.lemmas.StepsOn.{steps_through}
 
 pub all_of_both : {X : Type 0} (P : X → Type 0) (xs ys : List X) → AllByRecursion P xs → AllByRecursion P ys → AllByRecursion P (xs ++ ys)
@@ -26,3 +28,15 @@ ran_through p a b c one two =
       aside = two.aside ∙ (ap (λ l. l ++ two.more) one.aside ∙ append_assoc a.aside one.more two.more);
       stuck = all_of_both (IsStuck p) one.more two.more one.stuck two.stuck;
     }
+
+pub ran_nothing : (p : Plans) (a : Net) → Ran p a a
+ran_nothing p a = record {
+  fired = [];
+  steps = no_step (pieces a) (pieces a) (IsPermutation-refl (pieces a));
+  counted = omega arith;
+  arities = refl;
+  interface = refl;
+  more = [];
+  aside = sym (append-nil a.aside);
+  stuck = tt;
+}

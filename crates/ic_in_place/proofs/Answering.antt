@@ -1,0 +1,114 @@
+-- Lemmas: what was read back of a machine that has stopped is what a reduction answers.
+use Rattle.std.proofs.Common.{◌≡◌, ℕ, ◌+◌, ◌*◌, ◌^◌, ◌<◌, List, [], ◌∷◌, Some, IsTrue, length, map, slice_get, refl, sym, ap, ◌∙◌, subst as transport}
+use Rattle.std.specs.Prelude.{◌↔◌}
+use Rattle.std.specs.List.{flat_map, AllByRecursion}
+use Rattle.std.proofs.lemmas.List.{length-map}
+use Rattle.ic_term.specs.Configuration.{Configuration, configuration_names, occurrences}
+use Rattle.ic_term.specs.Symbol.{Symbol, is_over}
+use Rattle.ic_rules.specs.Rule.{Rule}
+use Rattle.ic_rules.specs.RuleSet.{Rules, IsRuleSet}
+use Rattle.ic_rules.specs.System.{SystemParts}
+use Rattle.ic_flat.specs.declared.word.Word.{Word as FlatWord}
+use Rattle.ic_flat.specs.Words.{forest, IsWhole, word_names}
+use Rattle.ic_flat.specs.Flat.{configuration_of}
+use Rattle.ic_flat.specs.lemmas.FlatLaws.{names-configuration_of, over-configuration_of}
+use Rattle.ic_naming.specs.Naming.{RenamesUntold, renamed_word, renumbered, renumbered_words, told_name}
+use Rattle.ic_naming.specs.lemmas.RenamedWords.{forest-renamed, whole-renamed, word_over-renamed}
+use Rattle.ic_naming.specs.lemmas.Renumbered.{renumbered-written}
+use Rattle.ic_round.specs.Naming.{HasNames}
+use Rattle.ic_reaching.specs.OneNet.{OneNet}
+use Rattle.ic_reaching.specs.Reaching.{Reaches}
+use Rattle.ic_machine.specs.Net.{Net, pieces}
+use Rattle.ic_meaning.specs.Words.{Numbers}
+use Rattle.ic_meaning.specs.Nets.{net_of}
+use Rattle.ic_readback.specs.declared.token.Token.{Token}
+use Rattle.ic_readback.specs.declared.token.Token.TheVariants.{Name, Agent}
+use Rattle.ic_readback.specs.Reading.{flat_words, configuration_read}
+use Rattle.ic_in_place.specs.declared.running.Bounds.{Bounds}
+use Rattle.ic_in_place.specs.declared.running.End.{End}
+use Rattle.ic_in_place.specs.declared.running.End.TheVariants.{Quiet, Steps, Nodes, Limit}
+use Rattle.ic_in_place.specs.declared.running.End.TheVariants as end
+use Rattle.ic_in_place.specs.Reducing.{EndsBy, IsReached, Writes}
+use Rattle.ic_in_place.specs.inner.Numbering.{written_numbers, HasNumber, IsNumbered}
+use Rattle.ic_in_place.specs.inner.Stopping.{arities_of, HasStopped}
+use Rattle.ic_in_place.proofs.Naming.{Rewrites, rewrites, names_of}
+
+-- ---- the words that are written
+
+-- whole words whose names are numbered anew
+pub writes_so : (ss : List Symbol) (ws : List FlatWord) (terms equations : ℕ) (answer : Configuration) → IsWhole ws → length (forest ws) ≡ terms + 2 * equations
+    → renumbered (configuration_of ws terms 0) ≡ renumbered answer → is_over ss (configuration_of ws terms 0) ≡ is_over ss answer → IsTrue (is_over ss answer)
+    → Writes ss (renumbered_words ws) terms equations answer
+writes_so ss ws terms equations answer whole counted same same_over over =
+    let f : ℕ → ℕ = told_name (flat_map word_names ws) in
+    record {
+      whole = whole-renamed f ws whole;
+      over = word_over-renamed f ss ws ∙ sym (over-configuration_of ws terms equations 0 counted ss whole) ∙ same_over ∙ over;
+      counted = ap length (forest-renamed f ws) ∙ length-map (forest ws) _ ∙ counted;
+      written = renumbered-written ws terms equations 0 counted ∙ same;
+    }
+
+-- what the laws say that this one builds on
+pub record AnswerLaws : Type 0 where
+  pub other_way : (c d : Configuration) → OneNet c d → OneNet d c
+  pub through : (c d e : Configuration) → OneNet c d → OneNet d e → OneNet c e
+  pub net : (rs : List Rule) (c d e : Configuration) (fired : List ℕ) → Reaches rs c d fired → OneNet d e → Reaches rs c e fired
+  pub over : (rs : Rules) (c d : Configuration) (fired : List ℕ) → IsRuleSet rs → IsTrue (is_over rs.symbols c) → HasNames c → Reaches rs.rules c d fired
+      → IsTrue (is_over rs.symbols d)
+  pub free : (rs : Rules) (c d : Configuration) (fired : List ℕ) → IsRuleSet rs → IsTrue (is_over rs.symbols c) → HasNames c → Reaches rs.rules c d fired
+      → (x : ℕ) → (occurrences x (configuration_names c) ≡ 1) ↔ (occurrences x (configuration_names d) ≡ 1)
+  pub forgets : (f : ℕ → ℕ) (ws : List FlatWord) → RenamesUntold f (flat_map word_names ws) → renumbered_words (map (renamed_word f) ws) ≡ renumbered_words ws
+
+-- an end is that of one net as of another
+ends_alike : AnswerLaws → (rs : List Rule) (bounds : Bounds) (c d : Configuration) (interactions places : ℕ) (end : End) → OneNet c d
+    → EndsBy rs bounds c interactions places end → EndsBy rs bounds d interactions places end
+ends_alike laws rs bounds c d interactions places Quiet net (e, one, quiet) = (e, laws.through d c e (laws.other_way c d net) one, quiet)
+ends_alike laws rs bounds c d interactions places Steps net is = is
+ends_alike laws rs bounds c d interactions places Nodes net is = is
+ends_alike laws rs bounds c d interactions places Limit net is = is
+ends_alike laws rs bounds c d interactions places end.Memory net is = is
+
+numbered_names : (given : List ℕ) (ts : List Token) → AllByRecursion (IsNumbered given) ts → AllByRecursion (HasNumber given) (names_of ts)
+numbered_names given [] all = tt
+numbered_names given (Name w ∷ ts) all = (all.0, numbered_names given ts all.1)
+numbered_names given (Agent s ∷ ts) all = numbered_names given ts all.1
+
+-- What was read back is what was reached, and its words are written.
+pub answered_so : AnswerLaws → (s : SystemParts) (bounds : Bounds) (given : List ℕ) (m : Net) (end : End) (places : ℕ) (stopped : HasStopped s bounds given m end places)
+    (ts : List Token) (terms equations : ℕ) (words : List FlatWord)
+    → OneNet (net_of stopped.held.numbers m.interface (pieces m)) (configuration_read stopped.held.numbers ts terms)
+    → IsWhole (flat_words stopped.held.numbers ts) → length (forest (flat_words stopped.held.numbers ts)) ≡ terms + 2 * equations
+    → AllByRecursion (IsNumbered given) ts → words ≡ renumbered_words (flat_words (written_numbers (arities_of s) given) ts)
+    → (answer : Configuration) × IsReached s bounds answer end m.interactions places × Writes s.rules.symbols words terms equations answer
+answered_so laws s bounds given m end places stopped ts terms equations words net whole counted numbered written =
+    let held = stopped.held in
+    let n : Numbers = held.numbers in
+    let here : Configuration = net_of n m.interface (pieces m) in
+    let answer : Configuration = configuration_read n ts terms in
+    let rs = s.rules in
+    let sound = stopped.sound in
+    let ws : List FlatWord = flat_words n ts in
+    let reached : Reaches rs.rules s.config answer stopped.fired = laws.net rs.rules s.config here answer stopped.fired held.reached net in
+    let over : IsTrue (is_over rs.symbols answer) = laws.over rs s.config answer stopped.fired sound.rules sound.over sound.names reached in
+    let read_names : configuration_names (configuration_of ws terms 0) ≡ flat_map word_names ws = names-configuration_of ws terms equations 0 counted in
+    let once : (x : ℕ) → occurrences x (flat_map word_names ws) ≡ 1 → (j : ℕ) × (slice_get n.given j ≡ Some x) =
+    (λ x is. transport (λ (g : List ℕ). (j : ℕ) × (slice_get g j ≡ Some x)) (sym held.names)
+    ((held.free x).0 ((laws.free rs s.config here stopped.fired sound.rules sound.over sound.names held.reached x).0
+    ((laws.free rs s.config answer stopped.fired sound.rules sound.over sound.names reached x).1 (ap (occurrences x) read_names ∙ is))))) in
+    let r : Rewrites n (written_numbers n.arities n.given) ts =
+    rewrites n ts held.sound (transport (AllByRecursion (λ x. x < 2 ^ 62)) (sym held.names) stopped.below)
+    (transport (λ (g : List ℕ). AllByRecursion (HasNumber g) (names_of ts)) (sym held.names) (numbered_names given ts numbered)) once in
+    let numbers : written_numbers (arities_of s) given ≡ written_numbers n.arities n.given =
+    (λ i. written_numbers (sym (held.arities ∙ stopped.arities) i) (sym held.names i)) in
+    let words_are : words ≡ renumbered_words ws =
+    written ∙ ap (λ (k : Numbers). renumbered_words (flat_words k ts)) numbers ∙ ap renumbered_words (sym r.words) ∙ laws.forgets r.turn ws r.untold in (
+      answer,
+      (record {
+        fired = stopped.fired;
+        reached = reached;
+        counted = stopped.counted;
+        within = stopped.within;
+        ended = ends_alike laws rs.rules bounds here answer m.interactions places end net stopped.ended;
+      }),
+      transport (λ (l : List FlatWord). Writes rs.symbols l terms equations answer) (sym words_are) (writes_so rs.symbols ws terms equations answer whole counted refl refl over),
+    )

@@ -1,0 +1,108 @@
+-- Lemmas: where a machine stops.
+use Rattle.std.proofs.Common.{◌≡◌, ℕ, zero, suc, ◌<◌, ◌≤◌, ◌^◌, List, [], ◌∷◌, ◌++◌, Some, length, map, slice_get, slice_index_or, refl, sym, ap, ◌∙◌, arith, subst as transport}
+use Rattle.std.specs.List.{AllByRecursion}
+use Rattle.std.specs.Prelude.{◌↔◌, Contains, IsTrue}
+use Rattle.std.proofs.lemmas.List.{length-map}
+use Rattle.ic_term.specs.Configuration.{Configuration, IsConfiguration, configuration_names, occurrences}
+use Rattle.ic_term.specs.Symbol.{is_over}
+use Rattle.ic_rules.specs.RuleSet.{Rules, IsRuleSet}
+use Rattle.ic_rules.specs.System.{SystemParts}
+use Rattle.ic_round.specs.Naming.{HasNames}
+use Rattle.ic_round.specs.Rounds.{IsQuiet}
+use Rattle.ic_reaching.specs.OneNet.{OneNet}
+use Rattle.ic_machine.specs.Net.{Net, pieces, IsAtPlace}
+use Rattle.ic_machine.specs.Plan.{Planned, Plans, ArePlans, IsPlan}
+use Rattle.ic_machine.specs.Runs.{IsStart, Ran}
+use Rattle.ic_meaning.specs.Nets.{net_of}
+use Rattle.ic_meaning.specs.Plans.{ArePlansOf, StandsForNet, rule_number}
+use Rattle.ic_in_place.specs.declared.running.Bounds.{Bounds}
+use Rattle.ic_in_place.specs.declared.running.End.{End}
+use Rattle.ic_in_place.specs.declared.running.End.TheVariants.{Quiet, Steps, Nodes, Limit, Memory}
+use Rattle.ic_in_place.specs.Holding.{AreGiven, AreCompiled, HasRun, Holds, HasEnded}
+use Rattle.ic_in_place.specs.Reducing.{HasQuiet, EndsBy}
+use Rattle.ic_in_place.specs.Running.{RunsOn}
+use Rattle.ic_in_place.specs.inner.Stopping.{arities_of, IsSound, IsBegun, HasStopped}
+
+pub names_of_configuration : (c : Configuration) → IsConfiguration c → HasNames c
+names_of_configuration c is = record { below = is.below; twice = is.twice }
+
+contained : (xs : List ℕ) (x k : ℕ) → k < length xs → slice_index_or xs k x ≡ x → slice_get xs k ≡ Some x
+contained [] x k low is = absurd (omega (arith, low))
+contained (y ∷ ys) x zero low is = ap Some is
+contained (y ∷ ys) x (suc k) low is = contained ys x k (omega (arith, low)) is
+
+found_within : (xs : List ℕ) (x k : ℕ) → slice_get xs k ≡ Some x → (k < length xs) × (slice_index_or xs k x ≡ x)
+found_within [] x k is = cc
+found_within (y ∷ ys) x zero is = (omega arith, cc)
+found_within (y ∷ ys) x (suc k) is = let later = found_within ys x k is in (omega (arith, later.0), later.1)
+
+-- the names that occur once, as they are found in their list
+pub given_found : (given : List ℕ) (c : Configuration) → ((x : ℕ) → (occurrences x (configuration_names c) ≡ 1) ↔ Contains given x) → AreGiven given c
+given_found given c are x = (
+  (λ once. let at = (are x).0 once in (at.0, contained given x at.0 at.1 at.2)),
+  (λ found. let at = found_within given x found.0 found.1 in (are x).1 (found.0, at.0, at.1)),
+)
+
+all_low : (xs ys : List ℕ) (next bound : ℕ) → next ≤ bound → AllByRecursion (λ x. x < next) (xs ++ ys) → AllByRecursion (λ x. x < bound) xs
+all_low [] ys next bound low all = tt
+all_low (x ∷ xs) ys next bound low all = (omega (arith, low, all.0), all_low xs ys next bound low all.1)
+
+-- the laws that this one builds on
+pub record StopLaws : Type 0 where
+  pub reached : (rs : Rules) (numbers : List ℕ) (p : Plans) (c : Configuration) (given : List ℕ) (plan : Planned) (operands : List ℕ) (m : Net)
+      → IsRuleSet rs → IsTrue (is_over rs.symbols c) → HasNames c → AreCompiled rs numbers p c given plan operands
+      → (run : HasRun p (length given) plan operands m) → Holds rs p c given (map (rule_number numbers) run.ran.fired) m
+  pub ends : (rs : Rules) (numbers : List ℕ) (p : Plans) (c : Configuration) (given fired : List ℕ) (plan : Planned) (operands : List ℕ) (m : Net)
+      → IsRuleSet rs → AreCompiled rs numbers p c given plan operands → HasRun p (length given) plan operands m → HasEnded m
+      → (held : Holds rs p c given fired m) → (e : Configuration) × OneNet (net_of held.numbers m.interface (pieces m)) e × IsQuiet rs.rules e
+
+by_end : (s : SystemParts) (bounds : Bounds) (p : Plans) (old m : Net) (c : Configuration) (places : ℕ) (end : End) → old.interactions ≡ 0
+    → RunsOn p bounds.steps end old m → (end ≡ Quiet → HasQuiet s.rules.rules c) → (end ≡ Nodes → bounds.nodes < places)
+    → EndsBy s.rules.rules bounds c m.interactions places end
+by_end s bounds p old m c places Quiet none runs quiet nodes = quiet refl
+by_end s bounds p old m c places Steps none runs quiet nodes = let all = runs.all refl in omega (arith, all, none)
+by_end s bounds p old m c places Nodes none runs quiet nodes = nodes refl
+by_end s bounds p old m c places Limit none runs quiet nodes = tt
+by_end s bounds p old m c places Memory none runs quiet nodes = tt
+
+pub stopped_so : StopLaws → (s : SystemParts) (bounds : Bounds) (numbers : List ℕ) (p : Plans) (given : List ℕ) (plan : Planned) (operands : List ℕ) (old m : Net) (end : End) (places : ℕ)
+    → IsSound s → p.arities ≡ arities_of s → ArePlans p → ArePlansOf s.rules numbers p
+    → IsStart (arities_of s) (length given) plan operands → StandsForNet (arities_of s) given s.config plan operands
+    → ((x : ℕ) → (occurrences x (configuration_names s.config) ≡ 1) ↔ Contains given x)
+    → IsBegun p (length given) plan operands old → Ran p old m → RunsOn p bounds.steps end old m → AllByRecursion IsAtPlace m.places
+    → (end ≡ Nodes → bounds.nodes < places) → HasStopped s bounds given m end places
+stopped_so laws s bounds numbers p given plan operands old m end places sound arities plans of_rules start stands are begun ran runs at_places nodes =
+    let count : length (arities_of s) ≡ length s.rules.symbols = length-map s.rules.symbols (λ x. x.arity) in
+    let compiled : AreCompiled s.rules numbers p s.config given plan operands = record {
+      plans = plans;
+      of_rules = of_rules;
+      few = omega (arith, ap (length {A = ℕ}) arities, count, sound.few);
+      is_plan = transport (λ (a : List ℕ). IsPlan a (length given) plan) (sym arities) start.plan;
+      stands = transport (λ (a : List ℕ). StandsForNet a given s.config plan operands) (sym arities) stands;
+      free = given_found given s.config are;
+    } in
+    let run : HasRun p (length given) plan operands m = record {
+      first = old;
+      starts = begun.starts;
+      separate = begun.separate;
+      aside = begun.aside;
+      ran = ran;
+    } in
+    let held : Holds s.rules p s.config given (map (rule_number numbers) ran.fired) m =
+    laws.reached s.rules numbers p s.config given plan operands m sound.rules sound.over sound.names compiled run in
+    let many = length-map ran.fired (rule_number numbers) in
+    record {
+      sound = sound;
+      below = all_low given stands.names s.config.next (2 ^ 62) sound.next stands.below;
+      plans = p;
+      arities = arities;
+      own_arities = ran.arities ∙ begun.arities ∙ arities;
+      fired = map (rule_number numbers) ran.fired;
+      held = held;
+      counted = omega (arith, ran.counted, begun.none, many);
+      within = omega (arith, runs.within, begun.none);
+      ended = by_end s bounds p old m (net_of held.numbers m.interface (pieces m)) places end begun.none runs
+          (λ is. laws.ends s.rules numbers p s.config given (map (rule_number numbers) ran.fired) plan operands m sound.rules compiled run
+          (record { pending = runs.quiet is; places = at_places }) held)
+          nodes;
+    }

@@ -1,0 +1,18 @@
+use Rattle.std.proofs.Common.{◌≡◌, ap, ◌∙◌, arith, length, subst}
+use Rattle.ic_term.specs.Configuration.{Configuration, IsConfiguration}
+use Rattle.ic_rules.specs.RuleSet.{Rules, IsRuleSet}
+use Rattle.ic_in_place.proofs.Stopping.{names_of_configuration}
+use Rattle.ic_in_place.proofs.reducing.systems_are_sound.Goals as goal
+
+pub returns : goal.returns
+returns c =
+    let rules : c.deref.result.now ≡ c.args.system.now.rules = c.deref.ensures ∙ c.rules.ensures.rules in
+    let sound = subst (λ (d : Configuration). IsConfiguration d) c.config.ensures.config c.nodes-nodes.ensures.sound in
+    record {
+      rules = subst (λ (r : Rules). IsRuleSet r) rules c.symbols.ensures.sound;
+      over = c.rules.ensures.sound;
+      names = names_of_configuration c.args.system.now.config sound;
+      next = sound.next;
+      nodes = sound.nodes;
+      few = omega (arith, c.len-symbols.ensures.sound.few, ap length (c.symbols.ensures.symbols ∙ ap (λ (r : Rules). r.symbols) rules));
+    }

@@ -1,0 +1,34 @@
+use Rattle.std.proofs.Common.{arith, refl}
+use Rattle.ic_in_place.proofs.Onward.{ran_nothing, ran_through}
+use Rattle.ic_in_place.proofs.Pieces.{too_many, goes_on}
+use Rattle.ic_in_place.proofs.running.run_in_pieces.Goals as goal
+
+pub pieces-init : goal.pieces-init
+pieces-init g c = record { ran = ran_nothing c.args.program.now c.args.machine.now; counted = refl }
+
+pub pieces-smaller : goal.pieces-smaller
+pieces-smaller g c = omega (arith, c.min-steps.ensures, c.if-left-eq0.false)
+
+pub pieces-preserved : goal.pieces-preserved
+pieces-preserved g c = record {
+  ran = ran_through c.args.program.now c.args.machine.now c.pieces.machine c.run_piece-ended.new.machine c.pieces.invariant.ran c.run_piece-ended.ensures.ran;
+  counted = goes_on c.args.program.now c.args.bounds.steps c.pieces.left c.min-steps.result c.args.machine.now c.pieces.machine c.run_piece-ended.new.machine
+      c.pieces.invariant.counted (omega (arith, c.min-steps.ensures)) c.in_default.ensures.none;
+}
+
+pub returns-in-Some-clause-ran : goal.returns-in-Some-clause-ran
+returns-in-Some-clause-ran g c =
+    ran_through c.args.program.now c.args.machine.now c.pieces.machine c.run_piece-ended.new.machine c.pieces.invariant.ran c.run_piece-ended.ensures.ran
+
+pub returns-then-left-eq0-clause-ran : goal.returns-then-left-eq0-clause-ran
+returns-then-left-eq0-clause-ran g c =
+    ran_through c.args.program.now c.args.machine.now c.pieces.machine c.run_piece-ended.new.machine c.pieces.invariant.ran c.run_piece-ended.ensures.ran
+
+pub returns-then-places-bounds-clause-ran : goal.returns-then-places-bounds-clause-ran
+returns-then-places-bounds-clause-ran g c =
+    ran_through c.args.program.now c.args.machine.now c.pieces.machine c.run_piece-ended.new.machine c.pieces.invariant.ran c.run_piece-ended.ensures.ran
+
+pub returns-then-places-bounds-clause-ends : goal.returns-then-places-bounds-clause-ends
+returns-then-places-bounds-clause-ends g c =
+    too_many c.args.program.now c.args.bounds.steps c.pieces.left c.min-steps.result c.args.machine.now c.pieces.machine c.run_piece-ended.new.machine
+    c.pieces.invariant.counted (omega (arith, c.min-steps.ensures)) c.in_default.ensures.none

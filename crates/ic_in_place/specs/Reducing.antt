@@ -1,0 +1,48 @@
+-- What a system is reduced to in place (this project's choice).
+use Rattle.std.specs.Prelude.{◌≡◌, ℕ, ◌+◌, ◌*◌, ◌<◌, ◌≤◌, List, IsTrue, length}
+use Rattle.std.specs.List.{list_all}
+use Rattle.ic_term.specs.Configuration.{Configuration}
+use Rattle.ic_term.specs.Symbol.{Symbol}
+use Rattle.ic_rules.specs.Rule.{Rule}
+use Rattle.ic_rules.specs.System.{SystemParts}
+use Rattle.ic_flat.specs.declared.word.Word.{Word}
+use Rattle.ic_flat.specs.Words.{forest, is_word_over, IsWhole}
+use Rattle.ic_flat.specs.Flat.{configuration_of}
+use Rattle.ic_naming.specs.Naming.{renumbered}
+use Rattle.ic_round.specs.Rounds.{IsQuiet}
+use Rattle.ic_reaching.specs.OneNet.{OneNet}
+use Rattle.ic_reaching.specs.Reaching.{Reaches}
+use Rattle.ic_text.specs.declared.limits.TheConstants.{MAX_NAME}
+use Rattle.ic_in_place.specs.declared.running.Bounds.{Bounds}
+use Rattle.ic_in_place.specs.declared.running.End.{End}
+use Rattle.ic_in_place.specs.declared.running.End.TheVariants.{Quiet, Steps, Nodes, Limit, Memory}
+
+-- A configuration is one net with a quiet one.
+abbrev pub HasQuiet : List Rule → Configuration → Type 0
+HasQuiet rs c = (e : Configuration) × OneNet c e × IsQuiet rs e
+
+-- what an end says of the configuration that was reached, and of how many interactions were made and places there are
+abbrev pub EndsBy : List Rule → Bounds → Configuration → ℕ → ℕ → End → Type 0
+EndsBy rs bounds c interactions places Quiet = HasQuiet rs c
+EndsBy rs bounds c interactions places Steps = interactions ≡ bounds.steps
+EndsBy rs bounds c interactions places Nodes = bounds.nodes < places
+EndsBy rs bounds c interactions places Limit = Unit {0}
+EndsBy rs bounds c interactions places Memory = Unit {0}
+
+-- A configuration is reached from that of a system by so many interactions, at most as many as may be made, and this is
+-- why no more were made.
+pub record IsReached (s : SystemParts) (bounds : Bounds) (answer : Configuration) (end : End)
+    (interactions places : ℕ) : Type 0 where
+  pub fired : List ℕ
+  pub reached : Reaches s.rules.rules s.config answer fired
+  pub counted : interactions ≡ length fired
+  pub within : interactions ≤ bounds.steps
+  pub ended : EndsBy s.rules.rules bounds answer interactions places end
+
+-- Words write a configuration with its names numbered anew, so many of their terms in its interface, and so many equations.
+pub record Writes (symbols : List Symbol) (words : List Word) (terms equations : ℕ)
+    (c : Configuration) : Type 0 where
+  pub whole : IsWhole words
+  pub over : IsTrue (list_all (is_word_over symbols) words)
+  pub counted : length (forest words) ≡ terms + 2 * equations
+  pub written : configuration_of words terms (MAX_NAME + 1) ≡ renumbered c

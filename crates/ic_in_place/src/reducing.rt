@@ -1,0 +1,129 @@
+//! A system reduced in place.
+
+ghost use Rattle.std.specs.Prelude.{◌≡◌, ◌≤◌, IfOk, length};
+ghost use Rattle.ic_term.specs.Configuration.{Configuration, configuration_nodes};
+ghost use Rattle.ic_machine.specs.Plan.{planned};
+ghost use Rattle.ic_machine.specs.Runs.{IsStart};
+ghost use Rattle.ic_in_place.specs.Reducing.{IsReached, Writes};
+ghost use Rattle.ic_in_place.specs.inner.Stopping.{HasStopped, IsBegun, IsSound, arities_of};
+
+use crate::running::{Bounds, End, Watch, run_in_pieces};
+use crate::writing::words_of;
+use ic_flat::{FlatSystem, Word};
+use ic_machine::{Machine, Program};
+use ic_naming::renumbered_words;
+use ic_plans::{First, compile, first_plan};
+use ic_readback::read_back;
+use std::alloc::{AllocError, Global};
+
+/// What a system was reduced to, and how far that went.
+#[derive(Debug, Drop)]
+pub struct Reduced {
+    /// The words of what was reached, the interface's before the equations'.
+    pub words: Vec<Word>,
+    /// How many terms the interface has.
+    pub terms: usize,
+    /// How many equations there are.
+    pub equations: usize,
+    /// How many interactions were made.
+    pub interactions: u64,
+    /// How many places the machine had at the end, the free ones too.
+    pub places: u64,
+    /// Why the reduction ended.
+    pub end: End,
+}
+
+/// A machine that has stopped, with the names that it was given.
+#[derive(Drop)]
+struct Stopped {
+    machine: Machine,
+    given: Vec<u64>,
+    places: u64,
+    end: End,
+}
+
+/// Reduces a system in place, by interactions in any order, until none is possible, or a bound or a limit is met. What was
+/// reached then has its names numbered anew.
+pub fn reduce_in_place<V: Watch>(
+    alloc: Global,
+    system: &FlatSystem,
+    bounds: Bounds,
+    watch: &V,
+) -> Result<Reduced, AllocError>
+    ensures { IfOk result (λ reduced. (answer : Configuration)
+        × IsReached system.now bounds answer reduced.end reduced.interactions reduced.places
+        × Writes system.now.rules.symbols reduced.words.items reduced.terms reduced.equations answer) }
+{
+    ic_reaching::laws::one_net_is_an_equivalence();
+    ic_reaching::laws::what_is_reached_is_one_net();
+    ic_meaning::laws::what_is_reached_has_the_same_free_names();
+    ic_naming::laws::what_is_renumbered_forgets_names();
+    let stopped = run_system(alloc, system, bounds, watch)?;
+    let interactions = stopped.machine.interactions();
+    let (places, end) = (stopped.places, stopped.end);
+    let read = read_back(alloc, stopped.machine)?;
+    let symbols = system.rules().symbols();
+    let words = words_of(alloc, symbols, &stopped.given, &read.tokens)?;
+    Ok(Reduced {
+        words: renumbered_words(alloc, &words)?,
+        terms: read.terms,
+        equations: read.equations,
+        interactions,
+        places,
+        end,
+    })
+}
+
+/// Begins a machine with the configuration of a system, and runs it until an end comes.
+fn run_system<V: Watch>(
+    alloc: Global,
+    system: &FlatSystem,
+    bounds: Bounds,
+    watch: &V,
+) -> Result<Stopped, AllocError>
+    ensures { IfOk result (λ stopped. HasStopped system.now bounds stopped.given.items
+        stopped.machine stopped.end stopped.places) }
+{
+    crate::laws::what_a_machine_holds_is_reached();
+    systems_are_sound(system);
+    let (program, numbers) = compile(alloc, system.rules())?;
+    let first = first_plan(alloc, system)?;
+    let mut machine = begin(alloc, system, &program, &first)?;
+    let (end, places) = run_in_pieces(&mut machine, &program, bounds, watch);
+    Ok(Stopped {
+        machine,
+        given: first.given,
+        places,
+        end,
+    })
+}
+
+/// The machine that holds the configuration of a system.
+fn begin(
+    alloc: Global,
+    system: &FlatSystem,
+    program: &Program,
+    first: &First,
+) -> Result<Machine, AllocError>
+    requires arities { program.now.arities ≡ arities_of system.now }
+    requires start { IsStart (arities_of system.now) (length first.now.given.items)
+        (planned first.now.plan) first.now.interface.items }
+    requires few { length first.now.given.items ≤ configuration_nodes system.now.config }
+    ensures { IfOk result (IsBegun program.now (length first.now.given.items)
+        (planned first.now.plan) first.now.interface.items) }
+{
+    systems_are_sound(system);
+    let given = first.given.len() as u32;
+    match Machine::new(alloc, program, &first.plan, given, &first.interface) {
+        Ok(machine) => Ok(machine),
+        Err(_) => Err(AllocError),
+    }
+}
+
+/// Systems keep what their rules and their configurations do.
+fn systems_are_sound(system: &FlatSystem)
+    ensures { IsSound system.now }
+{
+    let nodes = system.config().nodes();
+    let symbols = system.rules().symbols().len();
+}

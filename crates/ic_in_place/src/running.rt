@@ -1,0 +1,92 @@
+//! How a reduction runs, in pieces, and why it ends.
+
+ghost use Rattle.std.specs.Prelude.{◌≡◌, ◌≢◌, ◌+◌, ◌<◌, ◌^◌, IfSome, IfNone};
+ghost use Rattle.std.specs.List.{AllByRecursion};
+ghost use Rattle.ic_machine.specs.Net.{IsAtPlace};
+ghost use Rattle.ic_machine.specs.Runs.{Ran};
+ghost use Rattle.ic_in_place.specs.Running.{RunsOn};
+
+use ic_machine::{Ended, Machine, MachineFault, Program};
+
+/// How many interactions a piece of a run makes at most.
+pub const PIECE: u64 = 4_096;
+
+/// How far a reduction goes.
+#[derive(Clone, Copy, Debug)]
+pub struct Bounds {
+    /// Interactions at most.
+    pub steps: u64,
+    /// Places at most, looked at after each piece of a run.
+    pub nodes: u64,
+}
+
+/// Why a reduction ended.
+#[derive(Clone, Copy, Debug, PartialEq, Eq)]
+pub enum End {
+    /// No interaction is possible.
+    Quiet,
+    /// As many interactions were made as may be, and one is possible.
+    Steps,
+    /// There are more places than there may be.
+    Nodes,
+    /// A table would have 2^32 entries or more.
+    Limit,
+    /// A growth was refused.
+    Memory,
+}
+
+/// Who is told between the pieces of a run how far it has come.
+pub trait Watch {
+    fn saw(&self, interactions: u64, places: u64);
+}
+
+/// Runs a machine in pieces, until no pair is left or a bound or a limit is met. Tells how many places there are then.
+pub(crate) fn run_in_pieces<V: Watch>(
+    machine: &mut Machine,
+    program: &Program,
+    bounds: Bounds,
+    watch: &V,
+) -> (End, u64)
+    requires arities { machine.old.arities ≡ program.now.arities }
+    requires few { machine.old.interactions + bounds.steps < 2 ^ 64 }
+    ensures ran { Ran program.now machine.old machine.new }
+    ensures ends { RunsOn program.now bounds.steps result.0 machine.old machine.new }
+    ensures places { AllByRecursion IsAtPlace machine.new.places }
+    ensures nodes { result.0 ≡ End.Nodes → bounds.nodes < result.1 }
+{
+    let mut left = bounds.steps;
+    'pieces: loop {
+        let steps = left.min(PIECE);
+        left -= steps;
+        let ended = run_piece(machine, program, steps);
+        let places = machine.places();
+        if let Some(end) = ended {
+            return (end, places);
+        }
+        if left == 0 {
+            return (End::Steps, places);
+        }
+        watch.saw(machine.interactions(), places);
+        if places > bounds.nodes {
+            return (End::Nodes, places);
+        }
+    }
+}
+
+/// Runs a piece of so many interactions, and tells why it ended before all were made.
+fn run_piece(machine: &mut Machine, program: &Program, steps: u64) -> Option<End>
+    requires arities { machine.old.arities ≡ program.now.arities }
+    requires few { machine.old.interactions + steps < 2 ^ 64 }
+    ensures ran { Ran program.now machine.old machine.new }
+    ensures places { AllByRecursion IsAtPlace machine.new.places }
+    ensures ended { IfSome result (λ end. RunsOn program.now steps end machine.old machine.new) }
+    ensures before { IfSome result (λ end. (end ≢ End.Steps) × (end ≢ End.Nodes)) }
+    ensures none { IfNone result (RunsOn program.now steps End.Steps machine.old machine.new) }
+{
+    match machine.run(program, steps) {
+        Ok(Ended::Steps) => None,
+        Ok(Ended::Quiet) => Some(End::Quiet),
+        Err(MachineFault::Limit) => Some(End::Limit),
+        Err(MachineFault::Memory) => Some(End::Memory),
+    }
+}

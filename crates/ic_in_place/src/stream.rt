@@ -1,0 +1,163 @@
+//! Reducing in place what a reader gives.
+
+ghost use Rattle.std.specs.Prelude.{◌≡◌, ◌≢◌, ◌+◌, ◌*◌, ◌∷◌, ◌++◌, [], IfOk, IfErr, IsTrue, OnOk, length, if◌then◌else◌};
+ghost use Rattle.std.specs.List.{list_all};
+ghost use Rattle.std.specs.Option.{option_map};
+ghost use Rattle.std.specs.Io.KnownBytes.{Keeps};
+ghost use Rattle.ic_flat.specs.Words.{forest, is_word_over, IsWhole};
+ghost use Rattle.ic_flat.specs.Flat.{configuration_of};
+ghost use Rattle.ic_places.specs.Telling.{Appended, AppendedAt};
+ghost use Rattle.ic_streams.specs.Streams.{OfText, IsAnswered, FaultOf, TakesAt, TakesText, line_of};
+ghost use Rattle.ic_in_place.specs.Reductions.{EndsAs, ReducesInPlace, Tells, is_written};
+ghost use Rattle.ic_in_place.specs.inner.Told.{words_stuck};
+
+use crate::reducing::{Reduced, reduce_in_place};
+use crate::running::{Bounds, End, Watch};
+use crate::stuck::stuck_text;
+use ic_places::{Kind, refused};
+use ic_streams::{StreamFault, read_text, write_line};
+use ic_term::Symbols;
+use ic_text::{find_flat_system, put_words};
+use std::alloc::{AllocError, Global};
+use std::io::{Read, Write};
+
+/// How a text was reduced.
+#[derive(Debug, Drop)]
+pub struct Outcome {
+    /// Why the reduction ended.
+    pub end: End,
+    /// How many interactions were made.
+    pub interactions: u64,
+    /// How many places there were at the end, the free ones too.
+    pub places: u64,
+    /// The symbols of the first equation of two agents, where the end is quiet.
+    pub stuck: Option<Vec<u8>>,
+}
+
+/// Reduces the system that the reader gives in place, and writes what was reached as a line. Where a bound of places or a
+/// limit was met, or memory ran out, that is written only if `partial` is asked for.
+///
+/// Nothing is written before the text is read and reduced. A text of more than 262,144 bytes is `TextFault::Limit`, and at
+/// most 262,145 bytes are read. Where the text is refused, the lines that tell of it are appended to `told`.
+pub fn reduce_in_place_stream<V: Watch, R: Read, W: Write>(
+    alloc: Global,
+    bounds: Bounds,
+    partial: bool,
+    watch: &V,
+    reader: &mut R,
+    writer: &mut W,
+    told: &mut Vec<u8>,
+) -> Result<Outcome, StreamFault>
+    // There is a text of which this holds: the reader's, where it tells its bytes.
+    ensures answered { OfText (R.remaining reader.old)
+        (λ text. IsAnswered (ReducesInPlace bounds partial) text result
+        (W.contents writer.old) (W.contents writer.new) × IfOk result (λ outcome.
+        Tells bounds partial text outcome (W.contents writer.old) (W.contents writer.new))) }
+    ensures silent { IfErr result (λ fault. fault ≢ StreamFault.Write
+        → Keeps (W.contents writer.old) (W.contents writer.new)) }
+    ensures taken { OnOk result (TakesText (R.remaining reader.old) (R.remaining reader.new)) }
+    ensures taken_at_fault { IfErr result
+        (λ fault. TakesAt fault (R.remaining reader.old) (R.remaining reader.new)) }
+    ensures told { IfErr result (λ fault. Appended (ReducesInPlace bounds partial) Kind.System
+        (R.remaining reader.old) (R.remaining reader.new) fault
+        told.old.items told.new.items) }
+    ensures quiet { OnOk result (told.new.items ≡ told.old.items) }
+{
+    let text = read_text(alloc, reader)?;
+    let (line, outcome) = reached_line(alloc, bounds, partial, watch, &text, told)?;
+    write_line(writer, &line)?;
+    Ok(outcome)
+}
+
+/// The line of a text that is reduced in place, or nothing where it isn't to be written, and how that ended.
+fn reached_line<V: Watch>(
+    alloc: Global,
+    bounds: Bounds,
+    partial: bool,
+    watch: &V,
+    text: &[u8],
+    told: &mut Vec<u8>,
+) -> Result<(Vec<u8>, Outcome), StreamFault>
+    ensures line { IfOk result
+        (λ answer. EndsAs bounds partial text.now answer.1 answer.0.items) }
+    ensures refused { IfErr result (λ fault. FaultOf (ReducesInPlace bounds partial) text.now fault) }
+    ensures told { IfErr result (λ fault. AppendedAt (ReducesInPlace bounds partial) Kind.System
+        text.now fault told.old.items told.new.items) }
+    ensures quiet { OnOk result (told.new.items ≡ told.old.items) }
+    ensures sort { IfErr result
+        (λ fault. (fault ≢ StreamFault.Write) × (fault ≢ StreamFault.Read)) }
+{
+    let system = match find_flat_system(alloc, text) {
+        Ok(found) => found,
+        Err(misread) => return Err(refused(alloc, Kind::System, text, misread, told)),
+    };
+    let reduced = reduce_in_place(alloc, &system, bounds, watch)?;
+    let symbols = system.rules().symbols();
+    let line = line_reached(alloc, symbols, &reduced, partial)?;
+    let stuck = stuck_at_end(alloc, symbols, &reduced)?;
+    let outcome = Outcome {
+        end: reduced.end,
+        interactions: reduced.interactions,
+        places: reduced.places,
+        stuck,
+    };
+    Ok((line, outcome))
+}
+
+/// Whether what was reached is written.
+fn is_written(partial: bool, end: End) -> bool
+    ensures { result ≡ is_written partial end }
+{
+    match end {
+        End::Quiet | End::Steps => true,
+        End::Nodes | End::Limit | End::Memory => partial,
+    }
+}
+
+/// The line of what was reached, or nothing.
+fn line_reached(
+    alloc: Global,
+    symbols: &Symbols,
+    reduced: &Reduced,
+    partial: bool,
+) -> Result<Vec<u8>, AllocError>
+    requires whole { IsWhole reduced.now.words.items }
+    requires over { IsTrue (list_all (is_word_over symbols.now) reduced.now.words.items) }
+    requires counted { length (forest reduced.now.words.items)
+        ≡ reduced.now.terms + 2 * reduced.now.equations }
+    ensures { IfOk result (λ line. line.items
+        ≡ if is_written partial reduced.now.end
+        then line_of symbols.now (configuration_of reduced.now.words.items reduced.now.terms 0)
+        else []) }
+{
+    let mut line = Vec::new(alloc);
+    if is_written(partial, reduced.end) {
+        let (terms, equations) = (reduced.terms, reduced.equations);
+        put_words(alloc, symbols, &reduced.words, terms, equations, &mut line)?;
+        line.push(b'\n')?;
+    }
+    Ok(line)
+}
+
+/// The text of the first equation of two agents, where the end is quiet.
+fn stuck_at_end(
+    alloc: Global,
+    symbols: &Symbols,
+    reduced: &Reduced,
+) -> Result<Option<Vec<u8>>, AllocError>
+    requires whole { IsWhole reduced.now.words.items }
+    requires over { IsTrue (list_all (is_word_over symbols.now) reduced.now.words.items) }
+    requires counted { length (forest reduced.now.words.items)
+        ≡ reduced.now.terms + 2 * reduced.now.equations }
+    ensures { IfOk result (λ stuck. option_map (λ text. text.items) stuck
+        ≡ words_stuck reduced.now.end symbols.now
+        (configuration_of reduced.now.words.items reduced.now.terms 0)) }
+{
+    match reduced.end {
+        End::Quiet => {
+            let (terms, equations) = (reduced.terms, reduced.equations);
+            stuck_text(alloc, symbols, &reduced.words, terms, equations)
+        }
+        _ => Ok(None),
+    }
+}
