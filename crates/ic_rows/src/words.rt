@@ -49,7 +49,16 @@ fn asked(alloc: Global, task: &Task, part: &str) -> Result<String, AllocError> {
             let asked = format!(in alloc; "attend {disk} {runners} {turns} {workers}")?;
             with_texts(asked, scripts)
         }
-        Task::Reduce { rounds, workers } => format!(in alloc; "reduce {rounds} {workers}"),
+        Task::Reduce {
+            steps,
+            nodes,
+            partial,
+            stats,
+        } => {
+            let asked = format!(in alloc; "in place {steps} {nodes}")?;
+            with_flags(asked, *partial, *stats)
+        }
+        Task::ReduceByRounds { rounds, workers } => format!(in alloc; "reduce {rounds} {workers}"),
         Task::Trace { rounds, format } => traced(alloc, *rounds, *format),
         Task::Draw => String::from_str(alloc, "draw"),
         Task::Dump { disk, names } => {
@@ -75,6 +84,17 @@ fn with_texts(mut asked: String, texts: &[String]) -> Result<String, AllocError>
     for text in texts {
         asked.push(' ')?;
         asked.push_str(text.as_str())?;
+    }
+    Ok(asked)
+}
+
+/// What is asked for of a reduction, and its flags behind it.
+fn with_flags(mut asked: String, partial: bool, stats: bool) -> Result<String, AllocError> {
+    if partial {
+        asked.push_str(" partial")?;
+    }
+    if stats {
+        asked.push_str(" stats")?;
     }
     Ok(asked)
 }

@@ -249,7 +249,7 @@ no_scripts rows none =
 
 pub attend_taken : (words : List Text) (path r t n : Text) (scripts : List Text) → IsAttendLine words path r t n scripts → IsTaken words path r t n scripts
 attend_taken words path r t n [] line =
-    let all = all_read (below 4) attend_options (codes "script") IsAttendOption given_read line.given line.options line.once line.front line.written nothing_held refl (fresh_first line.given) refl in
+    let all = all_read (below 4) attend_options (codes "script") IsAttendOption IsWritten given_read line.given line.options line.once line.front line.written nothing_held refl (fresh_first line.given) refl in
     let rows : (settled attend_options all.behind).rows ≡ all.more = all.rows in
     let begins : words ≡ codes "attend" ∷ line.front = line.begins ∙ ap (λ (l : List Text). codes "attend" ∷ l) (append-nil line.front) in
     let apart : has_row (codes "script") all.more ≡ false = not_given line.given all.more (codes "script") all.of (named_apart line.given line.options) in
@@ -261,7 +261,7 @@ attend_taken words path r t n [] line =
       scripts = no_scripts all.more apart;
     })
 attend_taken words path r t n (v ∷ more) line =
-    let all = all_read (below 4) attend_options (codes "script") IsAttendOption given_read line.given line.options line.once line.front line.written nothing_held refl (fresh_first line.given) refl in
+    let all = all_read (below 4) attend_options (codes "script") IsAttendOption IsWritten given_read line.given line.options line.once line.front line.written nothing_held refl (fresh_first line.given) refl in
     let rows : (settled attend_options all.behind).rows ≡ all.more = all.rows in
     let apart : has_row (codes "script") all.more ≡ false = not_given line.given all.more (codes "script") all.of (named_apart line.given line.options) in
     let row = script_row (v ∷ more) in

@@ -1,5 +1,5 @@
 -- Each well-formed line of `create` is taken, with its path and its flag.
-use Rattle.std.proofs.Common.{◌≡◌, inl, inr, List, [], ◌∷◌, ◌++◌, Bool, true, false, None, Option, Some, codes, fold, refl, sym, ◌∙◌, ap, ap₂, append-nil, option_map, unwrap_or}
+use Rattle.std.proofs.Common.{◌≡◌, inl, inr, List, [], ◌∷◌, ◌++◌, Bool, true, false, None, Option, Some, codes, fold, refl, sym, ◌∙◌, ap, ap₂, append-nil, option_map}
 use Rattle.clap.specs.Words.{Kinds, Rule, Row, Text, built, fault_of, subcommand_of}
 use Rattle.clap.specs.Takes.{is_given}
 use Rattle.clap.specs.Kinds.{or_else}
@@ -10,7 +10,7 @@ use Rattle.clap.specs.Faults.{check_fault, defaults_fault, level_fault, settle_f
 use Rattle.clap.proofs.OnLiterals.{clap_on_literals}
 use Rattle.clap.specs.declared.builder.value_parser.ValueParser.TheVariants as vp
 use Rattle.clap.specs.declared.parser.matches.ValueSource.TheVariants.{CommandLine}
-use Rattle.ic_words.specs.Words.{command_line, is_flag_met, overwrite_flag, value_met}
+use Rattle.ic_words.specs.Words.{command_line, flag as flag_option, is_flag_met, value_met}
 use Rattle.ic_words.specs.Lines.{IsCreateLine, IsWritten}
 use Rattle.ic_words.specs.inner.Asking.{IsMet}
 use Rattle.ic_words.proofs.ServeNumbers.{disk}
@@ -19,7 +19,7 @@ use Rattle.ic_words.proofs.Steps.{Leads, at, leads_more, one_turn, reads_one, ro
 use Rattle.ic_words.proofs.TakenLines.{checks, either_none, or_none, top_fault}
 
 abbrev flag : Rule
-flag = with_index 1 (filled overwrite_flag)
+flag = with_index 1 (filled (flag_option (codes "overwrite")))
 
 abbrev options : List Rule
 options = disk ∷ flag ∷ help ∷ []

@@ -1,5 +1,5 @@
 -- Each well-formed line of `dump` is taken, with its path and its names.
-use Rattle.std.proofs.Common.{◌≡◌, ◌<◌, ◌^◌, List, [], ◌∷◌, ◌++◌, Bool, true, false, None, Option, Some, codes, fold, length, refl, sym, ◌∙◌, ap, ap₂, subst, append-nil, append_assoc, option_map}
+use Rattle.std.proofs.Common.{◌≡◌, ◌<◌, ◌^◌, List, [], ◌∷◌, ◌++◌, true, false, None, Option, Some, codes, fold, length, refl, sym, ◌∙◌, ap, ap₂, subst, append-nil, append_assoc, option_map}
 use Rattle.std.specs.List.{AllByRecursion}
 use Rattle.clap.specs.Words.{Kinds, Rule, Row, Text, built, fault_of, subcommand_of}
 use Rattle.clap.specs.Takes.{is_given}

@@ -9,8 +9,11 @@ pub mod ServeNumbers
 pub mod AttendNumbers
 pub mod Asked
 pub mod OptionLines
-pub mod LookNumbers
-pub mod LookLines
+pub mod TraceNumbers
+pub mod TraceLines
+pub mod ReduceNumbers
+pub mod ReduceLines
+pub mod Flags
 pub mod Steps
 pub mod LineRows
 pub mod TakenLines

@@ -11,7 +11,7 @@ use Rattle.clap.specs.Walk.{Held, Walk, arg_by_id, arg_by_long, default_rows, fi
 use Rattle.clap.specs.Faults.{check_fault, defaults_fault, level_fault, settle_fault, walk_fault}
 use Rattle.clap.specs.declared.builder.value_parser.ValueParser.{ValueParser}
 use Rattle.clap.specs.declared.parser.matches.ValueSource.TheVariants.{DefaultValue}
-use Rattle.ic_words.specs.Lines.{AreOnce, AreWritten, Given, HasValue, IsWritten}
+use Rattle.ic_words.specs.Lines.{AreOnce, AreWrittenBy, Given, HasValue, IsWritten}
 use Rattle.ic_words.proofs.OneValue.{at_end, one_value}
 use Rattle.ic_words.proofs.Steps.{Leads, at, dashes, leads_more, leads_none, level, reads_one, row_with}
 use Rattle.ic_words.proofs.LineRows.{AreFresh, AreRowsOf, IsFoundRow, IsRowOf, default_found, first_value, found_in, found_more, fresh_behind, fresh_first, given_found, not_given, row_behind}
@@ -47,8 +47,8 @@ module _ (base : Shape) (c : List Rule) (aside : Text) where
         (ap (λ (n : Text). has_row n (settled c h).rows) (sym is) ∙ none) accepted in
         record { behind = one.behind; row = row_with id g.value parser; leads = one.leads; settles = one.read.settles; rows = one.read.rows; of = (sym is, refl, refl); apart = one.aside aside other }
 
-  module _ (IsOption : Given → Type 0)
-      (reads : (g : Given) → IsOption g → (words : List Text) → IsWritten g words → (h : Held) → settle_fault c false h ≡ []
+  module _ (IsOption : Given → Type 0) (Writes : Given → List Text → Type 0)
+      (reads : (g : Given) → IsOption g → (words : List Text) → Writes g words → (h : Held) → settle_fault c false h ≡ []
       → has_row g.name (settled c h).rows ≡ false → ReadsGiven g words h) where
     pub record ReadsAll (gs : List Given) (words : List Text) (h : Held) : Type 0 where
       pub behind : Held
@@ -59,7 +59,7 @@ module _ (base : Shape) (c : List Rule) (aside : Text) where
       pub of : AreRowsOf gs more
       pub apart : is_held aside behind ≡ false
 
-    pub all_read : (gs : List Given) → AllByRecursion IsOption gs → AreOnce gs → (words : List Text) → AreWritten gs words → (h : Held) → settle_fault c false h ≡ []
+    pub all_read : (gs : List Given) → AllByRecursion IsOption gs → AreOnce gs → (words : List Text) → AreWrittenBy Writes gs words → (h : Held) → settle_fault c false h ≡ []
         → AreFresh (settled c h).rows gs → is_held aside h ≡ false → ReadsAll gs words h
     all_read [] sorts once words written h settles fresh apart = record {
       behind = h;
@@ -102,11 +102,11 @@ module _ (base : Shape) (c : List Rule) (aside : Text) where
   unfolding walk_fault
   no_words w = refl
 
-  pub line_read : (IsOption : Given → Type 0)
-      → ((g : Given) → IsOption g → (words : List Text) → IsWritten g words → (h : Held) → settle_fault c false h ≡ [] → has_row g.name (settled c h).rows ≡ false → ReadsGiven g words h)
-      → (gs : List Given) → AllByRecursion IsOption gs → AreOnce gs → (rest : List Text) → AreWritten gs rest → IsRead gs rest
-  line_read IsOption reads gs sorts once rest written =
-      let all = all_read IsOption reads gs sorts once rest written nothing_held refl (fresh_first gs) refl in
+  pub line_read : (IsOption : Given → Type 0) (Writes : Given → List Text → Type 0)
+      → ((g : Given) → IsOption g → (words : List Text) → Writes g words → (h : Held) → settle_fault c false h ≡ [] → has_row g.name (settled c h).rows ≡ false → ReadsGiven g words h)
+      → (gs : List Given) → AllByRecursion IsOption gs → AreOnce gs → (rest : List Text) → AreWrittenBy Writes gs rest → IsRead gs rest
+  line_read IsOption Writes reads gs sorts once rest written =
+      let all = all_read IsOption Writes reads gs sorts once rest written nothing_held refl (fresh_first gs) refl in
       let ends = all.leads [] in
       let same : rest ++ [] ≡ rest = append-nil rest in
       record {

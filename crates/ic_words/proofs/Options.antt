@@ -90,14 +90,14 @@ module _ (target : Text) (q : ValueParser) where
   row_stays_there [] rows there = there
   row_stays_there (a ∷ c) rows there = row_stays_there c (with_default rows a) (row_stays a rows there)
 
-  -- words of a command without a mistake leave a good row of the option
+  -- words of a command without a mistake leave a good row of the option, where they leave one
   module _ (base : Shape) (c : List Rule) (all : AllFit c) where
     abbrev level : Shape
     level = record base { rules = c; args_override_self = false }
 
-    pub option_found : (words : List Text) → level_fault level [] nothing_held words false [] ≡ []
-        → ((rows : List Row) → has_row target (fold with_default rows c) ≡ true) → IsFound target q (rows_after c [] words)
-    option_found words free there =
+    pub option_if : (words : List Text) → level_fault level [] nothing_held words false [] ≡ []
+        → has_row target (rows_after c [] words) ≡ true → IsFound target q (rows_after c [] words)
+    option_if words free there =
         let end = (walk c [] nothing_held words).held in
         let rows = (settled c end).rows in
         let parts = both_empty (walk_fault level [] (walk_from nothing_held) words) _ free in
@@ -105,4 +105,9 @@ module _ (target : Text) (q : ValueParser) where
         let checks = both_empty (defaults_fault rows c) (check_fault level (finished c end) false) ends.1 in
         let held = walk_good base c (Good target q) (sound_all c all) words (walk_from nothing_held) parts.0 tt in
         let good : Each (Good target q) rows = settled_good base c (Good target q) (sound_all c all) end ends.0 held in
-        found target q (finished c end) (defaults_all c all rows checks.0 good) (there rows)
+        found target q (finished c end) (defaults_all c all rows checks.0 good) there
+
+    -- an option with a default has one
+    pub option_found : (words : List Text) → level_fault level [] nothing_held words false [] ≡ []
+        → ((rows : List Row) → has_row target (fold with_default rows c) ≡ true) → IsFound target q (rows_after c [] words)
+    option_found words free there = option_if words free (there (settled c (walk c [] nothing_held words).held).rows)

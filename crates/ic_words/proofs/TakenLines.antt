@@ -1,28 +1,27 @@
 -- Each well-formed line of `serve` is taken, with its values.
-use Rattle.std.proofs.Common.{◌≡◌, inl, inr, ℕ, ◌≤◌, List, [], ◌∷◌, ◌++◌, Bool, true, false, not, ◌||◌, cond, Option, None, Some, codes, fold, is_some, refl, sym, ◌∙◌, ap, ap₂, subst, append-nil, arith, unwrap_or, option_map, true≢false}
+use Rattle.std.proofs.Common.{◌≡◌, inl, inr, ℕ, ◌≤◌, List, [], ◌∷◌, Bool, true, false, not, ◌||◌, cond, Option, None, Some, codes, is_some, refl, sym, ◌∙◌, ap, ap₂, subst, arith, unwrap_or, option_map, true≢false}
 use Rattle.std.specs.Prelude.{pos}
 use Rattle.std.proofs.lemmas.Bool.{eqb-true}
 use Rattle.std.specs.Option.{option_map_or}
 use Rattle.std.specs.Str.Parse.{IsNumeral, starts_with_minus, without_leading_plus}
 use Rattle.std.proofs.lemmas.Int.{ints}
-use Rattle.clap.specs.Words.{Kinds, Rule, Row, Text, built, fault_of, subcommand_of}
+use Rattle.clap.specs.Words.{Kinds, Row, Text, built, fault_of, subcommand_of}
 use Rattle.clap.specs.Facts.{explicit_source}
 use Rattle.clap.specs.Values.{Accepts, refused_kind}
 use Rattle.clap.proofs.ValueTestLemmas.{Accepts-accepts}
 use Rattle.clap.specs.Takes.{is_given}
 use Rattle.clap.specs.Kinds.{check_kinds, or_else, value_kinds}
 use Rattle.clap.specs.Simple.{entered}
-use Rattle.clap.specs.Walk.{Held, Walk, finished, first_of, has_row, nothing_held, settled, walk, walk_from, walked, with_default}
+use Rattle.clap.specs.Walk.{Held, Walk, finished, first_of, has_row, nothing_held, settled, walk_from, walked, with_default}
 use Rattle.clap.specs.Faults.{check_fault, defaults_fault, entered_fault, level_fault, settle_fault, walk_fault}
 use Rattle.clap.proofs.OnLiterals.{clap_on_literals}
 use Rattle.clap.specs.declared.builder.value_parser.ValueParser.TheVariants as vp
 use Rattle.ic_words.specs.Words.{command_line, value_met}
-use Rattle.ic_words.specs.Lines.{AreOnce, Given, HasValue, IsCreateLine, IsServeLine, IsServeOption, IsWithin, IsWritten}
+use Rattle.ic_words.specs.Lines.{AreOnce, Given, HasValue, IsServeLine, IsServeOption, IsWithin, IsWritten}
 use Rattle.ic_words.specs.inner.Asking.{IsMet}
 use Rattle.ic_words.proofs.OptionLines.{ReadsGiven, given_as, line_read, nothing_wrong, rows_behind}
 use Rattle.ic_words.proofs.ServeNumbers.{disk, workers, every, options}
-use Rattle.ic_words.proofs.WordsExact.{below, create_stands, help, names_below, no_fault_behind, rules, serve_stands, top}
-use Rattle.ic_words.proofs.Steps.{row_with, at, reads_one}
+use Rattle.ic_words.proofs.WordsExact.{below, help, names_below, no_fault_behind, rules, serve_stands, top}
 use Rattle.ic_words.proofs.LineRows.{AreRowsOf, default_found, first_value, found_in, given_found, not_given, still_found, still_none}
 
 -- ---- a number in its range is accepted
@@ -171,7 +170,7 @@ pub record IsTaken (words : List Text) (path threads rounds : Text) : Type 0 whe
 pub serve_taken : (words : List Text) (path threads rounds : Text) → IsServeLine words path threads rounds → IsTaken words path threads rounds
 serve_taken words path threads rounds line =
     let rest = line.rest in
-    let read = line_read (below 3) options [] IsServeOption given_read line.given line.options line.once rest line.written in
+    let read = line_read (below 3) options [] IsServeOption IsWritten given_read line.given line.options line.once rest line.written in
     let of_disk = given_found line.given read.rows (codes "disk") path read.of line.once line.disk in
     let last : List Row = behind_defaults read.rows in
     let found : found_in (codes "disk") last ≡ Some of_disk.row = kept_found (codes "disk") read.rows of_disk.row of_disk.found in

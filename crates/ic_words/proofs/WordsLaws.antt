@@ -1,12 +1,12 @@
 -- What the parser's contract says of the program's words.
-use Rattle.std.proofs.Common.{◌≡◌, ◌≢◌, ℕ, List, [], ◌∷◌, Bool, true, false, not, ◌&&◌, cond, Option, None, Some, codes, map, refl, sym, ◌∙◌, ap, ap₂, subst, inl, inr, true≢false}
+use Rattle.std.proofs.Common.{◌≡◌, ◌≢◌, ℕ, List, [], ◌∷◌, Bool, true, false, not, ◌&&◌, ◌||◌, cond, Option, None, Some, codes, map, refl, sym, ◌∙◌, ap, ap₂, subst, inl, inr, true≢false}
 use Rattle.std.specs.Prelude.{option_map, unwrap_or}
 use Rattle.std.specs.Borrow.{Bor}
 use Rattle.clap.specs.Words.{App, HasKind, HasMatchesOf, IsAmong, Kinds, all_of, fault_of, first_of, matched_of, raw_values, is_simple, is_simple_and_free, kind_of, rows_of, subcommand_name_of, subcommand_of, subcommand_rows_of}
 use Rattle.clap.specs.Walk.{Row, Text}
 use Rattle.clap.specs.declared.error.Error.{Error}
 use Rattle.clap.specs.declared.error.ErrorKind.{ErrorKind}
-use Rattle.clap.specs.declared.error.ErrorKind.TheVariants.{DisplayHelp, DisplayVersion, InvalidValue, OutOfMemory}
+use Rattle.clap.specs.declared.error.ErrorKind.TheVariants.{ArgumentConflict, DisplayHelp, DisplayVersion, InvalidValue, MissingRequiredArgument, OutOfMemory}
 use Rattle.clap.specs.declared.parser.matches.ArgMatches.{ArgMatches}
 use Rattle.clap.proofs.OnLiterals.{clap_on_literals}
 use Rattle.clap.specs.Matches.{first_value}
@@ -16,7 +16,7 @@ use Rattle.clap.proofs.WalkLemmas.{first_value-rows, raw_values-rows}
 use Rattle.std.specs.Str.{bytes_eq}
 use Rattle.std.proofs.lemmas.Slice.Eq.{bytes_eq-Decides}
 use Rattle.clap.specs.Kinds.{or_else}
-use Rattle.ic_words.specs.Words.{BeginsWith, command_line, format_mistakes, is_format, is_met, value_met, values_met}
+use Rattle.ic_words.specs.Words.{BeginsWith, asks_in_place, asks_rounds, command_line, format_mistakes, is_format, is_given, is_met, own_mistakes, reduce_faults, reduce_mistakes, value_met, values_met}
 use Rattle.ic_words.specs.inner.Asking.{IsIn, IsMet, commands}
 use Rattle.ic_words.proofs.WordsExact.{ByBareness, IsCalled, is_bare, stops, settle_stands, once_stands, create_stands, serve_stands, attend_stands, reduce_stands, trace_stands, draw_stands, dump_stands, inspect_stands, check_stands, batch_stands}
 
@@ -174,6 +174,52 @@ another_format None is other = cc
 another_format (Some p) is other =
     let same : p.0 ≡ codes "trace" = ap (λ (o : Option Text). unwrap_or o []) is in
     ap₂ (λ (b c : Bool). cond (b && not c) (InvalidValue ∷ []) []) (ap (λ (n : Text). bytes_eq n (codes "trace")) same) other
+
+-- a command that isn't `reduce` has no mistake of it
+pub no_reduce : (one : Text) (met : Option (Text × List Row)) → IsMet one met → bytes_eq one (codes "reduce") ≡ false → reduce_mistakes met ≡ []
+no_reduce one None is other = refl
+no_reduce one (Some p) is other =
+    let same : p.0 ≡ one = ap (λ (o : Option Text). unwrap_or o []) is in
+    ap (λ (b : Bool). cond b (reduce_faults (Some p)) []) (ap (λ (n : Text). bytes_eq n (codes "reduce")) same ∙ other)
+
+pub no_own : (one : Text) (met : Option (Text × List Row)) → IsMet one met → bytes_eq one (codes "trace") ≡ false → bytes_eq one (codes "reduce") ≡ false
+    → own_mistakes met ≡ []
+no_own one met is trace reduce = ap₂ or_else (no_format one met is trace) (no_reduce one met is reduce)
+
+-- ---- `reduce`
+
+is_reduce : (met : Option (Text × List Row)) → IsMet (codes "reduce") met → reduce_mistakes met ≡ reduce_faults met
+is_reduce None is = cc
+is_reduce (Some p) is =
+    let same : p.0 ≡ codes "reduce" = ap (λ (o : Option Text). unwrap_or o []) is in
+    ap (λ (b : Bool). cond b (reduce_faults (Some p)) []) (ap (λ (n : Text). bytes_eq n (codes "reduce")) same)
+
+pub of_reduce : (met : Option (Text × List Row)) → IsMet (codes "reduce") met → own_mistakes met ≡ reduce_faults met
+of_reduce met is = ap₂ or_else (no_format (codes "reduce") met is refl) (is_reduce met is)
+
+-- its faults, by what is asked
+abbrev faults_by : Bool → Bool → Bool → Kinds
+faults_by rounds in_place counted =
+    cond (not rounds) [] (cond in_place (ArgumentConflict ∷ []) (cond counted [] (MissingRequiredArgument ∷ [])))
+
+pub in_place_free : (met : Option (Text × List Row)) → asks_rounds met ≡ false → reduce_faults met ≡ []
+in_place_free met alone = ap (λ (r : Bool). faults_by r (asks_in_place met) (is_given (codes "rounds") met)) alone
+
+pub rounds_free : (met : Option (Text × List Row)) → is_given (codes "rounds") met ≡ true → asks_in_place met ≡ false → reduce_faults met ≡ []
+rounds_free met given alone = ap₂ (λ (r p : Bool). faults_by (r || is_given (codes "workers") met) p r) given alone
+
+-- a kind of mistake that asks for nothing
+abbrev pub IsMistake : ErrorKind → Type 0
+IsMistake kind = (kind ≢ DisplayHelp) × (kind ≢ DisplayVersion)
+
+pub reduce_wrong : (met : Option (Text × List Row)) → reduce_faults met ≢ [] → (kind : ErrorKind) × (reduce_faults met ≡ kind ∷ []) × IsMistake kind
+reduce_wrong met wrong = go (asks_rounds met) (asks_in_place met) (is_given (codes "rounds") met) wrong
+  where
+    go : (r p c : Bool) → faults_by r p c ≢ [] → (kind : ErrorKind) × (faults_by r p c ≡ kind ∷ []) × IsMistake kind
+    go false p c other = absurd (other refl)
+    go true true c other = (ArgumentConflict, refl, ((λ e. cc), λ e. cc))
+    go true false true other = absurd (other refl)
+    go true false false other = (MissingRequiredArgument, refl, ((λ e. cc), λ e. cc))
 
 -- a mistake that the parser finds is one of all
 pub among_all : (k : ErrorKind) (a b : Kinds) → IsAmong k a → IsAmong k (or_else a b)

@@ -14,8 +14,8 @@ program_help = text_of (codes "A job server for the interaction calculus"
     ∷ codes "Usage: icserve <COMMAND>"
     ∷ []
     ∷ codes "To look at a system, which is read from standard input:"
-    ∷ codes "  reduce   Makes rounds until no step is possible, and prints the configuration"
-    ∷ codes "  trace    Tells what each of these rounds does, as a table or a picture"
+    ∷ codes "  reduce   Reduces it until no step is possible, and prints the configuration"
+    ∷ codes "  trace    Tells what each round of it does, as a table or a picture"
     ∷ codes "  draw     Draws the net of a configuration as a graph, with its rules or without"
     ∷ codes "  once     Makes one round, and prints the configuration"
     ∷ codes "  settle   Settles a configuration that has no rules, and prints it"
@@ -99,19 +99,26 @@ attend_help = text_of ((codes "Gives the commands of scripts to the disk in the 
     ∷ [])
 
 abbrev pub reduce_help : Text
-reduce_help = text_of ((codes "Makes rounds of the system on standard input until no step is possible,"
+reduce_help = text_of ((codes "Reduces the system on standard input until no step is possible,"
     ++ codes " and prints the configuration")
     ∷ []
     ∷ codes "Usage: icserve reduce [OPTIONS]"
     ∷ []
     ∷ codes "Options:"
-    ∷ (codes "      --rounds <N>   How many rounds are made at most, from 0 to"
-    ++ codes " 4611686018427387904 [default: 1000000]")
+    ∷ (codes "      --steps <N>    How many interactions are made at most, from 0 to"
+    ++ codes " 4611686018427387903 [default: 4611686018427387903]")
+    ∷ (codes "      --nodes <N>    How many names, and agents with arguments, the net has at most,"
+    ++ codes " from 0 to 4611686018427387903 [default: 134217728]")
+    ∷ codes "      --partial      Print the configuration too where the net or memory ends it"
+    ∷ codes "      --stats        Tell how many interactions were made, and how fast"
+    ∷ (codes "      --rounds <N>   Make rounds, and at most so many, from 0 to"
+    ++ codes " 4611686018427387904")
     ∷ (codes "      --workers <N>  Threads for a round of 4000 equations or more,"
     ++ codes " from 1 to 64 [default: 2]")
     ∷ codes "  -h, --help         Print help"
     ∷ []
-    ∷ codes "The exit status is 5 where a step is still possible after the last round."
+    ∷ (codes "The exit status is 5 where a step is still possible"
+    ++ codes " after the last interaction or round.")
     ∷ [])
 
 abbrev pub trace_help : Text

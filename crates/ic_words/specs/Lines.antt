@@ -2,7 +2,7 @@
 use Rattle.std.specs.Prelude.{◌≡◌, ◌≢◌, ◌⊎◌, ◌<◌, ◌≤◌, ◌^◌, ℕ, Bool, true, false, List, [], ◌∷◌, ◌++◌, codes, length}
 use Rattle.std.specs.List.{AllByRecursion}
 use Rattle.clap.specs.Words.{Text}
-use Rattle.ic_words.specs.Words.{IsDecimal, most_rounds}
+use Rattle.ic_words.specs.Words.{IsDecimal, most_rounds, most_steps}
 
 -- an option, and the value that it is given
 pub record Given : Type 0 where
@@ -19,11 +19,15 @@ abbrev pub IsWritten : Given → List Text → Type 0
 IsWritten given words = (words ≡ (45 ∷ 45 ∷ given.name ++ 61 ∷ given.value) ∷ [])
     ⊎ ((words ≡ (45 ∷ 45 ∷ given.name) ∷ given.value ∷ []) × HasNoHyphen given.value)
 
--- options are written one behind the other
+-- options are written one behind the other, each as `Writes` says
+abbrev pub AreWrittenBy : (Given → List Text → Type 0) → List Given → List Text → Type 0
+AreWrittenBy Writes [] words = words ≡ []
+AreWrittenBy Writes (given ∷ more) words = (first : List Text) × (rest : List Text)
+    × (words ≡ first ++ rest) × Writes given first × AreWrittenBy Writes more rest
+
+-- options with values are written one behind the other
 abbrev pub AreWritten : List Given → List Text → Type 0
-AreWritten [] words = words ≡ []
-AreWritten (given ∷ more) words = (first : List Text) × (rest : List Text)
-    × (words ≡ first ++ rest) × IsWritten given first × AreWritten more rest
+AreWritten given words = AreWrittenBy IsWritten given words
 
 -- a number from the least to the most
 abbrev pub IsWithin : (least most : ℕ) → Text → Type 0
@@ -46,10 +50,22 @@ IsAttendOption given = (given.name ≡ codes "disk")
 abbrev pub IsRoundsOption : Given → Type 0
 IsRoundsOption given = (given.name ≡ codes "rounds") × IsWithin 0 most_rounds given.value
 
--- an option of `reduce`: a number of rounds, or of threads
-abbrev pub IsReduceOption : Given → Type 0
-IsReduceOption given = IsRoundsOption given
-    ⊎ ((given.name ≡ codes "workers") × IsWithin 1 64 given.value)
+-- an option of `reduce` with a number: of rounds, of threads, of interactions, or of places
+abbrev pub IsReduceNumber : Given → Type 0
+IsReduceNumber given = IsRoundsOption given
+    ⊎ (((given.name ≡ codes "workers") × IsWithin 1 64 given.value)
+    ⊎ (((given.name ≡ codes "steps") × IsWithin 0 most_steps given.value)
+    ⊎ ((given.name ≡ codes "nodes") × IsWithin 0 most_steps given.value)))
+
+-- a flag of `reduce`, whose value is that it is given
+abbrev pub IsReduceFlag : Given → Type 0
+IsReduceFlag given = ((given.name ≡ codes "partial") ⊎ (given.name ≡ codes "stats"))
+    × (given.value ≡ codes "true")
+
+-- how an option of `reduce` is written; a flag is one word
+abbrev pub IsReduceOption : Given → List Text → Type 0
+IsReduceOption given words = (IsReduceNumber given × IsWritten given words)
+    ⊎ (IsReduceFlag given × (words ≡ (45 ∷ 45 ∷ given.name) ∷ []))
 
 -- one of the formats
 abbrev pub IsFormatText : Text → Type 0
@@ -136,16 +152,45 @@ pub record IsAttendLine (words : List Text) (path r t n : Text) (scripts : List 
   pub plain : AllByRecursion HasNoHyphen scripts
   pub few : length scripts < 2 ^ 64
 
--- `reduce`, with `--rounds N` and `--workers W` or without, in any order, each once
-pub record IsReduceLine (words : List Text) (most threads : Text) : Type 0 where
-  pub given : List Given
+-- no option of this name is given
+abbrev pub HasNone : List Given → Text → Type 0
+HasNone given name = AllByRecursion (λ other. other.name ≢ name) given
+
+-- an option's number: that which it is given, or its default where none is given
+abbrev pub HasNumber : List Given → (name : Text) (default number : ℕ) → Type 0
+HasNumber given name default number =
+    ((text : Text) × Gives given name text × IsDecimal text number)
+    ⊎ (HasNone given name × (number ≡ default))
+
+-- whether a flag is given
+abbrev pub HasFlag : List Given → Text → Bool → Type 0
+HasFlag given name true = Gives given name (codes "true")
+HasFlag given name false = HasNone given name
+
+-- `reduce`, with these options in this order, each once
+pub record IsReduceLine (words : List Text) (given : List Given) : Type 0 where
   pub rest : List Text
   pub begins : words ≡ codes "reduce" ∷ rest
-  pub written : AreWritten given rest
-  pub options : AllByRecursion IsReduceOption given
+  pub written : AreWrittenBy IsReduceOption given rest
   pub once : AreOnce given
-  pub rounds : HasValue given (codes "rounds") (codes "1000000") most
-  pub workers : HasValue given (codes "workers") (codes "2") threads
+
+-- options by which a net is reduced in place: bounds on interactions and on places, and two flags
+pub record AreInPlace (given : List Given) (s n : ℕ) (p t : Bool) : Type 0 where
+  pub no_rounds : HasNone given (codes "rounds")
+  pub no_workers : HasNone given (codes "workers")
+  pub steps : HasNumber given (codes "steps") most_steps s
+  pub nodes : HasNumber given (codes "nodes") 134217728 n
+  pub partial : HasFlag given (codes "partial") p
+  pub stats : HasFlag given (codes "stats") t
+
+-- options by which rounds are made: how many at most, and by how many threads
+pub record AreOfRounds (given : List Given) (most threads : ℕ) : Type 0 where
+  pub rounds : (text : Text) × Gives given (codes "rounds") text × IsDecimal text most
+  pub workers : HasNumber given (codes "workers") 2 threads
+  pub no_steps : HasNone given (codes "steps")
+  pub no_nodes : HasNone given (codes "nodes")
+  pub no_partial : HasNone given (codes "partial")
+  pub no_stats : HasNone given (codes "stats")
 
 -- `trace`, with `--rounds N` and `--format tsv|svg` or without, in any order, each once
 pub record IsTraceLine (words : List Text) (most shown : Text) : Type 0 where

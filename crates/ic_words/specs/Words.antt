@@ -10,12 +10,15 @@ use Rattle.clap.specs.Kinds.{or_else}
 use Rattle.clap.specs.Lexer.{usize_max}
 use Rattle.clap.specs.Simple.{on_top}
 use Rattle.clap.specs.declared.builder.action.ArgAction.TheVariants.{SetTrue}
+use Rattle.clap.specs.declared.builder.value_parser.ValueParser.{ValueParser}
 use Rattle.clap.specs.declared.builder.value_parser.ValueParser.TheVariants as parser
 use Rattle.clap.specs.declared.error.ErrorKind.{ErrorKind}
 use Rattle.clap.specs.declared.error.ErrorKind.TheVariants.{DisplayHelp, DisplayVersion, InvalidValue}
+use Rattle.clap.specs.declared.error.ErrorKind.TheVariants.{ArgumentConflict, MissingRequiredArgument}
 use Rattle.ic_words.specs.declared.words.Task.{Task}
 use Rattle.ic_words.specs.declared.words.Task.TheVariants.{Settle, Once, Create, Serve, Attend}
-use Rattle.ic_words.specs.declared.words.Task.TheVariants.{Reduce, Trace, Draw, Dump, Inspect, Check, Batch, Help, Version}
+use Rattle.ic_words.specs.declared.words.Task.TheVariants.{Reduce, ReduceByRounds, Trace, Draw, Dump, Inspect, Check, Batch}
+use Rattle.ic_words.specs.declared.words.Task.TheVariants.{Help, Version}
 use Rattle.ic_words.specs.declared.words.TraceFormat.{TraceFormat}
 use Rattle.ic_words.specs.declared.words.TraceFormat.TheVariants.{Tsv, Svg}
 use Rattle.ic_words.specs.Help.{help_of, program_help}
@@ -44,15 +47,15 @@ disk_option = record (new_rule (codes "disk")) {
   required = true;
 }
 
--- the flag `--overwrite`
-abbrev pub overwrite_flag : Rule
-overwrite_flag = record (new_rule (codes "overwrite")) {
-  long = Some (codes "overwrite");
+-- the flag `--name`
+abbrev pub flag : Text → Rule
+flag name = record (new_rule name) {
+  long = Some name;
   action = Some SetTrue;
 }
 
 abbrev pub create_command : App
-create_command = with_rule (with_rule (new_app (codes "create")) disk_option) overwrite_flag
+create_command = with_rule (with_rule (new_app (codes "create")) disk_option) (flag (codes "overwrite"))
 
 -- the option `--workers N`, from 1 to 64, of which the default is 2
 abbrev pub workers_option : Rule
@@ -126,8 +129,33 @@ format_option = record (new_rule (codes "format")) {
   defaults = codes "tsv" ∷ [];
 }
 
+-- the option `--name N` of `reduce`, whose value is read so, without a default
+abbrev pub read_option : Text → ValueParser → Rule
+read_option name read = record (new_rule name) {
+  long = Some name;
+  value_names = 1;
+  parser = Some read;
+}
+
+-- the options `--rounds N`, from 0 to 2 ^ 62, and `--workers N`, from 1 to 64, of `reduce`
+abbrev pub chosen_rounds : Rule
+chosen_rounds = read_option (codes "rounds") (parser.Unsigned 0 most_rounds)
+
+abbrev pub chosen_workers : Rule
+chosen_workers = read_option (codes "workers") (parser.Signed (pos 1) (pos 64))
+
+-- the most interactions and places of `reduce`: 2 ^ 62 - 1
+abbrev pub most_steps : ℕ
+most_steps = 4611686018427387903
+
+-- the options `--steps N` and `--nodes N` of `reduce`, from 0 to 2 ^ 62 - 1
+abbrev pub bound_option : Text → Rule
+bound_option name = read_option name (parser.Unsigned 0 most_steps)
+
 abbrev pub reduce_command : App
-reduce_command = with_rule (with_rule (new_app (codes "reduce")) rounds_option) workers_option
+reduce_command = with_rule (with_rule (with_rule (with_rule (with_rule (with_rule
+    (new_app (codes "reduce")) chosen_rounds) chosen_workers) (bound_option (codes "steps")))
+    (bound_option (codes "nodes"))) (flag (codes "partial"))) (flag (codes "stats"))
 
 abbrev pub trace_command : App
 trace_command = with_rule (with_rule (new_app (codes "trace")) rounds_option) format_option
@@ -230,9 +258,35 @@ abbrev pub format_mistakes : Option (Text × List Row) → Kinds
 format_mistakes met = if is_met (codes "trace") met && not (is_format (value_met (codes "format") met))
     then InvalidValue ∷ [] else []
 
--- the mistakes that words may have: the parser's, and where it finds none that of a format
+-- the option has a value
+abbrev pub is_given : Text → Option (Text × List Row) → Bool
+is_given option met = not (bytes_eq (value_met option met) [])
+
+-- an option of rounds is given to `reduce`, or one of reducing in place
+abbrev pub asks_rounds : Option (Text × List Row) → Bool
+asks_rounds met = is_given (codes "rounds") met || is_given (codes "workers") met
+
+abbrev pub asks_in_place : Option (Text × List Row) → Bool
+asks_in_place met = is_given (codes "steps") met || (is_given (codes "nodes") met
+    || (is_flag_met (codes "partial") met || is_flag_met (codes "stats") met))
+
+-- `reduce` makes rounds or reduces in place, and workers are those of rounds
+abbrev pub reduce_faults : Option (Text × List Row) → Kinds
+reduce_faults met = if not (asks_rounds met) then []
+    else if asks_in_place met then ArgumentConflict ∷ []
+    else if is_given (codes "rounds") met then [] else MissingRequiredArgument ∷ []
+
+-- the mistake of a `reduce`
+abbrev pub reduce_mistakes : Option (Text × List Row) → Kinds
+reduce_mistakes met = if is_met (codes "reduce") met then reduce_faults met else []
+
+-- the mistakes of values that are read one by one
+abbrev pub own_mistakes : Option (Text × List Row) → Kinds
+own_mistakes met = or_else (format_mistakes met) (reduce_mistakes met)
+
+-- the mistakes that words may have: the parser's, and where it finds none those of their values
 abbrev pub mistakes_of : List Text → Kinds
-mistakes_of words = or_else (fault_of command_line words) (format_mistakes (subcommand_of command_line words))
+mistakes_of words = or_else (fault_of command_line words) (own_mistakes (subcommand_of command_line words))
 
 -- What is answered, by the mistakes that the words may have: none, or help or the version that is
 -- asked for, or another.
@@ -242,7 +296,8 @@ AnswersWords mistakes (Ok Once) = mistakes ≡ []
 AnswersWords mistakes (Ok (Create disk overwrite)) = mistakes ≡ []
 AnswersWords mistakes (Ok (Serve disk workers every)) = mistakes ≡ []
 AnswersWords mistakes (Ok (Attend disk runners turns workers scripts)) = mistakes ≡ []
-AnswersWords mistakes (Ok (Reduce rounds workers)) = mistakes ≡ []
+AnswersWords mistakes (Ok (Reduce steps nodes partial stats)) = mistakes ≡ []
+AnswersWords mistakes (Ok (ReduceByRounds rounds workers)) = mistakes ≡ []
 AnswersWords mistakes (Ok (Trace rounds format)) = mistakes ≡ []
 AnswersWords mistakes (Ok Draw) = mistakes ≡ []
 AnswersWords mistakes (Ok (Dump disk names)) = mistakes ≡ []
@@ -271,7 +326,8 @@ GivesHelp (Ok Once) = ⊥
 GivesHelp (Ok (Create disk overwrite)) = ⊥
 GivesHelp (Ok (Serve disk workers every)) = ⊥
 GivesHelp (Ok (Attend disk runners turns workers scripts)) = ⊥
-GivesHelp (Ok (Reduce rounds workers)) = ⊥
+GivesHelp (Ok (Reduce steps nodes partial stats)) = ⊥
+GivesHelp (Ok (ReduceByRounds rounds workers)) = ⊥
 GivesHelp (Ok (Trace rounds format)) = ⊥
 GivesHelp (Ok Draw) = ⊥
 GivesHelp (Ok (Dump disk names)) = ⊥
@@ -290,7 +346,8 @@ GivesVersion (Ok Once) = ⊥
 GivesVersion (Ok (Create disk overwrite)) = ⊥
 GivesVersion (Ok (Serve disk workers every)) = ⊥
 GivesVersion (Ok (Attend disk runners turns workers scripts)) = ⊥
-GivesVersion (Ok (Reduce rounds workers)) = ⊥
+GivesVersion (Ok (Reduce steps nodes partial stats)) = ⊥
+GivesVersion (Ok (ReduceByRounds rounds workers)) = ⊥
 GivesVersion (Ok (Trace rounds format)) = ⊥
 GivesVersion (Ok Draw) = ⊥
 GivesVersion (Ok (Dump disk names)) = ⊥
@@ -328,6 +385,22 @@ IsNumberOf option least most words number =
     IsDecimal (value_met option (subcommand_of command_line words)) number
     × (least ≤ number) × (number ≤ most)
 
+-- this is the number of an option, or the default where the option isn't given
+abbrev pub IsNumberOr : (option : Text) (least most default : ℕ) → List (List ℕ) → ℕ → Type 0
+IsNumberOr option least most default words number =
+    (is_given option (subcommand_of command_line words) ≡ true
+    → IsNumberOf option least most words number)
+    × (is_given option (subcommand_of command_line words) ≡ false → number ≡ default)
+
+-- the words of `reduce` give two bounds and two flags, and no option of rounds
+pub record NamesReduce (words : List Text) (s n : ℕ) (p t : Bool) : Type 0 where
+  pub begins : BeginsWith (codes "reduce") words
+  pub alone : asks_rounds (subcommand_of command_line words) ≡ false
+  pub steps : IsNumberOr (codes "steps") 0 most_steps most_steps words s
+  pub nodes : IsNumberOr (codes "nodes") 0 most_steps 134217728 words n
+  pub partial : p ≡ is_flag_met (codes "partial") (subcommand_of command_line words)
+  pub stats : t ≡ is_flag_met (codes "stats") (subcommand_of command_line words)
+
 -- the words of `attend` give a disk's path, three numbers and the paths of scripts
 pub record NamesAttend (words : List Text) (path : Text) (r t n : ℕ) (paths : List Text)
     : Type 0 where
@@ -360,9 +433,11 @@ Names words (Serve disk workers every) = BeginsWith (codes "serve") words
     × IsNumberOf (codes "every") 1 1000000 words every
 Names words (Attend disk runners turns workers scripts) =
     NamesAttend words (string_bytes disk) runners turns workers (map string_bytes scripts.items)
-Names words (Reduce rounds workers) = BeginsWith (codes "reduce") words
+Names words (Reduce steps nodes partial stats) = NamesReduce words steps nodes partial stats
+Names words (ReduceByRounds rounds workers) = BeginsWith (codes "reduce") words
+    × (asks_in_place (subcommand_of command_line words) ≡ false)
     × IsNumberOf (codes "rounds") 0 most_rounds words rounds
-    × IsNumberOf (codes "workers") 1 64 words workers
+    × IsNumberOr (codes "workers") 1 64 2 words workers
 Names words (Trace rounds format) = BeginsWith (codes "trace") words
     × IsNumberOf (codes "rounds") 0 most_rounds words rounds
     × (value_met (codes "format") (subcommand_of command_line words) ≡ format_word format)

@@ -10,8 +10,8 @@ A job server for the interaction calculus
 Usage: icserve <COMMAND>
 
 To look at a system, which is read from standard input:
-  reduce   Makes rounds until no step is possible, and prints the configuration
-  trace    Tells what each of these rounds does, as a table or a picture
+  reduce   Reduces it until no step is possible, and prints the configuration
+  trace    Tells what each round of it does, as a table or a picture
   draw     Draws the net of a configuration as a graph, with its rules or without
   once     Makes one round, and prints the configuration
   settle   Settles a configuration that has no rules, and prints it
@@ -94,16 +94,20 @@ Options:
 
 /// The help of `reduce`.
 const REDUCE: &str = "\
-Makes rounds of the system on standard input until no step is possible, and prints the configuration
+Reduces the system on standard input until no step is possible, and prints the configuration
 
 Usage: icserve reduce [OPTIONS]
 
 Options:
-      --rounds <N>   How many rounds are made at most, from 0 to 4611686018427387904 [default: 1000000]
+      --steps <N>    How many interactions are made at most, from 0 to 4611686018427387903 [default: 4611686018427387903]
+      --nodes <N>    How many names, and agents with arguments, the net has at most, from 0 to 4611686018427387903 [default: 134217728]
+      --partial      Print the configuration too where the net or memory ends it
+      --stats        Tell how many interactions were made, and how fast
+      --rounds <N>   Make rounds, and at most so many, from 0 to 4611686018427387904
       --workers <N>  Threads for a round of 4000 equations or more, from 1 to 64 [default: 2]
   -h, --help         Print help
 
-The exit status is 5 where a step is still possible after the last round.
+The exit status is 5 where a step is still possible after the last interaction or round.
 ";
 
 /// The help of `trace`.

@@ -5,14 +5,16 @@ ghost use Rattle.std.specs.List.{AllByRecursion};
 ghost use Rattle.std.specs.Fmt.{decimal};
 ghost use Rattle.clap.specs.Words.{Text};
 ghost use Rattle.clap.specs.declared.error.ErrorKind.{ErrorKind};
-ghost use Rattle.clap.specs.declared.error.ErrorKind.TheVariants.{DisplayHelp, DisplayVersion, InvalidValue, MissingRequiredArgument};
-ghost use Rattle.ic_words.specs.declared.words.Task.TheVariants.{Settle, Once, Create, Serve, Attend, Reduce, Trace, Draw, Dump, Inspect, Check, Batch, Help, Version};
+ghost use Rattle.clap.specs.declared.error.ErrorKind.TheVariants.{ArgumentConflict, DisplayHelp, DisplayVersion, InvalidValue, MissingRequiredArgument};
+ghost use Rattle.ic_words.specs.declared.words.Task.TheVariants.{Settle, Once, Create, Serve, Attend, Reduce, ReduceByRounds};
+ghost use Rattle.ic_words.specs.declared.words.Task.TheVariants.{Trace, Draw, Dump, Inspect, Check, Batch, Help, Version};
 ghost use Rattle.ic_words.specs.declared.words.TraceFormat.{TraceFormat};
 ghost use Rattle.ic_words.specs.declared.words.WordsFault.TheVariants.{Words, Memory};
 ghost use Rattle.ic_words.specs.Words.{AnswersWords, format_word, mistakes_of, words_fault_number, IsDecimal, Names};
 ghost use Rattle.ic_words.specs.Help.{help_of, Says, program_help, settle_help, once_help, create_help, serve_help, attend_help};
 ghost use Rattle.ic_words.specs.Help.{batch_help, check_help, draw_help, dump_help, inspect_help, reduce_help, trace_help};
-ghost use Rattle.ic_words.specs.Lines.{HasNoHyphen, IsAttendLine, IsCheckLine, IsCreateLine, IsDumpLine, IsInspectLine, IsReduceLine, IsServeLine, IsTraceLine};
+ghost use Rattle.ic_words.specs.Lines.{AreInPlace, AreOfRounds, Given, HasNoHyphen, IsAttendLine, IsCheckLine, IsCreateLine, IsDumpLine};
+ghost use Rattle.ic_words.specs.Lines.{IsInspectLine, IsReduceLine, IsServeLine, IsTraceLine};
 
 /// A number's text is the number in decimal digits, before which a plus may stand, and no other
 /// number's; the empty text is none's.
@@ -121,8 +123,12 @@ pub fn each_command_has_its_help()
     ensures streams { Says settle_help (codes "icserve settle")
         × Says once_help (codes "icserve once") × Says draw_help (codes "icserve draw") }
     ensures rounds { AllByRecursion (Says reduce_help) (codes "icserve reduce" ∷ codes "--rounds <N>"
-        ∷ codes "from 0 to 4611686018427387904 [default: 1000000]"
+        ∷ codes "from 0 to 4611686018427387904"
         ∷ codes "--workers <N>" ∷ codes "from 1 to 64 [default: 2]" ∷ []) }
+    ensures in_place { AllByRecursion (Says reduce_help) (codes "--steps <N>"
+        ∷ codes "from 0 to 4611686018427387903 [default: 4611686018427387903]" ∷ codes "--nodes <N>"
+        ∷ codes "from 0 to 4611686018427387903 [default: 134217728]"
+        ∷ codes "--partial" ∷ codes "--stats" ∷ []) }
     ensures formats { AllByRecursion (Says trace_help) (codes "icserve trace" ∷ codes "--rounds <N>"
         ∷ codes "from 0 to 4611686018427387904 [default: 1000000]" ∷ codes "--format <FORMAT>"
         ∷ codes "(tsv)" ∷ codes "(svg)" ∷ codes "[default: tsv]" ∷ []) }
@@ -183,15 +189,29 @@ pub fn attend_lines_are_taken(disk: &String, paths: &Vec<String>)
         × (workers ≤ 64) × (map string_bytes paths.now.items ≡ scripts) }
 {}
 
-/// A well-formed line of `reduce` is taken, in whatever order its options stand, and names the
-/// numbers that it is given, or their defaults: 1,000,000 rounds and 2 workers.
+/// A well-formed line of `reduce` without options of rounds is taken, in whatever order its options
+/// stand, and names the bounds that it is given, or their defaults, 2^62 - 1 interactions and 2^27
+/// places, and whether it has the flags. One with rounds and without these options is taken too, and
+/// names its rounds and its workers, or 2. Both in one line are a mistake, and so are workers without
+/// rounds.
 pub fn reduce_lines_are_taken()
-    ensures taken { (words : List Text) (most threads : Text) → IsReduceLine words most threads
-        → mistakes_of words ≡ [] }
-    ensures named { (words : List Text) (most threads : Text) (rounds workers : ℕ)
-        → IsReduceLine words most threads → Names words (Reduce rounds workers)
-        → IsDecimal most rounds × IsDecimal threads workers
-        × (rounds ≤ 2 ^ 62) × (1 ≤ workers) × (workers ≤ 64) }
+    ensures taken { (words : List Text) (given : List Given) (s n : ℕ) (p t : Bool)
+        → IsReduceLine words given → AreInPlace given s n p t → mistakes_of words ≡ [] }
+    ensures named { (words : List Text) (given : List Given) (s n steps nodes : ℕ)
+        (p t partial stats : Bool) → IsReduceLine words given → AreInPlace given s n p t
+        → Names words (Reduce steps nodes partial stats)
+        → (steps ≡ s) × (nodes ≡ n) × (partial ≡ p) × (stats ≡ t) }
+    ensures rounds { (words : List Text) (given : List Given) (most threads : ℕ)
+        → IsReduceLine words given → AreOfRounds given most threads → mistakes_of words ≡ [] }
+    ensures rounds_named { (words : List Text) (given : List Given) (most threads rounds workers : ℕ)
+        → IsReduceLine words given → AreOfRounds given most threads
+        → Names words (ReduceByRounds rounds workers) → (rounds ≡ most) × (workers ≡ threads) }
+    ensures both { map (λ option. mistakes_of (codes "reduce" ∷ codes "--rounds=1" ∷ option ∷ []))
+        (codes "--steps=1" ∷ codes "--nodes=1" ∷ codes "--partial" ∷ codes "--stats" ∷ [])
+        ≡ (ArgumentConflict ∷ []) ∷ (ArgumentConflict ∷ []) ∷ (ArgumentConflict ∷ [])
+        ∷ (ArgumentConflict ∷ []) ∷ [] }
+    ensures no_rounds { mistakes_of (codes "reduce" ∷ codes "--workers=1" ∷ [])
+        ≡ MissingRequiredArgument ∷ [] }
 {}
 
 /// A well-formed line of `trace` is taken, in whatever order its options stand, and names the number
@@ -248,9 +268,13 @@ pub fn common_lines_are_well_formed()
     ensures attend { (path script : Text) → HasNoHyphen path → HasNoHyphen script
         → IsAttendLine (codes "attend" ∷ codes "--disk" ∷ path ∷ codes "--turns=9" ∷ script ∷ [])
         path (codes "2") (codes "9") (codes "2") (script ∷ []) }
-    ensures reduce { IsReduceLine (codes "reduce" ∷ []) (codes "1000000") (codes "2") }
-    ensures reduced { IsReduceLine (codes "reduce" ∷ codes "--workers=3" ∷ codes "--rounds"
-        ∷ codes "10" ∷ []) (codes "10") (codes "3") }
+    ensures reduce { IsReduceLine (codes "reduce" ∷ []) []
+        × AreInPlace [] 4611686018427387903 134217728 false false }
+    ensures reduced { (given : List Given) × IsReduceLine (codes "reduce" ∷ codes "--stats"
+        ∷ codes "--nodes=9" ∷ codes "--steps" ∷ codes "10" ∷ []) given
+        × AreInPlace given 10 9 false true }
+    ensures by_rounds { (given : List Given) × IsReduceLine (codes "reduce" ∷ codes "--workers=3"
+        ∷ codes "--rounds" ∷ codes "10" ∷ []) given × AreOfRounds given 10 3 }
     ensures trace { IsTraceLine (codes "trace" ∷ codes "--format" ∷ codes "svg" ∷ [])
         (codes "1000000") (codes "svg") }
     ensures dump { (path name : Text) → HasNoHyphen path → HasNoHyphen name

@@ -1,15 +1,16 @@
 //! The words after the program's name.
 
-ghost use Rattle.std.specs.Prelude.{◌≡◌, ◌≤◌, ℕ, false, map, Ok, IfOk, codes, [], ◌∷◌, string_bytes};
+ghost use Rattle.std.specs.Prelude.{◌≡◌, ◌≤◌, ℕ, true, false, map, Ok, IfOk, codes, [], ◌∷◌, string_bytes};
 ghost use Rattle.clap.specs.Words.{App, Rule, app_of, kind_of, rule_of, subcommand_rows_of, with_rule, with_subcommand};
 ghost use Rattle.ic_words.specs.Words.{AnswersWords, GivesHelp, GivesTask, GivesVersion, Names};
 ghost use Rattle.ic_words.specs.Words.{attend_command, batch_command, check_command, command_line, create_command, dump_command, inspect_command};
 ghost use Rattle.ic_words.specs.Words.{program, reduce_command, serve_command, trace_command, with_disks, with_looks, with_streams};
-ghost use Rattle.ic_words.specs.Words.{disk_option, every_option, file_argument, format_option, name_argument, overwrite_flag, rounds_option};
-ghost use Rattle.ic_words.specs.Words.{life_option, lines_argument, runners_option, script_argument, turns_option, workers_option};
-ghost use Rattle.ic_words.specs.Words.{mistakes_of, value_met, values_met};
-ghost use Rattle.ic_words.specs.inner.Making.{IsMade, valued_option};
-ghost use Rattle.ic_words.specs.inner.Asking.{AnswersRefused, Asks, IsCommandMet, IsIn, IsMet, IsReadFrom, commands};
+ghost use Rattle.ic_words.specs.Words.{disk_option, every_option, file_argument, flag, format_option, name_argument, rounds_option};
+ghost use Rattle.ic_words.specs.Words.{bound_option, chosen_rounds, chosen_workers, life_option, lines_argument, runners_option};
+ghost use Rattle.ic_words.specs.Words.{script_argument, turns_option, workers_option};
+ghost use Rattle.ic_words.specs.Words.{asks_in_place, asks_rounds, is_flag_met, is_given, mistakes_of, reduce_faults, value_met, values_met};
+ghost use Rattle.ic_words.specs.inner.Making.{IsMade, unread, valued_option};
+ghost use Rattle.ic_words.specs.inner.Asking.{AnswersRefused, Asks, IsCommandMet, IsIn, IsMet, IsReadFrom, IsReadOr, commands};
 
 use crate::help::help_of;
 use clap::error::{Error, ErrorKind};
@@ -33,6 +34,34 @@ const MAX_TURNS: u32 = 1_000_000;
 
 /// The most rounds of `reduce` and `trace`: 2^62.
 const MAX_ROUNDS: u64 = 4_611_686_018_427_387_904;
+
+/// The most interactions of `reduce`, and the most places of its net: 2^62 - 1.
+const MAX_STEPS: u64 = 4_611_686_018_427_387_903;
+
+/// How many places the net of `reduce` has at most, where nothing else is said: 2^27.
+const NODES: u64 = 134_217_728;
+
+/// How many threads make a round of `reduce`, where nothing else is said.
+const WORKERS: u64 = 2;
+
+/// What is said where `reduce` is asked for rounds and for reducing in place.
+const BOTH_WAYS: &str = "\
+error: the arguments '--rounds <N>' and '--workers <N>' cannot be used with '--steps <N>', '--nodes <N>', '--partial' or '--stats'
+
+Usage: icserve reduce [OPTIONS]
+
+For more information, try '--help'.
+";
+
+/// What is said where `reduce` is asked for the workers of rounds, and for no rounds.
+const NO_ROUNDS: &str = "\
+error: the following required arguments were not provided:
+  --rounds <N>
+
+Usage: icserve reduce --rounds <N> --workers <N>
+
+For more information, try '--help'.
+";
 
 /// What the words after the program's name ask for.
 #[derive(Debug, Drop)]
@@ -70,8 +99,19 @@ pub enum Task {
         /// The paths of the scripts, none or several.
         scripts: Vec<String>,
     },
-    /// Make rounds of the system on standard input until no step is possible.
+    /// Reduce the system on standard input in place until no step is possible.
     Reduce {
+        /// How many interactions are made at most, from 0 to 2^62 - 1.
+        steps: u64,
+        /// How many places the net has at most, from 0 to 2^62 - 1.
+        nodes: u64,
+        /// Whether the configuration is printed where the net is too large or memory ran out.
+        partial: bool,
+        /// Whether it is told how many interactions were made, and how fast.
+        stats: bool,
+    },
+    /// Make rounds of the system on standard input until no step is possible.
+    ReduceByRounds {
         /// How many rounds are made at most, from 0 to 2^62.
         rounds: u64,
         /// How many threads make a round of 4,000 equations or more, from 1 to 64.
@@ -216,7 +256,7 @@ fn task_named(alloc: Global, name: &str, matches: &ArgMatches) -> Result<Task, W
         "create" => create_task(alloc, matches),
         "serve" => serve_task(alloc, matches),
         "attend" => attend_task(alloc, matches),
-        "reduce" => Ok(reduce_task(matches)),
+        "reduce" => reduce_task(alloc, matches),
         "trace" => trace_task(alloc, matches),
         "draw" => Ok(Task::Draw),
         "dump" => dump_task(alloc, matches),
@@ -233,7 +273,7 @@ fn create_task(alloc: Global, matches: &ArgMatches) -> Result<Task, WordsFault>
     ensures { Asks (subcommand_rows_of matches.now) result }
 {
     let disk = String::from_str(alloc, value_of(matches, "disk"))?;
-    let overwrite = value_of(matches, "overwrite") == "true";
+    let overwrite = is_flag_met(matches, "overwrite");
     Ok(Task::Create { disk, overwrite })
 }
 
@@ -271,14 +311,69 @@ fn attend_task(alloc: Global, matches: &ArgMatches) -> Result<Task, WordsFault>
     })
 }
 
-/// The task of `reduce`.
-fn reduce_task(matches: &ArgMatches) -> Task
+/// The task of `reduce`. Rounds and reducing in place exclude each other, and the workers are those of rounds: other words
+/// are refused as the parser refuses such words.
+fn reduce_task(alloc: Global, matches: &ArgMatches) -> Result<Task, WordsFault>
     requires { IsMet (codes "reduce") (subcommand_rows_of matches.now) }
+    ensures { Asks (subcommand_rows_of matches.now) result }
+{
+    if !asks_rounds(matches) {
+        return Ok(in_place_task(matches));
+    }
+    if asks_in_place(matches) {
+        return Err(WordsFault::Words(String::from_str(alloc, BOTH_WAYS)?));
+    }
+    if !is_given(matches, "rounds") {
+        return Err(WordsFault::Words(String::from_str(alloc, NO_ROUNDS)?));
+    }
+    Ok(rounds_task(matches))
+}
+
+/// The task of `reduce` in place.
+fn in_place_task(matches: &ArgMatches) -> Task
+    requires met { IsMet (codes "reduce") (subcommand_rows_of matches.now) }
+    requires alone { asks_rounds (subcommand_rows_of matches.now) ≡ false }
+    ensures { Asks (subcommand_rows_of matches.now) (Ok result) }
+{
+    let steps = number_or(matches, "steps", 0, MAX_STEPS, MAX_STEPS);
+    let nodes = number_or(matches, "nodes", 0, MAX_STEPS, NODES);
+    let partial = is_flag_met(matches, "partial");
+    let stats = is_flag_met(matches, "stats");
+    Task::Reduce {
+        steps,
+        nodes,
+        partial,
+        stats,
+    }
+}
+
+/// The task of `reduce` by rounds.
+fn rounds_task(matches: &ArgMatches) -> Task
+    requires met { IsMet (codes "reduce") (subcommand_rows_of matches.now) }
+    requires given { is_given (codes "rounds") (subcommand_rows_of matches.now) ≡ true }
+    requires alone { asks_in_place (subcommand_rows_of matches.now) ≡ false }
     ensures { Asks (subcommand_rows_of matches.now) (Ok result) }
 {
     let rounds = number_of(matches, "rounds", 0, MAX_ROUNDS);
-    let workers = small_number_of(matches, "workers", 1, MAX_WORKERS);
-    Task::Reduce { rounds, workers }
+    let workers = number_or(matches, "workers", 1, u64::from(MAX_WORKERS), WORKERS) as u32;
+    Task::ReduceByRounds { rounds, workers }
+}
+
+/// Whether an option of rounds is given.
+fn asks_rounds(matches: &ArgMatches) -> bool
+    ensures { result ≡ asks_rounds (subcommand_rows_of matches.now) }
+{
+    is_given(matches, "rounds") || is_given(matches, "workers")
+}
+
+/// Whether an option of reducing in place is given.
+fn asks_in_place(matches: &ArgMatches) -> bool
+    ensures { result ≡ asks_in_place (subcommand_rows_of matches.now) }
+{
+    is_given(matches, "steps")
+        || is_given(matches, "nodes")
+        || is_flag_met(matches, "partial")
+        || is_flag_met(matches, "stats")
 }
 
 /// The task of `trace`. A format that there isn't is refused as the parser refuses such a value.
@@ -386,6 +481,33 @@ fn value_of<'a>(matches: &ArgMatches<'a>, option: &str) -> &'a str
     }
 }
 
+/// Whether an option of the command that was met has a value.
+fn is_given(matches: &ArgMatches, option: &str) -> bool
+    ensures { result ≡ is_given option.now (subcommand_rows_of matches.now) }
+{
+    value_of(matches, option) != ""
+}
+
+/// Whether a flag of the command that was met is given.
+fn is_flag_met(matches: &ArgMatches, flag: &str) -> bool
+    ensures { result ≡ is_flag_met flag.now (subcommand_rows_of matches.now) }
+{
+    value_of(matches, flag) == "true"
+}
+
+/// The number that is the value of an option of the command that was met, in its range, or the default where it has none.
+fn number_or(matches: &ArgMatches, option: &str, least: u64, most: u64, default: u64) -> u64
+    requires { least ≤ most }
+    ensures most { default ≤ most → result ≤ most }
+    ensures value { IsReadOr option.now least most default (subcommand_rows_of matches.now) result }
+{
+    if is_given(matches, option) {
+        number_of(matches, option, least, most)
+    } else {
+        default
+    }
+}
+
 /// The number that is the value of an option of the command that was met, in its range. The parser has refused any other
 /// value, so the bounds here change nothing.
 fn number_of(matches: &ArgMatches, option: &str, least: u64, most: u64) -> u64
@@ -423,14 +545,44 @@ fn disk_option<'a>(alloc: Global) -> Arg<'a>
         .required(true)
 }
 
-/// The flag that overwrites whatever the file holds.
-fn overwrite_flag<'a>(alloc: Global) -> Arg<'a>
-    ensures rule { rule_of result ≡ overwrite_flag }
+/// A flag.
+fn flag<'a>(alloc: Global, name: &'a str) -> Arg<'a>
+    ensures rule { rule_of result ≡ flag name.now }
     ensures local { result.global ≡ false }
 {
-    Arg::new(alloc, "overwrite")
-        .long("overwrite")
-        .action(ArgAction::SetTrue)
+    Arg::new(alloc, name).long(name).action(ArgAction::SetTrue)
+}
+
+/// An option that has a value where it is given, and no default.
+fn unread<'a>(alloc: Global, name: &'a str) -> Arg<'a>
+    ensures rule { rule_of result ≡ unread name.now }
+    ensures local { result.global ≡ false }
+{
+    Arg::new(alloc, name).long(name).value_name("N")
+}
+
+/// The option that bounds how many of something there may be when a net is reduced in place.
+fn bound_option<'a>(alloc: Global, name: &'a str) -> Arg<'a>
+    ensures rule { rule_of result ≡ bound_option name.now }
+    ensures local { result.global ≡ false }
+{
+    unread(alloc, name).value_parser(value_parser!(u64).range(0..4_611_686_018_427_387_904))
+}
+
+/// The option of `reduce` that says how many rounds are made at most.
+fn chosen_rounds<'a>(alloc: Global) -> Arg<'a>
+    ensures rule { rule_of result ≡ chosen_rounds }
+    ensures local { result.global ≡ false }
+{
+    unread(alloc, "rounds").value_parser(value_parser!(u64).range(0..4_611_686_018_427_387_905))
+}
+
+/// The option of `reduce` that says how many threads make a round.
+fn chosen_workers<'a>(alloc: Global) -> Arg<'a>
+    ensures rule { rule_of result ≡ chosen_workers }
+    ensures local { result.global ≡ false }
+{
+    unread(alloc, "workers").value_parser(value_parser!(u32).range(1..65))
 }
 
 /// An option with a value, and its default.
@@ -571,7 +723,7 @@ fn create_command<'a>(alloc: Global) -> Result<Command<'a>, AllocError>
     ensures { IfOk result (IsMade create_command) }
 {
     let command = with_arg(Ok(Command::new(alloc, "create")), disk_option(alloc));
-    with_arg(command, overwrite_flag(alloc))
+    with_arg(command, flag(alloc, "overwrite"))
 }
 
 /// The command that serves lines.
@@ -598,8 +750,12 @@ fn attend_command<'a>(alloc: Global) -> Result<Command<'a>, AllocError>
 fn reduce_command<'a>(alloc: Global) -> Result<Command<'a>, AllocError>
     ensures { IfOk result (IsMade reduce_command) }
 {
-    let command = with_arg(Ok(Command::new(alloc, "reduce")), rounds_option(alloc));
-    with_arg(command, workers_option(alloc))
+    let command = with_arg(Ok(Command::new(alloc, "reduce")), chosen_rounds(alloc));
+    let command = with_arg(command, chosen_workers(alloc));
+    let command = with_arg(command, bound_option(alloc, "steps"));
+    let command = with_arg(command, bound_option(alloc, "nodes"));
+    let command = with_arg(command, flag(alloc, "partial"));
+    with_arg(command, flag(alloc, "stats"))
 }
 
 /// The command that traces a system.

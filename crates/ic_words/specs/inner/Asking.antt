@@ -1,12 +1,14 @@
 -- What a task is read from: the command that the parser met, with its rows.
-use Rattle.std.specs.Prelude.{◌≡◌, ◌≢◌, ◌≤◌, ◌⊎◌, ℕ, List, [], ◌∷◌, Option, Some, Result, Ok, Err, codes, map, option_map, string_bytes, false}
+use Rattle.std.specs.Prelude.{◌≡◌, ◌≢◌, ◌≤◌, ◌⊎◌, ℕ, List, [], ◌∷◌, Option, Some, Result, Ok, Err, codes, map, option_map, string_bytes, true, false}
 use Rattle.clap.specs.Words.{Row, Text}
 use Rattle.clap.specs.declared.error.ErrorKind.{ErrorKind}
 use Rattle.clap.specs.declared.error.ErrorKind.TheVariants.{DisplayHelp, DisplayVersion, OutOfMemory}
 use Rattle.ic_words.specs.Help.{help_of}
-use Rattle.ic_words.specs.Words.{IsDecimal, format_word, is_flag_met, is_format, most_rounds, number_met, value_met, values_met, version_line}
+use Rattle.ic_words.specs.Words.{IsDecimal, asks_in_place, asks_rounds, format_word, is_flag_met, is_format, is_given, most_rounds, most_steps}
+use Rattle.ic_words.specs.Words.{number_met, reduce_faults, value_met, values_met, version_line}
 use Rattle.ic_words.specs.declared.words.Task.{Task}
-use Rattle.ic_words.specs.declared.words.Task.TheVariants.{Settle, Once, Create, Serve, Attend, Reduce, Trace, Draw, Dump, Inspect, Check, Batch, Help, Version}
+use Rattle.ic_words.specs.declared.words.Task.TheVariants.{Settle, Once, Create, Serve, Attend, Reduce, ReduceByRounds}
+use Rattle.ic_words.specs.declared.words.Task.TheVariants.{Trace, Draw, Dump, Inspect, Check, Batch, Help, Version}
 use Rattle.ic_words.specs.declared.words.WordsFault.{WordsFault}
 use Rattle.ic_words.specs.declared.words.WordsFault.TheVariants.{Words, Memory}
 
@@ -14,6 +16,12 @@ use Rattle.ic_words.specs.declared.words.WordsFault.TheVariants.{Words, Memory}
 abbrev pub IsReadFrom : (option : Text) (least most : ℕ) → Option (Text × List Row) → ℕ → Type 0
 IsReadFrom option least most met number = (n : ℕ) → IsDecimal (number_met option met) n
     → least ≤ n → n ≤ most → number ≡ n
+
+-- the same, or this is the default where the option has no value
+abbrev pub IsReadOr : (option : Text) (least most default : ℕ) → Option (Text × List Row) → ℕ → Type 0
+IsReadOr option least most default met number =
+    (is_given option met ≡ true → IsReadFrom option least most met number)
+    × (is_given option met ≡ false → number ≡ default)
 
 -- the command of this name was met
 abbrev pub IsMet : Text → Option (Text × List Row) → Type 0
@@ -49,9 +57,15 @@ Asks met (Ok (Attend disk runners turns workers scripts)) = IsMet (codes "attend
     × IsReadFrom (codes "runners") 0 64 met runners × IsReadFrom (codes "turns") 0 1000000 met turns
     × IsReadFrom (codes "workers") 1 64 met workers
     × (map string_bytes scripts.items ≡ values_met (codes "script") met)
-Asks met (Ok (Reduce rounds workers)) = IsMet (codes "reduce") met
+Asks met (Ok (Reduce steps nodes partial stats)) = IsMet (codes "reduce") met
+    × (asks_rounds met ≡ false)
+    × IsReadOr (codes "steps") 0 most_steps most_steps met steps
+    × IsReadOr (codes "nodes") 0 most_steps 134217728 met nodes
+    × (partial ≡ is_flag_met (codes "partial") met) × (stats ≡ is_flag_met (codes "stats") met)
+Asks met (Ok (ReduceByRounds rounds workers)) = IsMet (codes "reduce") met
+    × (is_given (codes "rounds") met ≡ true) × (asks_in_place met ≡ false)
     × IsReadFrom (codes "rounds") 0 most_rounds met rounds
-    × IsReadFrom (codes "workers") 1 64 met workers
+    × IsReadOr (codes "workers") 1 64 2 met workers
 Asks met (Ok (Trace rounds format)) = IsMet (codes "trace") met
     × IsReadFrom (codes "rounds") 0 most_rounds met rounds
     × (value_met (codes "format") met ≡ format_word format)
@@ -71,8 +85,9 @@ Asks met (Ok (Batch disk rounds every workers lines)) = IsMet (codes "batch") me
     × (string_bytes lines ≡ value_met (codes "lines") met)
 Asks met (Ok (Help text)) = ⊥
 Asks met (Ok (Version text)) = ⊥
-Asks met (Err (Words text)) = IsMet (codes "trace") met
-    × (is_format (value_met (codes "format") met) ≡ false)
+Asks met (Err (Words text)) = (IsMet (codes "trace") met
+    × (is_format (value_met (codes "format") met) ≡ false))
+    ⊎ (IsMet (codes "reduce") met × (reduce_faults met ≢ []))
 Asks met (Err Memory) = Unit {0}
 
 -- what is answered where the parser's error is of this kind

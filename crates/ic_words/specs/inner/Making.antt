@@ -8,6 +8,13 @@ use Rattle.clap.specs.declared.builder.command.Command.TheViews.{out-Command}
 abbrev pub IsMade : App → Command → Type 0
 IsMade app command = (app_of command ≡ app) × ((out-Command command).has_globals ≡ false)
 
+-- the option `--name`, with a value of any text
+abbrev pub unread : Text → Rule
+unread name = record (new_rule name) {
+  long = Some name;
+  value_names = 1;
+}
+
 -- the option `--name`, with a value of any text, and this default
 abbrev pub valued_option : (name default : Text) → Rule
 valued_option name default = record (new_rule name) {

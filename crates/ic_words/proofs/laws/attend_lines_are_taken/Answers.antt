@@ -1,13 +1,13 @@
 use Rattle.std.proofs.Common.{◌∙◌, ℕ, List, ap₂, codes, refl, subst}
 use Rattle.clap.specs.Kinds.{or_else}
 use Rattle.ic_words.specs.Words.{IsDecimal}
-use Rattle.ic_words.proofs.WordsLaws.{no_format}
+use Rattle.ic_words.proofs.WordsLaws.{no_own}
 use Rattle.ic_words.proofs.AttendLines.{attend_taken}
 use Rattle.ic_words.proofs.laws.attend_lines_are_taken.Goals as goal
 
 pub returns-clause-taken : goal.returns-clause-taken
 returns-clause-taken c = λ words path r t n scripts line.
-    let is = attend_taken words path r t n scripts line in ap₂ or_else is.free (no_format (codes "attend") _ is.met refl)
+    let is = attend_taken words path r t n scripts line in ap₂ or_else is.free (no_own (codes "attend") _ is.met refl refl)
 
 pub returns-clause-named : goal.returns-clause-named
 returns-clause-named c = λ words path r t n scripts runners turns workers line names.

@@ -1,6 +1,8 @@
-use Rattle.std.proofs.Common.{◌≡◌, ℕ, ap, List, [], ◌∷◌, ◌++◌, codes, inl, inr, refl, arith}
+use Rattle.std.proofs.Common.{◌≡◌, ◌≢◌, ◌∙◌, sym, true≢false, false, ℕ, ap, [], ◌∷◌, codes, inl, inr, refl, arith}
+use Rattle.std.specs.Str.{bytes_eq}
+use Rattle.std.proofs.lemmas.Slice.Eq.{bytes_eq-Decides}
 use Rattle.clap.specs.Words.{Text}
-use Rattle.ic_words.specs.Words.{most_rounds}
+use Rattle.ic_words.specs.Words.{IsDecimal, most_rounds, most_steps}
 use Rattle.ic_words.specs.Lines.{Given, IsWithin}
 use Rattle.ic_words.proofs.laws.common_lines_are_well_formed.Goals as goal
 
@@ -13,20 +15,39 @@ abbrev head : Text → ℕ
 head [] = 0
 head (byte ∷ rest) = byte
 
+is_ten : IsDecimal (codes "10") 10
+is_ten = ((omega (arith), (omega (arith), (omega (arith), tt))), refl)
+
+is_three : IsDecimal (codes "3") 3
+is_three = ((omega (arith), (omega (arith), tt)), refl)
+
+is_nine : IsDecimal (codes "9") 9
+is_nine = ((omega (arith), (omega (arith), tt)), refl)
+
 four : IsWithin 1 64 (codes "4")
 four = (4, ((omega (arith), (omega (arith), tt)), refl), omega (arith), omega (arith))
 
 three : IsWithin 1 64 (codes "3")
-three = (3, ((omega (arith), (omega (arith), tt)), refl), omega (arith), omega (arith))
+three = (3, is_three, omega (arith), omega (arith))
 
 seven : IsWithin 1 1000000 (codes "7")
 seven = (7, ((omega (arith), (omega (arith), tt)), refl), omega (arith), omega (arith))
 
 nine : IsWithin 0 1000000 (codes "9")
-nine = (9, ((omega (arith), (omega (arith), tt)), refl), omega (arith), omega (arith))
+nine = (9, is_nine, omega (arith), omega (arith))
 
 ten : IsWithin 0 most_rounds (codes "10")
-ten = (10, ((omega (arith), (omega (arith), (omega (arith), tt))), refl), omega (arith), omega (arith))
+ten = (10, is_ten, omega (arith), omega (arith))
+
+ten_steps : IsWithin 0 most_steps (codes "10")
+ten_steps = (10, is_ten, omega (arith), omega (arith))
+
+nine_places : IsWithin 0 most_steps (codes "9")
+nine_places = (9, is_nine, omega (arith), omega (arith))
+
+-- texts differ where their bytes do
+other : (one two : Text) → bytes_eq one two ≡ false → one ≢ two
+other one two differ = λ same. true≢false (sym ((bytes_eq-Decides one two).1 same) ∙ differ)
 
 pub returns-clause-create : goal.returns-clause-create
 returns-clause-create c = λ path plain. ((codes "--disk" ∷ path ∷ []), (codes "--disk" ∷ path ∷ []), refl, refl, inr (refl, plain))
@@ -104,23 +125,74 @@ returns-clause-attend c = λ path script plain other. record {
   few = omega (arith);
 }
 
+pub returns-clause-reduce : goal.returns-clause-reduce
+returns-clause-reduce c = (
+  record { rest = []; begins = refl; written = refl; once = tt },
+  record {
+    no_rounds = tt;
+    no_workers = tt;
+    steps = inr (tt, refl);
+    nodes = inr (tt, refl);
+    partial = tt;
+    stats = tt;
+  },
+)
+
 pub returns-clause-reduced : goal.returns-clause-reduced
-returns-clause-reduced c = record {
-  given = given_as (codes "workers") (codes "3") ∷ given_as (codes "rounds") (codes "10") ∷ [];
-  rest = codes "--workers=3" ∷ codes "--rounds" ∷ codes "10" ∷ [];
-  begins = refl;
-  written = (
-    (codes "--workers=3" ∷ []),
-    (codes "--rounds" ∷ codes "10" ∷ []),
-    refl,
-    inl refl,
-    ((codes "--rounds" ∷ codes "10" ∷ []), [], refl, inr (refl, λ same. cc), refl),
-  );
-  options = (inr (refl, three), (inl (refl, ten), tt));
-  once = (((λ same. cc), tt), (tt, tt));
-  rounds = inl (inr (inl (refl, refl)));
-  workers = inl (inl (refl, refl));
-}
+returns-clause-reduced c = (
+  given_as (codes "stats") (codes "true") ∷ given_as (codes "nodes") (codes "9") ∷ given_as (codes "steps") (codes "10") ∷ [],
+  record {
+    rest = codes "--stats" ∷ codes "--nodes=9" ∷ codes "--steps" ∷ codes "10" ∷ [];
+    begins = refl;
+    written = (
+      (codes "--stats" ∷ []),
+      (codes "--nodes=9" ∷ codes "--steps" ∷ codes "10" ∷ []),
+      refl,
+      inr ((inr refl, refl), refl),
+      (
+        (codes "--nodes=9" ∷ []),
+        (codes "--steps" ∷ codes "10" ∷ []),
+        refl,
+        inl (inr (inr (inr (refl, nine_places))), inl refl),
+        ((codes "--steps" ∷ codes "10" ∷ []), [], refl, inl (inr (inr (inl (refl, ten_steps))), inr (refl, λ same. cc)), refl),
+      ),
+    );
+    once = ((other (codes "stats") (codes "nodes") refl, (other (codes "stats") (codes "steps") refl, tt)), ((other (codes "nodes") (codes "steps") refl, tt), (tt, tt)));
+  },
+  record {
+    no_rounds = (other (codes "stats") (codes "rounds") refl, (other (codes "nodes") (codes "rounds") refl, (other (codes "steps") (codes "rounds") refl, tt)));
+    no_workers = (other (codes "stats") (codes "workers") refl, (other (codes "nodes") (codes "workers") refl, (other (codes "steps") (codes "workers") refl, tt)));
+    steps = inl (codes "10", inr (inr (inl (refl, refl))), is_ten);
+    nodes = inl (codes "9", inr (inl (refl, refl)), is_nine);
+    partial = (other (codes "stats") (codes "partial") refl, (other (codes "nodes") (codes "partial") refl, (other (codes "steps") (codes "partial") refl, tt)));
+    stats = inl (refl, refl);
+  },
+)
+
+pub returns-clause-by_rounds : goal.returns-clause-by_rounds
+returns-clause-by_rounds c = (
+  given_as (codes "workers") (codes "3") ∷ given_as (codes "rounds") (codes "10") ∷ [],
+  record {
+    rest = codes "--workers=3" ∷ codes "--rounds" ∷ codes "10" ∷ [];
+    begins = refl;
+    written = (
+      (codes "--workers=3" ∷ []),
+      (codes "--rounds" ∷ codes "10" ∷ []),
+      refl,
+      inl (inr (inl (refl, three)), inl refl),
+      ((codes "--rounds" ∷ codes "10" ∷ []), [], refl, inl (inl (refl, ten), inr (refl, λ same. cc)), refl),
+    );
+    once = (((λ same. cc), tt), (tt, tt));
+  },
+  record {
+    rounds = (codes "10", inr (inl (refl, refl)), is_ten);
+    workers = inl (codes "3", inl (refl, refl), is_three);
+    no_steps = (other (codes "workers") (codes "steps") refl, (other (codes "rounds") (codes "steps") refl, tt));
+    no_nodes = (other (codes "workers") (codes "nodes") refl, (other (codes "rounds") (codes "nodes") refl, tt));
+    no_partial = (other (codes "workers") (codes "partial") refl, (other (codes "rounds") (codes "partial") refl, tt));
+    no_stats = (other (codes "workers") (codes "stats") refl, (other (codes "rounds") (codes "stats") refl, tt));
+  },
+)
 
 pub returns-clause-trace : goal.returns-clause-trace
 returns-clause-trace c = record {

@@ -1,12 +1,12 @@
 use Rattle.std.proofs.Common.{◌∙◌, ap₂, codes, refl}
 use Rattle.clap.specs.Kinds.{or_else}
 use Rattle.ic_words.proofs.DumpLines.{dump_taken}
-use Rattle.ic_words.proofs.WordsLaws.{no_format}
+use Rattle.ic_words.proofs.WordsLaws.{no_own}
 use Rattle.ic_words.proofs.laws.dump_lines_are_taken.Goals as goal
 
 pub returns-clause-taken : goal.returns-clause-taken
 returns-clause-taken c = λ words path listed line.
-    let is = dump_taken words path listed line in ap₂ or_else is.free (no_format (codes "dump") _ is.met refl)
+    let is = dump_taken words path listed line in ap₂ or_else is.free (no_own (codes "dump") _ is.met refl refl)
 
 pub returns-clause-named : goal.returns-clause-named
 returns-clause-named c = λ words path listed line names.

@@ -21,7 +21,7 @@ pub returns-clause-program : goal.returns-clause-program
 returns-clause-program c = λ word words other. other_help word words other.0 other.1.0 other.1.1.0 other.1.1.1.0 other.1.1.1.1.0 other.1.1.1.1.1.0 other.1.1.1.1.1.1.0 other.1.1.1.1.1.1.1.0 other.1.1.1.1.1.1.1.1.0 other.1.1.1.1.1.1.1.1.1.0 other.1.1.1.1.1.1.1.1.1.1.0 other.1.1.1.1.1.1.1.1.1.1.1.0
 
 pub returns-clause-commands : goal.returns-clause-commands
-returns-clause-commands c = ((417, refl), ((360, refl), ((608, refl), ((650, refl), ((724, refl), ((125, refl), ((205, refl), ((278, refl), ((907, refl), ((983, refl), ((485, refl), ((815, refl), ((1064, refl), ((1092, refl), tt))))))))))))))
+returns-clause-commands c = ((411, refl), ((354, refl), ((602, refl), ((644, refl), ((718, refl), ((125, refl), ((203, refl), ((272, refl), ((901, refl), ((977, refl), ((479, refl), ((809, refl), ((1058, refl), ((1086, refl), tt))))))))))))))
 
 pub returns-clause-reduce : goal.returns-clause-reduce
 returns-clause-reduce c = λ words. refl
@@ -33,7 +33,10 @@ pub returns-clause-draw : goal.returns-clause-draw
 returns-clause-draw c = λ words. refl
 
 pub returns-clause-rounds : goal.returns-clause-rounds
-returns-clause-rounds c = ((109, refl), ((150, refl), ((199, refl), ((254, refl), ((316, refl), tt)))))
+returns-clause-rounds c = ((101, refl), ((553, refl), ((602, refl), ((638, refl), ((700, refl), tt)))))
+
+pub returns-clause-in_place : goal.returns-clause-in_place
+returns-clause-in_place c = ((142, refl), ((197, refl), ((264, refl), ((343, refl), ((400, refl), ((481, refl), tt))))))
 
 pub returns-clause-formats : goal.returns-clause-formats
 returns-clause-formats c = ((92, refl), ((132, refl), ((185, refl), ((240, refl), ((277, refl), ((296, refl), ((302, refl), tt)))))))

@@ -1,17 +1,26 @@
-use Rattle.std.proofs.Common.{ℕ, List, subst}
-use Rattle.ic_words.specs.Words.{IsDecimal}
-use Rattle.ic_words.proofs.LookLines.{reduce_taken}
+use Rattle.std.proofs.Common.{refl}
+use Rattle.clap.proofs.OnLiterals.{clap_on_literals}
+use Rattle.ic_words.proofs.ReduceLines.{in_place_named, in_place_taken, rounds_named, rounds_taken}
 use Rattle.ic_words.proofs.laws.reduce_lines_are_taken.Goals as goal
 
 pub returns-clause-taken : goal.returns-clause-taken
-returns-clause-taken c = λ words most threads line. (reduce_taken words most threads line).free
+returns-clause-taken c = λ words given s n p t line of. in_place_taken words given line s n p t of
 
 pub returns-clause-named : goal.returns-clause-named
-returns-clause-named c = λ words most threads rounds workers line names.
-    let is = reduce_taken words most threads line in (
-      subst (λ (t : List ℕ). IsDecimal t rounds) is.rounds names.1.0,
-      subst (λ (t : List ℕ). IsDecimal t workers) is.workers names.2.0,
-      names.1.2,
-      names.2.1,
-      names.2.2,
-    )
+returns-clause-named c = λ words given s n steps nodes p t partial stats line of names.
+    in_place_named words given line s n steps nodes p t partial stats of names
+
+pub returns-clause-rounds : goal.returns-clause-rounds
+returns-clause-rounds c = λ words given most threads line of. rounds_taken words given line most threads of
+
+pub returns-clause-rounds_named : goal.returns-clause-rounds_named
+returns-clause-rounds_named c = λ words given most threads rounds workers line of names.
+    rounds_named words given line most threads rounds workers of names.2 names.3
+
+pub returns-clause-both : goal.returns-clause-both
+unfolding clap_on_literals
+returns-clause-both c = refl
+
+pub returns-clause-no_rounds : goal.returns-clause-no_rounds
+unfolding clap_on_literals
+returns-clause-no_rounds c = refl

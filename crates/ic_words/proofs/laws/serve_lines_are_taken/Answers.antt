@@ -1,13 +1,13 @@
 use Rattle.std.proofs.Common.{◌∙◌, ℕ, List, ap₂, codes, refl, subst}
 use Rattle.clap.specs.Kinds.{or_else}
 use Rattle.ic_words.specs.Words.{IsDecimal}
-use Rattle.ic_words.proofs.WordsLaws.{no_format}
+use Rattle.ic_words.proofs.WordsLaws.{no_own}
 use Rattle.ic_words.proofs.TakenLines.{serve_taken}
 use Rattle.ic_words.proofs.laws.serve_lines_are_taken.Goals as goal
 
 pub returns-clause-taken : goal.returns-clause-taken
 returns-clause-taken c = λ words path workers every line.
-    let is = serve_taken words path workers every line in ap₂ or_else is.free (no_format (codes "serve") _ is.met refl)
+    let is = serve_taken words path workers every line in ap₂ or_else is.free (no_own (codes "serve") _ is.met refl refl)
 
 pub returns-clause-named : goal.returns-clause-named
 returns-clause-named c = λ words path workers every threads rounds line names.

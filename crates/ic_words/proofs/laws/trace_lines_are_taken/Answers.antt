@@ -1,7 +1,7 @@
 use Rattle.std.proofs.Common.{◌∙◌, ℕ, List, refl, subst, sym}
 use Rattle.clap.proofs.OnLiterals.{clap_on_literals}
 use Rattle.ic_words.specs.Words.{IsDecimal}
-use Rattle.ic_words.proofs.LookLines.{trace_taken}
+use Rattle.ic_words.proofs.TraceLines.{trace_taken}
 use Rattle.ic_words.proofs.laws.trace_lines_are_taken.Goals as goal
 
 pub returns-clause-taken : goal.returns-clause-taken

@@ -1,6 +1,6 @@
 use Rattle.std.proofs.Common.{codes}
 use Rattle.clap.specs.Words.{new_app}
-use Rattle.ic_words.specs.Words.{disk_option, overwrite_flag}
+use Rattle.ic_words.specs.Words.{disk_option, flag}
 use Rattle.ic_words.specs.inner.Making.{IsMade}
 use Rattle.ic_words.proofs.words.create_command.Goals as goal
 
@@ -8,4 +8,4 @@ pub returns : goal.returns
 returns c =
     let made : IsMade (new_app (codes "create")) c.new.result = (c.new.ensures.app, c.new.ensures.local) in
     let first = c.with_arg-command.ensures (new_app (codes "create")) disk_option made c.disk_option.ensures.rule c.disk_option.ensures.local in
-    c.with_arg.ensures _ overwrite_flag first c.overwrite_flag.ensures.rule c.overwrite_flag.ensures.local
+    c.with_arg.ensures _ (flag (codes "overwrite")) first c.flag.ensures.rule c.flag.ensures.local

@@ -1,6 +1,5 @@
--- Each well-formed line of `reduce` and of `trace` is taken, with its values.
+-- Each well-formed line of `trace` is taken, with its values.
 use Rattle.std.proofs.Common.{◌≡◌, inl, inr, List, [], ◌∷◌, true, false, Option, Some, codes, fold, refl, sym, ◌∙◌, ap, ap₂, arith, true≢false, unwrap_or, option_map}
-use Rattle.std.specs.Prelude.{pos}
 use Rattle.std.specs.List.{AllByRecursion}
 use Rattle.std.specs.Str.{bytes_eq}
 use Rattle.clap.specs.Words.{Kinds, Row, Text, built, fault_of, subcommand_of}
@@ -11,76 +10,19 @@ use Rattle.clap.specs.Faults.{check_fault, defaults_fault, level_fault, settle_f
 use Rattle.clap.proofs.OnLiterals.{clap_on_literals}
 use Rattle.clap.specs.declared.builder.value_parser.ValueParser.TheVariants as vp
 use Rattle.ic_words.specs.Words.{command_line, is_format, mistakes_of, most_rounds, value_met}
-use Rattle.ic_words.specs.Lines.{Given, Gives, HasValue, IsFormatText, IsReduceLine, IsReduceOption, IsTraceLine, IsTraceOption, IsWritten}
+use Rattle.ic_words.specs.Lines.{Given, Gives, HasValue, IsFormatText, IsTraceLine, IsTraceOption, IsWritten}
 use Rattle.ic_words.proofs.AttendLines.{counted}
-use Rattle.ic_words.proofs.LookNumbers.{format, reduce_options, rounds, trace_options}
+use Rattle.ic_words.proofs.TraceNumbers.{format, rounds, trace_options}
 use Rattle.ic_words.proofs.OptionLines.{ReadsGiven, given_as, line_read, nothing_wrong, option_value, rows_behind, stands_given}
-use Rattle.ic_words.proofs.ServeNumbers.{workers}
-use Rattle.ic_words.proofs.TakenLines.{accepted, either_none, or_none, top_fault}
-use Rattle.ic_words.proofs.WordsExact.{below, help, names_below, no_fault_behind, reduce_stands, top, trace_stands}
-use Rattle.ic_words.proofs.WordsLaws.{a_format, no_format}
+use Rattle.ic_words.proofs.TakenLines.{either_none, or_none, top_fault}
+use Rattle.ic_words.proofs.WordsExact.{below, help, names_below, no_fault_behind, top, trace_stands}
+use Rattle.ic_words.proofs.WordsLaws.{a_format, no_reduce}
 
 abbrev text : Option Text → Text
 text o = unwrap_or o []
 
 abbrev name_of : Option (Text × List Row) → Option Text
 name_of o = option_map (λ (p : Text × List Row). p.0) o
-
--- ---- `reduce`
-
-reduce_read : (g : Given) → IsReduceOption g → (words : List Text) → IsWritten g words → (h : Held) → settle_fault reduce_options false h ≡ []
-    → has_row g.name (settled reduce_options h).rows ≡ false → ReadsGiven (below 5) reduce_options [] g words h
-reduce_read g (inl is) words written h settles none =
-    given_as (below 5) reduce_options [] (codes "rounds") (Some (codes "1000000")) (vp.Unsigned 0 most_rounds) false refl refl refl (λ v. (refl, refl)) (refl, refl) refl
-    g is.0 words written h settles none (counted most_rounds g.value (omega arith) is.1)
-reduce_read g (inr is) words written h settles none =
-    given_as (below 5) reduce_options [] (codes "workers") (Some (codes "2")) (vp.Signed (pos 1) (pos 64)) false refl refl refl (λ v. (refl, refl)) (refl, refl) refl
-    g is.0 words written h settles none (accepted 64 g.value (omega arith) is.1)
-
-reduce_first : (rest : List Text) → walk_fault top (names_below false) (walk_from nothing_held) (codes "reduce" ∷ rest) ≡ []
-unfolding walk_fault walked
-reduce_first rest = no_fault_behind (codes "reduce") [] rest
-
-reduce_free : (rest : List Text) → level_fault (below 5) [] nothing_held rest false [] ≡ [] → fault_of command_line (codes "reduce" ∷ rest) ≡ []
-unfolding defaults_fault
-reduce_free rest free = ap (top_fault (codes "reduce" ∷ rest)) (reduce_stands rest)
-    ∙ ap₂ (λ (a b : Kinds). or_else a (or_else b [])) (reduce_first rest) free
-
-reduce_defaults : (rows : List Row) → defaults_fault rows reduce_options ≡ []
-unfolding defaults_fault clap_on_literals
-reduce_defaults rows =
-    let first = with_default rows rounds in
-    ap₂ or_else (or_none (has_row (codes "rounds") rows) _ refl)
-    (ap₂ or_else (or_none (has_row (codes "workers") first) _ refl)
-    (ap₂ or_else (either_none (has_row (codes "help") (with_default first workers)) _) refl))
-
-reduce_checked : (rows : List Row) → check_fault (below 5) rows false ≡ []
-reduce_checked rows = refl
-
-pub record IsReduced (words : List Text) (most threads : Text) : Type 0 where
-  pub free : mistakes_of words ≡ []
-  pub rounds : value_met (codes "rounds") (subcommand_of command_line words) ≡ most
-  pub workers : value_met (codes "workers") (subcommand_of command_line words) ≡ threads
-
-pub reduce_taken : (words : List Text) (most threads : Text) → IsReduceLine words most threads → IsReduced words most threads
-reduce_taken words most threads line =
-    let rest = line.rest in
-    let read = line_read (below 5) reduce_options [] IsReduceOption reduce_read line.given line.options line.once rest line.written in
-    let free = nothing_wrong (below 5) reduce_options [] line.given rest read (reduce_defaults read.rows) (reduce_checked (fold with_default read.rows reduce_options)) in
-    let met : subcommand_of command_line words ≡ Some (codes "reduce", fold with_default read.rows reduce_options) =
-    ap (subcommand_of command_line) line.begins ∙ ap (λ (w : Walk). entered (built command_line) w.stopped) (reduce_stands rest)
-    ∙ ap (λ (rs : List Row). Some (codes "reduce", rs)) (rows_behind (below 5) reduce_options [] line.given rest read) in
-    let of_rounds = stands_given line.given read.rows (codes "rounds") (codes "1000000") most read.of line.once line.rounds in
-    let of_workers = stands_given line.given read.rows (codes "workers") (codes "2") threads read.of line.once line.workers in
-    record {
-      free = ap₂ or_else (ap (fault_of command_line) line.begins ∙ reduce_free rest free) (no_format (codes "reduce") _ (ap name_of met) refl);
-      rounds = ap (value_met (codes "rounds")) met
-          ∙ ap text (option_value (codes "rounds") (codes "1000000") most (vp.Unsigned 0 most_rounds) [] (workers ∷ help ∷ []) read.rows tt refl of_rounds);
-      workers = ap (value_met (codes "workers")) met
-          ∙ ap text (option_value (codes "workers") (codes "2") threads (vp.Signed (pos 1) (pos 64)) (rounds ∷ []) (help ∷ []) read.rows (refl, tt) refl of_workers);
-    }
-
--- ---- `trace`
 
 is_format_text : (v : Text) → IsFormatText v → is_format v ≡ true
 is_format_text v (inl is) = ap is_format is
@@ -137,7 +79,7 @@ pub record IsTraced (words : List Text) (most shown : Text) : Type 0 where
 pub trace_taken : (words : List Text) (most shown : Text) → IsTraceLine words most shown → IsTraced words most shown
 trace_taken words most shown line =
     let rest = line.rest in
-    let read = line_read (below 6) trace_options [] IsTraceOption trace_read line.given line.options line.once rest line.written in
+    let read = line_read (below 6) trace_options [] IsTraceOption IsWritten trace_read line.given line.options line.once rest line.written in
     let free = nothing_wrong (below 6) trace_options [] line.given rest read (trace_defaults read.rows) (trace_checked (fold with_default read.rows trace_options)) in
     let met : subcommand_of command_line words ≡ Some (codes "trace", fold with_default read.rows trace_options) =
     ap (subcommand_of command_line) line.begins ∙ ap (λ (w : Walk). entered (built command_line) w.stopped) (trace_stands rest)
@@ -148,7 +90,8 @@ trace_taken words most shown line =
     ∙ ap text (option_value (codes "format") (codes "tsv") shown vp.String (rounds ∷ []) (help ∷ []) read.rows (refl, tt) refl of_format) in
     record {
       free = ap₂ or_else (ap (fault_of command_line) line.begins ∙ trace_free rest free)
-          (a_format (subcommand_of command_line words) (ap is_format is_shown ∙ shown_format line.given shown line.options line.format));
+          (ap₂ or_else (a_format (subcommand_of command_line words) (ap is_format is_shown ∙ shown_format line.given shown line.options line.format))
+          (no_reduce (codes "trace") _ (ap name_of met) refl));
       rounds = ap (value_met (codes "rounds")) met
           ∙ ap text (option_value (codes "rounds") (codes "1000000") most (vp.Unsigned 0 most_rounds) [] (format ∷ help ∷ []) read.rows tt refl of_rounds);
       format = is_shown;
