@@ -5,10 +5,21 @@ from typing import NamedTuple
 ADD = "{Add(x,x)><Z;Add(S(x),y)><S(Add(x,y))}"
 LOOP = "{A(B(x))><B(A(x))}"
 GROW = "{A(B(x),S(y))><B(A(x,y))} <r|A(x,r)=B(x)>"
+DUP = "Dup(Z,Z)><Z;Dup(S(x),S(y))><S(Dup(x,y))"
+ACKERMANN = f"{{Ack(S(x),x)><Z;Ack(r,Again(r,m))><S(m);Again(r,Ack(r,S(Z)))><Z;Again(r,Dup(Ack(r,k),m))><S(Again(k,m));{DUP}}}"
+FIBONACCI = f"{{Add(x,x)><Z;Add(S(x),y)><S(Add(x,y));{DUP};F(Z)><Z;F(r)><S(G(r));G(S(Z))><Z;G(r)><S(Dup(G(Add(r,u)),F(u)))}}"
+SORT = "{Sort(Nil)><Nil;Sort(r)><Cons(h,Sort(Insert(r,h)));Insert(Cons(x,Nil),x)><Nil;Insert(Cons(l,r),Min(l,k,h))><Cons(h,Insert(r,k));"
+SORT += "Min(Z,x,x)><Z;Min(l,h,Mid(l,h,x))><S(x);Mid(Z,S(x),x)><Z;Mid(S(l),S(h),Min(l,h,y))><S(y)}"
+CHURCH = "{Lam(x,y)><App(x,y);D(x,y)><D(x,y);E(x,y)><E(x,y);D(E(a,b),E(c,d))><E(D(a,c),D(b,d));D(Lam(a,b),Lam(c,d))><Lam(D(a,c),D(b,d));"
+CHURCH += "E(Lam(a,b),Lam(c,d))><Lam(E(a,c),E(b,d));D(App(a,b),App(c,d))><App(D(a,c),D(b,d));E(App(a,b),App(c,d))><App(E(a,c),E(b,d));"
+CHURCH += "D(S(x),S(y))><S(D(x,y));E(S(x),S(y))><S(E(x,y));D(Z,Z)><Z;E(Z,Z)><Z}"
+EATS = "{Eat(Done)><Z;Eat(r)><S(Eat(r))}"
+WALKS = "{Walk(Z)><Z;Walk(S(r))><S(Walk(r))}"
 
 
 class Row(NamedTuple):
-    """`pairs` is how many interactions a round is, where they are to be told, and `keeps` says that the disk is to be a real one."""
+    """`pairs` is how many interactions a round is, where they are to be told, and `keeps` says that the disk is to be a real one.
+    A `reduce` in place tells its interactions itself."""
 
     what: str
     words: list
@@ -38,6 +49,39 @@ def of_texts(size):
     yield Row(f"settle: a chain of {names:,} names", ["settle"], f"<x1|{chain},x{names + 1}=Z>")
     yield Row(f"once: {pairs:,} active pairs", ["once"], loops(pairs), pairs)
     yield Row(f"reduce: {rounds:,} rounds of {pairs:,} pairs", ["reduce", "--rounds", str(rounds)], loops(pairs), pairs)
+
+
+def numeral(number):
+    return "S(" * number + "Z" + ")" * number
+
+
+def church(number):
+    """Church's number applied to his two, and that to a successor and zero: two to the power of the number."""
+    tree = f"App(x{number},x{number + 1})"
+    for it in range(number - 1, 0, -1):
+        tree = f"D(App(x{it},x{it + 1}),{tree})"
+    return f"{CHURCH} <r|Lam({tree},Lam(x1,x{number + 1}))=App(Lam(E(App(p,q),App(s,p)),Lam(s,q)),App(Lam(y,S(y)),App(Z,r)))>"
+
+
+def of_nets(size):
+    """What is reduced in place. Of those that grow fast, a part of a size lies between a least one and the whole."""
+
+    def less(whole, least):
+        return least + (whole - least) * size(1_000) // 1_000
+
+    turned = list(range(size(110)))
+    turned = turned[1::2] + turned[::-2]
+    listed = "".join(f"Cons({numeral(it)}," for it in turned) + "Nil" + ")" * len(turned)
+    chain = numeral(size(8_000))
+    for what, given in (
+        (f"Ackermann's function of 3 and {less(9, 3)}", f"{ACKERMANN} <r|Ack(r,{numeral(less(9, 3))})={numeral(3)}>"),
+        (f"Fibonacci's number {less(27, 9)}", f"{FIBONACCI} <r|F(r)={numeral(less(27, 9))}>"),
+        (f"an insertion sort of {len(turned)} numbers", f"{SORT} <r|Sort(r)={listed}>"),
+        (f"Church's 2 to the power of {less(20, 5)}", church(less(20, 5))),
+        (f"a chain of {size(8_000):,} agents is eaten", f"{EATS} <r|Eat(r)={chain}>"),
+        (f"an agent walks along a chain of {size(8_000):,}", f"{WALKS} <r|Walk(r)={chain}>"),
+    ):
+        yield Row(f"reduce: {what}", ["reduce"], given)
 
 
 def of_lines(size):
@@ -94,4 +138,4 @@ def rows(part):
     def size(whole):
         return max(1, round(whole * part))
 
-    return [*of_texts(size), *of_lines(size)]
+    return [*of_texts(size), *of_nets(size), *of_lines(size)]

@@ -33,7 +33,7 @@ PATIENCE = float(os.environ.get("PATIENCE") or 120)
 
 class Ran(NamedTuple):
     """A run of the program that has ended. A signal that ended it is a negative status, as of `subprocess`. What stands on
-    standard error behind the line of a disk, of a text or of standard input stands by itself."""
+    standard error behind the line of a disk, of a text, of a net or of standard input stands by itself."""
 
     command: str
     status: int
@@ -45,15 +45,19 @@ class Ran(NamedTuple):
 # The lines of standard error behind which a line tells of the disk's file.
 OF_DISKS = [f"icserve: {it}\n".encode() for it in ("device", "locked", "broken", "no slot", "two alike", "damaged", "not empty", "full")]
 
+# The lines behind which a line tells how far a net has come that was reduced in place.
+OF_NETS = [b"icserve: overgrown", b"icserve: table full", b"icserve: memory"]
+
 
 def ran_with(command, status, out, err):
-    """A run, what it wrote on standard error parted: a line that tells of the disk's file or of standard input stands by
-    itself, and so do the four lines of a place in a text."""
+    """A run, what it wrote on standard error parted: a line that tells of the disk's file, of standard input or of a net
+    stands by itself, and so do the four lines of a place in a text."""
     line, feed, behind = err.partition(b"\n")
     of_disk = (line + feed in OF_DISKS or line.startswith(b"icserve: taken ")) and behind.count(b"\n") == 1
     of_input = line == b"icserve: read" and behind.startswith(b"standard input: ") and behind.count(b"\n") == 1
     of_text = line.startswith(b"icserve: bad ") and behind.startswith(b"line ") and behind.count(b"\n") == 4
-    if of_disk or of_text or of_input:
+    of_net = line in OF_NETS and behind.startswith(b"interactions ") and behind.count(b"\n") == 1
+    if of_disk or of_text or of_input or of_net:
         return Ran(command, status, out, line + feed, behind)
     return Ran(command, status, out, err)
 

@@ -1,9 +1,11 @@
-"""The words `reduce`, `trace` and `draw`: the rows of trials/rows through the built program, each exit status and each line of
+"""The words `reduce` by rounds, `trace` and `draw`: the rows of trials/rows through the built program, each exit status and each line of
 standard error, and what goes wrong on the way."""
 
 import re
 import xml.etree.ElementTree as xml
 
+import model
+import nets
 import test_faults
 from known import ADD, LOOP, WIDE
 from program import IN_MEMORY, PROGRAM, TOP, Trial, as_lines, run
@@ -32,6 +34,12 @@ def asked(kinds):
     for name, kind, text, answer in rows("texts", *kinds):
         count, _, text = text.partition(" ")
         yield name, kind, count, expanded(text), answer
+
+
+def is_one_net(text, one, two):
+    """Whether two lines are one net, over the symbols of a text. One is written as in a table, with a mark before each bar."""
+    rules = model.read_system(text)[0]
+    return nets.form_of(rules, one.replace("\\|", "|").encode()) == nets.form_of(rules, two)
 
 
 def end_of(answer):
@@ -70,13 +78,13 @@ class Rows(Trial):
                 tried += 1
         self.equals("trace", f"more than ten rows: {tried}", True, tried > 10)
 
-    def test_a_million_rounds_are_made_and_a_table_is_told_where_nothing_else_is_said(self):
-        self.runs("reduce", given=TWO, out=["<S(S(Z))|>"])
-        self.refuses("reduce", given=DOUBLES, line="overgrown", status=1)
+    def test_a_million_rounds_are_made_and_a_table_is_told(self):
+        self.runs("reduce", "--rounds", 10**6, given=TWO, out=["<S(S(Z))|>"])
+        self.refuses("reduce", "--rounds", 10**6, given=DOUBLES, line="overgrown", status=1)
         table = [HEAD, "1\t1\t7\t1\t2", "2\t1\t3\t0\t0"]
         self.runs("trace", given=TWO, out=table)
         self.runs("trace", "--format", "tsv", given=TWO, out=table)
-        self.refuses("reduce", given=LOOP.text, out=[LOOP.config(10**6)], line="not done", status=5)
+        self.refuses("reduce", "--rounds", 10**6, given=LOOP.text, out=[LOOP.config(10**6)], line="not done", status=5)
 
     def test_as_many_rounds_as_there_may_be_are_taken(self):
         self.runs("reduce", "--rounds", MOST, given=TWO, out=["<S(S(Z))|>"])
@@ -99,16 +107,16 @@ class Rows(Trial):
         self.equals(alone.command, "how it ends, and how many equations there are", (5, b"icserve: not done\n", 1200), told)
         for workers in (2, 3, 64):
             self.runs("reduce", "--workers", workers, "--rounds", 5, given=swaps, out=alone.out, err=alone.err, status=5)
-            self.runs("reduce", "--workers", workers, given=WIDE.text, out=[WIDE.config(1)], err=["icserve: stuck Q><R"])
+            self.runs("reduce", "--rounds", 9, "--workers", workers, given=WIDE.text, out=[WIDE.config(1)], err=["icserve: stuck Q><R"])
         for wrong in (0, 65, -1):
-            ran = run("reduce", "--workers", wrong, given=TWO)
+            ran = run("reduce", "--rounds", 9, "--workers", wrong, given=TWO)
             self.equals(ran.command, "how it ends", (2, b"", b"error:"), (ran.status, ran.out, ran.err[:6]))
 
     def test_rounds_that_are_cut_go_on_where_they_ended(self):
         """A configuration that isn't done is printed all the same; with the rules before it, it is reduced further."""
         text = (TOP / "examples/ackermann.ic").read_text()
         rules = text[: text.index("}") + 1]
-        whole, rounds, status = run("reduce", given=text), 0, 5
+        whole, rounds, status = run("reduce", "--rounds", 10**6, given=text), 0, 5
         while status == 5:
             ran = run("reduce", "--rounds", 5, given=text)
             text, status, rounds = rules + ran.out.decode(), ran.status, rounds + 1
@@ -134,10 +142,12 @@ class Examples(Trial):
             given = (TOP / "examples" / name).read_bytes()
             with self.subTest(example=name):
                 if refused:
-                    self.refuses("reduce", given=given, line=answer, status=1)
+                    self.refuses("reduce", "--rounds", 10**6, given=given, line=answer, status=1)
                     self.refuses("reduce", "--rounds", int(rounds) + 1, given=given, line=answer, status=1)
                 else:
                     self.runs("reduce", given=given, out=[answer.replace("\\|", "|")])
+                    by_rounds = run("reduce", "--rounds", rounds, given=given)
+                    self.equals(by_rounds.command, "status, and the net of the answer", (0, True), (by_rounds.status, is_one_net(given, answer, by_rounds.out)))
 
     def test_the_table_tells_the_sums_of_each_trace(self):
         for name, (refused, _, rounds, *sums) in self.table().items():
@@ -155,12 +165,14 @@ class Endings(Trial):
 
     def test_refused_texts_are_told_and_nothing_is_printed(self):
         for text, fault in SYSTEMS:
-            for words in (["reduce"], ["trace"], ["trace", "--format", "svg"]):
+            for words in (["reduce"], ["reduce", "--rounds", 9], ["trace"], ["trace", "--format", "svg"]):
+                if words == ["reduce"] and fault == "overgrown":
+                    continue
                 with self.subTest(text=text[:60], words=words):
                     self.refuses(*words, given=text, line=fault, status=1)
 
     def test_a_text_of_262145_bytes_is_too_long_and_one_of_262144_is_not(self):
-        for words, out in ((["reduce"], "<|>\n"), (["trace"], f"{HEAD}\n")):
+        for words, out in ((["reduce"], "<|>\n"), (["reduce", "--rounds", 9], "<|>\n"), (["trace"], f"{HEAD}\n")):
             self.runs(*words, given=" " * (262_144 - 6) + "{} <|>", out=out)
             self.refuses(*words, given=" " * (262_145 - 6) + "{} <|>", line="bad limit", status=1)
 
@@ -181,11 +193,15 @@ class Endings(Trial):
 
     def test_a_stuck_pair_is_told_on_standard_error_alone(self):
         text = f"{ADD} <r|Ad(r,Z)=Z,Up=Down>"
-        self.runs("reduce", given=text, out=["<r|Ad(r,Z)=Z,Up=Down>"], err=["icserve: stuck Ad><Z"])
-        self.runs("-c", 'exec "$0" reduce 2>&-', PROGRAM, program="/bin/sh", given=text, out=["<r|Ad(r,Z)=Z,Up=Down>"])
+        out = ["<r|Ad(r,Z)=Z,Up=Down>"]
+        self.runs("reduce", "--rounds", 9, given=text, out=out, err=["icserve: stuck Ad><Z"])
+        self.runs("-c", 'exec "$0" reduce --rounds 9 2>&-', PROGRAM, program="/bin/sh", given=text, out=out)
+        in_place = run("reduce", given=text)
+        self.equals(in_place.command, "whether a stuck pair is told", True, in_place.err in (b"icserve: stuck Ad><Z\n", b"icserve: stuck Up><Down\n"))
+        self.runs("-c", 'exec "$0" reduce --stats 2>&-', PROGRAM, program="/bin/sh", given=text, out=in_place.out)
 
     def test_streams_that_are_closed_or_full_have_their_line(self):
-        for words in (["reduce"], ["trace"], ["trace", "--format", "svg"], ["draw"]):
+        for words in (["reduce"], ["reduce", "--stats"], ["reduce", "--rounds", "9"], ["trace"], ["trace", "--format", "svg"], ["draw"]):
             for closing, line in (("<&-", "read"), (">&-", "write"), (">/dev/full", "write")):
                 shell = ["-c", f'exec "$0" "$@" {closing}', PROGRAM, *words]
                 self.refuses(*shell, program="/bin/sh", given=TWO, line=line, status=4)
@@ -273,8 +289,11 @@ class Faults(Trial):
     # Words, a text, and how the run ends: standard output, standard error and the status.
     RUNS = [
         (["reduce"], TWO, b"<S(S(Z))|>\n", b"", 0),
+        (["reduce", "--steps", "1"], TWO, b"<S(a)|Z=Add(a,S(Z))>\n", b"icserve: not done\n", 5),
+        (["reduce", "--rounds", "9"], TWO, b"<S(S(Z))|>\n", b"", 0),
         (["reduce", "--rounds", "1"], TWO, b"<S(s)|Z=Add(s,S(Z))>\n", b"icserve: not done\n", 5),
         (["reduce"], "{A><B} <|A=C>", b"<|A=C>\n", b"icserve: stuck A><C\n", 0),
+        (["reduce", "--rounds", "9"], "{A><B} <|A=C>", b"<|A=C>\n", b"icserve: stuck A><C\n", 0),
         (["reduce"], "{A(B,x)><A(x,C)} <|>", b"", b"icserve: bad lopsided 1\n", 1),
         (["draw"], "<a|a=b>", as_lines([*GRAPH, "J0 [shape=point]", "I1 -- J0", "J0 -- b", "}"]), b"", 0),
         (["draw"], "{} <a1,a1|a1=A>", b"", b"icserve: bad name a1\n", 1),

@@ -13,6 +13,7 @@ from program import IN_MEMORY, PROGRAM, Trial, as_lines, run, said_of
 
 # A line as the program writes it: to the begin of the terminal's line, the text, and what erases the rest.
 LINE = re.compile(rb"\revents (\d+)(?:, rounds a second (\d+), jobs running (\d+))?\x1b\[K")
+OF_A_NET = re.compile(rb"\rinteractions (\d+), a second (\d+), places (\d+)\x1b\[K")
 WIPED = b"\r\x1b[K"
 
 # A thousand pairs that never end, so that many rounds take a while on any machine.
@@ -69,14 +70,14 @@ class Progress(Trial):
             took = time.monotonic() - begun
         return ran.status, ran.out, ran.err, bytes(shown.came), took
 
-    def lines_of(self, shown, took):
+    def lines_of(self, shown, took, line=LINE):
         """What the lines say that came on a terminal: they are rewritten in place and seldom enough, and wiped at the end."""
-        lines = [tuple(int(it or 0) for it in line.groups()) for line in LINE.finditer(shown)]
-        rest = LINE.sub(b"", shown)
+        lines = [tuple(int(it or 0) for it in found.groups()) for found in line.finditer(shown)]
+        rest = line.sub(b"", shown)
         if rest.replace(WIPED, b"") or not shown.endswith(WIPED):
             self.told(self.command, "standard error", "lines of progress, and last that they are wiped", shown)
         events = [it[0] for it in lines]
-        self.equals(self.command, "the events, which grow", sorted(events), events)
+        self.equals(self.command, "what is counted, which grows", sorted(events), events)
         is_seldom = len(lines) <= 10 * took + 1
         self.equals(self.command, f"at most ten lines in a second: {len(lines)} in {took:.1f} s", True, is_seldom)
         return lines
@@ -132,7 +133,22 @@ class Progress(Trial):
         status, _, err, shown, _ = self.shows(["serve", "--disk", self.jobs], LONG, err=False)
         self.equals(self.command, "status, standard error and output", (0, b"", as_lines(ANSWERS)), (status, err, shown))
 
+    def test_a_net_that_is_reduced_in_place_shows_its_line_on_a_terminal_and_wipes_it(self):
+        for words in (["--steps", 10_000_000], ["--steps", 10_000_000, "--stats"]):
+            status, out, _, shown, took = self.shows(["reduce", *words], LOOP.text, out=False)
+            told = shown.rpartition(WIPED)[2]
+            self.equals(self.command, "status, and how what is told ends", (5, True), (status, told.endswith(b"icserve: not done\n")))
+            self.equals(self.command, "how many lines are told", len(words) - 1, told.count(b"\n"))
+            self.equals(self.command, "standard output", (b"<|", b">\n", 1), (out[:2], out[-2:], out.count(b"\n")))
+            lines = self.lines_of(shown.removesuffix(told), took, OF_A_NET)
+            self.equals(self.command, f"a line came: {lines}", True, len(lines) > 0)
+            is_told = all(made % 4_096 == 0 and pace > 0 and places < 10 for made, pace, places in lines)
+            self.equals(self.command, f"pieces of a run, and few places: {lines}", True, is_told)
+
     def test_short_work_shows_no_line(self):
+        _, out, _, shown, took = self.shows(["reduce", "--steps", 10], LOOP.text, out=False)
+        if took < 0.1:
+            self.equals(self.command, f"what the terminal is shown of {took:.2f} s", b"icserve: not done\n", shown)
         given = [f"submit loop {LOOP.text}", "run 1", "list"]
         status, out, _, shown, took = self.shows(["serve", "--disk", self.jobs], given, out=False)
         self.equals(self.command, "status and standard output", (0, b"accepted\nran 1\njobs loop:running:1\n"), (status, out))

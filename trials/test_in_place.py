@@ -1,0 +1,259 @@
+"""The word `reduce` without rounds, which reduces a net in place: the rows of trials/rows, each bound and ending, hard nets,
+and what goes wrong on the way."""
+
+import re
+import resource
+import signal
+import subprocess
+import time
+
+import model
+import nets
+from known import ADD, LOOP
+from program import IN_MEMORY, PROGRAM, TOP, Trial, as_bytes, run
+from worked_rows import expanded, rows
+
+# The most interactions and places that may be asked for.
+MOST = 2**62 - 1
+
+STATS = re.compile(rb"icserve: interactions (\d+), places (\d+), seconds \d+\.\d{3}, interactions a second \d+\n")
+REACHED = re.compile(rb"interactions (\d+), places (\d+)(?:, --nodes (\d+))?\n")
+
+# How many interactions a net makes between two looks at its size.
+PIECE = 4_096
+
+# Each pair of it becomes two, of agents that are larger by one each time.
+DOUBLES = "{D(D(x,y),D(z,w))><E(E(x,y),E(z,w))} <|D(a,b)=E(a,b)>"
+
+# Two to the power of a number: some twice as many interactions.
+POWER = "{Exp(S(Z))><Z;Exp(r)><S(Exp(Dbl(r)));Dbl(Z)><Z;Dbl(S(S(x)))><S(Dbl(x))}"
+
+
+def numeral(number):
+    return "S(" * number + "Z" + ")" * number
+
+
+def stats_of(err):
+    """How many interactions and places a run with `--stats` tells, and what else it says on standard error."""
+    told = STATS.match(err)
+    return (int(told[1]), int(told[2]), err[told.end() :]) if told else (None, None, err)
+
+
+class InPlace(Trial):
+    rooms = IN_MEMORY
+
+    def reduces(self, *words, given, out, err=b"", status=0, interactions=None, **how):
+        """Fails unless the text is reduced in place to this line, with so many interactions where they are given."""
+        ran = run("reduce", "--stats", *words, given=given, **how)
+        made, places, rest = stats_of(ran.err)
+        if made is None:
+            self.told(ran.command, "a line of figures comes first", STATS.pattern, ran.err)
+        if interactions is not None:
+            self.equals(ran.command, "interactions", interactions, made)
+        self.ended(ran._replace(err=rest), out, err, status)
+        return made, places
+
+    def is_net(self, command, text, came, wanted):
+        """Fails unless the line that came is the net of a configuration, over the symbols of a text."""
+        rules = model.read_system(as_bytes(text))[0]
+        self.equals(command, "the net", nets.form_of(rules, as_bytes(wanted)), nets.form_of(rules, came))
+
+
+class Rows(InPlace):
+    ENDS = re.compile(rb"(<.*>)\n(?:done (\d+)(?: stuck (.*))?|(not done))")
+
+    def test_each_row_that_is_reduced_in_place(self):
+        seen = set()
+        for name, _, text, answer in rows("texts", "in_place"):
+            count, _, text = text.partition(" ")
+            with self.subTest(name=name, steps=count):
+                told = self.ENDS.fullmatch(answer)
+                if not told:
+                    self.refuses("reduce", "--steps", count, given=expanded(text), line=answer.decode(), status=1)
+                elif told[4]:
+                    ran = run("reduce", "--steps", count, "--stats", given=expanded(text))
+                    self.equals(ran.command, "status and what is told", (5, int(count), b"icserve: not done\n"), (ran.status, *stats_of(ran.err)[::2]))
+                    self.is_net(ran.command, expanded(text), ran.out, told[1])
+                else:
+                    err = [b"icserve: stuck " + told[3]] if told[3] else b""
+                    self.reduces("--steps", count, given=expanded(text), out=[told[1]], err=err, interactions=int(told[2]))
+                seen.add(answer.split(b" ")[0] if not told else "stuck" if told[3] else told[4] or "done")
+        self.equals("reduce", "ends that no row has", set(), {b"bad", "stuck", b"not done", "done"} - seen)
+
+    def test_each_example_has_the_net_and_the_interactions_of_its_rounds(self):
+        tried = 0
+        for path in sorted(TOP.glob("examples/*.ic")):
+            text = path.read_text()
+            by_rounds = run("reduce", "--rounds", 10**6, given=text)
+            if by_rounds.status:
+                continue
+            table = run("trace", given=text).out.splitlines()[1:]
+            ran = run("reduce", "--stats", given=text)
+            self.equals(ran.command, "status", 0, ran.status)
+            self.is_net(ran.command, text, ran.out, by_rounds.out)
+            self.equals(ran.command, "interactions", sum(int(it.split(b"\t")[1]) for it in table), stats_of(ran.err)[0])
+            tried += 1
+        self.equals("examples/", f"at least eight systems: {tried}", True, tried >= 8)
+
+
+class Bounds(InPlace):
+    seconds = 5
+
+    def test_interactions_that_are_cut_go_on_where_they_ended(self):
+        """A configuration that isn't done is printed; with the rules before it, it is reduced further, to the same net."""
+        text = (TOP / "examples/ackermann.ic").read_text()
+        rules = text[: text.index("}") + 1]
+        whole, made, status, rest = run("reduce", given=text), 0, 5, text
+        while status == 5:
+            ran = run("reduce", "--steps", 7, "--stats", given=rest)
+            rest, status, made = rules + ran.out.decode(), ran.status, made + stats_of(ran.err)[0]
+            self.equals(ran.command, "standard error", b"icserve: not done\n" if status else b"", stats_of(ran.err)[2])
+        self.equals(ran.command, "the end, its status and the interactions", (whole.out, 0, 44), (ran.out, status, made))
+
+    def test_a_net_that_never_ends_is_cut_by_its_bound_of_interactions(self):
+        for count in (0, 1, 2, PIECE - 1, PIECE, PIECE + 1, 100_000):
+            ran = run("reduce", "--steps", count, "--stats", given=LOOP.text)
+            self.equals(ran.command, "status", 5, ran.status)
+            self.equals(ran.command, "what is told", (count, b"icserve: not done\n"), stats_of(ran.err)[::2])
+            self.is_net(ran.command, LOOP.text, ran.out, LOOP.config(count))
+
+    def test_just_so_many_interactions_as_it_takes_are_enough(self):
+        two = f"{ADD} <r|Add(r,S(Z))=S(Z)>"
+        self.reduces("--steps", 2, given=two, out=["<S(S(Z))|>"], interactions=2)
+        self.reduces("--steps", MOST, "--nodes", MOST, given=two, out=["<S(S(Z))|>"], interactions=2)
+        self.reduces("--steps", 0, given="{A><B} <|A=C>", out=["<|A=C>"], err=["icserve: stuck A><C"], interactions=0)
+        for option in ("--steps", "--nodes"):
+            ran = run("reduce", option, MOST + 1, given=two)
+            self.equals(ran.command, "status and standard output", (2, b""), (ran.status, ran.out))
+            self.equals(ran.command, f"the range is told: {ran.err}", True, f"0..={MOST}".encode() in ran.err)
+
+    def grows(self, *words, most, **how):
+        """A net that grows without end is cut by its bound of places. Hands on what was printed."""
+        ran = run("reduce", "--nodes", most, *words, given=DOUBLES, **how)
+        self.equals(ran.command, "status and line", (1, b"icserve: overgrown\n"), (ran.status, ran.err))
+        told = REACHED.fullmatch(ran.behind)
+        made, places, bound = map(int, told.groups())
+        self.equals(ran.command, f"it is cut at the first look that finds too much: {ran.behind}", (0, most), (made % PIECE, bound))
+        self.equals(ran.command, f"there are more places, but no more than a piece of a run adds: {ran.behind}", True, most < places <= most + 8 * PIECE + 8)
+        return ran
+
+    def test_a_net_that_grows_without_end_is_cut_by_its_bound_of_places(self):
+        for most in (0, 5_000, 300_000):
+            self.equals("reduce", "standard output", b"", self.grows(most=most).out)
+
+    def test_what_is_reached_is_printed_where_it_is_asked_for(self):
+        ran = self.grows("--partial", most=20_000)
+        interface, equations = nets.phrases_of(ran.out)
+        made = int(REACHED.fullmatch(ran.behind)[1])
+        self.equals(ran.command, "terms of the interface and equations", (0, made + 1), (len(interface), len(equations)))
+        again = self.grows("--partial", most=20_000)
+        self.agrees(ran.command, "the same bytes a second time", ran.out, again.out)
+
+    def test_where_memory_runs_out_that_is_told_and_nothing_is_printed(self):
+        limited = {"preexec_fn": lambda: resource.setrlimit(resource.RLIMIT_AS, (200 * 2**20, 200 * 2**20))}
+        for words in ([], ["--partial"]):
+            ran = run("reduce", *words, given=DOUBLES, **limited)
+            self.equals(ran.command, "status and line", (4, b"icserve: memory\n"), (ran.status, ran.err))
+            if ran.out or not words:
+                self.agrees(ran.command, "standard output", b"", ran.out)
+                told = REACHED.fullmatch(ran.behind)
+                self.equals(ran.command, f"how far it came: {ran.behind}", True, bool(told) and int(told[1]) > 100_000)
+
+    def test_rounds_and_reducing_in_place_exclude_each_other(self):
+        two = f"{ADD} <r|Add(r,S(Z))=S(Z)>"
+        wanted = "error: the arguments '--rounds <N>' and '--workers <N>' cannot be used with '--steps <N>', '--nodes <N>', "
+        wanted += "'--partial' or '--stats'\n\nUsage: icserve reduce [OPTIONS]\n\nFor more information, try '--help'.\n"
+        for option in (["--steps", 1], ["--nodes=1"], ["--partial"], ["--stats"]):
+            for rounds in (["--rounds", 1], ["--workers", 1], ["--rounds", 1, "--workers", 2]):
+                self.runs("reduce", *rounds, *option, given=two, err=wanted, status=2)
+                self.runs("reduce", *option, *rounds, given=two, err=wanted, status=2)
+        wanted = "error: the following required arguments were not provided:\n  --rounds <N>\n\n"
+        wanted += "Usage: icserve reduce --rounds <N> --workers <N>\n\nFor more information, try '--help'.\n"
+        self.runs("reduce", "--workers", 3, given=two, err=wanted, status=2)
+        for wrong in (["--steps", -1], ["--steps"], ["--nodes", "many"], ["--partial=1"], ["--steps", 1, "--steps", 2], ["--stats", "--stats"]):
+            ran = run("reduce", *wrong, given=two)
+            self.equals(ran.command, "how it ends", (2, b"", b"error:"), (ran.status, ran.out, ran.err[:6]))
+
+    def test_a_signal_ends_it_and_nothing_is_printed(self):
+        for text in (LOOP.text, DOUBLES):
+            for wait in (0.05, 0.5):
+                command = [PROGRAM, "reduce", "--nodes", "50000000", "--partial"]
+                with subprocess.Popen(command, stdin=subprocess.PIPE, stdout=subprocess.PIPE, stderr=subprocess.PIPE) as started:
+                    started.stdin.write(text.encode())
+                    started.stdin.close()
+                    time.sleep(wait)
+                    started.send_signal(signal.SIGTERM)
+                    out, err = started.stdout.read(), started.stderr.read()
+                self.equals(f"{command} {text}", "how it ended", (-signal.SIGTERM, b"", b""), (started.returncode, out, err))
+
+
+class HardNets(InPlace):
+    seconds = 10
+
+    def test_circles_stay_as_they_are(self):
+        for text, wanted in (
+            ("{} <|x=A(x)>", "<|x=A(x)>"),
+            ("{} <|x=x>", "<|x=x>"),
+            ("{} <|x=y,y=x>", "<|x=x>"),
+            ("{} <|x=A(y),y=B(x)>", "<|x=A(B(x))>"),
+            ("{} <a|x=A(x),y=a,z=z,y=B>", "<B|x=A(x),z=z>"),
+            ("{A(x)><B(x)} <|A(x)=B(x)>", "<|x=x>"),
+            ("{A(x)><B(x)} <|A(x)=B(y),x=y>", "<|x=x>"),
+            ("{A(x,y)><B(x,y)} <|A(x,C(x))=B(y,y)>", "<|x=C(x)>"),
+            ("{A(x)><B(C(x))} <|A(x)=B(x)>", "<|x=C(x)>"),
+        ):
+            ran = run("reduce", given=text)
+            self.equals(ran.command, "status and standard error", (0, b""), (ran.status, ran.err))
+            self.is_net(ran.command, text, ran.out, wanted)
+
+    def test_rings_through_many_names_and_many_rules_become_circles(self):
+        names = [model.name_text(it) for it in range(3_000)]
+        around = list(zip(names, names[1:] + names[:1]))
+        ring = ",".join(f"{one}=A({two})" for one, two in around[:300] + [(names[300], names[0])])
+        whole = "A(" * 301 + "x" + ")" * 301
+        wires = ",".join(f"{one}={two}" for one, two in around)
+        pairs = ",".join(f"P({one})=Q({two})" for one, two in around[:300] + [(names[300], names[0])])
+        for text, wanted, made in (
+            (f"{{A(x)><B(x)}} <|{ring}>", f"<|x={whole}>", 0),
+            (f"{{A(x)><B(x)}} <|{wires}>", "<|x=x>", 0),
+            (f"{{P(x)><Q(x);P(A(x))><R(x)}} <|{pairs}>", "<|x=x>", 301),
+            (f"{{P(A(x))><Q(x)}} <|{pairs}>", "<|x=" + "A(" * 301 + "x" + ")" * 301 + ">", 301),
+        ):
+            ran = run("reduce", "--stats", given=text)
+            self.equals(ran.command, "status and what is told", (0, made, b""), (ran.status, *stats_of(ran.err)[::2]))
+            self.is_net(ran.command, text, ran.out, wanted)
+
+    def test_a_list_that_is_copied_is_there_twice(self):
+        rules = "{Dup(Nil,Nil)><Nil;Dup(Cons(a,x),Cons(b,y))><Cons(Dup(a,b),Dup(x,y));Dup(Z,Z)><Z;Dup(S(x),S(y))><S(Dup(x,y))}"
+        whole = "".join(f"Cons({numeral(it % 3)}," for it in range(2_000)) + "Nil" + ")" * 2_000
+        ends = 2_000 + 1 + sum(it % 3 + 1 for it in range(2_000))
+        self.reduces(given=f"{rules} <r,s|Dup(r,s)={whole}>", out=[f"<{whole},{whole}|>"], interactions=ends)
+        # Eight copies of copies.
+        copies = "Dup(Dup(Dup(a,b),Dup(c,d)),Dup(Dup(e,f),Dup(g,h)))"
+        answer = ",".join([whole] * 8)
+        self.reduces(given=f"{rules} <a,b,c,d,e,f,g,h|{copies}={whole}>", out=[f"<{answer}|>"], interactions=7 * ends)
+
+    def test_an_answer_that_is_nested_262_144_deep_is_printed(self):
+        power = 2**18
+        self.reduces(given=f"{POWER} <r|Exp(r)={numeral(18)}>", out=[f"<{numeral(power)}|>"], interactions=power + 36)
+        deep = "{B(A(x),y)><S(B(x,y));B(x,x)><Z} <r|B(r,r)=" + numeral(4_000) + ">"
+        self.reduces(given=deep.replace("B(r,r)", "B(r,C)"), out=["<" + "A(" * 4_000 + "C" + ")" * 4_000 + "|>"], interactions=4_001)
+
+    def test_free_names_keep_theirs_and_others_are_numbered(self):
+        self.reduces(given="{} <z9|z9=A(y,b,y)>", out=["<A(a,b,a)|>"])
+        self.reduces(given="{} <a,b|>", out=["<a,b|>"])
+        self.reduces(given="{} <v165191049,x,x|>", out=["<v165191049,b,b|>"])
+        swaps = "{A(x,y)><B(y,x)} <c,d|A(p,d)=B(q,c),p=F(a),q=G(t,t)>"
+        ran = run("reduce", given=swaps)
+        self.is_net(ran.command, swaps, ran.out, "<c,d|c=F(a),d=G(t,t)>")
+        text = "{Gamma(x,y)><Gamma(y,x);Gamma(Delta(a,b),Delta(c,d))><Delta(Gamma(a,c),Gamma(b,d))} <a,b,c,d|Gamma(a,b)=Delta(c,d)>"
+        self.reduces(given=text, out=["<Delta(a,b),Delta(c,d),Gamma(a,c),Gamma(b,d)|>"], interactions=1)
+
+    def test_places_are_used_again(self):
+        """A net that stays small takes few places, however many interactions it makes."""
+        pairs = ",".join(f"A(x{it})=B(x{it})" for it in range(1, 1_001))
+        for text, most in ((LOOP.text, 10), (f"{{A(B(x))><B(A(x))}} <|{pairs}>", 4_010)):
+            ran = run("reduce", "--steps", 300_000, "--stats", given=text)
+            made, places, _ = stats_of(ran.err)
+            self.equals(ran.command, "interactions", 300_000, made)
+            self.equals(ran.command, f"at most {most} places: {places}", True, places <= most)
