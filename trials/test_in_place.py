@@ -9,8 +9,10 @@ import time
 
 import model
 import nets
+import test_faults
 from known import ADD, LOOP
 from program import IN_MEMORY, PROGRAM, TOP, Trial, as_bytes, run
+from shim import shimmed
 from worked_rows import expanded, rows
 
 # The most interactions and places that may be asked for.
@@ -257,3 +259,34 @@ class HardNets(InPlace):
             made, places, _ = stats_of(ran.err)
             self.equals(ran.command, "interactions", 300_000, made)
             self.equals(ran.command, f"at most {most} places: {places}", True, places <= most)
+
+
+class Growths(InPlace):
+    """Each growth of memory is refused in turn."""
+
+    seconds = 15
+    in_turn = test_faults.Faults.in_turn
+
+    def test_memory_runs_out_anywhere_and_what_was_reached_goes_on(self):
+        """Nothing is printed then, or with `--partial` the net that was reached, from which the answer is reached."""
+        shimmed()
+        self.log = self.room / "log"
+        text, answer = f"{POWER} <r|Exp(r)={numeral(7)}>", f"<{numeral(2**7)}|>\n".encode()
+        told = {"well": 0, "before": 0, "between": 0, "printed": 0}
+
+        def attempt(env, call):
+            ran = run("reduce", *words, given=text, env=env)
+            if (ran.status, ran.out, ran.err) == (0, answer, b""):
+                told["well"] += 1
+                return
+            self.equals(ran.command, f"status and line, where it went wrong: {call}", (4, b"icserve: memory\n"), (ran.status, ran.err))
+            told["between" if ran.behind else "before"] += 1
+            self.equals(ran.command, f"how far it came: {ran.behind}", True, not ran.behind or bool(REACHED.fullmatch(ran.behind)))
+            if ran.out:
+                told["printed"] += 1
+                self.equals(ran.command, "whether a net may be printed", True, bool(words and ran.behind))
+                self.runs("reduce", given=f"{POWER} ".encode() + ran.out, out=answer)
+
+        for words in ([], ["--partial"]):
+            self.in_turn("growth", ("once", "on"), attempt)
+        self.equals("reduce", f"ends that never came: {told}", [], [it for it, count in told.items() if not count])
