@@ -1,5 +1,6 @@
 -- What is told behind the line of a failure, by cases over all of them (this project's choice).
 use Rattle.std.specs.Prelude.{ℕ, List, [], ◌∷◌, ◌++◌, codes, Option, None, Some}
+use Rattle.std.specs.Fmt.{decimal}
 use Rattle.ic_causes.specs.declared.cause.Cause.{Cause}
 use Rattle.ic_causes.specs.declared.cause.Target.{Target}
 use Rattle.ic_causes.specs.declared.cause.Target.TheVariants as target
@@ -24,6 +25,8 @@ use Rattle.ic_batch.specs.declared.fault.Difference.{Difference}
 use Rattle.ic_batch.specs.declared.fault.Difference.TheVariants as difference
 use Rattle.ic_endings.specs.declared.failure.Failure.{Failure}
 use Rattle.ic_endings.specs.declared.failure.Failure.TheVariants.{Words, Stream, Disk, Locked, Create, NotEmpty, Open, Serve, Attend, Dump, Inspect, Jobs, Batch, Faults, NotDone}
+use Rattle.ic_endings.specs.declared.failure.Failure.TheVariants.{Overgrown, TableFull, OutOfMemory}
+use Rattle.ic_endings.specs.declared.failure.Reached.{Reached}
 
 -- of a file that is no disk
 abbrev pub no_disk : List ℕ
@@ -127,6 +130,20 @@ batch_lines (batch.Taken name is) path cause = shown_of path (taken_words is)
 batch_lines batch.Full path cause = shown_of path no_room
 batch_lines (batch.Serve fault) path cause = serve_lines fault path cause
 
+-- how far a net has come that is reduced in place
+abbrev pub reached_text : Reached → List ℕ
+reached_text reached = codes "interactions " ++ decimal reached.interactions
+    ++ codes ", places " ++ decimal reached.places
+
+-- where memory ran out, or a table is full
+abbrev pub reached_lines : Reached → List ℕ
+reached_lines reached = reached_text reached ++ 10 ∷ []
+
+-- where it has more than so many places
+abbrev pub overgrown_lines : Reached → ℕ → List ℕ
+overgrown_lines reached nodes =
+    reached_text reached ++ codes ", --nodes " ++ decimal nodes ++ 10 ∷ []
+
 -- what standard error is told behind the line of a failure, where the disk is in the file of this
 -- path and the cause is that of the last call to it, or to standard input, that has failed
 abbrev pub lines_behind : Failure → List ℕ → Option Cause → List ℕ
@@ -145,3 +162,6 @@ lines_behind (Words fault) path cause = []
 lines_behind (Stream fault) path cause = stream_lines fault path cause
 lines_behind Faults path cause = []
 lines_behind NotDone path cause = []
+lines_behind (Overgrown reached nodes) path cause = overgrown_lines reached nodes
+lines_behind (TableFull reached) path cause = reached_lines reached
+lines_behind (OutOfMemory reached) path cause = reached_lines reached

@@ -39,6 +39,10 @@ use Rattle.ic_contents.specs.declared.fault.InspectFault.TheVariants as inspect
 use Rattle.ic_words.specs.declared.words.WordsFault.TheVariants as words
 use Rattle.ic_endings.specs.declared.failure.Failure.{Failure}
 use Rattle.ic_endings.specs.declared.failure.Failure.TheVariants.{Words, Stream, Disk, Locked, Create, NotEmpty, Open, Serve, Attend, Dump, Inspect, Jobs, Batch, Faults, NotDone}
+use Rattle.ic_endings.specs.declared.failure.Failure.TheVariants.{Overgrown, TableFull, OutOfMemory}
+use Rattle.ic_endings.specs.declared.failure.Reached.{Reached}
+use Rattle.ic_in_place.specs.declared.running.End.{End}
+use Rattle.ic_in_place.specs.declared.running.End.TheVariants as end
 
 -- the exit status of `attend`: 1 for a refused script, 3 for a disk that isn't opened, 4 for all
 -- else
@@ -80,8 +84,9 @@ batch_status (batch.Taken name difference) = 1
 batch_status batch.Full = 1
 batch_status (batch.Serve fault) = 4
 
--- the exit status: 1 for a refused text, round or job, 2 for refused words, 3 for a disk, 5 for
--- rounds that didn't suffice, 6 for a disk that another server has, 4 for all else
+-- the exit status: 1 for a refused text, round or job and for a net that is too large, 2 for refused
+-- words, 3 for a disk, 5 for rounds or interactions that didn't suffice, 6 for a disk that another
+-- server has, 4 for all else
 abbrev pub status_of : Failure → ℕ
 status_of (Words (words.Words text)) = 2
 status_of (Words words.Memory) = 4
@@ -103,6 +108,9 @@ status_of (Batch fault) = batch_status fault
 status_of Locked = 6
 status_of Faults = 1
 status_of NotDone = 5
+status_of (Overgrown reached nodes) = 1
+status_of (TableFull reached) = 1
+status_of (OutOfMemory reached) = 4
 
 -- why a round isn't made
 abbrev pub round_word : RoundFault → List ℕ
@@ -216,6 +224,9 @@ failure_line (Jobs fault) = told (jobs_word fault)
 failure_line (Batch fault) = told (batch_word fault)
 failure_line Faults = told (codes "faults")
 failure_line NotDone = told (codes "not done")
+failure_line (Overgrown reached nodes) = told (codes "overgrown")
+failure_line (TableFull reached) = told (codes "table full")
+failure_line (OutOfMemory reached) = told (codes "memory")
 
 -- the line that tells a stuck pair
 abbrev pub stuck_line : List ℕ → List ℕ
@@ -260,3 +271,12 @@ abbrev pub check_ending : Verdict → Result (Unit {0}) Failure
 check_ending verdict.Fine = Ok tt
 check_ending verdict.Faulty = Err Faults
 check_ending verdict.Unread = Err (Stream stream.Read)
+
+-- how the program ends where a net was reduced in place, by why that ended, how far it came and how
+-- many places it may have
+abbrev pub reduce_ending : End → Reached → ℕ → Result (Unit {0}) Failure
+reduce_ending end.Quiet reached nodes = Ok tt
+reduce_ending end.Steps reached nodes = Err NotDone
+reduce_ending end.Nodes reached nodes = Err (Overgrown reached nodes)
+reduce_ending end.Limit reached nodes = Err (TableFull reached)
+reduce_ending end.Memory reached nodes = Err (OutOfMemory reached)

@@ -1,11 +1,12 @@
 //! What is told behind the line of a failure: why a disk's file doesn't serve, or standard input can't
-//! be read.
+//! be read, or how far a net has come that was reduced in place.
 
 ghost use Rattle.std.specs.Prelude.{◌≡◌, IfOk};
 ghost use Rattle.ic_endings.specs.Behind.{book_lines, create_lines, lines_behind, open_lines, scripts_lines};
-ghost use Rattle.ic_endings.specs.Behind.{batch_lines, input_lines, inspect_lines, serve_lines, shown_of, stream_lines, taken_words};
+ghost use Rattle.ic_endings.specs.Behind.{batch_lines, input_lines, inspect_lines, overgrown_lines, reached_lines, reached_text};
+ghost use Rattle.ic_endings.specs.Behind.{serve_lines, shown_of, stream_lines, taken_words};
 
-use crate::Failure;
+use crate::{Failure, Reached};
 use ic_batch::{BatchFault, Difference};
 use ic_causes::{Cause, Target, cause_line, shown_path};
 use ic_contents::InspectFault;
@@ -50,11 +51,46 @@ impl Failure {
             Failure::Attend(fault) => scripts_lines(alloc, *fault, path, cause),
             Failure::Stream(fault) => stream_lines(alloc, *fault, path, cause),
             Failure::Words(_) | Failure::NotDone => Ok(Vec::new(alloc)),
+            Failure::Overgrown(reached, nodes) => overgrown_lines(alloc, *reached, *nodes),
+            Failure::TableFull(reached) | Failure::OutOfMemory(reached) => {
+                reached_lines(alloc, *reached)
+            }
             Failure::Dump(_) | Failure::Jobs(_) | Failure::Faults => Ok(Vec::new(alloc)),
             Failure::Batch(fault) => batch_lines(alloc, *fault, path, cause),
             Failure::Inspect(fault) => inspect_lines(alloc, *fault, path, cause),
         }
     }
+}
+
+/// How far a net has come that has more than so many places.
+fn overgrown_lines(alloc: Global, reached: Reached, nodes: u64) -> Result<Vec<u8>, AllocError>
+    ensures { IfOk result (λ line. line.items ≡ overgrown_lines reached nodes) }
+{
+    let mut line = reached_text(alloc, reached)?;
+    line.extend_from_slice(b", --nodes ")?;
+    line.extend_from_slice(nodes.to_string(alloc)?.as_bytes())?;
+    line.push(b'\n')?;
+    Ok(line)
+}
+
+/// How far a net has come.
+fn reached_lines(alloc: Global, reached: Reached) -> Result<Vec<u8>, AllocError>
+    ensures { IfOk result (λ line. line.items ≡ reached_lines reached) }
+{
+    let mut line = reached_text(alloc, reached)?;
+    line.push(b'\n')?;
+    Ok(line)
+}
+
+/// What is told of how far a net has come.
+fn reached_text(alloc: Global, reached: Reached) -> Result<Vec<u8>, AllocError>
+    ensures { IfOk result (λ text. text.items ≡ reached_text reached) }
+{
+    let mut text = b"interactions ".to_vec(alloc)?;
+    text.extend_from_slice(reached.interactions.to_string(alloc)?.as_bytes())?;
+    text.extend_from_slice(b", places ")?;
+    text.extend_from_slice(reached.places.to_string(alloc)?.as_bytes())?;
+    Ok(text)
 }
 
 fn inspect_lines(

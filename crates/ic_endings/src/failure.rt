@@ -5,6 +5,7 @@ ghost use Rattle.ic_endings.specs.Endings.{status_of, scripts_status, failure_li
 ghost use Rattle.ic_endings.specs.Endings.{check_ending, stream_word, round_word, create_word, open_word, serve_word, stuck_line};
 ghost use Rattle.ic_endings.specs.Endings.{batch_status, batch_word, cause_text, jobs_status, jobs_word, line_words, opening_failure};
 ghost use Rattle.ic_endings.specs.Endings.{dump_status, dump_word, inspect_status, inspect_word, scripts_word, script_words};
+ghost use Rattle.ic_endings.specs.Endings.{reduce_ending};
 
 use ic_batch::{BatchFault, JobsCause, JobsFault};
 use ic_causes::{Cause, Reason};
@@ -13,6 +14,7 @@ use ic_commands::print_reply;
 use ic_contents::InspectFault;
 use ic_disk::DiskFault;
 use ic_dump::{DiskDumpFault, DumpFault};
+use ic_in_place::End;
 use ic_jobs::Reply;
 use ic_lines::ScriptFault;
 use ic_round::RoundFault;
@@ -24,6 +26,15 @@ use ic_streams::StreamFault;
 use ic_text::print_fault;
 use ic_words::WordsFault;
 use std::alloc::{AllocError, Global};
+
+/// How far a net has come that is reduced in place.
+#[derive(Clone, Copy, Debug)]
+pub struct Reached {
+    /// How many interactions were made.
+    pub interactions: u64,
+    /// How many places the net has.
+    pub places: u64,
+}
 
 /// Why the program doesn't do what it is asked, or not all of it.
 #[derive(Debug, Drop)]
@@ -56,14 +67,20 @@ pub enum Failure {
     Batch(BatchFault),
     /// A text that was looked over has a fault.
     Faults,
-    /// All rounds were made of what was to be reduced, and a step is still possible.
+    /// All rounds or interactions were made of what was to be reduced, and a step is still possible.
     NotDone,
+    /// A net that is reduced in place has more than so many places.
+    Overgrown(Reached, u64),
+    /// A table of a net that is reduced in place is full.
+    TableFull(Reached),
+    /// Memory ran out as a net was reduced in place.
+    OutOfMemory(Reached),
 }
 
 impl Failure {
-    /// The exit status of the program: 1 for a refused text, round, script or job, 2 for refused
-    /// words, 3 for a disk, 5 for rounds that didn't suffice, 6 for a disk that another server has,
-    /// and 4 for all else.
+    /// The exit status of the program: 1 for a refused text, round, script or job and for a net that
+    /// is too large, 2 for refused words, 3 for a disk, 5 for rounds or interactions that didn't
+    /// suffice, 6 for a disk that another server has, and 4 for all else.
     pub fn status(&self) -> u8
         ensures { result ≡ status_of self.now }
     {
@@ -82,6 +99,8 @@ impl Failure {
             Failure::Locked => 6,
             Failure::Faults => 1,
             Failure::NotDone => 5,
+            Failure::Overgrown(_, _) | Failure::TableFull(_) => 1,
+            Failure::OutOfMemory(_) => 4,
         }
     }
 
@@ -107,6 +126,9 @@ impl Failure {
             Failure::Batch(fault) => batch_line(alloc, *fault),
             Failure::Faults => told(alloc, b"faults"),
             Failure::NotDone => told(alloc, b"not done"),
+            Failure::Overgrown(_, _) => told(alloc, b"overgrown"),
+            Failure::TableFull(_) => told(alloc, b"table full"),
+            Failure::OutOfMemory(_) => told(alloc, b"memory"),
         }
     }
 }
@@ -147,6 +169,20 @@ pub fn check_ending(verdict: Verdict) -> Result<(), Failure>
         Verdict::Fine => Ok(()),
         Verdict::Faulty => Err(Failure::Faults),
         Verdict::Unread => Err(Failure::Stream(StreamFault::Read)),
+    }
+}
+
+/// How the program ends where a net was reduced in place, by why that ended, how far it came and how
+/// many places it may have.
+pub fn reduce_ending(end: End, reached: Reached, nodes: u64) -> Result<(), Failure>
+    ensures { result ≡ reduce_ending end reached nodes }
+{
+    match end {
+        End::Quiet => Ok(()),
+        End::Steps => Err(Failure::NotDone),
+        End::Nodes => Err(Failure::Overgrown(reached, nodes)),
+        End::Limit => Err(Failure::TableFull(reached)),
+        End::Memory => Err(Failure::OutOfMemory(reached)),
     }
 }
 

@@ -26,6 +26,9 @@ ghost use Rattle.ic_contents.specs.declared.fault.InspectFault.TheVariants as in
 ghost use Rattle.ic_lines.specs.declared.script.ScriptFault.{ScriptFault};
 ghost use Rattle.ic_scripts.specs.declared.fault.ScriptsFault.TheVariants as scripts;
 ghost use Rattle.ic_endings.specs.declared.failure.Failure.TheVariants.{Words, Stream, Disk, Locked, Create, NotEmpty, Open, Serve, Attend, Dump, Inspect, Jobs, Batch, Faults, NotDone};
+ghost use Rattle.ic_endings.specs.declared.failure.Failure.TheVariants.{Overgrown, TableFull, OutOfMemory};
+ghost use Rattle.ic_endings.specs.declared.failure.Reached.{Reached};
+ghost use Rattle.ic_in_place.specs.declared.running.End.TheVariants as end;
 ghost use Rattle.ic_jobs.specs.declared.reply.Refusal.TheVariants.{Taken, Full};
 ghost use Rattle.ic_batch.specs.declared.fault.JobsCause.{JobsCause};
 ghost use Rattle.ic_batch.specs.declared.fault.JobsCause.TheVariants as cause_of_line;
@@ -36,16 +39,16 @@ ghost use Rattle.ic_batch.specs.declared.fault.Difference.{Difference};
 ghost use Rattle.ic_batch.specs.declared.fault.Difference.TheVariants as difference;
 ghost use Rattle.ic_causes.specs.declared.cause.FileCall.{FileCall};
 ghost use Rattle.ic_causes.specs.declared.cause.Reason.TheVariants as reason;
-ghost use Rattle.ic_endings.specs.Endings.{status_of, check_ending, failure_line, failure_of_dump, opening_failure, stuck_line};
+ghost use Rattle.ic_endings.specs.Endings.{status_of, check_ending, failure_line, failure_of_dump, opening_failure, reduce_ending, stuck_line};
 ghost use Rattle.ic_endings.specs.Behind.{lines_behind};
 ghost use Rattle.ic_causes.specs.declared.cause.Cause.{Cause};
 ghost use Rattle.ic_causes.specs.declared.cause.Target.{Target};
 ghost use Rattle.ic_causes.specs.declared.cause.Target.TheVariants.{Input};
 ghost use Rattle.ic_causes.specs.Causes.{cause_line, shown_path};
 
-/// The exit status is 2 for refused words, 1 for a refused text, round, script or job, 3 for a disk
-/// that isn't made or opened, 5 for rounds that didn't suffice, 6 for a disk that another server
-/// has, and 4 for all else.
+/// The exit status is 2 for refused words, 1 for a refused text, round, script or job and for a net
+/// that is too large, 3 for a disk that isn't made or opened, 5 for rounds or interactions that
+/// didn't suffice, 6 for a disk that another server has, and 4 for all else.
 pub fn statuses_are(text: &String)
     ensures words { status_of (Words (words.Words text.now)) ≡ 2 }
     ensures text { (fault : TextFault) → status_of (Stream (stream.Text fault)) ≡ 1 }
@@ -73,6 +76,9 @@ pub fn statuses_are(text: &String)
     ensures locked { status_of Locked ≡ 6 }
     ensures faults { status_of Faults ≡ 1 }
     ensures not_done { status_of NotDone ≡ 5 }
+    ensures overgrown { (reached : Reached) (nodes : ℕ) → status_of (Overgrown reached nodes) ≡ 1 }
+    ensures table_full { (reached : Reached) → status_of (TableFull reached) ≡ 1 }
+    ensures no_memory { (reached : Reached) → status_of (OutOfMemory reached) ≡ 4 }
     ensures others { map status_of (Words words.Memory ∷ Stream stream.Read ∷ Stream stream.Memory
         ∷ Stream stream.Write ∷ []) ≡ 4 ∷ 4 ∷ 4 ∷ 4 ∷ [] }
     ensures attend { map status_of (Attend scripts.Read ∷ Attend scripts.NoThread
@@ -203,8 +209,13 @@ pub fn openings_end_so()
 {}
 
 /// `check` tells a file that can't be read before faults of others, and is fine only where all are.
-/// `dump` of a disk that isn't opened ends as any other opening of it.
+/// `dump` of a disk that isn't opened ends as any other opening of it. `reduce` in place is fine only
+/// where no step is possible, and tells what else has ended it, and how far it came.
 pub fn endings_are()
+    ensures reduce { (reached : Reached) (nodes : ℕ) → map (λ why. reduce_ending why reached nodes)
+        (end.Quiet ∷ end.Steps ∷ end.Nodes ∷ end.Limit ∷ end.Memory ∷ [])
+        ≡ Ok tt ∷ Err NotDone ∷ Err (Overgrown reached nodes) ∷ Err (TableFull reached)
+        ∷ Err (OutOfMemory reached) ∷ [] }
     ensures check { map check_ending (verdict.Fine ∷ verdict.Faulty ∷ verdict.Unread ∷ [])
         ≡ Ok tt ∷ Err Faults ∷ Err (Stream stream.Read) ∷ [] }
     ensures open { (cause : OpenCause) → failure_of_dump (disk_dump.Open cause) ≡ Open cause }
@@ -226,17 +237,34 @@ pub fn lines_of_checks_are()
     ensures faults { failure_line Faults ≡ codes "icserve: faults" ++ 10 ∷ [] }
 {}
 
-/// The line on standard error where rounds didn't suffice, and that of a stuck pair.
+/// The line on standard error where rounds or interactions didn't suffice, where a net that is reduced
+/// in place is too large or memory ran out, and that of a stuck pair.
 pub fn lines_of_looks_are()
     ensures not_done { failure_line NotDone ≡ codes "icserve: not done" ++ 10 ∷ [] }
+    ensures overgrown { (reached : Reached) (nodes : ℕ)
+        → failure_line (Overgrown reached nodes) ≡ codes "icserve: overgrown" ++ 10 ∷ [] }
+    ensures table_full { (reached : Reached)
+        → failure_line (TableFull reached) ≡ codes "icserve: table full" ++ 10 ∷ [] }
+    ensures no_memory { (reached : Reached)
+        → failure_line (OutOfMemory reached) ≡ codes "icserve: memory" ++ 10 ∷ [] }
     ensures stuck { (pair : List ℕ) → stuck_line pair
         ≡ codes "icserve: stuck " ++ pair ++ 10 ∷ [] }
 {}
 
 /// What is told behind the line of a failure: of `device` why the last call to the file has failed,
 /// of a disk that isn't opened what is wrong with the file, of a `read` of standard input why it has
-/// failed, and of all else nothing.
+/// failed, of a net that is reduced in place how far it came, and of all else nothing.
 pub fn lines_behind_are(text: &String)
+    ensures overgrown { (i p nodes : ℕ) (path : List ℕ) (cause : Option Cause)
+        → lines_behind (Overgrown (record { interactions = i; places = p }) nodes) path cause
+        ≡ codes "interactions " ++ decimal i ++ codes ", places " ++ decimal p
+        ++ codes ", --nodes " ++ decimal nodes ++ 10 ∷ [] }
+    ensures table_full { (i p : ℕ) (path : List ℕ) (cause : Option Cause)
+        → lines_behind (TableFull (record { interactions = i; places = p })) path cause
+        ≡ codes "interactions " ++ decimal i ++ codes ", places " ++ decimal p ++ 10 ∷ [] }
+    ensures no_memory { (reached : Reached) (path : List ℕ) (cause : Option Cause)
+        → lines_behind (OutOfMemory reached) path cause
+        ≡ lines_behind (TableFull reached) path cause }
     ensures file { (fault : DiskFault) (path : List ℕ) (cause : Option Cause)
         → lines_behind (Disk fault) path cause ≡ cause_line path cause }
     ensures locked { (path : List ℕ) (cause : Option Cause)

@@ -6,4 +6,4 @@ mod behind;
 mod failure;
 pub mod laws;
 
-pub use failure::{Failure, check_ending, opening_failure, stuck_line};
+pub use failure::{Failure, Reached, check_ending, opening_failure, reduce_ending, stuck_line};

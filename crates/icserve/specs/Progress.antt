@@ -13,3 +13,9 @@ pace_text (Some pace) = codes ", rounds a second " ++ decimal pace.rounds_a_seco
 abbrev pub progress_line : ℕ → Option Pace → List ℕ
 progress_line events pace =
     13 ∷ codes "events " ++ decimal events ++ pace_text pace ++ 27 ∷ codes "[K"
+
+-- what a terminal is sent of a net that is reduced in place
+abbrev pub reducing_line : (interactions a_second places : ℕ) → List ℕ
+reducing_line interactions a_second places =
+    13 ∷ codes "interactions " ++ decimal interactions ++ codes ", a second " ++ decimal a_second
+    ++ codes ", places " ++ decimal places ++ 27 ∷ codes "[K"

@@ -1,5 +1,5 @@
-//! What the program does for whoever looks at nets, on its input and standard output: `reduce`, `trace` and `draw`. Where
-//! the text is refused, the lines that tell its place are appended to `told`.
+//! What the program does for whoever looks at nets, on its input and standard output: `reduce` by rounds, `trace` and
+//! `draw`. Where the text is refused, the lines that tell its place are appended to `told`.
 
 use ic_endings::{Failure, stuck_line};
 use ic_looks::{Format, Reduction, Workers, reduce_stream, trace_stream};
@@ -39,7 +39,7 @@ pub(crate) fn reduce<T: Threads + Wait, R: Read>(
 }
 
 /// Tells on standard error which pair is stuck.
-fn tell_stuck(rt: &HostRuntime, pair: &[u8]) {
+pub(crate) fn tell_stuck(rt: &HostRuntime, pair: &[u8]) {
     if let Ok(line) = stuck_line(rt.alloc(), pair) {
         let _ = rt.stderr().write_all(&line);
     }

@@ -7,6 +7,7 @@ mod dumping;
 mod inspecting;
 mod looking;
 mod progress;
+mod reducing;
 mod scripts;
 mod standing;
 mod texts;
@@ -17,6 +18,7 @@ use ic_causes::{NotedFile, NotedFiles, NotedInput, Notes};
 use ic_desk::Book;
 use ic_disk::{DiskFault, FileDisk};
 use ic_endings::{Failure, opening_failure};
+use ic_in_place::Bounds;
 use ic_inspect::is_unused;
 use ic_jobs::Command;
 use ic_places::{once_telling, settle_telling};
@@ -115,7 +117,16 @@ fn run<T: Threads + Wait + Copy + Send + Sync + 'static>(
             let numbers = [runners, turns, workers];
             give(rt, threads, disk, scripts, numbers).map_err(Failure::Attend)
         }
-        Task::Reduce { rounds, workers } => {
+        Task::Reduce {
+            steps,
+            nodes,
+            partial,
+            stats,
+        } => {
+            let bounds = Bounds { steps, nodes };
+            reducing::reduce(rt, bounds, partial, stats, &mut input, told)
+        }
+        Task::ReduceByRounds { rounds, workers } => {
             looking::reduce(rt, threads, rounds, workers, &mut input, told)
         }
         Task::Trace { rounds, format } => looking::trace(rt, rounds, format, &mut input, told),

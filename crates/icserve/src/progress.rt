@@ -1,8 +1,9 @@
 //! The line of progress that a terminal shows of long work.
 
 ghost use Rattle.std.specs.Prelude.{◌≡◌, IfOk};
-ghost use Rattle.icserve.specs.Progress.{pace_text, progress_line};
+ghost use Rattle.icserve.specs.Progress.{pace_text, progress_line, reducing_line};
 
+use ic_in_place::Watch;
 use ic_pool::Gate;
 use std::alloc::{AllocError, Global};
 use std::io::{self, IsTerminal, Write};
@@ -24,44 +25,43 @@ struct Pace {
     jobs_running: u64,
 }
 
-/// When the line was last rewritten, or work began behind a pause; how many rounds had landed by
-/// then; and whether there is a line.
+/// What a line tells of long work.
+trait Tells {
+    /// What a terminal is sent, in place of the line before it, where there are so many in a second of
+    /// what is counted.
+    fn line(&self, alloc: Global, a_second: u64) -> Result<Vec<u8>, AllocError>;
+}
+
+/// When the line was last rewritten, or work began behind a pause; how many of what is counted there
+/// were by then; and whether there is a line.
 #[derive(Clone, Copy, Debug)]
 struct Shown {
     at: Instant,
-    rounds: u64,
+    count: u64,
     is_line: bool,
 }
 
-/// A gate that counts events, and shows them in a line on standard error where that is a terminal.
-/// The line is rewritten at most ten times a second, by the thread that comes by then. No thread
-/// waits for another.
+/// A line on standard error, where that is a terminal. It is rewritten at most ten times a second, by
+/// the thread that comes by then. No thread waits for another.
 #[derive(Drop)]
-pub struct Progress<'a> {
+struct Line<'a> {
     rt: &'a HostRuntime,
     has_terminal: bool,
-    events: AtomicU64,
-    rounds: AtomicU64,
-    running: AtomicU64,
     shown: Mutex<Option<Shown>>,
 }
 
-impl<'a> Progress<'a> {
-    pub fn new(rt: &'a HostRuntime) -> Progress<'a> {
-        Progress {
+impl<'a> Line<'a> {
+    fn new(rt: &'a HostRuntime) -> Line<'a> {
+        Line {
             rt,
             has_terminal: rt.stderr().is_terminal(),
-            events: AtomicU64::new(0),
-            rounds: AtomicU64::new(0),
-            running: AtomicU64::new(0),
             shown: Mutex::new(None),
         }
     }
 
-    /// Counts an event, and shows what is counted, unless there is no terminal, or the line was
-    /// rewritten a short while ago, or another thread is about it.
-    fn count(&self) {
-        self.events.fetch_add(1, Ordering::SeqCst);
+    /// Shows what is told, unless there is no terminal, or the line was rewritten a short while ago, or
+    /// another thread is about it. There are so many by now of what is counted.
+    fn show<T: Tells>(&self, count: u64, told: &T) {
         if !self.has_terminal {
             return;
         }
@@ -69,17 +69,16 @@ impl<'a> Progress<'a> {
             return;
         };
         if let Ok(now) = Instant::now(self.rt) {
-            *shown = Some(self.rewrite(*shown, now));
+            *shown = Some(self.rewrite(*shown, now, count, told));
         }
     }
 
     /// Rewrites the line, unless work begins just now or the line stands still.
-    fn rewrite(&self, shown: Option<Shown>, now: Instant) -> Shown {
-        let rounds = self.rounds.load(Ordering::SeqCst);
+    fn rewrite<T: Tells>(&self, shown: Option<Shown>, now: Instant, count: u64, told: &T) -> Shown {
         let Some(last) = shown else {
             return Shown {
                 at: now,
-                rounds,
+                count,
                 is_line: false,
             };
         };
@@ -87,36 +86,69 @@ impl<'a> Progress<'a> {
         if time < Duration::from_millis(STANDS) {
             return last;
         }
-        let pace = Pace {
-            rounds_a_second: a_second(rounds.saturating_sub(last.rounds), time),
-            jobs_running: self.running.load(Ordering::SeqCst),
-        };
-        let pace = Some(pace).filter(|_| rounds > 0);
-        let events = self.events.load(Ordering::SeqCst);
-        if let Ok(line) = progress_line(self.rt.alloc(), events, pace) {
+        let pace = a_second(count.saturating_sub(last.count), time);
+        if let Ok(line) = told.line(self.rt.alloc(), pace) {
             let _ = self.rt.stderr().write_all(&line);
         }
         Shown {
             at: now,
-            rounds,
+            count,
             is_line: true,
         }
     }
 
     /// Wipes the line, where there is one. Work that comes behind it begins behind a pause.
-    pub fn wipe(&self) {
+    fn wipe(&self) {
         let Some(mut shown) = self.shown.try_lock() else {
             return;
         };
         if shown.is_some_and(|shown| shown.is_line) {
-            self.put_wiped();
+            let _ = self.rt.stderr().write_all(WIPED);
         }
         *shown = None;
     }
+}
 
-    /// Wipes what stands in the line.
-    fn put_wiped(&self) {
-        let _ = self.rt.stderr().write_all(WIPED);
+/// A gate that counts events, and shows them in a line.
+#[derive(Drop)]
+pub struct Progress<'a> {
+    line: Line<'a>,
+    events: AtomicU64,
+    rounds: AtomicU64,
+    running: AtomicU64,
+}
+
+impl<'a> Progress<'a> {
+    pub fn new(rt: &'a HostRuntime) -> Progress<'a> {
+        Progress {
+            line: Line::new(rt),
+            events: AtomicU64::new(0),
+            rounds: AtomicU64::new(0),
+            running: AtomicU64::new(0),
+        }
+    }
+
+    /// Counts an event, and shows what is counted.
+    fn count(&self) {
+        self.events.fetch_add(1, Ordering::SeqCst);
+        self.line.show(self.rounds.load(Ordering::SeqCst), self);
+    }
+
+    /// Wipes the line, where there is one.
+    pub fn wipe(&self) {
+        self.line.wipe();
+    }
+}
+
+impl Tells for Progress<'_> {
+    fn line(&self, alloc: Global, a_second: u64) -> Result<Vec<u8>, AllocError> {
+        let pace = Some(Pace {
+            rounds_a_second: a_second,
+            jobs_running: self.running.load(Ordering::SeqCst),
+        });
+        let has_rounds = self.rounds.load(Ordering::SeqCst) > 0;
+        let events = self.events.load(Ordering::SeqCst);
+        progress_line(alloc, events, pace.filter(|_| has_rounds))
     }
 }
 
@@ -134,8 +166,50 @@ impl Gate for Progress<'_> {
     }
 }
 
+/// What is seen of a net that is reduced in place, in a line.
+#[derive(Drop)]
+pub struct Watching<'a> {
+    line: Line<'a>,
+}
+
+impl<'a> Watching<'a> {
+    pub fn new(rt: &'a HostRuntime) -> Watching<'a> {
+        Watching {
+            line: Line::new(rt),
+        }
+    }
+
+    /// Wipes the line, where there is one.
+    pub fn wipe(&self) {
+        self.line.wipe();
+    }
+}
+
+impl Watch for Watching<'_> {
+    fn saw(&self, interactions: u64, places: u64) {
+        let seen = Seen {
+            interactions,
+            places,
+        };
+        self.line.show(interactions, &seen);
+    }
+}
+
+/// How far a net has come.
+#[derive(Clone, Copy, Debug)]
+struct Seen {
+    interactions: u64,
+    places: u64,
+}
+
+impl Tells for Seen {
+    fn line(&self, alloc: Global, a_second: u64) -> Result<Vec<u8>, AllocError> {
+        reducing_line(alloc, self.interactions, a_second, self.places)
+    }
+}
+
 /// How many there are in a second, of so many in this time.
-fn a_second(count: u64, time: Duration) -> u64 {
+pub(crate) fn a_second(count: u64, time: Duration) -> u64 {
     let millis = u64::try_from(time.as_millis()).unwrap_or(u64::MAX);
     count.saturating_mul(1000) / millis.max(1)
 }
@@ -147,6 +221,26 @@ fn progress_line(alloc: Global, events: u64, pace: Option<Pace>) -> Result<Vec<u
     let mut line = b"\revents ".to_vec(alloc)?;
     line.extend_from_slice(events.to_string(alloc)?.as_bytes())?;
     line.extend_from_slice(&pace_text(alloc, pace)?)?;
+    line.extend_from_slice(b"\x1b[K")?;
+    Ok(line)
+}
+
+/// What a terminal is sent of so many interactions, so many a second and so many places, in place of
+/// the line before it.
+fn reducing_line(
+    alloc: Global,
+    interactions: u64,
+    a_second: u64,
+    places: u64,
+) -> Result<Vec<u8>, AllocError>
+    ensures { IfOk result (λ line. line.items ≡ reducing_line interactions a_second places) }
+{
+    let mut line = b"\rinteractions ".to_vec(alloc)?;
+    line.extend_from_slice(interactions.to_string(alloc)?.as_bytes())?;
+    line.extend_from_slice(b", a second ")?;
+    line.extend_from_slice(a_second.to_string(alloc)?.as_bytes())?;
+    line.extend_from_slice(b", places ")?;
+    line.extend_from_slice(places.to_string(alloc)?.as_bytes())?;
     line.extend_from_slice(b"\x1b[K")?;
     Ok(line)
 }
@@ -168,19 +262,30 @@ fn pace_text(alloc: Global, pace: Option<Pace>) -> Result<Vec<u8>, AllocError>
 /// An output, before whose bytes the line of progress is wiped.
 #[derive(Drop)]
 pub struct WipedFirst<'a, W> {
-    progress: &'a Progress<'a>,
+    line: &'a Line<'a>,
     output: W,
 }
 
 impl<'a, W> WipedFirst<'a, W> {
     pub fn new(progress: &'a Progress<'a>, output: W) -> WipedFirst<'a, W> {
-        WipedFirst { progress, output }
+        WipedFirst {
+            line: &progress.line,
+            output,
+        }
+    }
+
+    /// The same of a net that is watched.
+    pub fn watching(watching: &'a Watching<'a>, output: W) -> WipedFirst<'a, W> {
+        WipedFirst {
+            line: &watching.line,
+            output,
+        }
     }
 }
 
 impl<W: Write> Write for WipedFirst<'_, W> {
     fn write(&mut self, bytes: &[u8]) -> io::Result<usize> {
-        self.progress.wipe();
+        self.line.wipe();
         self.output.write(bytes)
     }
 

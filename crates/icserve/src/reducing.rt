@@ -1,0 +1,79 @@
+//! The program's word `reduce` where no rounds are asked for: a net reduced in place.
+
+use crate::looking::tell_stuck;
+use crate::progress::{Watching, WipedFirst, a_second};
+use ic_endings::{Failure, Reached, reduce_ending};
+use ic_in_place::{Bounds, Outcome, reduce_in_place_stream};
+use std::alloc::{AllocError, Global};
+use std::io::{self, Read, Write};
+use std::time::{Duration, Instant};
+
+/// Reduces the system on standard input in place, within these bounds, and prints what is reached. Where the net grew too
+/// large or memory ran out, that is printed only if `partial` is asked for. With `stats` it is told how many interactions
+/// were made. A stuck pair is told on standard error, and how far a long reduction has come.
+pub(crate) fn reduce<R: Read>(
+    rt: &HostRuntime,
+    bounds: Bounds,
+    partial: bool,
+    stats: bool,
+    input: &mut R,
+    told: &mut Vec<u8>,
+) -> Result<(), Failure> {
+    let begun = Instant::now(rt);
+    let watching = Watching::new(rt);
+    let mut output = WipedFirst::watching(&watching, io::writer(rt));
+    let reduced = reduce_in_place_stream(
+        rt.alloc(),
+        bounds,
+        partial,
+        &watching,
+        input,
+        &mut output,
+        told,
+    );
+    watching.wipe();
+    let outcome = reduced.map_err(Failure::Stream)?;
+    if stats {
+        tell_stats(rt, &outcome, time_since(rt, begun));
+    }
+    if let Some(pair) = &outcome.stuck {
+        tell_stuck(rt, pair);
+    }
+    let reached = Reached {
+        interactions: outcome.interactions,
+        places: outcome.places,
+    };
+    reduce_ending(outcome.end, reached, bounds.nodes)
+}
+
+/// How much time has passed, or none where the clock can't be read.
+fn time_since(rt: &HostRuntime, begun: io::Result<Instant>) -> Duration {
+    match (begun, Instant::now(rt)) {
+        (Ok(begun), Ok(now)) => now.duration_since(begun),
+        _ => Duration::ZERO,
+    }
+}
+
+/// Tells on standard error how many interactions were made, and how fast.
+fn tell_stats(rt: &HostRuntime, outcome: &Outcome, time: Duration) {
+    if let Ok(line) = stats_line(rt.alloc(), outcome, time) {
+        let _ = rt.stderr().write_all(&line);
+    }
+}
+
+/// The line of so many interactions in this time.
+fn stats_line(alloc: Global, outcome: &Outcome, time: Duration) -> Result<Vec<u8>, AllocError> {
+    let Outcome {
+        interactions,
+        places,
+        ..
+    } = outcome;
+    let millis = u64::try_from(time.as_millis()).unwrap_or(u64::MAX);
+    let (seconds, thousandths) = (millis / 1_000, millis % 1_000);
+    let pace = a_second(*interactions, time);
+    let line = format!(in alloc;
+        "icserve: interactions {interactions}, places {places}, seconds {seconds}.{thousandths:03}, \
+         interactions a second {pace}\n"
+    )?;
+    line.as_bytes().to_vec(alloc)
+}
