@@ -14,7 +14,8 @@ use crate::token::ReadBack;
 use ic_machine::Machine;
 use std::alloc::{AllocError, Global};
 
-/// Reads the net of a machine back into terms.
+/// Reads the net of a machine back into terms: those of its interface, then the sides of its pairs, and last an equation
+/// of a name with a term for each circle.
 pub fn read_back(alloc: Global, machine: Machine) -> Result<ReadBack, AllocError>
     ensures terms { IfOk result (λ r. r.terms ≡ length machine.interface) }
     ensures whole { IfOk result (λ r. (n : Numbers) → n.arities ≡ machine.arities
