@@ -18,7 +18,8 @@ use Rattle.ic_naming.specs.lemmas.Renumbered.{renumbered-written}
 use Rattle.ic_round.specs.Naming.{HasNames}
 use Rattle.ic_reaching.specs.OneNet.{OneNet}
 use Rattle.ic_reaching.specs.Reaching.{Reaches}
-use Rattle.ic_machine.specs.Net.{Net, pieces}
+use Rattle.ic_machine.specs.Net.{Net, pieces, HasNext}
+use Rattle.ic_machine.specs.Plan.{Plans}
 use Rattle.ic_meaning.specs.Words.{Numbers}
 use Rattle.ic_meaning.specs.Nets.{net_of}
 use Rattle.ic_readback.specs.declared.token.Token.{Token}
@@ -28,9 +29,9 @@ use Rattle.ic_in_place.specs.declared.running.Bounds.{Bounds}
 use Rattle.ic_in_place.specs.declared.running.End.{End}
 use Rattle.ic_in_place.specs.declared.running.End.TheVariants.{Quiet, Steps, Nodes, Limit}
 use Rattle.ic_in_place.specs.declared.running.End.TheVariants as end
-use Rattle.ic_in_place.specs.Reducing.{EndsBy, IsReached, Writes}
+use Rattle.ic_in_place.specs.Reducing.{CanInteract, EndsBy, IsReached, Writes}
 use Rattle.ic_in_place.specs.inner.Numbering.{written_numbers, HasNumber, IsNumbered}
-use Rattle.ic_in_place.specs.inner.Stopping.{arities_of, HasStopped}
+use Rattle.ic_in_place.specs.inner.Stopping.{arities_of, StopsBy, HasStopped}
 use Rattle.ic_in_place.proofs.Naming.{Rewrites, rewrites, names_of}
 
 -- ---- the words that are written
@@ -59,14 +60,14 @@ pub record AnswerLaws : Type 0 where
       → (x : ℕ) → (occurrences x (configuration_names c) ≡ 1) ↔ (occurrences x (configuration_names d) ≡ 1)
   pub forgets : (f : ℕ → ℕ) (ws : List FlatWord) → RenamesUntold f (flat_map word_names ws) → renumbered_words (map (renamed_word f) ws) ≡ renumbered_words ws
 
--- an end is that of one net as of another
-ends_alike : AnswerLaws → (rs : List Rule) (bounds : Bounds) (c d : Configuration) (interactions places : ℕ) (end : End) → OneNet c d
-    → EndsBy rs bounds c interactions places end → EndsBy rs bounds d interactions places end
-ends_alike laws rs bounds c d interactions places Quiet net (e, one, quiet) = (e, laws.through d c e (laws.other_way c d net) one, quiet)
-ends_alike laws rs bounds c d interactions places Steps net is = is
-ends_alike laws rs bounds c d interactions places Nodes net is = is
-ends_alike laws rs bounds c d interactions places Limit net is = is
-ends_alike laws rs bounds c d interactions places end.Memory net is = is
+-- what the stop says is what the end does
+ends_alike : AnswerLaws → (s : SystemParts) (bounds : Bounds) (p : Plans) (c d : Configuration) (m : Net) (places : ℕ) (end : End) → OneNet c d
+    → (HasNext p m.pending → CanInteract s.rules.rules d) → StopsBy s bounds p c m places end → EndsBy s.rules.rules bounds d m.interactions places end
+ends_alike laws s bounds p c d m places Quiet net next (e, one, quiet) = (e, laws.through d c e (laws.other_way c d net) one, quiet)
+ends_alike laws s bounds p c d m places Steps net next is = (is.0, next is.1)
+ends_alike laws s bounds p c d m places Nodes net next is = is
+ends_alike laws s bounds p c d m places Limit net next is = is
+ends_alike laws s bounds p c d m places end.Memory net next is = is
 
 numbered_names : (given : List ℕ) (ts : List Token) → AllByRecursion (IsNumbered given) ts → AllByRecursion (HasNumber given) (names_of ts)
 numbered_names given [] all = tt
@@ -77,10 +78,11 @@ numbered_names given (Agent s ∷ ts) all = numbered_names given ts all.1
 pub answered_so : AnswerLaws → (s : SystemParts) (bounds : Bounds) (given : List ℕ) (m : Net) (end : End) (places : ℕ) (stopped : HasStopped s bounds given m end places)
     (ts : List Token) (terms equations : ℕ) (words : List FlatWord)
     → OneNet (net_of stopped.held.numbers m.interface (pieces m)) (configuration_read stopped.held.numbers ts terms)
+    → (HasNext stopped.plans m.pending → CanInteract s.rules.rules (configuration_read stopped.held.numbers ts terms))
     → IsWhole (flat_words stopped.held.numbers ts) → length (forest (flat_words stopped.held.numbers ts)) ≡ terms + 2 * equations
     → AllByRecursion (IsNumbered given) ts → words ≡ renumbered_words (flat_words (written_numbers (arities_of s) given) ts)
     → (answer : Configuration) × IsReached s bounds answer end m.interactions places × Writes s.rules.symbols words terms equations answer
-answered_so laws s bounds given m end places stopped ts terms equations words net whole counted numbered written =
+answered_so laws s bounds given m end places stopped ts terms equations words net next whole counted numbered written =
     let held = stopped.held in
     let n : Numbers = held.numbers in
     let here : Configuration = net_of n m.interface (pieces m) in
@@ -108,7 +110,7 @@ answered_so laws s bounds given m end places stopped ts terms equations words ne
         reached = reached;
         counted = stopped.counted;
         within = stopped.within;
-        ended = ends_alike laws rs.rules bounds here answer m.interactions places end net stopped.ended;
+        ended = ends_alike laws s bounds stopped.plans here answer m places end net next stopped.ended;
       }),
       transport (λ (l : List FlatWord). Writes rs.symbols l terms equations answer) (sym words_are) (writes_so rs.symbols ws terms equations answer whole counted refl refl over),
     )

@@ -10,3 +10,4 @@ pub mod Orders
 pub mod OneText
 pub mod Answered
 pub mod Written
+pub mod Interacts

@@ -19,9 +19,9 @@ use Rattle.ic_in_place.specs.declared.running.Bounds.{Bounds}
 use Rattle.ic_in_place.specs.declared.running.End.{End}
 use Rattle.ic_in_place.specs.declared.running.End.TheVariants.{Quiet, Steps, Nodes, Limit, Memory}
 use Rattle.ic_in_place.specs.Holding.{AreGiven, AreCompiled, HasRun, Holds, HasEnded}
-use Rattle.ic_in_place.specs.Reducing.{HasQuiet, EndsBy}
+use Rattle.ic_in_place.specs.Reducing.{HasQuiet}
 use Rattle.ic_in_place.specs.Running.{RunsOn}
-use Rattle.ic_in_place.specs.inner.Stopping.{arities_of, IsSound, IsBegun, HasStopped}
+use Rattle.ic_in_place.specs.inner.Stopping.{arities_of, IsSound, IsBegun, StopsBy, HasStopped}
 
 pub names_of_configuration : (c : Configuration) → IsConfiguration c → HasNames c
 names_of_configuration c is = record { below = is.below; twice = is.twice }
@@ -57,10 +57,9 @@ pub record StopLaws : Type 0 where
       → (held : Holds rs p c given fired m) → (e : Configuration) × OneNet (net_of held.numbers m.interface (pieces m)) e × IsQuiet rs.rules e
 
 by_end : (s : SystemParts) (bounds : Bounds) (p : Plans) (old m : Net) (c : Configuration) (places : ℕ) (end : End) → old.interactions ≡ 0
-    → RunsOn p bounds.steps end old m → (end ≡ Quiet → HasQuiet s.rules.rules c) → (end ≡ Nodes → bounds.nodes < places)
-    → EndsBy s.rules.rules bounds c m.interactions places end
+    → RunsOn p bounds.steps end old m → (end ≡ Quiet → HasQuiet s.rules.rules c) → (end ≡ Nodes → bounds.nodes < places) → StopsBy s bounds p c m places end
 by_end s bounds p old m c places Quiet none runs quiet nodes = quiet refl
-by_end s bounds p old m c places Steps none runs quiet nodes = let all = runs.all refl in omega (arith, all, none)
+by_end s bounds p old m c places Steps none runs quiet nodes = let all = runs.all refl in (omega (arith, all, none), runs.more refl)
 by_end s bounds p old m c places Nodes none runs quiet nodes = nodes refl
 by_end s bounds p old m c places Limit none runs quiet nodes = tt
 by_end s bounds p old m c places Memory none runs quiet nodes = tt
@@ -95,6 +94,8 @@ stopped_so laws s bounds numbers p given plan operands old m end places sound ar
       sound = sound;
       below = all_low given stands.names s.config.next (2 ^ 62) sound.next stands.below;
       plans = p;
+      rule_numbers = numbers;
+      of_rules = of_rules;
       arities = arities;
       own_arities = ran.arities ∙ begun.arities ∙ arities;
       fired = map (rule_number numbers) ran.fired;

@@ -10,6 +10,7 @@ use Rattle.ic_flat.specs.Words.{forest, is_word_over, IsWhole}
 use Rattle.ic_flat.specs.Flat.{configuration_of}
 use Rattle.ic_naming.specs.Naming.{renumbered}
 use Rattle.ic_round.specs.Rounds.{IsQuiet}
+use Rattle.ic_round.specs.Steps.{Interaction}
 use Rattle.ic_reaching.specs.OneNet.{OneNet}
 use Rattle.ic_reaching.specs.Reaching.{Reaches}
 use Rattle.ic_text.specs.declared.limits.TheConstants.{MAX_NAME}
@@ -21,10 +22,15 @@ use Rattle.ic_in_place.specs.declared.running.End.TheVariants.{Quiet, Steps, Nod
 abbrev pub HasQuiet : List Rule → Configuration → Type 0
 HasQuiet rs c = (e : Configuration) × OneNet c e × IsQuiet rs e
 
+-- an interaction is possible
+abbrev pub CanInteract : List Rule → Configuration → Type 0
+CanInteract rs c = (d : Configuration) × (place : ℕ) × Interaction rs c d place
+
 -- what an end says of the configuration that was reached, and of how many interactions were made and places there are
 abbrev pub EndsBy : List Rule → Bounds → Configuration → ℕ → ℕ → End → Type 0
 EndsBy rs bounds c interactions places Quiet = HasQuiet rs c
-EndsBy rs bounds c interactions places Steps = interactions ≡ bounds.steps
+EndsBy rs bounds c interactions places Steps =
+    (interactions ≡ bounds.steps) × CanInteract rs c
 EndsBy rs bounds c interactions places Nodes = bounds.nodes < places
 EndsBy rs bounds c interactions places Limit = Unit {0}
 EndsBy rs bounds c interactions places Memory = Unit {0}

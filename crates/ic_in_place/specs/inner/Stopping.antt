@@ -1,22 +1,24 @@
 -- For private functions: a machine that begins with the configuration of a system, and where it stops.
 use Rattle.std.specs.Prelude.{◌≡◌, ℕ, ◌^◌, ◌<◌, ◌≤◌, List, [], IsTrue, length, map}
 use Rattle.std.specs.List.{AllByRecursion}
-use Rattle.ic_term.specs.Configuration.{configuration_nodes}
+use Rattle.ic_term.specs.Configuration.{Configuration, configuration_nodes}
 use Rattle.ic_term.specs.Symbol.{is_over}
 use Rattle.ic_term.specs.declared.limits.TheConstants.{MAX_NODES}
 use Rattle.ic_rules.specs.RuleSet.{IsRuleSet}
 use Rattle.ic_rules.specs.System.{SystemParts}
 use Rattle.ic_round.specs.Naming.{HasNames}
 use Rattle.ic_arena.specs.declared.word.TheConstants.{GIVEN}
-use Rattle.ic_machine.specs.Net.{Net, pieces}
+use Rattle.ic_machine.specs.Net.{Net, pieces, HasNext}
 use Rattle.ic_machine.specs.Plan.{Planned, Plans}
 use Rattle.ic_machine.specs.Runs.{Starts}
 use Rattle.ic_machine.specs.Separate.{IsSeparate}
 use Rattle.ic_meaning.specs.Nets.{net_of}
+use Rattle.ic_meaning.specs.Plans.{ArePlansOf}
 use Rattle.ic_in_place.specs.declared.running.Bounds.{Bounds}
 use Rattle.ic_in_place.specs.declared.running.End.{End}
 use Rattle.ic_in_place.specs.Holding.{Holds}
-use Rattle.ic_in_place.specs.Reducing.{EndsBy}
+use Rattle.ic_in_place.specs.declared.running.End.TheVariants.{Quiet, Steps, Nodes, Limit, Memory}
+use Rattle.ic_in_place.specs.Reducing.{HasQuiet}
 
 -- how many arguments each symbol has
 abbrev pub arities_of : SystemParts → List ℕ
@@ -39,17 +41,26 @@ pub record IsBegun (p : Plans) (given : ℕ) (plan : Planned) (operands : List �
   pub none : m.interactions ≡ 0
   pub separate : IsSeparate p.arities m.interface (pieces m)
 
+-- what a stop says of the net that a machine holds
+abbrev pub StopsBy : SystemParts → Bounds → Plans → Configuration → Net → ℕ → End → Type 0
+StopsBy s bounds p c m places Quiet = HasQuiet s.rules.rules c
+StopsBy s bounds p c m places Steps = (m.interactions ≡ bounds.steps) × HasNext p m.pending
+StopsBy s bounds p c m places Nodes = bounds.nodes < places
+StopsBy s bounds p c m places Limit = Unit {0}
+StopsBy s bounds p c m places Memory = Unit {0}
+
 -- A machine began with the configuration of a system, whose names that occur once are given, and has stopped.
 pub record HasStopped (s : SystemParts) (bounds : Bounds) (given : List ℕ) (m : Net) (end : End)
     (places : ℕ) : Type 0 where
   pub sound : IsSound s
   pub below : AllByRecursion (λ x. x < 2 ^ 62) given
   pub plans : Plans
+  pub rule_numbers : List ℕ
+  pub of_rules : ArePlansOf s.rules rule_numbers plans
   pub arities : plans.arities ≡ arities_of s
   pub own_arities : m.arities ≡ arities_of s
   pub fired : List ℕ
   pub held : Holds s.rules plans s.config given fired m
   pub counted : m.interactions ≡ length fired
   pub within : m.interactions ≤ bounds.steps
-  pub ended : EndsBy s.rules.rules bounds (net_of held.numbers m.interface (pieces m))
-      m.interactions places end
+  pub ended : StopsBy s bounds plans (net_of held.numbers m.interface (pieces m)) m places end
