@@ -11,3 +11,4 @@ pub mod OneText
 pub mod Answered
 pub mod Written
 pub mod Interacts
+pub mod QuietEnds

@@ -1,7 +1,8 @@
 -- What a system is reduced to in place (this project's choice).
-use Rattle.std.specs.Prelude.{◌≡◌, ℕ, ◌+◌, ◌*◌, ◌<◌, ◌≤◌, List, IsTrue, length}
+use Rattle.std.specs.Prelude.{◌≡◌, ◌⊎◌, ℕ, ◌+◌, ◌*◌, ◌<◌, ◌≤◌, List, ◌∷◌, ◌++◌, IsTrue, length}
 use Rattle.std.specs.List.{list_all}
-use Rattle.ic_term.specs.Configuration.{Configuration}
+use Rattle.ic_term.specs.Tree.{name, Pair}
+use Rattle.ic_term.specs.Configuration.{Configuration, configuration_names, occurrences}
 use Rattle.ic_term.specs.Symbol.{Symbol}
 use Rattle.ic_rules.specs.Rule.{Rule}
 use Rattle.ic_rules.specs.System.{SystemParts}
@@ -52,3 +53,8 @@ pub record Writes (symbols : List Symbol) (words : List Word) (terms equations :
   pub over : IsTrue (list_all (is_word_over symbols) words)
   pub counted : length (forest words) ≡ terms + 2 * equations
   pub written : configuration_of words terms (MAX_NAME + 1) ≡ renumbered c
+
+-- No circle is left: a name that is a side of an equation occurs there alone.
+abbrev pub HasNoCircle : Configuration → Type 0
+HasNoCircle c = (before after : List Pair) (e : Pair) (x : ℕ) → c.equations ≡ before ++ e ∷ after
+    → (e.left ≡ name x) ⊎ (e.right ≡ name x) → occurrences x (configuration_names c) ≤ 1

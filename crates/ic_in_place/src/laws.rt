@@ -8,6 +8,7 @@ ghost use Rattle.ic_naming.specs.Naming.{renumbered};
 ghost use Rattle.ic_round.specs.Naming.{HasNames};
 ghost use Rattle.ic_rules.specs.System.{SystemParts};
 ghost use Rattle.ic_round.specs.Rounds.{IsQuiet, iterate};
+ghost use Rattle.ic_round.specs.Steps.{Interaction};
 ghost use Rattle.ic_confluence.specs.Kinds.{Kind, Chain};
 ghost use Rattle.ic_reaching.specs.OneNet.{OneNet, SameButNext};
 ghost use Rattle.ic_reaching.specs.Reaching.{rules_fired};
@@ -18,7 +19,7 @@ ghost use Rattle.ic_meaning.specs.Nets.{net_of};
 ghost use Rattle.ic_meaning.specs.Plans.{rule_number};
 ghost use Rattle.ic_in_place.specs.declared.running.Bounds.{Bounds};
 ghost use Rattle.ic_in_place.specs.declared.running.End.TheVariants.{Quiet};
-ghost use Rattle.ic_in_place.specs.Reducing.{IsReached};
+ghost use Rattle.ic_in_place.specs.Reducing.{IsReached, HasNoCircle};
 ghost use Rattle.ic_in_place.specs.Holding.{AreCompiled, HasRun, Holds, HasEnded};
 
 /// Runs go on: what a run leads to, and what a run from there leads to.
@@ -90,4 +91,24 @@ pub fn without_equations_every_order_has_one_text()
     a_quiet_end_is_that_of_every_order();
     ic_confluence::laws::same_nets_have_one_shape();
     ic_naming::laws::what_is_renumbered_forgets_names();
+}
+
+/// Where a reduction ends quiet, no interaction is possible in its answer. Where no circle is left either, no step is.
+pub fn at_a_quiet_end_no_interaction_is_possible()
+    ensures interaction { (s : SystemParts) (bounds : Bounds) (answer d : Configuration)
+        (interactions places place : ℕ)
+        → IsRuleSet s.rules → IsTrue (is_over s.rules.symbols s.config) → HasNames s.config
+        → IsReached s bounds answer Quiet interactions places
+        → ¬ Interaction s.rules.rules answer d place }
+    ensures step { (s : SystemParts) (bounds : Bounds) (answer : Configuration)
+        (interactions places : ℕ)
+        → IsRuleSet s.rules → IsTrue (is_over s.rules.symbols s.config) → HasNames s.config
+        → IsReached s bounds answer Quiet interactions places → HasNoCircle answer
+        → IsQuiet s.rules.rules answer }
+{
+    ic_reaching::laws::what_is_reached_is_one_net();
+    ic_reaching::laws::what_is_reached_goes_on();
+    ic_reaching::laws::what_is_reached_has_the_same_end();
+    ic_reaching::laws::what_is_reached_quiet_is_the_end_of_every_order();
+    ic_confluence::laws::every_order_ends_in_the_same_net();
 }
