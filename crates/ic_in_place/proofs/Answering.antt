@@ -1,5 +1,8 @@
 -- Lemmas: what was read back of a machine that has stopped is what a reduction answers.
-use Rattle.std.proofs.Common.{◌≡◌, ℕ, ◌+◌, ◌*◌, ◌^◌, ◌<◌, List, [], ◌∷◌, Some, IsTrue, length, map, slice_get, refl, sym, ap, ◌∙◌, subst as transport}
+use Rattle.std.proofs.Common.{◌≡◌, ℕ, ◌+◌, ◌*◌, ◌^◌, ◌<◌, List, [], ◌∷◌, Bool, false, None, Some, IsTrue, length, map, cond, slice_get, refl, sym, ap, ◌∙◌, subst as transport}
+use Rattle.std.proofs.lemmas.Bool.{false≢true}
+use Rattle.ic_streams.specs.Streams.{line_of}
+use Rattle.ic_in_place.specs.Reductions.{is_written, line_reached, stuck_at}
 use Rattle.std.specs.Prelude.{◌↔◌}
 use Rattle.std.specs.List.{flat_map, AllByRecursion}
 use Rattle.std.proofs.lemmas.List.{length-map}
@@ -114,3 +117,35 @@ answered_so laws s bounds given m end places stopped ts terms equations words ne
       }),
       transport (λ (l : List FlatWord). Writes rs.symbols l terms equations answer) (sym words_are) (writes_so rs.symbols ws terms equations answer whole counted refl refl over),
     )
+
+-- ---- what isn't written
+
+-- a machine that stopped at a bound of places or a limit holds what was reached
+pub record IsUnread (s : SystemParts) (bounds : Bounds) (partial : Bool) (end : End) (interactions places : ℕ) : Type 0 where
+  pub answer : Configuration
+  pub reached : IsReached s bounds answer end interactions places
+  pub prints : [] ≡ line_reached partial end s.rules.symbols answer
+  pub stuck : None ≡ stuck_at end s.rules.symbols answer
+
+pub unread_so : (s : SystemParts) (bounds : Bounds) (given : List ℕ) (m : Net) (end : End) (places : ℕ) (partial : Bool) → HasStopped s bounds given m end places
+    → is_written partial end ≡ false → IsUnread s bounds partial end m.interactions places
+unread_so s bounds given m Quiet places partial stopped none = absurd (false≢true (sym none))
+unread_so s bounds given m Steps places partial stopped none = absurd (false≢true (sym none))
+unread_so s bounds given m Nodes places partial stopped none = record {
+  answer = net_of stopped.held.numbers m.interface (pieces m);
+  reached = record { fired = stopped.fired; reached = stopped.held.reached; counted = stopped.counted; within = stopped.within; ended = stopped.ended };
+  prints = sym (ap (λ b. cond b (line_of s.rules.symbols (renumbered (net_of stopped.held.numbers m.interface (pieces m)))) []) none);
+  stuck = refl;
+}
+unread_so s bounds given m Limit places partial stopped none = record {
+  answer = net_of stopped.held.numbers m.interface (pieces m);
+  reached = record { fired = stopped.fired; reached = stopped.held.reached; counted = stopped.counted; within = stopped.within; ended = stopped.ended };
+  prints = sym (ap (λ b. cond b (line_of s.rules.symbols (renumbered (net_of stopped.held.numbers m.interface (pieces m)))) []) none);
+  stuck = refl;
+}
+unread_so s bounds given m end.Memory places partial stopped none = record {
+  answer = net_of stopped.held.numbers m.interface (pieces m);
+  reached = record { fired = stopped.fired; reached = stopped.held.reached; counted = stopped.counted; within = stopped.within; ended = stopped.ended };
+  prints = sym (ap (λ b. cond b (line_of s.rules.symbols (renumbered (net_of stopped.held.numbers m.interface (pieces m)))) []) none);
+  stuck = refl;
+}

@@ -1,7 +1,7 @@
 -- Lemmas: in what is reached and one net with a quiet configuration, no interaction is possible.
-use Rattle.std.proofs.Common.{◌≡◌, ◌⊎◌, inl, inr, ℕ, suc, ◌+◌, ◌≤◌, ◌||◌, List, [], ◌∷◌, ◌++◌, Bool, true, false, length, refl, sym, ap, ◌∙◌, arith, sum_by}
+use Rattle.std.proofs.Common.{◌≡◌, ◌⊎◌, inl, inr, ℕ, ◌+◌, ◌≤◌, ◌||◌, List, [], ◌∷◌, ◌++◌, false, length, refl, sym, ap, ◌∙◌, arith, sum_by}
 use Rattle.std.specs.Prelude.{IsPermutation, IsTrue}
-use Rattle.std.specs.List.{flat_map, AllByRecursion}
+use Rattle.std.specs.List.{flat_map}
 use Rattle.std.proofs.lemmas.List.{length-append}
 use Rattle.std.proofs.lemmas.List.Sums.{sum_by-cons, sum_by-append}
 use Rattle.std.proofs.lemmas.List.Sorted.{sum_by-IsPermutation}
@@ -13,12 +13,12 @@ use Rattle.ic_settle.specs.NameSteps.{NameSteps}
 use Rattle.ic_round.specs.Naming.{HasNames}
 use Rattle.ic_round.specs.Rounds.{IsQuiet}
 use Rattle.ic_round.specs.Steps.{Interaction, interaction, indirection, collect}
-use Rattle.ic_settle.specs.Settling.{Binding, occurs}
+use Rattle.ic_settle.specs.Settling.{Binding}
 use Rattle.ic_settle.specs.NameSteps.{Binds}
 use Rattle.ic_settle.specs.lemmas.SubstitutionLaws.{occurrences-append, occurrences_some}
 use Rattle.std.specs.Cmp.{unsigned_Decides}
 use Rattle.std.proofs.lemmas.Grind.{flat_map-append}
-use Rattle.ic_term.specs.Tree.{Tree, name, names, Pair, pair_names}
+use Rattle.ic_term.specs.Tree.{name, names, Pair, pair_names}
 use Rattle.ic_confluence.specs.Kinds.{Kind, naming, firing, Chain}
 use Rattle.ic_confluence.specs.Sameness.{Same}
 use Rattle.ic_reaching.specs.OneNet.{OneNet, SameButNext}

@@ -4,6 +4,7 @@ ghost use Rattle.std.specs.Prelude.{◌≡◌, ◌≤◌, IfOk, length};
 ghost use Rattle.ic_term.specs.Configuration.{Configuration, configuration_nodes};
 ghost use Rattle.ic_machine.specs.Plan.{planned};
 ghost use Rattle.ic_machine.specs.Runs.{IsStart};
+ghost use Rattle.ic_in_place.specs.declared.running.Bounds.{Bounds as AnyBounds};
 ghost use Rattle.ic_in_place.specs.Reducing.{IsReached, Writes};
 ghost use Rattle.ic_in_place.specs.inner.Stopping.{HasStopped, IsBegun, IsSound, arities_of};
 
@@ -35,11 +36,11 @@ pub struct Reduced {
 
 /// A machine that has stopped, with the names that it was given.
 #[derive(Drop)]
-struct Stopped {
-    machine: Machine,
+pub(crate) struct Stopped {
+    pub(crate) machine: Machine,
     given: Vec<u64>,
-    places: u64,
-    end: End,
+    pub(crate) places: u64,
+    pub(crate) end: End,
 }
 
 /// Reduces a system in place, by interactions in any order, until none is possible, or a bound or a limit is met. What was
@@ -54,11 +55,27 @@ pub fn reduce_in_place<V: Watch>(
         × IsReached system.now bounds answer reduced.end reduced.interactions reduced.places
         × Writes system.now.rules.symbols reduced.words.items reduced.terms reduced.equations answer) }
 {
+    let stopped = run_system(alloc, system, bounds, watch)?;
+    let reduced = read_stopped(alloc, system, stopped)?;
+    Ok(reduced)
+}
+
+/// Reads back what a machine holds that began with the configuration of a system, and numbers its names anew.
+pub(crate) fn read_stopped(
+    alloc: Global,
+    system: &FlatSystem,
+    stopped: Stopped,
+) -> Result<Reduced, AllocError>
+    ensures { IfOk result (λ reduced. (bounds : AnyBounds)
+        → HasStopped system.now bounds stopped.given.items stopped.machine stopped.end stopped.places
+        → (answer : Configuration)
+        × IsReached system.now bounds answer reduced.end reduced.interactions reduced.places
+        × Writes system.now.rules.symbols reduced.words.items reduced.terms reduced.equations answer) }
+{
     ic_reaching::laws::one_net_is_an_equivalence();
     ic_reaching::laws::what_is_reached_is_one_net();
     ic_meaning::laws::what_is_reached_has_the_same_free_names();
     ic_naming::laws::what_is_renumbered_forgets_names();
-    let stopped = run_system(alloc, system, bounds, watch)?;
     let interactions = stopped.machine.interactions();
     let (places, end) = (stopped.places, stopped.end);
     let read = read_back(alloc, stopped.machine)?;
@@ -75,7 +92,7 @@ pub fn reduce_in_place<V: Watch>(
 }
 
 /// Begins a machine with the configuration of a system, and runs it until an end comes.
-fn run_system<V: Watch>(
+pub(crate) fn run_system<V: Watch>(
     alloc: Global,
     system: &FlatSystem,
     bounds: Bounds,

@@ -11,7 +11,7 @@ ghost use Rattle.ic_streams.specs.Streams.{OfText, IsAnswered, FaultOf, TakesAt,
 ghost use Rattle.ic_in_place.specs.Reductions.{EndsAs, ReducesInPlace, Tells, is_written};
 ghost use Rattle.ic_in_place.specs.inner.Told.{words_stuck};
 
-use crate::reducing::{Reduced, reduce_in_place};
+use crate::reducing::{Reduced, read_stopped, run_system};
 use crate::running::{Bounds, End, Watch};
 use crate::stuck::stuck_text;
 use ic_places::{Kind, refused};
@@ -69,7 +69,8 @@ pub fn reduce_in_place_stream<V: Watch, R: Read, W: Write>(
     Ok(outcome)
 }
 
-/// The line of a text that is reduced in place, or nothing where it isn't to be written, and how that ended.
+/// The line of a text that is reduced in place, and how that ended. Where the line isn't to be written, it is empty, and the
+/// net isn't read back.
 fn reached_line<V: Watch>(
     alloc: Global,
     bounds: Bounds,
@@ -91,7 +92,17 @@ fn reached_line<V: Watch>(
         Ok(found) => found,
         Err(misread) => return Err(refused(alloc, Kind::System, text, misread, told)),
     };
-    let reduced = reduce_in_place(alloc, &system, bounds, watch)?;
+    let stopped = run_system(alloc, &system, bounds, watch)?;
+    if !is_written(partial, stopped.end) {
+        let outcome = Outcome {
+            end: stopped.end,
+            interactions: stopped.machine.interactions(),
+            places: stopped.places,
+            stuck: None,
+        };
+        return Ok((Vec::new(alloc), outcome));
+    }
+    let reduced = read_stopped(alloc, &system, stopped)?;
     let symbols = system.rules().symbols();
     let line = line_reached(alloc, symbols, &reduced, partial)?;
     let stuck = stuck_at_end(alloc, symbols, &reduced)?;
