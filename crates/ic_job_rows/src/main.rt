@@ -1,19 +1,14 @@
-//! The worked rows of jobs: command lines, scripts, the job table and its dumps, rounds by workers and by crews, tables as bytes
-//! and on a disk, what is told of its bytes, and the book. `answers` says what a row may ask.
+//! The worked rows of what only calls of the libraries reach: rounds by workers at a gate that counts them, works that are dealt
+//! out and matched, a book over a disk that fails, and outputs that fail. `answers` says what a row may ask. What the built program
+//! is asked of lines, byte forms and disks stands in `trials/rows`.
 #![tactic(auto)]
 
 mod answers;
-mod book;
-mod bytes;
+mod books;
 mod crews;
-mod dumps;
-mod gates;
-mod jobs;
-mod lines;
-mod meeting;
-mod pool;
-mod scripts;
+mod rounds;
 mod streams;
+mod turnstile;
 mod works;
 
 use crate::answers::answer;

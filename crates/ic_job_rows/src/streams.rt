@@ -1,47 +1,18 @@
-//! Readers and writers that go slowly, or fail.
+//! Writers that fail, and what a dump and a look at a disk answer then.
 
-use std::io::{self, ErrorKind, Read, Write};
+use ic_commands::{Line, read_command};
+use ic_contents::inspect;
+use ic_dump::dump_jobs;
+use ic_jobs::Table;
+use ic_notation::Trouble;
+use std::alloc::{AllocError, Global};
+use std::io::{self, ErrorKind, Write};
 
-/// Gives a text, a thousand bytes at a time, with an interrupted read before each.
-#[derive(Drop)]
-pub struct SlowReader<'a> {
-    text: &'a [u8],
-    was_interrupted: bool,
-}
-
-impl<'a> SlowReader<'a> {
-    pub fn new(text: &'a [u8]) -> SlowReader<'a> {
-        SlowReader {
-            text,
-            was_interrupted: false,
-        }
-    }
-}
-
-impl Read for SlowReader<'_> {
-    fn read(&mut self, buf: &mut [u8]) -> io::Result<usize> {
-        self.was_interrupted = !self.was_interrupted;
-        if self.was_interrupted {
-            return Err(io::Error::from(ErrorKind::Interrupted));
-        }
-        let count = self.text.len().min(buf.len()).min(1_000);
-        buf[..count].copy_from_slice(&self.text[..count]);
-        self.text = &self.text[count..];
-        Ok(count)
-    }
-}
-
-/// Gives nothing, and takes nothing or flushes nothing.
+/// Takes nothing, or flushes nothing.
 #[derive(Clone, Copy)]
-pub enum Broken {
+enum Broken {
     Unwritten,
     Unflushed,
-}
-
-impl Read for Broken {
-    fn read(&mut self, _buf: &mut [u8]) -> io::Result<usize> {
-        Err(io::Error::from(ErrorKind::Other))
-    }
 }
 
 impl Write for Broken {
@@ -54,5 +25,45 @@ impl Write for Broken {
 
     fn flush(&mut self) -> io::Result<()> {
         Err(io::Error::from(ErrorKind::Other))
+    }
+}
+
+/// The numbers of the faults of a dump of the job of a line, where the output can't be written and where it can't be flushed.
+pub fn undumped(alloc: Global, line: &str) -> Result<Vec<u8>, Trouble> {
+    let mut table = Table::new(alloc);
+    match read_command(alloc, line.as_bytes()) {
+        Ok(Line::Command(command)) => table.apply(command)?,
+        _ => return Err(Trouble("no command")),
+    };
+    let unwritten = dump_fault(alloc, &table, Broken::Unwritten);
+    let unflushed = dump_fault(alloc, &table, Broken::Unflushed);
+    Ok(two_numbers(alloc, unwritten, unflushed)?)
+}
+
+/// The same of a look at these bytes.
+pub fn unshown(alloc: Global, bytes: &[u8]) -> Result<Vec<u8>, Trouble> {
+    let unwritten = look_fault(alloc, bytes, Broken::Unwritten);
+    let unflushed = look_fault(alloc, bytes, Broken::Unflushed);
+    Ok(two_numbers(alloc, unwritten, unflushed)?)
+}
+
+fn two_numbers(alloc: Global, first: u8, second: u8) -> Result<Vec<u8>, AllocError> {
+    Ok(format!(in alloc; "{first} {second}")?.into_bytes())
+}
+
+/// The number of a dump's fault, 0 for none.
+fn dump_fault(alloc: Global, table: &Table, mut output: Broken) -> u8 {
+    match dump_jobs(alloc, table, &[], &mut output) {
+        Ok(()) => 0,
+        Err(fault) => fault.number(),
+    }
+}
+
+/// The number of a look's fault, 0 for none.
+fn look_fault(alloc: Global, bytes: &[u8], mut output: Broken) -> u8 {
+    let mut again = bytes;
+    match inspect(alloc, bytes, &mut again, &mut output) {
+        Ok(()) => 0,
+        Err(fault) => fault.number(),
     }
 }
