@@ -1,12 +1,10 @@
-//! The worked rows of values, of what texts are read as and where they are refused, and of words: `answers` says what a row
-//! may ask. Rows of what the program writes of a text are trials of the built program, in `trials/rows`.
+//! The worked rows of values that are made by calls, and of words: `answers` says what a row may ask. Rows of texts are trials of
+//! the built program, in `trials/rows`.
 #![tactic(auto)]
 
 mod answers;
 mod faults;
-mod places;
 mod systems;
-mod texts;
 mod values;
 mod words;
 

@@ -9,7 +9,7 @@ use ic_term::{
 use ic_text::read_config;
 use std::alloc::{AllocError, Global};
 
-/// A word, and a number behind it.
+/// A word, and a number after it.
 fn with_number(alloc: Global, word: &[u8], number: u64) -> Result<Vec<u8>, AllocError> {
     let mut line = word.to_vec(alloc)?;
     decimal(&mut line, number)?;
@@ -144,7 +144,7 @@ fn line_of_copies(alloc: Global, system: &System, flat: &FlatSystem) -> Result<V
     Ok(Vec::from_slice(alloc, line.as_bytes())?)
 }
 
-/// The number of a symbol behind those of a configuration's text.
+/// The number of a symbol after those of a configuration's text.
 pub fn numbered(alloc: Global, arity: usize, texts: &[u8]) -> Result<Vec<u8>, Trouble> {
     let mut parts = texts.split(|byte| *byte == b' ');
     let symbol = parts.next().unwrap_or(b"");

@@ -1,19 +1,16 @@
 //! The words after the program's name.
 
 use ic_notation::Trouble;
-use ic_words::{Task, TraceFormat, WordsFault, read_words};
+use ic_words::{Task, TraceFormat, read_words};
 use std::alloc::{AllocError, Global};
 
-/// What words ask for, with all that comes with it. Of help and of a refusal it is told whether the text has the part
-/// that stands behind ` ~ `, which isn't one of the words.
+/// What words ask for, with all that comes with it.
 pub fn words(alloc: Global, line: &str) -> Result<Vec<u8>, Trouble> {
-    let (line, part) = line.rsplit_once(" ~ ").unwrap_or((line, ""));
     let words = words_of(alloc, line)?;
-    let answer = match read_words(alloc, &words) {
-        Ok(task) => asked(alloc, &task, part)?,
-        Err(fault) => refused(alloc, &fault, part)?,
-    };
-    Ok(answer.into_bytes())
+    match read_words(alloc, &words) {
+        Ok(task) => Ok(asked(alloc, &task)?.into_bytes()),
+        Err(_fault) => Err(Trouble("the words are refused")),
+    }
 }
 
 /// The words of a line.
@@ -26,7 +23,7 @@ fn words_of(alloc: Global, line: &str) -> Result<Vec<String>, AllocError> {
 }
 
 /// What a task asks for.
-fn asked(alloc: Global, task: &Task, part: &str) -> Result<String, AllocError> {
+fn asked(alloc: Global, task: &Task) -> Result<String, AllocError> {
     match task {
         Task::Settle => String::from_str(alloc, "settle"),
         Task::Once => String::from_str(alloc, "once"),
@@ -74,12 +71,12 @@ fn asked(alloc: Global, task: &Task, part: &str) -> Result<String, AllocError> {
             workers,
             lines,
         } => format!(in alloc; "batch {disk} {rounds} {every} {workers} {lines}"),
-        Task::Help(text) => of_part(alloc, "help", text, part),
+        Task::Help(_) => String::from_str(alloc, "help"),
         Task::Version(text) => format!(in alloc; "version {text}"),
     }
 }
 
-/// What is asked for, and texts behind it.
+/// What is asked for, and texts after it.
 fn with_texts(mut asked: String, texts: &[String]) -> Result<String, AllocError> {
     for text in texts {
         asked.push(' ')?;
@@ -88,7 +85,7 @@ fn with_texts(mut asked: String, texts: &[String]) -> Result<String, AllocError>
     Ok(asked)
 }
 
-/// What is asked for of a reduction, and its flags behind it.
+/// What is asked for of a reduction, and its flags after it.
 fn with_flags(mut asked: String, partial: bool, stats: bool) -> Result<String, AllocError> {
     if partial {
         asked.push_str(" partial")?;
@@ -106,22 +103,4 @@ fn traced(alloc: Global, rounds: u64, format: TraceFormat) -> Result<String, All
         TraceFormat::Svg => "svg",
     };
     format!(in alloc; "trace {rounds} {format}")
-}
-
-/// Why words are refused.
-fn refused(alloc: Global, fault: &WordsFault, part: &str) -> Result<String, Trouble> {
-    match fault {
-        WordsFault::Words(text) => Ok(of_part(alloc, "refused", text, part)?),
-        WordsFault::Memory => Err(Trouble("no memory")),
-    }
-}
-
-/// A word, and whether a text has a part.
-fn of_part(alloc: Global, word: &str, text: &str, part: &str) -> Result<String, AllocError> {
-    let with = if text.contains(part) {
-        "with"
-    } else {
-        "without"
-    };
-    format!(in alloc; "{word} {with} it")
 }
