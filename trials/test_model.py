@@ -111,7 +111,7 @@ class TheModelAnswersTheRows(Trial):
             most, _, system = text.partition(" ")
             return rounds(expanded(system), int(most), kind)
 
-        self.answers(answer, "ic_round_rows", "rounds", "ends")
+        self.answers(answer, "texts", "rounds", "ends")
 
     def test_of_lines(self):
         self.answers(lambda _, text: line_told(expanded(text)), "commands", "line")

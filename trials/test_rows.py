@@ -7,6 +7,8 @@ those of `draw` in test_draw.py.
   that is printed; with all others the text is refused as none. `system_byte`: those with which a text means a system of nothing.
 - `checked TEXT`: what `check` tells of a file F with this text, and whether it has a fault. `sizes TEXT`: bytes and lines of a graph.
 - `alike N TEXT`: how a system ends after at most N rounds, by 1, 2, 7 and 64 workers.
+- `rounds N TEXT`: `next` and the text after each of N rounds, and whether the last is quiet. `ends N TEXT`: after how many, at
+  most N, it is quiet, and its text. `lasts N TEXT`: how many are made, at most N, and why there is no next one.
 - `words WORDS ~ PART`: whether words after the program's name are refused or answered by a help, and whether this part stands there.
 - `serve WORKERS EVERY LINES`: what lines with ` ; ` between them are answered on a new disk, by so many workers, with a keep
   after each so many rounds. `slow`: the same, where each read and write takes one byte.
@@ -19,6 +21,7 @@ those of `draw` in test_draw.py.
 import os
 
 from disks import EMPTY, SECOND, newest, put, slot
+from model_disk import decode
 from program import IN_MEMORY, Trial, run
 from shim import shimmed
 from worked_rows import expanded, rows
@@ -148,6 +151,41 @@ class Texts(Trial):
         rounds = next(it for it in range(most + 1) if run("reduce", "--rounds", it, given=text).status == 0)
         stuck = ran.err.removeprefix(b"icserve:").rstrip()
         return b"done %d" % rounds + stuck
+
+
+    def test_each_row_of_rounds(self):
+        tellers = {"rounds": self.each_of, "ends": self.end_after, "lasts": self.last_of}
+        for name, kind, text, answer in rows("texts", *tellers):
+            count, _, text = text.partition(" ")
+            with self.subTest(name=name, kind=kind):
+                self.agrees(f"{kind} {count} {text[:200]}", "the rounds", answer, tellers[kind](int(count), expanded(text)))
+
+    def ran(self, text, *lines):
+        """A job of this text after these lines: its state, its rounds, its configuration, and its `next`."""
+        disk = self.room / "jobs.disk"
+        put(disk, slot(1, EMPTY))
+        answers = run("serve", "--disk", disk, given=[b"submit p " + text, *lines, "fetch p"]).out.splitlines()
+        return *answers[-1].split(b" ", 3)[1:], b"%d" % decode(newest(disk.read_bytes())[2]).jobs[0].config.next
+
+    def each_of(self, count, text):
+        """`next` and the text after each round of a job, and whether it is done."""
+        jobs = [self.ran(text, f"run {made}") for made in range(1, count + 1)]
+        told = [b"%b %b" % (next_name, shown) for _, _, shown, next_name in jobs]
+        return b" ".join([*told, {b"done": b"quiet"}.get(jobs[-1][0], b"on")])
+
+    def end_after(self, most, text):
+        """The least number of rounds after which a reduction is done, and its text."""
+        for made in range(most + 1):
+            ran = run("reduce", "--rounds", made, given=text)
+            if ran.status != 5:
+                return b"%d quiet " % made + ran.out.rstrip()
+        return b"not done"
+
+    def last_of(self, most, text):
+        """After how many rounds a job halts, and what a reduction tells of it."""
+        state, rounds, *_ = self.ran(text, *["run 1000"] * (most // 1000), f"run {most % 1000}")
+        refusal = run("reduce", "--rounds", most, given=text).err.removeprefix(b"icserve:").rstrip()
+        return rounds + refusal if state == b"halted" else rounds
 
 
 class Words(Trial):

@@ -1,25 +1,21 @@
 //! What is answered to a row, by its kind. Terms and words, as a configuration in flat form has them, have to make the same of
 //! it.
 //!
-//! - `rounds COUNT SYSTEM`: `next` and the text after each of so many rounds, and whether the last configuration is quiet.
-//!   `ends COUNT SYSTEM`: after how many, at most so many, it is quiet, and its text. `lasts COUNT SYSTEM`: how many succeed,
-//!   at most so many, and why the next one is refused. `once SYSTEM`, `once_from NEXT SYSTEM`: the text after a round, with
-//!   this `next` or its own, or why there is none.
 //! - `interact PLACE SYSTEM`, `indirect PLACE SYSTEM`, `collect PLACE SYSTEM`: the text after a single step on terms.
 //!   `products COUNT SYSTEM`: the rule, the base and the number of products of the first works of a round.
-//! - `settle CONFIGURATION`: the settled text. `both_bodies CONFIGURATION`: the same, on terms alone, by bindings and by single
-//!   steps. `bind CONFIGURATION`: what is bound.
+//! - `both_bodies CONFIGURATION`: the settled text, on terms alone, by bindings and by single steps. `bind CONFIGURATION`:
+//!   what is bound.
 //! - `drawn`, `drawn_rounds`: whether all bodies agree on 2,000 configurations or systems that look drawn by chance.
 //! - `net A + B`, `orders COUNT SYSTEM`, `drawn_orders SYSTEMS ORDERS`, `order_ends SYSTEM`, `limits SYSTEM`, `spoiled SYSTEMS
 //!   WAY`: nets, and orders of steps (`nets`).
 //! - `gathered RESULTS`: what gathering refuses. `deep`: whether a term of the greatest depth fits a thread's stack.
-//! - `words CONFIGURATION`: its words in flat form, and behind `;` how many terms its interface has, how many equations and
+//! - `words CONFIGURATION`: its words in flat form, and after `;` how many terms its interface has, how many equations and
 //!   nodes there are, and `next`. A name is its number, and an agent its symbol's number, `/` and how many arguments it has.
 //! - `back CONFIGURATION`: the text that is read back from its flat form, copied and taken apart on the way.
 //! - `same A + B`: whether two configurations are the same in flat form. `over A + B`: whether the second is over the first's
 //!   symbols.
 //! - `restore TERMS NEXT WORDS`, `new TERMS WORDS`: the configuration of words with so many terms in its interface.
-//! - `term_ends WORDS`: how many terms there are, and the place behind each.
+//! - `term_ends WORDS`: how many terms there are, and the place after each.
 //! - `tests SYSTEM`, `tests_from NEXT SYSTEM`: whether the configuration, with this `next` or its own, fits and is quiet.
 //! - `fires SYSTEM`, `fires_from NEXT SYSTEM`: `next` and the text once all active equations have fired, which settles to
 //!   what a round of terms and equations gives.
@@ -30,11 +26,10 @@ use crate::drawn::bodies_agree;
 use crate::drawn_systems::rounds_agree;
 use crate::gathering::gathered;
 use crate::nets::of_nets;
-use crate::rounds::{Question, settles, told};
 use crate::settling::{bindings, settled_twice};
 use crate::steps::{products, step};
 use crate::systems::{fires, tests};
-use crate::words::{count, ends, made, number};
+use crate::words::{ends, made, number};
 use ic_notation::{Answers, Row, Trouble, expanded};
 use std::alloc::Global;
 use std::thread::Threads;
@@ -53,8 +48,6 @@ impl<R: Threads> Answers for Kinds<'_, R> {
             "drawn" => bodies_agree(alloc),
             "drawn_rounds" => rounds_agree(alloc),
             "gathered" => gathered(alloc, row.text),
-            "settle" => settles(alloc, row.text),
-            "once" => told(alloc, Question::One, None, row.text),
             "tests" => tests(alloc, None, row.text),
             "fires" => fires(alloc, None, row.text),
             "both_bodies" => settled_twice(alloc, row.text),
@@ -63,7 +56,7 @@ impl<R: Threads> Answers for Kinds<'_, R> {
                 of_nets(alloc, row)
             }
             "words" | "back" | "same" | "over" | "term_ends" => in_flat_form(alloc, row),
-            _ => behind_number(alloc, row),
+            _ => after_number(alloc, row),
         }
     }
 }
@@ -80,15 +73,11 @@ fn in_flat_form(alloc: Global, row: &Row<'_>) -> Result<Vec<u8>, Trouble> {
     }
 }
 
-/// What is answered to a text behind a number.
-fn behind_number(alloc: Global, row: &Row<'_>) -> Result<Vec<u8>, Trouble> {
+/// What is answered to a text after a number.
+fn after_number(alloc: Global, row: &Row<'_>) -> Result<Vec<u8>, Trouble> {
     let (first, rest) = row.text.split_once(' ').unwrap_or((row.text, ""));
     let first = number(first)?;
     match row.kind {
-        "rounds" => told(alloc, Question::Each(count(first)), None, rest),
-        "ends" => told(alloc, Question::End(count(first)), None, rest),
-        "lasts" => told(alloc, Question::Last(count(first)), None, rest),
-        "once_from" => told(alloc, Question::One, Some(first), rest),
         "tests_from" => tests(alloc, Some(first), rest),
         "fires_from" => fires(alloc, Some(first), rest),
         "new" => made(alloc, first as usize, None, rest),
@@ -97,7 +86,7 @@ fn behind_number(alloc: Global, row: &Row<'_>) -> Result<Vec<u8>, Trouble> {
     }
 }
 
-/// The configuration of words behind the `next` that it is to have.
+/// The configuration of words after the `next` that it is to have.
 fn restored(alloc: Global, terms: usize, text: &str) -> Result<Vec<u8>, Trouble> {
     let (next, words) = text.split_once(' ').unwrap_or((text, ""));
     made(alloc, terms, Some(number(next)?), words)

@@ -1,13 +1,10 @@
 //! Rounds and settling by all bodies: terms and equations, new lists, and the lists of a workspace.
 
-use crate::configurations::{config_of, text_over};
-use crate::systems::{put_text, read};
 use ic_flat::{Flat, over};
 use ic_flat_round::{FlatRules, Workspace, fits, quiet};
-use ic_notation::{Trouble, decimal};
+use ic_notation::Trouble;
 use ic_round::RoundFault;
 use ic_rules::RuleSet;
-use ic_term::{Config, Symbols};
 use std::alloc::Global;
 
 /// What settling makes of a configuration as terms and equations.
@@ -27,26 +24,6 @@ fn settled_by_all(alloc: Global, workspace: &mut Workspace, flat: &Flat) -> Resu
     } else {
         Err(Trouble("the bodies differ"))
     }
-}
-
-/// A configuration that all bodies have settled.
-fn settled(alloc: Global, flat: &Flat) -> Result<Config, Trouble> {
-    let mut workspace = Workspace::new(alloc);
-    let after = settled_by_all(alloc, &mut workspace, flat)?;
-    Ok(after.to_config(alloc)?)
-}
-
-/// The text of a configuration that all bodies have settled.
-fn settled_text(alloc: Global, symbols: &Symbols, config: &Config) -> Result<Vec<u8>, Trouble> {
-    let flat = Flat::from_config(alloc, config)?;
-    let after = settled(alloc, &flat)?;
-    text_over(alloc, symbols, &after)
-}
-
-/// The settled text of a configuration.
-pub fn settles(alloc: Global, text: &str) -> Result<Vec<u8>, Trouble> {
-    let (symbols, config) = config_of(alloc, text)?;
-    settled_text(alloc, &symbols, &config)
 }
 
 /// What a round of terms and equations makes of a configuration.
@@ -74,27 +51,6 @@ fn is_answer(answer: &Result<Flat, RoundFault>, fault: Option<RoundFault>, flat:
         (Err(one), Some(other)) => *one == other,
         _ => false,
     }
-}
-
-fn name_of(fault: RoundFault) -> &'static [u8] {
-    match fault {
-        RoundFault::Overgrown => b"overgrown",
-        RoundFault::NamesOut => b"names out",
-        RoundFault::Memory => b"no memory",
-    }
-}
-
-/// What is asked of the rounds of a system.
-#[derive(Clone, Copy)]
-pub enum Question {
-    /// The text after one round, or why there is none.
-    One,
-    /// `next` and the text after each of so many rounds, and whether the last configuration is quiet.
-    Each(u32),
-    /// After how many rounds, at most so many, the configuration is quiet, and its text.
-    End(u32),
-    /// How many rounds succeed, at most so many, and why the next one is refused.
-    Last(u32),
 }
 
 /// Rules, and the lists in which all rounds by them are made.
@@ -154,11 +110,6 @@ impl Rounds {
         Ok(most)
     }
 
-    /// Appends the text of a configuration.
-    fn put_text(&self, alloc: Global, flat: &Flat, line: &mut Vec<u8>) -> Result<(), Trouble> {
-        put_text(alloc, self.rules.rules(), flat, line)
-    }
-
     /// Whether a configuration is quiet, if both forms of it answer the same.
     fn is_quiet(&self, alloc: Global, flat: &Flat) -> Result<bool, Trouble> {
         let rules = self.rules.rules();
@@ -169,111 +120,4 @@ impl Rounds {
         }
         Ok(is_quiet)
     }
-
-    /// Appends whether a configuration is quiet.
-    fn put_end(&self, alloc: Global, flat: &Flat, line: &mut Vec<u8>) -> Result<(), Trouble> {
-        let end = if self.is_quiet(alloc, flat)? {
-            "quiet"
-        } else {
-            "on"
-        };
-        line.extend_from_slice(end.as_bytes())?;
-        Ok(())
-    }
-
-    /// Appends the text after one round, or why there is none.
-    fn put_one(
-        &mut self,
-        alloc: Global,
-        flat: &mut Flat,
-        line: &mut Vec<u8>,
-    ) -> Result<(), Trouble> {
-        match self.make(alloc, flat)? {
-            None => self.put_text(alloc, flat, line),
-            Some(fault) => Ok(line.extend_from_slice(name_of(fault))?),
-        }
-    }
-
-    /// Appends what there is after each round.
-    fn put_each(
-        &mut self,
-        alloc: Global,
-        flat: &mut Flat,
-        count: u32,
-        line: &mut Vec<u8>,
-    ) -> Result<(), Trouble> {
-        for _ in 0..count {
-            if self.make(alloc, flat)?.is_some() {
-                return Err(Trouble("a round is refused"));
-            }
-            decimal(line, flat.next())?;
-            line.push(b' ')?;
-            self.put_text(alloc, flat, line)?;
-            line.push(b' ')?;
-        }
-        self.put_end(alloc, flat, line)
-    }
-
-    /// Appends after how many rounds what there is.
-    fn put_last(
-        &mut self,
-        alloc: Global,
-        flat: &mut Flat,
-        most: u32,
-        line: &mut Vec<u8>,
-    ) -> Result<(), Trouble> {
-        let count = self.run(alloc, flat, most)?;
-        decimal(line, u64::from(count))?;
-        line.push(b' ')?;
-        self.put_end(alloc, flat, line)?;
-        line.push(b' ')?;
-        self.put_text(alloc, flat, line)
-    }
-
-    /// Appends how many rounds succeed, and why the next one is refused.
-    fn put_refusal(
-        &mut self,
-        alloc: Global,
-        flat: &mut Flat,
-        most: u32,
-        line: &mut Vec<u8>,
-    ) -> Result<(), Trouble> {
-        for count in 0..most {
-            if let Some(fault) = self.make(alloc, flat)? {
-                decimal(line, u64::from(count))?;
-                line.push(b' ')?;
-                return Ok(line.extend_from_slice(name_of(fault))?);
-            }
-        }
-        Ok(decimal(line, u64::from(most))?)
-    }
-
-    fn put_answer(
-        &mut self,
-        alloc: Global,
-        question: Question,
-        flat: &mut Flat,
-        line: &mut Vec<u8>,
-    ) -> Result<(), Trouble> {
-        match question {
-            Question::One => self.put_one(alloc, flat, line),
-            Question::Each(count) => self.put_each(alloc, flat, count, line),
-            Question::End(most) => self.put_last(alloc, flat, most, line),
-            Question::Last(most) => self.put_refusal(alloc, flat, most, line),
-        }
-    }
-}
-
-/// The answer to a question on the rounds of a system, which begins with this `next` or its own.
-pub fn told(
-    alloc: Global,
-    question: Question,
-    next: Option<u64>,
-    text: &str,
-) -> Result<Vec<u8>, Trouble> {
-    let (rules, mut flat) = read(alloc, next, text)?;
-    let mut rounds = Rounds::new(alloc, rules);
-    let mut line = Vec::new(alloc);
-    rounds.put_answer(alloc, question, &mut flat, &mut line)?;
-    Ok(line)
 }

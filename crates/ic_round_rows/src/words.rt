@@ -13,11 +13,6 @@ pub fn number(text: &str) -> Result<u64, Trouble> {
     }
 }
 
-/// A number of rounds.
-pub fn count(number: u64) -> u32 {
-    u32::try_from(number).unwrap_or(u32::MAX)
-}
-
 fn word_of(text: &str) -> Result<Word, Trouble> {
     match text.split_once('/') {
         None => Ok(Word::Name(number(text)?)),
