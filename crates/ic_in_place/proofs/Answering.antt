@@ -21,7 +21,7 @@ use Rattle.ic_naming.specs.lemmas.Renumbered.{renumbered-written}
 use Rattle.ic_round.specs.Naming.{HasNames}
 use Rattle.ic_reaching.specs.OneNet.{OneNet}
 use Rattle.ic_reaching.specs.Reaching.{Reaches}
-use Rattle.ic_machine.specs.Net.{Net, pieces, HasNext}
+use Rattle.ic_machine.specs.Net.{Net, pieces, HasNext, IsStuck}
 use Rattle.ic_machine.specs.Plan.{Plans}
 use Rattle.ic_meaning.specs.Words.{Numbers}
 use Rattle.ic_meaning.specs.Nets.{net_of}
@@ -32,7 +32,8 @@ use Rattle.ic_in_place.specs.declared.running.Bounds.{Bounds}
 use Rattle.ic_in_place.specs.declared.running.End.{End}
 use Rattle.ic_in_place.specs.declared.running.End.TheVariants.{Quiet, Steps, Nodes, Limit}
 use Rattle.ic_in_place.specs.declared.running.End.TheVariants as end
-use Rattle.ic_in_place.specs.Reducing.{CanInteract, EndsBy, IsReached, Writes}
+use Rattle.ic_in_place.specs.Reducing.{CanInteract, IsPutTogether, EndsBy, IsReached, Writes}
+use Rattle.ic_in_place.specs.Holding.{AreGiven}
 use Rattle.ic_in_place.specs.inner.Numbering.{written_numbers, HasNumber, IsNumbered}
 use Rattle.ic_in_place.specs.inner.Stopping.{arities_of, StopsBy, HasStopped}
 use Rattle.ic_in_place.proofs.Naming.{Rewrites, rewrites, names_of}
@@ -65,12 +66,14 @@ pub record AnswerLaws : Type 0 where
 
 -- what the stop says is what the end does
 ends_alike : AnswerLaws → (s : SystemParts) (bounds : Bounds) (p : Plans) (c d : Configuration) (m : Net) (places : ℕ) (end : End) → OneNet c d
-    → (HasNext p m.pending → CanInteract s.rules.rules d) → StopsBy s bounds p c m places end → EndsBy s.rules.rules bounds d m.interactions places end
-ends_alike laws s bounds p c d m places Quiet net next (e, one, quiet) = (e, laws.through d c e (laws.other_way c d net) one, quiet)
-ends_alike laws s bounds p c d m places Steps net next is = (is.0, next is.1)
-ends_alike laws s bounds p c d m places Nodes net next is = is
-ends_alike laws s bounds p c d m places Limit net next is = is
-ends_alike laws s bounds p c d m places end.Memory net next is = is
+    → (HasNext p m.pending → CanInteract s.rules.rules d) → (m.pending ≡ [] → AllByRecursion (IsStuck p) m.aside → IsPutTogether d)
+    → StopsBy s bounds p c m places end → EndsBy s.rules.rules bounds d m.interactions places end
+ends_alike laws s bounds p c d m places Quiet net next together ((e, one, quiet), none, stuck) =
+    ((e, laws.through d c e (laws.other_way c d net) one, quiet), together none stuck)
+ends_alike laws s bounds p c d m places Steps net next together is = (is.0, next is.1)
+ends_alike laws s bounds p c d m places Nodes net next together is = is
+ends_alike laws s bounds p c d m places Limit net next together is = is
+ends_alike laws s bounds p c d m places end.Memory net next together is = is
 
 numbered_names : (given : List ℕ) (ts : List Token) → AllByRecursion (IsNumbered given) ts → AllByRecursion (HasNumber given) (names_of ts)
 numbered_names given [] all = tt
@@ -82,10 +85,12 @@ pub answered_so : AnswerLaws → (s : SystemParts) (bounds : Bounds) (given : Li
     (ts : List Token) (terms equations : ℕ) (words : List FlatWord)
     → OneNet (net_of stopped.held.numbers m.interface (pieces m)) (configuration_read stopped.held.numbers ts terms)
     → (HasNext stopped.plans m.pending → CanInteract s.rules.rules (configuration_read stopped.held.numbers ts terms))
+    → (m.pending ≡ [] → AllByRecursion (IsStuck stopped.plans) m.aside → HasNames (configuration_read stopped.held.numbers ts terms)
+    → AreGiven stopped.held.numbers.given (configuration_read stopped.held.numbers ts terms) → IsPutTogether (configuration_read stopped.held.numbers ts terms))
     → IsWhole (flat_words stopped.held.numbers ts) → length (forest (flat_words stopped.held.numbers ts)) ≡ terms + 2 * equations
     → AllByRecursion (IsNumbered given) ts → words ≡ renumbered_words (flat_words (written_numbers (arities_of s) given) ts)
     → (answer : Configuration) × IsReached s bounds answer end m.interactions places × Writes s.rules.symbols words terms equations answer
-answered_so laws s bounds given m end places stopped ts terms equations words net next whole counted numbered written =
+answered_so laws s bounds given m end places stopped ts terms equations words net next together whole counted numbered written =
     let held = stopped.held in
     let n : Numbers = held.numbers in
     let here : Configuration = net_of n m.interface (pieces m) in
@@ -96,10 +101,13 @@ answered_so laws s bounds given m end places stopped ts terms equations words ne
     let reached : Reaches rs.rules s.config answer stopped.fired = laws.net rs.rules s.config here answer stopped.fired held.reached net in
     let over : IsTrue (is_over rs.symbols answer) = laws.over rs s.config answer stopped.fired sound.rules sound.over sound.names reached in
     let read_names : configuration_names (configuration_of ws terms 0) ≡ flat_map word_names ws = names-configuration_of ws terms equations 0 counted in
+    let are : AreGiven n.given answer =
+    transport (λ (g : List ℕ). AreGiven g answer) (sym held.names) (λ x.
+    let here_free = laws.free s.rules s.config here stopped.fired sound.rules sound.over sound.names held.reached x in
+    let free = laws.free s.rules s.config answer stopped.fired sound.rules sound.over sound.names reached x in
+    ((λ is. (held.free x).0 (here_free.0 (free.1 is))), (λ found. free.0 (here_free.1 ((held.free x).1 found))))) in
     let once : (x : ℕ) → occurrences x (flat_map word_names ws) ≡ 1 → (j : ℕ) × (slice_get n.given j ≡ Some x) =
-    (λ x is. transport (λ (g : List ℕ). (j : ℕ) × (slice_get g j ≡ Some x)) (sym held.names)
-    ((held.free x).0 ((laws.free rs s.config here stopped.fired sound.rules sound.over sound.names held.reached x).0
-    ((laws.free rs s.config answer stopped.fired sound.rules sound.over sound.names reached x).1 (ap (occurrences x) read_names ∙ is))))) in
+    (λ x is. (are x).0 (ap (occurrences x) read_names ∙ is)) in
     let r : Rewrites n (written_numbers n.arities n.given) ts =
     rewrites n ts held.sound (transport (AllByRecursion (λ x. x < 2 ^ 62)) (sym held.names) stopped.below)
     (transport (λ (g : List ℕ). AllByRecursion (HasNumber g) (names_of ts)) (sym held.names) (numbered_names given ts numbered)) once in
@@ -113,7 +121,7 @@ answered_so laws s bounds given m end places stopped ts terms equations words ne
         reached = reached;
         counted = stopped.counted;
         within = stopped.within;
-        ended = ends_alike laws s bounds stopped.plans here answer m places end net next stopped.ended;
+        ended = ends_alike laws s bounds stopped.plans here answer m places end net next (λ none stuck. together none stuck net.names_too are) stopped.ended;
       }),
       transport (λ (l : List FlatWord). Writes rs.symbols l terms equations answer) (sym words_are) (writes_so rs.symbols ws terms equations answer whole counted refl refl over),
     )

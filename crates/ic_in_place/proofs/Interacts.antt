@@ -52,7 +52,7 @@ found_in n (e ∷ front) l r rest [] begin = absurd begin
 found_in n (e ∷ front) l r rest (t ∷ []) begin = absurd begin.1
 found_in n (e ∷ front) l r rest (t ∷ u ∷ us) begin = found_later n l r (record { left = t; right = u }) (pairs_of us) (found_in n front l r rest us begin.1.1)
 
-begin_after : (n : Numbers) (ws vs : List Word) (ts : List Tree) → BeginAs n (ws ++ vs) ts → BeginAs n vs (drop (length ws) ts)
+pub begin_after : (n : Numbers) (ws vs : List Word) (ts : List Tree) → BeginAs n (ws ++ vs) ts → BeginAs n vs (drop (length ws) ts)
 begin_after n [] vs ts begin = begin
 begin_after n (w ∷ ws) vs [] begin = absurd begin
 begin_after n (w ∷ ws) vs (t ∷ ts) begin = begin_after n ws vs ts begin.1

@@ -5,6 +5,7 @@ pub mod Words
 pub mod Naming
 pub mod InRange
 pub mod Stopping
+pub mod Together
 pub mod Answering
 pub mod Orders
 pub mod OneText

@@ -1,7 +1,7 @@
 -- Lemmas: in what is reached and one net with a quiet configuration, no interaction is possible.
-use Rattle.std.proofs.Common.{◌≡◌, ◌⊎◌, inl, inr, ℕ, ◌+◌, ◌≤◌, ◌||◌, List, [], ◌∷◌, ◌++◌, false, length, refl, sym, ap, ◌∙◌, arith, sum_by}
+use Rattle.std.proofs.Common.{◌≡◌, ◌⊎◌, inl, inr, ℕ, ◌+◌, ◌≤◌, ◌||◌, List, [], ◌∷◌, ◌++◌, false, length, refl, sym, ap, ◌∙◌, arith, append-nil, sum_by, subst as transport}
 use Rattle.std.specs.Prelude.{IsPermutation, IsTrue}
-use Rattle.std.specs.List.{flat_map}
+use Rattle.std.specs.List.{flat_map, AllByRecursion}
 use Rattle.std.proofs.lemmas.List.{length-append}
 use Rattle.std.proofs.lemmas.List.Sums.{sum_by-cons, sum_by-append}
 use Rattle.std.proofs.lemmas.List.Sorted.{sum_by-IsPermutation}
@@ -23,7 +23,7 @@ use Rattle.ic_confluence.specs.Kinds.{Kind, naming, firing, Chain}
 use Rattle.ic_confluence.specs.Sameness.{Same}
 use Rattle.ic_reaching.specs.OneNet.{OneNet, SameButNext}
 use Rattle.ic_reaching.specs.Reaching.{Reaches, rules_fired}
-use Rattle.ic_in_place.specs.Reducing.{HasQuiet, HasNoCircle}
+use Rattle.ic_in_place.specs.Reducing.{IsAgentOrFree, IsCircle, IsPutTogether, HasQuiet, HasNoCircle}
 
 -- what the laws say that this one builds on
 pub record QuietLaws : Type 0 where
@@ -62,7 +62,7 @@ no_interaction laws rs c answer d fired place set over named reached (e, net, qu
 
 -- ---- and no name step, where no circle is left
 
-side_names : (x : ℕ) (e : Pair) → (e.left ≡ name x) ⊎ (e.right ≡ name x) → 1 ≤ occurrences x (pair_names e)
+pub side_names : (x : ℕ) (e : Pair) → (e.left ≡ name x) ⊎ (e.right ≡ name x) → 1 ≤ occurrences x (pair_names e)
 side_names x e (inl is) =
     let here = occurrences_some x (x ∷ []) (ap (λ b. b || false) ((unsigned_Decides x x).1 refl)) in
     let both = occurrences-append x (names e.left) (names e.right) in
@@ -90,18 +90,45 @@ by_parts x c before after e is =
     let others = ap (occurrences x) (flat_map-append pair_names before after) ∙ occurrences-append x (flat_map pair_names before) (flat_map pair_names after) in
     omega (arith, all, parts, first, then, others)
 
-pub quiet_alone : (rs : List Rule) (c : Configuration) → HasNoCircle c → ((d : Configuration) (place : ℕ) → ¬ Interaction rs c d place) → IsQuiet rs c
-quiet_alone rs c none still d (interaction x y place step) = still y place step
-quiet_alone rs c none still d (indirection x y place step) =
+all_at_middle : {X : Type 0} (P : X → Type 0) (before : List X) (x : X) (after : List X) → AllByRecursion P (before ++ x ∷ after) → P x
+all_at_middle P [] x after all = all.0
+all_at_middle P (y ∷ before) x after all = all_at_middle P before x after all.1
+
+-- where all equations are ends or circles, and no circle is left, each side that is a name occurs once
+sides_few : (c : Configuration) → IsPutTogether c → HasNoCircle c → (before after : List Pair) (e : Pair) (x : ℕ) → c.equations ≡ before ++ e ∷ after
+    → (e.left ≡ name x) ⊎ (e.right ≡ name x) → occurrences x (configuration_names c) ≤ 1
+sides_few c together none before after e x is side = at together.ends together.circles together.parts together.are_ends together.are_circles
+  where
+    side_free : IsAgentOrFree c e.left × IsAgentOrFree c e.right → (e.left ≡ name x) ⊎ (e.right ≡ name x) → occurrences x (configuration_names c) ≡ 1
+    side_free both (inl left) = transport (IsAgentOrFree c) left both.0
+    side_free both (inr right) = transport (IsAgentOrFree c) right both.1
+
+    at : (ends circles : List Pair) → c.equations ≡ ends ++ circles → AllByRecursion (λ p. IsAgentOrFree c p.left × IsAgentOrFree c p.right) ends
+        → AllByRecursion (IsCircle circles) circles → occurrences x (configuration_names c) ≤ 1
+    at ends [] parts are circles =
+        let all = transport (AllByRecursion (λ p. IsAgentOrFree c p.left × IsAgentOrFree c p.right)) (sym (parts ∙ append-nil ends) ∙ is) are in
+        let one = side_free (all_at_middle (λ p. IsAgentOrFree c p.left × IsAgentOrFree c p.right) before e after all) side in
+        omega (arith, one)
+    at ends (p ∷ rest) parts are circles =
+        let y : ℕ = circles.0.0 in
+        let few = none ends rest p y parts circles.0.1 in
+        let all = by_parts y c ends rest p parts in
+        let here = occurrences-append y (pair_names p) (flat_map pair_names rest) in
+        let others = ap (occurrences y) (flat_map-append pair_names ends rest) ∙ occurrences-append y (flat_map pair_names ends) (flat_map pair_names rest) in
+        absurd (omega (arith, few, all, here, others, circles.0.2))
+
+pub quiet_alone : (rs : List Rule) (c : Configuration) → IsPutTogether c → HasNoCircle c → ((d : Configuration) (place : ℕ) → ¬ Interaction rs c d place) → IsQuiet rs c
+quiet_alone rs c together none still d (interaction x y place step) = still y place step
+quiet_alone rs c together none still d (indirection x y place step) =
     let side = bound_side step.equation step.bound step.side in
-    let few = none step.before step.after step.equation step.bound.name step.stands.parts side in
+    let few = sides_few c together none step.before step.after step.equation step.bound.name step.stands.parts side in
     let here = side_names step.bound.name step.equation side in
     let elsewhere = occurrences_some step.bound.name (flat_map pair_names (step.before ++ step.after)) step.elsewhere in
     let all = by_parts step.bound.name c step.before step.after step.equation step.stands.parts in
     omega (arith, few, here, elsewhere, all)
-quiet_alone rs c none still d (collect x y place step) =
+quiet_alone rs c together none still d (collect x y place step) =
     let side = bound_side step.equation step.bound step.side in
-    let few = none step.before step.after step.equation step.bound.name step.stands.parts side in
+    let few = sides_few c together none step.before step.after step.equation step.bound.name step.stands.parts side in
     let here = side_names step.bound.name step.equation side in
     let elsewhere = occurrences_some step.bound.name (flat_map names c.interface) step.elsewhere in
     let all = by_parts step.bound.name c step.before step.after step.equation step.stands.parts in

@@ -10,7 +10,7 @@ use Rattle.ic_rules.specs.System.{SystemParts}
 use Rattle.ic_round.specs.Naming.{HasNames}
 use Rattle.ic_round.specs.Rounds.{IsQuiet}
 use Rattle.ic_reaching.specs.OneNet.{OneNet}
-use Rattle.ic_machine.specs.Net.{Net, pieces, IsAtPlace}
+use Rattle.ic_machine.specs.Net.{Net, pieces, IsAtPlace, IsStuck}
 use Rattle.ic_machine.specs.Plan.{Planned, Plans, ArePlans, IsPlan}
 use Rattle.ic_machine.specs.Runs.{IsStart, Ran}
 use Rattle.ic_meaning.specs.Nets.{net_of}
@@ -57,12 +57,12 @@ pub record StopLaws : Type 0 where
       → (held : Holds rs p c given fired m) → (e : Configuration) × OneNet (net_of held.numbers m.interface (pieces m)) e × IsQuiet rs.rules e
 
 by_end : (s : SystemParts) (bounds : Bounds) (p : Plans) (old m : Net) (c : Configuration) (places : ℕ) (end : End) → old.interactions ≡ 0
-    → RunsOn p bounds.steps end old m → (end ≡ Quiet → HasQuiet s.rules.rules c) → (end ≡ Nodes → bounds.nodes < places) → StopsBy s bounds p c m places end
-by_end s bounds p old m c places Quiet none runs quiet nodes = quiet refl
-by_end s bounds p old m c places Steps none runs quiet nodes = let all = runs.all refl in (omega (arith, all, none), runs.more refl)
-by_end s bounds p old m c places Nodes none runs quiet nodes = nodes refl
-by_end s bounds p old m c places Limit none runs quiet nodes = tt
-by_end s bounds p old m c places Memory none runs quiet nodes = tt
+    → RunsOn p bounds.steps end old m → (end ≡ Quiet → HasQuiet s.rules.rules c) → AllByRecursion (IsStuck p) m.aside → (end ≡ Nodes → bounds.nodes < places) → StopsBy s bounds p c m places end
+by_end s bounds p old m c places Quiet none runs quiet stuck nodes = (quiet refl, runs.quiet refl, stuck)
+by_end s bounds p old m c places Steps none runs quiet stuck nodes = let all = runs.all refl in (omega (arith, all, none), runs.more refl)
+by_end s bounds p old m c places Nodes none runs quiet stuck nodes = nodes refl
+by_end s bounds p old m c places Limit none runs quiet stuck nodes = tt
+by_end s bounds p old m c places Memory none runs quiet stuck nodes = tt
 
 pub stopped_so : StopLaws → (s : SystemParts) (bounds : Bounds) (numbers : List ℕ) (p : Plans) (given : List ℕ) (plan : Planned) (operands : List ℕ) (old m : Net) (end : End) (places : ℕ)
     → IsSound s → p.arities ≡ arities_of s → ArePlans p → ArePlansOf s.rules numbers p
@@ -105,5 +105,6 @@ stopped_so laws s bounds numbers p given plan operands old m end places sound ar
       ended = by_end s bounds p old m (net_of held.numbers m.interface (pieces m)) places end begun.none runs
           (λ is. laws.ends s.rules numbers p s.config given (map (rule_number numbers) ran.fired) plan operands m sound.rules compiled run
           (record { pending = runs.quiet is; places = at_places }) held)
+          (transport (AllByRecursion (IsStuck p)) (sym (ran.aside ∙ ap (λ es. es ++ ran.more) begun.aside)) ran.stuck)
           nodes;
     }

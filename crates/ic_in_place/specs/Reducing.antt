@@ -1,7 +1,7 @@
 -- What a system is reduced to in place (this project's choice).
-use Rattle.std.specs.Prelude.{◌≡◌, ◌⊎◌, ℕ, ◌+◌, ◌*◌, ◌<◌, ◌≤◌, List, ◌∷◌, ◌++◌, IsTrue, length}
-use Rattle.std.specs.List.{list_all}
-use Rattle.ic_term.specs.Tree.{name, Pair}
+use Rattle.std.specs.Prelude.{◌≡◌, ℕ, ◌+◌, ◌*◌, ◌<◌, ◌≤◌, List, ◌∷◌, ◌++◌, IsTrue, length}
+use Rattle.std.specs.List.{flat_map, list_all, AllByRecursion}
+use Rattle.ic_term.specs.Tree.{Tree, name, agent, Pair, pair_names}
 use Rattle.ic_term.specs.Configuration.{Configuration, configuration_names, occurrences}
 use Rattle.ic_term.specs.Symbol.{Symbol}
 use Rattle.ic_rules.specs.Rule.{Rule}
@@ -23,13 +23,32 @@ use Rattle.ic_in_place.specs.declared.running.End.TheVariants.{Quiet, Steps, Nod
 abbrev pub HasQuiet : List Rule → Configuration → Type 0
 HasQuiet rs c = (e : Configuration) × OneNet c e × IsQuiet rs e
 
+-- a term is an agent, or a name that occurs once
+abbrev pub IsAgentOrFree : Configuration → Tree → Type 0
+IsAgentOrFree c (name x) = occurrences x (configuration_names c) ≡ 1
+IsAgentOrFree c (agent s ts) = Unit {0}
+
+-- A circle is an equation of a name with a term. Both occurrences of this name are in circles.
+abbrev pub IsCircle : List Pair → Pair → Type 0
+IsCircle circles e =
+    (x : ℕ) × (e.left ≡ name x) × (occurrences x (flat_map pair_names circles) ≡ 2)
+
+-- Nothing is left that could be put for a name, but in circles. Each side of the equations before them is an agent, or a
+-- name that occurs once.
+pub record IsPutTogether (c : Configuration) : Type 0 where
+  pub ends : List Pair
+  pub circles : List Pair
+  pub parts : c.equations ≡ ends ++ circles
+  pub are_ends : AllByRecursion (λ e. IsAgentOrFree c e.left × IsAgentOrFree c e.right) ends
+  pub are_circles : AllByRecursion (IsCircle circles) circles
+
 -- an interaction is possible
 abbrev pub CanInteract : List Rule → Configuration → Type 0
 CanInteract rs c = (d : Configuration) × (place : ℕ) × Interaction rs c d place
 
 -- what an end says of the configuration that was reached, and of how many interactions were made and places there are
 abbrev pub EndsBy : List Rule → Bounds → Configuration → ℕ → ℕ → End → Type 0
-EndsBy rs bounds c interactions places Quiet = HasQuiet rs c
+EndsBy rs bounds c interactions places Quiet = HasQuiet rs c × IsPutTogether c
 EndsBy rs bounds c interactions places Steps =
     (interactions ≡ bounds.steps) × CanInteract rs c
 EndsBy rs bounds c interactions places Nodes = bounds.nodes < places
@@ -54,7 +73,7 @@ pub record Writes (symbols : List Symbol) (words : List Word) (terms equations :
   pub counted : length (forest words) ≡ terms + 2 * equations
   pub written : configuration_of words terms (MAX_NAME + 1) ≡ renumbered c
 
--- No circle is left: a name that is a side of an equation occurs there alone.
+-- No circle is left: a name on the left of an equation occurs there alone.
 abbrev pub HasNoCircle : Configuration → Type 0
 HasNoCircle c = (before after : List Pair) (e : Pair) (x : ℕ) → c.equations ≡ before ++ e ∷ after
-    → (e.left ≡ name x) ⊎ (e.right ≡ name x) → occurrences x (configuration_names c) ≤ 1
+    → e.left ≡ name x → occurrences x (configuration_names c) ≤ 1

@@ -8,7 +8,7 @@ use Rattle.ic_rules.specs.RuleSet.{IsRuleSet}
 use Rattle.ic_rules.specs.System.{SystemParts}
 use Rattle.ic_round.specs.Naming.{HasNames}
 use Rattle.ic_arena.specs.declared.word.TheConstants.{GIVEN}
-use Rattle.ic_machine.specs.Net.{Net, pieces, HasNext}
+use Rattle.ic_machine.specs.Net.{Net, pieces, HasNext, IsStuck}
 use Rattle.ic_machine.specs.Plan.{Planned, Plans}
 use Rattle.ic_machine.specs.Runs.{Starts}
 use Rattle.ic_machine.specs.Separate.{IsSeparate}
@@ -41,9 +41,10 @@ pub record IsBegun (p : Plans) (given : ℕ) (plan : Planned) (operands : List �
   pub none : m.interactions ≡ 0
   pub separate : IsSeparate p.arities m.interface (pieces m)
 
--- what a stop says of the net that a machine holds
+-- what a stop says of the net that a machine holds, and of the pairs that are left
 abbrev pub StopsBy : SystemParts → Bounds → Plans → Configuration → Net → ℕ → End → Type 0
-StopsBy s bounds p c m places Quiet = HasQuiet s.rules.rules c
+StopsBy s bounds p c m places Quiet =
+    HasQuiet s.rules.rules c × (m.pending ≡ []) × AllByRecursion (IsStuck p) m.aside
 StopsBy s bounds p c m places Steps = (m.interactions ≡ bounds.steps) × HasNext p m.pending
 StopsBy s bounds p c m places Nodes = bounds.nodes < places
 StopsBy s bounds p c m places Limit = Unit {0}

@@ -15,7 +15,7 @@ returns-clause-every_order c =
       rounds = c.what_is_reached_quiet_is_the_end_of_every_order.ensures.rounds;
     } in
     λ s bounds answer e interactions places kinds set over named is chain still.
-    let so = every_order_so laws s.rules s.config answer e is.fired kinds set over named is.reached is.ended chain still in
+    let so = every_order_so laws s.rules s.config answer e is.fired kinds set over named is.reached is.ended.0 chain still in
     (so.0, so.1 ∙ sym is.counted)
 
 pub returns-clause-rounds : goal.returns-clause-rounds
@@ -31,7 +31,7 @@ returns-clause-rounds c =
       rounds = c.what_is_reached_quiet_is_the_end_of_every_order.ensures.rounds;
     } in
     λ s bounds answer interactions places n set over named is still.
-    rounds_so laws s.rules n s.config answer is.fired set over named is.reached is.ended still
+    rounds_so laws s.rules n s.config answer is.fired set over named is.reached is.ended.0 still
 
 pub returns-clause-some_rounds : goal.returns-clause-some_rounds
 returns-clause-some_rounds c =
@@ -46,4 +46,4 @@ returns-clause-some_rounds c =
       rounds = c.what_is_reached_quiet_is_the_end_of_every_order.ensures.rounds;
     } in
     λ s bounds answer interactions places set over named is.
-    some_rounds_so laws s.rules s.config answer is.fired set over named is.reached is.ended
+    some_rounds_so laws s.rules s.config answer is.fired set over named is.reached is.ended.0

@@ -11,7 +11,7 @@ returns-clause-interaction c =
       goes_on = c.every_order_ends_in_the_same_net.ensures.goes_on;
     } in
     λ s bounds answer d interactions places place set over named is.
-    no_interaction laws s.rules s.config answer d is.fired place set over named is.reached is.ended
+    no_interaction laws s.rules s.config answer d is.fired place set over named is.reached is.ended.0
 
 pub returns-clause-step : goal.returns-clause-step
 returns-clause-step c =
@@ -23,5 +23,5 @@ returns-clause-step c =
       goes_on = c.every_order_ends_in_the_same_net.ensures.goes_on;
     } in
     λ s bounds answer interactions places set over named is none.
-    quiet_alone s.rules.rules answer none
-    (λ d place. no_interaction laws s.rules s.config answer d is.fired place set over named is.reached is.ended)
+    quiet_alone s.rules.rules answer is.ended.1 none
+    (λ d place. no_interaction laws s.rules s.config answer d is.fired place set over named is.reached is.ended.0)
