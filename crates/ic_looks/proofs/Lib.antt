@@ -1,6 +1,7 @@
 pub mod Rounds
 pub mod Reductions
 pub mod Symbols
+pub mod Printed
 pub mod Answered
 pub mod Counting
 pub mod Interactions

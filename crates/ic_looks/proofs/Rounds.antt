@@ -1,17 +1,17 @@
 -- Rounds that are made one after the other, and what the answer of a round says of them.
 use Rattle.std.proofs.Common.{◌≡◌, ◌≢◌, ◌&&◌, ℕ, ◌+◌, ◌<◌, List, Bool, true, false, Result, Ok, Err, cond, refl, sym, ap, ◌∙◌, add-one, arith, subst}
-use Rattle.std.specs.Prelude.{◌↔◌, IfErr, IsTrue}
-use Rattle.std.specs.Result.{IsErrAnd}
+use Rattle.std.specs.Prelude.{◌↔◌, IsTrue}
 use Rattle.std.proofs.lemmas.Bool.{true≢false}
 use borrow.Author.Count.{below_more}
-use Rattle.ic_term.specs.Configuration.{Configuration}
+use Rattle.ic_term.specs.Configuration.{Configuration, configuration_nodes}
 use Rattle.ic_rules.specs.Rule.{Rule}
 use Rattle.ic_rules.specs.RuleSet.{Rules}
 use Rattle.ic_round.specs.Rounds.{IsQuiet, fits, is_small, has_names, iterate, round, unless_unfit}
 use Rattle.ic_round.specs.RoundAnswers.{Answers}
 use Rattle.ic_round.specs.declared.round_fault.RoundFault.{RoundFault}
 use Rattle.ic_round.specs.declared.round_fault.RoundFault.TheVariants.{Overgrown, NamesOut, Memory}
-use Rattle.ic_looks.specs.Reducing.{AreMade, IsRefusedAfter}
+use Rattle.ic_looks.specs.Reducing.{AreMade, IsRefusal, IsRefusedAfter}
+use Rattle.ic_looks.specs.declared.refusal.Refusal.{Refusal}
 
 pub none_made : (rs : List Rule) (c : Configuration) → AreMade rs c 0
 none_made rs c = record { going = λ n low. absurd (omega arith); fitting = λ n low. absurd (omega arith) }
@@ -53,19 +53,18 @@ answered_fault Overgrown answer e apart = sym e
 answered_fault NamesOut answer e apart = sym e
 answered_fault Memory answer e apart = absurd (apart refl)
 
--- so many rounds were made of a configuration, in which a step is possible, and the next one was refused
-pub refused_behind : {T : Type 0} (r : Result T RoundFault) (rs : List Rule) (c now : Configuration) (most n : ℕ) (fault : RoundFault) → IsErrAnd r (λ e. e ≡ fault)
+-- so many rounds were made of a configuration, in which a step is possible, and the next one was refused:
+-- so it is told
+pub refusal_behind : (rs : List Rule) (c now : Configuration) (most n nodes : ℕ) (fault : RoundFault) (refusal : Refusal) → refusal ≡ record { fault = fault; round = n + 1; nodes = nodes }
     → n < most → AreMade rs c n → now ≡ iterate rs n c → ¬ IsQuiet rs now → Answers {T = Configuration} (Err fault) (unless_unfit rs now (round rs now))
-    → IfErr r (λ e. e ≢ Memory → (rounds : ℕ) × IsRefusedAfter rs c most rounds e)
-refused_behind (Ok v) rs c now most n fault fails left made is going answer = tt
-refused_behind (Err e) rs c now most n fault fails left made is going answer = λ apart. (
-  n,
-  record {
-    left = left;
-    made = made;
-    going = let Going : Configuration → Type 0 = λ d. ¬ IsQuiet rs d in subst Going is going;
-    refused =
-        let apart_too : fault ≢ Memory = λ same. apart (fails ∙ same) in
-        ap (λ d. unless_unfit rs d (round rs d)) (sym is) ∙ answered_fault fault (unless_unfit rs now (round rs now)) answer apart_too ∙ ap (λ f. Err f) (sym fails);
-  },
-)
+    → fault ≢ Memory → nodes ≡ configuration_nodes now → IsRefusal rs c most n refusal
+refusal_behind rs c now most n nodes fault refusal told left made is going answer apart counted =
+    let Going : Configuration → Type 0 = λ d. ¬ IsQuiet rs d in
+    let after : IsRefusedAfter rs c most n fault = record {
+      left = left;
+      made = made;
+      going = subst Going is going;
+      refused = ap (λ d. unless_unfit rs d (round rs d)) (sym is) ∙ answered_fault fault (unless_unfit rs now (round rs now)) answer apart;
+    } in
+    let Is : Refusal → Type 0 = IsRefusal rs c most n in
+    subst Is (sym told) (record { refused = after; number = add-one n; nodes = counted ∙ ap configuration_nodes is })

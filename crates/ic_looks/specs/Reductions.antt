@@ -1,5 +1,5 @@
 -- What a text of a system is answered when it is reduced (this project's choice).
-use Rattle.std.specs.Prelude.{◌≡◌, ◌≢◌, ℕ, List, Ok, Err}
+use Rattle.std.specs.Prelude.{◌≡◌, ◌≢◌, ℕ, List, [], Bool, true, Ok, Err, if◌then◌else◌}
 use Rattle.std.specs.Option.{option_map}
 use Rattle.ic_term.specs.Configuration.{Configuration}
 use Rattle.ic_rules.specs.RuleSet.{Rules}
@@ -7,51 +7,53 @@ use Rattle.ic_rules.specs.System.{SystemParts}
 use Rattle.ic_text.specs.SystemText.{ReadsSystem}
 use Rattle.ic_text.specs.declared.fault.TextFault.TheVariants as text
 use Rattle.ic_round.specs.Rounds.{IsQuiet, iterate}
-use Rattle.ic_round.specs.declared.round_fault.RoundFault.{RoundFault}
 use Rattle.ic_streams.specs.Streams.{Answering, line_of}
 use Rattle.ic_streams.specs.declared.fault.StreamFault.TheVariants.{Read, Text, Round, Memory, Write}
-use Rattle.ic_looks.specs.Reducing.{IsReducedBy, IsRefusedAfter}
+use Rattle.ic_looks.specs.Reducing.{IsReducedBy, IsRefusal}
 use Rattle.ic_looks.specs.Stuck.{stuck_text}
 use Rattle.ic_looks.specs.declared.reduction.Reduction.{Reduction}
-use Rattle.ic_looks.specs.declared.reduction.Reduction.TheVariants.{Done, NotDone}
+use Rattle.ic_looks.specs.declared.reduction.Reduction.TheVariants.{Done, NotDone, Refused}
 
--- a text is read as a system, of which at most so many rounds are made, and its line is the
--- configuration behind them
-pub record ReducesTo (most : ℕ) (input line : List ℕ) : Type 0 where
+-- How it is told that rounds ended of which at most so many may be made, and so many are: after them
+-- no step is possible, or all are made, or the next one is refused.
+abbrev pub Tells : Rules → Configuration → (most rounds : ℕ) → Reduction → Type 0
+Tells rs c most rounds (Done count stuck) = IsReducedBy rs.rules c most rounds
+    × IsQuiet rs.rules (iterate rs.rules rounds c) × (count ≡ rounds)
+    × (option_map (λ text. text.items) stuck
+    ≡ stuck_text rs.symbols (iterate rs.rules rounds c))
+Tells rs c most rounds NotDone = IsReducedBy rs.rules c most rounds
+    × (¬ IsQuiet rs.rules (iterate rs.rules rounds c))
+Tells rs c most rounds (Refused refusal) = IsRefusal rs.rules c most rounds refusal
+
+-- whether the configuration is printed, where the one before a refused round may be asked for
+abbrev pub is_printed : (partial : Bool) → Reduction → Bool
+is_printed partial (Done count stuck) = true
+is_printed partial NotDone = true
+is_printed partial (Refused refusal) = partial
+
+-- a text is read as a system, of which at most so many rounds are made, which ended so, and the
+-- configuration after them is printed, or nothing
+pub record ReducesTo (most : ℕ) (partial : Bool) (input output : List ℕ)
+    (reduction : Reduction) : Type 0 where
   pub system : SystemParts
   pub rounds : ℕ
   pub reads : ReadsSystem input (Ok system)
-  pub reduced : IsReducedBy system.rules.rules system.config most rounds
-  pub prints : line
-      ≡ line_of system.rules.symbols (iterate system.rules.rules rounds system.config)
+  pub told : Tells system.rules system.config most rounds reduction
+  pub prints : output ≡ (if is_printed partial reduction
+      then line_of system.rules.symbols (iterate system.rules.rules rounds system.config) else [])
 
--- a text is read as a system, of which one of at most so many rounds is refused with this fault
-pub record IsRefused (most : ℕ) (input : List ℕ) (fault : RoundFault) : Type 0 where
-  pub system : SystemParts
-  pub rounds : ℕ
-  pub reads : ReadsSystem input (Ok system)
-  pub refused : IsRefusedAfter system.rules.rules system.config most rounds fault
+-- how the rounds of a text ended that is reduced
+abbrev pub EndsAs : (most : ℕ) (partial : Bool) → List ℕ → Reduction → Type 0
+EndsAs most partial input reduction =
+    (output : List ℕ) × ReducesTo most partial input output reduction
 
--- the answers of reducing by at most so many rounds
-abbrev pub Reduces : ℕ → Answering
-Reduces most input (Ok line) = ReducesTo most input line
-Reduces most input (Err (Text fault)) = ReadsSystem input (Err fault) × (fault ≢ text.Memory)
-Reduces most input (Err (Round fault)) = IsRefused most input fault
-Reduces most input (Err Read) = ⊥
-Reduces most input (Err Memory) = ⊥
-Reduces most input (Err Write) = ⊥
-
--- how it is told that a configuration is reached by so many rounds
-abbrev pub Tells : Rules → ℕ → Configuration → Reduction → Type 0
-Tells rs rounds c (Done count stuck) = IsQuiet rs.rules c × (count ≡ rounds)
-    × (option_map (λ text. text.items) stuck ≡ stuck_text rs.symbols c)
-Tells rs rounds c NotDone = ¬ IsQuiet rs.rules c
-
--- a text is read as a system, of which at most so many rounds are made, and this tells how they
--- ended
-pub record EndsAs (most : ℕ) (input : List ℕ) (reduction : Reduction) : Type 0 where
-  pub system : SystemParts
-  pub rounds : ℕ
-  pub reads : ReadsSystem input (Ok system)
-  pub reduced : IsReducedBy system.rules.rules system.config most rounds
-  pub told : Tells system.rules rounds (iterate system.rules.rules rounds system.config) reduction
+-- The answers of reducing by at most so many rounds. A refused round is no refusal of the text.
+abbrev pub Reduces : (most : ℕ) (partial : Bool) → Answering
+Reduces most partial input (Ok output) =
+    (reduction : Reduction) × ReducesTo most partial input output reduction
+Reduces most partial input (Err (Text fault)) =
+    ReadsSystem input (Err fault) × (fault ≢ text.Memory)
+Reduces most partial input (Err (Round fault)) = ⊥
+Reduces most partial input (Err Read) = ⊥
+Reduces most partial input (Err Memory) = ⊥
+Reduces most partial input (Err Write) = ⊥

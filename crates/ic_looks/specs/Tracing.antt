@@ -4,8 +4,9 @@ use Rattle.ic_term.specs.Configuration.{Configuration, configuration_names, conf
 use Rattle.ic_rules.specs.Rule.{Rule}
 use Rattle.ic_round.specs.Firing.{active_pair}
 use Rattle.ic_round.specs.Rounds.{iterate}
-use Rattle.ic_looks.specs.Reducing.{IsReducedBy}
+use Rattle.ic_looks.specs.Reducing.{RoundsEnd}
 use Rattle.ic_looks.specs.declared.row.Row.{Row}
+use Rattle.ic_looks.specs.declared.ended.Ended.{Ended}
 
 -- how many equations are active, which is how many a round fires
 abbrev pub active_count : List Rule → Configuration → ℕ
@@ -30,8 +31,10 @@ abbrev pub rows_of : List Rule → Configuration → ℕ → List Row
 rows_of rs c zero = []
 rows_of rs c (suc n) = rows_of rs c n ++ row_behind rs c n ∷ []
 
--- the rows of the rounds that reduce a configuration, of which there are at most so many
-pub record AreRows (rs : List Rule) (c : Configuration) (most : ℕ) (rows : List Row) : Type 0 where
+-- the rows of the rounds that are made of a configuration, of which there are at most so many, and
+-- how they ended
+pub record AreRows (rs : List Rule) (c : Configuration) (most : ℕ) (rows : List Row)
+    (ended : Ended) : Type 0 where
   pub rounds : ℕ
-  pub reduced : IsReducedBy rs c most rounds
+  pub ends : RoundsEnd rs c most rounds ended
   pub each : rows ≡ rows_of rs c rounds

@@ -1,6 +1,6 @@
 //! Laws of the definitions that the contracts of this crate cite.
 
-ghost use Rattle.std.specs.Prelude.{◌≡◌, ◌↔◌, ◌⊎◌, ℕ, ◌+◌, ◌≤◌, ◌==◌, ◌∷◌, IsTrue, List, None, Some, Ok, Err, false, length, sum_by};
+ghost use Rattle.std.specs.Prelude.{◌≡◌, ◌↔◌, ◌⊎◌, ℕ, ◌+◌, ◌≤◌, ◌==◌, ◌∷◌, IsTrue, Bool, List, None, Some, Ok, Err, false, length, sum_by};
 ghost use Rattle.std.specs.List.{AllByRecursion, find, list_any};
 ghost use Rattle.ic_term.specs.Tree.{Pair};
 ghost use Rattle.ic_term.specs.Configuration.{Configuration};
@@ -12,11 +12,16 @@ ghost use Rattle.ic_round.specs.Steps.{Steps};
 ghost use Rattle.ic_round.specs.declared.round_fault.RoundFault.{RoundFault};
 ghost use Rattle.ic_looks.specs.Interacting.{interactions_of};
 ghost use Rattle.ic_looks.specs.Pictures.{greatest};
-ghost use Rattle.ic_looks.specs.Reductions.{Reduces};
+ghost use Rattle.ic_looks.specs.Reductions.{EndsAs, Reduces};
 ghost use Rattle.ic_looks.specs.Reducing.{IsReducedBy, IsRefusedAfter};
 ghost use Rattle.ic_looks.specs.Stuck.{is_of_agents, stuck_text};
-ghost use Rattle.ic_looks.specs.Traces.{Traces};
+ghost use Rattle.ic_looks.specs.Traces.{TracedAs, TracesTo};
 ghost use Rattle.ic_looks.specs.Tracing.{active_count, rows_of};
+ghost use Rattle.ic_looks.specs.declared.ended.Ended.{Ended};
+ghost use Rattle.ic_looks.specs.declared.ended.Ended.TheVariants.{Refused as RefusedRound};
+ghost use Rattle.ic_looks.specs.declared.reduction.Reduction.{Reduction};
+ghost use Rattle.ic_looks.specs.declared.reduction.Reduction.TheVariants.{Refused};
+ghost use Rattle.ic_looks.specs.declared.refusal.Refusal.{Refusal};
 ghost use Rattle.ic_looks.specs.declared.row.Row.{Row};
 ghost use Rattle.ic_looks.specs.declared.sums.Format.{Format};
 ghost use Rattle.ic_streams.specs.declared.fault.StreamFault.{StreamFault};
@@ -100,16 +105,22 @@ pub fn the_greatest_is_of_a_row()
         → IsTrue (list_any (λ it. number it == greatest number (row ∷ rows)) (row ∷ rows)) }
 {}
 
-/// Each text has one answer at most: one line, or one refusal and no line; and one table and one picture.
+/// Each text has one answer at most: what is printed, or one refusal and nothing that is printed. A
+/// trace ends in one way, and a refused round is that of each trace and each reduction of the text.
 pub fn each_text_has_one_answer()
-    ensures reduced { (most : ℕ) (text a b : List ℕ)
-        → Reduces most text (Ok a) → Reduces most text (Ok b) → a ≡ b }
-    ensures refused { (most : ℕ) (text : List ℕ) (e f : StreamFault)
-        → Reduces most text (Err e) → Reduces most text (Err f) → e ≡ f }
-    ensures not_both { (most : ℕ) (text line : List ℕ) (fault : StreamFault)
-        → Reduces most text (Ok line) → ¬ Reduces most text (Err fault) }
-    ensures traced { (most : ℕ) (format : Format) (text a b : List ℕ)
-        → Traces most format text (Ok a) → Traces most format text (Ok b) → a ≡ b }
+    ensures reduced { (most : ℕ) (partial : Bool) (text a b : List ℕ)
+        → Reduces most partial text (Ok a) → Reduces most partial text (Ok b) → a ≡ b }
+    ensures refused { (most : ℕ) (partial : Bool) (text : List ℕ) (e f : StreamFault)
+        → Reduces most partial text (Err e) → Reduces most partial text (Err f) → e ≡ f }
+    ensures not_both { (most : ℕ) (partial : Bool) (text line : List ℕ) (fault : StreamFault)
+        → Reduces most partial text (Ok line) → ¬ Reduces most partial text (Err fault) }
+    ensures traced { (most : ℕ) (format : Format) (text a b : List ℕ) (x y : Ended)
+        → TracesTo most format text a x → TracesTo most format text b y → (a ≡ b) × (x ≡ y) }
+    ensures one_round { (most : ℕ) (partial also : Bool) (text : List ℕ) (x : Refusal)
+        (y : Reduction) → EndsAs most partial text (Refused x) → EndsAs most also text y
+        → y ≡ Refused x }
+    ensures alike { (most : ℕ) (format : Format) (partial : Bool) (text : List ℕ) (x : Refusal)
+        → TracedAs most format text (RefusedRound x) ↔ EndsAs most partial text (Refused x) }
 {
     one_system_reading();
 }

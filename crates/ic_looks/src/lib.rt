@@ -5,11 +5,13 @@
 //! `trace_stream` writes that as a table or a picture.
 #![tactic(auto)]
 
+mod ended;
 pub mod laws;
 mod making;
 mod picture;
 mod reducing;
 mod reduction;
+mod refusal;
 mod row;
 mod stream;
 mod stuck;
@@ -17,9 +19,11 @@ mod sums;
 mod table;
 mod tracing;
 
+pub use ended::Ended;
 pub use making::{Maker, OneThread, Workers};
 pub use reducing::{Reduced, reduce};
 pub use reduction::Reduction;
+pub use refusal::Refusal;
 pub use row::Row;
 pub use stream::{reduce_stream, trace_stream};
 pub use sums::Format;

@@ -1,9 +1,10 @@
 //! Who makes rounds: one thread, or several.
 
-ghost use Rattle.std.specs.Prelude.{IsTrue, IfOk};
+ghost use Rattle.std.specs.Prelude.{◌≡◌, IsTrue, OnErr, OnOk};
 ghost use Rattle.ic_term.specs.Symbol.{is_over};
 ghost use Rattle.ic_round.specs.Rounds.{round, unless_unfit};
 ghost use Rattle.ic_round.specs.RoundAnswers.{Answers};
+ghost use Rattle.ic_flat_round.specs.InPlace.{left_by};
 
 use ic_flat::Flat;
 use ic_flat_round::{FlatRules, Workspace};
@@ -19,18 +20,20 @@ const FEW: usize = 4_000;
 
 /// What makes rounds. Whoever makes them, they are the same rounds, with the same refusals.
 pub trait Maker {
-    /// The configuration after one round under these rules. The workspace has the lists that rounds are made in.
+    /// Makes a round of a configuration under these rules, in its place. Where it is refused, the configuration stays.
+    /// The workspace has the lists that rounds are made in.
     fn make(
         &self,
         alloc: Global,
         rules: &FlatRules,
         workspace: &mut Workspace,
-        config: Flat,
-    ) -> Result<Flat, RoundFault>
-        requires { IsTrue (is_over rules.now.symbols config) }
-        ensures round { Answers result
-            (unless_unfit rules.now.rules config (round rules.now.rules config)) }
-        ensures over { IfOk result (λ after. IsTrue (is_over rules.now.symbols after)) };
+        config: &mut Flat,
+    ) -> Result<(), RoundFault>
+        requires { IsTrue (is_over rules.now.symbols config.old) }
+        ensures round { Answers (left_by result config.new)
+            (unless_unfit rules.now.rules config.old (round rules.now.rules config.old)) }
+        ensures over { OnOk result (IsTrue (is_over rules.now.symbols config.new)) }
+        ensures same { OnErr result (config.new ≡ config.old) };
 }
 
 /// The calling thread alone.
@@ -43,10 +46,9 @@ impl Maker for OneThread {
         alloc: Global,
         rules: &FlatRules,
         workspace: &mut Workspace,
-        mut config: Flat,
-    ) -> Result<Flat, RoundFault> {
-        workspace.round(alloc, rules, &mut config)?;
-        Ok(config)
+        config: &mut Flat,
+    ) -> Result<(), RoundFault> {
+        workspace.round(alloc, rules, config)
     }
 }
 
@@ -64,21 +66,21 @@ impl<R: Threads + Wait> Maker for Workers<'_, R> {
         alloc: Global,
         rules: &FlatRules,
         workspace: &mut Workspace,
-        mut config: Flat,
-    ) -> Result<Flat, RoundFault> {
+        config: &mut Flat,
+    ) -> Result<(), RoundFault> {
         if self.count > 1 && config.equations_len() >= FEW {
             if let Ok(after) = flat_round_by_workers(
                 self.rt,
                 alloc,
                 rules.rules(),
-                &config,
+                config,
                 self.count,
                 &OpenGate,
             ) {
-                return Ok(after);
+                *config = after;
+                return Ok(());
             }
         }
-        workspace.round(alloc, rules, &mut config)?;
-        Ok(config)
+        workspace.round(alloc, rules, config)
     }
 }

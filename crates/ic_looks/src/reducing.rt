@@ -1,78 +1,83 @@
 //! Rounds of a configuration until no step is possible.
 
-ghost use Rattle.std.specs.Prelude.{◌≡◌, ◌≢◌, ◌↔◌, ℕ, IsTrue, IfOk, IfErr};
+ghost use Rattle.std.specs.Prelude.{◌≡◌, ◌↔◌, IsTrue, IfOk};
 ghost use Rattle.ic_term.specs.Symbol.{is_over};
 ghost use Rattle.ic_round.specs.Rounds.{IsQuiet, iterate};
-ghost use Rattle.ic_looks.specs.Reducing.{IsReducedBy, IsRefusedAfter};
+ghost use Rattle.ic_looks.specs.Reducing.{RoundsEnd};
 
+use crate::ended::Ended;
 use crate::making::Maker;
+use crate::refusal::Refusal;
 use ic_flat::Flat;
 use ic_flat_round::{FlatRules, Workspace, quiet};
-use ic_round::RoundFault;
 use ic_term::Config;
-use std::alloc::Global;
+use std::alloc::{AllocError, Global};
 
-/// A configuration that was reduced.
+/// A configuration of which rounds were made.
 #[derive(Debug, Drop)]
 pub struct Reduced {
-    /// The configuration behind the rounds.
+    /// The configuration after the rounds.
     pub config: Config,
     /// How many rounds were made.
     pub rounds: u64,
-    /// Whether no step is possible in it.
+    /// How they ended.
+    pub ended: Ended,
+    /// Whether no step is possible in the configuration.
     pub is_quiet: bool,
 }
 
-/// Makes rounds of a configuration until no step is possible, but at most so many.
+/// Makes rounds of a configuration until no step is possible, but at most so many. Where a round is refused, the
+/// configuration before it is given.
 pub fn reduce<M: Maker>(
     alloc: Global,
     maker: &M,
     rules: &FlatRules,
     config: Flat,
     most: u64,
-) -> Result<Reduced, RoundFault>
+) -> Result<Reduced, AllocError>
     requires { IsTrue (is_over rules.now.symbols config) }
-    ensures reduced { IfOk result
-        (λ reduced. IsReducedBy rules.now.rules config most reduced.rounds) }
+    ensures ended { IfOk result
+        (λ reduced. RoundsEnd rules.now.rules config most reduced.rounds reduced.ended) }
     ensures after { IfOk result
         (λ reduced. reduced.config ≡ iterate rules.now.rules reduced.rounds config) }
     ensures quiet { IfOk result
         (λ reduced. IsTrue reduced.is_quiet ↔ IsQuiet rules.now.rules reduced.config) }
     ensures over { IfOk result (λ reduced. IsTrue (is_over rules.now.symbols reduced.config)) }
-    ensures refused { IfErr result (λ fault. fault ≢ RoundFault.Memory
-        → (rounds : ℕ) × IsRefusedAfter rules.now.rules config most rounds fault) }
 {
-    let (end, rounds) = make_rounds(alloc, maker, rules, config, most)?;
+    let (end, rounds, ended) = make_rounds(alloc, maker, rules, config, most)?;
     let config = end.to_config(alloc)?;
     let is_quiet = quiet(rules.rules(), &end);
     Ok(Reduced {
         config,
         rounds,
+        ended,
         is_quiet,
     })
 }
 
-/// The configuration behind rounds that are made until no step is possible, but at most so many, and how many were made.
+/// The configuration after rounds that are made until no step is possible, but at most so many, how many were made, and
+/// how they ended.
 fn make_rounds<M: Maker>(
     alloc: Global,
     maker: &M,
     rules: &FlatRules,
     mut config: Flat,
     most: u64,
-) -> Result<(Flat, u64), RoundFault>
+) -> Result<(Flat, u64, Ended), AllocError>
     requires { IsTrue (is_over rules.now.symbols config) }
-    ensures reduced { IfOk result (λ made. IsReducedBy rules.now.rules config most made.1) }
+    ensures ended { IfOk result (λ made. RoundsEnd rules.now.rules config most made.1 made.2) }
     ensures after { IfOk result (λ made. made.0 ≡ iterate rules.now.rules made.1 config) }
     ensures over { IfOk result (λ made. IsTrue (is_over rules.now.symbols made.0)) }
-    ensures refused { IfErr result (λ fault. fault ≢ RoundFault.Memory
-        → (rounds : ℕ) × IsRefusedAfter rules.now.rules config most rounds fault) }
 {
     let mut workspace = Workspace::new(alloc);
     for rounds in 0..most {
         if quiet(rules.rules(), &config) {
-            return Ok((config, rounds));
+            return Ok((config, rounds, Ended::Whole));
         }
-        config = maker.make(alloc, rules, &mut workspace, config)?;
+        if let Err(fault) = maker.make(alloc, rules, &mut workspace, &mut config) {
+            let refused = Refusal::new(fault, rounds + 1, config.nodes())?;
+            return Ok((config, rounds, Ended::Refused(refused)));
+        }
     }
-    Ok((config, most))
+    Ok((config, most, Ended::Whole))
 }

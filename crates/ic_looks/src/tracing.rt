@@ -1,43 +1,51 @@
 //! What the rounds of a configuration do.
 
-ghost use Rattle.std.specs.Prelude.{◌≡◌, ◌≢◌, ◌++◌, ◌∷◌, [], ℕ, IsTrue, IfOk, IfErr, OnOk, length};
+ghost use Rattle.std.specs.Prelude.{◌≡◌, ◌++◌, ◌∷◌, [], IsTrue, IfOk, OnOk, length};
 ghost use Rattle.ic_term.specs.Term.{tree};
 ghost use Rattle.ic_term.specs.Tree.{names};
 ghost use Rattle.ic_term.specs.Symbol.{is_over};
 ghost use Rattle.ic_term.specs.Configuration.{configuration_names, configuration_nodes};
 ghost use Rattle.ic_round.specs.Firing.{rule_of_sides};
-ghost use Rattle.ic_looks.specs.Reducing.{IsRefusedAfter};
 ghost use Rattle.ic_looks.specs.Tracing.{AreRows, active_count};
 
+use crate::ended::Ended;
+use crate::refusal::Refusal;
 use crate::row::Row;
-use ic_round::{RoundFault, quiet, round};
+use ic_round::{quiet, round};
 use ic_rules::RuleSet;
 use ic_term::{Config, Equation, Term, names_of_terms};
 use std::alloc::{AllocError, Global};
 use std::slice;
 
-/// What each round of a configuration does until no step is possible, but of at most so many.
+/// What each round of a configuration does until no step is possible, but of at most so many, and how
+/// they ended. Where a round is refused there are the rows of those before it.
 pub fn trace(
     alloc: Global,
     rules: &RuleSet,
     mut config: Config,
     most: u64,
-) -> Result<Vec<Row>, RoundFault>
+) -> Result<(Vec<Row>, Ended), AllocError>
     requires { IsTrue (is_over rules.now.symbols config) }
-    ensures rows { IfOk result (λ rows. AreRows rules.now.rules config most rows.items) }
-    ensures refused { IfErr result (λ fault. fault ≢ RoundFault.Memory
-        → (rounds : ℕ) × IsRefusedAfter rules.now.rules config most rounds fault) }
+    ensures { IfOk result
+        (λ traced. AreRows rules.now.rules config most traced.0.items traced.1) }
 {
     let mut rows = Vec::new(alloc);
     for rounds in 0..most {
         if quiet(rules, &config) {
-            return Ok(rows);
+            return Ok((rows, Ended::Whole));
         }
         let pairs = active_count(rules, &config);
-        config = round(alloc, rules, config)?;
+        let nodes = config.nodes();
+        match round(alloc, rules, config) {
+            Ok(after) => config = after,
+            Err(fault) => {
+                let refused = Refusal::new(fault, rounds + 1, nodes)?;
+                return Ok((rows, Ended::Refused(refused)));
+            }
+        }
         add_row(alloc, rounds + 1, pairs, &config, &mut rows)?;
     }
-    Ok(rows)
+    Ok((rows, Ended::Whole))
 }
 
 /// Adds the row of the round with this number, which fired so many equations and led to this configuration.

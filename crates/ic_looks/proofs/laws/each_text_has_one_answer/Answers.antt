@@ -1,4 +1,4 @@
-use Rattle.ic_looks.proofs.OneAnswer.{not_refused, reduced_once, refused_once, traced_once}
+use Rattle.ic_looks.proofs.OneAnswer.{not_refused, one_refusal, reduced_once, refused_alike, refused_once, traced_once}
 use Rattle.ic_looks.proofs.laws.each_text_has_one_answer.Goals as goal
 
 pub returns-clause-reduced : goal.returns-clause-reduced
@@ -12,3 +12,9 @@ returns-clause-not_both c = not_refused c.one_system_reading.ensures.answer
 
 pub returns-clause-traced : goal.returns-clause-traced
 returns-clause-traced c = traced_once c.one_system_reading.ensures.answer
+
+pub returns-clause-one_round : goal.returns-clause-one_round
+returns-clause-one_round c = one_refusal c.one_system_reading.ensures.answer
+
+pub returns-clause-alike : goal.returns-clause-alike
+returns-clause-alike c = refused_alike
