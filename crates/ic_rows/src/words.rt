@@ -55,7 +55,14 @@ fn asked(alloc: Global, task: &Task) -> Result<String, AllocError> {
             let asked = format!(in alloc; "in place {steps} {nodes}")?;
             with_flags(asked, *partial, *stats)
         }
-        Task::ReduceByRounds { rounds, workers } => format!(in alloc; "reduce {rounds} {workers}"),
+        Task::ReduceByRounds {
+            rounds,
+            workers,
+            partial,
+        } => {
+            let asked = format!(in alloc; "reduce {rounds} {workers}")?;
+            with_flags(asked, *partial, false)
+        }
         Task::Trace { rounds, format } => traced(alloc, *rounds, *format),
         Task::Draw => String::from_str(alloc, "draw"),
         Task::Dump { disk, names } => {

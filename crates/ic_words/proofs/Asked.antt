@@ -99,7 +99,7 @@ asked words none called (Ok (Reduce steps nodes partial stats)) asks =
       settle = λ is. absurd (no_other_alone (codes "reduce") (codes "settle") words asks.0 settle_met refl is);
       once = λ is. absurd (no_other_alone (codes "reduce") (codes "once") words asks.0 once_met refl is);
     }
-asked words none called (Ok (ReduceByRounds rounds workers)) asks =
+asked words none called (Ok (ReduceByRounds rounds workers partial)) asks =
     let begins = called_as called.0 (codes "reduce") words called.1 asks.0 in
     let spelt = reduce_numbers words none begins in
     record {
@@ -109,6 +109,7 @@ asked words none called (Ok (ReduceByRounds rounds workers)) asks =
         asks.2,
         number_named (codes "rounds") 0 most_rounds rounds words _ (spelt.0 asks.1) refl asks.3,
         ((λ given. number_named (codes "workers") 1 64 workers words _ (spelt.1 given) refl (asks.4.0 given)), asks.4.1),
+        asks.5,
       );
       settle = λ is. absurd (no_other_alone (codes "reduce") (codes "settle") words asks.0 settle_met refl is);
       once = λ is. absurd (no_other_alone (codes "reduce") (codes "once") words asks.0 once_met refl is);
@@ -225,7 +226,7 @@ not_taken words kind (Ok (Create disk overwrite)) made is = absurd is
 not_taken words kind (Ok (Serve disk workers every)) made is = absurd is
 not_taken words kind (Ok (Attend disk runners turns workers scripts)) made is = absurd is
 not_taken words kind (Ok (Reduce steps nodes partial stats)) made is = absurd is
-not_taken words kind (Ok (ReduceByRounds rounds workers)) made is = absurd is
+not_taken words kind (Ok (ReduceByRounds rounds workers partial)) made is = absurd is
 not_taken words kind (Ok (Trace rounds format)) made is = absurd is
 not_taken words kind (Ok Draw) made is = absurd is
 not_taken words kind (Ok (Dump disk names)) made is = absurd is

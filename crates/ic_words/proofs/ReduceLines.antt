@@ -262,11 +262,10 @@ module _ (words : List Text) (gs : List Given) (line : IsReduceLine words gs) wh
   alone_in_place : HasNone gs (codes "rounds") → HasNone gs (codes "workers") → asks_rounds met ≡ false
   alone_in_place no_r no_w = ap₂ (λ (a b : Bool). a || b) (none_is (codes "rounds") (no_rounds no_r)) (none_is (codes "workers") (no_workers no_w))
 
-  alone_of_rounds : (most many : ℕ) → AreOfRounds gs most many → asks_in_place met ≡ false
-  alone_of_rounds most many of =
+  alone_of_rounds : (most many : ℕ) (p : Bool) → AreOfRounds gs most many p → asks_in_place met ≡ false
+  alone_of_rounds most many p of =
       ap₂ (λ (a b : Bool). a || b) (none_is (codes "steps") (no_steps of.no_steps))
-      (ap₂ (λ (a b : Bool). a || b) (none_is (codes "nodes") (no_nodes of.no_nodes))
-      (ap₂ (λ (a b : Bool). a || b) (flag_is (codes "partial") false of.no_partial no_partial) (flag_is (codes "stats") false of.no_stats no_stats)))
+      (ap₂ (λ (a b : Bool). a || b) (none_is (codes "nodes") (no_nodes of.no_nodes)) (flag_is (codes "stats") false of.no_stats no_stats))
 
   pub in_place_taken : (s n : ℕ) (p t : Bool) → AreInPlace gs s n p t → mistakes_of words ≡ []
   in_place_taken s n p t of = ap₂ or_else free (of_reduce met named ∙ in_place_free met (alone_in_place of.no_rounds of.no_workers))
@@ -280,13 +279,14 @@ module _ (words : List Text) (gs : List Given) (line : IsReduceLine words gs) wh
     names.stats ∙ flag_is (codes "stats") t of.stats no_stats,
   )
 
-  pub rounds_taken : (most many : ℕ) → AreOfRounds gs most many → mistakes_of words ≡ []
-  rounds_taken most many of = ap₂ or_else free (of_reduce met named
-      ∙ rounds_free met (given_is (codes "rounds") of.rounds.0 most of.rounds.1 of.rounds.2) (alone_of_rounds most many of))
+  pub rounds_taken : (most many : ℕ) (p : Bool) → AreOfRounds gs most many p → mistakes_of words ≡ []
+  rounds_taken most many p of = ap₂ or_else free (of_reduce met named
+      ∙ rounds_free met (given_is (codes "rounds") of.rounds.0 most of.rounds.1 of.rounds.2) (alone_of_rounds most many p of))
 
-  pub rounds_named : (most many rounds workers : ℕ) → AreOfRounds gs most many → IsNumberOf (codes "rounds") 0 most_rounds words rounds
-      → IsNumberOr (codes "workers") 1 64 2 words workers → (rounds ≡ most) × (workers ≡ many)
-  rounds_named most many rounds workers of named_rounds named_workers = (
+  pub rounds_named : (most many rounds workers : ℕ) (p partial : Bool) → AreOfRounds gs most many p → IsNumberOf (codes "rounds") 0 most_rounds words rounds
+      → IsNumberOr (codes "workers") 1 64 2 words workers → partial ≡ is_flag_met (codes "partial") met → (rounds ≡ most) × (workers ≡ many) × (partial ≡ p)
+  rounds_named most many rounds workers p partial of named_rounds named_workers named_flag = (
     (subst (λ (t : Text). IsDecimal t rounds) (given_met (codes "rounds") of.rounds.0 of.rounds.1) named_rounds.0).1 ∙ sym of.rounds.2.1,
     number_is (codes "workers") 1 64 2 many workers of.workers no_workers named_workers,
+    named_flag ∙ flag_is (codes "partial") p of.partial no_partial,
   )

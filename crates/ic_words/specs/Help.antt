@@ -109,7 +109,7 @@ reduce_help = text_of ((codes "Reduces the system on standard input until no ste
     ++ codes " 4611686018427387903 [default: 4611686018427387903]")
     ∷ (codes "      --nodes <N>    How many names, and agents with arguments, the net has at most,"
     ++ codes " from 0 to 4611686018427387903 [default: 134217728]")
-    ∷ codes "      --partial      Print the configuration too where the net or memory ends it"
+    ∷ codes "      --partial      Print the configuration too where the net, a round or memory ends it"
     ∷ codes "      --stats        Tell how many interactions were made, and how fast"
     ∷ (codes "      --rounds <N>   Make rounds, and at most so many, from 0 to"
     ++ codes " 4611686018427387904")

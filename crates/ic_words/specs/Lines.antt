@@ -183,13 +183,13 @@ pub record AreInPlace (given : List Given) (s n : ℕ) (p t : Bool) : Type 0 whe
   pub partial : HasFlag given (codes "partial") p
   pub stats : HasFlag given (codes "stats") t
 
--- options by which rounds are made: how many at most, and by how many threads
-pub record AreOfRounds (given : List Given) (most threads : ℕ) : Type 0 where
+-- options by which rounds are made: how many at most, by how many threads, and a flag
+pub record AreOfRounds (given : List Given) (most threads : ℕ) (p : Bool) : Type 0 where
   pub rounds : (text : Text) × Gives given (codes "rounds") text × IsDecimal text most
   pub workers : HasNumber given (codes "workers") 2 threads
   pub no_steps : HasNone given (codes "steps")
   pub no_nodes : HasNone given (codes "nodes")
-  pub no_partial : HasNone given (codes "partial")
+  pub partial : HasFlag given (codes "partial") p
   pub no_stats : HasNone given (codes "stats")
 
 -- `trace`, with `--rounds N` and `--format tsv|svg` or without, in any order, each once

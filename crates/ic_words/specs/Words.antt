@@ -262,13 +262,13 @@ format_mistakes met = if is_met (codes "trace") met && not (is_format (value_met
 abbrev pub is_given : Text → Option (Text × List Row) → Bool
 is_given option met = not (bytes_eq (value_met option met) [])
 
--- an option of rounds is given to `reduce`, or one of reducing in place
+-- an option of rounds is given to `reduce`, or one of reducing in place alone
 abbrev pub asks_rounds : Option (Text × List Row) → Bool
 asks_rounds met = is_given (codes "rounds") met || is_given (codes "workers") met
 
 abbrev pub asks_in_place : Option (Text × List Row) → Bool
-asks_in_place met = is_given (codes "steps") met || (is_given (codes "nodes") met
-    || (is_flag_met (codes "partial") met || is_flag_met (codes "stats") met))
+asks_in_place met = is_given (codes "steps") met
+    || (is_given (codes "nodes") met || is_flag_met (codes "stats") met)
 
 -- `reduce` makes rounds or reduces in place, and workers are those of rounds
 abbrev pub reduce_faults : Option (Text × List Row) → Kinds
@@ -297,7 +297,7 @@ AnswersWords mistakes (Ok (Create disk overwrite)) = mistakes ≡ []
 AnswersWords mistakes (Ok (Serve disk workers every)) = mistakes ≡ []
 AnswersWords mistakes (Ok (Attend disk runners turns workers scripts)) = mistakes ≡ []
 AnswersWords mistakes (Ok (Reduce steps nodes partial stats)) = mistakes ≡ []
-AnswersWords mistakes (Ok (ReduceByRounds rounds workers)) = mistakes ≡ []
+AnswersWords mistakes (Ok (ReduceByRounds rounds workers partial)) = mistakes ≡ []
 AnswersWords mistakes (Ok (Trace rounds format)) = mistakes ≡ []
 AnswersWords mistakes (Ok Draw) = mistakes ≡ []
 AnswersWords mistakes (Ok (Dump disk names)) = mistakes ≡ []
@@ -327,7 +327,7 @@ GivesHelp (Ok (Create disk overwrite)) = ⊥
 GivesHelp (Ok (Serve disk workers every)) = ⊥
 GivesHelp (Ok (Attend disk runners turns workers scripts)) = ⊥
 GivesHelp (Ok (Reduce steps nodes partial stats)) = ⊥
-GivesHelp (Ok (ReduceByRounds rounds workers)) = ⊥
+GivesHelp (Ok (ReduceByRounds rounds workers partial)) = ⊥
 GivesHelp (Ok (Trace rounds format)) = ⊥
 GivesHelp (Ok Draw) = ⊥
 GivesHelp (Ok (Dump disk names)) = ⊥
@@ -347,7 +347,7 @@ GivesVersion (Ok (Create disk overwrite)) = ⊥
 GivesVersion (Ok (Serve disk workers every)) = ⊥
 GivesVersion (Ok (Attend disk runners turns workers scripts)) = ⊥
 GivesVersion (Ok (Reduce steps nodes partial stats)) = ⊥
-GivesVersion (Ok (ReduceByRounds rounds workers)) = ⊥
+GivesVersion (Ok (ReduceByRounds rounds workers partial)) = ⊥
 GivesVersion (Ok (Trace rounds format)) = ⊥
 GivesVersion (Ok Draw) = ⊥
 GivesVersion (Ok (Dump disk names)) = ⊥
@@ -434,10 +434,11 @@ Names words (Serve disk workers every) = BeginsWith (codes "serve") words
 Names words (Attend disk runners turns workers scripts) =
     NamesAttend words (string_bytes disk) runners turns workers (map string_bytes scripts.items)
 Names words (Reduce steps nodes partial stats) = NamesReduce words steps nodes partial stats
-Names words (ReduceByRounds rounds workers) = BeginsWith (codes "reduce") words
+Names words (ReduceByRounds rounds workers partial) = BeginsWith (codes "reduce") words
     × (asks_in_place (subcommand_of command_line words) ≡ false)
     × IsNumberOf (codes "rounds") 0 most_rounds words rounds
     × IsNumberOr (codes "workers") 1 64 2 words workers
+    × (partial ≡ is_flag_met (codes "partial") (subcommand_of command_line words))
 Names words (Trace rounds format) = BeginsWith (codes "trace") words
     × IsNumberOf (codes "rounds") 0 most_rounds words rounds
     × (value_met (codes "format") (subcommand_of command_line words) ≡ format_word format)

@@ -101,7 +101,7 @@ Usage: icserve reduce [OPTIONS]
 Options:
       --steps <N>    How many interactions are made at most, from 0 to 4611686018427387903 [default: 4611686018427387903]
       --nodes <N>    How many names, and agents with arguments, the net has at most, from 0 to 4611686018427387903 [default: 134217728]
-      --partial      Print the configuration too where the net or memory ends it
+      --partial      Print the configuration too where the net, a round or memory ends it
       --stats        Tell how many interactions were made, and how fast
       --rounds <N>   Make rounds, and at most so many, from 0 to 4611686018427387904
       --workers <N>  Threads for a round of 4000 equations or more, from 1 to 64 [default: 2]

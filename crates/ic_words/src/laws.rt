@@ -191,9 +191,9 @@ pub fn attend_lines_are_taken(disk: &String, paths: &Vec<String>)
 
 /// A well-formed line of `reduce` without options of rounds is taken, in whatever order its options
 /// stand, and names the bounds that it is given, or their defaults, 2^62 - 1 interactions and 2^27
-/// places, and whether it has the flags. One with rounds and without these options is taken too, and
-/// names its rounds and its workers, or 2. Both in one line are a mistake, and so are workers without
-/// rounds.
+/// places, and whether it has the flags. One with rounds, and without bounds and `--stats`, is taken
+/// too, and names its rounds, its workers, or 2, and whether it has `--partial`. Both in one line are a
+/// mistake, and so are workers without rounds.
 pub fn reduce_lines_are_taken()
     ensures taken { (words : List Text) (given : List Given) (s n : ℕ) (p t : Bool)
         → IsReduceLine words given → AreInPlace given s n p t → mistakes_of words ≡ [] }
@@ -201,15 +201,15 @@ pub fn reduce_lines_are_taken()
         (p t partial stats : Bool) → IsReduceLine words given → AreInPlace given s n p t
         → Names words (Reduce steps nodes partial stats)
         → (steps ≡ s) × (nodes ≡ n) × (partial ≡ p) × (stats ≡ t) }
-    ensures rounds { (words : List Text) (given : List Given) (most threads : ℕ)
-        → IsReduceLine words given → AreOfRounds given most threads → mistakes_of words ≡ [] }
+    ensures rounds { (words : List Text) (given : List Given) (most threads : ℕ) (p : Bool)
+        → IsReduceLine words given → AreOfRounds given most threads p → mistakes_of words ≡ [] }
     ensures rounds_named { (words : List Text) (given : List Given) (most threads rounds workers : ℕ)
-        → IsReduceLine words given → AreOfRounds given most threads
-        → Names words (ReduceByRounds rounds workers) → (rounds ≡ most) × (workers ≡ threads) }
+        (p partial : Bool) → IsReduceLine words given → AreOfRounds given most threads p
+        → Names words (ReduceByRounds rounds workers partial)
+        → (rounds ≡ most) × (workers ≡ threads) × (partial ≡ p) }
     ensures both { map (λ option. mistakes_of (codes "reduce" ∷ codes "--rounds=1" ∷ option ∷ []))
-        (codes "--steps=1" ∷ codes "--nodes=1" ∷ codes "--partial" ∷ codes "--stats" ∷ [])
-        ≡ (ArgumentConflict ∷ []) ∷ (ArgumentConflict ∷ []) ∷ (ArgumentConflict ∷ [])
-        ∷ (ArgumentConflict ∷ []) ∷ [] }
+        (codes "--steps=1" ∷ codes "--nodes=1" ∷ codes "--stats" ∷ [])
+        ≡ (ArgumentConflict ∷ []) ∷ (ArgumentConflict ∷ []) ∷ (ArgumentConflict ∷ []) ∷ [] }
     ensures no_rounds { mistakes_of (codes "reduce" ∷ codes "--workers=1" ∷ [])
         ≡ MissingRequiredArgument ∷ [] }
 {}
@@ -274,7 +274,7 @@ pub fn common_lines_are_well_formed()
         ∷ codes "--nodes=9" ∷ codes "--steps" ∷ codes "10" ∷ []) given
         × AreInPlace given 10 9 false true }
     ensures by_rounds { (given : List Given) × IsReduceLine (codes "reduce" ∷ codes "--workers=3"
-        ∷ codes "--rounds" ∷ codes "10" ∷ []) given × AreOfRounds given 10 3 }
+        ∷ codes "--rounds" ∷ codes "10" ∷ []) given × AreOfRounds given 10 3 false }
     ensures trace { IsTraceLine (codes "trace" ∷ codes "--format" ∷ codes "svg" ∷ [])
         (codes "1000000") (codes "svg") }
     ensures dump { (path name : Text) → HasNoHyphen path → HasNoHyphen name

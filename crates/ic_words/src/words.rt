@@ -46,7 +46,7 @@ const WORKERS: u64 = 2;
 
 /// What is said where `reduce` is asked for rounds and for reducing in place.
 const BOTH_WAYS: &str = "\
-error: the arguments '--rounds <N>' and '--workers <N>' cannot be used with '--steps <N>', '--nodes <N>', '--partial' or '--stats'
+error: the arguments '--rounds <N>' and '--workers <N>' cannot be used with '--steps <N>', '--nodes <N>' or '--stats'
 
 Usage: icserve reduce [OPTIONS]
 
@@ -116,6 +116,8 @@ pub enum Task {
         rounds: u64,
         /// How many threads make a round of 4,000 equations or more, from 1 to 64.
         workers: u32,
+        /// Whether the configuration before a refused round is printed.
+        partial: bool,
     },
     /// Tell what each of these rounds does.
     Trace {
@@ -356,7 +358,12 @@ fn rounds_task(matches: &ArgMatches) -> Task
 {
     let rounds = number_of(matches, "rounds", 0, MAX_ROUNDS);
     let workers = number_or(matches, "workers", 1, u64::from(MAX_WORKERS), WORKERS) as u32;
-    Task::ReduceByRounds { rounds, workers }
+    let partial = is_flag_met(matches, "partial");
+    Task::ReduceByRounds {
+        rounds,
+        workers,
+        partial,
+    }
 }
 
 /// Whether an option of rounds is given.
@@ -366,14 +373,11 @@ fn asks_rounds(matches: &ArgMatches) -> bool
     is_given(matches, "rounds") || is_given(matches, "workers")
 }
 
-/// Whether an option of reducing in place is given.
+/// Whether an option of reducing in place alone is given.
 fn asks_in_place(matches: &ArgMatches) -> bool
     ensures { result ≡ asks_in_place (subcommand_rows_of matches.now) }
 {
-    is_given(matches, "steps")
-        || is_given(matches, "nodes")
-        || is_flag_met(matches, "partial")
-        || is_flag_met(matches, "stats")
+    is_given(matches, "steps") || is_given(matches, "nodes") || is_flag_met(matches, "stats")
 }
 
 /// The task of `trace`. A format that there isn't is refused as the parser refuses such a value.

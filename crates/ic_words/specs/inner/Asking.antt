@@ -62,10 +62,11 @@ Asks met (Ok (Reduce steps nodes partial stats)) = IsMet (codes "reduce") met
     × IsReadOr (codes "steps") 0 most_steps most_steps met steps
     × IsReadOr (codes "nodes") 0 most_steps 134217728 met nodes
     × (partial ≡ is_flag_met (codes "partial") met) × (stats ≡ is_flag_met (codes "stats") met)
-Asks met (Ok (ReduceByRounds rounds workers)) = IsMet (codes "reduce") met
+Asks met (Ok (ReduceByRounds rounds workers partial)) = IsMet (codes "reduce") met
     × (is_given (codes "rounds") met ≡ true) × (asks_in_place met ≡ false)
     × IsReadFrom (codes "rounds") 0 most_rounds met rounds
     × IsReadOr (codes "workers") 1 64 2 met workers
+    × (partial ≡ is_flag_met (codes "partial") met)
 Asks met (Ok (Trace rounds format)) = IsMet (codes "trace") met
     × IsReadFrom (codes "rounds") 0 most_rounds met rounds
     × (value_met (codes "format") met ≡ format_word format)

@@ -189,7 +189,7 @@ returns-clause-by_rounds c = (
     workers = inl (codes "3", inl (refl, refl), is_three);
     no_steps = (other (codes "workers") (codes "steps") refl, (other (codes "rounds") (codes "steps") refl, tt));
     no_nodes = (other (codes "workers") (codes "nodes") refl, (other (codes "rounds") (codes "nodes") refl, tt));
-    no_partial = (other (codes "workers") (codes "partial") refl, (other (codes "rounds") (codes "partial") refl, tt));
+    partial = (other (codes "workers") (codes "partial") refl, (other (codes "rounds") (codes "partial") refl, tt));
     no_stats = (other (codes "workers") (codes "stats") refl, (other (codes "rounds") (codes "stats") refl, tt));
   },
 )

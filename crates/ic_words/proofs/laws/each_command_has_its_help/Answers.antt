@@ -33,10 +33,10 @@ pub returns-clause-draw : goal.returns-clause-draw
 returns-clause-draw c = λ words. refl
 
 pub returns-clause-rounds : goal.returns-clause-rounds
-returns-clause-rounds c = ((101, refl), ((553, refl), ((602, refl), ((638, refl), ((700, refl), tt)))))
+returns-clause-rounds c = ((101, refl), ((562, refl), ((611, refl), ((647, refl), ((709, refl), tt)))))
 
 pub returns-clause-in_place : goal.returns-clause-in_place
-returns-clause-in_place c = ((142, refl), ((197, refl), ((264, refl), ((343, refl), ((400, refl), ((481, refl), tt))))))
+returns-clause-in_place c = ((142, refl), ((197, refl), ((264, refl), ((343, refl), ((400, refl), ((490, refl), tt))))))
 
 pub returns-clause-formats : goal.returns-clause-formats
 returns-clause-formats c = ((92, refl), ((132, refl), ((185, refl), ((240, refl), ((277, refl), ((296, refl), ((302, refl), tt)))))))

@@ -11,11 +11,11 @@ returns-clause-named c = λ words given s n steps nodes p t partial stats line o
     in_place_named words given line s n steps nodes p t partial stats of names
 
 pub returns-clause-rounds : goal.returns-clause-rounds
-returns-clause-rounds c = λ words given most threads line of. rounds_taken words given line most threads of
+returns-clause-rounds c = λ words given most threads p line of. rounds_taken words given line most threads p of
 
 pub returns-clause-rounds_named : goal.returns-clause-rounds_named
-returns-clause-rounds_named c = λ words given most threads rounds workers line of names.
-    rounds_named words given line most threads rounds workers of names.2 names.3
+returns-clause-rounds_named c = λ words given most threads rounds workers p partial line of names.
+    rounds_named words given line most threads rounds workers p partial of names.2 names.3 names.4
 
 pub returns-clause-both : goal.returns-clause-both
 unfolding clap_on_literals
