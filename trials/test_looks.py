@@ -25,6 +25,9 @@ MOST = 2**62
 # A row of the table of examples on docs/looks.md: an example, its answer, and the numbers of its trace.
 TOLD = re.compile(r"\| `(\w+\.ic)` \| [^|]+ \| (none: the next round is )?`(.+)` \| (\d+) \| (\d+) \| (\d+) \| (\d+\.\d) \| .*\|")
 
+# What a row tells of a refused round, after what is printed: why, and which one it is.
+REFUSED = re.compile(rb"(.*)(overgrown|names out): (round \d+, nodes \d+(?:, at most 8192)?)", re.DOTALL)
+
 # What a row tells behind the line of a reduced system.
 ENDS = re.compile(rb"(<.*>)\n(?:done \d+(?: stuck (?P<pair>.*))?|(?P<rest>not done))")
 
@@ -71,12 +74,49 @@ class Rows(Trial):
         for name, kind, count, text, answer in asked(["trace", "picture"]):
             shown = "svg" if kind == "picture" else "tsv"
             with self.subTest(name=name, kind=kind, rounds=count):
-                is_told = answer.startswith((b"round\t", b"<svg"))
-                out, err = (answer, b"") if is_told else (b"", b"icserve: " + answer + b"\n")
-                ends = {"out": out, "err": err, "status": 0 if is_told else 1}
-                self.runs("trace", "--rounds", count, "--format", shown, given=text, **ends)
+                ran = run("trace", "--rounds", count, "--format", shown, given=text)
+                told = REFUSED.fullmatch(answer)
+                if told:
+                    self.ended(ran, out=told[1], err=b"icserve: " + told[2] + b"\n", status=1)
+                    self.equals(ran.command, "which round is refused", told[3] + b"\n", ran.behind)
+                elif answer.startswith((b"round\t", b"<svg")):
+                    self.ended(ran, out=answer)
+                else:
+                    self.ended(ran, err=b"icserve: " + answer + b"\n", status=1)
                 tried += 1
         self.equals("trace", f"more than ten rows: {tried}", True, tried > 10)
+
+    def test_the_configuration_before_a_refused_round_is_printed_where_that_is_asked_for(self):
+        refused = 0
+        for name, _, count, text, answer in asked(["partial"]):
+            with self.subTest(name=name, rounds=count):
+                ran = run("reduce", "--rounds", count, "--partial", given=text)
+                told = REFUSED.fullmatch(answer)
+                if told is None:
+                    self.ended(ran, *end_of(answer))
+                    self.runs("reduce", "--partial", f"--rounds={count}", "--workers", 1, given=text, out=ran.out, err=ran.err, status=ran.status)
+                    continue
+                refused += 1
+                self.ended(ran, out=told[1], err=b"icserve: " + told[2] + b"\n", status=1)
+                self.equals(ran.command, "which round is refused", told[3] + b"\n", ran.behind)
+                plain = run("reduce", "--rounds", count, given=text)
+                self.ended(plain, err=ran.err, status=1)
+                self.equals(plain.command, "which round is refused", ran.behind, plain.behind)
+                made = int(told[3].split(b",")[0].split()[1]) - 1
+                self.runs("reduce", "--rounds", made, given=text, out=ran.out, err=["icserve: not done"], status=5)
+        self.equals("reduce --partial", "how many rounds are refused", 2, refused)
+
+    def test_what_is_shown_before_a_refused_round_is_the_trace_of_the_rounds_before_it(self):
+        """A table, a picture, and the line of `--partial`, of a system that grows without end."""
+        unending = (TOP / "examples/unending.ic").read_text()
+        for text, made in ((DOUBLES, 10), (unending, 11)):
+            for words in (["trace"], ["trace", "--format", "svg"], ["reduce", "--partial"]):
+                word, *options = words
+                ran = run(word, "--rounds", 10**6, *options, given=text)
+                before = run(word, "--rounds", made, *options, given=text)
+                ends = (ran.status, ran.err, ran.out == before.out, ran.behind.startswith(f"round {made + 1}, nodes ".encode()))
+                self.equals(ran.command, "how it ends", (1, b"icserve: overgrown\n", True, True), ends)
+                self.equals(before.command, "status", 5 if word == "reduce" else 0, before.status)
 
     def test_a_million_rounds_are_made_and_a_table_is_told(self):
         self.runs("reduce", "--rounds", 10**6, given=TWO, out=["<S(S(Z))|>"])
@@ -169,7 +209,9 @@ class Endings(Trial):
                 if words == ["reduce"] and fault == "overgrown":
                     continue
                 with self.subTest(text=text[:60], words=words):
-                    self.refuses(*words, given=text, line=fault, status=1)
+                    is_shown = words[0] == "trace" and fault == "overgrown"
+                    out = run(*words, "--rounds", 0, given=text).out if is_shown else b""
+                    self.refuses(*words, given=text, line=fault, out=out, status=1)
 
     def test_a_text_of_262145_bytes_is_too_long_and_one_of_262144_is_not(self):
         for words, out in ((["reduce"], "<|>\n"), (["reduce", "--rounds", 9], "<|>\n"), (["trace"], f"{HEAD}\n")):
@@ -320,7 +362,11 @@ class Faults(Trial):
 
     def test_each_read_and_write_fails_in_turn(self):
         svg = run("trace", "--format", "svg", given=TWO).out
-        for words, text, out, err, status in [*self.RUNS, (["trace", "--format", "svg"], TWO, svg, b"", 0)]:
+        shown = [(["trace", "--format", "svg"], TWO, svg, b"", 0)]
+        for words in (["trace"], ["reduce", "--partial"]):
+            before = run(words[0], "--rounds", 10, given=DOUBLES).out
+            shown.append(([*words, "--rounds", "11"], DOUBLES, before, b"icserve: overgrown\n", 1))
+        for words, text, out, err, status in [*self.RUNS, *shown]:
             writes = ("once", "on", "nothing", "half", "interrupt", "short")
             for what, ways in (("read", ("once", "on", "interrupt", "short")), ("write", writes)):
                 for how in ways:

@@ -25,8 +25,11 @@ use Rattle.ic_batch.specs.declared.fault.Difference.{Difference}
 use Rattle.ic_batch.specs.declared.fault.Difference.TheVariants as difference
 use Rattle.ic_endings.specs.declared.failure.Failure.{Failure}
 use Rattle.ic_endings.specs.declared.failure.Failure.TheVariants.{Words, Stream, Disk, Locked, Create, NotEmpty, Open, Serve, Attend, Dump, Inspect, Jobs, Batch, Faults, NotDone}
-use Rattle.ic_endings.specs.declared.failure.Failure.TheVariants.{Overgrown, TableFull, OutOfMemory}
+use Rattle.ic_endings.specs.declared.failure.Failure.TheVariants.{Round, Overgrown, TableFull, OutOfMemory}
 use Rattle.ic_endings.specs.declared.failure.Reached.{Reached}
+use Rattle.ic_looks.specs.declared.refusal.Refusal.{Refusal}
+use Rattle.ic_round.specs.declared.round_fault.RoundFault.{RoundFault}
+use Rattle.ic_round.specs.declared.round_fault.RoundFault.TheVariants as round
 
 -- of a file that is no disk
 abbrev pub no_disk : List ℕ
@@ -144,6 +147,17 @@ abbrev pub overgrown_lines : Reached → ℕ → List ℕ
 overgrown_lines reached nodes =
     reached_text reached ++ codes ", --nodes " ++ decimal nodes ++ 10 ∷ []
 
+-- the most nodes that a round may lead to, where they are why it is refused
+abbrev pub limit_text : RoundFault → List ℕ
+limit_text round.Overgrown = codes ", at most 8192"
+limit_text round.NamesOut = []
+limit_text round.Memory = []
+
+-- which round is refused, and how many nodes there are before it
+abbrev pub round_lines : Refusal → List ℕ
+round_lines refusal = codes "round " ++ decimal refusal.round ++ codes ", nodes "
+    ++ decimal refusal.nodes ++ limit_text refusal.fault ++ 10 ∷ []
+
 -- what standard error is told behind the line of a failure, where the disk is in the file of this
 -- path and the cause is that of the last call to it, or to standard input, that has failed
 abbrev pub lines_behind : Failure → List ℕ → Option Cause → List ℕ
@@ -162,6 +176,7 @@ lines_behind (Words fault) path cause = []
 lines_behind (Stream fault) path cause = stream_lines fault path cause
 lines_behind Faults path cause = []
 lines_behind NotDone path cause = []
+lines_behind (Round refusal) path cause = round_lines refusal
 lines_behind (Overgrown reached nodes) path cause = overgrown_lines reached nodes
 lines_behind (TableFull reached) path cause = reached_lines reached
 lines_behind (OutOfMemory reached) path cause = reached_lines reached

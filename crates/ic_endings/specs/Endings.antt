@@ -39,7 +39,7 @@ use Rattle.ic_contents.specs.declared.fault.InspectFault.TheVariants as inspect
 use Rattle.ic_words.specs.declared.words.WordsFault.TheVariants as words
 use Rattle.ic_endings.specs.declared.failure.Failure.{Failure}
 use Rattle.ic_endings.specs.declared.failure.Failure.TheVariants.{Words, Stream, Disk, Locked, Create, NotEmpty, Open, Serve, Attend, Dump, Inspect, Jobs, Batch, Faults, NotDone}
-use Rattle.ic_endings.specs.declared.failure.Failure.TheVariants.{Overgrown, TableFull, OutOfMemory}
+use Rattle.ic_endings.specs.declared.failure.Failure.TheVariants.{Round, Overgrown, TableFull, OutOfMemory}
 use Rattle.ic_endings.specs.declared.failure.Reached.{Reached}
 use Rattle.ic_in_place.specs.declared.running.End.{End}
 use Rattle.ic_in_place.specs.declared.running.End.TheVariants as end
@@ -108,6 +108,7 @@ status_of (Batch fault) = batch_status fault
 status_of Locked = 6
 status_of Faults = 1
 status_of NotDone = 5
+status_of (Round refusal) = 1
 status_of (Overgrown reached nodes) = 1
 status_of (TableFull reached) = 1
 status_of (OutOfMemory reached) = 4
@@ -224,6 +225,7 @@ failure_line (Jobs fault) = told (jobs_word fault)
 failure_line (Batch fault) = told (batch_word fault)
 failure_line Faults = told (codes "faults")
 failure_line NotDone = told (codes "not done")
+failure_line (Round refusal) = told (round_word refusal.fault)
 failure_line (Overgrown reached nodes) = told (codes "overgrown")
 failure_line (TableFull reached) = told (codes "table full")
 failure_line (OutOfMemory reached) = told (codes "memory")

@@ -1,9 +1,9 @@
 //! What is told behind the line of a failure: why a disk's file doesn't serve, or standard input can't
-//! be read, or how far a net has come that was reduced in place.
+//! be read, which round is refused, or how far a net has come that was reduced in place.
 
 ghost use Rattle.std.specs.Prelude.{◌≡◌, IfOk};
 ghost use Rattle.ic_endings.specs.Behind.{book_lines, create_lines, lines_behind, open_lines, scripts_lines};
-ghost use Rattle.ic_endings.specs.Behind.{batch_lines, input_lines, inspect_lines, overgrown_lines, reached_lines, reached_text};
+ghost use Rattle.ic_endings.specs.Behind.{batch_lines, input_lines, inspect_lines, limit_text, overgrown_lines, reached_lines, reached_text, round_lines};
 ghost use Rattle.ic_endings.specs.Behind.{serve_lines, shown_of, stream_lines, taken_words};
 
 use crate::{Failure, Reached};
@@ -11,6 +11,8 @@ use ic_batch::{BatchFault, Difference};
 use ic_causes::{Cause, Target, cause_line, shown_path};
 use ic_contents::InspectFault;
 use ic_desk::BookFault;
+use ic_looks::Refusal;
+use ic_round::RoundFault;
 use ic_scripts::ScriptsFault;
 use ic_serving::ServeFault;
 use ic_slots::{CreateFault, OpenCause};
@@ -51,6 +53,7 @@ impl Failure {
             Failure::Attend(fault) => scripts_lines(alloc, *fault, path, cause),
             Failure::Stream(fault) => stream_lines(alloc, *fault, path, cause),
             Failure::Words(_) | Failure::NotDone => Ok(Vec::new(alloc)),
+            Failure::Round(refusal) => round_lines(alloc, *refusal),
             Failure::Overgrown(reached, nodes) => overgrown_lines(alloc, *reached, *nodes),
             Failure::TableFull(reached) | Failure::OutOfMemory(reached) => {
                 reached_lines(alloc, *reached)
@@ -59,6 +62,29 @@ impl Failure {
             Failure::Batch(fault) => batch_lines(alloc, *fault, path, cause),
             Failure::Inspect(fault) => inspect_lines(alloc, *fault, path, cause),
         }
+    }
+}
+
+/// Which round is refused, how many nodes there are before it, and how many a round may lead to.
+fn round_lines(alloc: Global, refusal: Refusal) -> Result<Vec<u8>, AllocError>
+    ensures { IfOk result (λ line. line.items ≡ round_lines refusal) }
+{
+    let mut line = b"round ".to_vec(alloc)?;
+    line.extend_from_slice(refusal.round.to_string(alloc)?.as_bytes())?;
+    line.extend_from_slice(b", nodes ")?;
+    line.extend_from_slice(refusal.nodes.to_string(alloc)?.as_bytes())?;
+    line.extend_from_slice(limit_text(refusal.fault))?;
+    line.push(b'\n')?;
+    Ok(line)
+}
+
+/// The most nodes that a round may lead to, where they are why it is refused.
+fn limit_text(fault: RoundFault) -> &'static [u8]
+    ensures { result.now ≡ limit_text fault }
+{
+    match fault {
+        RoundFault::Overgrown => b", at most 8192",
+        RoundFault::NamesOut | RoundFault::Memory => b"",
     }
 }
 

@@ -17,6 +17,7 @@ use ic_dump::{DiskDumpFault, DumpFault};
 use ic_in_place::End;
 use ic_jobs::Reply;
 use ic_lines::ScriptFault;
+use ic_looks::Refusal;
 use ic_round::RoundFault;
 use ic_rules::JobName;
 use ic_scripts::{ScriptsFault, book_word};
@@ -69,6 +70,8 @@ pub enum Failure {
     Faults,
     /// All rounds or interactions were made of what was to be reduced, and a step is still possible.
     NotDone,
+    /// A round is refused, after those that were made before it.
+    Round(Refusal),
     /// A net that is reduced in place has more than so many places.
     Overgrown(Reached, u64),
     /// A table of a net that is reduced in place is full.
@@ -99,6 +102,7 @@ impl Failure {
             Failure::Locked => 6,
             Failure::Faults => 1,
             Failure::NotDone => 5,
+            Failure::Round(_) => 1,
             Failure::Overgrown(_, _) | Failure::TableFull(_) => 1,
             Failure::OutOfMemory(_) => 4,
         }
@@ -126,6 +130,7 @@ impl Failure {
             Failure::Batch(fault) => batch_line(alloc, *fault),
             Failure::Faults => told(alloc, b"faults"),
             Failure::NotDone => told(alloc, b"not done"),
+            Failure::Round(refusal) => told(alloc, round_word(refusal.fault)),
             Failure::Overgrown(_, _) => told(alloc, b"overgrown"),
             Failure::TableFull(_) => told(alloc, b"table full"),
             Failure::OutOfMemory(_) => told(alloc, b"memory"),

@@ -26,7 +26,8 @@ ghost use Rattle.ic_contents.specs.declared.fault.InspectFault.TheVariants as in
 ghost use Rattle.ic_lines.specs.declared.script.ScriptFault.{ScriptFault};
 ghost use Rattle.ic_scripts.specs.declared.fault.ScriptsFault.TheVariants as scripts;
 ghost use Rattle.ic_endings.specs.declared.failure.Failure.TheVariants.{Words, Stream, Disk, Locked, Create, NotEmpty, Open, Serve, Attend, Dump, Inspect, Jobs, Batch, Faults, NotDone};
-ghost use Rattle.ic_endings.specs.declared.failure.Failure.TheVariants.{Overgrown, TableFull, OutOfMemory};
+ghost use Rattle.ic_endings.specs.declared.failure.Failure.TheVariants.{Round, Overgrown, TableFull, OutOfMemory};
+ghost use Rattle.ic_looks.specs.declared.refusal.Refusal.{Refusal};
 ghost use Rattle.ic_endings.specs.declared.failure.Reached.{Reached};
 ghost use Rattle.ic_in_place.specs.declared.running.End.TheVariants as end;
 ghost use Rattle.ic_jobs.specs.declared.reply.Refusal.TheVariants.{Taken, Full};
@@ -53,6 +54,7 @@ pub fn statuses_are(text: &String)
     ensures words { status_of (Words (words.Words text.now)) ≡ 2 }
     ensures text { (fault : TextFault) → status_of (Stream (stream.Text fault)) ≡ 1 }
     ensures round { (fault : RoundFault) → status_of (Stream (stream.Round fault)) ≡ 1 }
+    ensures rounds { (refusal : Refusal) → status_of (Round refusal) ≡ 1 }
     ensures file { (fault : DiskFault) → status_of (Disk fault) ≡ 3 }
     ensures create { (fault : CreateFault) → status_of (Create fault) ≡ 3 }
     ensures not_empty { status_of NotEmpty ≡ 3 }
@@ -237,10 +239,15 @@ pub fn lines_of_checks_are()
     ensures faults { failure_line Faults ≡ codes "icserve: faults" ++ 10 ∷ [] }
 {}
 
-/// The line on standard error where rounds or interactions didn't suffice, where a net that is reduced
-/// in place is too large or memory ran out, and that of a stuck pair.
+/// The line on standard error where rounds or interactions didn't suffice, where a round is refused
+/// after others, where a net that is reduced in place is too large or memory ran out, and that of a
+/// stuck pair.
 pub fn lines_of_looks_are()
     ensures not_done { failure_line NotDone ≡ codes "icserve: not done" ++ 10 ∷ [] }
+    ensures round { (r nodes : ℕ) → map (λ fault. failure_line
+        (Round (record { fault = fault; round = r; nodes = nodes })))
+        (round.Overgrown ∷ round.NamesOut ∷ [])
+        ≡ (codes "icserve: overgrown" ++ 10 ∷ []) ∷ (codes "icserve: names out" ++ 10 ∷ []) ∷ [] }
     ensures overgrown { (reached : Reached) (nodes : ℕ)
         → failure_line (Overgrown reached nodes) ≡ codes "icserve: overgrown" ++ 10 ∷ [] }
     ensures table_full { (reached : Reached)
@@ -253,8 +260,16 @@ pub fn lines_of_looks_are()
 
 /// What is told behind the line of a failure: of `device` why the last call to the file has failed,
 /// of a disk that isn't opened what is wrong with the file, of a `read` of standard input why it has
-/// failed, of a net that is reduced in place how far it came, and of all else nothing.
+/// failed, of a refused round its number and the nodes before it, of a net that is reduced in place
+/// how far it came, and of all else nothing.
 pub fn lines_behind_are(text: &String)
+    ensures round_overgrown { (r nodes : ℕ) (path : List ℕ) (cause : Option Cause)
+        → lines_behind
+        (Round (record { fault = round.Overgrown; round = r; nodes = nodes })) path cause ≡ codes "round " ++ decimal r ++ codes ", nodes " ++ decimal nodes
+        ++ codes ", at most 8192" ++ 10 ∷ [] }
+    ensures names_out { (r nodes : ℕ) (path : List ℕ) (cause : Option Cause)
+        → lines_behind
+        (Round (record { fault = round.NamesOut; round = r; nodes = nodes })) path cause ≡ codes "round " ++ decimal r ++ codes ", nodes " ++ decimal nodes ++ 10 ∷ [] }
     ensures overgrown { (i p nodes : ℕ) (path : List ℕ) (cause : Option Cause)
         → lines_behind (Overgrown (record { interactions = i; places = p }) nodes) path cause
         ≡ codes "interactions " ++ decimal i ++ codes ", places " ++ decimal p

@@ -2,7 +2,7 @@
 //! `draw`. Where the text is refused, the lines that tell its place are appended to `told`.
 
 use ic_endings::{Failure, stuck_line};
-use ic_looks::{Format, Reduction, Workers, reduce_stream, trace_stream};
+use ic_looks::{Ended, Format, Reduction, Workers, reduce_stream, trace_stream};
 use ic_nets::draw_stream;
 use ic_words::TraceFormat;
 use std::io::{self, Read, Write};
@@ -10,12 +10,13 @@ use std::sync::Wait;
 use std::thread::Threads;
 
 /// Makes at most so many rounds until no step is possible, a round of many equations by so many workers, and prints the
-/// configuration. A stuck pair is told on standard error.
+/// configuration, the one before a refused round only with `partial`. A stuck pair is told on standard error.
 pub(crate) fn reduce<T: Threads + Wait, R: Read>(
     rt: &HostRuntime,
     threads: &T,
     rounds: u64,
     workers: u32,
+    partial: bool,
     input: &mut R,
     told: &mut Vec<u8>,
 ) -> Result<(), Failure> {
@@ -24,11 +25,18 @@ pub(crate) fn reduce<T: Threads + Wait, R: Read>(
         rt: threads,
         count: workers as usize,
     };
-    let reduction = reduce_stream(rt.alloc(), &maker, rounds, input, &mut output, told).map_err(
-        Failure::Stream,
-    )?;
-    match reduction {
+    let reduced = reduce_stream(
+        rt.alloc(),
+        &maker,
+        rounds,
+        partial,
+        input,
+        &mut output,
+        told,
+    );
+    match reduced.map_err(Failure::Stream)? {
         Reduction::NotDone => Err(Failure::NotDone),
+        Reduction::Refused(refusal) => Err(Failure::Round(refusal)),
         Reduction::Done { stuck, .. } => {
             if let Some(pair) = stuck {
                 tell_stuck(rt, &pair);
@@ -45,7 +53,7 @@ pub(crate) fn tell_stuck(rt: &HostRuntime, pair: &[u8]) {
     }
 }
 
-/// Prints what each of at most so many rounds does.
+/// Prints what each of at most so many rounds does, up to the first one that is refused.
 pub(crate) fn trace<R: Read>(
     rt: &HostRuntime,
     rounds: u64,
@@ -58,7 +66,11 @@ pub(crate) fn trace<R: Read>(
         TraceFormat::Tsv => Format::Table,
         TraceFormat::Svg => Format::Picture,
     };
-    trace_stream(rt.alloc(), rounds, format, input, &mut output, told).map_err(Failure::Stream)
+    let traced = trace_stream(rt.alloc(), rounds, format, input, &mut output, told);
+    match traced.map_err(Failure::Stream)? {
+        Ended::Whole => Ok(()),
+        Ended::Refused(refusal) => Err(Failure::Round(refusal)),
+    }
 }
 
 /// Prints the net of the configuration as a graph.

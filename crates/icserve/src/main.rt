@@ -126,9 +126,11 @@ fn run<T: Threads + Wait + Copy + Send + Sync + 'static>(
             let bounds = Bounds { steps, nodes };
             reducing::reduce(rt, bounds, partial, stats, &mut input, told)
         }
-        Task::ReduceByRounds { rounds, workers } => {
-            looking::reduce(rt, threads, rounds, workers, &mut input, told)
-        }
+        Task::ReduceByRounds {
+            rounds,
+            workers,
+            partial,
+        } => looking::reduce(rt, threads, rounds, workers, partial, &mut input, told),
         Task::Trace { rounds, format } => looking::trace(rt, rounds, format, &mut input, told),
         Task::Draw => looking::draw(rt, &mut input, told),
         Task::Dump { disk, names } => dumping::dump(rt, disk.as_str(), &names, notes),
