@@ -62,7 +62,7 @@ no_interaction laws rs c answer d fired place set over named reached (e, net, qu
 
 -- ---- and no name step, where no circle is left
 
-pub side_names : (x : ℕ) (e : Pair) → (e.left ≡ name x) ⊎ (e.right ≡ name x) → 1 ≤ occurrences x (pair_names e)
+side_names : (x : ℕ) (e : Pair) → (e.left ≡ name x) ⊎ (e.right ≡ name x) → 1 ≤ occurrences x (pair_names e)
 side_names x e (inl is) =
     let here = occurrences_some x (x ∷ []) (ap (λ b. b || false) ((unsigned_Decides x x).1 refl)) in
     let both = occurrences-append x (names e.left) (names e.right) in
@@ -90,6 +90,27 @@ by_parts x c before after e is =
     let others = ap (occurrences x) (flat_map-append pair_names before after) ∙ occurrences-append x (flat_map pair_names before) (flat_map pair_names after) in
     omega (arith, all, parts, first, then, others)
 
+-- how often a name occurs on both sides of equations
+pub on_sides : (x : ℕ) (es : List Pair) → occurrences x (flat_map pair_names es) ≡ occurrences x (flat_map (λ p. names p.left) es) + occurrences x (flat_map (λ p. names p.right) es)
+on_sides x [] = refl
+on_sides x (e ∷ es) =
+    let all = occurrences-append x (pair_names e) (flat_map pair_names es) in
+    let both = occurrences-append x (names e.left) (names e.right) in
+    let left = occurrences-append x (names e.left) (flat_map (λ p. names p.left) es) in
+    let right = occurrences-append x (names e.right) (flat_map (λ p. names p.right) es) in
+    let rest = on_sides x es in
+    omega (arith, all, both, left, right, rest)
+
+-- a name on the left of an equation occurs there
+pub on_left : (x : ℕ) (before after : List Pair) (e : Pair) → e.left ≡ name x → 1 ≤ occurrences x (flat_map (λ p. names p.left) (before ++ e ∷ after))
+on_left x before after e is =
+    let all = ap (occurrences x) (flat_map-append (λ p. names p.left) before (e ∷ after)) in
+    let parts = occurrences-append x (flat_map (λ p. names p.left) before) (names e.left ++ flat_map (λ p. names p.left) after) in
+    let more = occurrences-append x (names e.left) (flat_map (λ p. names p.left) after) in
+    let left : occurrences x (names e.left) ≡ occurrences x (x ∷ []) = ap (λ t. occurrences x (names t)) is in
+    let here = occurrences_some x (x ∷ []) (ap (λ b. b || false) ((unsigned_Decides x x).1 refl)) in
+    omega (arith, all, parts, more, left, here)
+
 all_at_middle : {X : Type 0} (P : X → Type 0) (before : List X) (x : X) (after : List X) → AllByRecursion P (before ++ x ∷ after) → P x
 all_at_middle P [] x after all = all.0
 all_at_middle P (y ∷ before) x after all = all_at_middle P before x after all.1
@@ -115,7 +136,9 @@ sides_few c together none before after e x is side = at together.ends together.c
         let all = by_parts y c ends rest p parts in
         let here = occurrences-append y (pair_names p) (flat_map pair_names rest) in
         let others = ap (occurrences y) (flat_map-append pair_names ends rest) ∙ occurrences-append y (flat_map pair_names ends) (flat_map pair_names rest) in
-        absurd (omega (arith, few, all, here, others, circles.0.2))
+        let sides = on_sides y (p ∷ rest) in
+        let left = on_left y [] rest p circles.0.1 in
+        absurd (omega (arith, few, all, here, others, sides, left, circles.0.2))
 
 pub quiet_alone : (rs : List Rule) (c : Configuration) → IsPutTogether c → HasNoCircle c → ((d : Configuration) (place : ℕ) → ¬ Interaction rs c d place) → IsQuiet rs c
 quiet_alone rs c together none still d (interaction x y place step) = still y place step

@@ -1,5 +1,5 @@
 -- Lemmas: what is read back where no pair is left is put together.
-use Rattle.std.proofs.Common.{◌≡◌, inl, ℕ, zero, suc, ◌+◌, ◌≤◌, List, [], ◌∷◌, ◌++◌, length, take, drop, refl, sym, ap, ◌∙◌, arith, append_assoc, subst as transport}
+use Rattle.std.proofs.Common.{◌≡◌, ℕ, zero, suc, ◌+◌, ◌≤◌, List, [], ◌∷◌, ◌++◌, length, take, drop, refl, sym, ap, ◌∙◌, arith, append_assoc, subst as transport}
 use Rattle.std.specs.List.{flat_map, AllByRecursion}
 use Rattle.std.proofs.lemmas.List.{take-append-drop}
 use Rattle.std.proofs.lemmas.List.Concat.{flat_map-append}
@@ -19,7 +19,7 @@ use Rattle.ic_readback.specs.Reading.{flat_words, configuration_read, HeadIs, Be
 use Rattle.ic_in_place.specs.Holding.{AreGiven}
 use Rattle.ic_in_place.specs.Reducing.{IsAgentOrFree, IsCircle, IsPutTogether}
 use Rattle.ic_in_place.proofs.Interacts.{begin_after}
-use Rattle.ic_in_place.proofs.QuietEnds.{side_names}
+use Rattle.ic_in_place.proofs.QuietEnds.{on_sides, on_left}
 
 -- ---- the pairs
 
@@ -39,40 +39,36 @@ all_ends p n c (e ∷ es) (t ∷ u ∷ ts) are stuck begin = (
 
 -- ---- the circles
 
--- the name on the left of an equation occurs in it
-left_some : (front rest : List Pair) (e : Pair) (x : ℕ) → e.left ≡ name x → 1 ≤ occurrences x (flat_map pair_names (front ++ e ∷ rest))
-left_some front rest e x is =
-    let all = ap (occurrences x) (flat_map-append pair_names front (e ∷ rest)) in
-    let one = occurrences-append x (flat_map pair_names front) (pair_names e ++ flat_map pair_names rest) in
-    let two = occurrences-append x (pair_names e) (flat_map pair_names rest) in
-    let here = side_names x e (inl is) in
-    omega (arith, all, one, two, here)
-
--- A name of a place, which is none of those before circles, occurs twice in them: it isn't given, so that it doesn't occur once.
-twice : (n : Numbers) (is : List Tree) (ends front rest circles : List Pair) (e : Pair) (c : Configuration) → AreNumbers n → AreGiven n.given c → HasNames c
-    → configuration_names c ≡ names_in is ends ++ flat_map pair_names circles → circles ≡ front ++ e ∷ rest → IsReadCircle n (names_in is ends) e → IsCircle circles e
-twice n is ends front rest circles e c sound are named parts at circle =
+-- A name of a place, which is none of those before circles, and is on the left of one of these, is on the right of one: it
+-- isn't given, so that it doesn't occur once.
+right_once : (n : Numbers) (is : List Tree) (ends front rest circles : List Pair) (e : Pair) (c : Configuration) → AreNumbers n → AreGiven n.given c → HasNames c
+    → configuration_names c ≡ names_in is ends ++ flat_map pair_names circles → circles ≡ front ++ e ∷ rest → IsReadCircle n (names_in is ends) circles e → IsCircle circles e
+right_once n is ends front rest circles e c sound are named parts at circle =
     let x : ℕ = n.of_place circle.place in
     let sum = ap (occurrences x) parts ∙ occurrences-append x (names_in is ends) (flat_map pair_names circles) in
-    let some = left_some front rest e x circle.left in
-    let same = ap (λ es. occurrences x (flat_map pair_names es)) at in
-    let few = named.twice x in
+    let sides = on_sides x circles in
+    let some = on_left x front rest e circle.left in
+    let same = ap (λ es. occurrences x (flat_map (λ p. names p.left) es)) at in
     let other : ¬ (occurrences x (configuration_names c) ≡ 1) =
-    (λ once. let found = (are x).0 once in sound.not_given found.0 x circle.place found.1 refl) in
-    (x, circle.left, by_count (occurrences x (configuration_names c)) (occurrences x (flat_map pair_names circles)) other few (omega (arith, sum, circle.apart)) (omega (arith, some, same)))
+    (λ once. let found = (are x).0 once in sound.not_given found.0 x circle.place found.1 refl) in (
+      x,
+      circle.left,
+      by_count (occurrences x (configuration_names c)) (occurrences x (flat_map (λ p. names p.right) circles)) other (named.twice x)
+          (omega (arith, sum, sides, some, same, circle.apart, circle.once)),
+    )
   where
-    by_count : (a b : ℕ) → ¬ (a ≡ 1) → a ≤ 2 → a ≡ b → 1 ≤ b → b ≡ 2
-    by_count zero b other few same some = absurd (omega (arith, same, some))
-    by_count (suc zero) b other few same some = absurd (other refl)
-    by_count (suc (suc zero)) b other few same some = sym same
-    by_count (suc (suc (suc a))) b other few same some = absurd (omega (arith, few))
+    by_count : (a b : ℕ) → ¬ (a ≡ 1) → a ≤ 2 → a ≡ 1 + b → b ≡ 1
+    by_count zero b other few same = absurd (omega (arith, same))
+    by_count (suc zero) b other few same = absurd (other refl)
+    by_count (suc (suc zero)) b other few same = omega (arith, same)
+    by_count (suc (suc (suc a))) b other few same = absurd (omega (arith, few))
 
 all_circles : (n : Numbers) (is : List Tree) (ends front rest circles : List Pair) (c : Configuration) → AreNumbers n → AreGiven n.given c → HasNames c
-    → configuration_names c ≡ names_in is ends ++ flat_map pair_names circles → circles ≡ front ++ rest → AllByRecursion (IsReadCircle n (names_in is ends)) rest
+    → configuration_names c ≡ names_in is ends ++ flat_map pair_names circles → circles ≡ front ++ rest → AllByRecursion (IsReadCircle n (names_in is ends) circles) rest
     → AllByRecursion (IsCircle circles) rest
 all_circles n is ends front [] circles c sound are named parts at all = tt
 all_circles n is ends front (e ∷ rest) circles c sound are named parts at all = (
-  twice n is ends front rest circles e c sound are named parts at all.0,
+  right_once n is ends front rest circles e c sound are named parts at all.0,
   all_circles n is ends (front ++ e ∷ []) rest circles c sound are named parts (at ∙ sym (append_assoc front (e ∷ []) rest)) all.1,
 )
 
@@ -91,7 +87,7 @@ put_together p n m ts terms sound none stuck counted begin circles named are =
     let aside : BeginAs n (sides_of m.aside) (drop terms F) =
     transport (λ (k : ℕ). BeginAs n (sides_of m.aside) (drop k F)) (sym counted)
     (begin_after n m.interface (sides_of m.aside) F (transport (λ (l : List Equation). BeginAs n (m.interface ++ (sides_of l ++ sides_of m.aside)) F) none begin)) in
-    let read : AllByRecursion (IsReadCircle n (names_in c.interface ends)) others =
+    let read : AllByRecursion (IsReadCircle n (names_in c.interface ends) others) others =
     (let few : length m.pending + length m.aside ≡ K = omega (arith, ap (length {A = Equation}) none) in transport (λ (k : ℕ). AreCirclesAfter n k c) few circles) in
     let parts : ends ++ others ≡ c.equations = take-append-drop K c.equations in
     let names_are : configuration_names c ≡ names_in c.interface ends ++ flat_map pair_names others =

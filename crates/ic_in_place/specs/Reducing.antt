@@ -1,7 +1,7 @@
 -- What a system is reduced to in place (this project's choice).
 use Rattle.std.specs.Prelude.{◌≡◌, ℕ, ◌+◌, ◌*◌, ◌<◌, ◌≤◌, List, ◌∷◌, ◌++◌, IsTrue, length}
 use Rattle.std.specs.List.{flat_map, list_all, AllByRecursion}
-use Rattle.ic_term.specs.Tree.{Tree, name, agent, Pair, pair_names}
+use Rattle.ic_term.specs.Tree.{Tree, name, agent, names, Pair}
 use Rattle.ic_term.specs.Configuration.{Configuration, configuration_names, occurrences}
 use Rattle.ic_term.specs.Symbol.{Symbol}
 use Rattle.ic_rules.specs.Rule.{Rule}
@@ -28,10 +28,10 @@ abbrev pub IsAgentOrFree : Configuration → Tree → Type 0
 IsAgentOrFree c (name x) = occurrences x (configuration_names c) ≡ 1
 IsAgentOrFree c (agent s ts) = Unit {0}
 
--- A circle is an equation of a name with a term. Both occurrences of this name are in circles.
+-- A circle is an equation of a name with a term, and this name occurs once on the right of circles.
 abbrev pub IsCircle : List Pair → Pair → Type 0
 IsCircle circles e =
-    (x : ℕ) × (e.left ≡ name x) × (occurrences x (flat_map pair_names circles) ≡ 2)
+    (x : ℕ) × (e.left ≡ name x) × (occurrences x (flat_map (λ p. names p.right) circles) ≡ 1)
 
 -- Nothing is left that could be put for a name, but in circles. Each side of the equations before them is an agent, or a
 -- name that occurs once.

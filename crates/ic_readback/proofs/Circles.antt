@@ -22,16 +22,16 @@ use Rattle.ic_flat.specs.declared.word.Word.{Word as FlatWord}
 use Rattle.ic_flat.specs.Words.{forest, word_names}
 use Rattle.ic_flat.specs.Flat.{pairs_of}
 use Rattle.ic_meaning.specs.Words.{Numbers, AreNumbers}
-use Rattle.ic_meaning.specs.Nets.{AreNetPieces}
+use Rattle.ic_meaning.specs.Nets.{AreNetPieces, holds}
 use Rattle.ic_readback.specs.declared.token.Token.{Token}
 use Rattle.ic_readback.specs.declared.token.Token.TheVariants.{Name, Agent}
 use Rattle.ic_readback.specs.declared.reader.Reader.{Reader}
 use Rattle.ic_readback.specs.Reading.{number_of, flat_word, flat_words, configuration_read, AreGiven, IsCircle, AreCirclesAfter}
 use Rattle.ic_readback.specs.inner.Expanding.{State, state, IsName, Step, follow, opened, plain, named, Steps, no_step, one_more, Left, none, circle, alone}
-use Rattle.ic_readback.proofs.Chains.{contains_first, steps_pieces, left_pieces}
+use Rattle.ic_readback.proofs.Chains.{contains_first, steps_pieces, steps_fewer, left_pieces, gone}
 use Rattle.ic_readback.proofs.Rows.{over, over-nil, over-append, over-more, over-names, pairs-more, pairs-names, pairs-length}
-use Rattle.ic_readback.proofs.Words.{row, whole_steps}
-use Rattle.ic_readback.proofs.Ends.{IsRow, WasRead, first_state, left_whole, first_row}
+use Rattle.ic_readback.proofs.Words.{row, whole_steps, true_false}
+use Rattle.ic_readback.proofs.Ends.{IsRow, WasRead, first_state, left_whole, first_row, once_places}
 use Rattle.ic_readback.proofs.Heads.{Longer, longer_steps, Kept, kept_step, first_kept}
 use Rattle.ic_readback.proofs.Results.{ReadsNet}
 
@@ -114,13 +114,34 @@ absent_steps n w s t sound kept (one_more a b c first rest) left before =
 
 -- ---- the terms of circles
 
+occurs_few : (n m : ℕ) → occurrences n (m ∷ []) ≤ 1
+occurs_few n m = at (m == n) refl
+  where
+    at : (b : Bool) → (m == n) ≡ b → occurrences n (m ∷ []) ≤ 1
+    at true e = let one : occurrences n (m ∷ []) ≡ 1 = rw e refl in omega arith
+    at false e = let none : occurrences n (m ∷ []) ≡ 0 = rw e refl in omega arith
+
+-- the number of a place stands for what is held there
+place_held : (n : Numbers) (w x : Word) (p : Piece) → AreNumbers n → (word_eq w x ≡ true → holds w p ≡ 1) → occurrences (n.of_place w) (n.of_place x ∷ []) ≤ holds w p
+place_held n w x p sound held = at (word_eq w x) refl
+  where
+    at : (b : Bool) → word_eq w x ≡ b → occurrences (n.of_place w) (n.of_place x ∷ []) ≤ holds w p
+    at true e =
+        let few = occurs_few (n.of_place w) (n.of_place x) in
+        let one = held e in
+        omega arith
+    at false e =
+        let none = occurs_apart (n.of_place w) (n.of_place x) (λ same. true_false (sym (sound.apart w x (sym same)) ∙ e)) in
+        omega arith
+
 -- The row of a state has more terms than that of another one, two by two, each pair a name of a place with a term. Something
--- was left at each of these places.
+-- was left at each of these places. None of them is named more often than it was held, but for what is held still.
 pub record Circles (n : Numbers) (ps : List Piece) (j : ℕ) (s t : State) : Type 0 where
   pub terms : List Tree
   pub row_is : row n t ≡ row n s ++ terms
   pub even : length terms ≡ 2 * j
   pub all : AllByRecursion (λ p. (w : Word) × ((p.left ≡ name (n.of_place w)) × IsLeft w ps)) (pairs_of terms)
+  pub each : (w : Word) → occurrences (n.of_place w) (flat_map (λ p. names p.left) (pairs_of terms)) + sum_by (holds w) t.pieces ≤ sum_by (holds w) ps
 
 all_parts : {X : Type 0} (P : X → Type 0) (xs ys : List X) → AllByRecursion P xs → AllByRecursion P ys → AllByRecursion P (xs ++ ys)
 all_parts P [] ys a b = b
@@ -147,10 +168,11 @@ two_terms n k ts more x ps qs terms before after =
     let one = one_term last (omega arith) in
     (one.0, all ∙ ap (λ l. over W [] ++ name (number_of n x) ∷ l) one.1)
 
-more_circle : (n : Numbers) (whole : List Piece) (j k terms : ℕ) (s : State) (ts us more : List Token) (x : Word) (ps rs : List Piece) → Circles n whole j s (state ts [] ps)
+more_circle : (n : Numbers) (whole : List Piece) (j k terms : ℕ) (s : State) (ts us more : List Token) (x : Word) (p : Piece) (ps qs rs : List Piece) → Circles n whole j s (state ts [] ps)
     → IsRow n terms (k + j) (state ts [] ps) → IsRow n terms (k + (j + 1)) (state us [] rs) → us ≡ ts ++ Name x ∷ more → number_of n x ≡ n.of_place x → IsLeft x whole
+    → AreNumbers n → IsPermutation ps (p ∷ qs) → ((w : Word) → word_eq w x ≡ true → holds w p ≡ 1) → ((f : Piece → ℕ) → sum_by f rs ≤ sum_by f qs)
     → Circles n whole (j + 1) s (state us [] rs)
-more_circle n whole j k terms s ts us more x ps rs before is is_too tokens number left =
+more_circle n whole j k terms s ts us more x p ps qs rs before is is_too tokens number left sound taken held fewer =
     let after : IsRow n terms ((k + j) + 1) (state (ts ++ Name x ∷ more) [] rs) =
     transport (λ l. IsRow n terms ((k + j) + 1) (state l [] rs)) tokens
     (let same : k + (j + 1) ≡ (k + j) + 1 = omega arith in transport (λ (m : ℕ). IsRow n terms m (state us [] rs)) same is_too) in
@@ -164,40 +186,56 @@ more_circle n whole j k terms s ts us more x ps rs before is is_too tokens numbe
       even = omega arith;
       all = transport (AllByRecursion (λ p. (w : Word) × ((p.left ≡ name (n.of_place w)) × IsLeft w whole))) (sym (pairs-more before.terms pair j even))
           (all_parts (λ p. (w : Word) × ((p.left ≡ name (n.of_place w)) × IsLeft w whole)) (pairs_of before.terms) (pairs_of pair) before.all ((x, (ap name number, left)), tt));
+      each = λ w.
+          let y : ℕ = n.of_place w in
+          let pairs = ap (λ es. occurrences y (flat_map (λ e. names e.left) es)) (pairs-more before.terms pair j even) in
+          let both = ap (occurrences y) (flat_map-append (λ e. names e.left) (pairs_of before.terms) (pairs_of pair))
+          ∙ occurrences-append y (flat_map (λ e. names e.left) (pairs_of before.terms)) (number_of n x ∷ []) in
+          let named = ap (λ k. occurrences y (k ∷ [])) number in
+          let here = place_held n w x p sound (held w) in
+          let first = before.each w in
+          let less = fewer (holds w) in
+          let all = gone (holds w) ps qs p taken in
+          omega (arith, pairs, both, named, here, first, less, all);
     }
 
 taken_there : (ps qs : List Piece) (p : Piece) → IsPermutation ps (p ∷ qs) → Contains ps p
 taken_there ps qs p taken = Contains-permutation (p ∷ qs) ps p (IsPermutation-sym ps (p ∷ qs) taken) (contains_first p qs)
 
-pub left_circles : (n : Numbers) (terms k j : ℕ) (s t : State) → length n.arities < GIVEN → Left n.arities j s t → s.words ≡ [] → IsRow n terms k s → Circles n s.pieces j s t
-left_circles n terms k j s t few (none a) empty is = record { terms = []; row_is = sym (append-nil (row n a)); even = omega arith; all = tt }
-left_circles n terms k j s t few (circle i a ts us x u ps qs rs before tag taken steps) empty is =
-    let first = left_circles n terms k i a (state ts [] ps) few before empty is in
+pub left_circles : (n : Numbers) (terms k j : ℕ) (s t : State) → AreNumbers n → Left n.arities j s t → s.words ≡ [] → IsRow n terms k s → Circles n s.pieces j s t
+left_circles n terms k j s t sound (none a) empty is = record { terms = []; row_is = sym (append-nil (row n a)); even = omega arith; all = tt; each = λ w. omega arith }
+left_circles n terms k j s t sound (circle i a ts us x u ps qs rs before tag taken steps) empty is =
+    let first = left_circles n terms k i a (state ts [] ps) sound before empty is in
     let m : State = state (ts ++ Name x ∷ []) (u ∷ []) qs in
     let longer : Longer m (state us [] rs) = longer_steps n.arities m (state us [] rs) steps in
     let number : number_of n x ≡ n.of_place x = rw (ne_eqb x.tag GIVEN (λ e. absurd (omega (arith, tag, e)))) refl in
     let there = left_pieces n.arities (waits x u) i a (state ts [] ps) before (taken_there ps qs (waits x u) taken) in
-    more_circle n a.pieces i k terms a ts us longer.more x ps rs first (left_whole n terms k i a (state ts [] ps) before empty is)
+    more_circle n a.pieces i k terms a ts us longer.more x (waits x u) ps qs rs first (left_whole n terms k i a (state ts [] ps) before empty is)
     (left_whole n terms k (i + 1) a (state us [] rs) (circle i a ts us x u ps qs rs before tag taken steps) empty is)
     (longer.tokens ∙ append_assoc ts (Name x ∷ []) longer.more) number (inl (tag, (u, there)))
-left_circles n terms k j s t few (alone i a ts us x vs ps qs rs before of taken steps) empty is =
-    let first = left_circles n terms k i a (state ts [] ps) few before empty is in
+    sound taken (λ w e. let h : holds w (waits x u) ≡ 1 = rw e refl in h) (λ f. steps_fewer n.arities f m (state us [] rs) steps)
+left_circles n terms k j s t sound (alone i a ts us x vs ps qs rs before of taken steps) empty is =
+    let first = left_circles n terms k i a (state ts [] ps) sound before empty is in
     let g : Token = Agent (x.tag - 1) in
     let m : State = state (ts ++ Name x ∷ g ∷ []) vs qs in
     let longer : Longer m (state us [] rs) = longer_steps n.arities m (state us [] rs) steps in
     let known = slice_get_within n.arities of.symbol (length vs) of.known in
     let symbol = of.is in
-    let number : number_of n x ≡ n.of_place x = rw (ne_eqb x.tag GIVEN (λ e. absurd (omega (arith, few, known, symbol, e)))) refl in
+    let number : number_of n x ≡ n.of_place x = rw (ne_eqb x.tag GIVEN (λ e. absurd (omega (arith, sound.few, known, symbol, e)))) refl in
     let there = left_pieces n.arities (agent_of x vs) i a (state ts [] ps) before (taken_there ps qs (agent_of x vs) taken) in
-    more_circle n a.pieces i k terms a ts us (g ∷ longer.more) x ps rs first (left_whole n terms k i a (state ts [] ps) before empty is)
+    more_circle n a.pieces i k terms a ts us (g ∷ longer.more) x (agent_of x vs) ps qs rs first (left_whole n terms k i a (state ts [] ps) before empty is)
     (left_whole n terms k (i + 1) a (state us [] rs) (alone i a ts us x vs ps qs rs before of taken steps) empty is)
     (longer.tokens ∙ append_assoc ts (Name x ∷ g ∷ []) longer.more) number (inr ((λ e. absurd (omega (arith, symbol, e))), (vs, there)))
+    sound taken (λ w e. let h : holds w (agent_of x vs) ≡ 1 = rw e refl in h) (λ f. steps_fewer n.arities f m (state us [] rs) steps)
 
 -- ---- all together
 
 all_so : {X : Type 0} (P Q : X → Type 0) (xs : List X) → ((x : X) → P x → Q x) → AllByRecursion P xs → AllByRecursion Q xs
 all_so P Q [] f all = tt
 all_so P Q (x ∷ xs) f all = (f x all.0, all_so P Q xs f all.1)
+
+abbrev AreCircles : Numbers → List Tree → List Pair → List Pair → Type 0
+AreCircles n interface before circles = AllByRecursion (IsCircle n (names_in interface before) circles) circles
 
 read_between : (n : Numbers) (is : List Word) (es fs : List Equation) (ps : List Piece) (ts : List Token) (j : ℕ) (r : WasRead n.arities is es fs ps ts j)
     → IsRow n (length is) (length es + length fs) (state r.tokens [] r.between)
@@ -217,7 +255,7 @@ read_circles n is es fs ps ts j sound r are given =
     let e : State = state ts [] r.end in
     let kept = first_kept n is es fs ps are given in
     let row_m : IsRow n terms K m = read_between n is es fs ps ts j r in
-    let c : Circles n r.between j m e = left_circles n terms K j m e sound.few r.left refl row_m in
+    let c : Circles n r.between j m e = left_circles n terms K j m e sound r.left refl row_m in
     let R : List Tree = row n m in
     let P : List Pair = pairs_of (drop terms R) in
     let Q : List Pair = pairs_of c.terms in
@@ -240,14 +278,19 @@ read_circles n is es fs ps ts j sound r are given =
     let f = occurrences-append x (flat_map names (take terms R)) (flat_map names (drop terms R)) in
     let g = ap (occurrences x) (over-names (flat_words n r.tokens) [] ∙ append-nil (flat_map word_names (flat_words n r.tokens))) in
     omega arith) in
-    let circles : AllByRecursion (IsCircle n (names_in I P)) Q =
-    all_so (λ p. (w : Word) × ((p.left ≡ name (n.of_place w)) × IsLeft w r.between)) (IsCircle n (names_in I P)) Q
-    (λ p found. record { place = found.0; left = found.1.0; apart = none_before found.0 found.1.1 }) c.all in
-    let split : AllByRecursion (IsCircle n (names_in I (take K (P ++ Q)))) (drop K (P ++ Q)) =
-    transport (λ l. AllByRecursion (IsCircle n (names_in I l)) (drop K (P ++ Q))) (sym (take_at P Q K many))
-    (transport (λ l. AllByRecursion (IsCircle n (names_in I P)) l) (sym (drop_at P Q K many)) circles) in
-    transport (λ l. AllByRecursion (IsCircle n (names_in l (take K (pairs_of (drop terms (forest (flat_words n ts))))))) (drop K (pairs_of (drop terms (forest (flat_words n ts)))))) (sym interface_is)
-    (transport (λ l. AllByRecursion (IsCircle n (names_in I (take K l))) (drop K l)) (sym equations_is) split)
+    let few : (w : Word) → occurrences (n.of_place w) (flat_map (λ p. names p.left) Q) ≤ 1 =
+    (λ w.
+    let here = c.each w in
+    let less = steps_fewer n.arities (holds w) s m r.steps in
+    let one = once_places es fs ps are.once w in
+    omega (arith, here, less, one)) in
+    let circles : AllByRecursion (IsCircle n (names_in I P) Q) Q =
+    all_so (λ p. (w : Word) × ((p.left ≡ name (n.of_place w)) × IsLeft w r.between)) (IsCircle n (names_in I P) Q) Q
+    (λ p found. record { place = found.0; left = found.1.0; apart = none_before found.0 found.1.1; once = few found.0 }) c.all in
+    let split : AreCircles n I (take K (P ++ Q)) (drop K (P ++ Q)) =
+    transport (λ l. AreCircles n I l (drop K (P ++ Q))) (sym (take_at P Q K many)) (transport (λ l. AreCircles n I P l) (sym (drop_at P Q K many)) circles) in
+    transport (λ l. AreCircles n l (take K (pairs_of (drop terms (forest (flat_words n ts))))) (drop K (pairs_of (drop terms (forest (flat_words n ts)))))) (sym interface_is)
+    (transport (λ l. AreCircles n I (take K l) (drop K l)) (sym equations_is) split)
 
 pub result_circles : (m : Net) (new : Reader) → ReadsNet m.arities m new → (n : Numbers) → n.arities ≡ m.arities → AreNumbers n → AreNetPieces n.arities m.interface (pieces m)
     → AreGiven n.given m.interface (pieces m) → AreCirclesAfter n (length m.pending + length m.aside) (configuration_read n new.tokens.items (length m.interface))

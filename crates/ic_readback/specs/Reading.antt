@@ -1,7 +1,7 @@
 -- What the tokens of a net that was read back say.
 use Rattle.std.specs.Prelude.{◌≡◌, ℕ, ◌+◌, ◌<◌, ◌≤◌, ◌==◌, List, [], ◌∷◌, length, map, sum_by, slice_index_or, take, drop, if◌then◌else◌, Some, slice_get}
 use Rattle.std.specs.List.{flat_map, AllByRecursion}
-use Rattle.ic_term.specs.Tree.{Tree, name, agent, Pair}
+use Rattle.ic_term.specs.Tree.{Tree, name, agent, names, Pair}
 use Rattle.ic_term.specs.Configuration.{Configuration, configured, names_in, occurrences}
 use Rattle.ic_arena.specs.declared.word.Word.{Word}
 use Rattle.ic_arena.specs.declared.word.TheConstants.{NAME, GIVEN}
@@ -53,13 +53,16 @@ BeginAs n [] ts = Unit {0}
 BeginAs n (w ∷ ws) [] = ⊥
 BeginAs n (w ∷ ws) (t ∷ ts) = (¬ (w.tag ≡ NAME) → HeadIs n w t) × BeginAs n ws ts
 
--- An equation of the name of a place with a term, where this name is none of those before.
-pub record IsCircle (n : Numbers) (before : List ℕ) (p : Pair) : Type 0 where
+-- An equation of the name of a place with a term. This name is none of those before, and one circle at most has it on its
+-- left.
+pub record IsCircle (n : Numbers) (before : List ℕ) (circles : List Pair) (p : Pair) : Type 0 where
   pub place : Word
   pub left : p.left ≡ name (n.of_place place)
   pub apart : occurrences (n.of_place place) before ≡ 0
+  pub once : occurrences (n.of_place place) (flat_map (λ e. names e.left) circles) ≤ 1
 
--- all equations after so many are circles, whose names occur neither in the interface nor in the equations before them
+-- All equations after so many are circles. Their names are different, and occur neither in the interface nor in the
+-- equations before them.
 abbrev pub AreCirclesAfter : Numbers → ℕ → Configuration → Type 0
-AreCirclesAfter n k c =
-    AllByRecursion (IsCircle n (names_in c.interface (take k c.equations))) (drop k c.equations)
+AreCirclesAfter n k c = let circles = drop k c.equations in
+    AllByRecursion (IsCircle n (names_in c.interface (take k c.equations)) circles) circles
