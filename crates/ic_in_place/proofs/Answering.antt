@@ -33,7 +33,7 @@ use Rattle.ic_in_place.specs.declared.running.End.{End}
 use Rattle.ic_in_place.specs.declared.running.End.TheVariants.{Quiet, Steps, Nodes, Limit}
 use Rattle.ic_in_place.specs.declared.running.End.TheVariants as end
 use Rattle.ic_in_place.specs.Reducing.{CanInteract, IsPutTogether, EndsBy, IsReached, Writes}
-use Rattle.ic_in_place.specs.Holding.{AreGiven}
+use Rattle.ic_in_place.specs.Holding.{AreGiven, IsHeldAt}
 use Rattle.ic_in_place.specs.inner.Numbering.{written_numbers, HasNumber, IsNumbered}
 use Rattle.ic_in_place.specs.inner.Stopping.{arities_of, StopsBy, HasStopped}
 use Rattle.ic_in_place.proofs.Naming.{Rewrites, rewrites, names_of}
@@ -80,6 +80,19 @@ numbered_names given [] all = tt
 numbered_names given (Name w ∷ ts) all = (all.0, numbered_names given ts all.1)
 numbered_names given (Agent s ∷ ts) all = numbered_names given ts all.1
 
+-- a machine that has stopped holds one net with what was read back
+held_at : (s : SystemParts) (bounds : Bounds) (given : List ℕ) (m : Net) (end : End) (places : ℕ) (answer : Configuration) (stopped : HasStopped s bounds given m end places)
+    → OneNet (net_of stopped.held.numbers m.interface (pieces m)) answer → IsHeldAt s.rules s.config answer stopped.fired places
+held_at s bounds given m end places answer stopped net = record {
+  machine = m;
+  plans = stopped.plans;
+  given = given;
+  held = stopped.held;
+  one_net = net;
+  all = stopped.all;
+  enough = stopped.enough;
+}
+
 -- What was read back is what was reached, and its words are written.
 pub answered_so : AnswerLaws → (s : SystemParts) (bounds : Bounds) (given : List ℕ) (m : Net) (end : End) (places : ℕ) (stopped : HasStopped s bounds given m end places)
     (ts : List Token) (terms equations : ℕ) (words : List FlatWord)
@@ -121,6 +134,7 @@ answered_so laws s bounds given m end places stopped ts terms equations words ne
         reached = reached;
         counted = stopped.counted;
         within = stopped.within;
+        held = held_at s bounds given m end places answer stopped net;
         ended = ends_alike laws s bounds stopped.plans here answer m places end net next (λ none stuck. together none stuck net.names_too are) stopped.ended;
       }),
       transport (λ (l : List FlatWord). Writes rs.symbols l terms equations answer) (sym words_are) (writes_so rs.symbols ws terms equations answer whole counted refl refl over),
@@ -135,25 +149,25 @@ pub record IsUnread (s : SystemParts) (bounds : Bounds) (partial : Bool) (end : 
   pub prints : [] ≡ line_reached partial end s.rules.symbols answer
   pub stuck : None ≡ stuck_at end s.rules.symbols answer
 
-pub unread_so : (s : SystemParts) (bounds : Bounds) (given : List ℕ) (m : Net) (end : End) (places : ℕ) (partial : Bool) → HasStopped s bounds given m end places
+pub unread_so : ((c : Configuration) → HasNames c → OneNet c c) → (s : SystemParts) (bounds : Bounds) (given : List ℕ) (m : Net) (end : End) (places : ℕ) (partial : Bool) → HasStopped s bounds given m end places
     → is_written partial end ≡ false → IsUnread s bounds partial end m.interactions places
-unread_so s bounds given m Quiet places partial stopped none = absurd (false≢true (sym none))
-unread_so s bounds given m Steps places partial stopped none = absurd (false≢true (sym none))
-unread_so s bounds given m Nodes places partial stopped none = record {
+unread_so itself s bounds given m Quiet places partial stopped none = absurd (false≢true (sym none))
+unread_so itself s bounds given m Steps places partial stopped none = absurd (false≢true (sym none))
+unread_so itself s bounds given m Nodes places partial stopped none = record {
   answer = net_of stopped.held.numbers m.interface (pieces m);
-  reached = record { fired = stopped.fired; reached = stopped.held.reached; counted = stopped.counted; within = stopped.within; ended = stopped.ended };
+  reached = record { fired = stopped.fired; reached = stopped.held.reached; counted = stopped.counted; within = stopped.within; held = held_at s bounds given m Nodes places _ stopped (itself _ stopped.held.has_names); ended = stopped.ended };
   prints = sym (ap (λ b. cond b (line_of s.rules.symbols (renumbered (net_of stopped.held.numbers m.interface (pieces m)))) []) none);
   stuck = refl;
 }
-unread_so s bounds given m Limit places partial stopped none = record {
+unread_so itself s bounds given m Limit places partial stopped none = record {
   answer = net_of stopped.held.numbers m.interface (pieces m);
-  reached = record { fired = stopped.fired; reached = stopped.held.reached; counted = stopped.counted; within = stopped.within; ended = stopped.ended };
+  reached = record { fired = stopped.fired; reached = stopped.held.reached; counted = stopped.counted; within = stopped.within; held = held_at s bounds given m Limit places _ stopped (itself _ stopped.held.has_names); ended = stopped.ended };
   prints = sym (ap (λ b. cond b (line_of s.rules.symbols (renumbered (net_of stopped.held.numbers m.interface (pieces m)))) []) none);
   stuck = refl;
 }
-unread_so s bounds given m end.Memory places partial stopped none = record {
+unread_so itself s bounds given m end.Memory places partial stopped none = record {
   answer = net_of stopped.held.numbers m.interface (pieces m);
-  reached = record { fired = stopped.fired; reached = stopped.held.reached; counted = stopped.counted; within = stopped.within; ended = stopped.ended };
+  reached = record { fired = stopped.fired; reached = stopped.held.reached; counted = stopped.counted; within = stopped.within; held = held_at s bounds given m end.Memory places _ stopped (itself _ stopped.held.has_names); ended = stopped.ended };
   prints = sym (ap (λ b. cond b (line_of s.rules.symbols (renumbered (net_of stopped.held.numbers m.interface (pieces m)))) []) none);
   stuck = refl;
 }

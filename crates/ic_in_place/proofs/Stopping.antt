@@ -1,7 +1,7 @@
 -- Lemmas: where a machine stops.
 use Rattle.std.proofs.Common.{◌≡◌, ℕ, zero, suc, ◌<◌, ◌≤◌, ◌^◌, List, [], ◌∷◌, ◌++◌, Some, length, map, slice_get, slice_index_or, refl, sym, ap, ◌∙◌, arith, subst as transport}
 use Rattle.std.specs.List.{AllByRecursion}
-use Rattle.std.specs.Prelude.{◌↔◌, Contains, IsTrue}
+use Rattle.std.specs.Prelude.{◌↔◌, ◌+◌, Contains, IsTrue, sum}
 use Rattle.std.proofs.lemmas.List.{length-map}
 use Rattle.ic_term.specs.Configuration.{Configuration, IsConfiguration, configuration_names, occurrences}
 use Rattle.ic_term.specs.Symbol.{is_over}
@@ -69,8 +69,8 @@ pub stopped_so : StopLaws → (s : SystemParts) (bounds : Bounds) (numbers : Lis
     → IsStart (arities_of s) (length given) plan operands → StandsForNet (arities_of s) given s.config plan operands
     → ((x : ℕ) → (occurrences x (configuration_names s.config) ≡ 1) ↔ Contains given x)
     → IsBegun p (length given) plan operands old → Ran p old m → RunsOn p bounds.steps end old m → AllByRecursion IsAtPlace m.places
-    → (end ≡ Nodes → bounds.nodes < places) → HasStopped s bounds given m end places
-stopped_so laws s bounds numbers p given plan operands old m end places sound arities plans of_rules start stands are begun ran runs at_places nodes =
+    → (end ≡ Nodes → bounds.nodes < places) → places ≡ m.names + sum m.agents → length m.places ≤ places → HasStopped s bounds given m end places
+stopped_so laws s bounds numbers p given plan operands old m end places sound arities plans of_rules start stands are begun ran runs at_places nodes all enough =
     let count : length (arities_of s) ≡ length s.rules.symbols = length-map s.rules.symbols (λ x. x.arity) in
     let compiled : AreCompiled s.rules numbers p s.config given plan operands = record {
       plans = plans;
@@ -102,6 +102,8 @@ stopped_so laws s bounds numbers p given plan operands old m end places sound ar
       held = held;
       counted = omega (arith, ran.counted, begun.none, many);
       within = omega (arith, runs.within, begun.none);
+      all = all;
+      enough = enough;
       ended = by_end s bounds p old m (net_of held.numbers m.interface (pieces m)) places end begun.none runs
           (λ is. laws.ends s.rules numbers p s.config given (map (rule_number numbers) ran.fired) plan operands m sound.rules compiled run
           (record { pending = runs.quiet is; places = at_places }) held)

@@ -1,9 +1,10 @@
 -- What a machine holds that began with a configuration.
-use Rattle.std.specs.Prelude.{◌≡◌, ◌↔◌, ℕ, ◌<◌, List, [], Some, length, slice_get}
+use Rattle.std.specs.Prelude.{◌≡◌, ◌↔◌, ℕ, ◌+◌, ◌<◌, ◌≤◌, List, [], Some, length, slice_get, sum}
 use Rattle.std.specs.List.{AllByRecursion}
 use Rattle.ic_term.specs.Configuration.{Configuration, configuration_names, occurrences}
 use Rattle.ic_rules.specs.RuleSet.{Rules}
 use Rattle.ic_round.specs.Naming.{HasNames}
+use Rattle.ic_reaching.specs.OneNet.{OneNet}
 use Rattle.ic_reaching.specs.Reaching.{Reaches}
 use Rattle.ic_arena.specs.declared.word.TheConstants.{GIVEN}
 use Rattle.ic_machine.specs.Net.{Net, pieces, IsAtPlace}
@@ -48,6 +49,17 @@ pub record Holds (rs : Rules) (p : Plans) (c : Configuration) (given fired : Lis
   pub has_names : HasNames (net_of numbers m.interface (pieces m))
   pub reached : Reaches rs.rules c (net_of numbers m.interface (pieces m)) fired
   pub free : AreGiven given (net_of numbers m.interface (pieces m))
+
+-- A machine that has so many places, of names and for agents, the free ones too, holds one net with an answer. What its
+-- places hold are no more pieces than there are places.
+pub record IsHeldAt (rs : Rules) (c answer : Configuration) (fired : List ℕ) (places : ℕ) : Type 0 where
+  pub machine : Net
+  pub plans : Plans
+  pub given : List ℕ
+  pub held : Holds rs plans c given fired machine
+  pub one_net : OneNet (net_of held.numbers machine.interface (pieces machine)) answer
+  pub all : places ≡ machine.names + sum machine.agents
+  pub enough : length machine.places ≤ places
 
 -- No pair is left to be looked at, and places hold no equation.
 pub record HasEnded (m : Net) : Type 0 where

@@ -18,6 +18,7 @@ use Rattle.ic_text.specs.declared.limits.TheConstants.{MAX_NAME}
 use Rattle.ic_in_place.specs.declared.running.Bounds.{Bounds}
 use Rattle.ic_in_place.specs.declared.running.End.{End}
 use Rattle.ic_in_place.specs.declared.running.End.TheVariants.{Quiet, Steps, Nodes, Limit, Memory}
+use Rattle.ic_in_place.specs.Holding.{IsHeldAt}
 
 -- A configuration is one net with a quiet one.
 abbrev pub HasQuiet : List Rule → Configuration → Type 0
@@ -56,13 +57,14 @@ EndsBy rs bounds c interactions places Limit = Unit {0}
 EndsBy rs bounds c interactions places Memory = Unit {0}
 
 -- A configuration is reached from that of a system by so many interactions, at most as many as may be made, and this is
--- why no more were made.
+-- why no more were made. The machine that held it had so many places.
 pub record IsReached (s : SystemParts) (bounds : Bounds) (answer : Configuration) (end : End)
     (interactions places : ℕ) : Type 0 where
   pub fired : List ℕ
   pub reached : Reaches s.rules.rules s.config answer fired
   pub counted : interactions ≡ length fired
   pub within : interactions ≤ bounds.steps
+  pub held : IsHeldAt s.rules s.config answer fired places
   pub ended : EndsBy s.rules.rules bounds answer interactions places end
 
 -- Words write a configuration with its names numbered anew, so many of their terms in its interface, and so many equations.

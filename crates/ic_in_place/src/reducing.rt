@@ -66,11 +66,12 @@ pub(crate) fn read_stopped(
     system: &FlatSystem,
     stopped: Stopped,
 ) -> Result<Reduced, AllocError>
-    ensures { IfOk result (λ reduced. (bounds : AnyBounds)
+    ensures reached { IfOk result (λ reduced. (bounds : AnyBounds)
         → HasStopped system.now bounds stopped.given.items stopped.machine stopped.end stopped.places
         → (answer : Configuration)
         × IsReached system.now bounds answer reduced.end reduced.interactions reduced.places
         × Writes system.now.rules.symbols reduced.words.items reduced.terms reduced.equations answer) }
+    ensures places { IfOk result (λ reduced. reduced.places ≡ stopped.places) }
 {
     ic_reaching::laws::one_net_is_an_equivalence();
     ic_reaching::laws::what_is_reached_is_one_net();

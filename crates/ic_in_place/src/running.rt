@@ -1,6 +1,6 @@
 //! How a reduction runs, in pieces, and why it ends.
 
-ghost use Rattle.std.specs.Prelude.{◌≡◌, ◌≢◌, ◌+◌, ◌<◌, ◌^◌, IfSome, IfNone};
+ghost use Rattle.std.specs.Prelude.{◌≡◌, ◌≢◌, ◌+◌, ◌<◌, ◌≤◌, ◌^◌, length, sum, IfSome, IfNone};
 ghost use Rattle.std.specs.List.{AllByRecursion};
 ghost use Rattle.ic_machine.specs.Net.{IsAtPlace};
 ghost use Rattle.ic_machine.specs.Runs.{Ran};
@@ -53,6 +53,8 @@ pub(crate) fn run_in_pieces<V: Watch>(
     ensures ends { RunsOn program.now bounds.steps result.0 machine.old machine.new }
     ensures places { AllByRecursion IsAtPlace machine.new.places }
     ensures nodes { result.0 ≡ End.Nodes → bounds.nodes < result.1 }
+    ensures count { result.1 ≡ machine.new.names + sum machine.new.agents }
+    ensures enough { length machine.new.places ≤ result.1 }
 {
     let mut left = bounds.steps;
     'pieces: loop {

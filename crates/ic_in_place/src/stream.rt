@@ -88,6 +88,7 @@ fn reached_line<V: Watch>(
     ensures sort { IfErr result
         (λ fault. (fault ≢ StreamFault.Write) × (fault ≢ StreamFault.Read)) }
 {
+    ic_reaching::laws::one_net_is_an_equivalence();
     let system = match find_flat_system(alloc, text) {
         Ok(found) => found,
         Err(misread) => return Err(refused(alloc, Kind::System, text, misread, told)),

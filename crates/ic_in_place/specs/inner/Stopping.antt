@@ -1,5 +1,5 @@
 -- For private functions: a machine that begins with the configuration of a system, and where it stops.
-use Rattle.std.specs.Prelude.{◌≡◌, ℕ, ◌^◌, ◌<◌, ◌≤◌, List, [], IsTrue, length, map}
+use Rattle.std.specs.Prelude.{◌≡◌, ℕ, ◌+◌, ◌^◌, ◌<◌, ◌≤◌, List, [], IsTrue, length, map, sum}
 use Rattle.std.specs.List.{AllByRecursion}
 use Rattle.ic_term.specs.Configuration.{Configuration, configuration_nodes}
 use Rattle.ic_term.specs.Symbol.{is_over}
@@ -64,4 +64,6 @@ pub record HasStopped (s : SystemParts) (bounds : Bounds) (given : List ℕ) (m 
   pub held : Holds s.rules plans s.config given fired m
   pub counted : m.interactions ≡ length fired
   pub within : m.interactions ≤ bounds.steps
+  pub all : places ≡ m.names + sum m.agents
+  pub enough : length m.places ≤ places
   pub ended : StopsBy s bounds plans (net_of held.numbers m.interface (pieces m)) m places end

@@ -18,8 +18,8 @@ use Rattle.ic_in_place.proofs.InRange.{in_range}
 use Rattle.ic_in_place.proofs.Together.{put_together}
 use Rattle.ic_in_place.proofs.reducing.read_stopped.Goals as goal
 
-pub returns : goal.returns
-returns c = λ bounds stopped.
+pub returns-clause-reached : goal.returns-clause-reached
+returns-clause-reached c = λ bounds stopped.
     let s = c.args.system.now in
     let m = c.args.stopped.machine in
     let end = c.args.stopped.end in

@@ -16,12 +16,12 @@ refused-requires g c = placed-within IsSystemPhrase system_words written_system 
 pub line_reached-requires-clause-over : goal.line_reached-requires-clause-over
 line_reached-requires-clause-over g c =
     let same = c.symbols-symbols.ensures.symbols ∙ ap (λ (r : Rules). r.symbols) (c.deref.ensures ∙ c.rules.ensures.rules) in
-    subst (λ ss. IsTrue (list_all (is_word_over ss) c.in_ok-reduced.reduced.words.items)) (sym same) (c.in_ok-reduced.ensures c.args.bounds c.in_ok-stopped.ensures).2.over
+    subst (λ ss. IsTrue (list_all (is_word_over ss) c.in_ok-reduced.reduced.words.items)) (sym same) (c.in_ok-reduced.ensures.reached c.args.bounds c.in_ok-stopped.ensures).2.over
 
 pub stuck_at_end-requires-clause-over : goal.stuck_at_end-requires-clause-over
 stuck_at_end-requires-clause-over g c =
     let same = c.symbols-symbols.ensures.symbols ∙ ap (λ (r : Rules). r.symbols) (c.deref.ensures ∙ c.rules.ensures.rules) in
-    subst (λ ss. IsTrue (list_all (is_word_over ss) c.in_ok-reduced.reduced.words.items)) (sym same) (c.in_ok-reduced.ensures c.args.bounds c.in_ok-stopped.ensures).2.over
+    subst (λ ss. IsTrue (list_all (is_word_over ss) c.in_ok-reduced.reduced.words.items)) (sym same) (c.in_ok-reduced.ensures.reached c.args.bounds c.in_ok-stopped.ensures).2.over
 
 pub returns-clause-line : goal.returns-clause-line
 returns-clause-line g c =
@@ -29,13 +29,13 @@ returns-clause-line g c =
     let reduced = c.in_ok-reduced.reduced in
     let ss = c.symbols-symbols.result.now in
     let other = c.in-Ok.found.rules.symbols in
-    let answer = (c.in_ok-reduced.ensures c.args.bounds c.in_ok-stopped.ensures).0 in
-    let written = (c.in_ok-reduced.ensures c.args.bounds c.in_ok-stopped.ensures).2.written in
+    let answer = (c.in_ok-reduced.ensures.reached c.args.bounds c.in_ok-stopped.ensures).0 in
+    let written = (c.in_ok-reduced.ensures.reached c.args.bounds c.in_ok-stopped.ensures).2.written in
     record {
       system = c.in-Ok.found;
       answer = answer;
       reads = c.in-Ok.ensures.read;
-      reached = (c.in_ok-reduced.ensures c.args.bounds c.in_ok-stopped.ensures).1;
+      reached = (c.in_ok-reduced.ensures.reached c.args.bounds c.in_ok-stopped.ensures).1;
       prints = line_so c.args.partial reduced.end ss other reduced.words.items reduced.terms answer _ c.in_ok-line.ensures same written;
       stuck = stuck_so reduced.end ss other reduced.words.items reduced.terms answer _ c.in_ok-stuck.ensures same written;
     }
@@ -45,7 +45,7 @@ returns-then-not-is_written-clause-line g c =
     let s = c.in-Ok.found in
     let stopped = c.in_ok-stopped.stopped in
     let unwritten : c.is_written.result ≡ false = cc c.if-not-is_written.true in
-    let unread = unread_so s c.args.bounds stopped.given.items stopped.machine stopped.end stopped.places c.args.partial c.in_ok-stopped.ensures (sym c.is_written.ensures ∙ unwritten) in
+    let unread = unread_so c.one_net_is_an_equivalence.ensures.itself s c.args.bounds stopped.given.items stopped.machine stopped.end stopped.places c.args.partial c.in_ok-stopped.ensures (sym c.is_written.ensures ∙ unwritten) in
     record {
       system = s;
       answer = unread.answer;
