@@ -82,7 +82,7 @@ numbered_names given (Agent s ∷ ts) all = numbered_names given ts all.1
 
 -- a machine that has stopped holds one net with what was read back
 held_at : (s : SystemParts) (bounds : Bounds) (given : List ℕ) (m : Net) (end : End) (places : ℕ) (answer : Configuration) (stopped : HasStopped s bounds given m end places)
-    → OneNet (net_of stopped.held.numbers m.interface (pieces m)) answer → IsHeldAt s.rules s.config answer stopped.fired places
+    → OneNet (net_of stopped.held.numbers m.interface (pieces m)) answer → IsHeldAt s.rules s.config answer stopped.fired places bounds.nodes
 held_at s bounds given m end places answer stopped net = record {
   machine = m;
   plans = stopped.plans;
@@ -91,6 +91,10 @@ held_at s bounds given m end places answer stopped net = record {
   one_net = net;
   all = stopped.all;
   enough = stopped.enough;
+  first = stopped.first;
+  begun = stopped.begun;
+  none = stopped.none;
+  watched = stopped.watched;
 }
 
 -- What was read back is what was reached, and its words are written.

@@ -1,5 +1,5 @@
 -- Lemmas: runs one after another.
-use Rattle.std.proofs.Common.{List, [], ◌∷◌, ◌++◌, refl, sym, ap, ◌∙◌, arith, append_assoc, append-nil}
+use Rattle.std.proofs.Common.{◌≡◌, List, [], ◌∷◌, ◌++◌, refl, sym, ap, ◌∙◌, arith, append_assoc, append-nil}
 use Rattle.std.proofs.lemmas.List.{length-append}
 use Rattle.std.proofs.lemmas.List.Sorted.{IsPermutation-refl}
 use Rattle.std.specs.List.{AllByRecursion}
@@ -40,3 +40,7 @@ ran_nothing p a = record {
   aside = sym (append-nil a.aside);
   stuck = tt;
 }
+
+pub ran_nothing-fired : (p : Plans) (a : Net) → (ran_nothing p a).fired ≡ []
+unfolding ran_nothing
+ran_nothing-fired p a = refl

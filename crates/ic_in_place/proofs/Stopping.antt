@@ -20,7 +20,8 @@ use Rattle.ic_in_place.specs.declared.running.End.{End}
 use Rattle.ic_in_place.specs.declared.running.End.TheVariants.{Quiet, Steps, Nodes, Limit, Memory}
 use Rattle.ic_in_place.specs.Holding.{AreGiven, AreCompiled, HasRun, Holds, HasEnded}
 use Rattle.ic_in_place.specs.Reducing.{HasQuiet}
-use Rattle.ic_in_place.specs.Running.{RunsOn}
+use Rattle.ic_in_place.specs.Running.{RunsOn, IsWatched}
+use Rattle.ic_in_place.proofs.Onward.{ran_nothing, ran_nothing-fired}
 use Rattle.ic_in_place.specs.inner.Stopping.{arities_of, IsSound, IsBegun, StopsBy, HasStopped}
 
 pub names_of_configuration : (c : Configuration) → IsConfiguration c → HasNames c
@@ -69,8 +70,8 @@ pub stopped_so : StopLaws → (s : SystemParts) (bounds : Bounds) (numbers : Lis
     → IsStart (arities_of s) (length given) plan operands → StandsForNet (arities_of s) given s.config plan operands
     → ((x : ℕ) → (occurrences x (configuration_names s.config) ≡ 1) ↔ Contains given x)
     → IsBegun p (length given) plan operands old → Ran p old m → RunsOn p bounds.steps end old m → AllByRecursion IsAtPlace m.places
-    → (end ≡ Nodes → bounds.nodes < places) → places ≡ m.names + sum m.agents → length m.places ≤ places → HasStopped s bounds given m end places
-stopped_so laws s bounds numbers p given plan operands old m end places sound arities plans of_rules start stands are begun ran runs at_places nodes all enough =
+    → (end ≡ Nodes → bounds.nodes < places) → places ≡ m.names + sum m.agents → length m.places ≤ places → IsWatched p bounds.nodes old m → HasStopped s bounds given m end places
+stopped_so laws s bounds numbers p given plan operands old m end places sound arities plans of_rules start stands are begun ran runs at_places nodes all enough watched =
     let count : length (arities_of s) ≡ length s.rules.symbols = length-map s.rules.symbols (λ x. x.arity) in
     let compiled : AreCompiled s.rules numbers p s.config given plan operands = record {
       plans = plans;
@@ -104,6 +105,12 @@ stopped_so laws s bounds numbers p given plan operands old m end places sound ar
       within = omega (arith, runs.within, begun.none);
       all = all;
       enough = enough;
+      first = old;
+      begun = transport (λ (f : List ℕ). Holds s.rules p s.config given f old) (ap (map (rule_number numbers)) (ran_nothing-fired p old))
+          (laws.reached s.rules numbers p s.config given plan operands old sound.rules sound.over sound.names compiled
+          (record { first = old; starts = begun.starts; separate = begun.separate; aside = begun.aside; ran = ran_nothing p old }));
+      none = begun.none;
+      watched = watched;
       ended = by_end s bounds p old m (net_of held.numbers m.interface (pieces m)) places end begun.none runs
           (λ is. laws.ends s.rules numbers p s.config given (map (rule_number numbers) ran.fired) plan operands m sound.rules compiled run
           (record { pending = runs.quiet is; places = at_places }) held)

@@ -14,6 +14,7 @@ use Rattle.ic_machine.specs.Separate.{IsSeparate}
 use Rattle.ic_meaning.specs.Words.{Numbers, AreNumbers}
 use Rattle.ic_meaning.specs.Nets.{net_of, AreNetPieces}
 use Rattle.ic_meaning.specs.Plans.{ArePlansOf, StandsForNet}
+use Rattle.ic_in_place.specs.Running.{IsWatched}
 
 -- these are the names that occur once
 abbrev pub AreGiven : List ℕ → Configuration → Type 0
@@ -50,16 +51,20 @@ pub record Holds (rs : Rules) (p : Plans) (c : Configuration) (given fired : Lis
   pub reached : Reaches rs.rules c (net_of numbers m.interface (pieces m)) fired
   pub free : AreGiven given (net_of numbers m.interface (pieces m))
 
--- A machine that has so many places, of names and for agents, the free ones too, holds one net with an answer. What its
--- places hold are no more pieces than there are places.
-pub record IsHeldAt (rs : Rules) (c answer : Configuration) (fired : List ℕ) (places : ℕ) : Type 0 where
+-- A machine that has so many places, of names and for agents, the free ones too, holds one net with an answer. No more
+-- pieces are at them than there are places. It began with the configuration, and its places were watched on the way.
+pub record IsHeldAt (rs : Rules) (c answer : Configuration) (fired : List ℕ) (places nodes : ℕ) : Type 0 where
   pub machine : Net
+  pub first : Net
   pub plans : Plans
   pub given : List ℕ
   pub held : Holds rs plans c given fired machine
   pub one_net : OneNet (net_of held.numbers machine.interface (pieces machine)) answer
   pub all : places ≡ machine.names + sum machine.agents
   pub enough : length machine.places ≤ places
+  pub begun : Holds rs plans c given [] first
+  pub none : first.interactions ≡ 0
+  pub watched : IsWatched plans nodes first machine
 
 -- No pair is left to be looked at, and places hold no equation.
 pub record HasEnded (m : Net) : Type 0 where

@@ -64,7 +64,7 @@ pub record IsReached (s : SystemParts) (bounds : Bounds) (answer : Configuration
   pub reached : Reaches s.rules.rules s.config answer fired
   pub counted : interactions ≡ length fired
   pub within : interactions ≤ bounds.steps
-  pub held : IsHeldAt s.rules s.config answer fired places
+  pub held : IsHeldAt s.rules s.config answer fired places bounds.nodes
   pub ended : EndsBy s.rules.rules bounds answer interactions places end
 
 -- Words write a configuration with its names numbered anew, so many of their terms in its interface, and so many equations.

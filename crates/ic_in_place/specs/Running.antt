@@ -1,7 +1,9 @@
 -- How a run of a machine ended.
-use Rattle.std.specs.Prelude.{◌≡◌, ℕ, ◌+◌, ◌≤◌, []}
+use Rattle.std.specs.Prelude.{◌≡◌, ℕ, ◌+◌, ◌≤◌, ◌⊎◌, [], length, sum}
 use Rattle.ic_machine.specs.Net.{Net, HasNext}
 use Rattle.ic_machine.specs.Plan.{Plans}
+use Rattle.ic_machine.specs.Runs.{Ran}
+use Rattle.ic_in_place.specs.declared.running.TheConstants.{PIECE}
 use Rattle.ic_in_place.specs.declared.running.End.{End}
 use Rattle.ic_in_place.specs.declared.running.End.TheVariants.{Quiet, Steps}
 
@@ -12,3 +14,17 @@ pub record RunsOn (p : Plans) (steps : ℕ) (end : End) (old new : Net) : Type 0
   pub quiet : end ≡ Quiet → new.pending ≡ []
   pub all : end ≡ Steps → new.interactions ≡ old.interactions + steps
   pub more : end ≡ Steps → HasNext p new.pending
+
+-- There are at most so many places, and no more pieces at them.
+pub record IsWithin (nodes : ℕ) (m : Net) : Type 0 where
+  pub places : m.names + sum m.agents ≤ nodes
+  pub pieces : length m.places ≤ nodes
+
+-- The places were looked at on the way: no more than a piece of a run was made after its beginning, or after a moment at
+-- which there were at most so many places.
+pub record IsWatched (p : Plans) (nodes : ℕ) (old new : Net) : Type 0 where
+  pub mark : Net
+  pub before : Ran p old mark
+  pub after : Ran p mark new
+  pub few : (mark ≡ old) ⊎ IsWithin nodes mark
+  pub near : new.interactions ≤ mark.interactions + PIECE

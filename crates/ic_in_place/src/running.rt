@@ -4,7 +4,7 @@ ghost use Rattle.std.specs.Prelude.{◌≡◌, ◌≢◌, ◌+◌, ◌<◌, ◌�
 ghost use Rattle.std.specs.List.{AllByRecursion};
 ghost use Rattle.ic_machine.specs.Net.{IsAtPlace};
 ghost use Rattle.ic_machine.specs.Runs.{Ran};
-ghost use Rattle.ic_in_place.specs.Running.{RunsOn};
+ghost use Rattle.ic_in_place.specs.Running.{RunsOn, IsWatched};
 
 use ic_machine::{Ended, Machine, MachineFault, Program};
 
@@ -54,6 +54,7 @@ pub(crate) fn run_in_pieces<V: Watch>(
     ensures places { AllByRecursion IsAtPlace machine.new.places }
     ensures nodes { result.0 ≡ End.Nodes → bounds.nodes < result.1 }
     ensures count { result.1 ≡ machine.new.names + sum machine.new.agents }
+    ensures watched { IsWatched program.now bounds.nodes machine.old machine.new }
     ensures enough { length machine.new.places ≤ result.1 }
 {
     let mut left = bounds.steps;
@@ -82,6 +83,7 @@ fn run_piece(machine: &mut Machine, program: &Program, steps: u64) -> Option<End
     ensures ran { Ran program.now machine.old machine.new }
     ensures places { AllByRecursion IsAtPlace machine.new.places }
     ensures ended { IfSome result (λ end. RunsOn program.now steps end machine.old machine.new) }
+    ensures within { machine.new.interactions ≤ machine.old.interactions + steps }
     ensures before { IfSome result (λ end. (end ≢ End.Steps) × (end ≢ End.Nodes)) }
     ensures none { IfNone result (RunsOn program.now steps End.Steps machine.old machine.new) }
 {

@@ -19,6 +19,7 @@ use Rattle.ic_in_place.specs.declared.running.End.{End}
 use Rattle.ic_in_place.specs.Holding.{Holds}
 use Rattle.ic_in_place.specs.declared.running.End.TheVariants.{Quiet, Steps, Nodes, Limit, Memory}
 use Rattle.ic_in_place.specs.Reducing.{HasQuiet}
+use Rattle.ic_in_place.specs.Running.{IsWatched}
 
 -- how many arguments each symbol has
 abbrev pub arities_of : SystemParts → List ℕ
@@ -66,4 +67,8 @@ pub record HasStopped (s : SystemParts) (bounds : Bounds) (given : List ℕ) (m 
   pub within : m.interactions ≤ bounds.steps
   pub all : places ≡ m.names + sum m.agents
   pub enough : length m.places ≤ places
+  pub first : Net
+  pub begun : Holds s.rules plans s.config given [] first
+  pub none : first.interactions ≡ 0
+  pub watched : IsWatched plans bounds.nodes first m
   pub ended : StopsBy s bounds plans (net_of held.numbers m.interface (pieces m)) m places end

@@ -21,4 +21,4 @@ returns g c =
     (c.in_ok-program.ensures.arities ∙ ap (λ (r : Rules). map (λ x. x.arity) r.symbols) rules) c.in_ok-program.ensures.sound
     (subst (λ (r : Rules). ArePlansOf r numbers p) rules c.in_ok-program.ensures.plans)
     c.in_ok-first.ensures.start c.in_ok-first.ensures.stands c.in_ok-first.ensures.given c.in_ok-machine.ensures run.ensures.ran run.ensures.ends run.ensures.places
-    run.ensures.nodes run.ensures.count run.ensures.enough
+    run.ensures.nodes run.ensures.count run.ensures.enough run.ensures.watched

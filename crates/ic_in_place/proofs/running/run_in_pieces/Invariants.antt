@@ -1,5 +1,6 @@
-use Rattle.std.proofs.Common.{◌≡◌, ◌+◌}
+use Rattle.std.proofs.Common.{◌≡◌, ◌+◌, ◌⊎◌}
 use Rattle.ic_machine.specs.Runs.{Ran}
+use Rattle.ic_in_place.specs.Running.{IsWithin}
 use Rattle.ic_in_place.proofs.running.run_in_pieces.Given as goal
 
 -- so many interactions are left
@@ -7,6 +8,7 @@ abbrev pub invariant-pieces : goal.invariant-pieces
 invariant-pieces g l = record {
   ran : Ran l.program l.initial.machine l.machine;
   counted : l.machine.interactions + l.left ≡ l.initial.machine.interactions + l.bounds.steps;
+  few : (l.machine ≡ l.initial.machine) ⊎ IsWithin l.bounds.nodes l.machine;
 }
 
 abbrev pub decreases-pieces : goal.decreases-pieces
