@@ -66,8 +66,10 @@ class Kills(Stops):
 
     def test_a_signal_to_end_in_the_midst_of_a_long_run_is_obeyed_at_once(self):
         for sign in (signal.SIGTERM, signal.SIGINT, signal.SIGHUP, signal.SIGKILL):
-            for wait in (0.02, 0.1, 0.005, 1, 5, 20):
-                disk = self.disk(f"{sign}.{wait}.disk")
+            # How long the server is let alone is halved and doubled until the signal comes in the midst.
+            early, late, wait = 0, None, 0.05
+            for number in range(16):
+                disk = self.disk(f"{sign}.{number}.disk")
                 lines = [f"submit loop {LOOP.text}", "run 10", "list"] + ["run 1000"] * 6
                 with Server(disk, "--every", "1", preexec_fn=heeds_signals) as server:
                     self.answers(server, lines[0], "accepted")
@@ -81,6 +83,8 @@ class Kills(Stops):
                 table = self.found(ran, disk, self.may_be_left(ran, lines, (), 1))
                 if 1010 < table[0].rounds < 6010:
                     break
+                early, late = (wait, late) if table[0].rounds <= 1010 else (early, wait)
+                wait = (early + late) / 2 if late else 2 * wait
             rounds = table[0].rounds
             self.equals(ran.command, f"whether the signal came in the midst, at {rounds} rounds", True, 1010 < rounds < 6010)
             # Of the last run that is whole the answer may not have been written yet.
