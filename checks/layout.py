@@ -6,6 +6,8 @@ import re
 import sys
 from pathlib import Path
 
+import floors
+
 
 def lines_of(*patterns):
     """Each line of these files, with its file and number."""
@@ -70,7 +72,7 @@ def files_say_what_they_hold():
 def calls_of_a_book_are_steps():
     """Each public call that may change or close a book says by its clause `step` which move of a server it is."""
     calls = 0
-    desk = Path("crates/ic_desk/src")
+    desk = Path("crates/ic_book/src")
     for path in sorted([*desk.glob("book*.rt"), *desk.glob("book*/**/*.rt")]):
         number = 1
         for part in re.split(r"(?m)^(?= *(?:pub(?:\(\w+\))? )?fn )", path.read_text()):
@@ -92,29 +94,41 @@ def the_longest_form_is_said_once():
 
 
 def layers_are_as_built():
-    """docs/layers.md has a row for each crate, with the crates of this repository that crates.txt lets it use."""
-    built = {}
-    for line in Path("crates.txt").read_text().split("\n"):
-        crate = re.match(r"(\w+) *:(.*)", line)
-        if crate:
-            built[crate[1]] = set(crate[2].split())
-    told = {}
+    """docs/layers.md has a row for each crate, under the heading and in the order of crates.txt, with the crates of this
+    repository that it builds on. A crate uses those of the lines before its own alone."""
+    built, told, heading = floors.uses(), {}, ""
+    wanted = floors.builds_on()
+    floor_of = {crate: floor for floor, crates in floors.floors().items() for crate in crates}
     for path, number, line in lines_of("docs/layers.md"):
+        heading = line[3:] if line.startswith("## ") else heading
         cells = [re.findall(r"`(\w+)`", it) for it in line.split("|")]
-        if len(cells) == 6 and len(cells[1]) == 1:
+        if len(cells) >= 5 and len(cells[1]) == 1:
             name = cells[1][0]
             told[name] = number
-            if name in built and set(cells[3]) != built[name] & set(built):
-                yield path, number, f"{name} may use other crates by crates.txt"
+            if name in built and (set(cells[3]), heading) != (set(wanted[name]), floor_of[name]):
+                builds_on = " ".join(wanted[name]) or "-"
+                yield path, number, f"by crates.txt {name} stands on {floor_of[name]} and builds on {builds_on}"
     for name in sorted(set(built) ^ set(told)):
         yield Path("docs/layers.md"), told.get(name, 1), f"{name} stands in one of crates.txt and this table alone"
+    order = list(built)
+    for name in order:
+        if set(built[name]) - set(order[: order.index(name)]):
+            yield Path("crates.txt"), 1, f"{name} uses a crate of a line after it"
+    if [it for it in told if it in built] != [it for it in order if it in told]:
+        yield Path("docs/layers.md"), 1, "its rows stand in another order than the lines of crates.txt"
+
+
+def the_floors_are_drawn():
+    """docs/floors.svg is the picture of the floors of crates.txt."""
+    if Path("docs/floors.svg").read_text() != floors.picture():
+        yield Path("docs/floors.svg"), 1, "is another picture than that of crates.txt: python3 checks/floors.py draws it"
 
 
 def what_is_believed_is_counted():
     """docs/believe.md names the files of definitions that the headline rests on, and those of the program by crates, with
     their lines and the sums of these."""
     uses = dict(re.findall(r"(?m)^(\w+) *:(.*)", Path("crates.txt").read_text()))
-    program, lines, rests = ["icserve"], {}, [("ic_lives", "Headline"), ("ic_desk", "Server"), ("ic_disk", "DiskCalls")]
+    program, lines, rests = ["icserve"], {}, [("ic_lives", "Headline"), ("ic_book", "Server"), ("ic_disk", "DiskCalls")]
     for crate in program:
         program += [it for it in uses[crate].split() if it in uses and it not in program]
     for path in Path("crates").glob("*/specs/*.antt"):
@@ -184,10 +198,20 @@ def sentences_are_short():
                     first, count = 0, 0
 
 
+def paragraphs_are_short():
+    """A paragraph of the docs, an item of a list and a cell of a table have at most 80 words."""
+    for path in [*sorted(Path(".").glob("*.md")), *sorted(Path("docs").glob("*.md"))]:
+        for words in texts(path):
+            count = sum(bool(re.search(r"\w", word)) for _, word in words)
+            if count > 80:
+                yield path, words[0][0], f"a paragraph of {count} words"
+
+
 def main():
     checks = [proofs_are_cited_at_home, definitions_stand_by_themselves, public_clauses_cite_definitions]
     checks += [files_say_what_they_hold, calls_of_a_book_are_steps, the_longest_form_is_said_once]
-    checks += [layers_are_as_built, what_is_believed_is_counted, further_edits_apply, sentences_are_short]
+    checks += [layers_are_as_built, the_floors_are_drawn, what_is_believed_is_counted, further_edits_apply]
+    checks += [sentences_are_short, paragraphs_are_short]
     failed = 0
     for check in checks:
         faults = list(check())

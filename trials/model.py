@@ -444,7 +444,7 @@ def settled(config):
 
 
 def settled_by_steps(config):
-    """The same, as docs/settling.md says it, one step after the other."""
+    """The same, as docs/rounds.md says it, one step after the other."""
     while True:
         for place, equation in enumerate(config.equations):
             rest = config.equations[:place] + config.equations[place + 1 :]

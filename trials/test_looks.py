@@ -303,8 +303,9 @@ class Pictures(Trial):
             self.equals(f"trace --rounds {rounds}", "the title", title, self.drawn(text, ["--rounds", rounds])[0])
 
     def test_the_pictures_in_docs_are_what_the_program_prints(self):
-        """docs/NAME.svg is the trace of examples/NAME.ic, and docs/NAME-N.svg that of its first N rounds."""
-        pictures = sorted(TOP.glob("docs/*.svg"))
+        """docs/NAME.svg is the trace of examples/NAME.ic, and docs/NAME-N.svg that of its first N rounds. The picture of the
+        floors is one of the crates (`checks/floors.py`)."""
+        pictures = sorted({*TOP.glob("docs/*.svg")} - {TOP / "docs/floors.svg"})
         self.equals("docs/", f"at least five pictures: {pictures}", True, len(pictures) >= 5)
         for picture in pictures:
             name, dash, count = picture.stem.partition("-")

@@ -1,5 +1,5 @@
 """The model answers the worked rows as they stand, so model and rows, which the gate tries, say the same. Its settling is the
-one of docs/settling.md, step after step."""
+one of docs/rounds.md, step after step."""
 
 import random
 import unittest

@@ -89,7 +89,7 @@ class Pages(Trial):
         for page in sorted({*TOP.glob("*.md"), *TOP.glob("docs/*.md")} - {TOP / "docs/cluster.md"}):
             blocks = [it for it in blocks_of(page) if it[0].startswith("$ ")]
             consoles += [(page.relative_to(TOP), typed_in(it)) for it in blocks]
-        wanting = {"README.md", "docs/rounds.md", "docs/settling.md"} - {str(page) for page, _ in consoles}
+        wanting = {"README.md", "docs/rounds.md"} - {str(page) for page, _ in consoles}
         self.equals("README.md and docs/", "pages without a command that is typed", set(), wanting)
         for page, commands in consoles:
             for command, wanted in commands:

@@ -34,7 +34,7 @@ use Rattle.ic_jobs.specs.contracts.job.Job as Job
 use Rattle.ic_jobs.specs.contracts.table.Table as Table
 use Rattle.ic_disk.specs.declared.disk.Disk.{Ghosts}
 use Rattle.ic_slots.proofs.keeper.Keeper.TheSendSync as keeper
-use Rattle.ic_desk.specs.contracts.book.Book as Book
+use Rattle.ic_book.specs.contracts.book.Book as Book
 use Rattle.ic_attend.specs.contracts.desk.Desk as Desk
 use Rattle.ic_attend.specs.contracts.attended.ClientRun as ClientRun
 use Rattle.ic_attend.specs.contracts.client.Speech as Speech

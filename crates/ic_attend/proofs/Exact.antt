@@ -15,13 +15,13 @@ use Rattle.ic_jobs.specs.declared.event.Entry.{Entry}
 use Rattle.ic_jobs.specs.declared.reply.Reply.{Reply}
 use Rattle.ic_jobs.specs.Job.{JobParts}
 use Rattle.ic_slots.specs.Held.{IsHeld, the_table}
-use Rattle.ic_desk.specs.declared.fault.BookFault.TheVariants.{Device}
-use Rattle.ic_desk.specs.Entries.{is_round, AreRounds}
+use Rattle.ic_book.specs.declared.fault.BookFault.TheVariants.{Device}
+use Rattle.ic_book.specs.Entries.{is_round, AreRounds}
 use Rattle.ic_attend.specs.declared.attended.Attended.{Attended}
 use Rattle.ic_attend.specs.declared.attended.ClientRun.{ClientRun}
 use Rattle.ic_attend.specs.declared.fault.AttendFault.{AttendFault}
 use Rattle.ic_attend.specs.declared.fault.AttendFault.TheVariants.{Open, NoThread, Memory, Torn}
-use Rattle.ic_desk.specs.Book.{start_of, log_of}
+use Rattle.ic_book.specs.Book.{start_of, log_of}
 use Rattle.ic_attend.specs.Parts.{answer_to, part, AreOfClients}
 use Rattle.ic_attend.specs.Clients.{MayStandBehind}
 use Rattle.ic_attend.specs.Faults.{IfTorn, IsTorn, Differs}

@@ -26,10 +26,10 @@ use Rattle.ic_jobs.specs.History.{replay, table_after}
 use Rattle.ic_jobs.specs.Job.{JobParts, begun}
 use Rattle.ic_jobs.specs.Names.{mentions}
 use Rattle.ic_jobs.specs.Table.{is_named, job_named}
-use Rattle.ic_desk.specs.declared.fault.BookFault.{BookFault}
-use Rattle.ic_desk.specs.declared.fault.BookFault.TheVariants.{Device}
-use Rattle.ic_desk.specs.Book.{log_of, kept_of}
-use Rattle.ic_desk.specs.Entries.{AreRounds, is_round, command_entry}
+use Rattle.ic_book.specs.declared.fault.BookFault.{BookFault}
+use Rattle.ic_book.specs.declared.fault.BookFault.TheVariants.{Device}
+use Rattle.ic_book.specs.Book.{log_of, kept_of}
+use Rattle.ic_book.specs.Entries.{AreRounds, is_round, command_entry}
 use Rattle.ic_attend.specs.declared.attended.Attended.{Attended}
 use Rattle.ic_attend.specs.declared.attended.ClientRun.{ClientRun}
 use Rattle.ic_attend.specs.Clients.{asked, EndsUnanswered, Follows, KeepsTo}

@@ -11,7 +11,7 @@ use Rattle.ic_jobs.specs.declared.event.Event.{Event}
 use Rattle.ic_jobs.specs.declared.event.Event.TheVariants.{Command as by_command, Round}
 use Rattle.ic_jobs.specs.declared.event.Entry.{Entry}
 use Rattle.ic_jobs.specs.declared.reply.Reply.{Reply}
-use Rattle.ic_desk.specs.Entries.{is_round, command_entry, AreRounds}
+use Rattle.ic_book.specs.Entries.{is_round, command_entry, AreRounds}
 use Rattle.ic_attend.specs.declared.attended.ClientRun.{ClientRun}
 use Rattle.ic_attend.specs.Parts.{answered, answer_to, part}
 use Rattle.ic_attend.specs.declared.client.Speech.{Speech}

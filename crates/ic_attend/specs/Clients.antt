@@ -4,8 +4,8 @@ use Rattle.ic_jobs.specs.declared.command.Command.{Command}
 use Rattle.ic_jobs.specs.declared.event.Entry.{Entry}
 use Rattle.ic_jobs.specs.declared.event.Event.TheVariants.{Command as by_command}
 use Rattle.ic_jobs.specs.declared.reply.Reply.{Reply}
-use Rattle.ic_desk.specs.declared.fault.BookFault.TheVariants.{Device}
-use Rattle.ic_desk.specs.Entries.{AreRounds}
+use Rattle.ic_book.specs.declared.fault.BookFault.TheVariants.{Device}
+use Rattle.ic_book.specs.Entries.{AreRounds}
 use Rattle.ic_attend.specs.declared.attended.ClientRun.{ClientRun}
 use Rattle.ic_attend.specs.Parts.{part}
 

@@ -12,15 +12,15 @@ use Rattle.ic_jobs.specs.declared.event.Entry.{Entry}
 use Rattle.ic_jobs.specs.declared.landed.Landed.{Landed}
 use Rattle.ic_jobs.specs.declared.reply.Reply.{Reply}
 use Rattle.ic_jobs.specs.Landing.{due, Awaits}
-use Rattle.ic_desk.specs.declared.book.Book.{Book}
-use Rattle.ic_desk.specs.declared.fault.BookFault.{BookFault}
-use Rattle.ic_desk.specs.declared.fault.BookFault.TheVariants.{Broken, Worn, Memory}
-use Rattle.ic_desk.specs.declared.limits.TheConstants.{MAX_ENTRIES}
-use Rattle.ic_desk.specs.Book.{start_of, log_of, table_of, kept_of, keeper_of, disk_of, is_broken, number_of}
-use Rattle.ic_desk.specs.Calls.{BreaksOrStays, LeavesKeptOrAll, RefusesRound, TakesRound, TellsBroken, TellsFull}
-use Rattle.ic_desk.specs.Entries.{leaves_table, round_entry}
-use Rattle.ic_desk.specs.Moves.{round_move}
-use Rattle.ic_desk.specs.Server.{Step, StepsByCommand, up}
+use Rattle.ic_book.specs.declared.book.Book.{Book}
+use Rattle.ic_book.specs.declared.fault.BookFault.{BookFault}
+use Rattle.ic_book.specs.declared.fault.BookFault.TheVariants.{Broken, Worn, Memory}
+use Rattle.ic_book.specs.declared.limits.TheConstants.{MAX_ENTRIES}
+use Rattle.ic_book.specs.Book.{start_of, log_of, table_of, kept_of, keeper_of, disk_of, is_broken, number_of}
+use Rattle.ic_book.specs.Calls.{BreaksOrStays, LeavesKeptOrAll, RefusesRound, TakesRound, TellsBroken, TellsFull}
+use Rattle.ic_book.specs.Entries.{leaves_table, round_entry}
+use Rattle.ic_book.specs.Moves.{round_move}
+use Rattle.ic_book.specs.Server.{Step, StepsByCommand, up}
 
 -- A command came to some book: it was answered and kept, or the disk failed at it, or it was
 -- refused and nothing came. A crash in it leaves the table that was kept, or the one after it. It

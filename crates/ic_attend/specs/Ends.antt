@@ -4,11 +4,11 @@ use Rattle.std.specs.List.{All}
 use Rattle.ic_disk.specs.declared.disk.Disk.{Ghosts}
 use Rattle.ic_pool.specs.declared.fault.PoolFault.{PoolFault}
 use Rattle.ic_pool.specs.declared.fault.PoolFault.TheVariants as of_pool
-use Rattle.ic_desk.specs.declared.book.Book.{Book}
-use Rattle.ic_desk.specs.declared.fault.BookFault.{BookFault}
-use Rattle.ic_desk.specs.declared.fault.BookFault.TheVariants.{Broken, LogFull, Worn, Memory, Device}
-use Rattle.ic_desk.specs.declared.limits.TheConstants.{MAX_ENTRIES}
-use Rattle.ic_desk.specs.Book.{log_of, is_broken, number_of}
+use Rattle.ic_book.specs.declared.book.Book.{Book}
+use Rattle.ic_book.specs.declared.fault.BookFault.{BookFault}
+use Rattle.ic_book.specs.declared.fault.BookFault.TheVariants.{Broken, LogFull, Worn, Memory, Device}
+use Rattle.ic_book.specs.declared.limits.TheConstants.{MAX_ENTRIES}
+use Rattle.ic_book.specs.Book.{log_of, is_broken, number_of}
 use Rattle.ic_attend.specs.declared.attended.Attended.{Attended}
 use Rattle.ic_attend.specs.declared.attended.RunnerEnd.{RunnerEnd}
 use Rattle.ic_attend.specs.declared.attended.RunnerEnd.TheVariants.{Idle, Turns, Book as by_book, Pool as by_pool}

@@ -6,7 +6,7 @@ use Rattle.ic_jobs.specs.declared.command.Command.{Command}
 use Rattle.ic_jobs.specs.declared.event.Entry.{Entry}
 use Rattle.ic_jobs.specs.Job.{JobParts}
 use Rattle.ic_jobs.specs.History.{replay, IsLegal}
-use Rattle.ic_desk.specs.Book.{start_of, log_of, table_of, kept_of}
+use Rattle.ic_book.specs.Book.{start_of, log_of, table_of, kept_of}
 use Rattle.ic_attend.specs.declared.attended.Attended.{Attended}
 use Rattle.ic_attend.specs.Parts.{AreOfClients}
 use Rattle.ic_attend.specs.Clients.{AreParts, FailuresStandLast, KeepsTo, MayStandBehind}

@@ -6,7 +6,7 @@ use Rattle.ic_jobs.specs.declared.event.Event.{Event}
 use Rattle.ic_jobs.specs.declared.event.Event.TheVariants.{Command as by_command, Round}
 use Rattle.ic_jobs.specs.declared.event.Entry.{Entry}
 use Rattle.ic_jobs.specs.declared.reply.Reply.{Reply}
-use Rattle.ic_desk.specs.Entries.{is_round}
+use Rattle.ic_book.specs.Entries.{is_round}
 
 -- a command with its reply; a round is no command
 abbrev pub answered : Event → Reply → Option (Command × Reply)

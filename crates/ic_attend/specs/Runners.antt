@@ -4,7 +4,7 @@ use Rattle.std.specs.List.{All, count_by}
 use Rattle.ic_jobs.specs.declared.event.Entry.{Entry}
 use Rattle.ic_jobs.specs.Job.{JobParts}
 use Rattle.ic_jobs.specs.State.{is_running}
-use Rattle.ic_desk.specs.Entries.{is_round}
+use Rattle.ic_book.specs.Entries.{is_round}
 use Rattle.ic_attend.specs.declared.attended.RunnerEnd.{RunnerEnd}
 use Rattle.ic_attend.specs.declared.attended.RunnerEnd.TheVariants.{Idle, Turns, Book as by_book, Pool as by_pool}
 

@@ -1,6 +1,6 @@
 //! What clients and runners leave: a book, what each client was answered, and how each runner ended.
 
-use ic_desk::{Book, BookFault};
+use ic_book::{Book, BookFault};
 use ic_disk::Disk;
 use ic_jobs::{Command, Reply};
 use ic_pool::PoolFault;

@@ -2,7 +2,7 @@
 
 ghost use Rattle.std.specs.Prelude.{◌≡◌, ◌<◌, map, vec_items, vec_len, IsTrue, IfOk};
 ghost use Rattle.ic_slots.specs.Held.{IsHeld, the_table};
-ghost use Rattle.ic_desk.specs.Book.{start_of};
+ghost use Rattle.ic_book.specs.Book.{start_of};
 ghost use Rattle.ic_attend.specs.OneHistory.{IsOneHistory};
 ghost use Rattle.ic_attend.specs.Ends.{EndsTell};
 ghost use Rattle.ic_attend.specs.Faults.{IfUnopened, IfUnbegun, IfStopped, IfTorn, IsUnopened, IsAsOpened, IsStopped, IsTorn, Differs};
@@ -16,7 +16,7 @@ use crate::gathered::Gathered;
 use crate::runner::Duty;
 use crate::signs::Signs;
 use crate::threads::gather;
-use ic_desk::Book;
+use ic_book::Book;
 use ic_disk::Disk;
 use ic_jobs::{Command, Table};
 use ic_pool::Gate;

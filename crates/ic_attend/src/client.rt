@@ -7,7 +7,7 @@ ghost use Rattle.ic_attend.specs.inner.Speech.{Speaks};
 use crate::attended::ClientRun;
 use crate::desk::Desk;
 use crate::signs::Signs;
-use ic_desk::BookFault;
+use ic_book::BookFault;
 use ic_disk::Disk;
 use ic_jobs::{Command, Reply};
 use ic_pool::Gate;

@@ -3,8 +3,8 @@
 ghost use Rattle.std.specs.Prelude.{◌≡◌, ◌↔◌, ◌-◌, Some, IsTrue, IsSomeAnd, length, take, map, slice_get};
 ghost use Rattle.std.specs.List.{All};
 ghost use Rattle.ic_jobs.specs.declared.event.Event.TheVariants.{Command as by_command};
-ghost use Rattle.ic_desk.specs.declared.fault.BookFault.TheVariants.{Device as by_device};
-ghost use Rattle.ic_desk.specs.Entries.{is_round, AreRounds};
+ghost use Rattle.ic_book.specs.declared.fault.BookFault.TheVariants.{Device as by_device};
+ghost use Rattle.ic_book.specs.Entries.{is_round, AreRounds};
 ghost use Rattle.ic_attend.specs.declared.attended.ClientRun.{ClientRun as Run};
 ghost use Rattle.ic_attend.specs.Parts.{part, AreOfClients};
 ghost use Rattle.ic_attend.specs.Clients.{AreParts, FailureStandsLast, FailuresStandLast, MayStandBehind, StandsLast};
@@ -14,7 +14,7 @@ ghost use Rattle.ic_attend.specs.Ends.{EndsTell};
 
 use crate::attended::{Attended, ClientRun, RunnerEnd};
 use crate::same::{same_command, same_reply};
-use ic_desk::BookFault;
+use ic_book::BookFault;
 use ic_disk::Disk;
 use ic_jobs::{Command, Entry, Event, Job, Reply, State, Table};
 

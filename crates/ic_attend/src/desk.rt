@@ -5,7 +5,7 @@ ghost use Rattle.ic_pool.specs.Flight.{is_blocked};
 ghost use Rattle.ic_jobs.specs.declared.reply.Reply.TheVariants as reply;
 ghost use Rattle.ic_attend.specs.Desk.{IsCommanded, IsLanded, IsTaken};
 
-use ic_desk::{Book, BookFault};
+use ic_book::{Book, BookFault};
 use ic_disk::Disk;
 use ic_jobs::{Command, Landed, Reply};
 use ic_pool::{Flight, Played};

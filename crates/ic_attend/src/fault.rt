@@ -1,7 +1,7 @@
 //! Why an attendance gives no history.
 
 use crate::attended::Attended;
-use ic_desk::{Book, OpenFault};
+use ic_book::{Book, OpenFault};
 use ic_disk::Disk;
 
 /// Why an attendance gives no history.

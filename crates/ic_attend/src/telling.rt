@@ -5,7 +5,7 @@ ghost use Rattle.std.specs.List.{All};
 ghost use Rattle.ic_attend.specs.Ends.{CommandTells, RoundTells, PlayTells, EndTells, EndsTell};
 
 use crate::attended::{Attended, ClientRun, RunnerEnd};
-use ic_desk::{Book, BookFault, MAX_ENTRIES};
+use ic_book::{Book, BookFault, MAX_ENTRIES};
 use ic_disk::Disk;
 use ic_pool::PoolFault;
 

@@ -8,10 +8,10 @@ ghost use Rattle.ic_jobs.specs.declared.event.Entry.{Entry};
 ghost use Rattle.ic_jobs.specs.History.{replay};
 ghost use Rattle.ic_jobs.specs.Landing.{due};
 ghost use Rattle.ic_slots.specs.Held.{IsHeld, the_table};
-ghost use Rattle.ic_desk.specs.declared.fault.BookFault.TheVariants.{Broken, LogFull, Worn, Device};
-ghost use Rattle.ic_desk.specs.declared.limits.TheConstants.{MAX_ENTRIES};
-ghost use Rattle.ic_desk.specs.Book.{start_of, log_of, table_of, is_broken, number_of};
-ghost use Rattle.ic_desk.specs.Entries.{is_round};
+ghost use Rattle.ic_book.specs.declared.fault.BookFault.TheVariants.{Broken, LogFull, Worn, Device};
+ghost use Rattle.ic_book.specs.declared.limits.TheConstants.{MAX_ENTRIES};
+ghost use Rattle.ic_book.specs.Book.{start_of, log_of, table_of, is_broken, number_of};
+ghost use Rattle.ic_book.specs.Entries.{is_round};
 ghost use Rattle.ic_attend.specs.declared.attended.ClientRun.{ClientRun};
 ghost use Rattle.ic_attend.specs.declared.attended.RunnerEnd.TheVariants.{Idle, Turns, Book as by_book};
 ghost use Rattle.ic_attend.specs.Ends.{EndsTell};
@@ -21,7 +21,7 @@ ghost use Rattle.ic_scripts.specs.Attending.{IsAttended};
 ghost use Rattle.ic_attend_laws.specs.Attending.{AttendedOver};
 
 use ic_attend::Attended;
-use ic_desk::Book;
+use ic_book::Book;
 use ic_disk::Disk;
 
 /// Where a runner ended idle, nothing is due any more. Where one has used up its turns, the history

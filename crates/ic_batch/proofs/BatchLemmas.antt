@@ -7,8 +7,8 @@ use Rattle.std.specs.Io.KnownBytes.{Appends, Keeps}
 use Rattle.ic_disk.specs.declared.disk.Disk.{Ghosts}
 use Rattle.ic_output.specs.Output.{AppendsFront}
 use Rattle.ic_jobs.specs.Job.{JobParts}
-use Rattle.ic_desk.specs.declared.book.Book.{Book}
-use Rattle.ic_desk.specs.Book.{disk_of, table_of, IsUnchanged}
+use Rattle.ic_book.specs.declared.book.Book.{Book}
+use Rattle.ic_book.specs.Book.{disk_of, table_of, IsUnchanged}
 use Rattle.ic_serving.specs.Booked.{last_kept, IsAllKept}
 use Rattle.ic_serving.specs.Moments.{FaultLeaves, Leaves}
 use Rattle.ic_serving.specs.Faults.{ComesInLine, CountsServe}

@@ -13,8 +13,8 @@ use Rattle.ic_jobs.specs.Table.{IsTable, job_named}
 use Rattle.ic_jobs.specs.History.{table_after}
 use Rattle.ic_jobs.specs.Landing.{Awaits, due}
 use Rattle.ic_jobs.specs.Turns.{RunsAt, IsFlightOf}
-use Rattle.ic_desk.specs.declared.book.Book.{Book}
-use Rattle.ic_desk.specs.Book.{table_of}
+use Rattle.ic_book.specs.declared.book.Book.{Book}
+use Rattle.ic_book.specs.Book.{table_of}
 use Rattle.ic_serving.specs.Booked.{MakesRound}
 use Rattle.ic_batch.specs.Way.{goes_on}
 use Rattle.ic_batch.proofs.WayLemmas.{runs}

@@ -5,8 +5,8 @@ use Rattle.ic_jobs.specs.declared.event.Event.{Event}
 use Rattle.ic_jobs.specs.Job.{JobParts}
 use Rattle.ic_jobs.specs.History.{table_after}
 use Rattle.ic_lines.specs.Turns.{after_events}
-use Rattle.ic_desk.specs.declared.book.Book.{Book}
-use Rattle.ic_desk.specs.Book.{table_of}
+use Rattle.ic_book.specs.declared.book.Book.{Book}
+use Rattle.ic_book.specs.Book.{table_of}
 use Rattle.ic_serving.specs.Booked.{last_kept, Begins}
 use Rattle.ic_serving.specs.Moments.{Leaves, IsKeptOrNow}
 use Rattle.ic_serving.specs.Parts.{IsPart, IsKeptWithin}

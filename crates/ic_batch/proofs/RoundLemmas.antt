@@ -5,8 +5,8 @@ use Rattle.ic_disk.specs.declared.disk.Disk.{Ghosts}
 use Rattle.ic_jobs.specs.Job.{JobParts}
 use Rattle.ic_jobs.specs.Table.{IsTable, with_changed}
 use Rattle.ic_jobs.specs.Landing.{due}
-use Rattle.ic_desk.specs.declared.book.Book.{Book}
-use Rattle.ic_desk.specs.Book.{table_of}
+use Rattle.ic_book.specs.declared.book.Book.{Book}
+use Rattle.ic_book.specs.Book.{table_of}
 use Rattle.ic_serving.specs.Booked.{MakesRound}
 use Rattle.ic_serving.specs.Moments.{Leaves, IsKeptOrNow}
 use Rattle.ic_batch.specs.Way.{goes_on, AreWays}

@@ -12,8 +12,8 @@ use Rattle.ic_jobs.specs.Memory.{is_submit}
 use Rattle.ic_jobs.specs.Table.{job_named}
 use Rattle.ic_lines.specs.Script.{ReadsScript}
 use Rattle.ic_disk.specs.declared.disk.Disk.{Ghosts}
-use Rattle.ic_desk.specs.declared.book.Book.{Book}
-use Rattle.ic_desk.specs.Book.{disk_of, is_broken, number_of, table_of, IsUnchanged}
+use Rattle.ic_book.specs.declared.book.Book.{Book}
+use Rattle.ic_book.specs.Book.{disk_of, is_broken, number_of, table_of, IsUnchanged}
 use Rattle.ic_serving.specs.Faults.{ComesInLine, CountsServe, StaysReady}
 use Rattle.ic_serving.specs.declared.fault.ServeFault.{ServeFault}
 use Rattle.ic_serving.specs.declared.fault.ServeFault.TheVariants.{Write}

@@ -3,13 +3,13 @@
 ghost use Rattle.std.specs.Prelude.{◌≡◌, ◌≤◌, Some, IfSome, IfNone, OnOk, true, false, slice_get};
 ghost use Rattle.std.specs.List.{AllByRecursion};
 ghost use Rattle.ic_jobs.specs.Job.{JobParts};
-ghost use Rattle.ic_desk.specs.Book.{table_of};
+ghost use Rattle.ic_book.specs.Book.{table_of};
 ghost use Rattle.ic_serving.specs.Faults.{ComesInLine};
 ghost use Rattle.ic_serving.specs.Moments.{FaultLeaves};
 ghost use Rattle.ic_batch.specs.Way.{goes_on, AreWays};
 ghost use Rattle.ic_batch.specs.inner.Staying.{Leads};
 
-use ic_desk::Book;
+use ic_book::Book;
 use ic_disk::Disk;
 use ic_jobs::{Job, State};
 use ic_pool::Gate;

@@ -4,7 +4,7 @@ ghost use Rattle.std.specs.Prelude.{◌≡◌, ◌+◌, ◌≤◌, length, not, 
 ghost use Rattle.std.specs.Bool.{OnFalse, OnTrue};
 ghost use Rattle.std.specs.List.{IsDistinct};
 ghost use Rattle.std.specs.Str.{bytes_eq};
-ghost use Rattle.ic_desk.specs.Book.{table_of};
+ghost use Rattle.ic_book.specs.Book.{table_of};
 ghost use Rattle.ic_jobs.specs.Table.{job_named};
 ghost use Rattle.ic_jobs.specs.declared.limits.TheConstants.{MAX_JOBS};
 ghost use Rattle.ic_serving.specs.Faults.{ComesInLine};
@@ -15,7 +15,7 @@ ghost use Rattle.ic_batch.specs.Way.{all_of, missing};
 ghost use Rattle.ic_batch.specs.inner.Staying.{AreBegun, Leads};
 
 use crate::jobs::NewJob;
-use ic_desk::Book;
+use ic_book::Book;
 use ic_disk::Disk;
 use ic_jobs::{Command, MAX_JOBS, Table};
 use ic_serving::{ServeFault, answer_command};

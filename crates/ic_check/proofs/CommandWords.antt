@@ -9,7 +9,7 @@ use Rattle.ic_commands.specs.LinePlain.{phrase_texts}
 use Rattle.ic_commands.specs.LineSource.{LinePhrase, nothing, submit, copy, about, list, run, verb_text}
 use Rattle.ic_text.specs.SystemSource.{SystemPhrase, system_words}
 use Rattle.ic_text.specs.Token.{words_among}
-use Rattle.ic_places.specs.Sights.{command_words, is_command}
+use Rattle.ic_diagnostics.specs.Sights.{command_words, is_command}
 use Rattle.ic_check.specs.Meanings.{BeginsLine}
 
 first_same : (v w : List ℕ) (vs ws : List (List ℕ)) → v ∷ vs ≡ w ∷ ws → v ≡ w

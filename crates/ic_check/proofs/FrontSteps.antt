@@ -5,7 +5,7 @@ use Rattle.std.proofs.lemmas.Bool.{and_from, and_parts}
 use Rattle.ic_commands.specs.LineSource.{LinePhrase, nothing, submit, copy, about, list, run, line_words}
 use Rattle.ic_text.specs.Places.{IsWordPlace, is_between}
 use Rattle.ic_text.specs.Token.{Token, word, is_blank, is_word_byte, before, tokens, words_among}
-use Rattle.ic_places.specs.Sights.{first_word}
+use Rattle.ic_diagnostics.specs.Sights.{first_word}
 use Rattle.ic_check.specs.LinePlaces.{IsDue, IsWhole, first_at}
 use Rattle.ic_check.specs.inner.Fronts.{IsFilled, IsFront, IsPassed, behind, behind_blanks, behind_word, earlier, first_of, passed_at, passed_in}
 use Rattle.ic_check.specs.declared.due.Due.{Due}

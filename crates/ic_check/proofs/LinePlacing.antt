@@ -30,7 +30,7 @@ use Rattle.ic_text.specs.declared.misread.Detail.{Detail}
 use Rattle.ic_text.specs.declared.misread.Detail.TheVariants.{Nothing as Plain, Passed as Bound, Arities}
 use Rattle.ic_text.specs.declared.misread.Limit.TheVariants.{TextBytes, SymbolBytes, Arguments, NameNumber, Symbols, Rules, RuleNodes, Interface, Nodes}
 use Rattle.ic_text.specs.lemmas.ReadOnce.{none_is_some, some-injective}
-use Rattle.ic_places.specs.Sights.{first_word}
+use Rattle.ic_diagnostics.specs.Sights.{first_word}
 use Rattle.ic_check.specs.LinePlaces.{IsDue, IsInSystem, IsLinePlace, IsOwnPlace, IsSought, IsSystemPlace, IsWhole, first_at, is_system_due, own_passed, submit_front}
 use Rattle.ic_check.specs.inner.Fronts.{IsFilled, IsFront, IsPassed, behind, first_of, passed_in}
 use Rattle.ic_check.specs.inner.Inner.{IsInner, IsInnerOf, place_of}

@@ -14,7 +14,7 @@ use Rattle.ic_commands.specs.declared.limits.TheConstants.{MAX_RUN}
 use Rattle.ic_text.specs.Name.{number_in}
 use Rattle.ic_text.specs.SystemSource.{SystemPhrase, IsSystemPhrase, system_words}
 use Rattle.ic_text.specs.Token.{Token, word, mark, words_among}
-use Rattle.ic_places.specs.Sights.{is_command}
+use Rattle.ic_diagnostics.specs.Sights.{is_command}
 use Rattle.ic_check.specs.LinePlaces.{IsDue, first_at, is_system_due, own_passed}
 use Rattle.ic_check.specs.Meanings.{BeginsLine, GoesWith, Passes, is_looked_for}
 use Rattle.ic_check.specs.inner.Fronts.{behind, if_stands, opened}

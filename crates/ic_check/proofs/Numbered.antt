@@ -9,7 +9,7 @@ use Rattle.ic_lines.specs.Lines.{ended, has_feed, lines}
 use Rattle.ic_text.specs.declared.fault.TextFault.{TextFault}
 use Rattle.ic_text.specs.declared.fault.TextFault.TheVariants.{Syntax, Limit, Arity, NameCount, Name, Twice, Lopsided, Memory}
 use Rattle.ic_text.specs.declared.misread.Detail.TheVariants.{Nothing as Plain, Passed as Bound, Arities}
-use Rattle.ic_places.specs.Lines.{column, is_feed, last_line, line_number}
+use Rattle.ic_diagnostics.specs.Lines.{column, is_feed, last_line, line_number}
 use Rattle.ic_check.specs.Checking.{before}
 use Rattle.ic_check.specs.LinePlaces.{IsLinePlace}
 use Rattle.ic_check.specs.Telling.{spot_text}

@@ -23,13 +23,13 @@ use Rattle.ic_text.specs.declared.misread.Detail.TheVariants.{Nothing, Passed, A
 use Rattle.ic_text.specs.declared.misread.Limit.{Limit as Bound}
 use Rattle.ic_text.specs.declared.misread.Limit.TheVariants as bound
 use Rattle.ic_causes.specs.Causes.{is_printable, shown_byte, shown_path}
-use Rattle.ic_places.specs.Lines.{column, last_line, line_number, told_at}
-use Rattle.ic_places.specs.Sights.{first_word, sight_at}
-use Rattle.ic_places.specs.Telling.{behind_in_config, behind_in_system, behind_mark, config_sentence, limit_sentence, plain_sentence, sentence, sight_sentence, syntax_sentence, system_sentence, wants_term}
-use Rattle.ic_places.specs.declared.sights.Sight.{Sight}
-use Rattle.ic_places.specs.declared.sights.Sight.TheVariants.{End, SystemMark, ConfigMark, CommandWord, NoName, Front, Behind}
-use Rattle.ic_places.specs.declared.telling.Kind.{Kind}
-use Rattle.ic_places.specs.declared.telling.Kind.TheVariants.{Config, System}
+use Rattle.ic_diagnostics.specs.Lines.{column, last_line, line_number, told_at}
+use Rattle.ic_diagnostics.specs.Sights.{first_word, sight_at}
+use Rattle.ic_diagnostics.specs.Telling.{behind_in_config, behind_in_system, behind_mark, config_sentence, limit_sentence, plain_sentence, sentence, sight_sentence, syntax_sentence, system_sentence, wants_term}
+use Rattle.ic_diagnostics.specs.declared.sights.Sight.{Sight}
+use Rattle.ic_diagnostics.specs.declared.sights.Sight.TheVariants.{End, SystemMark, ConfigMark, CommandWord, NoName, Front, Behind}
+use Rattle.ic_diagnostics.specs.declared.telling.Kind.{Kind}
+use Rattle.ic_diagnostics.specs.declared.telling.Kind.TheVariants.{Config, System}
 use Rattle.ic_check.specs.Checking.{before, told_fault, told_line_fault}
 use Rattle.ic_check.specs.Meanings.{IsOneLine}
 use Rattle.ic_check.specs.Telling.{colon, line_limit_sentence, line_sentence, place_text, placed_line, sought_sentence, spot_text}

@@ -9,7 +9,7 @@ use Rattle.ic_commands.specs.LineText.{SpellsLine}
 use Rattle.ic_text.specs.Places.{IsWordPlace, is_between}
 use Rattle.ic_text.specs.Token.{Token, word, mark, is_blank, is_word_byte, followed, tokens, words_among}
 use Rattle.ic_text.specs.lemmas.ReadOnce.{none_is_some, some-injective}
-use Rattle.ic_places.specs.Sights.{first_word}
+use Rattle.ic_diagnostics.specs.Sights.{first_word}
 use Rattle.ic_check.specs.LinePlaces.{IsOwnPlace, own_passed}
 use Rattle.ic_check.specs.inner.Fronts.{IsFilled}
 use Rattle.ic_check.specs.declared.due.LineLimit.{LineLimit}

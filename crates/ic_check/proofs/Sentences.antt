@@ -2,7 +2,7 @@
 use Rattle.std.proofs.Common.{◌≡◌, ℕ, Bool, true, false, ◌||◌, List, codes, refl}
 use Rattle.std.specs.List.{list_any}
 use Rattle.std.specs.Str.{bytes_eq}
-use Rattle.ic_places.specs.Sights.{is_command}
+use Rattle.ic_diagnostics.specs.Sights.{is_command}
 use Rattle.ic_check.specs.Meanings.{told_commands}
 
 same_order : (a b c d e f g h : Bool) → (a || (b || (c || (d || (e || (f || (g || (h || false)))))))) ≡ (a || (c || (d || (e || (f || (g || (h || (b || false))))))))

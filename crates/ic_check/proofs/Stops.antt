@@ -8,7 +8,7 @@ use Rattle.std.proofs.Math.Seq.{take-append-add}
 use Rattle.ic_text.specs.Token.{Token, word, mark, is_blank, is_word_byte, mark_of, before, tokens_at, followed, tokens, words_among}
 use Rattle.ic_text.specs.Places.{GoesOn, IsLastPlace, IsSyntaxPlace, IsWordPlace, is_between}
 use Rattle.ic_text.specs.lemmas.ReadOnce.{none_is_some, some-injective}
-use Rattle.ic_places.specs.Sights.{first_word}
+use Rattle.ic_diagnostics.specs.Sights.{first_word}
 use Rattle.ic_check.specs.inner.Fronts.{IsFilled, behind_word}
 use Rattle.ic_check.proofs.Apart.{IsApart, between_front, between_within, tokens-apart, tokens-word}
 

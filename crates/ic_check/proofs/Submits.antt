@@ -19,7 +19,7 @@ use Rattle.ic_text.specs.declared.fault.TextFault.TheVariants.{Syntax, Limit, Ar
 use Rattle.ic_text.specs.declared.limits.TheConstants.{MAX_TEXT}
 use Rattle.ic_text.specs.declared.misread.Detail.{Detail}
 use Rattle.ic_text.specs.lemmas.WordRuns.{tokens-parted}
-use Rattle.ic_places.specs.Sights.{first_word}
+use Rattle.ic_diagnostics.specs.Sights.{first_word}
 use Rattle.ic_check.specs.LinePlaces.{IsDue, IsLinePlace, IsSystemPlace, first_at, own_passed, submit_front}
 use Rattle.ic_check.specs.Meanings.{IsSubmitFront}
 use Rattle.ic_check.specs.inner.Fronts.{IsFilled, behind, if_stands}

@@ -14,7 +14,7 @@ use Rattle.ic_text.specs.Words.{written_phrase, written_system}
 use Rattle.ic_text.specs.declared.fault.TextFault.{TextFault}
 use Rattle.ic_text.specs.declared.fault.TextFault.TheVariants.{Memory}
 use Rattle.ic_text.specs.declared.misread.Detail.{Detail}
-use Rattle.ic_places.specs.declared.telling.Kind.TheVariants.{Config, System}
+use Rattle.ic_diagnostics.specs.declared.telling.Kind.TheVariants.{Config, System}
 use Rattle.ic_check.specs.Checking.{TellsConfig, TellsLine, TellsLines, TellsSystem, told_fault, told_line_fault}
 use Rattle.ic_check.specs.LinePlaces.{IsLinePlace}
 use Rattle.ic_check.specs.declared.line_places.LineDetail.{LineDetail}

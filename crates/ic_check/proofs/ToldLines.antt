@@ -27,7 +27,7 @@ use Rattle.ic_text.specs.SystemText.{ReadsSystem}
 use Rattle.ic_text.specs.declared.fault.TextFault.{TextFault}
 use Rattle.ic_text.specs.declared.fault.TextFault.TheVariants.{Syntax, Limit, Arity, NameCount, Name, Twice, Lopsided}
 use Rattle.ic_text.specs.declared.limits.TheConstants.{MAX_TEXT}
-use Rattle.ic_places.specs.declared.telling.Kind.TheVariants.{Config, System}
+use Rattle.ic_diagnostics.specs.declared.telling.Kind.TheVariants.{Config, System}
 use Rattle.ic_check.specs.Checking.{Tells, TellsConfig, TellsForm, TellsLine, TellsLines, TellsSystem, WarnsOf, form_of}
 use Rattle.ic_check.specs.Meanings.{AreLines, IsOneLine}
 use Rattle.ic_check.specs.Telling.{place_text}

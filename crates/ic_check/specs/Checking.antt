@@ -17,9 +17,9 @@ use Rattle.ic_text.specs.Token.{is_blank}
 use Rattle.ic_text.specs.Words.{written_phrase, written_system}
 use Rattle.ic_text.specs.declared.fault.TextFault.{TextFault}
 use Rattle.ic_text.specs.declared.misread.Detail.{Detail}
-use Rattle.ic_places.specs.declared.telling.Kind.{Kind}
-use Rattle.ic_places.specs.declared.telling.Kind.TheVariants.{Config, System}
-use Rattle.ic_places.specs.Telling.{sentence}
+use Rattle.ic_diagnostics.specs.declared.telling.Kind.{Kind}
+use Rattle.ic_diagnostics.specs.declared.telling.Kind.TheVariants.{Config, System}
+use Rattle.ic_diagnostics.specs.Telling.{sentence}
 use Rattle.ic_check.specs.LinePlaces.{IsLinePlace}
 use Rattle.ic_check.specs.Telling.{fault_line, line_sentence, place_text, placed_line}
 use Rattle.ic_check.specs.Warnings.{Warns}

@@ -14,7 +14,7 @@ use Rattle.ic_text.specs.Name.{number_in}
 use Rattle.ic_text.specs.Places.{is_between}
 use Rattle.ic_text.specs.SystemSource.{SystemPhrase, system_words}
 use Rattle.ic_text.specs.Token.{Token, is_blank, tokens}
-use Rattle.ic_places.specs.Sights.{first_word, is_command}
+use Rattle.ic_diagnostics.specs.Sights.{first_word, is_command}
 use Rattle.ic_check.specs.LinePlaces.{submit_front}
 use Rattle.ic_check.specs.declared.due.Due.{Due}
 use Rattle.ic_check.specs.declared.due.Due.TheVariants.{Command, SubmitName, Budget, System, OldName, NewName, VerbName, Number, Nothing}

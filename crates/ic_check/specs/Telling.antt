@@ -4,9 +4,9 @@ use Rattle.std.specs.Fmt.{decimal}
 use Rattle.std.specs.List.{concat}
 use Rattle.ic_text.specs.declared.fault.TextFault.{TextFault}
 use Rattle.ic_text.specs.Text.{fault_text}
-use Rattle.ic_places.specs.declared.telling.Kind.TheVariants.{System}
-use Rattle.ic_places.specs.Lines.{column, last_line, line_number, told_at}
-use Rattle.ic_places.specs.Telling.{sentence}
+use Rattle.ic_diagnostics.specs.declared.telling.Kind.TheVariants.{System}
+use Rattle.ic_diagnostics.specs.Lines.{column, last_line, line_number, told_at}
+use Rattle.ic_diagnostics.specs.Telling.{sentence}
 use Rattle.ic_check.specs.declared.due.Due.{Due}
 use Rattle.ic_check.specs.declared.due.Due.TheVariants.{Command, SubmitName, Budget, System as Opened, OldName, NewName, VerbName, Number, Nothing}
 use Rattle.ic_check.specs.declared.due.LineLimit.{LineLimit}

@@ -1,7 +1,7 @@
 //! The words of a line before its system, one after the other.
 
 ghost use Rattle.std.specs.Prelude.{◌≡◌, ◌≢◌, ◌+◌, ◌≤◌, ◌++◌, [], IsSome, None, Some, length};
-ghost use Rattle.ic_places.specs.Sights.{first_word};
+ghost use Rattle.ic_diagnostics.specs.Sights.{first_word};
 ghost use Rattle.ic_check.specs.inner.Fronts.{IsFilled, IsFront, behind, behind_blanks, behind_word, earlier, passed_at};
 
 use crate::due::{Due, LineLimit, behind, passed_at};

@@ -6,7 +6,7 @@ ghost use Rattle.ic_check.specs.Telling.{fault_line, line_limit_sentence, line_s
 
 use crate::due::{Due, LineLimit};
 use crate::line_places::{LineDetail, LinePlace};
-use ic_places::{Kind, column, last_line, line_number, sentence, told_at};
+use ic_diagnostics::{Kind, column, last_line, line_number, sentence, told_at};
 use ic_text::{Misread, TextFault, print_fault, put_decimal};
 use std::alloc::{AllocError, Global};
 

@@ -6,7 +6,7 @@ ghost use Rattle.ic_check.specs.Checking.{TellsConfig, TellsSystem, told_fault};
 
 use crate::remarks::{known, put_fault};
 use crate::warnings::put_warnings;
-use ic_places::Kind;
+use ic_diagnostics::Kind;
 use ic_text::{Misread, find_config, find_system};
 use std::alloc::{AllocError, Global};
 

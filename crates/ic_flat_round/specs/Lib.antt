@@ -1,3 +1,4 @@
+pub mod Facing
 pub mod InPlace
 pub mod PlainWorks
 pub mod inner

@@ -1,13 +1,14 @@
 //! Rounds of configurations in flat form: whether one fits, whether one is quiet, how many of its equations are active and
 //! what they fire to, what a configuration settles to, and `round`, which fires and settles in turn.
 //!
-//! The answers are those of `ic_round` and `ic_settle` for the same configuration, found by walks over its words. No walk
-//! recurses on the depth of a configuration's terms; those over a rule's terms, which have 2,048 nodes at most, do.
+//! The answers are those that `ic_round` and `ic_settle` define, found by walks over the words of a configuration. No walk
+//! recurses on the depth of its terms; those over a rule's terms, which have 2,048 nodes at most, do.
 //! `FlatRules` are rules whose sides are ready to be copied as words, and a `Workspace` has the lists that rounds are made in.
 //! `works` makes terms of the active equations, for who fires them elsewhere, and `filled` words of what they gave.
 #![tactic(auto)]
 
 mod activity;
+mod agents;
 mod bound;
 mod containers;
 mod ended;
@@ -28,6 +29,7 @@ mod workspace;
 mod writing;
 
 pub use activity::active_equations;
+pub use agents::facing;
 pub use ended::is_settled;
 pub use filling::filled;
 pub use fired::fire;

@@ -11,7 +11,7 @@ use Rattle.ic_in_place.specs.declared.running.End.{End}
 use Rattle.ic_in_place.specs.declared.running.End.TheVariants.{Quiet, Steps, Nodes, Limit, Memory}
 use Rattle.ic_in_place.specs.Reductions.{is_written, line_reached, stuck_at}
 use Rattle.ic_in_place.specs.inner.Told.{words_stuck}
-use Rattle.ic_looks.specs.Stuck.{stuck_text}
+use Rattle.ic_by_rounds.specs.Stuck.{stuck_text}
 
 pub line_so : (partial : Bool) (end : End) (ss other : List Symbol) (ws : List Word) (terms : ℕ) (answer : Configuration) (line : List ℕ)
     → line ≡ cond (is_written partial end) (line_of ss (configuration_of ws terms 0)) [] → ss ≡ other → configuration_of ws terms (MAX_NAME + 1) ≡ renumbered answer

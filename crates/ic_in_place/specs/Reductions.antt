@@ -10,7 +10,7 @@ use Rattle.ic_text.specs.SystemText.{ReadsSystem}
 use Rattle.ic_text.specs.declared.fault.TextFault.TheVariants as text
 use Rattle.ic_streams.specs.Streams.{Answering, line_of}
 use Rattle.ic_streams.specs.declared.fault.StreamFault.TheVariants.{Read, Text, Round, Memory, Write}
-use Rattle.ic_looks.specs.Stuck.{stuck_text}
+use Rattle.ic_by_rounds.specs.Stuck.{stuck_text}
 use Rattle.ic_in_place.specs.Reducing.{IsReached}
 use Rattle.ic_in_place.specs.declared.running.Bounds.{Bounds}
 use Rattle.ic_in_place.specs.declared.running.End.{End}

@@ -1,2 +1,10 @@
-pub mod UnusedLemmas
-pub mod BegunLemmas
+pub mod FieldLemmas
+pub mod LineLemmas
+pub mod HeldLemmas
+pub mod FrontLemmas
+pub mod ReadLemmas
+pub mod MomentLemmas
+pub mod StepLemmas
+pub mod PhaseLemmas
+pub mod ReadingLemmas
+pub mod StaysLemmas

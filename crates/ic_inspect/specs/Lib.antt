@@ -1,1 +1,6 @@
-pub mod Unused
+-- What a reader of the public contracts must believe.
+pub mod Seeing
+pub mod Held
+pub mod Report
+pub mod Inspecting
+pub mod Moments

@@ -1,62 +1,270 @@
 //! Laws of the definitions that the contracts of this crate cite.
 
-ghost use Rattle.std.specs.Prelude.{◌≡◌, ◌⊎◌, ◌+◌, ◌≤◌, ◌++◌, ◌∷◌, ℕ, List, [], codes, length, replicate, slice_index};
-ghost use Rattle.ic_codec.specs.Tables.{old_table_bytes, table_bytes};
-ghost use Rattle.ic_disk.specs.Content.{laid};
-ghost use Rattle.ic_frames.specs.declared.frame.TheConstants.{HEAD};
-ghost use Rattle.ic_frames.specs.declared.slot.TheConstants.{SECOND_AT};
+ghost use Rattle.std.specs.Prelude.{◌≡◌, ◌+◌, ◌++◌, ◌<◌, ◌≤◌, ℕ, List, [], ◌∷◌, Option, None, Some, Contains, IsSome, OnOk, codes, drop, length, map, take, false, true};
+ghost use Rattle.std.specs.Fmt.{decimal};
+ghost use Rattle.std.specs.List.{flat_map};
+ghost use Rattle.ic_term.specs.Configuration.{Configuration, configuration_nodes};
+ghost use Rattle.ic_term.specs.Tree.{Pair};
+ghost use Rattle.ic_rules.specs.Rule.{Rule};
+ghost use Rattle.ic_round.specs.Firing.{rule_of_sides};
+ghost use Rattle.ic_disk.specs.Images.{Torn};
+ghost use Rattle.ic_codec.specs.Tables.{IsFormOf};
+ghost use Rattle.ic_commands.specs.ReplyText.{state_text};
 ghost use Rattle.ic_jobs.specs.Job.{JobParts};
-ghost use Rattle.ic_slots.specs.Held.{IsHeld, the_table, no_slot};
-ghost use Rattle.ic_inspect.specs.Unused.{IsBegun, IsUnused, first_bytes};
+ghost use Rattle.ic_jobs.specs.Table.{IsTable};
+ghost use Rattle.ic_frames.specs.declared.frame.TheConstants.{HEAD, MAX_BODY};
+ghost use Rattle.ic_frames.specs.declared.slot.Slot.{Slot};
+ghost use Rattle.ic_frames.specs.declared.slot.Slot.TheVariants.{First, Second};
+ghost use Rattle.ic_frames.specs.Fields.{number, body, is_open, is_whole, size, IsMade};
+ghost use Rattle.ic_frames.specs.Frames.{content_of, target_of, number_of, is_closed, is_staged, KeepsModel};
+ghost use Rattle.ic_frames.specs.Held.{IsClosedIn, IsNewest};
+ghost use Rattle.ic_frames.specs.Opened.{IsOnNewest};
+ghost use Rattle.ic_frames.specs.Places.{place, other};
+ghost use Rattle.ic_frames.specs.Staged.{IsStaged};
+ghost use Rattle.ic_slots.specs.Held.{Held, IsHeld, the_table, no_slot, two_alike, damaged};
+ghost use Rattle.ic_inspect.specs.declared.fault.InspectFault.{InspectFault};
+ghost use Rattle.ic_inspect.specs.declared.inspecting.TheConstants.{LIMIT};
+ghost use Rattle.ic_inspect.specs.declared.seen.Body.TheVariants.{TooLong, CutShort, NoTable, Holds};
+ghost use Rattle.ic_inspect.specs.declared.seen.Seen.{Seen};
+ghost use Rattle.ic_inspect.specs.Seeing.{IsSeen};
+ghost use Rattle.ic_inspect.specs.Held.{as_newest, held_of, newest_of};
+ghost use Rattle.ic_inspect.specs.Report.{active_pairs, counts_text, job_line, line, newest_text, report, slot_line, table_lines, told_held};
+ghost use Rattle.ic_inspect.specs.Moments.{IsReading, IsServed, IsServerStep, IsReadTwice, IsReadTwiceBetween, IsWholeNewest};
+ghost use Rattle.ic_inspect.specs.Inspecting.{Tells, WritesTold, all_inspect_faults, inspect_fault_number};
 
-use ic_frames::laws::{a_slot_is_open_or_whole, the_newest_slot_is_held};
-use ic_slots::laws::one_is_held;
+use crate::fault::InspectFault;
+use crate::inspecting::{inspect, read_front};
+use ic_disk::Disk;
+use ic_frames::laws::{one_body_is_kept, the_newest_slot_is_held};
+use ic_frames::{Frames, KeepFault};
+use std::alloc::Global;
+use std::io::{Read, Write};
 
-/// What a stopped `create` leaves of an empty file has no open slot.
-pub fn what_is_begun_is_shut()
-    ensures { (file : List ℕ) → IsBegun file → IsHeld no_slot file }
+/// What is told as held is what the file holds: the table that an opening of the disk finds, or why it finds none.
+pub fn what_is_told_as_held_is_held()
+    ensures held { (file : List ℕ) (first second : Option Seen) → IsSeen First first file
+        → IsSeen Second second file → IsHeld (held_of first second) file }
+    ensures nothing_else { (file : List ℕ) (first second : Option Seen) (held : Held)
+        → IsSeen First first file → IsSeen Second second file → IsHeld held file
+        → held ≡ held_of first second }
 {
-    a_slot_is_open_or_whole();
+    ic_frames::laws::a_slot_is_open_or_whole();
     the_newest_slot_is_held();
+    ic_slots::laws::the_newest_table_is_held();
+    ic_slots::laws::one_is_held();
 }
 
-/// No job is lost where a disk is made anew that may be: a table that it holds has none. An empty file
-/// may be, and so may a file that holds the empty table.
-pub fn no_job_is_lost()
-    ensures lost { (file : List ℕ) (t : List JobParts)
-        → IsUnused file → IsHeld (the_table t) file → t ≡ [] }
-    ensures nothing { IsUnused [] }
-    ensures empty { (file : List ℕ) → IsHeld (the_table []) file → IsUnused file }
+/// Where a table is told as held, the slot that is told with it is the newest of the file, and has a form of that table.
+/// The lines of this table stand behind the words of this slot.
+pub fn a_table_is_told_of_its_slot()
+    ensures newest { (file : List ℕ) (first second : Option Seen) (t : List JobParts)
+        → IsSeen First first file → IsSeen Second second file
+        → held_of first second ≡ the_table t
+        → (slot : Slot) × (newest_of first second ≡ as_newest slot) × IsNewest slot file
+        × (is_whole (place slot) file ≡ true) × IsTable t × IsFormOf t (body (place slot) file) }
+    ensures told { (first second : Option Seen) (t : List JobParts) (slot : Slot)
+        → newest_of first second ≡ as_newest slot → held_of first second ≡ the_table t
+        → report first second ≡ slot_line 49 first ++ slot_line 50 second
+        ++ table_lines (newest_text (as_newest slot)) t }
+    ensures first { newest_text (as_newest First) ≡ codes "slot 1" }
+    ensures second { newest_text (as_newest Second) ≡ codes "slot 2" }
 {
-    one_is_held();
-    what_is_begun_is_shut();
+    ic_frames::laws::a_slot_is_open_or_whole();
 }
 
-/// What a stopped `create` leaves ends with the head of the second slot at the latest, is closed, and has
-/// zeros behind the 18 bytes of an empty table. Each byte of it is 0, or the one that a `create` writes
-/// there.
-pub fn what_is_begun_is_nearly_empty()
-    ensures short { (file : List ℕ) → IsBegun file → length file ≤ SECOND_AT + HEAD }
-    ensures closed { (file : List ℕ) → IsBegun file → slice_index file 0 ≡ 0 }
-    ensures zeros { (file : List ℕ) (i : ℕ) → IsBegun file → 18 ≤ i → slice_index file i ≡ 0 }
-    ensures bytes { (file : List ℕ) (i : ℕ) → IsBegun file → (slice_index file i ≡ 0)
-        ⊎ ((slice_index file i ≡ slice_index (first_bytes (table_bytes [])) i)
-        ⊎ (slice_index file i ≡ slice_index (first_bytes (old_table_bytes [])) i)) }
+/// The line of a slot, word for word. Behind the digit both slots have the same words.
+pub fn slots_are_told_so()
+    ensures same_words { (seen : Option Seen) → (words : List ℕ)
+        × (slot_line 49 seen ≡ codes "slot 1" ++ words)
+        × (slot_line 50 seen ≡ codes "slot 2" ++ words) }
+    ensures first_cut_off { slot_line 49 None ≡ line (codes "slot 1: cut off") }
+    ensures second_cut_off { slot_line 50 None ≡ line (codes "slot 2: cut off") }
+    ensures open_table { (n size : ℕ) (t : List JobParts)
+        → slot_line 49 (Some (record { opened = true; number = n; size = size; body = Holds t }))
+        ≡ line (codes "slot 1: open, number " ++ decimal n ++ codes ", body " ++ decimal size
+        ++ codes ", a table") }
+    ensures closed_table { (n size : ℕ) (t : List JobParts)
+        → slot_line 50 (Some (record { opened = false; number = n; size = size; body = Holds t }))
+        ≡ line (codes "slot 2: closed, number " ++ decimal n ++ codes ", body " ++ decimal size
+        ++ codes ", a table") }
+    ensures open_no_table { (n size : ℕ)
+        → slot_line 49 (Some (record { opened = true; number = n; size = size; body = NoTable }))
+        ≡ line (codes "slot 1: open, number " ++ decimal n ++ codes ", body " ++ decimal size
+        ++ codes ", no table") }
+    ensures closed_no_table { (n size : ℕ)
+        → slot_line 50 (Some (record { opened = false; number = n; size = size; body = NoTable }))
+        ≡ line (codes "slot 2: closed, number " ++ decimal n ++ codes ", body " ++ decimal size
+        ++ codes ", no table") }
+    ensures open_cut_short { (n size : ℕ)
+        → slot_line 49 (Some (record { opened = true; number = n; size = size; body = CutShort }))
+        ≡ line (codes "slot 1: open, number " ++ decimal n ++ codes ", body " ++ decimal size
+        ++ codes ", cut short") }
+    ensures closed_cut_short { (n size : ℕ)
+        → slot_line 50 (Some (record { opened = false; number = n; size = size; body = CutShort }))
+        ≡ line (codes "slot 2: closed, number " ++ decimal n ++ codes ", body " ++ decimal size
+        ++ codes ", cut short") }
+    ensures open_too_long { (n size : ℕ)
+        → slot_line 49 (Some (record { opened = true; number = n; size = size; body = TooLong }))
+        ≡ line (codes "slot 1: open, number " ++ decimal n ++ codes ", body " ++ decimal size
+        ++ codes ", too long") }
+    ensures closed_too_long { (n size : ℕ)
+        → slot_line 50 (Some (record { opened = false; number = n; size = size; body = TooLong }))
+        ≡ line (codes "slot 2: closed, number " ++ decimal n ++ codes ", body " ++ decimal size
+        ++ codes ", too long") }
 {}
 
-/// The bytes that a `create` writes in the first slot before it opens the gate: a gate that is closed, the
-/// number 1 in eight bytes, the length 5 in four, the name of the form, and that there are no jobs.
-pub fn the_first_bytes_are()
-    ensures ict2 { first_bytes (table_bytes [])
-        ≡ 0 ∷ 0 ∷ 0 ∷ 0 ∷ 0 ∷ 0 ∷ 0 ∷ 0 ∷ 1 ∷ 0 ∷ 0 ∷ 0 ∷ 5 ∷ codes "ICT2" ++ 0 ∷ [] }
-    ensures ict1 { first_bytes (old_table_bytes [])
-        ≡ 0 ∷ 0 ∷ 0 ∷ 0 ∷ 0 ∷ 0 ∷ 0 ∷ 0 ∷ 1 ∷ 0 ∷ 0 ∷ 0 ∷ 5 ∷ codes "ICT1" ++ 0 ∷ [] }
+/// What is held is told word for word.
+pub fn what_is_held_is_told_so()
+    ensures table { (words : List ℕ) (t : List JobParts) → told_held words (the_table t)
+        ≡ line (codes "held: " ++ words) ++ flat_map job_line t }
+    ensures job { (j : JobParts) → job_line j
+        ≡ line (j.name ++ codes ": " ++ state_text j.state ++ codes ", rounds " ++ decimal j.rounds
+        ++ counts_text (configuration_nodes j.config) (active_pairs j.rules.rules j.config)) }
+    ensures no_slot { (words : List ℕ) → told_held words no_slot
+        ≡ line (codes "held: no slot") }
+    ensures two_alike { (words : List ℕ) → told_held words two_alike
+        ≡ line (codes "held: two alike") }
+    ensures damaged { (words : List ℕ) → told_held words damaged
+        ≡ line (codes "held: damaged") }
+    ensures counts { (nodes pairs : ℕ) → counts_text nodes pairs
+        ≡ codes ", nodes " ++ decimal nodes ++ codes ", active pairs " ++ decimal pairs }
 {}
 
-/// Behind each write of a `create` of an empty file, but for the last one, which opens the gate, the
-/// file is what a stopped `create` leaves: behind that of the second head, and of the first slot.
-pub fn each_write_of_create_is_begun()
-    ensures head { IsBegun (laid SECOND_AT (replicate HEAD 0) []) }
-    ensures slot { IsBegun (laid 0 (first_bytes (table_bytes []))
-        (laid SECOND_AT (replicate HEAD 0) [])) }
+/// The active pairs of a job are its equations that a rule fires, each counted once.
+pub fn pairs_with_a_rule_are_counted()
+    ensures none { (rs : List Rule) (c : Configuration) → c.equations ≡ []
+        → active_pairs rs c ≡ 0 }
+    ensures active { (rs : List Rule) (c d : Configuration) (e : Pair)
+        → c.equations ≡ e ∷ d.equations → IsSome (rule_of_sides rs e.left e.right)
+        → active_pairs rs c ≡ active_pairs rs d + 1 }
+    ensures inert { (rs : List Rule) (c d : Configuration) (e : Pair)
+        → c.equations ≡ e ∷ d.equations → ¬ IsSome (rule_of_sides rs e.left e.right)
+        → active_pairs rs c ≡ active_pairs rs d }
+{}
+
+/// What is seen of the first 8,388,608 bytes of a file is seen of the file, and so are their lines.
+pub fn the_front_is_seen_as_the_file()
+    ensures seen { (slot : Slot) (seen : Option Seen) (file : List ℕ)
+        → IsSeen slot seen (take LIMIT file) → IsSeen slot seen file }
+    ensures lines { (file lines : List ℕ) → Tells (take LIMIT file) lines → Tells file lines }
+{
+    ic_frames::laws::a_slot_is_open_or_whole();
+}
+
+/// Of a file that a server writes meanwhile: a table that the bytes hold that were read twice stood in the file at a moment
+/// of the reading. Where it is told that none is held, the file may hold one all the same.
+pub fn a_table_that_is_shown_stood()
+    ensures { (at : ℕ → List ℕ) (read : List ℕ) (t : List JobParts) → IsServed at
+        → (twice : IsReadTwice at read) → IsHeld (the_table t) read
+        → (m : ℕ) × (twice.first ≤ m) × (m ≤ twice.second_again) × IsHeld (the_table t) (at m) }
+{
+    ic_frames::laws::a_slot_is_open_or_whole();
+    the_newest_slot_is_held();
+    ic_slots::laws::the_newest_table_is_held();
+}
+
+/// A file that stays as it is, and has both bodies within it, is read as it is, at any moment and twice. A server that does
+/// nothing leaves it so.
+pub fn a_file_that_stays_is_read_as_it_is()
+    ensures read { (file : List ℕ) (from until : ℕ) → from ≤ until
+        → ((slot : Slot) → place slot + HEAD + size (place slot) file ≤ length file)
+        → IsReading (λ moment. file) from until file }
+    ensures twice { (file : List ℕ)
+        → ((slot : Slot) → place slot + HEAD + size (place slot) file ≤ length file)
+        → IsReadTwice (λ moment. file) file }
+    ensures served { (slot : Slot) (file : List ℕ) → IsNewest slot file
+        → IsServed (λ moment. file) }
+{}
+
+/// Two readings of a file over time, of which the second begins where the first has ended: what is told is told of the bytes
+/// of the first, and these were read twice. So a table of them stood in the file meanwhile, as `a_table_that_is_shown_stood`
+/// says.
+pub fn what_is_inspected_was_read_twice<R: Read, S: Read, W: Write>(
+    alloc: Global,
+    reader: &mut R,
+    again: &mut S,
+    writer: &mut W,
+) -> Result<(), InspectFault>
+    ensures told { (all : List ℕ) → R.remaining reader.old ≡ Some all → OnOk result
+        (WritesTold (take LIMIT all) (W.contents writer.old) (W.contents writer.new)) }
+    ensures twice { (at : ℕ → List ℕ) (from between later until : ℕ) (all others : List ℕ)
+        → R.remaining reader.old ≡ Some all → IsReading at from between (take LIMIT all)
+        → S.remaining again.old ≡ Some others → IsReading at later until (take LIMIT others)
+        → between ≤ later → OnOk result (IsReadTwiceBetween at from until (take LIMIT all)) }
+{
+    let first = read_front(alloc, reader)?;
+    inspect(alloc, &first, again, writer)
+}
+
+/// What a keep writes beside a newest slot that is whole is a step of a server, and so is what stands in the midst of it:
+/// any bytes in the range that is written.
+pub fn the_writes_of_a_keep_are_steps()
+    ensures closing { (target : Slot) (old new : List ℕ) → IsWholeNewest (other target) old
+        → is_open (place target) old ≡ true → length new ≡ length old
+        → Torn (place target) 1 old new → IsServerStep old new }
+
+    // Behind a closed gate each file in the midst of a write goes to each other one, the last too.
+    ensures writing { (target : Slot) (count : ℕ) (old amid later : List ℕ)
+        → IsWholeNewest (other target) old → IsClosedIn target old → IsMade old
+        → count < HEAD + MAX_BODY → Torn (place target + 1) count old amid
+        → Torn (place target + 1) count old later → IsServerStep amid later }
+
+    ensures opening { (target : Slot) (n : ℕ) (next old new : List ℕ)
+        → IsWholeNewest (other target) old → IsClosedIn target old → IsStaged target n next old
+        → number (place (other target)) old < n
+        → Torn (place target) 1 old new → IsServerStep old new }
+{}
+
+/// The first phase of a keep is one step of a server, and leaves the frames on the newest slot.
+pub fn closing_a_gate_is_a_step<D: Disk>(frames: &mut Frames<D>) -> Result<(), KeepFault>
+    ensures step { KeepsModel frames.old → IsOnNewest frames.old (content_of frames.old)
+        → OnOk result (IsServerStep (content_of frames.old) (content_of frames.new)) }
+    ensures newest { KeepsModel frames.old → IsOnNewest frames.old (content_of frames.old)
+        → OnOk result (IsOnNewest frames.new (content_of frames.new)) }
+{
+    one_body_is_kept(frames);
+    the_newest_slot_is_held();
+    frames.close_gate()
+}
+
+/// The second phase is one step too, also on a disk that isn't made. Behind it the next body is staged.
+pub fn writing_a_body_is_a_step<D: Disk>(
+    frames: &mut Frames<D>,
+    frame: &mut [u8],
+) -> Result<(), KeepFault>
+    requires closed { is_closed frames.old ≡ true }
+    requires head { 13 ≤ length frame.old }
+    requires short { length frame.old ≤ 13 + MAX_BODY }
+    ensures step { KeepsModel frames.old → IsOnNewest frames.old (content_of frames.old)
+        → OnOk result (IsServerStep (content_of frames.old) (content_of frames.new)) }
+    ensures newest { KeepsModel frames.old → IsOnNewest frames.old (content_of frames.old)
+        → OnOk result (IsOnNewest frames.new (content_of frames.new)) }
+    ensures staged { KeepsModel frames.old → OnOk result
+        (IsStaged (target_of frames.new) (number_of frames.new + 1) (drop 13 frame.old)
+        (content_of frames.new)) }
+{
+    one_body_is_kept(frames);
+    the_newest_slot_is_held();
+    frames.write_body(frame)
+}
+
+/// The third phase is one step too, and leaves the frames on the slot that it opens.
+pub fn opening_a_gate_is_a_step<D: Disk>(frames: &mut Frames<D>) -> Result<(), KeepFault>
+    requires staged { is_staged frames.old ≡ true }
+    ensures step { (next : List ℕ) → KeepsModel frames.old → is_closed frames.old ≡ true
+        → IsOnNewest frames.old (content_of frames.old)
+        → IsStaged (target_of frames.old) (number_of frames.old + 1) next (content_of frames.old)
+        → OnOk result (IsServerStep (content_of frames.old) (content_of frames.new)) }
+    ensures newest { KeepsModel frames.old
+        → OnOk result (IsOnNewest frames.new (content_of frames.new)) }
+{
+    one_body_is_kept(frames);
+    the_newest_slot_is_held();
+    frames.open_gate()
+}
+
+/// The lasting numbers of the faults, which are all that there are.
+pub fn numbers_are_lasting()
+    ensures all { (fault : InspectFault) → Contains all_inspect_faults fault }
+    ensures numbers { map inspect_fault_number all_inspect_faults ≡ 1 ∷ 2 ∷ 3 ∷ 4 ∷ [] }
 {}

@@ -1,11 +1,19 @@
-//! Looking at a disk before anything is done with it.
+//! What a disk's file holds, told in lines, with nothing changed and no lock taken.
 //!
-//! `is_unused` tells whether a disk may be made anew without a loss: it holds no job, and nothing
-//! else stands in its place. `laws` holds what is proved of the definitions alone.
+//! `read_front` reads a file once. `inspect` is handed what it gave, reads the file again, and writes what both readings
+//! saw: each slot, and the jobs of the table that is held. `told` makes these lines of bytes. `laws` says that what is told
+//! as held is what an opening of the disk finds.
 #![tactic(auto)]
 
-mod first;
+mod choosing;
+mod fault;
+mod inspecting;
 pub mod laws;
-mod unused;
+mod looking;
+mod seen;
+mod telling;
 
-pub use unused::is_unused;
+pub use choosing::Newest;
+pub use fault::InspectFault;
+pub use inspecting::{LIMIT, inspect, read_front, told};
+pub use seen::{Body, Seen};

@@ -7,8 +7,8 @@
 //! `round` for both; `keep`, `page`; and what the book tells: `log`, `entry K`, `table`, `start`.
 
 use crate::answers::number_first;
+use ic_book::{Book, BookFault};
 use ic_commands::{Line, print_reply, read_command};
-use ic_desk::{Book, BookFault};
 use ic_disk::{Blow, FuseDisk, MemDisk, Then};
 use ic_jobs::{Command, Entry, Event, Landed, Table};
 use ic_notation::{Trouble, bytes_of, decimal};

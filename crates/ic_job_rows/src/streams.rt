@@ -1,8 +1,8 @@
 //! Writers that fail, and what a dump and a look at a disk answer then.
 
 use ic_commands::{Line, read_command};
-use ic_contents::inspect;
 use ic_dump::dump_jobs;
+use ic_inspect::inspect;
 use ic_jobs::Table;
 use ic_notation::Trouble;
 use std::alloc::{AllocError, Global};

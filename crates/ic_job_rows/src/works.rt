@@ -3,7 +3,8 @@
 use ic_crew::{Answer, deal, match_answers};
 use ic_notation::{Trouble, decimal, system_of};
 use ic_pool::{OpenGate, PoolFault};
-use ic_round::{Work, plan, round};
+use ic_reference::{plan, round};
+use ic_round::Work;
 use ic_rules::RuleSet;
 use ic_term::{Config, over};
 use std::alloc::{AllocError, Global};

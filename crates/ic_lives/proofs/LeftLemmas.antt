@@ -5,8 +5,8 @@ use Rattle.ic_jobs.specs.declared.event.Entry.{Entry}
 use Rattle.ic_jobs.specs.Job.{JobParts}
 use Rattle.ic_jobs.specs.History.{replay}
 use Rattle.ic_slots.specs.Held.{HoldsTable}
-use Rattle.ic_desk.specs.Kept.{HoldsKeptOrAll, IsHistory}
-use Rattle.ic_desk.specs.Lives.{IsPage}
+use Rattle.ic_book.specs.Kept.{HoldsKeptOrAll, IsHistory}
+use Rattle.ic_book.specs.Lives.{IsPage}
 
 -- how many entries are in the table that is left
 pub stop_front : (start : List JobParts) (log : List Entry) (kept : ℕ) (file : List ℕ) → kept ≤ length log → HoldsKeptOrAll start log kept file

@@ -12,7 +12,7 @@ use Rattle.ic_jobs.specs.Job.{JobParts}
 use Rattle.ic_jobs.specs.History.{replay, IsLegal}
 use Rattle.ic_jobs.specs.Life.{Life, HasLived, IsAsLived}
 use Rattle.ic_slots.specs.Held.{Held, the_table, IsHeld, HoldsTable}
-use Rattle.ic_desk.specs.Lives.{Page, IsPage, AreLives, left_by, lived}
+use Rattle.ic_book.specs.Lives.{Page, IsPage, AreLives, left_by, lived}
 use Rattle.ic_lives.specs.lemmas.RunLemmas.{Replays, Joins}
 
 legal_front : Joins → (t : List JobParts) (h : List Entry) (n : ℕ) → IsLegal t h → IsLegal t (take n h)

@@ -4,8 +4,8 @@ use Rattle.std.proofs.lemmas.List.{take-take, take_all, take-append-le, length-t
 use Rattle.ic_jobs.specs.declared.command.Command.{Command}
 use Rattle.ic_jobs.specs.declared.event.Entry.{Entry}
 use Rattle.ic_jobs.specs.declared.reply.Reply.{Reply}
-use Rattle.ic_desk.specs.Entries.{command_entry, round_entry}
-use Rattle.ic_desk.specs.Moves.{Move, opens, refuses, answers, fails, rounds, keeps, stays, closes, stops, brings}
+use Rattle.ic_book.specs.Entries.{command_entry, round_entry}
+use Rattle.ic_book.specs.Moves.{Move, opens, refuses, answers, fails, rounds, keeps, stays, closes, stops, brings}
 use Rattle.ic_lives.specs.Past.{Past, Cuts, Next, Leads, IsPast}
 
 -- all that lasted then begins what has come now, and lasts

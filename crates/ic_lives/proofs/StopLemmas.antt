@@ -1,9 +1,9 @@
 -- A stop in the midst of a step.
 use Rattle.ic_disk.specs.declared.disk.Disk.{Ghosts}
-use Rattle.ic_desk.specs.declared.book.Book.{Book}
-use Rattle.ic_desk.specs.Book.{disk_of}
-use Rattle.ic_desk.specs.Moves.{Move, opens, refuses, answers, fails, rounds, keeps, stays, closes, stops}
-use Rattle.ic_desk.specs.Server.{down, up, IsFound, Step}
+use Rattle.ic_book.specs.declared.book.Book.{Book}
+use Rattle.ic_book.specs.Book.{disk_of}
+use Rattle.ic_book.specs.Moves.{Move, opens, refuses, answers, fails, rounds, keeps, stays, closes, stops}
+use Rattle.ic_book.specs.Server.{down, up, IsFound, Step}
 
 module _ {D : Type 0} {ghosts : Ghosts D} where
   pub step_stop : (move : Move) (before after : Book D ghosts) (found : D) → Step move (up before) (up after) → IsFound ghosts (disk_of before) (disk_of after) found

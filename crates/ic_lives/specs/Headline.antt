@@ -8,9 +8,9 @@ use Rattle.ic_jobs.specs.Table.{job_named}
 use Rattle.ic_jobs.specs.History.{replay, IsLegal}
 use Rattle.ic_jobs.specs.Life.{Life, life}
 use Rattle.ic_slots.specs.Held.{HoldsTable}
-use Rattle.ic_desk.specs.Book.{table_of}
-use Rattle.ic_desk.specs.Moves.{Move}
-use Rattle.ic_desk.specs.Server.{Server, down, up, Runs}
+use Rattle.ic_book.specs.Book.{table_of}
+use Rattle.ic_book.specs.Moves.{Move}
+use Rattle.ic_book.specs.Server.{Server, down, up, Runs}
 use Rattle.ic_lives.specs.Past.{Past, nothing, Next, IsPast}
 
 -- A job after its r-th round has the rules of the life that it began, and its configuration is the

@@ -2,8 +2,8 @@
 use Rattle.std.specs.Prelude.{◌≡◌, ◌⊎◌, List, [], ◌∷◌, ◌++◌}
 use Rattle.ic_jobs.specs.declared.event.Entry.{Entry}
 use Rattle.ic_jobs.specs.History.{IsLegal}
-use Rattle.ic_desk.specs.Entries.{command_entry}
-use Rattle.ic_desk.specs.Moves.{Move, answers, brings}
+use Rattle.ic_book.specs.Entries.{command_entry}
+use Rattle.ic_book.specs.Moves.{Move, answers, brings}
 
 -- the commands that these moves have answered, with their replies, in order
 abbrev pub answered : List Move → List Entry

@@ -1,8 +1,8 @@
 -- What the moves of a server make of its past.
 use Rattle.std.specs.Prelude.{◌≡◌, ◌≤◌, ℕ, List, [], ◌∷◌, ◌++◌, length, take}
 use Rattle.ic_jobs.specs.declared.event.Entry.{Entry}
-use Rattle.ic_desk.specs.Entries.{command_entry, round_entry}
-use Rattle.ic_desk.specs.Moves.{Move, opens, refuses, answers, fails, rounds, keeps, stays, closes, stops, brings}
+use Rattle.ic_book.specs.Entries.{command_entry, round_entry}
+use Rattle.ic_book.specs.Moves.{Move, opens, refuses, answers, fails, rounds, keeps, stays, closes, stops, brings}
 
 -- All that has come but for what openings didn't find, in order, and how many of these entries last
 -- whatever stop comes: those up to the last answered command, keep or opening.

@@ -19,14 +19,14 @@ ghost use Rattle.ic_jobs.specs.Life.{life};
 ghost use Rattle.ic_frames.specs.declared.faults.OpenCause.{OpenCause};
 ghost use Rattle.ic_frames.specs.declared.faults.OpenCause.TheVariants.{Device, Memory};
 ghost use Rattle.ic_slots.specs.Held.{HoldsTable};
-ghost use Rattle.ic_desk.specs.Book.{table_of};
-ghost use Rattle.ic_desk.specs.Moves.{Move, answers, keeps, opens, refuses};
-ghost use Rattle.ic_desk.specs.Server.{Server, Reaches, Runs, down, up};
+ghost use Rattle.ic_book.specs.Book.{table_of};
+ghost use Rattle.ic_book.specs.Moves.{Move, answers, keeps, opens, refuses};
+ghost use Rattle.ic_book.specs.Server.{Server, Reaches, Runs, down, up};
 ghost use Rattle.ic_lives.specs.Histories.{IsHistoryOf};
 ghost use Rattle.ic_lives.specs.Past.{Past, Next, Leads, IsPast};
 ghost use Rattle.ic_lives.specs.Headline.{IsTableAfter, HoldsPrefixAfter, Tells, AreTold};
 
-use ic_desk::Book;
+use ic_book::Book;
 use ic_disk::Disk;
 
 /// Stopped at any moment, inside a write or between two, the server opens again with the job table

@@ -12,12 +12,12 @@ ghost use Rattle.ic_jobs.specs.History.{replay, IsLegal};
 ghost use Rattle.ic_jobs.specs.Life.{Life, life, IsAsLived};
 ghost use Rattle.ic_frames.specs.Fields.{IsMade};
 ghost use Rattle.ic_slots.specs.Held.{HoldsTable, IsHeld, the_table};
-ghost use Rattle.ic_desk.specs.Kept.{HoldsKeptOrAll, IsHistory};
-ghost use Rattle.ic_desk.specs.Calls.{LeavesKeptOrAll};
-ghost use Rattle.ic_desk.specs.Book.{start_of, kept_of, disk_of};
-ghost use Rattle.ic_desk.specs.Lives.{Page, IsPage, AreLives, left_by, lived};
+ghost use Rattle.ic_book.specs.Kept.{HoldsKeptOrAll, IsHistory};
+ghost use Rattle.ic_book.specs.Calls.{LeavesKeptOrAll};
+ghost use Rattle.ic_book.specs.Book.{start_of, kept_of, disk_of};
+ghost use Rattle.ic_book.specs.Lives.{Page, IsPage, AreLives, left_by, lived};
 
-use ic_desk::Book;
+use ic_book::Book;
 use ic_disk::Disk;
 
 /// A page is a log that is legal from its table, with as many entries kept as the stop left or

@@ -3,11 +3,11 @@
 ghost use Rattle.std.specs.Prelude.{◌≤◌, [], ◌∷◌, ℕ, List, IfSome};
 ghost use Rattle.ic_disk.specs.History.{IsLeftSince, clock_of, fresh};
 ghost use Rattle.ic_jobs.specs.declared.reply.Reply.{Reply};
-ghost use Rattle.ic_desk.specs.Book.{disk_of};
-ghost use Rattle.ic_desk.specs.Moves.{Move, opens, answers, stays, stops};
-ghost use Rattle.ic_desk.specs.Server.{IsFound, Opens, Reaches, Step, down, up};
+ghost use Rattle.ic_book.specs.Book.{disk_of};
+ghost use Rattle.ic_book.specs.Moves.{Move, opens, answers, stays, stops};
+ghost use Rattle.ic_book.specs.Server.{IsFound, Opens, Reaches, Step, down, up};
 
-use ic_desk::Book;
+use ic_book::Book;
 use ic_disk::{Choice, Disk, MemDisk};
 use ic_jobs::Command;
 use std::alloc::Global;

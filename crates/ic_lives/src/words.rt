@@ -9,8 +9,8 @@ ghost use Rattle.ic_jobs.specs.declared.reply.Reply.{Reply};
 ghost use Rattle.ic_jobs.specs.Job.{JobParts};
 ghost use Rattle.ic_jobs.specs.Life.{Life, life};
 ghost use Rattle.ic_jobs.specs.Table.{job_named};
-ghost use Rattle.ic_desk.specs.Entries.{command_entry};
-ghost use Rattle.ic_desk.specs.Moves.{Move, answers, brings};
+ghost use Rattle.ic_book.specs.Entries.{command_entry};
+ghost use Rattle.ic_book.specs.Moves.{Move, answers, brings};
 ghost use Rattle.ic_lives.specs.Headline.{AreIterates};
 ghost use Rattle.ic_lives.specs.Histories.{IsHistoryOf, StandAmong, answered, come};
 

@@ -3,8 +3,8 @@ use Rattle.std.specs.Prelude.{◌≡◌, ℕ, List, Bool, true, false, Option}
 use Rattle.ic_streams.specs.Streams.{TakesIt}
 use Rattle.ic_streams.specs.declared.fault.StreamFault.{StreamFault}
 use Rattle.ic_streams.specs.declared.fault.StreamFault.TheVariants.{Read, Text, Round, Memory, Write}
-use Rattle.ic_places.specs.Telling.{AppendedAt}
-use Rattle.ic_places.specs.declared.telling.Kind.TheVariants.{Config, System}
+use Rattle.ic_diagnostics.specs.Telling.{AppendedAt}
+use Rattle.ic_diagnostics.specs.declared.telling.Kind.TheVariants.{Config, System}
 use Rattle.ic_nets.specs.Draws.{Draws, has_rules}
 
 -- what a fault appends to what is told, where a text was to be a system, or a configuration

@@ -8,7 +8,7 @@ ghost use Rattle.ic_nets.specs.Telling.{Told, ToldAt};
 
 use crate::drawing::dot;
 use crate::net::net_of;
-use ic_places::{Kind, refused};
+use ic_diagnostics::{Kind, refused};
 use ic_rules::RuleSet;
 use ic_streams::{StreamFault, read_text, write_line};
 use ic_term::Config;

@@ -44,7 +44,7 @@ pub fn build(
     RuleSet::build(alloc, symbols, rules)
 }
 
-/// What `ic_settle::settle` promises: a configuration is settled, by steps of the calculus, as far as they go.
+/// What `ic_reference::settle` promises: a configuration is settled, by steps of the calculus, as far as they go.
 pub fn settle(alloc: Global, config: Config) -> Result<Config, AllocError>
     ensures settled { IfOk result (λ after. after ≡ settled config) }
     ensures reached { IfOk result (λ after. NameSteps config after) }
@@ -52,10 +52,10 @@ pub fn settle(alloc: Global, config: Config) -> Result<Config, AllocError>
     ensures over { IfOk result (λ after. (symbols : List Symbol)
         → IsTrue (is_over symbols config) → IsTrue (is_over symbols after)) }
 {
-    ic_settle::settle(alloc, config)
+    ic_reference::settle(alloc, config)
 }
 
-/// What `ic_round::round` promises: each equation that is active at the start is fired, and then all is settled.
+/// What `ic_reference::round` promises: each equation that is active at the start is fired, and then all is settled.
 pub fn round(alloc: Global, rules: &RuleSet, config: Config) -> Result<Config, RoundFault>
     requires { IsTrue (is_over rules.now.symbols config) }
     ensures round { Answers result
@@ -66,7 +66,7 @@ pub fn round(alloc: Global, rules: &RuleSet, config: Config) -> Result<Config, R
         → config ≡ iterate rules.now.rules n start
         → after ≡ iterate rules.now.rules (n + 1) start) }
 {
-    ic_round::round(alloc, rules, config)
+    ic_reference::round(alloc, rules, config)
 }
 
 /// What `ic_pool::round_by_workers` promises: the same round, by however many workers it is made.

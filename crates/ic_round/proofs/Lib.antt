@@ -1,11 +1,1 @@
 pub mod WorkLemmas
-pub mod ListLemmas
-pub mod Gathers
-pub mod StandsAt
-pub mod StepLemmas
-pub mod Applying
-pub mod Interacting
-pub mod FiringAt
-pub mod Putting
-pub mod SizeLists
-pub mod WorkLists

@@ -10,11 +10,8 @@ pub mod Rounds
 pub mod RoundAnswers
 pub mod Gathering
 pub mod Plans
-pub mod SingleSteps
-pub mod StepAnswers
 pub mod Quiet
 pub mod Turning
 pub mod Naming
 pub mod Completing
 pub mod lemmas
-pub mod inner

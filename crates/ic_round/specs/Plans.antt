@@ -1,12 +1,9 @@
 -- A round as works that can be done apart, and what is left of the configuration.
-use Rattle.std.specs.Prelude.{List, Result, Ok, Err, map}
+use Rattle.std.specs.Prelude.{List}
 use Rattle.ic_term.specs.Configuration.{Configuration}
 use Rattle.ic_rules.specs.Rule.{Rule}
 use Rattle.ic_round.specs.Works.{PlainWork, works_from}
-use Rattle.ic_round.specs.WorkViews.{work_of}
 use Rattle.ic_round.specs.Gathering.{Gapped, gapped}
-use Rattle.ic_round.specs.declared.plans.Plan.{Plan}
-use Rattle.ic_round.specs.declared.round_fault.RoundFault.{RoundFault}
 
 -- works, and a configuration with a gap for each
 pub record PlainPlan : Type 0 where
@@ -16,11 +13,3 @@ pub record PlainPlan : Type 0 where
 -- the works of a configuration, in the order of their places, and what is left of it
 abbrev pub planned : List Rule → Configuration → PlainPlan
 planned rs c = record { works = works_from rs 0 c.next c.equations; rest = gapped rs c }
-
-abbrev pub plan_of : Plan → PlainPlan
-plan_of p = record { works = map work_of p.works.items; rest = p.rest }
-
--- a plan as plain data, if there is one
-abbrev pub shown : Result Plan RoundFault → Result PlainPlan RoundFault
-shown (Ok p) = Ok (plan_of p)
-shown (Err f) = Err f

@@ -20,8 +20,6 @@ ghost use Rattle.ic_round.specs.CountedSteps.{IsStepsFrom};
 ghost use Rattle.ic_round.specs.Turning.{IsTurnedRight};
 ghost use Rattle.ic_round.specs.Works.{PlainFired, result_of, works_from};
 
-pub use ic_settle::laws::settle_slowly;
-
 /// In a configuration whose active equations have fired, each name is below `next` and occurs at
 /// most twice.
 pub fn firing_keeps_names()

@@ -1,7 +1,7 @@
 //! Terms of the greatest depth, in a thread with the standard's stack.
 
 use ic_notation::Trouble;
-use ic_round::round;
+use ic_reference::round;
 use ic_rules::{RuleSet, System};
 use ic_term::{Config, over};
 use ic_text::{print_config, read_system};

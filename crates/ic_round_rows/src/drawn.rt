@@ -2,7 +2,7 @@
 
 use crate::settling::both_settled;
 use ic_notation::{Draws, Trouble};
-use ic_round::bind;
+use ic_reference::bind;
 use ic_term::{Cell, Config, Equation, Term};
 use std::alloc::{AllocError, Global};
 

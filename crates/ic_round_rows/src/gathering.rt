@@ -4,7 +4,8 @@ ghost use Rattle.std.specs.Prelude.{◌≡◌, None, [], ◌∷◌, IfOk};
 ghost use Rattle.ic_round.specs.WorkViews.{fired_of};
 
 use ic_notation::Trouble;
-use ic_round::{Fired, GatherFault, Rest, gather};
+use ic_reference::{Rest, gather};
+use ic_round::{Fired, GatherFault};
 use ic_term::Config;
 use std::alloc::{AllocError, Global};
 

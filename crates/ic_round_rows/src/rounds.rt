@@ -10,7 +10,7 @@ use std::alloc::Global;
 /// What settling makes of a configuration as terms and equations.
 fn settled_as_terms(alloc: Global, flat: &Flat) -> Result<Flat, Trouble> {
     let config = flat.to_config(alloc)?;
-    let after = ic_settle::settle(alloc, config)?;
+    let after = ic_reference::settle(alloc, config)?;
     Ok(Flat::from_config(alloc, &after)?)
 }
 
@@ -36,8 +36,8 @@ fn round_of_terms(
     if !ic_term::over(rules.symbols(), &config) {
         return Err(Trouble("not over the symbols"));
     }
-    let is_fit = ic_round::fits(rules, &config);
-    match ic_round::round(alloc, rules, config) {
+    let is_fit = ic_reference::fits(rules, &config);
+    match ic_reference::round(alloc, rules, config) {
         Ok(after) if is_fit => Ok(Ok(Flat::from_config(alloc, &after)?)),
         Err(fault) if !is_fit => Ok(Err(fault)),
         _ => Err(Trouble("what fits and what has a round differ")),
@@ -115,7 +115,7 @@ impl Rounds {
         let rules = self.rules.rules();
         let config = flat.to_config(alloc)?;
         let is_quiet = quiet(rules, flat);
-        if is_quiet != ic_round::quiet(rules, &config) {
+        if is_quiet != ic_reference::quiet(rules, &config) {
             return Err(Trouble("the two forms differ"));
         }
         Ok(is_quiet)

@@ -2,8 +2,7 @@
 
 use crate::configurations::{config_of, text_over};
 use ic_notation::{Trouble, decimal};
-use ic_round::laws::settle_slowly;
-use ic_round::{bind, settle};
+use ic_reference::{bind, settle, settle_slowly};
 use ic_term::{Config, Symbols, Term};
 use std::alloc::Global;
 

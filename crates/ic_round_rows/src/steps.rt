@@ -1,7 +1,8 @@
 //! Single steps, and the works of a plan.
 
 use ic_notation::{Trouble, decimal, printed, system_of};
-use ic_round::{StepFault, Work, collect_at, fire, indirect_at, interact_at, plan};
+use ic_reference::{StepFault, collect_at, indirect_at, interact_at, plan};
+use ic_round::{Work, fire};
 use ic_rules::RuleSet;
 use ic_term::{Config, over};
 use std::alloc::Global;

@@ -3,9 +3,9 @@
 use ic_flat::{Flat, over};
 use ic_flat_round::{FlatRules, fire};
 use ic_notation::{Trouble, decimal, expanded, printed, system_of};
-use ic_round::{RoundFault, round};
+use ic_reference::{round, settle};
+use ic_round::RoundFault;
 use ic_rules::RuleSet;
-use ic_settle::settle;
 use ic_term::Config;
 use std::alloc::Global;
 
@@ -38,7 +38,7 @@ fn tested(alloc: Global, rules: &RuleSet, flat: &Flat) -> Result<(bool, bool), T
     let config = flat.to_config(alloc)?;
     let fits = ic_flat_round::fits(rules, flat);
     let quiet = ic_flat_round::quiet(rules, flat);
-    if fits != ic_round::fits(rules, &config) || quiet != ic_round::quiet(rules, &config) {
+    if fits != ic_reference::fits(rules, &config) || quiet != ic_reference::quiet(rules, &config) {
         return Err(Trouble("the two forms differ"));
     }
     Ok((fits, quiet))

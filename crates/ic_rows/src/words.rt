@@ -1,7 +1,7 @@
 //! The words after the program's name.
 
+use ic_args::{Task, TraceFormat, read_words};
 use ic_notation::Trouble;
-use ic_words::{Task, TraceFormat, read_words};
 use std::alloc::{AllocError, Global};
 
 /// What words ask for, with all that comes with it.

@@ -3,7 +3,7 @@ use Rattle.std.proofs.Common.{◌≡◌, ◌∙◌, ◌+◌, ◌<◌, ℕ, List,
 use Rattle.std.specs.Prelude.{Result, Ok, Err, OnOk}
 use Rattle.ic_scripts.specs.declared.fault.ScriptsFault.TheVariants.{Book}
 use Rattle.std.specs.List.{AllByRecursion, filter_map}
-use Rattle.ic_desk.specs.declared.fault.BookFault.{BookFault}
+use Rattle.ic_book.specs.declared.fault.BookFault.{BookFault}
 use Rattle.ic_attend.specs.declared.attended.ClientRun.{ClientRun}
 use Rattle.ic_attend.specs.declared.attended.RunnerEnd.{RunnerEnd}
 use Rattle.ic_scripts.specs.Outcome.{IsFirstOf, client_fault, faults_of, keep_faults, runner_fault}

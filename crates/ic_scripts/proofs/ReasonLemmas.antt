@@ -10,13 +10,13 @@ use Rattle.ic_jobs.specs.History.{replay}
 use Rattle.ic_jobs.specs.Job.{JobParts}
 use Rattle.ic_slots.specs.Held.{IsHeld, the_table}
 use Rattle.ic_slots.specs.Keeper as keeper
-use Rattle.ic_desk.specs.declared.book.Book.{Book}
-use Rattle.ic_desk.specs.declared.fault.BookFault.{BookFault}
-use Rattle.ic_desk.specs.declared.fault.BookFault.TheVariants.{Broken, LogFull, Worn, Memory, Device}
-use Rattle.ic_desk.specs.Book.{disk_of, start_of, log_of, table_of, kept_of, is_broken}
-use Rattle.ic_desk.specs.Calls.{BreaksOrStays, KeepsAll, TellsWorn}
-use Rattle.ic_desk.specs.Kept.{IsHistory, IsOnDisk, table_kept}
-use Rattle.ic_desk.specs.Server.{Closes}
+use Rattle.ic_book.specs.declared.book.Book.{Book}
+use Rattle.ic_book.specs.declared.fault.BookFault.{BookFault}
+use Rattle.ic_book.specs.declared.fault.BookFault.TheVariants.{Broken, LogFull, Worn, Memory, Device}
+use Rattle.ic_book.specs.Book.{disk_of, start_of, log_of, table_of, kept_of, is_broken}
+use Rattle.ic_book.specs.Calls.{BreaksOrStays, KeepsAll, TellsWorn}
+use Rattle.ic_book.specs.Kept.{IsHistory, IsOnDisk, table_kept}
+use Rattle.ic_book.specs.Server.{Closes}
 use Rattle.ic_attend.specs.declared.fault.AttendFault.{AttendFault}
 use Rattle.ic_attend.specs.declared.fault.AttendFault.TheVariants as attending
 use Rattle.ic_attend.specs.Faults.{IfUnopened, IfUnbegun, IfStopped, IfTorn, IsUnopened, IsAsOpened, IsStopped, IsTorn}

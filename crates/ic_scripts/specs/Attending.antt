@@ -6,9 +6,9 @@ use Rattle.ic_disk.specs.Images.{Within}
 use Rattle.ic_jobs.specs.declared.command.Command.{Command}
 use Rattle.ic_jobs.specs.Job.{JobParts}
 use Rattle.ic_slots.specs.Held.{IsHeld, the_table}
-use Rattle.ic_desk.specs.Book.{start_of, table_of, disk_of}
-use Rattle.ic_desk.specs.declared.fault.BookFault.{BookFault}
-use Rattle.ic_desk.specs.Refusals.{CountsBook}
+use Rattle.ic_book.specs.Book.{start_of, table_of, disk_of}
+use Rattle.ic_book.specs.declared.fault.BookFault.{BookFault}
+use Rattle.ic_book.specs.Refusals.{CountsBook}
 use Rattle.ic_attend.specs.declared.attended.Attended.{Attended}
 use Rattle.ic_attend.specs.declared.attended.ClientRun.{ClientRun}
 use Rattle.ic_attend.specs.Ends.{EndsTell}

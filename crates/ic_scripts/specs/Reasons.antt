@@ -3,10 +3,10 @@ use Rattle.std.specs.Prelude.{◌≡◌, ◌≢◌, ℕ, ◌-◌, ◌^◌, ◌<�
 use Rattle.ic_disk.specs.declared.disk.Disk.{Ghosts}
 use Rattle.ic_frames.specs.declared.faults.OpenFault.{OpenFault}
 use Rattle.ic_jobs.specs.declared.command.Command.{Command}
-use Rattle.ic_desk.specs.declared.book.Book.{Book}
-use Rattle.ic_desk.specs.declared.fault.BookFault.{BookFault}
-use Rattle.ic_desk.specs.declared.fault.BookFault.TheVariants as of_book
-use Rattle.ic_desk.specs.Book.{log_of, kept_of, is_broken, number_of}
+use Rattle.ic_book.specs.declared.book.Book.{Book}
+use Rattle.ic_book.specs.declared.fault.BookFault.{BookFault}
+use Rattle.ic_book.specs.declared.fault.BookFault.TheVariants as of_book
+use Rattle.ic_book.specs.Book.{log_of, kept_of, is_broken, number_of}
 use Rattle.ic_attend.specs.declared.attended.Attended.{Attended}
 use Rattle.ic_attend.specs.Faults.{IsAsOpened, IsStopped, IsTorn, IsUnopened}
 use Rattle.ic_scripts.specs.declared.fault.ScriptsFault.{ScriptsFault}

@@ -1,8 +1,8 @@
 //! Scripts that are given to a disk.
 
 ghost use Rattle.std.specs.Prelude.{◌≡◌, map, vec_items, OnOk, IsTrue};
-ghost use Rattle.ic_desk.specs.Book.{disk_of, table_of};
-ghost use Rattle.ic_desk.specs.Refusals.{CountsBook};
+ghost use Rattle.ic_book.specs.Book.{disk_of, table_of};
+ghost use Rattle.ic_book.specs.Refusals.{CountsBook};
 ghost use Rattle.ic_scripts.specs.Attending.{HasTable, HoldsAll, IsAttended, IsTold};
 ghost use Rattle.ic_scripts.specs.Reasons.{KeepTells};
 
@@ -10,7 +10,7 @@ use crate::ends::outcome;
 use crate::fault::{ScriptsFault, fault_of_attendance};
 use crate::telling::tell;
 use ic_attend::{Attended, attend};
-use ic_desk::{Book, BookFault};
+use ic_book::{Book, BookFault};
 use ic_disk::Disk;
 use ic_jobs::Command;
 use ic_pool::Gate;

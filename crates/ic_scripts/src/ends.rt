@@ -6,7 +6,7 @@ ghost use Rattle.ic_scripts.specs.Outcome.{IsFirstOf, client_fault, faults_of, r
 
 use crate::fault::ScriptsFault;
 use ic_attend::{ClientRun, RunnerEnd};
-use ic_desk::BookFault;
+use ic_book::BookFault;
 
 /// Whether the clients, the runners and the keep behind them ended well, or the first fault: that
 /// of the first client that stopped, else of the first runner that ended by one, else of the keep.

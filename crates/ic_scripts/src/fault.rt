@@ -4,7 +4,7 @@ ghost use Rattle.std.specs.Prelude.{◌≡◌};
 ghost use Rattle.ic_scripts.specs.Outcome.{fault_of_attendance};
 
 use ic_attend::AttendFault;
-use ic_desk::{BookFault, OpenCause};
+use ic_book::{BookFault, OpenCause};
 use ic_disk::Disk;
 use ic_lines::ScriptFault;
 use ic_pool::PoolFault;

@@ -3,7 +3,7 @@
 ghost use Rattle.std.specs.Prelude.{◌≡◌};
 ghost use Rattle.ic_scripts.specs.Telling.{book_word};
 
-use ic_desk::BookFault;
+use ic_book::BookFault;
 
 /// The words that tell why a call on a book was refused.
 pub fn book_word(fault: BookFault) -> &'static [u8]

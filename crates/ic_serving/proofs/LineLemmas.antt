@@ -8,9 +8,9 @@ use Rattle.ic_jobs.specs.declared.event.Entry.{Entry}
 use Rattle.ic_jobs.specs.declared.reply.Reply.{Reply}
 use Rattle.ic_jobs.specs.Events.{Outcome, apply, outcome}
 use Rattle.ic_jobs.specs.History.{table_after, replay}
-use Rattle.ic_desk.specs.Kept.{table_kept}
-use Rattle.ic_desk.specs.declared.fault.BookFault.{BookFault}
-use Rattle.ic_desk.specs.declared.fault.BookFault.TheVariants.{Broken, LogFull, Worn, Memory, Device}
+use Rattle.ic_book.specs.Kept.{table_kept}
+use Rattle.ic_book.specs.declared.fault.BookFault.{BookFault}
+use Rattle.ic_book.specs.declared.fault.BookFault.TheVariants.{Broken, LogFull, Worn, Memory, Device}
 use Rattle.ic_serving.specs.Parts.{IsPart, IsKeptWithin}
 
 pub device_or_not : (e : BookFault) → (e ≡ Device) ⊎ (e ≢ Device)

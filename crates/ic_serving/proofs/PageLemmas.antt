@@ -12,10 +12,10 @@ use Rattle.ic_jobs.specs.declared.event.Entry.{Entry}
 use Rattle.ic_jobs.specs.declared.reply.Reply.{Reply}
 use Rattle.ic_jobs.specs.History.{table_after}
 use Rattle.ic_jobs.specs.Landing.{due}
-use Rattle.ic_desk.specs.declared.limits.TheConstants.{MAX_ENTRIES}
-use Rattle.ic_desk.specs.declared.book.Book.{Book}
-use Rattle.ic_desk.specs.Book.{start_of, log_of, table_of}
-use Rattle.ic_desk.specs.Entries.{command_entry, round_entry}
+use Rattle.ic_book.specs.declared.limits.TheConstants.{MAX_ENTRIES}
+use Rattle.ic_book.specs.declared.book.Book.{Book}
+use Rattle.ic_book.specs.Book.{start_of, log_of, table_of}
+use Rattle.ic_book.specs.Entries.{command_entry, round_entry}
 use Rattle.ic_lines.specs.Turns.{turns}
 use Rattle.ic_serving.specs.Booked.{last_kept, Advances, MakesRound, StaysPut}
 use Rattle.ic_serving.specs.Grown.{IsSamePage, GoesOn, GoesOnWithin, HasRoom}

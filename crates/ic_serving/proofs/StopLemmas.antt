@@ -25,14 +25,14 @@ use Rattle.ic_lines.specs.declared.buffer.LineFault.TheVariants as line_fault
 use Rattle.ic_lines.specs.Turns.{after_events, turns}
 use Rattle.ic_lines.specs.Answers.{Reading, events}
 use Rattle.ic_lines.specs.Taking.{HasNoLine}
-use Rattle.ic_desk.specs.declared.book.Book.{Book}
-use Rattle.ic_desk.specs.Book.{is_broken, start_of, log_of, table_of, kept_of, keeper_of, disk_of, IsUnchanged}
-use Rattle.ic_desk.specs.Entries.{AddsCommand, command_entry}
-use Rattle.ic_desk.specs.Kept.{HoldsKeptOrAll, table_kept}
+use Rattle.ic_book.specs.declared.book.Book.{Book}
+use Rattle.ic_book.specs.Book.{is_broken, start_of, log_of, table_of, kept_of, keeper_of, disk_of, IsUnchanged}
+use Rattle.ic_book.specs.Entries.{AddsCommand, command_entry}
+use Rattle.ic_book.specs.Kept.{HoldsKeptOrAll, table_kept}
 use Rattle.ic_serving.specs.Booked.{last_kept, IsAllKept, StaysPut}
 use Rattle.ic_serving.specs.Parts.{IsKeptWithin, IsInLine}
 use Rattle.ic_serving.specs.Stopped.{HoldsOne, IsReached, MayStand}
-use Rattle.ic_desk.specs.ByCalls.{IsByCalls}
+use Rattle.ic_book.specs.ByCalls.{IsByCalls}
 use Rattle.ic_serving.specs.Moments.{FaultLeaves, Leaves, IsKeptOrNow, IsKeptInLine}
 use Rattle.ic_serving.specs.declared.fault.ServeFault.{ServeFault}
 use Rattle.ic_serving.specs.declared.fault.ServeFault.TheVariants.{Read, Write, LongLine, Memory}
@@ -42,7 +42,7 @@ use Rattle.ic_serving.specs.Serving.{IsServing}
 use Rattle.ic_serving.specs.InTurn.{AreAnsweredInTurn}
 use Rattle.ic_lines.specs.Serving.{IsServed}
 use Rattle.ic_serving.specs.inner.Progress.{AreFirst, AreToCome, IsUnderWay}
-use Rattle.ic_desk.specs.lemmas.Chains.{by_calls_then}
+use Rattle.ic_book.specs.lemmas.Chains.{by_calls_then}
 use Rattle.ic_serving.specs.lemmas.Leaving.{leaves_more, leaves_then, leaves_nothing}
 use Rattle.ic_serving.proofs.LineLemmas.{kept_behind}
 use Rattle.ic_serving.proofs.RunLemmas.{InRun, run_begun}

@@ -1,10 +1,10 @@
 -- Lines that are answered in turn, and the last call that is made for each.
 use Rattle.std.proofs.Common.{ℕ, List, [], ◌∷◌, ◌++◌, refl, ap, subst, ◌∙◌}
 use Rattle.ic_disk.specs.declared.disk.Disk.{Ghosts}
-use Rattle.ic_desk.specs.declared.book.Book.{Book}
-use Rattle.ic_desk.specs.Moves.{Move}
-use Rattle.ic_desk.specs.ByCalls.{IsByCalls}
-use Rattle.ic_desk.specs.lemmas.Chains.{by_calls_then, then_moves}
+use Rattle.ic_book.specs.declared.book.Book.{Book}
+use Rattle.ic_book.specs.Moves.{Move}
+use Rattle.ic_book.specs.ByCalls.{IsByCalls}
+use Rattle.ic_book.specs.lemmas.Chains.{by_calls_then, then_moves}
 use Rattle.ic_serving.specs.Answered.{EndsWith, IsAnswered}
 use Rattle.ic_serving.specs.InTurn.{AreAnsweredInTurn}
 

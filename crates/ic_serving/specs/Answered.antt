@@ -8,11 +8,11 @@ use Rattle.ic_lines.specs.Lines.{ended}
 use Rattle.ic_commands.specs.declared.line.Line.TheVariants.{Blank, Command as Asks, Run}
 use Rattle.ic_jobs.specs.declared.command.Command.{Command}
 use Rattle.ic_lines.specs.Answers.{Reading, events, answer, after_line}
-use Rattle.ic_desk.specs.declared.book.Book.{Book}
-use Rattle.ic_desk.specs.Book.{is_broken, number_of, log_of, table_of, IsUnchanged}
-use Rattle.ic_desk.specs.declared.limits.TheConstants.{MAX_ENTRIES}
-use Rattle.ic_desk.specs.Moves.{Move, answers, keeps}
-use Rattle.ic_desk.specs.ByCalls.{IsByCalls}
+use Rattle.ic_book.specs.declared.book.Book.{Book}
+use Rattle.ic_book.specs.Book.{is_broken, number_of, log_of, table_of, IsUnchanged}
+use Rattle.ic_book.specs.declared.limits.TheConstants.{MAX_ENTRIES}
+use Rattle.ic_book.specs.Moves.{Move, answers, keeps}
+use Rattle.ic_book.specs.ByCalls.{IsByCalls}
 use Rattle.ic_serving.specs.Booked.{Begins, IsAllKept}
 use Rattle.ic_serving.specs.Grown.{GoesOn, HasRoom}
 

@@ -3,11 +3,11 @@ use Rattle.std.specs.Prelude.{◌≡◌, ℕ, List, [], ◌∷◌, ◌++◌, Ok,
 use Rattle.ic_disk.specs.declared.disk.Disk.{Ghosts}
 use Rattle.ic_commands.specs.declared.line.Line.TheVariants.{Blank, Command, Run}
 use Rattle.ic_lines.specs.Answers.{Reading}
-use Rattle.ic_desk.specs.declared.book.Book.{Book}
+use Rattle.ic_book.specs.declared.book.Book.{Book}
 use Rattle.ic_jobs.specs.declared.event.Entry.{Entry}
-use Rattle.ic_desk.specs.Entries.{command_entry}
-use Rattle.ic_desk.specs.Moves.{Move}
-use Rattle.ic_desk.specs.ByCalls.{IsByCalls}
+use Rattle.ic_book.specs.Entries.{command_entry}
+use Rattle.ic_book.specs.Moves.{Move}
+use Rattle.ic_book.specs.ByCalls.{IsByCalls}
 use Rattle.ic_serving.specs.Answered.{IsAnswered, IsDoneFor}
 
 -- the calls of a book by which a line was done

@@ -3,13 +3,13 @@ use Rattle.std.specs.Prelude.{◌≡◌, ◌⊎◌, ℕ, List, false, Result, If
 use Rattle.ic_disk.specs.declared.disk.Disk.{Ghosts}
 use Rattle.ic_disk.specs.Time.{LeavesOnly}
 use Rattle.ic_jobs.specs.Job.{JobParts}
-use Rattle.ic_desk.specs.declared.book.Book.{Book}
-use Rattle.ic_desk.specs.Book.{disk_of, is_broken, number_of, table_of}
+use Rattle.ic_book.specs.declared.book.Book.{Book}
+use Rattle.ic_book.specs.Book.{disk_of, is_broken, number_of, table_of}
 use Rattle.ic_serving.specs.declared.fault.ServeFault.{ServeFault}
 use Rattle.ic_serving.specs.Faults.{CountsServe, StaysReady}
-use Rattle.ic_desk.specs.ByCalls.{IsOnMadeDisk}
+use Rattle.ic_book.specs.ByCalls.{IsOnMadeDisk}
 use Rattle.ic_serving.specs.Booked.{last_kept}
-use Rattle.ic_desk.specs.ByCalls.{IsByCalls}
+use Rattle.ic_book.specs.ByCalls.{IsByCalls}
 use Rattle.ic_serving.specs.Parts.{IsInLine}
 use Rattle.ic_serving.specs.Stopped.{HoldsOne}
 

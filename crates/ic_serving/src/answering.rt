@@ -1,8 +1,8 @@
 //! Answering one line over a book.
 
 ghost use Rattle.std.specs.Prelude.{false, ◌≡◌, ◌≢◌, ◌<◌, ◌≤◌, ◌-◌, ◌^◌, length, [], ◌∷◌, Ok, OnOk, OnErr, IfErr, IfOk};
-ghost use Rattle.ic_desk.specs.Book.{is_broken, number_of, log_of, table_of};
-ghost use Rattle.ic_desk.specs.declared.limits.TheConstants.{MAX_ENTRIES};
+ghost use Rattle.ic_book.specs.Book.{is_broken, number_of, log_of, table_of};
+ghost use Rattle.ic_book.specs.declared.limits.TheConstants.{MAX_ENTRIES};
 ghost use Rattle.ic_jobs.specs.declared.event.Event.TheVariants.{Command as by_command};
 ghost use Rattle.ic_commands.specs.declared.line.Line.TheVariants.{Command as Asks, Run};
 ghost use Rattle.ic_text.specs.Text.{fault_text};
@@ -12,7 +12,7 @@ ghost use Rattle.ic_commands.specs.LineText.{ReadsLine};
 ghost use Rattle.ic_lines.specs.Answers.{answer, after_line, events};
 ghost use Rattle.ic_serving.specs.Booked.{last_kept, Begins, IsAllKept};
 ghost use Rattle.ic_serving.specs.Parts.{IsKeptWithin};
-ghost use Rattle.ic_desk.specs.Moves.{keeps};
+ghost use Rattle.ic_book.specs.Moves.{keeps};
 ghost use Rattle.ic_serving.specs.Answered.{EndsWith, IsAnswered, IsBegun, IsReplied};
 ghost use Rattle.ic_serving.specs.Grown.{GoesOn, HasRoom};
 ghost use Rattle.ic_serving.specs.Moments.{FaultLeaves, Leaves, IsKeptInLine};
@@ -23,8 +23,8 @@ use crate::fault::ServeFault;
 use crate::makers::Makers;
 use crate::rounds::make_room;
 use crate::running::run;
+use ic_book::Book;
 use ic_commands::{Line, print_reply, read_command};
-use ic_desk::Book;
 use ic_disk::Disk;
 use ic_jobs::Command;
 use ic_pool::{Gate, OpenGate};

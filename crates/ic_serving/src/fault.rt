@@ -2,7 +2,7 @@
 
 ghost use Rattle.std.specs.Prelude.{◌≡◌};
 
-use ic_desk::BookFault;
+use ic_book::BookFault;
 use ic_lines::LineFault;
 use ic_pool::PoolFault;
 use std::alloc::{AllocError, AllocFailed};

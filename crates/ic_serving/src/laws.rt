@@ -2,7 +2,7 @@
 
 ghost use Rattle.std.specs.Prelude.{◌≡◌, [], ◌∷◌, map, Contains};
 ghost use Rattle.ic_pool.specs.declared.fault.PoolFault.{PoolFault};
-ghost use Rattle.ic_desk.specs.declared.fault.BookFault.{BookFault};
+ghost use Rattle.ic_book.specs.declared.fault.BookFault.{BookFault};
 ghost use Rattle.ic_serving.specs.declared.fault.ServeFault.{ServeFault};
 ghost use Rattle.ic_serving.specs.declared.limits.TheConstants.{MAX_LINES};
 ghost use Rattle.ic_serving.specs.Faults.{all_serve_faults, serve_fault_number};

@@ -1,11 +1,11 @@
 //! The rounds of a run over a book.
 
 ghost use Rattle.std.specs.Prelude.{false, ◌≡◌, ◌≤◌, ◌⊎◌, OnOk, OnErr, IfOk, length};
-ghost use Rattle.ic_desk.specs.Book.{is_broken, table_of};
+ghost use Rattle.ic_book.specs.Book.{is_broken, table_of};
 ghost use Rattle.ic_lines.specs.Turns.{turns, after_events};
 ghost use Rattle.ic_serving.specs.Booked.{last_kept, Begins, IsAllKept};
 ghost use Rattle.ic_serving.specs.Parts.{IsKeptWithin};
-ghost use Rattle.ic_desk.specs.Moves.{keeps};
+ghost use Rattle.ic_book.specs.Moves.{keeps};
 ghost use Rattle.ic_serving.specs.Answered.{EndsWith};
 ghost use Rattle.ic_serving.specs.Faults.{ComesInLine};
 ghost use Rattle.ic_serving.specs.Grown.{IsSamePage, GoesOn, HasRoom};
@@ -14,7 +14,7 @@ ghost use Rattle.ic_serving.specs.Moments.{FaultLeaves, Leaves, IsKeptOrNow};
 use crate::fault::ServeFault;
 use crate::makers::Makers;
 use crate::rounds::{keep_all, make_round};
-use ic_desk::Book;
+use ic_book::Book;
 use ic_disk::Disk;
 use ic_jobs::{Job, State};
 use ic_pool::Gate;

@@ -10,19 +10,19 @@ use Rattle.ic_jobs.specs.Job.{JobParts}
 use Rattle.ic_jobs.specs.History.{replay}
 use Rattle.ic_frames.specs.declared.faults.OpenCause.{OpenCause}
 use Rattle.ic_frames.specs.declared.faults.OpenCause.TheVariants.{Device, Memory}
-use Rattle.ic_desk.specs.declared.book.Book.{Book}
-use Rattle.ic_desk.specs.Book.{table_of, log_of, kept_of, disk_of, is_broken}
-use Rattle.ic_desk.specs.Moves.{Move, opens, refuses, answers, fails, rounds, keeps, stays, closes, stops}
-use Rattle.ic_desk.specs.Server.{Server, down, up, Does, Opens, Refuses, IsFound, Step, Runs, Reaches}
+use Rattle.ic_book.specs.declared.book.Book.{Book}
+use Rattle.ic_book.specs.Book.{table_of, log_of, kept_of, disk_of, is_broken}
+use Rattle.ic_book.specs.Moves.{Move, opens, refuses, answers, fails, rounds, keeps, stays, closes, stops}
+use Rattle.ic_book.specs.Server.{Server, down, up, Does, Opens, Refuses, IsFound, Step, Runs, Reaches}
 use Rattle.ic_serving.specs.declared.fault.ServeFault.{ServeFault}
 use Rattle.ic_serving.specs.Booked.{IsAllKept, last_kept}
 use Rattle.ic_serving.specs.Serving.{IsServing}
 use Rattle.ic_serving.specs.InTurn.{AreAnsweredInTurn, AreServedInTurn, calls_for, moves_in_turn}
 use Rattle.ic_serving.specs.Stopped.{MayStand}
-use Rattle.ic_desk.specs.Entries.{command_entry, round_entry}
-use Rattle.ic_desk.specs.lemmas.Chains.{by_calls_then}
-use Rattle.ic_desk.specs.lemmas.Facts.{history_of}
-use Rattle.ic_desk.specs.ByCalls.{Calls, IsByCalls, IsOnMadeDisk}
+use Rattle.ic_book.specs.Entries.{command_entry, round_entry}
+use Rattle.ic_book.specs.lemmas.Chains.{by_calls_then}
+use Rattle.ic_book.specs.lemmas.Facts.{history_of}
+use Rattle.ic_book.specs.ByCalls.{Calls, IsByCalls, IsOnMadeDisk}
 use Rattle.ic_lives.specs.Headline.{IsTableAfter}
 use Rattle.ic_lives.specs.Histories.{IsHistoryOf}
 use Rattle.ic_serving_laws.specs.Served.{IsCutShort}

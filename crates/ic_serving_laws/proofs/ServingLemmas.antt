@@ -9,12 +9,12 @@ use Rattle.ic_jobs.specs.declared.event.Entry.{Entry}
 use Rattle.ic_jobs.specs.History.{replay}
 use Rattle.ic_commands.specs.declared.line.Line.TheVariants.{Blank, Command, Run}
 use Rattle.ic_lines.specs.Answers.{Reading}
-use Rattle.ic_desk.specs.declared.book.Book.{Book}
-use Rattle.ic_desk.specs.Book.{table_of}
-use Rattle.ic_desk.specs.ByCalls.{IsByCalls}
-use Rattle.ic_desk.specs.Entries.{command_entry}
-use Rattle.ic_desk.specs.Moves.{Move}
-use Rattle.ic_desk.specs.Server.{Server, down, up, Reaches}
+use Rattle.ic_book.specs.declared.book.Book.{Book}
+use Rattle.ic_book.specs.Book.{table_of}
+use Rattle.ic_book.specs.ByCalls.{IsByCalls}
+use Rattle.ic_book.specs.Entries.{command_entry}
+use Rattle.ic_book.specs.Moves.{Move}
+use Rattle.ic_book.specs.Server.{Server, down, up, Reaches}
 use Rattle.ic_serving.specs.declared.fault.ServeFault.{ServeFault}
 use Rattle.ic_serving.specs.Answered.{IsDoneFor}
 use Rattle.ic_serving.specs.InTurn.{AreAnsweredInTurn, calls_for, moves_in_turn, reply_for, replies_in_turn}

@@ -9,8 +9,8 @@ use Rattle.ic_commands.specs.LineText.{ReadsLine}
 use Rattle.ic_commands.specs.ReplyText.{reply_text}
 use Rattle.ic_lines.specs.Answers.{Reading}
 use Rattle.ic_lines.specs.Lines.{ended as line_of}
-use Rattle.ic_desk.specs.declared.book.Book.{Book}
-use Rattle.ic_desk.specs.Entries.{command_entry}
+use Rattle.ic_book.specs.declared.book.Book.{Book}
+use Rattle.ic_book.specs.Entries.{command_entry}
 use Rattle.ic_serving.specs.Answered.{IsDoneFor}
 use Rattle.ic_serving.specs.InTurn.{AreAnsweredInTurn, reply_for, replies_in_turn}
 use Rattle.ic_lives.specs.Histories.{answered}

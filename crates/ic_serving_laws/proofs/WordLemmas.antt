@@ -2,7 +2,7 @@
 use Rattle.std.proofs.Common.{◌≡◌, List, [], ◌∷◌, ◌++◌, sym, ap, ◌∙◌, append_assoc}
 use Rattle.std.proofs.lemmas.List.{append-nil}
 use Rattle.ic_jobs.specs.declared.event.Entry.{Entry}
-use Rattle.ic_desk.specs.Moves.{Move, brings}
+use Rattle.ic_book.specs.Moves.{Move, brings}
 use Rattle.ic_lives.specs.Histories.{come}
 use Rattle.ic_serving_laws.specs.Served.{IsCutShort}
 

@@ -1,8 +1,8 @@
 -- What a stop makes of moves that were under way.
 use Rattle.std.specs.Prelude.{◌≡◌, List, ◌∷◌, ◌++◌}
 use Rattle.ic_disk.specs.declared.disk.Disk.{Ghosts}
-use Rattle.ic_desk.specs.declared.book.Book.{Book}
-use Rattle.ic_desk.specs.Moves.{Move, stops}
+use Rattle.ic_book.specs.declared.book.Book.{Book}
+use Rattle.ic_book.specs.Moves.{Move, stops}
 
 -- Of these moves the earlier ones were made, and the next was stopped in its midst.
 pub record IsCutShort (moves cut : List Move) : Type 0 where

@@ -2,11 +2,11 @@
 use Rattle.std.specs.Prelude.{◌≡◌, ℕ, List, [], ◌∷◌, ◌++◌, Option, Result}
 use Rattle.ic_disk.specs.declared.disk.Disk.{Ghosts}
 use Rattle.ic_jobs.specs.declared.event.Entry.{Entry}
-use Rattle.ic_desk.specs.declared.book.Book.{Book}
-use Rattle.ic_desk.specs.Book.{disk_of}
-use Rattle.ic_desk.specs.ByCalls.{IsByCalls}
-use Rattle.ic_desk.specs.Moves.{Move}
-use Rattle.ic_desk.specs.Server.{Server, down, up, IsFound, Runs}
+use Rattle.ic_book.specs.declared.book.Book.{Book}
+use Rattle.ic_book.specs.Book.{disk_of}
+use Rattle.ic_book.specs.ByCalls.{IsByCalls}
+use Rattle.ic_book.specs.Moves.{Move}
+use Rattle.ic_book.specs.Server.{Server, down, up, IsFound, Runs}
 use Rattle.ic_serving.specs.declared.fault.ServeFault.{ServeFault}
 use Rattle.ic_serving.specs.Answered.{IsAnswered}
 use Rattle.ic_serving.specs.InTurn.{AreAnsweredInTurn, moves_in_turn, replies_in_turn}

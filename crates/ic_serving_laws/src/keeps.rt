@@ -4,11 +4,11 @@ ghost use Rattle.std.specs.Prelude.{◌≡◌, ◌≤◌, ◌+◌, ℕ, List, Re
 ghost use Rattle.ic_frames.specs.declared.faults.KeepFault.{KeepFault};
 ghost use Rattle.ic_frames.specs.Frames.{is_closed, disk_of as disk_under};
 ghost use Rattle.ic_frames.specs.Keeping.{WritesSlot};
-ghost use Rattle.ic_desk.specs.declared.fault.BookFault.{BookFault};
-ghost use Rattle.ic_desk.specs.Book.{disk_of, kept_of, log_of};
-ghost use Rattle.ic_desk.specs.Calls.{KeepsAll};
+ghost use Rattle.ic_book.specs.declared.fault.BookFault.{BookFault};
+ghost use Rattle.ic_book.specs.Book.{disk_of, kept_of, log_of};
+ghost use Rattle.ic_book.specs.Calls.{KeepsAll};
 
-use ic_desk::Book;
+use ic_book::Book;
 use ic_disk::Disk;
 use ic_frames::Frames;
 

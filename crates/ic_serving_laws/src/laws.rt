@@ -20,11 +20,11 @@ ghost use Rattle.ic_lines.specs.Answers.{Reading, events};
 ghost use Rattle.ic_lines.specs.Lines.{lines};
 ghost use Rattle.ic_lines.specs.Turns.{turns, after_events};
 ghost use Rattle.ic_lines.specs.Serving.{IsServed};
-ghost use Rattle.ic_desk.specs.declared.fault.BookFault.TheVariants as book_fault;
+ghost use Rattle.ic_book.specs.declared.fault.BookFault.TheVariants as book_fault;
 ghost use Rattle.ic_disk.specs.Images.{Within};
 ghost use Rattle.ic_frames.specs.Fields.{IsMade};
-ghost use Rattle.ic_desk.specs.ByCalls.{IsOnMadeDisk};
-ghost use Rattle.ic_desk.specs.Book.{is_broken, number_of, start_of, log_of, table_of, kept_of, disk_of, IsUnchanged};
+ghost use Rattle.ic_book.specs.ByCalls.{IsOnMadeDisk};
+ghost use Rattle.ic_book.specs.Book.{is_broken, number_of, start_of, log_of, table_of, kept_of, disk_of, IsUnchanged};
 ghost use Rattle.ic_serving.specs.declared.fault.ServeFault.{ServeFault};
 ghost use Rattle.ic_serving.specs.declared.fault.ServeFault.TheVariants.{Read, Write, TooManyLines, Book as by_book, Pool, LongLine, Memory};
 ghost use Rattle.ic_serving.specs.Answered.{IsAnswered, IsBegun};
@@ -36,7 +36,7 @@ ghost use Rattle.ic_serving.specs.Parts.{IsPart, IsKeptWithin, IsInLine, IsInFir
 ghost use Rattle.ic_serving.specs.Served.{OfLines, MayBeServed, AreAnswered, AppendsFront, SaysOf, IsLeftBy, IsEnded, IsCut};
 ghost use Rattle.ic_serving.specs.Stopped.{IsReached, MayStand};
 
-use ic_desk::Book;
+use ic_book::Book;
 use ic_disk::Disk;
 
 /// A part of some events is a front of them: the first so many have come to the table, and nothing

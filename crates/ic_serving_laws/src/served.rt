@@ -13,13 +13,13 @@ ghost use Rattle.ic_slots.specs.Held.{HoldsTable};
 ghost use Rattle.ic_commands.specs.ReplyText.{reply_text};
 ghost use Rattle.ic_commands.specs.declared.line.Line.TheVariants.{Command as Asks, Run};
 ghost use Rattle.ic_lines.specs.Lines.{ended};
-ghost use Rattle.ic_desk.specs.Book.{disk_of, is_broken, kept_of, log_of, table_of};
-ghost use Rattle.ic_desk.specs.Entries.{command_entry};
-ghost use Rattle.ic_desk.specs.Moves.{Move, answers, fails, keeps, opens, refuses};
-ghost use Rattle.ic_desk.specs.Server.{IsFound, Opens, Reaches, Refuses, Server, down, up};
+ghost use Rattle.ic_book.specs.Book.{disk_of, is_broken, kept_of, log_of, table_of};
+ghost use Rattle.ic_book.specs.Entries.{command_entry};
+ghost use Rattle.ic_book.specs.Moves.{Move, answers, fails, keeps, opens, refuses};
+ghost use Rattle.ic_book.specs.Server.{IsFound, Opens, Reaches, Refuses, Server, down, up};
 ghost use Rattle.ic_serving.specs.declared.fault.ServeFault.{ServeFault};
 ghost use Rattle.ic_serving.specs.Booked.{IsAllKept, last_kept};
-ghost use Rattle.ic_desk.specs.ByCalls.{IsByCalls};
+ghost use Rattle.ic_book.specs.ByCalls.{IsByCalls};
 ghost use Rattle.ic_serving.specs.Answered.{IsDoneFor};
 ghost use Rattle.ic_serving.specs.InTurn.{AreAnsweredInTurn, calls_for, moves_in_turn, reply_for};
 ghost use Rattle.ic_serving.specs.Served.{AreAnswered};
@@ -30,7 +30,7 @@ ghost use Rattle.ic_lives.specs.Histories.{IsHistoryOf, StandAmong};
 ghost use Rattle.ic_serving_laws.specs.Served.{BookOver, IsCutShort};
 ghost use Rattle.ic_serving_laws.specs.Servings.{AreMovesOf, ArePartsOf, Part, Serving, answered_by};
 
-use ic_desk::Book;
+use ic_book::Book;
 use ic_disk::Disk;
 
 /// The headline of a server that serves lines. `serve_lines` and `answer_line` are made of calls of

@@ -8,15 +8,15 @@ ghost use Rattle.ic_commands.specs.declared.line.Line.TheVariants.{Command as As
 ghost use Rattle.ic_commands.specs.LineText.{ReadsLine};
 ghost use Rattle.ic_commands.specs.ReplyText.{reply_text};
 ghost use Rattle.ic_lines.specs.Lines.{ended};
-ghost use Rattle.ic_desk.specs.Entries.{command_entry};
-ghost use Rattle.ic_desk.specs.Moves.{Move};
-ghost use Rattle.ic_desk.specs.Server.{Server};
+ghost use Rattle.ic_book.specs.Entries.{command_entry};
+ghost use Rattle.ic_book.specs.Moves.{Move};
+ghost use Rattle.ic_book.specs.Server.{Server};
 ghost use Rattle.ic_serving.specs.InTurn.{AreAnsweredInTurn, replies_in_turn};
 ghost use Rattle.ic_lives.specs.Histories.{answered, come};
 ghost use Rattle.ic_serving_laws.specs.Served.{IsCutShort};
 ghost use Rattle.ic_serving_laws.specs.Servings.{IsAnsweredBetween, Part, Serving, answered_by, ended as ended_part, stopped as stopped_part, other as other_part};
 
-use ic_desk::Book;
+use ic_book::Book;
 use ic_disk::Disk;
 
 /// What lines that were answered in turn tell of commands: a command line its own, with the reply whose

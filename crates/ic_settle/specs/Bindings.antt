@@ -3,8 +3,6 @@
 use Rattle.std.specs.Prelude.{◌≡◌, ℕ, zero, suc, ◌==◌, List, [], ◌∷◌, ◌++◌, Bool, false, length, map, slice_get, if◌then◌else◌, ◌⊎◌}
 use Rattle.std.specs.List.{remove, zip}
 use Rattle.std.specs.Option.{option_map, option_map_or, option_to_list}
-use Rattle.ic_term.specs.declared.term.Term.{Term}
-use Rattle.ic_term.specs.Term.{tree}
 use Rattle.ic_term.specs.Tree.{Tree, name, agent, Pair}
 use Rattle.ic_term.specs.Configuration.{Configuration}
 use Rattle.ic_settle.specs.Settling.{Binding, Choice, subst, first_choice, applied}
@@ -59,7 +57,3 @@ ReplacesFirst c choice =
     (later : List Binding)
     × (replaced c ≡ choice.bound ∷ later)
     × (replaced (applied c choice) ≡ map (put_into choice.bound) later)
-
--- the program's bindings as plain data
-abbrev pub binding_of : ℕ × Term → Binding
-binding_of b = record { name = b.0; term = tree b.1 }

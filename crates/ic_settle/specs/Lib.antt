@@ -3,4 +3,3 @@ pub mod NameSteps
 pub mod Sides
 pub mod Bindings
 pub mod lemmas
-pub mod inner

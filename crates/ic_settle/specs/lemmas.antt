@@ -15,7 +15,6 @@ pub mod Links
 pub mod PassTurns
 pub mod Passing
 pub mod PutEach
-pub mod Rebuilt
 pub mod Replaced
 pub mod Settles
 pub mod Spots

@@ -1,21 +1,13 @@
 //! Settling: the steps of the interaction calculus that remove a name between two terms.
 //!
-//! `settle` makes all such steps at once, `is_settled` tells whether it makes none, and `bind` what
-//! it replaces. `applicable_side`, `other_side` and `substitute` are the parts of one step;
-//! `is_twice_in` is the test that `is_settled` rests on, of names in the order of their numbers.
-//! `laws` has the settling that makes one step after the other.
+//! Here stand the definitions of `specs/`, what is proved of them, and the laws of `laws`. Engines settle by them:
+//! `ic_flat_round` the configurations of the program, `ic_reference` those of terms. `Side`, `Applicable` and `Outlet` are
+//! the words in which both say what they have found, and `is_twice_in` is the test of names in the order of their numbers.
 #![tactic(auto)]
 
 mod applicability;
-mod bindings;
-mod containers;
-mod ended;
 pub mod laws;
-mod pass;
-mod settling;
-mod substitution;
+mod twice;
 
-pub use applicability::{Applicable, Side, applicable_side, other_side};
-pub use ended::{is_settled, is_twice_in};
-pub use settling::{bind, settle};
-pub use substitution::substitute;
+pub use applicability::{Applicable, Outlet, Side};
+pub use twice::is_twice_in;

@@ -1,3 +1,5 @@
 pub mod HeldLemmas
 pub mod TableLemmas
 pub mod FormLemmas
+pub mod UnusedLemmas
+pub mod BegunLemmas

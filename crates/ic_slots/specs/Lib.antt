@@ -4,4 +4,5 @@ pub mod Faults
 pub mod Numbers
 pub mod Keeper
 pub mod Opened
+pub mod Unused
 pub mod lemmas

@@ -1,7 +1,7 @@
-//! What the program `icserve` does of `settle` and `once`, but for its own input and output.
+//! What the commands that answer a text do with their reader and writer, and how they are refused.
 //!
-//! `settle_stream` settles the configuration that a reader gives and writes it to a writer, and `once_stream` makes one
-//! round of a system; their refusals are a `StreamFault`. `read_text`, `config_line` and `write_line` are their parts.
+//! `read_text` takes a text from a reader, `flat_line` prints a configuration as a line, and `write_line` writes it. The
+//! refusals of these commands are a `StreamFault`.
 #![tactic(auto)]
 
 mod fault;
@@ -9,4 +9,4 @@ pub mod laws;
 mod stream;
 
 pub use fault::StreamFault;
-pub use stream::{config_line, once_stream, read_text, settle_stream, write_line};
+pub use stream::{flat_line, read_text, write_line};

@@ -4,7 +4,7 @@ use crate::inspecting::open_to_read;
 use crate::texts::{read_limited, too_long};
 use ic_causes::{Notes, cause_line};
 use ic_check::{Given, Source, check_files};
-use ic_endings::{Failure, check_ending};
+use ic_exits::{Failure, check_ending};
 use std::alloc::{AllocError, Global};
 use std::io;
 

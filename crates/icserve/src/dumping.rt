@@ -1,11 +1,11 @@
 //! The program's word `dump`: jobs of a disk as lines that submit them, on standard output.
 
 use crate::open_disk;
+use ic_args::WordsFault;
 use ic_causes::Notes;
 use ic_dump::dump_disk;
-use ic_endings::Failure;
+use ic_exits::Failure;
 use ic_rules::JobName;
-use ic_words::WordsFault;
 use std::alloc::{AllocError, Global};
 use std::io;
 

@@ -2,9 +2,9 @@
 
 use crate::standing::stand_ins;
 use ic_causes::{NotedFile, NotedFiles, Notes};
-use ic_contents::{InspectFault, read_front};
 use ic_disk::{DiskFault, open_plain};
-use ic_endings::Failure;
+use ic_exits::Failure;
+use ic_inspect::{InspectFault, read_front};
 use std::fs::OpenOptions;
 use std::io;
 
@@ -27,7 +27,7 @@ fn look(rt: &HostRuntime, path: &str, notes: &Notes) -> Result<bool, Failure> {
     let first = read_once(rt, path, notes)?;
     let mut again = open_to_read(rt, path, notes).map_err(|_| Failure::Disk(DiskFault))?;
     let mut output = io::writer(rt);
-    match ic_contents::inspect(rt.alloc(), &first, &mut again, &mut output) {
+    match ic_inspect::inspect(rt.alloc(), &first, &mut again, &mut output) {
         Ok(()) => Ok(true),
         Err(InspectFault::Changed) => Ok(false),
         Err(fault) => Err(Failure::Inspect(fault)),

@@ -1,10 +1,10 @@
 //! What the program does for whoever looks at nets, on its input and standard output: `reduce` by rounds, `trace` and
 //! `draw`. Where the text is refused, the lines that tell its place are appended to `told`.
 
-use ic_endings::{Failure, stuck_line};
-use ic_looks::{Ended, Format, Reduction, Workers, reduce_stream, trace_stream};
+use ic_args::TraceFormat;
+use ic_by_rounds::{Ended, Format, Reduction, Workers, reduce_stream, trace_stream};
+use ic_exits::{Failure, stuck_line};
 use ic_nets::draw_stream;
-use ic_words::TraceFormat;
 use std::io::{self, Read, Write};
 use std::sync::Wait;
 use std::thread::Threads;

@@ -2,7 +2,7 @@
 
 use crate::looking::tell_stuck;
 use crate::progress::{Watching, WipedFirst, a_second};
-use ic_endings::{Failure, Reached, reduce_ending};
+use ic_exits::{Failure, Reached, reduce_ending};
 use ic_in_place::{Bounds, Outcome, reduce_in_place_stream};
 use std::alloc::{AllocError, Global};
 use std::io::{self, Read, Write};

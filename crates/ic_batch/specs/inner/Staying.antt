@@ -2,8 +2,8 @@
 use Rattle.std.specs.Prelude.{◌≡◌, List, ◌++◌, map}
 use Rattle.ic_disk.specs.declared.disk.Disk.{Ghosts}
 use Rattle.ic_jobs.specs.Job.{JobParts}
-use Rattle.ic_desk.specs.declared.book.Book.{Book}
-use Rattle.ic_desk.specs.Book.{table_of}
+use Rattle.ic_book.specs.declared.book.Book.{Book}
+use Rattle.ic_book.specs.Book.{table_of}
 use Rattle.ic_serving.specs.Booked.{last_kept}
 use Rattle.ic_serving.specs.Moments.{Leaves}
 use Rattle.ic_batch.specs.declared.jobs.NewJob.{NewJob}

@@ -5,8 +5,8 @@ use Rattle.ic_jobs.specs.declared.event.Entry.{Entry}
 use Rattle.ic_jobs.specs.Job.{JobParts}
 use Rattle.ic_jobs.specs.History.{replay}
 use Rattle.ic_slots.specs.Held.{HoldsTable}
-use Rattle.ic_desk.specs.Entries.{command_entry, round_entry}
-use Rattle.ic_desk.specs.Moves.{Move, opens, refuses, answers, fails, rounds, keeps, stays, closes, stops, brings}
+use Rattle.ic_book.specs.Entries.{command_entry, round_entry}
+use Rattle.ic_book.specs.Moves.{Move, opens, refuses, answers, fails, rounds, keeps, stays, closes, stops, brings}
 use Rattle.ic_lives.specs.Past.{Past, Next, IsPast}
 use Rattle.ic_lives.specs.Headline.{IsTableAfter, HoldsPrefixAfter}
 use Rattle.ic_lives.specs.Histories.{answered, come, StandAmong, IsHistoryOf}

@@ -13,14 +13,14 @@ use Rattle.ic_frames.specs.declared.faults.OpenCause.TheVariants.{Device, NoSlot
 use Rattle.ic_frames.specs.Fields.{IsMade}
 use Rattle.ic_slots.specs.Held.{Held, HoldsTable, IsHeld, the_table, no_slot, two_alike, damaged}
 use Rattle.ic_slots.specs.Opening.{Says}
-use Rattle.ic_desk.specs.declared.book.Book.{Book}
-use Rattle.ic_desk.specs.Book.{start_of, log_of, table_of, kept_of, disk_of}
-use Rattle.ic_desk.specs.Calls.{LeavesKeptOrAll}
-use Rattle.ic_desk.specs.Entries.{command_entry, round_entry}
-use Rattle.ic_desk.specs.Kept.{HoldsKeptOrAll}
-use Rattle.ic_desk.specs.Moves.{Move, opens, refuses, answers, fails, rounds, keeps, stays, closes, stops, brings}
-use Rattle.ic_desk.specs.Server.{Server, down, up, disk_in, GoesOn, StaysOnPage, TurnsPage, Turns, Does, Opens, Refuses, Closes, IsFound, Step, Runs, Reaches}
-use Rattle.ic_desk.specs.lemmas.Facts.{history_of}
+use Rattle.ic_book.specs.declared.book.Book.{Book}
+use Rattle.ic_book.specs.Book.{start_of, log_of, table_of, kept_of, disk_of}
+use Rattle.ic_book.specs.Calls.{LeavesKeptOrAll}
+use Rattle.ic_book.specs.Entries.{command_entry, round_entry}
+use Rattle.ic_book.specs.Kept.{HoldsKeptOrAll}
+use Rattle.ic_book.specs.Moves.{Move, opens, refuses, answers, fails, rounds, keeps, stays, closes, stops, brings}
+use Rattle.ic_book.specs.Server.{Server, down, up, disk_in, GoesOn, StaysOnPage, TurnsPage, Turns, Does, Opens, Refuses, Closes, IsFound, Step, Runs, Reaches}
+use Rattle.ic_book.specs.lemmas.Facts.{history_of}
 use Rattle.ic_lives.specs.Past.{Past, nothing, Next, Leads, IsPast}
 use Rattle.ic_lives.specs.Headline.{TellsTable, TellsFile, IsTableAfter, HoldsPrefixAfter, Tells, AreTold}
 use Rattle.ic_lives.specs.lemmas.JobLemmas.{Lives, are_iterates}

@@ -7,9 +7,9 @@ ghost use Rattle.ic_round.specs.Rounds.{round, unless_unfit};
 ghost use Rattle.ic_round.specs.RoundAnswers.{Answers};
 
 use ic_pool::PoolFault;
-use ic_round::{Fired, Plan, RoundFault, Work, fire, interact_at, plan, round};
+use ic_reference::{Plan, interact_at, plan, round, settle};
+use ic_round::{Fired, RoundFault, Work, fire};
 use ic_rules::RuleSet;
-use ic_settle::settle;
 use ic_term::{Config, copy_terms, over};
 use std::alloc::{AllocError, Global};
 

@@ -6,7 +6,7 @@ ghost use Rattle.ic_term.specs.Term.{tree, cell_tree, pair};
 ghost use Rattle.ic_settle.specs.Settling.{settled, occurs};
 ghost use Rattle.ic_promises.specs.SelfEquations.{is_self_side, is_self_equation, without_self_equations, with_self_equations_applied, applied};
 
-use ic_settle::settle;
+use ic_reference::settle;
 use ic_term::{Cell, Config, Equation, Term, copy_terms};
 use std::alloc::{AllocError, Global};
 

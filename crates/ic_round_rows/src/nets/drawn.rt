@@ -3,7 +3,7 @@
 use crate::nets::drawn_text::Writer;
 use crate::nets::orders::{Outcome, agreed};
 use ic_notation::{Trouble, decimal, system_of};
-use ic_round::settle;
+use ic_reference::settle;
 use ic_term::{Config, Term, names_of_terms};
 use std::alloc::{AllocError, Global};
 

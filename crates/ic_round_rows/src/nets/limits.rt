@@ -2,7 +2,8 @@
 
 use crate::nets::steps::{Made, step, steps_of};
 use ic_notation::{Trouble, decimal, printed, system_of};
-use ic_round::{RoundFault, quiet, round};
+use ic_reference::{quiet, round};
+use ic_round::RoundFault;
 use ic_rules::RuleSet;
 use ic_term::{Config, over};
 use std::alloc::Global;

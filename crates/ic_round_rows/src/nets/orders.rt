@@ -5,7 +5,7 @@ use crate::nets::counts::Counts;
 use crate::nets::net::Net;
 use crate::nets::steps::{Made, rule_of, step, steps_of};
 use ic_notation::{Draws, Trouble};
-use ic_round::{plan, quiet, round};
+use ic_reference::{plan, quiet, round};
 use ic_rules::RuleSet;
 use ic_term::{Config, over};
 use std::alloc::Global;

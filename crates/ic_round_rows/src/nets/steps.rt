@@ -1,7 +1,7 @@
 //! Single steps, each by its number: which one of five at which place.
 
 use ic_notation::Trouble;
-use ic_round::{StepFault, collect_at, indirect_at, interact_at};
+use ic_reference::{StepFault, collect_at, indirect_at, interact_at};
 use ic_rules::RuleSet;
 use ic_term::{Config, Term, over};
 use std::alloc::Global;

@@ -2,8 +2,8 @@
 use Rattle.std.specs.Prelude.{◌≡◌, ℕ, List}
 use Rattle.ic_disk.specs.declared.disk.Disk.{Ghosts}
 use Rattle.ic_lines.specs.Answers.{Reading, events, answer, after_line}
-use Rattle.ic_desk.specs.declared.book.Book.{Book}
-use Rattle.ic_desk.specs.Book.{table_of}
+use Rattle.ic_book.specs.declared.book.Book.{Book}
+use Rattle.ic_book.specs.Book.{table_of}
 use Rattle.ic_serving.specs.Answered.{IsKeptFor, IsWholeFor, IsFreshFor, IsDoneFor}
 use Rattle.ic_serving.specs.Grown.{GoesOn, HasRoom}
 

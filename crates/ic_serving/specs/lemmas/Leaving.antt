@@ -9,11 +9,11 @@ use Rattle.ic_jobs.specs.Job.{JobParts}
 use Rattle.ic_jobs.specs.History.{replay}
 use Rattle.ic_frames.specs.Fields.{IsMade}
 use Rattle.ic_slots.specs.Held.{HoldsTable}
-use Rattle.ic_desk.specs.declared.book.Book.{Book}
-use Rattle.ic_desk.specs.Book.{start_of, log_of, table_of, kept_of, disk_of}
-use Rattle.ic_desk.specs.Kept.{HoldsKeptOrAll}
-use Rattle.ic_desk.specs.ByCalls.{IsByCalls}
-use Rattle.ic_desk.specs.lemmas.Chains.{by_calls_then}
+use Rattle.ic_book.specs.declared.book.Book.{Book}
+use Rattle.ic_book.specs.Book.{start_of, log_of, table_of, kept_of, disk_of}
+use Rattle.ic_book.specs.Kept.{HoldsKeptOrAll}
+use Rattle.ic_book.specs.ByCalls.{IsByCalls}
+use Rattle.ic_book.specs.lemmas.Chains.{by_calls_then}
 use Rattle.ic_serving.specs.Booked.{last_kept}
 use Rattle.ic_serving.specs.Moments.{Leaves}
 use Rattle.ic_serving.specs.Stopped.{HoldsOne}

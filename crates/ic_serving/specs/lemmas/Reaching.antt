@@ -9,9 +9,9 @@ use Rattle.ic_commands.specs.declared.line.Line.TheVariants.{Blank, Run, Command
 use Rattle.ic_commands.specs.LineText.{ReadsLine}
 use Rattle.ic_lines.specs.Answers.{Reading, events}
 use Rattle.ic_lines.specs.Serving.{IsServed}
-use Rattle.ic_desk.specs.declared.book.Book.{Book}
-use Rattle.ic_desk.specs.Book.{IsUnchanged}
-use Rattle.ic_desk.specs.Kept.{table_kept}
+use Rattle.ic_book.specs.declared.book.Book.{Book}
+use Rattle.ic_book.specs.Book.{IsUnchanged}
+use Rattle.ic_book.specs.Kept.{table_kept}
 use Rattle.ic_serving.specs.Answered.{IsKeptFor}
 use Rattle.ic_serving.specs.Booked.{IsAllKept}
 use Rattle.ic_serving.specs.Parts.{IsInLine, IsInFirst}

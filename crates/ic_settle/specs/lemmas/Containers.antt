@@ -7,7 +7,7 @@ use Rattle.std.specs.Option.{option_map}
 use Rattle.ic_term.specs.Tree.{Tree, name, agent, Pair, names, pair_names}
 use Rattle.ic_settle.specs.declared.applicability.Side.{Side}
 use Rattle.ic_settle.specs.declared.applicability.Applicable.{Applicable}
-use Rattle.ic_settle.specs.declared.containers.Outlet.{Outlet}
+use Rattle.ic_settle.specs.declared.applicability.Outlet.{Outlet}
 use Rattle.ic_settle.specs.declared.applicability.Side.TheVariants.{Left, Right}
 
 -- ---- links between containers

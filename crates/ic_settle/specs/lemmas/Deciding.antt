@@ -5,7 +5,7 @@ use Rattle.ic_term.specs.Tree.{Tree, name, agent, Pair, pair_names}
 use Rattle.ic_term.specs.Configuration.{names_in, occurrences}
 use Rattle.ic_settle.specs.declared.applicability.Side.{Side}
 use Rattle.ic_settle.specs.declared.applicability.Side.TheVariants.{Left, Right}
-use Rattle.ic_settle.specs.declared.containers.Outlet.{Outlet}
+use Rattle.ic_settle.specs.declared.applicability.Outlet.{Outlet}
 use Rattle.ic_settle.specs.Settling.{Binding, occurs, side_binding, binding, first_of_two}
 use Rattle.ic_settle.specs.Sides.{other_side, bound_by}
 use Rattle.ic_settle.specs.lemmas.Waiting.{put_each, put_each_pair, bound, IsTop}

@@ -3,7 +3,7 @@ use Rattle.std.proofs.Common.{◌≡◌, ℕ, List, [], ◌∷◌, ◌++◌, Opt
 use Rattle.ic_term.specs.Tree.{Tree, Pair}
 use Rattle.ic_term.specs.Configuration.{Configuration, names_in}
 use Rattle.ic_settle.specs.declared.applicability.Applicable.{Applicable}
-use Rattle.ic_settle.specs.declared.containers.Outlet.{Outlet}
+use Rattle.ic_settle.specs.declared.applicability.Outlet.{Outlet}
 use Rattle.ic_settle.specs.Sides.{other_side}
 use Rattle.ic_settle.specs.lemmas.Waiting.{look, IsAdded, Resolves}
 use Rattle.ic_settle.specs.lemmas.Containers.{IsRoot, IsChosen, elsewhere, outlet, applicable_of, redirected}

@@ -9,7 +9,7 @@ use Rattle.ic_term.specs.Configuration.{Configuration, IsConfiguration, configur
 use Rattle.ic_settle.specs.declared.applicability.Side.{Side}
 use Rattle.ic_settle.specs.declared.applicability.Side.TheVariants.{Left, Right}
 use Rattle.ic_settle.specs.declared.applicability.Applicable.{Applicable}
-use Rattle.ic_settle.specs.declared.containers.Outlet.{Outlet}
+use Rattle.ic_settle.specs.declared.applicability.Outlet.{Outlet}
 use Rattle.ic_settle.specs.Settling.{Binding, Choice, occurs, subst_pair, subst_in, binding, first_choice, applied}
 use Rattle.ic_settle.specs.NameSteps.{Binds}
 use Rattle.ic_settle.specs.Sides.{other_side, bound_by}

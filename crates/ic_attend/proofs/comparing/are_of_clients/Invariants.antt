@@ -1,7 +1,7 @@
 use Rattle.std.proofs.Common.{◌≡◌, ℕ, ◌<◌, false}
 use Rattle.std.specs.Prelude.{slice_index_or}
 use Rattle.ic_jobs.specs.declared.event.Entry.{Entry}
-use Rattle.ic_desk.specs.Entries.{is_round}
+use Rattle.ic_book.specs.Entries.{is_round}
 use Rattle.ic_attend.proofs.comparing.are_of_clients.Given as goal
 
 abbrev pub invariant-loop-entry : goal.invariant-loop-entry

@@ -1,7 +1,7 @@
 use Rattle.std.proofs.Common.{◌≡◌, ◌≤◌, take}
 use Rattle.std.specs.List.{count_by}
 use Rattle.ic_jobs.specs.declared.event.Entry.{Entry}
-use Rattle.ic_desk.specs.Entries.{is_round}
+use Rattle.ic_book.specs.Entries.{is_round}
 use Rattle.ic_attend.proofs.comparing.count_rounds.Given as goal
 
 abbrev pub invariant-loop-entry : goal.invariant-loop-entry

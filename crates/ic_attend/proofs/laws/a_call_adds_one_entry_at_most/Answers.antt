@@ -5,13 +5,13 @@ use Rattle.ic_jobs.specs.declared.command.Command.{Command}
 use Rattle.ic_jobs.specs.declared.landed.Landed.{Landed}
 use Rattle.ic_jobs.specs.declared.landed.Landed.TheVariants.{Moved, Stale}
 use Rattle.ic_jobs.specs.declared.reply.Reply.{Reply}
-use Rattle.ic_desk.specs.declared.book.Book.{Book}
-use Rattle.ic_desk.specs.declared.fault.BookFault.{BookFault}
-use Rattle.ic_desk.specs.declared.fault.BookFault.TheVariants.{Broken, LogFull, Worn, Memory, Device}
-use Rattle.ic_desk.specs.Book.{log_of}
-use Rattle.ic_desk.specs.Entries.{command_entry, round_entry}
-use Rattle.ic_desk.specs.Moves.{round_move}
-use Rattle.ic_desk.specs.Server.{Step, StepsByCommand, up}
+use Rattle.ic_book.specs.declared.book.Book.{Book}
+use Rattle.ic_book.specs.declared.fault.BookFault.{BookFault}
+use Rattle.ic_book.specs.declared.fault.BookFault.TheVariants.{Broken, LogFull, Worn, Memory, Device}
+use Rattle.ic_book.specs.Book.{log_of}
+use Rattle.ic_book.specs.Entries.{command_entry, round_entry}
+use Rattle.ic_book.specs.Moves.{round_move}
+use Rattle.ic_book.specs.Server.{Step, StepsByCommand, up}
 use Rattle.ic_attend.specs.Desk.{AddsOneAtMost}
 use Rattle.ic_attend.proofs.laws.a_call_adds_one_entry_at_most.Goals as goal
 

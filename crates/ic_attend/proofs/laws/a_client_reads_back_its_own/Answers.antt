@@ -7,7 +7,7 @@ use Rattle.ic_jobs.specs.History.{replay}
 use Rattle.ic_jobs.specs.Job.{JobParts}
 use Rattle.ic_jobs.specs.Table.{job_named}
 use Rattle.ic_jobs.specs.Transitions.{fetch_reply}
-use Rattle.ic_desk.specs.Entries.{command_entry}
+use Rattle.ic_book.specs.Entries.{command_entry}
 use Rattle.ic_attend.proofs.HistoryLemmas.{accepted_begins, stays}
 use Rattle.ic_attend.proofs.laws.a_client_reads_back_its_own.Goals as goal
 

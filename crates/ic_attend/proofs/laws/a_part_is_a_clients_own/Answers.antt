@@ -1,5 +1,5 @@
 use Rattle.std.proofs.Common.{refl}
-use Rattle.ic_desk.specs.Entries.{command_entry, round_entry}
+use Rattle.ic_book.specs.Entries.{command_entry, round_entry}
 use Rattle.ic_attend.proofs.PartLemmas.{part-append, part-own, part-none, answer_to-other, answer_to-round, is_other}
 use Rattle.ic_attend.proofs.laws.a_part_is_a_clients_own.Goals as goal
 

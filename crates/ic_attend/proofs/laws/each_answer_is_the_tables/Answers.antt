@@ -1,6 +1,6 @@
 use Rattle.std.proofs.Common.{◌∙◌, ◌++◌, sym, subst}
-use Rattle.ic_desk.specs.Book.{start_of}
-use Rattle.ic_desk.specs.Entries.{command_entry}
+use Rattle.ic_book.specs.Book.{start_of}
+use Rattle.ic_book.specs.Entries.{command_entry}
 use Rattle.ic_jobs.specs.History.{IsLegal}
 use Rattle.ic_attend.specs.OneHistory.{kept_log, unkept_log}
 use Rattle.ic_attend.proofs.HistoryLemmas.{cut}

@@ -1,5 +1,5 @@
 use Rattle.std.proofs.Common.{◌∙◌, List, ap, sym, subst}
-use Rattle.ic_desk.specs.Book.{start_of, log_of}
+use Rattle.ic_book.specs.Book.{start_of, log_of}
 use Rattle.ic_jobs.specs.History.{replay, IsLegal}
 use Rattle.ic_jobs.specs.Job.{JobParts}
 use Rattle.ic_attend.proofs.laws.histories_join.Goals as goal

@@ -4,8 +4,8 @@ use Rattle.ic_disk.specs.declared.disk.Disk.{Ghosts}
 use Rattle.ic_pool.specs.PoolFault.{is_of_flight}
 use Rattle.ic_pool.specs.declared.fault.PoolFault.{PoolFault}
 use Rattle.ic_pool.specs.declared.fault.PoolFault.TheVariants as of_pool
-use Rattle.ic_desk.specs.declared.book.Book.{Book as TheBook}
-use Rattle.ic_desk.specs.declared.fault.BookFault.TheVariants.{Broken, LogFull, Worn, Memory, Device}
+use Rattle.ic_book.specs.declared.book.Book.{Book as TheBook}
+use Rattle.ic_book.specs.declared.fault.BookFault.TheVariants.{Broken, LogFull, Worn, Memory, Device}
 use Rattle.ic_attend.specs.Ends.{EndMayBe, EndTells}
 use Rattle.ic_attend.specs.declared.attended.RunnerEnd.{RunnerEnd}
 use Rattle.ic_attend.specs.declared.attended.RunnerEnd.TheVariants.{Idle, Turns, Book as by_book, Pool as by_pool}

@@ -5,7 +5,7 @@ use Rattle.std.proofs.lemmas.Option.{get_or_from_slice_get, slice_get_within}
 use Rattle.ic_jobs.specs.Job.{JobParts}
 use Rattle.ic_jobs.specs.State.{is_running}
 use Rattle.ic_jobs.specs.Turns.{RunsAt}
-use Rattle.ic_desk.specs.Book.{log_of, table_of}
+use Rattle.ic_book.specs.Book.{log_of, table_of}
 use Rattle.ic_attend.specs.declared.attended.RunnerEnd.TheVariants.{Idle, Turns}
 use Rattle.ic_attend.specs.Runners.{EndHolds, NoneRuns}
 use Rattle.ic_attend_laws.proofs.laws.runners_end_where_nothing_is_due.Goals as goal

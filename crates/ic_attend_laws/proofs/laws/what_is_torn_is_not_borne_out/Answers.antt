@@ -1,6 +1,6 @@
 use Rattle.std.proofs.Common.{◌≡◌}
 use Rattle.ic_slots.specs.Held.{the_table}
-use Rattle.ic_desk.specs.Book.{start_of}
+use Rattle.ic_book.specs.Book.{start_of}
 use Rattle.ic_attend_laws.proofs.laws.what_is_torn_is_not_borne_out.Goals as goal
 
 pub returns : goal.returns

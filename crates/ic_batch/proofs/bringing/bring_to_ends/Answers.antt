@@ -1,6 +1,6 @@
 use Rattle.std.proofs.Common.{inl, inr, ◌∙◌, List, ap, sym, subst}
 use Rattle.ic_jobs.specs.Job.{JobParts}
-use Rattle.ic_desk.specs.Book.{table_of}
+use Rattle.ic_book.specs.Book.{table_of}
 use Rattle.ic_batch.specs.Way.{fetched_all, HaveEnded, IsUnderWay}
 use Rattle.ic_batch.specs.inner.Staying.{AreBegun}
 use Rattle.ic_batch.proofs.BatchLemmas.{all_ended, leads_under, under_begun}

@@ -1,5 +1,5 @@
 use Rattle.std.proofs.Common.{◌≡◌, false}
-use Rattle.ic_desk.specs.Book.{disk_of, is_broken, table_of}
+use Rattle.ic_book.specs.Book.{disk_of, is_broken, table_of}
 use Rattle.ic_batch.specs.Way.{AreWays}
 use Rattle.ic_batch.specs.inner.Staying.{Leads}
 use Rattle.ic_batch.proofs.LeftLemmas.{left_in}

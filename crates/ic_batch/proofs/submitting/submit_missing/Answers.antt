@@ -3,9 +3,9 @@ use Rattle.std.proofs.lemmas.List.{drop_all}
 use Rattle.ic_jobs.specs.declared.event.Event.TheVariants.{Command as by_command}
 use Rattle.ic_jobs.specs.History.{table_after}
 use Rattle.ic_jobs.specs.Job.{JobParts}
-use Rattle.ic_desk.specs.Book.{table_of, start_of, log_of, kept_of}
-use Rattle.ic_desk.specs.lemmas.Chains.{by_nothing}
-use Rattle.ic_desk.specs.lemmas.Facts.{history_of}
+use Rattle.ic_book.specs.Book.{table_of, start_of, log_of, kept_of}
+use Rattle.ic_book.specs.lemmas.Chains.{by_nothing}
+use Rattle.ic_book.specs.lemmas.Facts.{history_of}
 use Rattle.ic_serving.specs.Booked.{last_kept}
 use Rattle.ic_serving.specs.lemmas.Leaving.{leaves_nothing}
 use Rattle.ic_serving.specs.lemmas.Reaching.{kept_all}

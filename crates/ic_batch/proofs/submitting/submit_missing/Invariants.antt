@@ -1,5 +1,5 @@
 use Rattle.std.proofs.Common.{◌≡◌, drop, false}
-use Rattle.ic_desk.specs.Book.{disk_of, is_broken, table_of}
+use Rattle.ic_book.specs.Book.{disk_of, is_broken, table_of}
 use Rattle.ic_batch.specs.inner.Staying.{AreBegun, Leads}
 use Rattle.ic_batch.proofs.NewLemmas.{AreSubmitted}
 use Rattle.ic_batch.proofs.submitting.submit_missing.Given as goal

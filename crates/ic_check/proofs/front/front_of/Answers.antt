@@ -1,7 +1,7 @@
 use Rattle.std.proofs.Common.{◌≡◌, ◌-◌, ◌∙◌, List, ℕ, None, Some, Option, refl, sym, ap, length, subst}
 use Rattle.std.specs.Prelude.{codes}
 use Rattle.ic_commands.specs.LineSource.{verb_text}
-use Rattle.ic_places.specs.Sights.{first_word}
+use Rattle.ic_diagnostics.specs.Sights.{first_word}
 use Rattle.ic_check.specs.inner.Fronts.{IsFront, behind, behind_blanks, behind_word, earlier, opened, passed_at}
 use Rattle.ic_check.specs.declared.due.Due.TheVariants.{Command, VerbName}
 use Rattle.ic_check.specs.declared.due.LineLimit.{LineLimit}

@@ -1,5 +1,5 @@
 use Rattle.std.proofs.Common.{◌≡◌, ◌++◌, take, drop}
-use Rattle.ic_places.specs.Sights.{first_word}
+use Rattle.ic_diagnostics.specs.Sights.{first_word}
 use Rattle.ic_check.specs.inner.Fronts.{behind_word}
 use Rattle.ic_check.proofs.front.split_word.Given as goal
 

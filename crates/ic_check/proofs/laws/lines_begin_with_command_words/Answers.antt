@@ -1,7 +1,7 @@
 use Rattle.std.proofs.Common.{◌≡◌, refl, true}
 use Rattle.std.specs.Prelude.{codes}
 use Rattle.ic_commands.specs.LineSource.{verb_text}
-use Rattle.ic_places.specs.Sights.{is_command}
+use Rattle.ic_diagnostics.specs.Sights.{is_command}
 use Rattle.ic_check.proofs.CommandWords.{each_known, each_of_four, four_origins, others_unknown}
 use Rattle.ic_check.proofs.laws.lines_begin_with_command_words.Goals as goal
 

@@ -1,4 +1,4 @@
-use Rattle.ic_desk.specs.Book.{table_of}
+use Rattle.ic_book.specs.Book.{table_of}
 use Rattle.ic_lives.specs.lemmas.AmongLemmas.{table_stands, file_stands}
 use Rattle.ic_lives.specs.lemmas.RunLemmas.{table_after, prefix_after}
 use Rattle.ic_lives.proofs.laws.every_answer_stands.Goals as goal

@@ -2,7 +2,7 @@ use Rattle.std.proofs.Common.{◌++◌, List, take, sym, subst}
 use Rattle.ic_jobs.specs.Job.{JobParts}
 use Rattle.ic_jobs.specs.Table.{job_named}
 use Rattle.ic_jobs.specs.Life.{IsAsLived, life}
-use Rattle.ic_desk.specs.Lives.{lived}
+use Rattle.ic_book.specs.Lives.{lived}
 use Rattle.ic_lives.proofs.PageLemmas.{legal_so_far, table_so_far}
 use Rattle.ic_lives.proofs.pages.each_job_is_as_it_lived.Goals as goal
 

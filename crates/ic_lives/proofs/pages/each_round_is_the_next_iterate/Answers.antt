@@ -2,7 +2,7 @@ use Rattle.std.proofs.Common.{◌++◌, take}
 use Rattle.ic_jobs.specs.Table.{job_named}
 use Rattle.ic_jobs.specs.History.{replay}
 use Rattle.ic_jobs.specs.Life.{life}
-use Rattle.ic_desk.specs.Lives.{lived}
+use Rattle.ic_book.specs.Lives.{lived}
 use Rattle.ic_lives.proofs.PageLemmas.{lived_once, iterated, at_job, at_life}
 use Rattle.ic_lives.proofs.pages.each_round_is_the_next_iterate.Goals as goal
 

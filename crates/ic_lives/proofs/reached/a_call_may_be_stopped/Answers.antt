@@ -1,4 +1,4 @@
-use Rattle.ic_desk.specs.Server.{up}
+use Rattle.ic_book.specs.Server.{up}
 use Rattle.ic_lives.proofs.StopLemmas.{step_stop}
 use Rattle.ic_lives.proofs.reached.a_call_may_be_stopped.Goals as goal
 

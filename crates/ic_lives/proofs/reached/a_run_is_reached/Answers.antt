@@ -1,8 +1,8 @@
 use Rattle.std.proofs.Common.{ℕ, List, refl, sym, subst, arith}
 use Rattle.ic_disk.specs.History.{History, clock_of, content_of, image_of}
 use Rattle.ic_lives.proofs.MemLemmas.{image_now}
-use Rattle.ic_desk.specs.Book.{disk_of}
-use Rattle.ic_desk.specs.Server.{down, up}
+use Rattle.ic_book.specs.Book.{disk_of}
+use Rattle.ic_book.specs.Server.{down, up}
 use Rattle.ic_lives.proofs.reached.a_run_is_reached.Goals as goal
 
 pub returns : goal.returns

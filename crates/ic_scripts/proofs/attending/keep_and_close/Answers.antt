@@ -1,6 +1,6 @@
 use Rattle.std.proofs.Common.{subst, sym}
-use Rattle.ic_desk.specs.Book.{disk_of}
-use Rattle.ic_desk.specs.Refusals.{CountsBook}
+use Rattle.ic_book.specs.Book.{disk_of}
+use Rattle.ic_book.specs.Refusals.{CountsBook}
 use Rattle.ic_scripts.proofs.ReasonLemmas.{keep_tells, kept_closed}
 use Rattle.ic_scripts.proofs.attending.keep_and_close.Goals as goal
 

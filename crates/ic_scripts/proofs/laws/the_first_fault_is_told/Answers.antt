@@ -1,6 +1,6 @@
 use Rattle.std.proofs.Common.{◌≡◌, ◌∙◌, ◌++◌, ◌∷◌, [], List, None, Some, ap, ap₂, sym, refl}
 use Rattle.std.specs.Prelude.{Result, Ok, Err, IsOk, option_map, slice_get}
-use Rattle.ic_desk.specs.declared.fault.BookFault.{BookFault}
+use Rattle.ic_book.specs.declared.fault.BookFault.{BookFault}
 use Rattle.std.specs.List.{AllByRecursion, filter_map}
 use Rattle.ic_attend.specs.declared.attended.ClientRun.{ClientRun}
 use Rattle.ic_scripts.specs.Outcome.{IsFirstOf, client_fault, keep_faults, runner_fault}

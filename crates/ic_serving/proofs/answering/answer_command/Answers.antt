@@ -1,13 +1,13 @@
 use Rattle.std.proofs.Common.{◌≡◌, ◌-◌, ◌^◌, Bool, true, false, inl, inr, Err, refl, ap, ◌∙◌, [], ◌∷◌}
 use Rattle.ic_jobs.specs.declared.event.Event.TheVariants.{Command as by_command}
 use Rattle.ic_jobs.specs.History.{table_after}
-use Rattle.ic_desk.specs.Book.{is_broken, number_of, table_of, start_of, log_of, kept_of, IsUnchanged}
+use Rattle.ic_book.specs.Book.{is_broken, number_of, table_of, start_of, log_of, kept_of, IsUnchanged}
 use Rattle.ic_slots.specs.declared.keeper.Keeper.{Keeper}
 use Rattle.ic_slots.specs.Keeper as keeper_parts
-use Rattle.ic_desk.specs.Entries.{command_entry}
+use Rattle.ic_book.specs.Entries.{command_entry}
 use Rattle.ic_serving.specs.Booked.{last_kept}
 use Rattle.ic_serving.proofs.RunLemmas.{kept_same, on_err}
-use Rattle.ic_desk.specs.lemmas.Chains.{answer_moves, by_answer, by_failure, by_refusal}
+use Rattle.ic_book.specs.lemmas.Chains.{answer_moves, by_answer, by_failure, by_refusal}
 use Rattle.ic_serving.specs.lemmas.Reaching.{kept_all}
 use Rattle.ic_serving.proofs.LineLemmas.{device_or_not, begun_none, begun_one, begun_kept, after_event, kept_behind}
 use Rattle.ic_serving.proofs.PageLemmas.{command_goes, one_room, same_then, within_all, within_none}
@@ -15,7 +15,7 @@ use Rattle.ic_serving.specs.Parts.{IsKeptWithin}
 use Rattle.ic_serving.specs.Moments.{IsKeptOrNow}
 use Rattle.ic_serving.proofs.StopLemmas.{kept_or_now, leaves_still, leaves_command}
 use Rattle.ic_serving.specs.lemmas.Leaving.{leaves_more}
-use Rattle.ic_desk.specs.Moves.{answers}
+use Rattle.ic_book.specs.Moves.{answers}
 use Rattle.ic_lines.specs.Lines.{ended}
 use Rattle.ic_serving.proofs.TurnLemmas.{ends_then}
 use Rattle.ic_serving.proofs.answering.answer_command.Goals as goal

@@ -1,6 +1,6 @@
 use Rattle.std.proofs.Common.{refl, inl, inr}
-use Rattle.ic_desk.specs.Book.{table_of}
-use Rattle.ic_desk.specs.lemmas.Chains.{by_nothing}
+use Rattle.ic_book.specs.Book.{table_of}
+use Rattle.ic_book.specs.lemmas.Chains.{by_nothing}
 use Rattle.ic_serving.specs.Booked.{last_kept}
 use Rattle.ic_serving.specs.Moments.{IsKeptInLine}
 use Rattle.ic_serving.specs.lemmas.Reaching.{in_line}

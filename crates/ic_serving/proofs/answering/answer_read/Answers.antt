@@ -1,16 +1,16 @@
 use Rattle.std.proofs.Common.{rules, ◌≡◌, ◌≢◌, ◌<◌, ◌-◌, ◌^◌, ℕ, List, length, false, refl, inl, [], ◌∷◌, Result, Ok, Err}
 use Rattle.std.specs.Prelude.{IfOk, OnOk}
 use Rattle.ic_jobs.specs.declared.command.Command.{Command}
-use Rattle.ic_desk.specs.declared.limits.TheConstants.{MAX_ENTRIES}
+use Rattle.ic_book.specs.declared.limits.TheConstants.{MAX_ENTRIES}
 use Rattle.ic_serving.specs.declared.fault.ServeFault.{ServeFault}
 use Rattle.ic_disk.specs.declared.disk.Disk.{Ghosts}
-use Rattle.ic_desk.specs.declared.book.Book.{Book}
-use Rattle.ic_desk.specs.Book.{is_broken, number_of, log_of, table_of}
+use Rattle.ic_book.specs.declared.book.Book.{Book}
+use Rattle.ic_book.specs.Book.{is_broken, number_of, log_of, table_of}
 use Rattle.ic_text.specs.declared.fault.TextFault.{TextFault}
 use Rattle.ic_lines.specs.Answers.{answer, after_line, events}
 use Rattle.ic_serving.specs.Booked.{last_kept, IsAllKept}
 use Rattle.ic_serving.specs.Grown.{GoesOn, HasRoom}
-use Rattle.ic_desk.specs.lemmas.Chains.{by_nothing}
+use Rattle.ic_book.specs.lemmas.Chains.{by_nothing}
 use Rattle.ic_serving.proofs.PageLemmas.{goes_none}
 use Rattle.ic_serving.proofs.RunLemmas.{on_err}
 use Rattle.ic_serving.proofs.ReadingLemmas.{nothing_begun, nothing_come}
@@ -20,8 +20,8 @@ use Rattle.ic_lines.specs.Turns.{turns}
 use Rattle.ic_serving.specs.Parts.{IsKeptWithin}
 use Rattle.ic_serving.proofs.StopLemmas.{fault_memory}
 use Rattle.ic_serving.specs.lemmas.Leaving.{leaves_nothing}
-use Rattle.ic_desk.specs.Moves.{keeps}
-use Rattle.ic_desk.specs.ByCalls.{IsByCalls}
+use Rattle.ic_book.specs.Moves.{keeps}
+use Rattle.ic_book.specs.ByCalls.{IsByCalls}
 use Rattle.ic_serving.specs.Answered.{EndsWith, IsReplied}
 use Rattle.ic_serving.specs.inner.Reading.{IsAnsweredAs}
 use Rattle.ic_serving.proofs.answering.answer_read.Goals as goal

@@ -1,9 +1,9 @@
 use Rattle.std.proofs.Common.{Ok, inl, inr, [], refl}
-use Rattle.ic_desk.specs.Book.{start_of, log_of}
+use Rattle.ic_book.specs.Book.{start_of, log_of}
 use Rattle.ic_jobs.specs.History.{replay}
 use Rattle.ic_serving.specs.Booked.{last_kept}
 use Rattle.ic_serving.specs.Moments.{IsKeptOrNow}
-use Rattle.ic_desk.specs.lemmas.Chains.{by_keep, keep_moves}
+use Rattle.ic_book.specs.lemmas.Chains.{by_keep, keep_moves}
 use Rattle.ic_serving.proofs.StopLemmas.{leaves_call}
 use Rattle.ic_serving.proofs.rounds.keep_all.Goals as goal
 

@@ -1,9 +1,9 @@
 use Rattle.std.proofs.Common.{subst, sym, ◌∙◌}
 use Rattle.ic_pool.specs.Played.{PlayedParts}
 use Rattle.ic_jobs.specs.Landing.{Awaits}
-use Rattle.ic_desk.specs.Book.{table_of}
+use Rattle.ic_book.specs.Book.{table_of}
 use Rattle.ic_jobs.specs.declared.reply.Reply.TheVariants.{Moved, Halted}
-use Rattle.ic_desk.specs.lemmas.Chains.{by_nothing, by_round}
+use Rattle.ic_book.specs.lemmas.Chains.{by_nothing, by_round}
 use Rattle.ic_serving.proofs.rounds.land_or_halt.Goals as goal
 
 pub land_awaited-requires : goal.land_awaited-requires

@@ -1,9 +1,9 @@
 use Rattle.std.proofs.Common.{inl, inr, refl}
-use Rattle.ic_desk.specs.Book.{start_of, log_of}
+use Rattle.ic_book.specs.Book.{start_of, log_of}
 use Rattle.ic_jobs.specs.History.{replay}
 use Rattle.ic_serving.specs.Booked.{last_kept}
 use Rattle.ic_serving.specs.Moments.{IsKeptOrNow}
-use Rattle.ic_desk.specs.lemmas.Chains.{by_keep, by_nothing}
+use Rattle.ic_book.specs.lemmas.Chains.{by_keep, by_nothing}
 use Rattle.ic_serving.proofs.StopLemmas.{leaves_call}
 use Rattle.ic_serving.specs.lemmas.Leaving.{leaves_nothing}
 use Rattle.ic_serving.proofs.rounds.make_room.Goals as goal

@@ -3,9 +3,9 @@ use Rattle.std.proofs.lemmas.Option.{slice_get_within}
 use Rattle.ic_jobs.specs.declared.limits.TheConstants.{MAX_JOBS}
 use Rattle.ic_jobs.specs.Landing.{due}
 use Rattle.ic_jobs.specs.Table.{IsTable}
-use Rattle.ic_desk.specs.Book.{table_of}
+use Rattle.ic_book.specs.Book.{table_of}
 use Rattle.ic_serving.specs.Moments.{IsKeptOrNow}
-use Rattle.ic_desk.specs.lemmas.Chains.{by_nothing}
+use Rattle.ic_book.specs.lemmas.Chains.{by_nothing}
 use Rattle.ic_serving.proofs.PageLemmas.{makes_round}
 use Rattle.ic_serving.proofs.StopLemmas.{leaves_still}
 use Rattle.ic_serving.specs.lemmas.Leaving.{leaves_nothing}

@@ -1,6 +1,6 @@
 use Rattle.std.proofs.Common.{inl, inr, refl}
 use Rattle.ic_serving.specs.Moments.{IsKeptOrNow}
-use Rattle.ic_desk.specs.lemmas.Chains.{by_nothing}
+use Rattle.ic_book.specs.lemmas.Chains.{by_nothing}
 use Rattle.ic_serving.specs.lemmas.Leaving.{leaves_nothing}
 use Rattle.ic_serving.proofs.running.keep_each.Goals as goal
 

@@ -1,12 +1,12 @@
 use Rattle.std.proofs.Common.{◌≡◌, ◌+◌, ◌-◌, [], None, inl, inr, ap, refl, ◌∙◌, arith}
 use Rattle.ic_jobs.specs.Landing.{due}
-use Rattle.ic_desk.specs.Book.{table_of, start_of, log_of, kept_of, IsUnchanged}
+use Rattle.ic_book.specs.Book.{table_of, start_of, log_of, kept_of, IsUnchanged}
 use Rattle.ic_serving.specs.Booked.{last_kept, MakesRound}
 use Rattle.ic_serving.proofs.RunLemmas.{IsRun, at_first, one_more, keep_or_not, kept_same, run_idle, run_begun, turns_over, on_err}
 use Rattle.ic_serving.proofs.PageLemmas.{page_first, page_more, page_whole, page_within}
 use Rattle.ic_lines.specs.Turns.{turns}
 use Rattle.ic_serving.specs.Parts.{IsKeptWithin}
-use Rattle.ic_desk.specs.lemmas.Chains.{by_nothing}
+use Rattle.ic_book.specs.lemmas.Chains.{by_nothing}
 use Rattle.ic_serving.proofs.StopLemmas.{leaves_in_run}
 use Rattle.ic_serving.specs.lemmas.Leaving.{leaves_nothing}
 use Rattle.ic_serving.proofs.running.make_rounds.Given as given

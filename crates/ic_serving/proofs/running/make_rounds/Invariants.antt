@@ -1,5 +1,5 @@
 use Rattle.std.proofs.Common.{◌≡◌, false}
-use Rattle.ic_desk.specs.Book.{table_of, disk_of, is_broken}
+use Rattle.ic_book.specs.Book.{table_of, disk_of, is_broken}
 use Rattle.ic_lines.specs.Turns.{turns}
 use Rattle.ic_serving.specs.Booked.{last_kept}
 use Rattle.ic_serving.specs.Parts.{IsKeptWithin}

@@ -1,4 +1,4 @@
-use Rattle.ic_desk.specs.Book.{table_of}
+use Rattle.ic_book.specs.Book.{table_of}
 use Rattle.ic_lines.specs.Turns.{turns}
 use Rattle.ic_serving.specs.Booked.{last_kept}
 use Rattle.ic_serving.proofs.RunLemmas.{run_ended, on_err}
@@ -7,7 +7,7 @@ use Rattle.ic_serving.specs.Parts.{IsKeptWithin}
 use Rattle.ic_serving.specs.Moments.{IsKeptOrNow}
 use Rattle.ic_serving.proofs.StopLemmas.{kept_or_all}
 use Rattle.ic_serving.specs.lemmas.Leaving.{leaves_then}
-use Rattle.ic_desk.specs.Moves.{keeps}
+use Rattle.ic_book.specs.Moves.{keeps}
 use Rattle.ic_serving.proofs.TurnLemmas.{ends_then}
 use Rattle.ic_serving.proofs.running.run.Goals as goal
 

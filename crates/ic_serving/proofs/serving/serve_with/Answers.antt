@@ -3,7 +3,7 @@ use Rattle.std.specs.Io.KnownBytes.{Appends, Keeps}
 use Rattle.ic_commands.specs.LineText.{ReadsLine}
 use Rattle.ic_lines.specs.Answers.{events}
 use Rattle.ic_lines.specs.Taking.{to_come, TakesLine}
-use Rattle.ic_desk.specs.Book.{is_broken, number_of, table_of, disk_of, start_of, log_of, kept_of}
+use Rattle.ic_book.specs.Book.{is_broken, number_of, table_of, disk_of, start_of, log_of, kept_of}
 use Rattle.ic_serving.specs.Booked.{last_kept, Begins, IsAllKept}
 use Rattle.ic_serving.specs.Faults.{fault_of_line}
 use Rattle.ic_serving.specs.declared.fault.ServeFault.TheVariants.{TooManyLines}
@@ -11,7 +11,7 @@ use Rattle.ic_serving.specs.declared.limits.TheConstants.{MAX_LINES}
 use Rattle.ic_serving.specs.Answered.{IsAnswered}
 use Rattle.ic_serving.specs.inner.Reading.{IsAnsweredAs}
 use Rattle.ic_serving.specs.Moments.{Leaves, IsKeptInLine}
-use Rattle.ic_desk.specs.lemmas.Chains.{by_nothing}
+use Rattle.ic_book.specs.lemmas.Chains.{by_nothing}
 use Rattle.ic_serving.specs.lemmas.Reaching.{kept_all, kept_or_same}
 use Rattle.ic_serving.proofs.TurnLemmas.{turns_more}
 use Rattle.ic_serving.proofs.ReadingLemmas.{fault_unbegun, keeps_then, leaves_in_line, line_answered, says_unbegun}

@@ -1,7 +1,7 @@
 use Rattle.std.proofs.Common.{[], ◌∷◌, Ok, Err, refl, sym, subst, ◌∙◌, append-nil}
 use Rattle.ic_commands.specs.declared.line.Line.TheVariants.{Blank, Run, Command as Asks}
 use Rattle.ic_lines.specs.Answers.{answer}
-use Rattle.ic_desk.specs.Book.{table_of}
+use Rattle.ic_book.specs.Book.{table_of}
 use Rattle.ic_serving.specs.Answered.{IsKeptFor}
 use Rattle.ic_serving.specs.Booked.{last_kept}
 use Rattle.ic_serving.specs.lemmas.Reaching.{kept_or_same}

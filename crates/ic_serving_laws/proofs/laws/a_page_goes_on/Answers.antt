@@ -3,7 +3,7 @@ use Rattle.std.specs.List.{AllByRecursion}
 use Rattle.std.proofs.Math.Seq.{drop-append_seam, take-append_seam}
 use Rattle.ic_jobs.specs.declared.event.Event.{Event}
 use Rattle.ic_jobs.specs.declared.event.Entry.{Entry}
-use Rattle.ic_desk.specs.Book.{log_of}
+use Rattle.ic_book.specs.Book.{log_of}
 use Rattle.ic_serving.specs.Grown.{GoesOn}
 use Rattle.ic_serving_laws.proofs.laws.a_page_goes_on.Goals as goal
 

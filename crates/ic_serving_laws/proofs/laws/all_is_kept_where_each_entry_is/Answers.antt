@@ -1,4 +1,4 @@
-use Rattle.ic_desk.specs.Book.{start_of, log_of, table_of, kept_of}
+use Rattle.ic_book.specs.Book.{start_of, log_of, table_of, kept_of}
 use Rattle.ic_serving.specs.lemmas.Reaching.{kept_all}
 use Rattle.ic_serving_laws.proofs.laws.all_is_kept_where_each_entry_is.Goals as goal
 

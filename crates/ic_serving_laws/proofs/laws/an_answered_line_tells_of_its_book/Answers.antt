@@ -1,7 +1,7 @@
 use Rattle.std.proofs.Common.{Ok, subst}
 use Rattle.ic_commands.specs.declared.line.Line.TheVariants.{Run, Command as Asks}
 use Rattle.ic_lines.specs.Answers.{Reading, events}
-use Rattle.ic_desk.specs.Book.{table_of}
+use Rattle.ic_book.specs.Book.{table_of}
 use Rattle.ic_serving.specs.Answered.{IsFreshFor, IsWholeFor}
 use Rattle.ic_serving.specs.Grown.{GoesOn, GoesOnWithin, HasRoom}
 use Rattle.ic_serving_laws.proofs.laws.an_answered_line_tells_of_its_book.Goals as goal

@@ -1,5 +1,5 @@
 use Rattle.std.proofs.Common.{false, ◌≡◌, ◌≢◌, ℕ, Bool, Err, refl}
-use Rattle.ic_desk.specs.declared.fault.BookFault.TheVariants as book
+use Rattle.ic_book.specs.declared.fault.BookFault.TheVariants as book
 use Rattle.ic_serving.specs.declared.fault.ServeFault.{ServeFault}
 use Rattle.ic_serving.specs.declared.fault.ServeFault.TheVariants.{Read, Write, TooManyLines, Book, Pool, LongLine, Memory}
 use Rattle.ic_serving.specs.Faults.{CountsServe, StaysReady}

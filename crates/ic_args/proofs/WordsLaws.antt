@@ -1,0 +1,268 @@
+-- What the parser's contract says of the program's words.
+use Rattle.std.proofs.Common.{◌≡◌, ◌≢◌, ℕ, List, [], ◌∷◌, Bool, true, false, not, ◌&&◌, ◌||◌, cond, Option, None, Some, codes, map, refl, sym, ◌∙◌, ap, ap₂, subst, inl, inr, true≢false}
+use Rattle.std.specs.Prelude.{option_map, unwrap_or}
+use Rattle.std.specs.Borrow.{Bor}
+use Rattle.clap.specs.Words.{App, HasKind, HasMatchesOf, IsAmong, Kinds, all_of, fault_of, first_of, matched_of, raw_values, is_simple, is_simple_and_free, kind_of, rows_of, subcommand_name_of, subcommand_of, subcommand_rows_of}
+use Rattle.clap.specs.Walk.{Row, Text}
+use Rattle.clap.specs.declared.error.Error.{Error}
+use Rattle.clap.specs.declared.error.ErrorKind.{ErrorKind}
+use Rattle.clap.specs.declared.error.ErrorKind.TheVariants.{ArgumentConflict, DisplayHelp, DisplayVersion, InvalidValue, MissingRequiredArgument, OutOfMemory}
+use Rattle.clap.specs.declared.parser.matches.ArgMatches.{ArgMatches}
+use Rattle.clap.proofs.OnLiterals.{clap_on_literals}
+use Rattle.clap.specs.Matches.{first_value}
+use Rattle.clap.specs.Simple.{built, entered}
+use Rattle.clap.specs.declared.parser.matches.Found.{Found}
+use Rattle.clap.proofs.WalkLemmas.{first_value-rows, raw_values-rows}
+use Rattle.std.specs.Str.{bytes_eq}
+use Rattle.std.proofs.lemmas.Slice.Eq.{bytes_eq-Decides}
+use Rattle.clap.specs.Kinds.{or_else}
+use Rattle.ic_args.specs.Words.{BeginsWith, asks_in_place, asks_rounds, command_line, format_mistakes, is_format, is_given, is_met, own_mistakes, reduce_faults, reduce_mistakes, value_met, values_met}
+use Rattle.ic_args.specs.inner.Asking.{IsIn, IsMet, commands}
+use Rattle.ic_args.proofs.WordsExact.{ByBareness, IsCalled, is_bare, stops, settle_stands, once_stands, create_stands, serve_stands, attend_stands, reduce_stands, trace_stands, draw_stands, dump_stands, inspect_stands, check_stands, batch_stands}
+
+command_line_simple : is_simple_and_free command_line ≡ true
+unfolding clap_on_literals
+command_line_simple = refl
+
+-- a command alone has no mistake
+pub settle_taken : fault_of command_line (codes "settle" ∷ []) ≡ []
+unfolding clap_on_literals
+settle_taken = refl
+
+pub once_taken : fault_of command_line (codes "once" ∷ []) ≡ []
+unfolding clap_on_literals
+once_taken = refl
+
+-- what asks for help, and for the version, is that alone
+pub help_asked : fault_of command_line (codes "--help" ∷ []) ≡ DisplayHelp ∷ []
+unfolding clap_on_literals
+help_asked = refl
+
+pub version_asked : fault_of command_line (codes "--version" ∷ []) ≡ DisplayVersion ∷ []
+unfolding clap_on_literals
+version_asked = refl
+
+among_kinds : (k : ErrorKind) (kinds : Kinds) (e : Error) → HasKind kinds e → kind_of e ≡ k → k ≢ OutOfMemory → IsAmong k kinds
+among_kinds k kinds e has is other = elim has [
+  | inl memory ↦ absurd (other (sym is ∙ memory))
+  | inr among ↦ rw is at among
+]
+
+-- an error of this kind is a mistake in the words
+pub mistake_made : (app : App) (words : List (List ℕ)) (e : Error) (k : ErrorKind) → app ≡ command_line
+    → (is_simple_and_free app ≡ true → HasKind (fault_of app words) e) → kind_of e ≡ k → k ≢ OutOfMemory → IsAmong k (fault_of command_line words)
+mistake_made app words e k is fails kind other =
+    let has = rw is at (fails (ap is_simple_and_free is ∙ command_line_simple)) in
+    among_kinds k (fault_of command_line words) e has kind other
+
+-- matches are made of words without a mistake
+pub none_made : (app : App) (words : List (List ℕ)) → app ≡ command_line → (is_simple_and_free app ≡ true → fault_of app words ≡ [])
+    → fault_of command_line words ≡ []
+none_made app words is fails = ap (λ a. fault_of a words) (sym is) ∙ fails (ap is_simple_and_free is ∙ command_line_simple)
+
+-- words without a mistake have no error
+pub taken_alone : (words alone : List Text) (k : ErrorKind) → fault_of command_line alone ≡ [] → words ≡ alone → IsAmong k (fault_of command_line words) → ⊥
+taken_alone words alone k taken is among = rw (is, taken) at among
+
+-- words of which one thing alone is wrong have an error of that kind
+pub asked_alone : (words alone : List Text) (k other : ErrorKind) → fault_of command_line alone ≡ k ∷ [] → words ≡ alone
+    → IsAmong other (fault_of command_line words) → other ≡ k
+asked_alone words alone k other asked is among = elim (rw (is, asked) at among) [
+  | inl same ↦ same
+  | inr none ↦ absurd none
+]
+
+-- and so aren't taken
+pub asked_not_taken : (words alone : List Text) (k : ErrorKind) → fault_of command_line alone ≡ k ∷ [] → words ≡ alone
+    → fault_of command_line words ≡ [] → ⊥
+asked_not_taken words alone k asked is taken = let e : k ∷ [] ≡ [] = sym asked ∙ ap (fault_of command_line) (sym is) ∙ taken in cc
+
+-- ---- the command that is met
+
+abbrev command_of : List Text → Option Text
+command_of words = option_map (λ (p : Text × List Row). p.0) (subcommand_of command_line words)
+
+simple : is_simple command_line ≡ true
+unfolding clap_on_literals
+simple = refl
+
+option_map_twice : {X Y Z : Type 0} (f : Y → Z) (g : X → Y) (o : Option X) → option_map f (option_map g o) ≡ option_map (λ x. f (g x)) o
+option_map_twice f g None = refl
+option_map_twice f g (Some x) = refl
+
+name_of_rows : (m : ArgMatches) → option_map (λ (p : Text × List Row). p.0) (subcommand_rows_of m) ≡ subcommand_name_of m
+name_of_rows m = option_map_twice _ _ _
+
+-- a command is met where its name stands first
+met_first : (name one : Text) (words : List Text) → name ≡ one → (command_of (one ∷ words) ≡ Some one) → command_of (name ∷ words) ≡ Some name
+met_first name one words is met = subst (λ (n : Text). command_of (n ∷ words) ≡ Some n) (sym is) met
+
+abbrev entered_name : Option (Text × List Text) → Option Text
+entered_name s = option_map (λ (p : Text × List Row). p.0) (entered (built command_line) s)
+
+first_met : (name : Text) (words : List Text) → IsIn name commands → command_of (name ∷ words) ≡ Some name
+first_met name words (inl is) = met_first name (codes "settle") words is (ap entered_name (stops (codes "settle") words (settle_stands words)))
+first_met name words (inr (inl is)) = met_first name (codes "once") words is (ap entered_name (stops (codes "once") words (once_stands words)))
+first_met name words (inr (inr (inl is))) = met_first name (codes "create") words is (ap entered_name (stops (codes "create") words (create_stands words)))
+first_met name words (inr (inr (inr (inl is)))) = met_first name (codes "serve") words is (ap entered_name (stops (codes "serve") words (serve_stands words)))
+first_met name words (inr (inr (inr (inr (inl is))))) = met_first name (codes "attend") words is (ap entered_name (stops (codes "attend") words (attend_stands words)))
+first_met name words (inr (inr (inr (inr (inr (inl is)))))) = met_first name (codes "reduce") words is (ap entered_name (stops (codes "reduce") words (reduce_stands words)))
+first_met name words (inr (inr (inr (inr (inr (inr (inl is))))))) = met_first name (codes "trace") words is (ap entered_name (stops (codes "trace") words (trace_stands words)))
+first_met name words (inr (inr (inr (inr (inr (inr (inr (inl is)))))))) = met_first name (codes "draw") words is (ap entered_name (stops (codes "draw") words (draw_stands words)))
+first_met name words (inr (inr (inr (inr (inr (inr (inr (inr (inl is))))))))) = met_first name (codes "dump") words is (ap entered_name (stops (codes "dump") words (dump_stands words)))
+first_met name words (inr (inr (inr (inr (inr (inr (inr (inr (inr (inl is)))))))))) = met_first name (codes "inspect") words is (ap entered_name (stops (codes "inspect") words (inspect_stands words)))
+first_met name words (inr (inr (inr (inr (inr (inr (inr (inr (inr (inr (inl is))))))))))) = met_first name (codes "check") words is (ap entered_name (stops (codes "check") words (check_stands words)))
+first_met name words (inr (inr (inr (inr (inr (inr (inr (inr (inr (inr (inr (inl is)))))))))))) = met_first name (codes "batch") words is (ap entered_name (stops (codes "batch") words (batch_stands words)))
+first_met name words (inr (inr (inr (inr (inr (inr (inr (inr (inr (inr (inr (inr none)))))))))))) = absurd none
+
+begins_by : (bare : Bool) (name : Text) (words : List Text) → ByBareness bare name words → BeginsWith name words
+begins_by true name words (inl alone) = ([], alone)
+begins_by true name words (inr dashed) = (_, dashed)
+begins_by false name words begins = begins
+
+-- the command that the words name is the one that the parser met
+pub called_met : (name : Text) (words : List Text) → IsCalled name words → IsMet name (subcommand_of command_line words)
+called_met name words called =
+    let begins = begins_by (is_bare name) name words called.1 in
+    ap command_of begins.1 ∙ first_met name begins.0 called.0
+
+-- and it is no other
+pub one_met : (name one : Text) (met : Option (Text × List Row)) → IsMet name met → IsMet one met → name ≡ one
+one_met name one met is other = ap (λ (o : Option Text). unwrap_or o []) (sym is ∙ other)
+
+pub called_as : (name one : Text) (words : List Text) → IsCalled name words → IsMet one (subcommand_of command_line words) → ByBareness (is_bare one) one words
+called_as name one words called is =
+    subst (λ (n : Text). ByBareness (is_bare n) n words) (one_met name one _ (called_met name words called) is) called.1
+
+-- the rows of the command that the parser met
+pub rows_met : (app : App) (words : List Text) (m : ArgMatches) → app ≡ command_line → HasMatchesOf app words m
+    → subcommand_rows_of m ≡ subcommand_of command_line words
+rows_met app words m is matches = (matches (ap is_simple is ∙ simple)).1 ∙ ap (λ a. subcommand_of a words) is
+
+-- words of which one command was met aren't another one alone
+pub no_other_alone : (one other : Text) (words : List Text) → IsMet one (subcommand_of command_line words) → command_of (other ∷ []) ≡ Some other
+    → bytes_eq one other ≡ false → words ≡ other ∷ [] → ⊥
+no_other_alone one other words met alone differs is =
+    let same : one ≡ other = one_met one other _ met (ap command_of is ∙ alone) in
+    true≢false (sym ((bytes_eq-Decides one other).1 same) ∙ differs)
+
+pub settle_met : command_of (codes "settle" ∷ []) ≡ Some (codes "settle")
+settle_met = first_met (codes "settle") [] (inl refl)
+
+pub once_met : command_of (codes "once" ∷ []) ≡ Some (codes "once")
+once_met = first_met (codes "once") [] (inr (inl refl))
+
+-- ---- formats
+
+-- another command has no format, and so no mistake in it
+pub no_format : (one : Text) (met : Option (Text × List Row)) → IsMet one met → bytes_eq one (codes "trace") ≡ false → format_mistakes met ≡ []
+no_format one None is other = refl
+no_format one (Some p) is other =
+    let same : p.0 ≡ one = ap (λ (o : Option Text). unwrap_or o []) is in
+    ap (λ (b : Bool). cond (b && not (is_format (value_met (codes "format") (Some p)))) (InvalidValue ∷ []) []) (ap (λ (n : Text). bytes_eq n (codes "trace")) same ∙ other)
+
+-- nor has one that there is
+pub a_format : (met : Option (Text × List Row)) → is_format (value_met (codes "format") met) ≡ true → format_mistakes met ≡ []
+a_format met is = go (is_met (codes "trace") met) is
+  where
+    go : (b : Bool) → is_format (value_met (codes "format") met) ≡ true → cond (b && not (is_format (value_met (codes "format") met))) (InvalidValue ∷ []) [] ≡ []
+    go true is = ap (λ (c : Bool). cond (not c) (InvalidValue ∷ []) []) is
+    go false is = refl
+
+pub another_format : (met : Option (Text × List Row)) → IsMet (codes "trace") met → is_format (value_met (codes "format") met) ≡ false → format_mistakes met ≡ InvalidValue ∷ []
+another_format None is other = cc
+another_format (Some p) is other =
+    let same : p.0 ≡ codes "trace" = ap (λ (o : Option Text). unwrap_or o []) is in
+    ap₂ (λ (b c : Bool). cond (b && not c) (InvalidValue ∷ []) []) (ap (λ (n : Text). bytes_eq n (codes "trace")) same) other
+
+-- a command that isn't `reduce` has no mistake of it
+pub no_reduce : (one : Text) (met : Option (Text × List Row)) → IsMet one met → bytes_eq one (codes "reduce") ≡ false → reduce_mistakes met ≡ []
+no_reduce one None is other = refl
+no_reduce one (Some p) is other =
+    let same : p.0 ≡ one = ap (λ (o : Option Text). unwrap_or o []) is in
+    ap (λ (b : Bool). cond b (reduce_faults (Some p)) []) (ap (λ (n : Text). bytes_eq n (codes "reduce")) same ∙ other)
+
+pub no_own : (one : Text) (met : Option (Text × List Row)) → IsMet one met → bytes_eq one (codes "trace") ≡ false → bytes_eq one (codes "reduce") ≡ false
+    → own_mistakes met ≡ []
+no_own one met is trace reduce = ap₂ or_else (no_format one met is trace) (no_reduce one met is reduce)
+
+-- ---- `reduce`
+
+is_reduce : (met : Option (Text × List Row)) → IsMet (codes "reduce") met → reduce_mistakes met ≡ reduce_faults met
+is_reduce None is = cc
+is_reduce (Some p) is =
+    let same : p.0 ≡ codes "reduce" = ap (λ (o : Option Text). unwrap_or o []) is in
+    ap (λ (b : Bool). cond b (reduce_faults (Some p)) []) (ap (λ (n : Text). bytes_eq n (codes "reduce")) same)
+
+pub of_reduce : (met : Option (Text × List Row)) → IsMet (codes "reduce") met → own_mistakes met ≡ reduce_faults met
+of_reduce met is = ap₂ or_else (no_format (codes "reduce") met is refl) (is_reduce met is)
+
+-- its faults, by what is asked
+abbrev faults_by : Bool → Bool → Bool → Kinds
+faults_by rounds in_place counted =
+    cond (not rounds) [] (cond in_place (ArgumentConflict ∷ []) (cond counted [] (MissingRequiredArgument ∷ [])))
+
+pub in_place_free : (met : Option (Text × List Row)) → asks_rounds met ≡ false → reduce_faults met ≡ []
+in_place_free met alone = ap (λ (r : Bool). faults_by r (asks_in_place met) (is_given (codes "rounds") met)) alone
+
+pub rounds_free : (met : Option (Text × List Row)) → is_given (codes "rounds") met ≡ true → asks_in_place met ≡ false → reduce_faults met ≡ []
+rounds_free met given alone = ap₂ (λ (r p : Bool). faults_by (r || is_given (codes "workers") met) p r) given alone
+
+-- a kind of mistake that asks for nothing
+abbrev pub IsMistake : ErrorKind → Type 0
+IsMistake kind = (kind ≢ DisplayHelp) × (kind ≢ DisplayVersion)
+
+pub reduce_wrong : (met : Option (Text × List Row)) → reduce_faults met ≢ [] → (kind : ErrorKind) × (reduce_faults met ≡ kind ∷ []) × IsMistake kind
+reduce_wrong met wrong = go (asks_rounds met) (asks_in_place met) (is_given (codes "rounds") met) wrong
+  where
+    go : (r p c : Bool) → faults_by r p c ≢ [] → (kind : ErrorKind) × (faults_by r p c ≡ kind ∷ []) × IsMistake kind
+    go false p c other = absurd (other refl)
+    go true true c other = (ArgumentConflict, refl, ((λ e. cc), λ e. cc))
+    go true false true other = absurd (other refl)
+    go true false false other = (MissingRequiredArgument, refl, ((λ e. cc), λ e. cc))
+
+-- a mistake that the parser finds is one of all
+pub among_all : (k : ErrorKind) (a b : Kinds) → IsAmong k a → IsAmong k (or_else a b)
+among_all k [] b among = absurd among
+among_all k (x ∷ xs) b among = among
+
+-- ---- the value of an option
+
+value_of_rows : (option : Text) (met : Option (Text × List Row)) (rows : List Row)
+    → Some rows ≡ option_map (λ (p : Text × List Row). p.1) met → value_met option met ≡ unwrap_or (first_of option rows) []
+value_of_rows option None rows is = cc
+value_of_rows option (Some p) rows is = let e : rows ≡ p.1 = cc in ap (λ r. unwrap_or (first_of option r) []) (sym e)
+
+text_or_none : (read : Option (Bor Text)) (none : Bor Text) → none.now ≡ [] → (unwrap_or read none).now ≡ unwrap_or (option_map (λ s. s.now) read) []
+text_or_none None none is = is
+text_or_none (Some text) none is = refl
+
+-- the text of the option's value in the matches of a command, whose rows these are
+pub value_read : (option : Text) (met : Option (Text × List Row)) (found : Found) (read : Option (Bor Text)) (none : Bor Text)
+    → none.now ≡ [] → Some (rows_of found) ≡ option_map (λ (p : Text × List Row). p.1) met
+    → option_map (λ s. s.now) read ≡ first_value found option → (unwrap_or read none).now ≡ value_met option met
+value_read option met found read none empty rows is =
+    text_or_none read none empty ∙ ap (λ o. unwrap_or o []) (is ∙ first_value-rows found option) ∙ sym (value_of_rows option met (rows_of found) rows)
+
+pub value_missing : (option : Text) (met : Option (Text × List Row)) → None ≡ option_map (λ (p : Text × List Row). p.1) met → [] ≡ value_met option met
+value_missing option None is = refl
+value_missing option (Some p) is = cc
+
+-- ---- the values of an argument
+
+values_of_rows : (option : Text) (met : Option (Text × List Row)) (rows : List Row)
+    → Some rows ≡ option_map (λ (p : Text × List Row). p.1) met → values_met option met ≡ unwrap_or (all_of option rows) []
+values_of_rows option None rows is = cc
+values_of_rows option (Some p) rows is = let e : rows ≡ p.1 = cc in ap (λ r. unwrap_or (all_of option r) []) (sym e)
+
+abbrev pub texts : List (Bor Text) → List Text
+texts vs = map (λ (v : Bor Text). v.now) vs
+
+-- the texts of the argument's values in the matches of a command, whose rows these are
+pub values_read : (option : Text) (met : Option (Text × List Row)) (found : Found) (read shown : Option (Bor (List (Bor Text)))) → read ≡ shown
+    → Some (rows_of found) ≡ option_map (λ (p : Text × List Row). p.1) met
+    → option_map (λ (s : Bor (List (Bor Text))). texts s.now) read ≡ option_map raw_values (matched_of found option)
+    → unwrap_or (option_map (λ (s : Bor (List (Bor Text))). texts s.now) shown) [] ≡ values_met option met
+values_read option met found read shown same rows is =
+    ap (λ (o : Option (Bor (List (Bor Text)))). unwrap_or (option_map (λ (s : Bor (List (Bor Text))). texts s.now) o) []) (sym same)
+    ∙ ap (λ o. unwrap_or o []) (is ∙ raw_values-rows found option) ∙ sym (values_of_rows option met (rows_of found) rows)

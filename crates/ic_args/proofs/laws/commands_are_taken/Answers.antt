@@ -1,0 +1,44 @@
+use Rattle.std.proofs.Common.{refl}
+use Rattle.clap.proofs.OnLiterals.{clap_on_literals}
+use Rattle.ic_args.proofs.laws.commands_are_taken.Goals as goal
+
+pub returns-clause-settle : goal.returns-clause-settle
+unfolding clap_on_literals
+returns-clause-settle c = refl
+
+pub returns-clause-settled : goal.returns-clause-settled
+unfolding clap_on_literals
+returns-clause-settled c = refl
+
+pub returns-clause-once : goal.returns-clause-once
+unfolding clap_on_literals
+returns-clause-once c = refl
+
+pub returns-clause-once_ended : goal.returns-clause-once_ended
+unfolding clap_on_literals
+returns-clause-once_ended c = refl
+
+pub returns-clause-settle_named : goal.returns-clause-settle_named
+returns-clause-settle_named c = λ words names. names
+
+pub returns-clause-once_named : goal.returns-clause-once_named
+returns-clause-once_named c = λ words names. names
+
+pub returns-clause-reduce : goal.returns-clause-reduce
+unfolding clap_on_literals
+returns-clause-reduce c = refl
+
+pub returns-clause-trace : goal.returns-clause-trace
+unfolding clap_on_literals
+returns-clause-trace c = refl
+
+pub returns-clause-draw : goal.returns-clause-draw
+unfolding clap_on_literals
+returns-clause-draw c = refl
+
+pub returns-clause-drawn : goal.returns-clause-drawn
+unfolding clap_on_literals
+returns-clause-drawn c = refl
+
+pub returns-clause-draw_named : goal.returns-clause-draw_named
+returns-clause-draw_named c = λ words names. names

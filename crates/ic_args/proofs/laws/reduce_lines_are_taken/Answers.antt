@@ -1,0 +1,26 @@
+use Rattle.std.proofs.Common.{refl}
+use Rattle.clap.proofs.OnLiterals.{clap_on_literals}
+use Rattle.ic_args.proofs.ReduceLines.{in_place_named, in_place_taken, rounds_named, rounds_taken}
+use Rattle.ic_args.proofs.laws.reduce_lines_are_taken.Goals as goal
+
+pub returns-clause-taken : goal.returns-clause-taken
+returns-clause-taken c = λ words given s n p t line of. in_place_taken words given line s n p t of
+
+pub returns-clause-named : goal.returns-clause-named
+returns-clause-named c = λ words given s n steps nodes p t partial stats line of names.
+    in_place_named words given line s n steps nodes p t partial stats of names
+
+pub returns-clause-rounds : goal.returns-clause-rounds
+returns-clause-rounds c = λ words given most threads p line of. rounds_taken words given line most threads p of
+
+pub returns-clause-rounds_named : goal.returns-clause-rounds_named
+returns-clause-rounds_named c = λ words given most threads rounds workers p partial line of names.
+    rounds_named words given line most threads rounds workers p partial of names.2 names.3 names.4
+
+pub returns-clause-both : goal.returns-clause-both
+unfolding clap_on_literals
+returns-clause-both c = refl
+
+pub returns-clause-no_rounds : goal.returns-clause-no_rounds
+unfolding clap_on_literals
+returns-clause-no_rounds c = refl

@@ -1,0 +1,103 @@
+-- What a task is read from: the command that the parser met, with its rows.
+use Rattle.std.specs.Prelude.{◌≡◌, ◌≢◌, ◌≤◌, ◌⊎◌, ℕ, List, [], ◌∷◌, Option, Some, Result, Ok, Err, codes, map, option_map, string_bytes, true, false}
+use Rattle.clap.specs.Words.{Row, Text}
+use Rattle.clap.specs.declared.error.ErrorKind.{ErrorKind}
+use Rattle.clap.specs.declared.error.ErrorKind.TheVariants.{DisplayHelp, DisplayVersion, OutOfMemory}
+use Rattle.ic_args.specs.Help.{help_of}
+use Rattle.ic_args.specs.Words.{IsDecimal, asks_in_place, asks_rounds, format_word, is_flag_met, is_format, is_given, most_rounds, most_steps}
+use Rattle.ic_args.specs.Words.{number_met, reduce_faults, value_met, values_met, version_line}
+use Rattle.ic_args.specs.declared.words.Task.{Task}
+use Rattle.ic_args.specs.declared.words.Task.TheVariants.{Settle, Once, Create, Serve, Attend, Reduce, ReduceByRounds}
+use Rattle.ic_args.specs.declared.words.Task.TheVariants.{Trace, Draw, Dump, Inspect, Check, Batch, Help, Version}
+use Rattle.ic_args.specs.declared.words.WordsFault.{WordsFault}
+use Rattle.ic_args.specs.declared.words.WordsFault.TheVariants.{Words, Memory}
+
+-- where the option's text is a number in the range, this is it
+abbrev pub IsReadFrom : (option : Text) (least most : ℕ) → Option (Text × List Row) → ℕ → Type 0
+IsReadFrom option least most met number = (n : ℕ) → IsDecimal (number_met option met) n
+    → least ≤ n → n ≤ most → number ≡ n
+
+-- the same, or this is the default where the option has no value
+abbrev pub IsReadOr : (option : Text) (least most default : ℕ) → Option (Text × List Row) → ℕ → Type 0
+IsReadOr option least most default met number =
+    (is_given option met ≡ true → IsReadFrom option least most met number)
+    × (is_given option met ≡ false → number ≡ default)
+
+-- the command of this name was met
+abbrev pub IsMet : Text → Option (Text × List Row) → Type 0
+IsMet name met = option_map (λ p. p.0) met ≡ Some name
+
+-- the commands of the program
+abbrev pub commands : List Text
+commands = codes "settle" ∷ codes "once" ∷ codes "create" ∷ codes "serve" ∷ codes "attend"
+    ∷ codes "reduce" ∷ codes "trace" ∷ codes "draw" ∷ codes "dump"
+    ∷ codes "inspect" ∷ codes "check" ∷ codes "batch" ∷ []
+
+-- it is one of these
+abbrev pub IsIn : Text → List Text → Type 0
+IsIn name [] = ⊥
+IsIn name (one ∷ more) = (name ≡ one) ⊎ IsIn name more
+
+-- one of the program's commands was met
+abbrev pub IsCommandMet : Option (Text × List Row) → Type 0
+IsCommandMet met = (name : Text) × IsIn name commands × IsMet name met
+
+-- what is answered to the command that was met
+abbrev pub Asks : Option (Text × List Row) → Result Task WordsFault → Type 0
+Asks met (Ok Settle) = IsMet (codes "settle") met
+Asks met (Ok Once) = IsMet (codes "once") met
+Asks met (Ok (Create disk overwrite)) = IsMet (codes "create") met
+    × (string_bytes disk ≡ value_met (codes "disk") met)
+    × (overwrite ≡ is_flag_met (codes "overwrite") met)
+Asks met (Ok (Serve disk workers every)) = IsMet (codes "serve") met
+    × (string_bytes disk ≡ value_met (codes "disk") met)
+    × IsReadFrom (codes "workers") 1 64 met workers × IsReadFrom (codes "every") 1 1000000 met every
+Asks met (Ok (Attend disk runners turns workers scripts)) = IsMet (codes "attend") met
+    × (string_bytes disk ≡ value_met (codes "disk") met)
+    × IsReadFrom (codes "runners") 0 64 met runners × IsReadFrom (codes "turns") 0 1000000 met turns
+    × IsReadFrom (codes "workers") 1 64 met workers
+    × (map string_bytes scripts.items ≡ values_met (codes "script") met)
+Asks met (Ok (Reduce steps nodes partial stats)) = IsMet (codes "reduce") met
+    × (asks_rounds met ≡ false)
+    × IsReadOr (codes "steps") 0 most_steps most_steps met steps
+    × IsReadOr (codes "nodes") 0 most_steps 134217728 met nodes
+    × (partial ≡ is_flag_met (codes "partial") met) × (stats ≡ is_flag_met (codes "stats") met)
+Asks met (Ok (ReduceByRounds rounds workers partial)) = IsMet (codes "reduce") met
+    × (is_given (codes "rounds") met ≡ true) × (asks_in_place met ≡ false)
+    × IsReadFrom (codes "rounds") 0 most_rounds met rounds
+    × IsReadOr (codes "workers") 1 64 2 met workers
+    × (partial ≡ is_flag_met (codes "partial") met)
+Asks met (Ok (Trace rounds format)) = IsMet (codes "trace") met
+    × IsReadFrom (codes "rounds") 0 most_rounds met rounds
+    × (value_met (codes "format") met ≡ format_word format)
+Asks met (Ok Draw) = IsMet (codes "draw") met
+Asks met (Ok (Dump disk names)) = IsMet (codes "dump") met
+    × (string_bytes disk ≡ value_met (codes "disk") met)
+    × (map string_bytes names.items ≡ values_met (codes "name") met)
+Asks met (Ok (Inspect disk)) = IsMet (codes "inspect") met
+    × (string_bytes disk ≡ value_met (codes "disk") met)
+Asks met (Ok (Check files)) = IsMet (codes "check") met
+    × (map string_bytes files.items ≡ values_met (codes "file") met)
+Asks met (Ok (Batch disk rounds every workers lines)) = IsMet (codes "batch") met
+    × (string_bytes disk ≡ value_met (codes "disk") met)
+    × IsReadFrom (codes "rounds") 0 most_rounds met rounds
+    × IsReadFrom (codes "every") 1 1000000 met every
+    × IsReadFrom (codes "workers") 1 64 met workers
+    × (string_bytes lines ≡ value_met (codes "lines") met)
+Asks met (Ok (Help text)) = ⊥
+Asks met (Ok (Version text)) = ⊥
+Asks met (Err (Words text)) = (IsMet (codes "trace") met
+    × (is_format (value_met (codes "format") met) ≡ false))
+    ⊎ (IsMet (codes "reduce") met × (reduce_faults met ≢ []))
+Asks met (Err Memory) = Unit {0}
+
+-- what is answered where the parser's error is of this kind
+abbrev pub AnswersRefused : List Text → ErrorKind → Result Task WordsFault → Type 0
+AnswersRefused words kind (Ok (Help text)) =
+    (kind ≡ DisplayHelp) × (string_bytes text ≡ help_of words)
+AnswersRefused words kind (Ok (Version text)) =
+    (kind ≡ DisplayVersion) × (string_bytes text ≡ version_line)
+AnswersRefused words kind (Err (Words text)) =
+    (kind ≢ OutOfMemory) × (kind ≢ DisplayHelp) × (kind ≢ DisplayVersion)
+AnswersRefused words kind (Err Memory) = Unit {0}
+AnswersRefused words kind (Ok _) = ⊥

@@ -1,0 +1,286 @@
+//! Laws of the words after the program's name, in words of their own.
+
+ghost use Rattle.std.specs.Prelude.{◌≡◌, ◌≢◌, ◌↔◌, ◌⊎◌, ◌<◌, ◌≤◌, ◌^◌, ℕ, Bool, true, false, List, [], ◌∷◌, ◌++◌, Ok, Err, codes, map, string_bytes};
+ghost use Rattle.std.specs.List.{AllByRecursion};
+ghost use Rattle.std.specs.Fmt.{decimal};
+ghost use Rattle.clap.specs.Words.{Text};
+ghost use Rattle.clap.specs.declared.error.ErrorKind.{ErrorKind};
+ghost use Rattle.clap.specs.declared.error.ErrorKind.TheVariants.{ArgumentConflict, DisplayHelp, DisplayVersion, InvalidValue, MissingRequiredArgument};
+ghost use Rattle.ic_args.specs.declared.words.Task.TheVariants.{Settle, Once, Create, Serve, Attend, Reduce, ReduceByRounds};
+ghost use Rattle.ic_args.specs.declared.words.Task.TheVariants.{Trace, Draw, Dump, Inspect, Check, Batch, Help, Version};
+ghost use Rattle.ic_args.specs.declared.words.TraceFormat.{TraceFormat};
+ghost use Rattle.ic_args.specs.declared.words.WordsFault.TheVariants.{Words, Memory};
+ghost use Rattle.ic_args.specs.Words.{AnswersWords, format_word, mistakes_of, words_fault_number, IsDecimal, Names};
+ghost use Rattle.ic_args.specs.Help.{help_of, Says, program_help, settle_help, once_help, create_help, serve_help, attend_help};
+ghost use Rattle.ic_args.specs.Help.{batch_help, check_help, draw_help, dump_help, inspect_help, reduce_help, trace_help};
+ghost use Rattle.ic_args.specs.Lines.{AreInPlace, AreOfRounds, Given, HasNoHyphen, IsAttendLine, IsCheckLine, IsCreateLine, IsDumpLine};
+ghost use Rattle.ic_args.specs.Lines.{IsInspectLine, IsReduceLine, IsServeLine, IsTraceLine};
+
+/// A number's text is the number in decimal digits, before which a plus may stand, and no other
+/// number's; the empty text is none's.
+pub fn numbers_are_decimals()
+    ensures digits { (n m : ℕ) → n < 2 ^ 64 → IsDecimal (decimal n) m ↔ (m ≡ n) }
+    ensures plus { (n m : ℕ) → n < 2 ^ 64 → IsDecimal (43 ∷ decimal n) m ↔ (m ≡ n) }
+    ensures minus { (text : Text) (m : ℕ) → ¬ IsDecimal (45 ∷ text) m }
+    ensures none { (m : ℕ) → ¬ IsDecimal [] m }
+    ensures one { (text : Text) (n m : ℕ) → IsDecimal text n → IsDecimal text m → n ≡ m }
+{}
+
+/// The lasting numbers of the faults.
+pub fn numbers_are_lasting(text: &String)
+    ensures words { words_fault_number (Words text.now) ≡ 1 }
+    ensures memory { words_fault_number Memory ≡ 2 }
+{}
+
+/// What is answered by the mistakes that words may have. Words without one are taken, and neither
+/// refused nor answered with help or the version; where help or the version is asked for, and nothing
+/// else is wrong, just that is answered.
+pub fn answers_go_by_mistakes(text: &String)
+    ensures taken { ¬ AnswersWords [] (Err (Words text.now)) }
+    ensures no_help { ¬ AnswersWords [] (Ok (Help text.now)) }
+    ensures no_version { ¬ AnswersWords [] (Ok (Version text.now)) }
+    ensures help { ¬ AnswersWords (DisplayHelp ∷ []) (Err (Words text.now)) }
+    ensures help_alone { ¬ AnswersWords (DisplayHelp ∷ []) (Ok (Version text.now)) }
+    ensures version { ¬ AnswersWords (DisplayVersion ∷ []) (Err (Words text.now)) }
+    ensures version_alone { ¬ AnswersWords (DisplayVersion ∷ []) (Ok (Help text.now)) }
+    ensures line { AnswersWords (DisplayVersion ∷ []) (Ok (Version text.now))
+        → string_bytes text.now ≡ codes "icserve 0.1.0" ++ 10 ∷ [] }
+    ensures task { (mistake : ErrorKind) → ¬ AnswersWords (mistake ∷ []) (Ok Settle) }
+{}
+
+/// The words that are taken with no value: a command alone, and a `--` after it. No other words name
+/// `settle`, `once` and `draw`.
+pub fn commands_are_taken()
+    ensures settle { mistakes_of (codes "settle" ∷ []) ≡ [] }
+    ensures settled { mistakes_of (codes "settle" ∷ codes "--" ∷ []) ≡ [] }
+    ensures once { mistakes_of (codes "once" ∷ []) ≡ [] }
+    ensures once_ended { mistakes_of (codes "once" ∷ codes "--" ∷ []) ≡ [] }
+    ensures reduce { mistakes_of (codes "reduce" ∷ []) ≡ [] }
+    ensures trace { mistakes_of (codes "trace" ∷ []) ≡ [] }
+    ensures draw { mistakes_of (codes "draw" ∷ []) ≡ [] }
+    ensures drawn { mistakes_of (codes "draw" ∷ codes "--" ∷ []) ≡ [] }
+    ensures settle_named { (words : List Text) → Names words Settle
+        → (words ≡ codes "settle" ∷ []) ⊎ (words ≡ codes "settle" ∷ codes "--" ∷ []) }
+    ensures once_named { (words : List Text) → Names words Once
+        → (words ≡ codes "once" ∷ []) ⊎ (words ≡ codes "once" ∷ codes "--" ∷ []) }
+    ensures draw_named { (words : List Text) → Names words Draw
+        → (words ≡ codes "draw" ∷ []) ⊎ (words ≡ codes "draw" ∷ codes "--" ∷ []) }
+{}
+
+/// The words that ask for help, at each command too, and those that ask for the version.
+pub fn help_and_version_are_asked()
+    ensures help { mistakes_of (codes "--help" ∷ []) ≡ DisplayHelp ∷ [] }
+    ensures short { mistakes_of (codes "-h" ∷ []) ≡ DisplayHelp ∷ [] }
+    ensures settle { mistakes_of (codes "settle" ∷ codes "--help" ∷ [])
+        ≡ DisplayHelp ∷ [] }
+    ensures once { mistakes_of (codes "once" ∷ codes "--help" ∷ []) ≡ DisplayHelp ∷ [] }
+    ensures create { mistakes_of (codes "create" ∷ codes "--help" ∷ [])
+        ≡ DisplayHelp ∷ [] }
+    ensures serve { mistakes_of (codes "serve" ∷ codes "--help" ∷ [])
+        ≡ DisplayHelp ∷ [] }
+    ensures short_serve { mistakes_of (codes "serve" ∷ codes "-h" ∷ [])
+        ≡ DisplayHelp ∷ [] }
+    ensures attend { mistakes_of (codes "attend" ∷ codes "--help" ∷ [])
+        ≡ DisplayHelp ∷ [] }
+    ensures reduce { mistakes_of (codes "reduce" ∷ codes "--help" ∷ [])
+        ≡ DisplayHelp ∷ [] }
+    ensures trace { mistakes_of (codes "trace" ∷ codes "--help" ∷ []) ≡ DisplayHelp ∷ [] }
+    ensures draw { mistakes_of (codes "draw" ∷ codes "--help" ∷ []) ≡ DisplayHelp ∷ [] }
+    ensures dump { mistakes_of (codes "dump" ∷ codes "--help" ∷ []) ≡ DisplayHelp ∷ [] }
+    ensures inspect { mistakes_of (codes "inspect" ∷ codes "--help" ∷ [])
+        ≡ DisplayHelp ∷ [] }
+    ensures check { mistakes_of (codes "check" ∷ codes "--help" ∷ []) ≡ DisplayHelp ∷ [] }
+    ensures batch { mistakes_of (codes "batch" ∷ codes "--help" ∷ []) ≡ DisplayHelp ∷ [] }
+    ensures version { mistakes_of (codes "--version" ∷ []) ≡ DisplayVersion ∷ [] }
+    ensures short_version { mistakes_of (codes "-V" ∷ []) ≡ DisplayVersion ∷ [] }
+{}
+
+/// The help is that of the command which the first word names, and the program's where it names none.
+/// It says how the command is called, with each option, its range and its default; the program's
+/// names the commands.
+pub fn each_command_has_its_help()
+    ensures settle { (words : List Text) → help_of (codes "settle" ∷ words) ≡ settle_help }
+    ensures once { (words : List Text) → help_of (codes "once" ∷ words) ≡ once_help }
+    ensures create { (words : List Text) → help_of (codes "create" ∷ words) ≡ create_help }
+    ensures serve { (words : List Text) → help_of (codes "serve" ∷ words) ≡ serve_help }
+    ensures attend { (words : List Text) → help_of (codes "attend" ∷ words) ≡ attend_help }
+    ensures reduce { (words : List Text) → help_of (codes "reduce" ∷ words) ≡ reduce_help }
+    ensures trace { (words : List Text) → help_of (codes "trace" ∷ words) ≡ trace_help }
+    ensures draw { (words : List Text) → help_of (codes "draw" ∷ words) ≡ draw_help }
+    ensures dump { (words : List Text) → help_of (codes "dump" ∷ words) ≡ dump_help }
+    ensures inspect { (words : List Text) → help_of (codes "inspect" ∷ words) ≡ inspect_help }
+    ensures check { (words : List Text) → help_of (codes "check" ∷ words) ≡ check_help }
+    ensures batch { (words : List Text) → help_of (codes "batch" ∷ words) ≡ batch_help }
+    ensures program { (word : Text) (words : List Text) → AllByRecursion (λ name. word ≢ name)
+        (codes "settle" ∷ codes "once" ∷ codes "create" ∷ codes "serve" ∷ codes "attend"
+        ∷ codes "reduce" ∷ codes "trace" ∷ codes "draw" ∷ codes "dump"
+        ∷ codes "inspect" ∷ codes "check" ∷ codes "batch" ∷ []) → help_of (word ∷ words) ≡ program_help }
+    ensures commands { AllByRecursion (Says program_help) (codes "  settle  " ∷ codes "  once  "
+        ∷ codes "  create  " ∷ codes "  serve  " ∷ codes "  attend  "
+        ∷ codes "  reduce  " ∷ codes "  trace  " ∷ codes "  draw  " ∷ codes "  dump  "
+        ∷ codes "  inspect  " ∷ codes "  check  " ∷ codes "  batch  "
+        ∷ codes "-h, --help" ∷ codes "-V, --version" ∷ []) }
+    ensures streams { Says settle_help (codes "icserve settle")
+        × Says once_help (codes "icserve once") × Says draw_help (codes "icserve draw") }
+    ensures rounds { AllByRecursion (Says reduce_help) (codes "icserve reduce" ∷ codes "--rounds <N>"
+        ∷ codes "from 0 to 4611686018427387904"
+        ∷ codes "--workers <N>" ∷ codes "from 1 to 64 [default: 2]" ∷ []) }
+    ensures in_place { AllByRecursion (Says reduce_help) (codes "--steps <N>"
+        ∷ codes "from 0 to 4611686018427387903 [default: 4611686018427387903]" ∷ codes "--nodes <N>"
+        ∷ codes "from 0 to 4611686018427387903 [default: 134217728]"
+        ∷ codes "--partial" ∷ codes "--stats" ∷ []) }
+    ensures formats { AllByRecursion (Says trace_help) (codes "icserve trace" ∷ codes "--rounds <N>"
+        ∷ codes "from 0 to 4611686018427387904 [default: 1000000]" ∷ codes "--format <FORMAT>"
+        ∷ codes "(tsv)" ∷ codes "(svg)" ∷ codes "[default: tsv]" ∷ []) }
+    ensures disk { AllByRecursion (Says create_help)
+        (codes "icserve create" ∷ codes "--disk <F>" ∷ codes "--overwrite" ∷ []) }
+    ensures numbers { AllByRecursion (Says serve_help) (codes "icserve serve" ∷ codes "--disk <F>"
+        ∷ codes "--workers <N>" ∷ codes "from 1 to 64 [default: 2]"
+        ∷ codes "--every <K>" ∷ codes "from 1 to 1000000 [default: 100]" ∷ []) }
+    ensures scripts { AllByRecursion (Says attend_help) (codes "icserve attend" ∷ codes "--disk <F>"
+        ∷ codes "[SCRIPT]..." ∷ codes "--runners <R>" ∷ codes "from 0 to 64 [default: 2]"
+        ∷ codes "--turns <T>" ∷ codes "from 0 to 1000000 [default: 0]"
+        ∷ codes "--workers <N>" ∷ codes "from 1 to 64 [default: 2]" ∷ []) }
+    ensures jobs { AllByRecursion (Says dump_help)
+        (codes "icserve dump" ∷ codes "--disk <F>" ∷ codes "[NAME]..." ∷ []) }
+    ensures file { AllByRecursion (Says inspect_help)
+        (codes "icserve inspect" ∷ codes "--disk <F>" ∷ []) }
+    ensures lines { AllByRecursion (Says batch_help) (codes "icserve batch" ∷ codes "--disk <F>"
+        ∷ codes "<LINES>" ∷ codes "--rounds <N>" ∷ codes "from 0 to 4611686018427387904"
+        ∷ codes "--every <K>" ∷ codes "from 1 to 1000000 [default: 100]"
+        ∷ codes "--workers <N>" ∷ codes "from 1 to 64 [default: 2]" ∷ []) }
+    ensures texts { AllByRecursion (Says check_help)
+        (codes "icserve check" ∷ codes "<FILE>..."
+        ∷ codes "Prints the faults of texts with their places" ∷ []) }
+{}
+
+/// A well-formed line of `create` is taken, and names the file that it is given, and whether it has
+/// the flag.
+pub fn create_lines_are_taken(disk: &String)
+    ensures taken { (words : List Text) (path : Text) (overwrite : Bool)
+        → IsCreateLine path overwrite words → mistakes_of words ≡ [] }
+    ensures named { (words : List Text) (path : Text) (overwrite named : Bool)
+        → IsCreateLine path overwrite words → Names words (Create disk.now named)
+        → (string_bytes disk.now ≡ path) × (named ≡ overwrite) }
+{}
+
+/// A well-formed line of `serve` is taken, in whatever order its options stand, and names the file
+/// and the numbers that it is given, or their defaults: 2 workers, and 100 rounds between two keeps.
+pub fn serve_lines_are_taken(disk: &String)
+    ensures taken { (words : List Text) (path workers every : Text)
+        → IsServeLine words path workers every → mistakes_of words ≡ [] }
+    ensures named { (words : List Text) (path workers every : Text) (threads rounds : ℕ)
+        → IsServeLine words path workers every → Names words (Serve disk.now threads rounds)
+        → (string_bytes disk.now ≡ path) × IsDecimal workers threads × IsDecimal every rounds
+        × (1 ≤ threads) × (threads ≤ 64) × (1 ≤ rounds) × (rounds ≤ 1000000) }
+{}
+
+/// A well-formed line of `attend` is taken, in whatever order its options stand, and names the
+/// file, the numbers and the scripts that it is given, in their order. Where an option isn't given
+/// it names the default: 2 runners, no turns, 2 workers.
+pub fn attend_lines_are_taken(disk: &String, paths: &Vec<String>)
+    ensures taken { (words : List Text) (path r t n : Text) (scripts : List Text)
+        → IsAttendLine words path r t n scripts → mistakes_of words ≡ [] }
+    ensures named { (words : List Text) (path r t n : Text) (scripts : List Text)
+        (runners turns workers : ℕ) → IsAttendLine words path r t n scripts
+        → Names words (Attend disk.now runners turns workers paths.now)
+        → (string_bytes disk.now ≡ path) × IsDecimal r runners × IsDecimal t turns
+        × IsDecimal n workers × (runners ≤ 64) × (turns ≤ 1000000) × (1 ≤ workers)
+        × (workers ≤ 64) × (map string_bytes paths.now.items ≡ scripts) }
+{}
+
+/// A well-formed line of `reduce` without options of rounds is taken, in whatever order its options
+/// stand, and names the bounds that it is given, or their defaults, 2^62 - 1 interactions and 2^27
+/// places, and whether it has the flags. One with rounds, and without bounds and `--stats`, is taken
+/// too, and names its rounds, its workers, or 2, and whether it has `--partial`. Both in one line are a
+/// mistake, and so are workers without rounds.
+pub fn reduce_lines_are_taken()
+    ensures taken { (words : List Text) (given : List Given) (s n : ℕ) (p t : Bool)
+        → IsReduceLine words given → AreInPlace given s n p t → mistakes_of words ≡ [] }
+    ensures named { (words : List Text) (given : List Given) (s n steps nodes : ℕ)
+        (p t partial stats : Bool) → IsReduceLine words given → AreInPlace given s n p t
+        → Names words (Reduce steps nodes partial stats)
+        → (steps ≡ s) × (nodes ≡ n) × (partial ≡ p) × (stats ≡ t) }
+    ensures rounds { (words : List Text) (given : List Given) (most threads : ℕ) (p : Bool)
+        → IsReduceLine words given → AreOfRounds given most threads p → mistakes_of words ≡ [] }
+    ensures rounds_named { (words : List Text) (given : List Given) (most threads rounds workers : ℕ)
+        (p partial : Bool) → IsReduceLine words given → AreOfRounds given most threads p
+        → Names words (ReduceByRounds rounds workers partial)
+        → (rounds ≡ most) × (workers ≡ threads) × (partial ≡ p) }
+    ensures both { map (λ option. mistakes_of (codes "reduce" ∷ codes "--rounds=1" ∷ option ∷ []))
+        (codes "--steps=1" ∷ codes "--nodes=1" ∷ codes "--stats" ∷ [])
+        ≡ (ArgumentConflict ∷ []) ∷ (ArgumentConflict ∷ []) ∷ (ArgumentConflict ∷ []) ∷ [] }
+    ensures no_rounds { mistakes_of (codes "reduce" ∷ codes "--workers=1" ∷ [])
+        ≡ MissingRequiredArgument ∷ [] }
+{}
+
+/// A well-formed line of `trace` is taken, in whatever order its options stand, and names the number
+/// and the format that it is given, or 1,000,000 and tsv. Another format is a mistake.
+pub fn trace_lines_are_taken()
+    ensures taken { (words : List Text) (most shown : Text) → IsTraceLine words most shown
+        → mistakes_of words ≡ [] }
+    ensures named { (words : List Text) (most shown : Text) (rounds : ℕ) (format : TraceFormat)
+        → IsTraceLine words most shown → Names words (Trace rounds format)
+        → IsDecimal most rounds × (rounds ≤ 2 ^ 62) × (format_word format ≡ shown) }
+    ensures other { mistakes_of (codes "trace" ∷ codes "--format=png" ∷ []) ≡ InvalidValue ∷ [] }
+{}
+
+/// A well-formed line of `dump` is taken, and names the file and the jobs that it is given, in their
+/// order.
+pub fn dump_lines_are_taken(disk: &String, jobs: &Vec<String>)
+    ensures taken { (words : List Text) (path : Text) (names : List Text)
+        → IsDumpLine words path names → mistakes_of words ≡ [] }
+    ensures named { (words : List Text) (path : Text) (names : List Text)
+        → IsDumpLine words path names → Names words (Dump disk.now jobs.now)
+        → (string_bytes disk.now ≡ path) × (map string_bytes jobs.now.items ≡ names) }
+{}
+
+/// A well-formed line of `inspect` is taken, and names the file that it is given.
+pub fn inspect_lines_are_taken(disk: &String)
+    ensures taken { (words : List Text) (path : Text) → IsInspectLine path words
+        → mistakes_of words ≡ [] }
+    ensures named { (words : List Text) (path : Text) → IsInspectLine path words
+        → Names words (Inspect disk.now) → string_bytes disk.now ≡ path }
+{}
+
+/// A well-formed line of `check` is taken, and names the files that it is given, in their order. With
+/// no file it is refused.
+pub fn check_lines_are_taken(files: &Vec<String>)
+    ensures taken { (words paths : List Text) → IsCheckLine words paths → mistakes_of words ≡ [] }
+    ensures named { (words paths : List Text) → IsCheckLine words paths
+        → Names words (Check files.now) → map string_bytes files.now.items ≡ paths }
+    ensures none { mistakes_of (codes "check" ∷ []) ≡ MissingRequiredArgument ∷ [] }
+{}
+
+/// Words that are commonly written are well-formed lines, whatever path stands there: with the
+/// disk alone, and with each option of the command, in both ways of writing.
+pub fn common_lines_are_well_formed()
+    ensures create { (path : Text) → HasNoHyphen path
+        → IsCreateLine path false (codes "create" ∷ codes "--disk" ∷ path ∷ []) }
+    ensures overwrite { (path : Text) → HasNoHyphen path
+        → IsCreateLine path true (codes "create" ∷ codes "--disk" ∷ path
+        ∷ codes "--overwrite" ∷ []) }
+    ensures serve { (path : Text) → HasNoHyphen path
+        → IsServeLine (codes "serve" ∷ codes "--disk" ∷ path ∷ []) path (codes "2") (codes "100") }
+    ensures served { (path : Text) → HasNoHyphen path → IsServeLine (codes "serve"
+        ∷ codes "--workers=4" ∷ codes "--every" ∷ codes "7" ∷ codes "--disk" ∷ path ∷ [])
+        path (codes "4") (codes "7") }
+    ensures attend { (path script : Text) → HasNoHyphen path → HasNoHyphen script
+        → IsAttendLine (codes "attend" ∷ codes "--disk" ∷ path ∷ codes "--turns=9" ∷ script ∷ [])
+        path (codes "2") (codes "9") (codes "2") (script ∷ []) }
+    ensures reduce { IsReduceLine (codes "reduce" ∷ []) []
+        × AreInPlace [] 4611686018427387903 134217728 false false }
+    ensures reduced { (given : List Given) × IsReduceLine (codes "reduce" ∷ codes "--stats"
+        ∷ codes "--nodes=9" ∷ codes "--steps" ∷ codes "10" ∷ []) given
+        × AreInPlace given 10 9 false true }
+    ensures by_rounds { (given : List Given) × IsReduceLine (codes "reduce" ∷ codes "--workers=3"
+        ∷ codes "--rounds" ∷ codes "10" ∷ []) given × AreOfRounds given 10 3 false }
+    ensures trace { IsTraceLine (codes "trace" ∷ codes "--format" ∷ codes "svg" ∷ [])
+        (codes "1000000") (codes "svg") }
+    ensures dump { (path name : Text) → HasNoHyphen path → HasNoHyphen name
+        → IsDumpLine (codes "dump" ∷ codes "--disk" ∷ path ∷ name ∷ []) path (name ∷ []) }
+    ensures inspect { (path : Text) → HasNoHyphen path
+        → IsInspectLine path (codes "inspect" ∷ codes "--disk" ∷ path ∷ []) }
+    ensures check { (path other : Text) → HasNoHyphen path → HasNoHyphen other
+        → IsCheckLine (codes "check" ∷ path ∷ other ∷ []) (path ∷ other ∷ []) }
+{}

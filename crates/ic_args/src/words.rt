@@ -1,0 +1,852 @@
+//! The words after the program's name.
+
+ghost use Rattle.std.specs.Prelude.{◌≡◌, ◌≤◌, ℕ, true, false, map, Ok, IfOk, codes, [], ◌∷◌, string_bytes};
+ghost use Rattle.clap.specs.Words.{App, Rule, app_of, kind_of, rule_of, subcommand_rows_of, with_rule, with_subcommand};
+ghost use Rattle.ic_args.specs.Words.{AnswersWords, GivesHelp, GivesTask, GivesVersion, Names};
+ghost use Rattle.ic_args.specs.Words.{attend_command, batch_command, check_command, command_line, create_command, dump_command, inspect_command};
+ghost use Rattle.ic_args.specs.Words.{program, reduce_command, serve_command, trace_command, with_disks, with_looks, with_streams};
+ghost use Rattle.ic_args.specs.Words.{disk_option, every_option, file_argument, flag, format_option, name_argument, rounds_option};
+ghost use Rattle.ic_args.specs.Words.{bound_option, chosen_rounds, chosen_workers, life_option, lines_argument, runners_option};
+ghost use Rattle.ic_args.specs.Words.{script_argument, turns_option, workers_option};
+ghost use Rattle.ic_args.specs.Words.{asks_in_place, asks_rounds, is_flag_met, is_given, mistakes_of, reduce_faults, value_met, values_met};
+ghost use Rattle.ic_args.specs.inner.Making.{IsMade, unread, valued_option};
+ghost use Rattle.ic_args.specs.inner.Asking.{AnswersRefused, Asks, IsCommandMet, IsIn, IsMet, IsReadFrom, IsReadOr, commands};
+
+use crate::help::help_of;
+use clap::error::{Error, ErrorKind};
+use clap::{Arg, ArgAction, ArgMatches, Command, value_parser};
+use std::alloc::{AllocError, AllocFailed, Global};
+
+/// The version of the program.
+const VERSION: &str = "0.1.0";
+
+/// The most threads of a round.
+const MAX_WORKERS: u32 = 64;
+
+/// The most rounds between two keeps.
+const MAX_EVERY: u32 = 1_000_000;
+
+/// The most runners of an attendance.
+const MAX_RUNNERS: u32 = 64;
+
+/// The most turns of a runner.
+const MAX_TURNS: u32 = 1_000_000;
+
+/// The most rounds of `reduce` and `trace`: 2^62.
+const MAX_ROUNDS: u64 = 4_611_686_018_427_387_904;
+
+/// The most interactions of `reduce`, and the most places of its net: 2^62 - 1.
+const MAX_STEPS: u64 = 4_611_686_018_427_387_903;
+
+/// How many places the net of `reduce` has at most, where nothing else is said: 2^27.
+const NODES: u64 = 134_217_728;
+
+/// How many threads make a round of `reduce`, where nothing else is said.
+const WORKERS: u64 = 2;
+
+/// What is said where `reduce` is asked for rounds and for reducing in place.
+const BOTH_WAYS: &str = "\
+error: the arguments '--rounds <N>' and '--workers <N>' cannot be used with '--steps <N>', '--nodes <N>' or '--stats'
+
+Usage: icserve reduce [OPTIONS]
+
+For more information, try '--help'.
+";
+
+/// What is said where `reduce` is asked for the workers of rounds, and for no rounds.
+const NO_ROUNDS: &str = "\
+error: the following required arguments were not provided:
+  --rounds <N>
+
+Usage: icserve reduce --rounds <N> --workers <N>
+
+For more information, try '--help'.
+";
+
+/// What the words after the program's name ask for.
+#[derive(Debug, Drop)]
+pub enum Task {
+    /// Settle the configuration on standard input.
+    Settle,
+    /// Make one round of the system on standard input.
+    Once,
+    /// Make a file an empty disk.
+    Create {
+        /// The path of the file.
+        disk: String,
+        /// Whether what the file holds is overwritten, whatever it is.
+        overwrite: bool,
+    },
+    /// Serve the lines of standard input over a disk.
+    Serve {
+        /// The path of the disk's file.
+        disk: String,
+        /// How many threads make a round of 4,000 equations or more, from 1 to 64.
+        workers: u32,
+        /// After how many rounds they are kept, from 1 to 1,000,000.
+        every: u32,
+    },
+    /// Give the commands of scripts to a disk, each script by a client of its own.
+    Attend {
+        /// The path of the disk's file.
+        disk: String,
+        /// How many runners make rounds, from 0 to 64.
+        runners: u32,
+        /// How many rounds each runner may take once all scripts have ended, from 0 to 1,000,000.
+        turns: u32,
+        /// How many threads make a round, from 1 to 64.
+        workers: u32,
+        /// The paths of the scripts, none or several.
+        scripts: Vec<String>,
+    },
+    /// Reduce the system on standard input in place until no step is possible.
+    Reduce {
+        /// How many interactions are made at most, from 0 to 2^62 - 1.
+        steps: u64,
+        /// How many places the net has at most, from 0 to 2^62 - 1.
+        nodes: u64,
+        /// Whether the configuration is printed where the net is too large or memory ran out.
+        partial: bool,
+        /// Whether it is told how many interactions were made, and how fast.
+        stats: bool,
+    },
+    /// Make rounds of the system on standard input until no step is possible.
+    ReduceByRounds {
+        /// How many rounds are made at most, from 0 to 2^62.
+        rounds: u64,
+        /// How many threads make a round of 4,000 equations or more, from 1 to 64.
+        workers: u32,
+        /// Whether the configuration before a refused round is printed.
+        partial: bool,
+    },
+    /// Tell what each of these rounds does.
+    Trace {
+        /// How many rounds are made at most, from 0 to 2^62.
+        rounds: u64,
+        /// How it is told.
+        format: TraceFormat,
+    },
+    /// Draw the net of the configuration on standard input.
+    Draw,
+    /// Print jobs of a disk as lines that submit them.
+    Dump {
+        /// The path of the disk's file.
+        disk: String,
+        /// The names of the jobs: all jobs, where there are none.
+        names: Vec<String>,
+    },
+    /// Tell what a disk's file holds.
+    Inspect {
+        /// The path of the file.
+        disk: String,
+    },
+    /// Tell the faults of texts, and what in them is mostly a mistake.
+    Check {
+        /// The paths of the texts, one at least.
+        files: Vec<String>,
+    },
+    /// Bring the jobs of a file of lines to their ends.
+    Batch {
+        /// The path of the disk's file, which is made where it is missing.
+        disk: String,
+        /// How many rounds a job makes at most, from 0 to 2^62.
+        rounds: u64,
+        /// After how many rounds they are kept, from 1 to 1,000,000.
+        every: u32,
+        /// How many threads make a round of 4,000 equations or more, from 1 to 64.
+        workers: u32,
+        /// The path of the lines.
+        lines: String,
+    },
+    /// Show this help.
+    Help(String),
+    /// Show this line, which tells the version.
+    Version(String),
+}
+
+/// How a trace is told.
+#[derive(Clone, Copy, Debug)]
+pub enum TraceFormat {
+    /// As a table with tabs.
+    Tsv,
+    /// As a picture.
+    Svg,
+}
+
+/// Why the words ask for nothing, each with its lasting number.
+#[derive(Debug, Drop)]
+pub enum WordsFault {
+    /// 1: the words are refused: what is wrong with them, and the usage.
+    Words(String),
+    /// 2: a growth was refused.
+    Memory,
+}
+
+impl WordsFault {
+    ghost use Rattle.ic_args.specs.Words.{words_fault_number};
+
+    /// The lasting number of the fault.
+    pub fn number(&self) -> u8
+        ensures { result ≡ words_fault_number self.now }
+    {
+        match self {
+            WordsFault::Words(_) => 1,
+            WordsFault::Memory => 2,
+        }
+    }
+}
+
+impl From<AllocError> for WordsFault {
+    ghost use Rattle.ic_args.specs.declared.words.WordsFault.TheVariants.{Memory};
+
+    ghost from_gives = { λ _ e. e ≡ Memory };
+
+    fn from(_error: AllocError) -> WordsFault {
+        WordsFault::Memory
+    }
+}
+
+/// Reads the words after the program's name. Help is asked for by `--help` or `-h`, after a command too, and the version
+/// by `--version` or `-V`. The text of a refusal is clap's, with the usage; that of help is the one of `help`.
+pub fn read_words(alloc: Global, words: &[String]) -> Result<Task, WordsFault>
+    ensures answers { AnswersWords (mistakes_of (map string_bytes words.now)) result }
+    ensures named { IfOk result (Names (map string_bytes words.now)) }
+    ensures settle { map string_bytes words.now ≡ codes "settle" ∷ []
+        → GivesTask Task.Settle result }
+    ensures once { map string_bytes words.now ≡ codes "once" ∷ [] → GivesTask Task.Once result }
+    ensures help { map string_bytes words.now ≡ codes "--help" ∷ [] → GivesHelp result }
+    ensures version { map string_bytes words.now ≡ codes "--version" ∷ [] → GivesVersion result }
+{
+    match command(alloc)?.try_get_matches_from(words) {
+        Ok(matches) => task_of(alloc, &matches),
+        Err(error) => refused(alloc, words, &error),
+    }
+}
+
+/// What is answered where the parser takes no task from words: help or the version that is asked for, or its text.
+fn refused(alloc: Global, words: &[String], error: &Error) -> Result<Task, WordsFault>
+    ensures { AnswersRefused (map string_bytes words.now) (kind_of error.now) result }
+{
+    match error.kind() {
+        ErrorKind::OutOfMemory => Err(WordsFault::Memory),
+        ErrorKind::DisplayHelp => Ok(Task::Help(String::from_str(alloc, help_of(words))?)),
+        ErrorKind::DisplayVersion => Ok(Task::Version(format!(in alloc; "icserve {VERSION}\n")?)),
+        _ => Err(WordsFault::Words(error.to_string(alloc)?)),
+    }
+}
+
+/// What the command that was met is asked for.
+fn task_of(alloc: Global, matches: &ArgMatches) -> Result<Task, WordsFault>
+    requires { IsCommandMet (subcommand_rows_of matches.now) }
+    ensures { Asks (subcommand_rows_of matches.now) result }
+{
+    match matches.subcommand_name() {
+        Some(name) => task_named(alloc, name, matches),
+        None => unreachable!(),
+    }
+}
+
+/// What the command of this name, which was met, is asked for.
+fn task_named(alloc: Global, name: &str, matches: &ArgMatches) -> Result<Task, WordsFault>
+    requires known { IsIn name.now commands }
+    requires met { IsMet name.now (subcommand_rows_of matches.now) }
+    ensures { Asks (subcommand_rows_of matches.now) result }
+{
+    match name {
+        "settle" => Ok(Task::Settle),
+        "once" => Ok(Task::Once),
+        "create" => create_task(alloc, matches),
+        "serve" => serve_task(alloc, matches),
+        "attend" => attend_task(alloc, matches),
+        "reduce" => reduce_task(alloc, matches),
+        "trace" => trace_task(alloc, matches),
+        "draw" => Ok(Task::Draw),
+        "dump" => dump_task(alloc, matches),
+        "inspect" => inspect_task(alloc, matches),
+        "check" => check_task(alloc, matches),
+        "batch" => batch_task(alloc, matches),
+        _ => unreachable!(),
+    }
+}
+
+/// The task of `create`.
+fn create_task(alloc: Global, matches: &ArgMatches) -> Result<Task, WordsFault>
+    requires { IsMet (codes "create") (subcommand_rows_of matches.now) }
+    ensures { Asks (subcommand_rows_of matches.now) result }
+{
+    let disk = String::from_str(alloc, value_of(matches, "disk"))?;
+    let overwrite = is_flag_met(matches, "overwrite");
+    Ok(Task::Create { disk, overwrite })
+}
+
+/// The task of `serve`.
+fn serve_task(alloc: Global, matches: &ArgMatches) -> Result<Task, WordsFault>
+    requires { IsMet (codes "serve") (subcommand_rows_of matches.now) }
+    ensures { Asks (subcommand_rows_of matches.now) result }
+{
+    let disk = String::from_str(alloc, value_of(matches, "disk"))?;
+    let workers = small_number_of(matches, "workers", 1, MAX_WORKERS);
+    let every = small_number_of(matches, "every", 1, MAX_EVERY);
+    Ok(Task::Serve {
+        disk,
+        workers,
+        every,
+    })
+}
+
+/// The task of `attend`.
+fn attend_task(alloc: Global, matches: &ArgMatches) -> Result<Task, WordsFault>
+    requires { IsMet (codes "attend") (subcommand_rows_of matches.now) }
+    ensures { Asks (subcommand_rows_of matches.now) result }
+{
+    let disk = String::from_str(alloc, value_of(matches, "disk"))?;
+    let runners = small_number_of(matches, "runners", 0, MAX_RUNNERS);
+    let turns = small_number_of(matches, "turns", 0, MAX_TURNS);
+    let workers = small_number_of(matches, "workers", 1, MAX_WORKERS);
+    let scripts = values_of(alloc, matches, "script")?;
+    Ok(Task::Attend {
+        disk,
+        runners,
+        turns,
+        workers,
+        scripts,
+    })
+}
+
+/// The task of `reduce`. Rounds and reducing in place exclude each other, and the workers are those of rounds: other words
+/// are refused as the parser refuses such words.
+fn reduce_task(alloc: Global, matches: &ArgMatches) -> Result<Task, WordsFault>
+    requires { IsMet (codes "reduce") (subcommand_rows_of matches.now) }
+    ensures { Asks (subcommand_rows_of matches.now) result }
+{
+    if !asks_rounds(matches) {
+        return Ok(in_place_task(matches));
+    }
+    if asks_in_place(matches) {
+        return Err(WordsFault::Words(String::from_str(alloc, BOTH_WAYS)?));
+    }
+    if !is_given(matches, "rounds") {
+        return Err(WordsFault::Words(String::from_str(alloc, NO_ROUNDS)?));
+    }
+    Ok(rounds_task(matches))
+}
+
+/// The task of `reduce` in place.
+fn in_place_task(matches: &ArgMatches) -> Task
+    requires met { IsMet (codes "reduce") (subcommand_rows_of matches.now) }
+    requires alone { asks_rounds (subcommand_rows_of matches.now) ≡ false }
+    ensures { Asks (subcommand_rows_of matches.now) (Ok result) }
+{
+    let steps = number_or(matches, "steps", 0, MAX_STEPS, MAX_STEPS);
+    let nodes = number_or(matches, "nodes", 0, MAX_STEPS, NODES);
+    let partial = is_flag_met(matches, "partial");
+    let stats = is_flag_met(matches, "stats");
+    Task::Reduce {
+        steps,
+        nodes,
+        partial,
+        stats,
+    }
+}
+
+/// The task of `reduce` by rounds.
+fn rounds_task(matches: &ArgMatches) -> Task
+    requires met { IsMet (codes "reduce") (subcommand_rows_of matches.now) }
+    requires given { is_given (codes "rounds") (subcommand_rows_of matches.now) ≡ true }
+    requires alone { asks_in_place (subcommand_rows_of matches.now) ≡ false }
+    ensures { Asks (subcommand_rows_of matches.now) (Ok result) }
+{
+    let rounds = number_of(matches, "rounds", 0, MAX_ROUNDS);
+    let workers = number_or(matches, "workers", 1, u64::from(MAX_WORKERS), WORKERS) as u32;
+    let partial = is_flag_met(matches, "partial");
+    Task::ReduceByRounds {
+        rounds,
+        workers,
+        partial,
+    }
+}
+
+/// Whether an option of rounds is given.
+fn asks_rounds(matches: &ArgMatches) -> bool
+    ensures { result ≡ asks_rounds (subcommand_rows_of matches.now) }
+{
+    is_given(matches, "rounds") || is_given(matches, "workers")
+}
+
+/// Whether an option of reducing in place alone is given.
+fn asks_in_place(matches: &ArgMatches) -> bool
+    ensures { result ≡ asks_in_place (subcommand_rows_of matches.now) }
+{
+    is_given(matches, "steps") || is_given(matches, "nodes") || is_flag_met(matches, "stats")
+}
+
+/// The task of `trace`. A format that there isn't is refused as the parser refuses such a value.
+fn trace_task(alloc: Global, matches: &ArgMatches) -> Result<Task, WordsFault>
+    requires { IsMet (codes "trace") (subcommand_rows_of matches.now) }
+    ensures { Asks (subcommand_rows_of matches.now) result }
+{
+    let rounds = number_of(matches, "rounds", 0, MAX_ROUNDS);
+    match value_of(matches, "format") {
+        "tsv" => Ok(Task::Trace {
+            rounds,
+            format: TraceFormat::Tsv,
+        }),
+        "svg" => Ok(Task::Trace {
+            rounds,
+            format: TraceFormat::Svg,
+        }),
+        other => Err(WordsFault::Words(format!(in alloc;
+            "error: invalid value '{other}' for '--format <FORMAT>'\n  [possible values: tsv, svg]\n\n\
+             For more information, try '--help'.\n"
+        )?)),
+    }
+}
+
+/// The task of `dump`.
+fn dump_task(alloc: Global, matches: &ArgMatches) -> Result<Task, WordsFault>
+    requires { IsMet (codes "dump") (subcommand_rows_of matches.now) }
+    ensures { Asks (subcommand_rows_of matches.now) result }
+{
+    let disk = String::from_str(alloc, value_of(matches, "disk"))?;
+    let names = values_of(alloc, matches, "name")?;
+    Ok(Task::Dump { disk, names })
+}
+
+/// The task of `inspect`.
+fn inspect_task(alloc: Global, matches: &ArgMatches) -> Result<Task, WordsFault>
+    requires { IsMet (codes "inspect") (subcommand_rows_of matches.now) }
+    ensures { Asks (subcommand_rows_of matches.now) result }
+{
+    let disk = String::from_str(alloc, value_of(matches, "disk"))?;
+    Ok(Task::Inspect { disk })
+}
+
+/// The task of `check`.
+fn check_task(alloc: Global, matches: &ArgMatches) -> Result<Task, WordsFault>
+    requires { IsMet (codes "check") (subcommand_rows_of matches.now) }
+    ensures { Asks (subcommand_rows_of matches.now) result }
+{
+    let files = values_of(alloc, matches, "file")?;
+    Ok(Task::Check { files })
+}
+
+/// The task of `batch`.
+fn batch_task(alloc: Global, matches: &ArgMatches) -> Result<Task, WordsFault>
+    requires { IsMet (codes "batch") (subcommand_rows_of matches.now) }
+    ensures { Asks (subcommand_rows_of matches.now) result }
+{
+    let disk = String::from_str(alloc, value_of(matches, "disk"))?;
+    let rounds = number_of(matches, "rounds", 0, MAX_ROUNDS);
+    let every = small_number_of(matches, "every", 1, MAX_EVERY);
+    let workers = small_number_of(matches, "workers", 1, MAX_WORKERS);
+    let lines = String::from_str(alloc, value_of(matches, "lines"))?;
+    Ok(Task::Batch {
+        disk,
+        rounds,
+        every,
+        workers,
+        lines,
+    })
+}
+
+/// Texts that own their bytes.
+fn texts(alloc: Global, borrowed: &[&str]) -> Result<Vec<String>, AllocError>
+    ensures { IfOk result (λ owned. map string_bytes owned.items
+        ≡ map (λ text. text.now) borrowed.now) }
+{
+    let mut owned = Vec::new(alloc);
+    for text in borrowed {
+        owned.push(String::from_str(alloc, text)?)?;
+    }
+    Ok(owned)
+}
+
+/// The values of an argument of the command that was met, none where it has none.
+fn values_of(alloc: Global, matches: &ArgMatches, argument: &str) -> Result<Vec<String>, AllocError>
+    ensures { IfOk result (λ values. map string_bytes values.items
+        ≡ values_met argument.now (subcommand_rows_of matches.now)) }
+{
+    let Some((_, met)) = matches.subcommand() else {
+        return Ok(Vec::new(alloc));
+    };
+    match met.get_raw(argument) {
+        Some(values) => texts(alloc, values),
+        None => Ok(Vec::new(alloc)),
+    }
+}
+
+/// The value of an option of the command that was met, or no text where it has none.
+fn value_of<'a>(matches: &ArgMatches<'a>, option: &str) -> &'a str
+    ensures { result.now ≡ value_met option.now (subcommand_rows_of matches.now) }
+{
+    match matches.subcommand() {
+        Some((_, met)) => met.get_str(option).unwrap_or(""),
+        None => "",
+    }
+}
+
+/// Whether an option of the command that was met has a value.
+fn is_given(matches: &ArgMatches, option: &str) -> bool
+    ensures { result ≡ is_given option.now (subcommand_rows_of matches.now) }
+{
+    value_of(matches, option) != ""
+}
+
+/// Whether a flag of the command that was met is given.
+fn is_flag_met(matches: &ArgMatches, flag: &str) -> bool
+    ensures { result ≡ is_flag_met flag.now (subcommand_rows_of matches.now) }
+{
+    value_of(matches, flag) == "true"
+}
+
+/// The number that is the value of an option of the command that was met, in its range, or the default where it has none.
+fn number_or(matches: &ArgMatches, option: &str, least: u64, most: u64, default: u64) -> u64
+    requires { least ≤ most }
+    ensures most { default ≤ most → result ≤ most }
+    ensures value { IsReadOr option.now least most default (subcommand_rows_of matches.now) result }
+{
+    if is_given(matches, option) {
+        number_of(matches, option, least, most)
+    } else {
+        default
+    }
+}
+
+/// The number that is the value of an option of the command that was met, in its range. The parser has refused any other
+/// value, so the bounds here change nothing.
+fn number_of(matches: &ArgMatches, option: &str, least: u64, most: u64) -> u64
+    requires { least ≤ most }
+    ensures least { least ≤ result }
+    ensures most { result ≤ most }
+    ensures value { IsReadFrom option.now least most (subcommand_rows_of matches.now) result }
+{
+    match matches.subcommand() {
+        Some((_, met)) => met
+            .get_one::<u64>(option)
+            .unwrap_or(least)
+            .max(least)
+            .min(most),
+        None => least,
+    }
+}
+
+/// The same of a number of 32 bits.
+fn small_number_of(matches: &ArgMatches, option: &str, least: u32, most: u32) -> u32
+    requires { least ≤ most }
+    ensures { IsReadFrom option.now least most (subcommand_rows_of matches.now) result }
+{
+    number_of(matches, option, u64::from(least), u64::from(most)) as u32
+}
+
+/// The option that names a file.
+fn disk_option<'a>(alloc: Global) -> Arg<'a>
+    ensures rule { rule_of result ≡ disk_option }
+    ensures local { result.global ≡ false }
+{
+    Arg::new(alloc, "disk")
+        .long("disk")
+        .value_name("F")
+        .required(true)
+}
+
+/// A flag.
+fn flag<'a>(alloc: Global, name: &'a str) -> Arg<'a>
+    ensures rule { rule_of result ≡ flag name.now }
+    ensures local { result.global ≡ false }
+{
+    Arg::new(alloc, name).long(name).action(ArgAction::SetTrue)
+}
+
+/// An option that has a value where it is given, and no default.
+fn unread<'a>(alloc: Global, name: &'a str) -> Arg<'a>
+    ensures rule { rule_of result ≡ unread name.now }
+    ensures local { result.global ≡ false }
+{
+    Arg::new(alloc, name).long(name).value_name("N")
+}
+
+/// The option that bounds how many of something there may be when a net is reduced in place.
+fn bound_option<'a>(alloc: Global, name: &'a str) -> Arg<'a>
+    ensures rule { rule_of result ≡ bound_option name.now }
+    ensures local { result.global ≡ false }
+{
+    unread(alloc, name).value_parser(value_parser!(u64).range(0..4_611_686_018_427_387_904))
+}
+
+/// The option of `reduce` that says how many rounds are made at most.
+fn chosen_rounds<'a>(alloc: Global) -> Arg<'a>
+    ensures rule { rule_of result ≡ chosen_rounds }
+    ensures local { result.global ≡ false }
+{
+    unread(alloc, "rounds").value_parser(value_parser!(u64).range(0..4_611_686_018_427_387_905))
+}
+
+/// The option of `reduce` that says how many threads make a round.
+fn chosen_workers<'a>(alloc: Global) -> Arg<'a>
+    ensures rule { rule_of result ≡ chosen_workers }
+    ensures local { result.global ≡ false }
+{
+    unread(alloc, "workers").value_parser(value_parser!(u32).range(1..65))
+}
+
+/// An option with a value, and its default.
+fn valued_option<'a>(alloc: Global, name: &'a str, value: &'a str, default: &'a str) -> Arg<'a>
+    ensures rule { rule_of result ≡ valued_option name.now default.now }
+    ensures local { result.global ≡ false }
+{
+    Arg::new(alloc, name)
+        .long(name)
+        .value_name(value)
+        .default_value(default)
+}
+
+/// The option that says how many threads make a round.
+fn workers_option<'a>(alloc: Global) -> Arg<'a>
+    ensures rule { rule_of result ≡ workers_option }
+    ensures local { result.global ≡ false }
+{
+    valued_option(alloc, "workers", "N", "2").value_parser(value_parser!(u32).range(1..65))
+}
+
+/// The option that says after how many rounds they are kept.
+fn every_option<'a>(alloc: Global) -> Arg<'a>
+    ensures rule { rule_of result ≡ every_option }
+    ensures local { result.global ≡ false }
+{
+    valued_option(alloc, "every", "K", "100").value_parser(value_parser!(u32).range(1..1_000_001))
+}
+
+/// The option that says how many runners there are.
+fn runners_option<'a>(alloc: Global) -> Arg<'a>
+    ensures rule { rule_of result ≡ runners_option }
+    ensures local { result.global ≡ false }
+{
+    valued_option(alloc, "runners", "R", "2").value_parser(value_parser!(u64).range(0..65))
+}
+
+/// The option that says how many rounds each runner may take once all scripts have ended.
+fn turns_option<'a>(alloc: Global) -> Arg<'a>
+    ensures rule { rule_of result ≡ turns_option }
+    ensures local { result.global ≡ false }
+{
+    valued_option(alloc, "turns", "T", "0").value_parser(value_parser!(u64).range(0..1_000_001))
+}
+
+/// The argument that names scripts.
+fn script_argument<'a>(alloc: Global) -> Arg<'a>
+    ensures rule { rule_of result ≡ script_argument }
+    ensures local { result.global ≡ false }
+{
+    Arg::new(alloc, "script").value_name("SCRIPT").num_args(0..)
+}
+
+/// The argument that names jobs.
+fn name_argument<'a>(alloc: Global) -> Arg<'a>
+    ensures rule { rule_of result ≡ name_argument }
+    ensures local { result.global ≡ false }
+{
+    Arg::new(alloc, "name").value_name("NAME").num_args(0..)
+}
+
+/// The argument that names texts, one at least.
+fn file_argument<'a>(alloc: Global) -> Arg<'a>
+    ensures rule { rule_of result ≡ file_argument }
+    ensures local { result.global ≡ false }
+{
+    Arg::new(alloc, "file")
+        .value_name("FILE")
+        .num_args(1..)
+        .required(true)
+}
+
+/// The option that says how many rounds are made at most.
+fn rounds_option<'a>(alloc: Global) -> Arg<'a>
+    ensures rule { rule_of result ≡ rounds_option }
+    ensures local { result.global ≡ false }
+{
+    valued_option(alloc, "rounds", "N", "1000000").value_parser(value_parser!(u64).range(
+        0..4_611_686_018_427_387_905,
+    ))
+}
+
+/// The option that says how many rounds a job makes at most over its whole life.
+fn life_option<'a>(alloc: Global) -> Arg<'a>
+    ensures rule { rule_of result ≡ life_option }
+    ensures local { result.global ≡ false }
+{
+    valued_option(alloc, "rounds", "N", "4611686018427387904").value_parser(value_parser!(
+        u64
+    ).range(0..4_611_686_018_427_387_905))
+}
+
+/// The argument that names a file of lines.
+fn lines_argument<'a>(alloc: Global) -> Arg<'a>
+    ensures rule { rule_of result ≡ lines_argument }
+    ensures local { result.global ≡ false }
+{
+    Arg::new(alloc, "lines").value_name("LINES").required(true)
+}
+
+/// The option that says how a trace is told.
+fn format_option<'a>(alloc: Global) -> Arg<'a>
+    ensures rule { rule_of result ≡ format_option }
+    ensures local { result.global ≡ false }
+{
+    valued_option(alloc, "format", "FORMAT", "tsv")
+}
+
+/// A command with one more argument, where no growth was refused before.
+fn with_arg<'a>(
+    command: Result<Command<'a>, AllocError>,
+    arg: Arg<'a>,
+) -> Result<Command<'a>, AllocError>
+    ensures { (app : App) (rule : Rule) → IfOk command.entry (IsMade app)
+        → rule_of arg.entry ≡ rule
+        → arg.entry.global ≡ false → IfOk result (IsMade (with_rule app rule)) }
+{
+    let command = command?;
+    command.arg(arg)
+}
+
+/// The program with one more command, where no growth was refused before.
+fn with_command<'a>(
+    program: Result<Command<'a>, AllocError>,
+    command: Result<Command<'a>, AllocError>,
+) -> Result<Command<'a>, AllocError>
+    ensures { (whole part : App) → IfOk program.entry (λ made. app_of made ≡ whole)
+        → IfOk command.entry (IsMade part)
+        → IfOk result (λ made. app_of made ≡ with_subcommand whole part.top) }
+{
+    let command = command?;
+    let program = program?;
+    program.subcommand(command)
+}
+
+/// The command that makes a file an empty disk.
+fn create_command<'a>(alloc: Global) -> Result<Command<'a>, AllocError>
+    ensures { IfOk result (IsMade create_command) }
+{
+    let command = with_arg(Ok(Command::new(alloc, "create")), disk_option(alloc));
+    with_arg(command, flag(alloc, "overwrite"))
+}
+
+/// The command that serves lines.
+fn serve_command<'a>(alloc: Global) -> Result<Command<'a>, AllocError>
+    ensures { IfOk result (IsMade serve_command) }
+{
+    let command = with_arg(Ok(Command::new(alloc, "serve")), disk_option(alloc));
+    let command = with_arg(command, workers_option(alloc));
+    with_arg(command, every_option(alloc))
+}
+
+/// The command that gives the commands of scripts.
+fn attend_command<'a>(alloc: Global) -> Result<Command<'a>, AllocError>
+    ensures { IfOk result (IsMade attend_command) }
+{
+    let command = with_arg(Ok(Command::new(alloc, "attend")), disk_option(alloc));
+    let command = with_arg(command, runners_option(alloc));
+    let command = with_arg(command, turns_option(alloc));
+    let command = with_arg(command, workers_option(alloc));
+    with_arg(command, script_argument(alloc))
+}
+
+/// The command that reduces a system.
+fn reduce_command<'a>(alloc: Global) -> Result<Command<'a>, AllocError>
+    ensures { IfOk result (IsMade reduce_command) }
+{
+    let command = with_arg(Ok(Command::new(alloc, "reduce")), chosen_rounds(alloc));
+    let command = with_arg(command, chosen_workers(alloc));
+    let command = with_arg(command, bound_option(alloc, "steps"));
+    let command = with_arg(command, bound_option(alloc, "nodes"));
+    let command = with_arg(command, flag(alloc, "partial"));
+    with_arg(command, flag(alloc, "stats"))
+}
+
+/// The command that traces a system.
+fn trace_command<'a>(alloc: Global) -> Result<Command<'a>, AllocError>
+    ensures { IfOk result (IsMade trace_command) }
+{
+    let command = with_arg(Ok(Command::new(alloc, "trace")), rounds_option(alloc));
+    with_arg(command, format_option(alloc))
+}
+
+/// The command that prints jobs of a disk.
+fn dump_command<'a>(alloc: Global) -> Result<Command<'a>, AllocError>
+    ensures { IfOk result (IsMade dump_command) }
+{
+    let command = with_arg(Ok(Command::new(alloc, "dump")), disk_option(alloc));
+    with_arg(command, name_argument(alloc))
+}
+
+/// The command that tells what a file holds.
+fn inspect_command<'a>(alloc: Global) -> Result<Command<'a>, AllocError>
+    ensures { IfOk result (IsMade inspect_command) }
+{
+    with_arg(Ok(Command::new(alloc, "inspect")), disk_option(alloc))
+}
+
+/// The command that tells the faults of texts.
+fn check_command<'a>(alloc: Global) -> Result<Command<'a>, AllocError>
+    ensures { IfOk result (IsMade check_command) }
+{
+    with_arg(Ok(Command::new(alloc, "check")), file_argument(alloc))
+}
+
+/// The command that brings jobs to their ends.
+fn batch_command<'a>(alloc: Global) -> Result<Command<'a>, AllocError>
+    ensures { IfOk result (IsMade batch_command) }
+{
+    let command = with_arg(Ok(Command::new(alloc, "batch")), disk_option(alloc));
+    let command = with_arg(command, life_option(alloc));
+    let command = with_arg(command, every_option(alloc));
+    let command = with_arg(command, workers_option(alloc));
+    with_arg(command, lines_argument(alloc))
+}
+
+/// The program without its commands.
+fn program<'a>(alloc: Global) -> Result<Command<'a>, AllocError>
+    ensures { IfOk result (λ command. app_of command ≡ program) }
+{
+    Command::new(alloc, "icserve")
+        .version(VERSION)
+        .no_binary_name(true)
+        .disable_help_subcommand(true)
+        .subcommand_required(true)
+        .bin_name("icserve")
+}
+
+/// The program with the commands over streams.
+fn with_streams<'a>(alloc: Global) -> Result<Command<'a>, AllocError>
+    ensures { IfOk result (λ command. app_of command ≡ with_streams) }
+{
+    let program = with_command(program(alloc), Ok(Command::new(alloc, "settle")));
+    with_command(program, Ok(Command::new(alloc, "once")))
+}
+
+/// The program with the commands over disks, too.
+fn with_disks<'a>(alloc: Global) -> Result<Command<'a>, AllocError>
+    ensures { IfOk result (λ command. app_of command ≡ with_disks) }
+{
+    let program = with_command(with_streams(alloc), create_command(alloc));
+    let program = with_command(program, serve_command(alloc));
+    with_command(program, attend_command(alloc))
+}
+
+/// The program with the commands for whoever looks at nets, too.
+fn with_looks<'a>(alloc: Global) -> Result<Command<'a>, AllocError>
+    ensures { IfOk result (λ command. app_of command ≡ with_looks) }
+{
+    let program = with_command(with_disks(alloc), reduce_command(alloc));
+    let program = with_command(program, trace_command(alloc));
+    with_command(program, Ok(Command::new(alloc, "draw")))
+}
+
+/// The program's command line.
+fn command<'a>(alloc: Global) -> Result<Command<'a>, AllocError>
+    ensures { IfOk result (λ command. app_of command ≡ command_line) }
+{
+    let program = with_command(with_looks(alloc), dump_command(alloc));
+    let program = with_command(program, inspect_command(alloc));
+    let program = with_command(program, check_command(alloc));
+    with_command(program, batch_command(alloc))
+}

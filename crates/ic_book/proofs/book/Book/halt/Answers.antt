@@ -1,0 +1,38 @@
+use Rattle.std.proofs.Common.{refl}
+use Rattle.std.proofs.lemmas.Result.{err_from_is_err_and}
+use Rattle.ic_jobs.specs.declared.reply.Reply.TheVariants.{Halted}
+use Rattle.ic_book.specs.declared.fault.BookFault.{BookFault}
+use Rattle.ic_book.proofs.BookLemmas.{round_comes, still, unchanged}
+use Rattle.ic_book.proofs.StepLemmas.{idles, round_made, round_refused, round_unmade}
+use Rattle.ic_book.proofs.book.Book.halt.Goals as goal
+
+pub returns-in_err-check_room-clause-crash : goal.returns-in_err-check_room-clause-crash
+returns-in_err-check_room-clause-crash g c = unchanged g.met.D.Disk.left_is_image c.args.self.now
+
+pub invariant_of-self : goal.invariant_of-self
+invariant_of-self g c =
+    let comes = round_comes c.args.self.now c.args.flight.now.name Halted c.enter_halted.result c.enter_halted.new.log.items c.enter_halted.new.table c.in_ok-check_room.ensures.ok c.enter_halted.ensures in
+    record { history = comes.history; on_disk = comes.on_disk; newest = c.args.self.now.newest }
+
+pub returns-in_err-enter_halted-clause-crash : goal.returns-in_err-enter_halted-clause-crash
+returns-in_err-enter_halted-clause-crash g c = still g.met.D.Disk.left_is_image c.enter_halted.new.log.items c.args.self.now _ refl
+    (round_comes c.args.self.now c.args.flight.now.name Halted c.enter_halted.result c.enter_halted.new.log.items c.enter_halted.new.table c.in_ok-check_room.ensures.ok c.enter_halted.ensures).crash
+
+pub returns-clause-crash : goal.returns-clause-crash
+returns-clause-crash g c = still g.met.D.Disk.left_is_image c.enter_halted.new.log.items c.args.self.now _ refl
+    (round_comes c.args.self.now c.args.flight.now.name Halted c.enter_halted.result c.enter_halted.new.log.items c.enter_halted.new.table c.in_ok-check_room.ensures.ok c.enter_halted.ensures).crash
+
+pub returns-in_err-check_room-clause-step : goal.returns-in_err-check_room-clause-step
+returns-in_err-check_room-clause-step g c =
+    let e = err_from_is_err_and c.from_residual.result c.from_residual.ensures.1 in
+    round_refused c.args.flight.now.name Halted c.from_residual.result e.0 c.args.self.now c.args.self.now e.1 (idles g.met.D.Disk.left_is_image c.args.self.now)
+
+pub returns-in_err-enter_halted-clause-step : goal.returns-in_err-enter_halted-clause-step
+returns-in_err-enter_halted-clause-step g c =
+    let e = err_from_is_err_and c.from_residual-in_err-enter_halted.result c.from_residual-in_err-enter_halted.ensures.1 in
+    round_refused c.args.flight.now.name Halted c.from_residual-in_err-enter_halted.result e.0 c.args.self.now _ e.1
+    (round_unmade c.args.flight.now.name Halted c.in_err-enter_halted.field-0.0 c.args.self.now _ refl refl c.in_err-enter_halted.ensures (returns-in_err-enter_halted-clause-crash g c) (λ is. is))
+
+pub returns-clause-step : goal.returns-clause-step
+returns-clause-step g c =
+    round_made BookFault c.args.flight.now.name Halted c.in_ok-enter_halted.field-0 c.args.self.now _ refl refl c.in_ok-enter_halted.ensures (returns-clause-crash g c) (λ is. is)

@@ -1,0 +1,49 @@
+-- What a book keeps: its history in memory, and a table on its disk. This project's choice.
+use Rattle.std.specs.Prelude.{◌≡◌, ℕ, ◌-◌, ◌≤◌, List, Bool, false, length, take, drop}
+use Rattle.std.specs.List.{AllByRecursion}
+use Rattle.ic_disk.specs.Images.{Within}
+use Rattle.ic_jobs.specs.declared.event.Entry.{Entry}
+use Rattle.ic_jobs.specs.Job.{JobParts}
+use Rattle.ic_jobs.specs.Table.{IsTable}
+use Rattle.ic_jobs.specs.History.{replay, IsLegal}
+use Rattle.ic_frames.specs.Fields.{IsMade}
+use Rattle.ic_slots.specs.Held.{HoldsEitherTable, IsHeld, the_table}
+use Rattle.ic_book.specs.declared.limits.TheConstants.{MAX_ENTRIES}
+use Rattle.ic_book.specs.Entries.{AreRounds, IsSentByNobody}
+
+-- the table after the first so many entries
+abbrev pub table_kept : (start : List JobParts) (log : List Entry) (kept : ℕ) → List JobParts
+table_kept start log kept = replay start (take kept log)
+
+-- a made file that holds the table after the first so many entries, or after all
+abbrev pub HoldsKeptOrAll : (start : List JobParts) (log : List Entry) (kept : ℕ)
+    (file : List ℕ) → Type 0
+HoldsKeptOrAll start log kept file =
+    HoldsEitherTable (table_kept start log kept) (replay start log) file
+
+-- Entries that may stand behind those that are kept: rounds, and one last command where the book is
+-- broken.
+pub record MayBeUnkept (broken : Bool) (es : List Entry) : Type 0 where
+  pub unbroken : broken ≡ false → AreRounds es
+  pub but_last : AreRounds (take (length es - 1) es)
+
+-- What a book keeps in memory. Replaying the log on the opening table gives the table and each
+-- reply.
+pub record IsHistory (start : List JobParts) (log : List Entry) (table : List JobParts)
+    (kept : ℕ) (broken : Bool) : Type 0 where
+  pub legal : IsLegal start log
+  pub replayed : replay start log ≡ table
+  pub short : length log ≤ MAX_ENTRIES
+  pub within : kept ≤ length log
+  pub behind : MayBeUnkept broken (drop kept log)
+  pub by_nobody : AllByRecursion IsSentByNobody log
+  pub sound : IsTable (table_kept start log kept)
+
+-- What a book keeps on a disk that keeps the model: what reads give and what a crash may leave.
+-- Where the book is broken that is said only if each image is made.
+pub record IsOnDisk (content : List ℕ) (image : List ℕ → Type 0) (start : List JobParts)
+    (log : List Entry) (kept : ℕ) (broken : Bool) : Type 0 where
+  pub held : broken ≡ false → IsHeld (the_table (table_kept start log kept)) content
+  pub holds : broken ≡ false → Within image (IsHeld (the_table (table_kept start log kept)))
+  pub either : Within image IsMade
+      → (file : List ℕ) → image file → ∥ HoldsKeptOrAll start log kept file ∥₁

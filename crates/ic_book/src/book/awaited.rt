@@ -1,0 +1,73 @@
+//! Rounds and halts that are awaited: nothing is compared as they come.
+
+ghost use Rattle.std.specs.Prelude.{◌≡◌, IfOk, IsTrue};
+ghost use Rattle.ic_pool.specs.Flight.{is_blocked};
+ghost use Rattle.ic_jobs.specs.declared.landed.Landed.TheVariants.{Moved};
+ghost use Rattle.ic_jobs.specs.declared.reply.Reply.TheVariants as reply;
+ghost use Rattle.ic_jobs.specs.Landing.{Awaits};
+ghost use Rattle.ic_book.specs.Entries.{round_entry};
+ghost use Rattle.ic_book.specs.Book.{log_of, table_of};
+ghost use Rattle.ic_book.specs.Calls.{LeavesKeptOrAll, RefusesRound, TakesRound};
+ghost use Rattle.ic_book.specs.Moves.{round_move};
+ghost use Rattle.ic_book.specs.Server.{Step, up};
+
+use super::Book;
+use crate::BookFault;
+use crate::enter::{halt_entered, land_entered};
+use ic_disk::Disk;
+use ic_jobs::Landed;
+use ic_pool::{Flight, Played};
+
+impl<D: Disk> Book<D> {
+    /// Puts a round that is awaited, and answers `Moved`. Nothing is compared: who has held the book
+    /// alone since the flight was taken knows that nothing came between. It isn't kept yet.
+    pub fn land_awaited(&mut self, played: Played) -> Result<Landed, BookFault>
+        requires { Awaits (table_of self.old)
+            played.name played.rules played.before played.rounds }
+
+        ensures step { Step (round_move played.name reply.Moved result)
+            (up self.old) (up self.new) }
+
+        // Refusals: broken and full, in this order. `Memory` comes behind them.
+        ensures fault { RefusesRound result self.old self.new }
+
+        // It lands, and one round more stands in the log.
+        ensures moves { IfOk result (λ landed. landed ≡ Moved) }
+        ensures round { TakesRound (round_entry played.name reply.Moved)
+            (Awaits (table_of self.old) played.name played.rules played.before played.rounds)
+            result self.old self.new }
+
+        // A crash leaves the table that was kept, or the one after all.
+        ensures crash { LeavesKeptOrAll (log_of self.new) self.old self.new }
+    {
+        self.check_room()?;
+        Ok(land_entered(&mut self.log, &mut self.table, played)?)
+    }
+
+    /// Halts a job whose round can't be made and is awaited, and answers `Moved`. Nothing is
+    /// compared. It isn't kept yet.
+    pub fn halt_awaited(&mut self, flight: &Flight) -> Result<Landed, BookFault>
+        requires blocked { IsTrue (is_blocked flight.now) }
+        requires awaited { Awaits (table_of self.old)
+            flight.now.name flight.now.rules flight.now.config flight.now.rounds }
+
+        ensures step { Step (round_move flight.now.name reply.Halted result)
+            (up self.old) (up self.new) }
+
+        // Refusals: broken and full, in this order. `Memory` comes behind them.
+        ensures fault { RefusesRound result self.old self.new }
+
+        // It halts, and one round more stands in the log.
+        ensures moves { IfOk result (λ landed. landed ≡ Moved) }
+        ensures round { TakesRound (round_entry flight.now.name reply.Halted)
+            (Awaits (table_of self.old)
+            flight.now.name flight.now.rules flight.now.config flight.now.rounds)
+            result self.old self.new }
+
+        // A crash leaves the table that was kept, or the one after all.
+        ensures crash { LeavesKeptOrAll (log_of self.new) self.old self.new }
+    {
+        self.check_room()?;
+        Ok(halt_entered(&mut self.log, &mut self.table, flight)?)
+    }
+}

@@ -1,0 +1,9 @@
+pub mod Rounds
+pub mod Reductions
+pub mod Symbols
+pub mod Printed
+pub mod Answered
+pub mod Active
+pub mod Interactions
+pub mod Greatest
+pub mod OneAnswer

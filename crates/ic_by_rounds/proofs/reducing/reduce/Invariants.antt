@@ -1,0 +1,10 @@
+use Rattle.std.proofs.Common.{◌≡◌, IsTrue}
+use Rattle.ic_term.specs.Symbol.{is_over}
+use Rattle.ic_round.specs.Rounds.{iterate}
+use Rattle.ic_by_rounds.specs.Reducing.{AreMade}
+use Rattle.ic_by_rounds.proofs.reducing.reduce.Given as goal
+
+-- the configuration is the one behind the rounds so far
+abbrev pub invariant-loop-rounds : goal.invariant-loop-rounds
+invariant-loop-rounds g l =
+    (l.config ≡ iterate l.rules.rules l.rounds l.fn.config) × IsTrue (is_over l.rules.symbols l.config) × AreMade l.rules.rules l.fn.config l.rounds

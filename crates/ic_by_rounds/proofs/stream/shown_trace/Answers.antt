@@ -1,0 +1,7 @@
+use Rattle.ic_text.specs.SystemSource.{IsSystemPhrase, system_words}
+use Rattle.ic_text.specs.Words.{written_system}
+use Rattle.ic_text.specs.lemmas.PlacedWithin.{placed-within}
+use Rattle.ic_by_rounds.proofs.stream.shown_trace.Goals as goal
+
+pub refused-requires : goal.refused-requires
+refused-requires c = placed-within IsSystemPhrase system_words written_system c.args.text.now _ _ _ c.in-Err.ensures.placed

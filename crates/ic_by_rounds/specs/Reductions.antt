@@ -1,0 +1,59 @@
+-- What a text of a system is answered when it is reduced (this project's choice).
+use Rattle.std.specs.Prelude.{◌≡◌, ◌≢◌, ℕ, List, [], Bool, true, Ok, Err, if◌then◌else◌}
+use Rattle.std.specs.Option.{option_map}
+use Rattle.ic_term.specs.Configuration.{Configuration}
+use Rattle.ic_rules.specs.RuleSet.{Rules}
+use Rattle.ic_rules.specs.System.{SystemParts}
+use Rattle.ic_text.specs.SystemText.{ReadsSystem}
+use Rattle.ic_text.specs.declared.fault.TextFault.TheVariants as text
+use Rattle.ic_round.specs.Rounds.{IsQuiet, iterate}
+use Rattle.ic_streams.specs.Streams.{Answering, line_of}
+use Rattle.ic_streams.specs.declared.fault.StreamFault.TheVariants.{Read, Text, Round, Memory, Write}
+use Rattle.ic_by_rounds.specs.Reducing.{IsReducedBy, IsRefusal}
+use Rattle.ic_by_rounds.specs.Stuck.{stuck_text}
+use Rattle.ic_by_rounds.specs.declared.reduction.Reduction.{Reduction}
+use Rattle.ic_by_rounds.specs.declared.reduction.Reduction.TheVariants.{Done, NotDone, Refused}
+
+-- How it is told that rounds ended of which at most so many may be made, and so many are: after them
+-- no step is possible, or all are made, or the next one is refused.
+abbrev pub Tells : Rules → Configuration → (most rounds : ℕ) → Reduction → Type 0
+Tells rs c most rounds (Done count stuck) = IsReducedBy rs.rules c most rounds
+    × IsQuiet rs.rules (iterate rs.rules rounds c) × (count ≡ rounds)
+    × (option_map (λ text. text.items) stuck
+    ≡ stuck_text rs.symbols (iterate rs.rules rounds c))
+Tells rs c most rounds NotDone = IsReducedBy rs.rules c most rounds
+    × (¬ IsQuiet rs.rules (iterate rs.rules rounds c))
+Tells rs c most rounds (Refused refusal) = IsRefusal rs.rules c most rounds refusal
+
+-- whether the configuration is printed, where the one before a refused round may be asked for
+abbrev pub is_printed : (partial : Bool) → Reduction → Bool
+is_printed partial (Done count stuck) = true
+is_printed partial NotDone = true
+is_printed partial (Refused refusal) = partial
+
+-- a text is read as a system, of which at most so many rounds are made, which ended so, and the
+-- configuration after them is printed, or nothing
+pub record ReducesTo (most : ℕ) (partial : Bool) (input output : List ℕ)
+    (reduction : Reduction) : Type 0 where
+  pub system : SystemParts
+  pub rounds : ℕ
+  pub reads : ReadsSystem input (Ok system)
+  pub told : Tells system.rules system.config most rounds reduction
+  pub prints : output ≡ (if is_printed partial reduction
+      then line_of system.rules.symbols (iterate system.rules.rules rounds system.config) else [])
+
+-- how the rounds of a text ended that is reduced
+abbrev pub EndsAs : (most : ℕ) (partial : Bool) → List ℕ → Reduction → Type 0
+EndsAs most partial input reduction =
+    (output : List ℕ) × ReducesTo most partial input output reduction
+
+-- The answers of reducing by at most so many rounds. A refused round is no refusal of the text.
+abbrev pub Reduces : (most : ℕ) (partial : Bool) → Answering
+Reduces most partial input (Ok output) =
+    (reduction : Reduction) × ReducesTo most partial input output reduction
+Reduces most partial input (Err (Text fault)) =
+    ReadsSystem input (Err fault) × (fault ≢ text.Memory)
+Reduces most partial input (Err (Round fault)) = ⊥
+Reduces most partial input (Err Read) = ⊥
+Reduces most partial input (Err Memory) = ⊥
+Reduces most partial input (Err Write) = ⊥

@@ -1,5 +1,0 @@
-use Rattle.ic_contents.proofs.FieldLemmas.{gate_read}
-use Rattle.ic_contents.proofs.looking.is_open.Goals as goal
-
-pub returns : goal.returns
-returns c = gate_read c.args.at c.args.file.now c.requires

@@ -1,6 +1,0 @@
--- What a reader of the public contracts must believe.
-pub mod Seeing
-pub mod Held
-pub mod Report
-pub mod Inspecting
-pub mod Moments

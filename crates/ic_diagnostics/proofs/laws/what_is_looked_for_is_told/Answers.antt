@@ -1,0 +1,5 @@
+use Rattle.std.proofs.Common.{refl}
+use Rattle.ic_diagnostics.proofs.laws.what_is_looked_for_is_told.Goals as goal
+
+pub returns : goal.returns
+returns c = record { term = (refl, (refl, (refl, tt))); config = refl; equations = refl; over = refl; rules = refl; rule = refl; behind_rules = refl }

@@ -1,0 +1,163 @@
+-- To be believed: what is told of a refused text beside its refusal (this project's choice).
+use Rattle.std.specs.Prelude.{◌≡◌, ℕ, List, [], ◌∷◌, ◌++◌, Option, None, Some, Err, codes, drop, slice_get, ◌==◌, Bool, ◌||◌, if◌then◌else◌}
+use Rattle.std.specs.Fmt.{decimal}
+use Rattle.std.specs.List.{concat}
+use Rattle.ic_text.specs.declared.fault.TextFault.{TextFault}
+use Rattle.ic_text.specs.declared.fault.TextFault.TheVariants.{NameCount, Name, Twice, Lopsided}
+use Rattle.ic_text.specs.declared.misread.Detail.{Detail}
+use Rattle.ic_text.specs.declared.misread.Detail.TheVariants.{Nothing, Passed, Arities}
+use Rattle.ic_text.specs.declared.misread.Limit.{Limit}
+use Rattle.ic_text.specs.declared.misread.Limit.TheVariants.{TextBytes, SymbolBytes, Arguments, NameNumber, Symbols, Rules, RuleNodes, Interface, Nodes}
+use Rattle.ic_text.specs.Token.{Token}
+use Rattle.ic_text.specs.Reading.{IsSpelling}
+use Rattle.ic_text.specs.WordFaults.{IsSecondUse}
+use Rattle.ic_text.specs.Source.{IsPhrase, phrase_words}
+use Rattle.ic_text.specs.SystemSource.{IsSystemPhrase, system_words}
+use Rattle.ic_text.specs.Words.{Written, all_words, written_phrase, written_system}
+use Rattle.ic_text.specs.Places.{IsPlaced, IsWordPlace}
+use Rattle.ic_streams.specs.Streams.{Answering, TakesIt}
+use Rattle.ic_streams.specs.declared.fault.StreamFault.{StreamFault}
+use Rattle.ic_streams.specs.declared.fault.StreamFault.TheVariants.{Text}
+use Rattle.ic_diagnostics.specs.declared.telling.Kind.{Kind}
+use Rattle.ic_diagnostics.specs.declared.telling.Kind.TheVariants.{Config, System}
+use Rattle.ic_diagnostics.specs.declared.sights.Sight.{Sight}
+use Rattle.ic_diagnostics.specs.declared.sights.Sight.TheVariants.{End, SystemMark, ConfigMark, CommandWord, NoName, Behind}
+use Rattle.ic_diagnostics.specs.Lines.{place_lines}
+use Rattle.ic_diagnostics.specs.Sights.{first_word, sight_at}
+
+-- what names and symbols are, where a word is neither
+abbrev pub name_sentence : List ℕ
+name_sentence = codes "a name is a letter a to z, maybe with a number from 1 on, "
+    ++ codes "and a symbol begins with A to Z or 0 to 9"
+
+-- a mark behind which nothing but a term goes on: `(`, `,` or `=`
+abbrev pub wants_term : ℕ → Bool
+wants_term b = b == 40 || b == 44 || b == 61
+
+-- what is looked for behind `(`, `,`, `=` or `|`, of either kind; behind other bytes that is another
+abbrev pub behind_mark : (other : List ℕ) → ℕ → List ℕ
+behind_mark other b = if wants_term b then codes "a term is looked for here"
+    else (if b == 124 then codes "a term or > is looked for here" else other)
+
+-- what is looked for in a configuration behind a byte: behind `<`, behind `>`, with which it ends, or
+-- behind such a mark; behind a term it isn't told
+abbrev pub behind_in_config : ℕ → List ℕ
+behind_in_config b = if b == 60 then codes "a term or | is looked for here"
+    else (if b == 62 then codes "nothing is looked for behind a configuration"
+    else behind_mark (codes "no configuration goes on with this") b)
+
+-- the same of a system, behind `{`, `;`, `}` or such a mark; behind a term, `<` or `>` it isn't told
+abbrev pub behind_in_system : ℕ → List ℕ
+behind_in_system b = if b == 123 then codes "a symbol or } is looked for here"
+    else (if b == 59 then codes "a symbol is looked for here"
+    else (if b == 125 then codes "< is looked for here"
+    else behind_mark (codes "no system goes on with this") b))
+
+-- what is amiss where a configuration doesn't go on, by what stands there: the text may be of another
+-- kind, a system or lines of commands
+abbrev pub config_sentence : Sight → List ℕ
+config_sentence End = codes "the text ends before its configuration does"
+config_sentence SystemMark = codes "a configuration begins with <, and this is a system"
+config_sentence CommandWord = codes "a configuration begins with <, and commands are served"
+config_sentence NoName = name_sentence
+config_sentence (Behind b) = behind_in_config b
+config_sentence sight = codes "a configuration begins with <"
+
+-- the same of a system, where the text may be a configuration or lines of commands
+abbrev pub system_sentence : Sight → List ℕ
+system_sentence End = codes "the text ends before its system does"
+system_sentence ConfigMark = codes "a system begins with {, and this is a configuration"
+system_sentence CommandWord = codes "a system begins with {, and commands are served"
+system_sentence NoName = name_sentence
+system_sentence (Behind b) = behind_in_system b
+system_sentence sight = codes "a system begins with {"
+
+abbrev pub syntax_sentence : Kind → Sight → List ℕ
+syntax_sentence Config sight = config_sentence sight
+syntax_sentence System sight = system_sentence sight
+
+-- what is amiss at the place of a refusal of which no more is known
+abbrev pub plain_sentence : Kind → TextFault → Sight → List ℕ
+plain_sentence kind (NameCount i) sight = codes "in a rule each name stands exactly twice"
+plain_sentence kind (Name n) sight = codes "in a configuration a name stands at most twice"
+plain_sentence kind (Twice i) sight = codes "a rule before this one is of the same two symbols"
+plain_sentence kind (Lopsided i) sight =
+    codes "a rule of a symbol with itself reads the same from both sides"
+plain_sentence kind fault sight = syntax_sentence kind sight
+
+-- what is amiss where a limit is passed
+abbrev pub limit_sentence : Limit → List ℕ
+limit_sentence TextBytes = codes "a text has at most 262144 bytes"
+limit_sentence SymbolBytes = codes "a symbol has at most 32 bytes"
+limit_sentence Arguments = codes "a symbol has at most 15 arguments"
+limit_sentence NameNumber = codes "the number of a name is at most 4294967295"
+limit_sentence Symbols = codes "a text has at most 64 different symbols"
+limit_sentence Rules = codes "a system has at most 256 rules"
+limit_sentence RuleNodes =
+    codes "the arguments of all rules together have at most 2048 nodes"
+limit_sentence Interface = codes "an interface has at most 64 terms"
+limit_sentence Nodes = codes "a configuration has at most 8192 nodes"
+
+-- what is amiss where a symbol has another arity than at its first use
+abbrev pub arity_sentence : (symbol : List ℕ) → (before here : ℕ) → List ℕ
+arity_sentence symbol before here = concat (codes "a symbol has one arity: " ∷ symbol
+    ∷ codes " has " ∷ decimal here ∷ codes " here and " ∷ decimal before
+    ∷ codes " where it stands first" ∷ [])
+
+-- A place of a text is that of the first symbol which has another arity than where it stands first:
+-- the symbol, that one, and the one that it has here.
+abbrev pub IsOfArities : {P : Type 0} → (P → Type 0) → (P → List Token) → (P → Written) → List ℕ
+    → (at : ℕ) → (symbol : List ℕ) → (before here : ℕ) → Type 0
+IsOfArities {P} IsOne words written text at symbol before here =
+    (phrase : P) × IsSpelling IsOne words text phrase × (word : ℕ) × IsWordPlace text word at
+    × IsSecondUse before here (all_words (written phrase)) word
+    × (slice_get (all_words (written phrase)) word
+    ≡ Some (record { text = symbol; arity = here }))
+
+-- what is amiss at the place of a refusal, by the word that stands there, and by what else does
+abbrev pub sight_sentence : Kind → TextFault → Detail → List ℕ → Sight → List ℕ
+sight_sentence kind fault Nothing word sight = plain_sentence kind fault sight
+sight_sentence kind fault (Passed limit) word sight = limit_sentence limit
+sight_sentence kind fault (Arities before here) word sight = arity_sentence word before here
+
+abbrev pub sentence : Kind → List ℕ → TextFault → ℕ → Detail → List ℕ
+sentence kind text fault at detail =
+    sight_sentence kind fault detail (first_word (drop at text)) (sight_at text at)
+
+-- the lines that tell of a refusal, where its place is told
+abbrev pub told_lines : Kind → List ℕ → TextFault → Option ℕ → Detail → List ℕ
+told_lines kind text fault None detail = []
+told_lines kind text fault (Some at) detail =
+    place_lines text at (sentence kind text fault at detail)
+
+-- where in a text that was to be of a kind this fault is found
+abbrev pub IsFoundAt : Kind → List ℕ → TextFault → Option ℕ → Detail → Type 0
+IsFoundAt Config text fault place detail =
+    IsPlaced IsPhrase phrase_words written_phrase text fault place detail
+IsFoundAt System text fault place detail =
+    IsPlaced IsSystemPhrase system_words written_system text fault place detail
+
+-- what is told of a refusal of a text: the lines of its place
+abbrev pub TellsOf : Kind → List ℕ → TextFault → List ℕ → Type 0
+TellsOf kind text fault lines = (place : Option ℕ) × (detail : Detail)
+    × IsFoundAt kind text fault place detail
+    × (lines ≡ told_lines kind text fault place detail)
+
+-- a text is answered with this fault, and the lines that tell of it are appended to what is told
+abbrev pub IsToldOf : Answering → Kind → List ℕ → TextFault → (before after : List ℕ) → Type 0
+IsToldOf Answers kind text fault before after = Answers text (Err (Text fault))
+    × ((lines : List ℕ) × TellsOf kind text fault lines × (after ≡ before ++ lines))
+
+-- What a fault of a stream appends to what is told: of a text that is answered with it the lines of
+-- its place, and else nothing, so that nothing half told is left where memory was wanted.
+abbrev pub AppendedAt : Answering → Kind → List ℕ → StreamFault → (before after : List ℕ) → Type 0
+AppendedAt Answers kind text (Text fault) before after =
+    IsToldOf Answers kind text fault before after
+AppendedAt Answers kind text fault before after = after ≡ before
+
+-- the same of the text that was taken from a reader, where one was taken
+abbrev pub Appended : Answering → Kind → (old new : Option (List ℕ)) → StreamFault
+    → (before after : List ℕ) → Type 0
+Appended Answers kind old new (Text fault) before after =
+    (text : List ℕ) × TakesIt text old new × IsToldOf Answers kind text fault before after
+Appended Answers kind old new fault before after = after ≡ before

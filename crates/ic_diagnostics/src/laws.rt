@@ -1,0 +1,217 @@
+//! What is proved of the definitions alone: each law is the contract of a function that does nothing.
+
+ghost use Rattle.std.specs.Prelude.{◌≡◌, ◌≢◌, ◌⊎◌, ◌<◌, ◌≤◌, ◌+◌, ℕ, List, [], ◌∷◌, ◌++◌, false, true, Option, Some, Err, codes, get_or, length, map, min, slice_get, take};
+ghost use Rattle.std.specs.Fmt.{decimal};
+ghost use Rattle.std.specs.List.{AllByRecursion, concat, list_any, list_all};
+ghost use Rattle.std.specs.Str.{IsUtf8, chars};
+ghost use Rattle.ic_text.specs.Token.{is_blank, is_word_byte};
+ghost use Rattle.ic_term.specs.declared.limits.TheConstants.{MAX_ARITY, MAX_INTERFACE, MAX_NODES, MAX_SYMBOLS, MAX_SYMBOL_TEXT};
+ghost use Rattle.ic_rules.specs.declared.limits.TheConstants.{MAX_RULES, MAX_RULE_NODES};
+ghost use Rattle.ic_text.specs.declared.limits.TheConstants.{MAX_NAME, MAX_TEXT};
+ghost use Rattle.ic_text.specs.declared.fault.TextFault.{TextFault};
+ghost use Rattle.ic_text.specs.declared.fault.TextFault.TheVariants.{Arity, Syntax};
+ghost use Rattle.ic_text.specs.declared.misread.Detail.{Detail};
+ghost use Rattle.ic_text.specs.declared.misread.Detail.TheVariants.{Nothing};
+ghost use Rattle.ic_text.specs.declared.misread.Limit.TheVariants.{TextBytes, SymbolBytes, Arguments, NameNumber, Symbols, Rules, RuleNodes, Interface, Nodes};
+ghost use Rattle.ic_text.specs.Places.{IsPlaced};
+ghost use Rattle.ic_text.specs.Source.{IsPhrase, phrase_words};
+ghost use Rattle.ic_text.specs.SystemSource.{IsSystemPhrase, system_words};
+ghost use Rattle.ic_text.specs.Words.{written_phrase, written_system};
+ghost use Rattle.ic_streams.specs.Streams.{OfText, Rounds, Settles};
+ghost use Rattle.ic_streams.specs.declared.fault.StreamFault.TheVariants.{Text};
+ghost use Rattle.ic_diagnostics.specs.declared.telling.Kind.{Kind};
+ghost use Rattle.ic_diagnostics.specs.declared.telling.Kind.TheVariants.{Config, System};
+ghost use Rattle.ic_diagnostics.specs.Sights.{command_words};
+ghost use Rattle.ic_diagnostics.specs.Telling.{Appended, IsOfArities, IsToldOf, arity_sentence, limit_sentence, sentence};
+ghost use Rattle.ic_diagnostics.specs.Lines.{IsMarked, begins_with_feed, column, feed, first_line, head_of, is_ascii, is_feed, is_printable, last_line, line_number, margin, picture_of, place_lines, shown, shown_before, shown_behind, told_at};
+
+/// A line feed ends a line and begins one. The last line is what stands behind the last line feed.
+pub fn lines_stand_between_line_feeds()
+    ensures one { (a : List ℕ) → list_any is_feed a ≡ false → line_number a ≡ 1 }
+    ensures number { (a b : List ℕ) →
+        line_number (a ++ 10 ∷ b) ≡ line_number a + line_number b }
+    ensures alone { (b : List ℕ) → list_any is_feed b ≡ false → last_line b ≡ b }
+    ensures last { (a b : List ℕ) → list_any is_feed b ≡ false → last_line (a ++ 10 ∷ b) ≡ b }
+{}
+
+/// The first line ends at a line feed, and before a carriage return that stands right before one. A carriage return alone
+/// ends no line.
+pub fn the_first_line_ends_so()
+    ensures alone { (a : List ℕ) → list_any is_feed a ≡ false → first_line a ≡ a }
+    ensures none { (b : List ℕ) → first_line (10 ∷ b) ≡ [] }
+    ensures feed { (a b : List ℕ) (c : ℕ) → list_any is_feed (a ++ c ∷ []) ≡ false → c ≢ 13 →
+        first_line (a ++ c ∷ 10 ∷ b) ≡ a ++ c ∷ [] }
+    ensures both { (a b : List ℕ) → list_any is_feed a ≡ false →
+        first_line (a ++ 13 ∷ 10 ∷ b) ≡ a }
+    ensures lone { (a b : List ℕ) → list_any is_feed a ≡ false → begins_with_feed b ≡ false →
+        first_line (a ++ 13 ∷ b) ≡ a ++ 13 ∷ first_line b }
+{}
+
+/// In a line of UTF-8 the column counts the characters before it, one for each first byte, and none for the bytes that
+/// continue a character.
+pub fn columns_count_characters()
+    ensures characters { (line : List ℕ) → IsUtf8 line →
+        column line ≡ length (chars line) + 1 }
+    ensures ascii { (line : List ℕ) → list_all is_ascii line ≡ true →
+        column line ≡ length line + 1 }
+    ensures first { (line : List ℕ) (b : ℕ) → (b < 128) ⊎ (192 ≤ b) →
+        column (line ++ b ∷ []) ≡ column line + 1 }
+    ensures continued { (line : List ℕ) (b : ℕ) → 128 ≤ b → b < 192 →
+        column (line ++ b ∷ []) ≡ column line }
+{}
+
+/// A printable byte is shown as itself, a blank as a space, and any other byte as `?`.
+pub fn bytes_are_shown_so()
+    ensures printable { (b : ℕ) → 32 ≤ b → b < 127 → shown b ≡ b }
+    ensures blank { (b : ℕ) → is_blank b ≡ true → shown b ≡ 32 }
+    ensures other { (b : ℕ) → (b < 32) ⊎ (127 ≤ b) → is_blank b ≡ false → shown b ≡ 63 }
+{}
+
+/// What is shown of a line is printable ASCII, and as long as what it shows, up to 60 bytes before the place and 20 from it
+/// on.
+pub fn what_is_shown_is_printable()
+    ensures before { (line : List ℕ) → list_all is_printable (shown_before line) ≡ true }
+    ensures behind { (line : List ℕ) → list_all is_printable (shown_behind line) ≡ true }
+    ensures before_length { (line : List ℕ) →
+        length (shown_before line) ≡ min (length line) 60 }
+    ensures behind_length { (line : List ℕ) →
+        length (shown_behind line) ≡ min (length line) 20 }
+{}
+
+/// A short line is shown whole. Of a longer one the last 57 bytes before the place and the first 17 from it on are shown, and
+/// dots stand for the rest.
+pub fn lines_are_cut_around_the_place()
+    ensures short_before { (line : List ℕ) → length line ≤ 60 →
+        shown_before line ≡ map shown line }
+    ensures short_behind { (line : List ℕ) → length line ≤ 20 →
+        shown_behind line ≡ map shown line }
+    ensures long_before { (a b : List ℕ) → 60 < length (a ++ b) → length b ≡ 57 →
+        shown_before (a ++ b) ≡ codes "..." ++ map shown b }
+    ensures long_behind { (a b : List ℕ) → 20 < length (a ++ b) → length a ≡ 17 →
+        shown_behind (a ++ b) ≡ map shown a ++ codes "..." }
+{}
+
+/// The mark stands under the byte of the place: behind as many spaces as bytes are shown before it.
+pub fn the_mark_stands_under_the_place()
+    ensures mark { (before behind : List ℕ) → IsMarked (margin ++ shown_before before)
+        (shown_behind behind) (picture_of before behind) }
+    ensures under { (b : ℕ) (bs : List ℕ) → slice_get (shown_behind (b ∷ bs)) 0 ≡ Some (shown b) }
+{}
+
+/// The end of a text is told behind its last byte that is no blank, and any other place where it is.
+pub fn an_end_is_told_behind_what_stands_last()
+    ensures end { (a blanks : List ℕ) (b : ℕ) → is_blank b ≡ false →
+        list_all is_blank blanks ≡ true →
+        told_at (a ++ b ∷ blanks) (length (a ++ b ∷ blanks)) ≡ length a + 1 }
+    ensures blank { (blanks : List ℕ) → list_all is_blank blanks ≡ true →
+        told_at blanks (length blanks) ≡ 0 }
+    ensures inner { (text : List ℕ) (at : ℕ) → at < length text → told_at text at ≡ at }
+{}
+
+/// A place is told in its parts: its line and its column by what stands before it, then the line with the mark, then the
+/// sentence.
+pub fn places_are_told_in_parts()
+    ensures parts { (a b sentence : List ℕ) (c : ℕ) → place_lines (a ++ c ∷ b) (length a) sentence
+        ≡ concat (head_of a ∷ picture_of (last_line a) (first_line (c ∷ b)) ∷ sentence ∷ feed ∷ []) }
+    ensures one { place_lines (codes "<r|r==Z>") 5 (codes "so")
+        ≡ concat (codes "line 1, column 6" ∷ feed ∷ codes "    <r|r==Z>" ∷ feed
+        ∷ codes "         ^" ∷ feed ∷ codes "so" ∷ feed ∷ []) }
+{}
+
+/// A text that begins with the mark of the other kind, or with the word of a command, is told so, and so is one that ends.
+pub fn other_texts_are_told_so()
+    ensures system { (blanks rest : List ℕ) → list_all is_blank blanks ≡ true →
+        sentence Config (blanks ++ 123 ∷ rest) Syntax (length blanks) Nothing
+        ≡ codes "a configuration begins with <, and this is a system" }
+    ensures config { (blanks rest : List ℕ) → list_all is_blank blanks ≡ true →
+        sentence System (blanks ++ 60 ∷ rest) Syntax (length blanks) Nothing
+        ≡ codes "a system begins with {, and this is a configuration" }
+    ensures commands { (blanks rest : List ℕ) → list_all is_blank blanks ≡ true →
+        is_word_byte (get_or rest 0 0) ≡ false → AllByRecursion (λ word.
+        (sentence Config (blanks ++ (word ++ rest)) Syntax (length blanks) Nothing
+        ≡ codes "a configuration begins with <, and commands are served")
+        × (sentence System (blanks ++ (word ++ rest)) Syntax (length blanks) Nothing
+        ≡ codes "a system begins with {, and commands are served")) command_words }
+    ensures end { (text : List ℕ) →
+        (sentence Config text Syntax (length text) Nothing
+        ≡ codes "the text ends before its configuration does")
+        × (sentence System text Syntax (length text) Nothing
+        ≡ codes "the text ends before its system does") }
+{}
+
+/// Behind a mark the sentence tells what is looked for there.
+pub fn what_is_looked_for_is_told()
+    ensures term { AllByRecursion (λ text.
+        sentence Config (text ++ codes "=Z>") Syntax (length text) Nothing
+        ≡ codes "a term is looked for here") (codes "<r|r=" ∷ codes "<r|r=S( " ∷ codes "<r," ∷ []) }
+    ensures config { sentence Config (codes "<;") Syntax 1 Nothing
+        ≡ codes "a term or | is looked for here" }
+    ensures equations { sentence Config (codes "<| ;") Syntax 3 Nothing
+        ≡ codes "a term or > is looked for here" }
+    ensures over { sentence Config (codes "<|>Z") Syntax 3 Nothing
+        ≡ codes "nothing is looked for behind a configuration" }
+    ensures rules { sentence System (codes "{,") Syntax 1 Nothing
+        ≡ codes "a symbol or } is looked for here" }
+    ensures rule { sentence System (codes "{A><B;}") Syntax 6 Nothing
+        ≡ codes "a symbol is looked for here" }
+    ensures behind_rules { sentence System (codes "{} |") Syntax 3 Nothing
+        ≡ codes "< is looked for here" }
+{}
+
+/// The sentence of each limit tells its number.
+pub fn limits_are_told_with_their_numbers()
+    ensures text { limit_sentence TextBytes
+        ≡ codes "a text has at most " ++ decimal MAX_TEXT ++ codes " bytes" }
+    ensures symbol_bytes { limit_sentence SymbolBytes
+        ≡ codes "a symbol has at most " ++ decimal MAX_SYMBOL_TEXT ++ codes " bytes" }
+    ensures arguments { limit_sentence Arguments
+        ≡ codes "a symbol has at most " ++ decimal MAX_ARITY ++ codes " arguments" }
+    ensures name_number { limit_sentence NameNumber
+        ≡ codes "the number of a name is at most " ++ decimal MAX_NAME }
+    ensures symbols { limit_sentence Symbols
+        ≡ codes "a text has at most " ++ decimal MAX_SYMBOLS ++ codes " different symbols" }
+    ensures rules { limit_sentence Rules
+        ≡ codes "a system has at most " ++ decimal MAX_RULES ++ codes " rules" }
+    ensures rule_nodes { limit_sentence RuleNodes
+        ≡ codes "the arguments of all rules together have at most " ++ decimal MAX_RULE_NODES
+        ++ codes " nodes" }
+    ensures interface { limit_sentence Interface
+        ≡ codes "an interface has at most " ++ decimal MAX_INTERFACE ++ codes " terms" }
+    ensures nodes { limit_sentence Nodes
+        ≡ codes "a configuration has at most " ++ decimal MAX_NODES ++ codes " nodes" }
+{}
+
+/// Of a symbol with two arities the sentence tells the symbol, the one that it has at the place, and then the one with which
+/// it stands first.
+pub fn two_arities_are_told()
+    ensures fewer { arity_sentence (codes "Add") 2 1
+        ≡ codes "a symbol has one arity: Add has 1 here and 2 where it stands first" }
+    ensures more { arity_sentence (codes "0") 0 15
+        ≡ codes "a symbol has one arity: 0 has 15 here and 0 where it stands first" }
+    ensures config { (kind : Kind) (text : List ℕ) (at : ℕ) (detail : Detail)
+        → IsPlaced IsPhrase phrase_words written_phrase text Arity (Some at) detail
+        → (symbol : List ℕ) × (before : ℕ) × (here : ℕ)
+        × IsOfArities IsPhrase phrase_words written_phrase text at symbol before here
+        × (sentence kind text Arity at detail ≡ arity_sentence symbol before here) }
+    ensures system { (kind : Kind) (text : List ℕ) (at : ℕ) (detail : Detail)
+        → IsPlaced IsSystemPhrase system_words written_system text Arity (Some at) detail
+        → (symbol : List ℕ) × (before : ℕ) × (here : ℕ)
+        × IsOfArities IsSystemPhrase system_words written_system text at symbol before here
+        × (sentence kind text Arity at detail ≡ arity_sentence symbol before here) }
+{
+    ic_text::laws::words_stand_at_their_places();
+    ic_text::laws::words_are_those_of_tokens();
+}
+
+/// The lines that are told are those of the text that is answered: of the reader's, where it tells its bytes, and else of
+/// some text. Of one that is too long they are those of its first 262,145 bytes.
+pub fn the_text_that_is_answered_is_told_of()
+    ensures config { (old new : Option (List ℕ)) (fault : TextFault) (before after : List ℕ)
+        → Appended Settles Config old new (Text fault) before after
+        → OfText old (λ text. Settles text (Err (Text fault))
+        × IsToldOf Settles Config (take (MAX_TEXT + 1) text) fault before after) }
+    ensures system { (old new : Option (List ℕ)) (fault : TextFault) (before after : List ℕ)
+        → Appended Rounds System old new (Text fault) before after
+        → OfText old (λ text. Rounds text (Err (Text fault))
+        × IsToldOf Rounds System (take (MAX_TEXT + 1) text) fault before after) }
+{}

@@ -1,0 +1,67 @@
+//! The line of a place as it is shown: cut around the place, and with bytes that every terminal takes.
+
+ghost use Rattle.std.specs.Prelude.{◌≡◌, ◌++◌, IfOk, OnOk, map};
+ghost use Rattle.ic_diagnostics.specs.Lines.{shown, shown_before, shown_behind};
+
+use ic_text::is_blank;
+use std::alloc::{AllocError, Global};
+
+/// How many bytes before the place are shown.
+const BEFORE: usize = 60;
+
+/// How many bytes from the place on are shown.
+pub(crate) const SHOWN_BEHIND: usize = 20;
+
+/// What stands where bytes are left out.
+const DOTS: &[u8] = b"...";
+
+/// A byte as it is shown.
+fn shown(byte: u8) -> u8
+    ensures { result ≡ shown byte }
+{
+    if is_blank(byte) {
+        b' '
+    } else if byte >= 32 && byte < 127 {
+        byte
+    } else {
+        b'?'
+    }
+}
+
+/// Appends bytes as they are shown.
+fn put_shown(bytes: &[u8], line: &mut Vec<u8>) -> Result<(), AllocError>
+    ensures { OnOk result (line.new.items ≡ line.old.items ++ map shown bytes.now) }
+{
+    for byte in bytes {
+        line.push(shown(*byte))?;
+    }
+    Ok(())
+}
+
+/// A line before the place, as it is shown.
+pub(crate) fn shown_before(alloc: Global, line: &[u8]) -> Result<Vec<u8>, AllocError>
+    ensures { IfOk result (λ before. before.items ≡ shown_before line.now) }
+{
+    let mut before = Vec::new(alloc);
+    if line.len() <= BEFORE {
+        put_shown(line, &mut before)?;
+    } else {
+        before.extend_from_slice(DOTS)?;
+        put_shown(&line[line.len() - (BEFORE - 3)..], &mut before)?;
+    }
+    Ok(before)
+}
+
+/// A line from the place on, as it is shown.
+pub(crate) fn shown_behind(alloc: Global, line: &[u8]) -> Result<Vec<u8>, AllocError>
+    ensures { IfOk result (λ behind. behind.items ≡ shown_behind line.now) }
+{
+    let mut behind = Vec::new(alloc);
+    if line.len() <= SHOWN_BEHIND {
+        put_shown(line, &mut behind)?;
+    } else {
+        put_shown(&line[..SHOWN_BEHIND - 3], &mut behind)?;
+        behind.extend_from_slice(DOTS)?;
+    }
+    Ok(behind)
+}

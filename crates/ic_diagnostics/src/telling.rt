@@ -1,0 +1,193 @@
+//! What is told of a refused text beside its refusal.
+
+ghost use Rattle.std.specs.Prelude.{◌≡◌, ◌≤◌, IfOk, IfSome, length};
+ghost use Rattle.ic_diagnostics.specs.Telling.{arity_sentence, behind_in_config, behind_in_system, behind_mark, config_sentence, limit_sentence, plain_sentence, sentence, syntax_sentence, system_sentence, told_lines};
+
+use crate::lines::place_lines;
+use crate::sights::{Sight, first_word, sight_at};
+use ic_text::{Detail, Limit, Misread, TextFault};
+use std::alloc::{AllocError, Global};
+
+/// What a text was to be.
+#[derive(Clone, Copy, Debug, PartialEq, Eq)]
+pub enum Kind {
+    Config,
+    System,
+}
+
+/// What names and symbols are, where a word is neither.
+const NAMES: &[u8] =
+    b"a name is a letter a to z, maybe with a number from 1 on, and a symbol begins with A to Z or 0 to 9";
+
+/// What is looked for behind a mark of either kind of text, or else the other sentence.
+fn behind_mark(other: &'static [u8], byte: u8) -> &'static [u8]
+    ensures { result.now ≡ behind_mark other.now byte }
+{
+    if byte == b'(' || byte == b',' || byte == b'=' {
+        b"a term is looked for here"
+    } else if byte == b'|' {
+        b"a term or > is looked for here"
+    } else {
+        other
+    }
+}
+
+/// What is looked for in a configuration behind a byte, as far as it is told.
+fn behind_in_config(byte: u8) -> &'static [u8]
+    ensures { result.now ≡ behind_in_config byte }
+{
+    if byte == b'<' {
+        b"a term or | is looked for here"
+    } else if byte == b'>' {
+        b"nothing is looked for behind a configuration"
+    } else {
+        behind_mark(b"no configuration goes on with this", byte)
+    }
+}
+
+/// What is looked for in a system behind a byte, as far as it is told.
+fn behind_in_system(byte: u8) -> &'static [u8]
+    ensures { result.now ≡ behind_in_system byte }
+{
+    if byte == b'{' {
+        b"a symbol or } is looked for here"
+    } else if byte == b';' {
+        b"a symbol is looked for here"
+    } else if byte == b'}' {
+        b"< is looked for here"
+    } else {
+        behind_mark(b"no system goes on with this", byte)
+    }
+}
+
+/// What is amiss where a configuration doesn't go on, by what stands there.
+fn config_sentence(sight: Sight) -> &'static [u8]
+    ensures { result.now ≡ config_sentence sight }
+{
+    match sight {
+        Sight::End => b"the text ends before its configuration does",
+        Sight::SystemMark => b"a configuration begins with <, and this is a system",
+        Sight::CommandWord => b"a configuration begins with <, and commands are served",
+        Sight::NoName => NAMES,
+        Sight::Behind(byte) => behind_in_config(byte),
+        Sight::ConfigMark | Sight::Front => b"a configuration begins with <",
+    }
+}
+
+/// What is amiss where a system doesn't go on, by what stands there.
+fn system_sentence(sight: Sight) -> &'static [u8]
+    ensures { result.now ≡ system_sentence sight }
+{
+    match sight {
+        Sight::End => b"the text ends before its system does",
+        Sight::ConfigMark => b"a system begins with {, and this is a configuration",
+        Sight::CommandWord => b"a system begins with {, and commands are served",
+        Sight::NoName => NAMES,
+        Sight::Behind(byte) => behind_in_system(byte),
+        Sight::SystemMark | Sight::Front => b"a system begins with {",
+    }
+}
+
+/// What is amiss where no text goes on.
+fn syntax_sentence(kind: Kind, sight: Sight) -> &'static [u8]
+    ensures { result.now ≡ syntax_sentence kind sight }
+{
+    match kind {
+        Kind::Config => config_sentence(sight),
+        Kind::System => system_sentence(sight),
+    }
+}
+
+/// What is amiss at the place of a refusal of which no more is known.
+fn plain_sentence(kind: Kind, fault: TextFault, sight: Sight) -> &'static [u8]
+    ensures { result.now ≡ plain_sentence kind fault sight }
+{
+    match fault {
+        TextFault::NameCount(_) => b"in a rule each name stands exactly twice",
+        TextFault::Name(_) => b"in a configuration a name stands at most twice",
+        TextFault::Twice(_) => b"a rule before this one is of the same two symbols",
+        TextFault::Lopsided(_) => b"a rule of a symbol with itself reads the same from both sides",
+        TextFault::Syntax | TextFault::Limit | TextFault::Arity | TextFault::Memory => {
+            syntax_sentence(kind, sight)
+        }
+    }
+}
+
+/// What is amiss where a limit is passed.
+fn limit_sentence(limit: Limit) -> &'static [u8]
+    ensures { result.now ≡ limit_sentence limit }
+{
+    match limit {
+        Limit::TextBytes => b"a text has at most 262144 bytes",
+        Limit::SymbolBytes => b"a symbol has at most 32 bytes",
+        Limit::Arguments => b"a symbol has at most 15 arguments",
+        Limit::NameNumber => b"the number of a name is at most 4294967295",
+        Limit::Symbols => b"a text has at most 64 different symbols",
+        Limit::Rules => b"a system has at most 256 rules",
+        Limit::RuleNodes => b"the arguments of all rules together have at most 2048 nodes",
+        Limit::Interface => b"an interface has at most 64 terms",
+        Limit::Nodes => b"a configuration has at most 8192 nodes",
+    }
+}
+
+/// What is amiss where a symbol has another arity than at its first use.
+fn arity_sentence(
+    alloc: Global,
+    symbol: &[u8],
+    before: usize,
+    here: usize,
+) -> Result<Vec<u8>, AllocError>
+    ensures { IfOk result
+        (λ sentence. sentence.items ≡ arity_sentence symbol.now before here) }
+{
+    let mut sentence = Vec::from_slice(alloc, b"a symbol has one arity: ")?;
+    sentence.extend_from_slice(symbol)?;
+    let counts = format!(in alloc; " has {here} here and {before} where it stands first")?;
+    sentence.extend_from_slice(counts.as_bytes())?;
+    Ok(sentence)
+}
+
+/// What is amiss at a place of a text that is refused there.
+pub fn sentence(
+    alloc: Global,
+    kind: Kind,
+    text: &[u8],
+    at: usize,
+    misread: Misread,
+) -> Result<Vec<u8>, AllocError>
+    requires { at ≤ length text.now }
+    ensures { IfOk result (λ words. words.items
+        ≡ sentence kind text.now misread.fault at misread.detail) }
+{
+    match misread.detail {
+        Detail::Nothing => {
+            let sight = sight_at(text, at);
+            Vec::from_slice(alloc, plain_sentence(kind, misread.fault, sight))
+        }
+        Detail::Passed(limit) => Vec::from_slice(alloc, limit_sentence(limit)),
+        Detail::Arities(before, here) => {
+            arity_sentence(alloc, first_word(&text[at..]), before, here)
+        }
+    }
+}
+
+/// The lines that tell of a refusal of a text, where its place is told; else none.
+pub fn told_lines(
+    alloc: Global,
+    kind: Kind,
+    text: &[u8],
+    misread: Misread,
+) -> Result<Vec<u8>, AllocError>
+    requires { IfSome misread.place (λ at. at ≤ length text.now) }
+    ensures { IfOk result
+        (λ lines. lines.items
+        ≡ told_lines kind text.now misread.fault misread.place misread.detail) }
+{
+    match misread.place {
+        Some(at) => {
+            let sentence = sentence(alloc, kind, text, at, misread)?;
+            place_lines(alloc, text, at, &sentence)
+        }
+        None => Ok(Vec::new(alloc)),
+    }
+}

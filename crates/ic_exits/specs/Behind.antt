@@ -1,0 +1,182 @@
+-- What is told behind the line of a failure, by cases over all of them (this project's choice).
+use Rattle.std.specs.Prelude.{ℕ, List, [], ◌∷◌, ◌++◌, codes, Option, None, Some}
+use Rattle.std.specs.Fmt.{decimal}
+use Rattle.ic_causes.specs.declared.cause.Cause.{Cause}
+use Rattle.ic_causes.specs.declared.cause.Target.{Target}
+use Rattle.ic_causes.specs.declared.cause.Target.TheVariants as target
+use Rattle.ic_causes.specs.Causes.{cause_line, shown_path}
+use Rattle.ic_frames.specs.declared.faults.OpenCause.{OpenCause}
+use Rattle.ic_frames.specs.declared.faults.OpenCause.TheVariants as opening
+use Rattle.ic_slots.specs.declared.fault.CreateFault.{CreateFault}
+use Rattle.ic_slots.specs.declared.fault.CreateFault.TheVariants as creating
+use Rattle.ic_book.specs.declared.fault.BookFault.{BookFault}
+use Rattle.ic_book.specs.declared.fault.BookFault.TheVariants as book
+use Rattle.ic_streams.specs.declared.fault.StreamFault.{StreamFault}
+use Rattle.ic_streams.specs.declared.fault.StreamFault.TheVariants as stream
+use Rattle.ic_serving.specs.declared.fault.ServeFault.{ServeFault}
+use Rattle.ic_serving.specs.declared.fault.ServeFault.TheVariants as serve
+use Rattle.ic_inspect.specs.declared.fault.InspectFault.{InspectFault}
+use Rattle.ic_inspect.specs.declared.fault.InspectFault.TheVariants as inspect
+use Rattle.ic_scripts.specs.declared.fault.ScriptsFault.{ScriptsFault}
+use Rattle.ic_scripts.specs.declared.fault.ScriptsFault.TheVariants as scripts
+use Rattle.ic_batch.specs.declared.fault.BatchFault.{BatchFault}
+use Rattle.ic_batch.specs.declared.fault.BatchFault.TheVariants as batch
+use Rattle.ic_batch.specs.declared.fault.Difference.{Difference}
+use Rattle.ic_batch.specs.declared.fault.Difference.TheVariants as difference
+use Rattle.ic_exits.specs.declared.failure.Failure.{Failure}
+use Rattle.ic_exits.specs.declared.failure.Failure.TheVariants.{Words, Stream, Disk, Locked, Create, NotEmpty, Open, Serve, Attend, Dump, Inspect, Jobs, Batch, Faults, NotDone}
+use Rattle.ic_exits.specs.declared.failure.Failure.TheVariants.{Round, Overgrown, TableFull, OutOfMemory}
+use Rattle.ic_exits.specs.declared.failure.Reached.{Reached}
+use Rattle.ic_by_rounds.specs.declared.refusal.Refusal.{Refusal}
+use Rattle.ic_round.specs.declared.round_fault.RoundFault.{RoundFault}
+use Rattle.ic_round.specs.declared.round_fault.RoundFault.TheVariants as round
+
+-- of a file that is no disk
+abbrev pub no_disk : List ℕ
+no_disk = codes "the file is no disk; `icserve create --disk F` makes a new file F one"
+
+-- of a file that isn't empty
+abbrev pub not_empty : List ℕ
+not_empty = codes "the file holds something; `--overwrite` makes it an empty disk all the same"
+
+-- of a file that no server has left so
+abbrev pub not_as_left : List ℕ
+not_as_left = codes "something else has changed the file, or it was copied in part"
+
+-- the line that says this of the file of a path
+abbrev pub shown_of : (path words : List ℕ) → List ℕ
+shown_of path words = shown_path path ++ codes ": " ++ words ++ 10 ∷ []
+
+-- where no disk is made
+abbrev pub create_lines : CreateFault → List ℕ → Option Cause → List ℕ
+create_lines creating.Device path cause = cause_line path cause
+create_lines creating.Memory path cause = []
+
+-- where a disk isn't opened
+abbrev pub open_lines : OpenCause → List ℕ → Option Cause → List ℕ
+open_lines opening.Device path cause = cause_line path cause
+open_lines opening.NoSlot path cause = shown_of path no_disk
+open_lines opening.TwoAlike path cause = shown_of path not_as_left
+open_lines opening.Damaged path cause = shown_of path not_as_left
+open_lines opening.Memory path cause = []
+
+-- where a book refuses
+abbrev pub book_lines : BookFault → List ℕ → Option Cause → List ℕ
+book_lines book.Broken path cause = cause_line path cause
+book_lines book.Device path cause = cause_line path cause
+book_lines book.LogFull path cause = []
+book_lines book.Worn path cause = []
+book_lines book.Memory path cause = []
+
+-- these lines, where a call to standard input has failed
+abbrev pub lines_of_input : Target → List ℕ → List ℕ
+lines_of_input target.Input lines = lines
+lines_of_input target.File lines = []
+lines_of_input target.Folder lines = []
+lines_of_input target.StandIn lines = []
+
+-- where standard input can't be read
+abbrev pub input_lines : List ℕ → Option Cause → List ℕ
+input_lines path None = []
+input_lines path (Some cause) = lines_of_input cause.target (cause_line path (Some cause))
+
+-- where a stream isn't answered
+abbrev pub stream_lines : StreamFault → List ℕ → Option Cause → List ℕ
+stream_lines stream.Read path cause = input_lines path cause
+stream_lines (stream.Text fault) path cause = []
+stream_lines (stream.Round fault) path cause = []
+stream_lines stream.Memory path cause = []
+stream_lines stream.Write path cause = []
+
+-- where a serving ended
+abbrev pub serve_lines : ServeFault → List ℕ → Option Cause → List ℕ
+serve_lines (serve.Book fault) path cause = book_lines fault path cause
+serve_lines serve.Read path cause = input_lines path cause
+serve_lines serve.Write path cause = []
+serve_lines serve.TooManyLines path cause = []
+serve_lines (serve.Pool fault) path cause = []
+serve_lines serve.LongLine path cause = []
+serve_lines serve.Memory path cause = []
+
+-- where scripts aren't attended to, or not in full
+abbrev pub scripts_lines : ScriptsFault → List ℕ → Option Cause → List ℕ
+scripts_lines (scripts.Open fault) path cause = open_lines fault path cause
+scripts_lines (scripts.Book fault) path cause = book_lines fault path cause
+scripts_lines scripts.Read path cause = []
+scripts_lines (scripts.Script place refusal) path cause = []
+scripts_lines scripts.NoThread path cause = []
+scripts_lines scripts.Torn path cause = []
+scripts_lines (scripts.Pool fault) path cause = []
+scripts_lines scripts.Memory path cause = []
+scripts_lines scripts.Write path cause = []
+
+-- where a file isn't shown
+abbrev pub inspect_lines : InspectFault → List ℕ → Option Cause → List ℕ
+inspect_lines inspect.Read path cause = cause_line path cause
+inspect_lines inspect.Changed path cause = []
+inspect_lines inspect.Memory path cause = []
+inspect_lines inspect.Write path cause = []
+
+-- of a disk that has another job of a name
+abbrev pub taken_words : Difference → List ℕ
+taken_words difference.Rules = codes "its job of this name has other rules"
+taken_words difference.Budget = codes "its job of this name has another budget"
+taken_words difference.Start = codes "its job of this name begins with another configuration"
+
+-- of a disk that has no room
+abbrev pub no_room : List ℕ
+no_room = codes "it has jobs of other names, and no disk has more than 32"
+
+-- where jobs aren't brought to their ends
+abbrev pub batch_lines : BatchFault → List ℕ → Option Cause → List ℕ
+batch_lines (batch.Taken name is) path cause = shown_of path (taken_words is)
+batch_lines batch.Full path cause = shown_of path no_room
+batch_lines (batch.Serve fault) path cause = serve_lines fault path cause
+
+-- how far a net has come that is reduced in place
+abbrev pub reached_text : Reached → List ℕ
+reached_text reached = codes "interactions " ++ decimal reached.interactions
+    ++ codes ", places " ++ decimal reached.places
+
+-- where memory ran out, or a table is full
+abbrev pub reached_lines : Reached → List ℕ
+reached_lines reached = reached_text reached ++ 10 ∷ []
+
+-- where it has more than so many places
+abbrev pub overgrown_lines : Reached → ℕ → List ℕ
+overgrown_lines reached nodes =
+    reached_text reached ++ codes ", --nodes " ++ decimal nodes ++ 10 ∷ []
+
+-- the most nodes that a round may lead to, where they are why it is refused
+abbrev pub limit_text : RoundFault → List ℕ
+limit_text round.Overgrown = codes ", at most 8192"
+limit_text round.NamesOut = []
+limit_text round.Memory = []
+
+-- which round is refused, and how many nodes there are before it
+abbrev pub round_lines : Refusal → List ℕ
+round_lines refusal = codes "round " ++ decimal refusal.round ++ codes ", nodes "
+    ++ decimal refusal.nodes ++ limit_text refusal.fault ++ 10 ∷ []
+
+-- what standard error is told behind the line of a failure, where the disk is in the file of this
+-- path and the cause is that of the last call to it, or to standard input, that has failed
+abbrev pub lines_behind : Failure → List ℕ → Option Cause → List ℕ
+lines_behind (Disk fault) path cause = cause_line path cause
+lines_behind Locked path cause = cause_line path cause
+lines_behind (Create fault) path cause = create_lines fault path cause
+lines_behind NotEmpty path cause = shown_of path not_empty
+lines_behind (Open fault) path cause = open_lines fault path cause
+lines_behind (Serve fault) path cause = serve_lines fault path cause
+lines_behind (Attend fault) path cause = scripts_lines fault path cause
+lines_behind (Dump fault) path cause = []
+lines_behind (Jobs fault) path cause = []
+lines_behind (Batch fault) path cause = batch_lines fault path cause
+lines_behind (Inspect fault) path cause = inspect_lines fault path cause
+lines_behind (Words fault) path cause = []
+lines_behind (Stream fault) path cause = stream_lines fault path cause
+lines_behind Faults path cause = []
+lines_behind NotDone path cause = []
+lines_behind (Round refusal) path cause = round_lines refusal
+lines_behind (Overgrown reached nodes) path cause = overgrown_lines reached nodes
+lines_behind (TableFull reached) path cause = reached_lines reached
+lines_behind (OutOfMemory reached) path cause = reached_lines reached

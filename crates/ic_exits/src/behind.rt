@@ -1,0 +1,278 @@
+//! What is told behind the line of a failure: why a disk's file doesn't serve, or standard input can't
+//! be read, which round is refused, or how far a net has come that was reduced in place.
+
+ghost use Rattle.std.specs.Prelude.{◌≡◌, IfOk};
+ghost use Rattle.ic_exits.specs.Behind.{book_lines, create_lines, lines_behind, open_lines, scripts_lines};
+ghost use Rattle.ic_exits.specs.Behind.{batch_lines, input_lines, inspect_lines, limit_text, overgrown_lines, reached_lines, reached_text, round_lines};
+ghost use Rattle.ic_exits.specs.Behind.{serve_lines, shown_of, stream_lines, taken_words};
+
+use crate::{Failure, Reached};
+use ic_batch::{BatchFault, Difference};
+use ic_book::BookFault;
+use ic_by_rounds::Refusal;
+use ic_causes::{Cause, Target, cause_line, shown_path};
+use ic_inspect::InspectFault;
+use ic_round::RoundFault;
+use ic_scripts::ScriptsFault;
+use ic_serving::ServeFault;
+use ic_slots::{CreateFault, OpenCause};
+use ic_streams::StreamFault;
+use std::alloc::{AllocError, Global};
+
+/// What is said of a file that is no disk.
+const NO_DISK: &[u8] = b"the file is no disk; `icserve create --disk F` makes a new file F one";
+
+/// What is said of a file that isn't empty.
+const NOT_EMPTY: &[u8] =
+    b"the file holds something; `--overwrite` makes it an empty disk all the same";
+
+/// What is said of a file that no server has left so.
+const NOT_AS_LEFT: &[u8] = b"something else has changed the file, or it was copied in part";
+
+/// What is said of a disk that has no room.
+const NO_ROOM: &[u8] = b"it has jobs of other names, and no disk has more than 32";
+
+impl Failure {
+    /// What standard error is told behind the line of the failure, where the disk is in the file of
+    /// this path and the cause is that of the last call to it, or to standard input, that has failed:
+    /// a line, or nothing.
+    pub fn lines_behind(
+        &self,
+        alloc: Global,
+        path: &[u8],
+        cause: Option<Cause>,
+    ) -> Result<Vec<u8>, AllocError>
+        ensures { IfOk result (λ lines. lines.items ≡ lines_behind self.now path.now cause) }
+    {
+        match self {
+            Failure::Disk(_) | Failure::Locked => cause_line(alloc, path, cause),
+            Failure::Create(fault) => create_lines(alloc, *fault, path, cause),
+            Failure::NotEmpty => said_of(alloc, path, NOT_EMPTY),
+            Failure::Open(fault) => open_lines(alloc, *fault, path, cause),
+            Failure::Serve(fault) => serve_lines(alloc, *fault, path, cause),
+            Failure::Attend(fault) => scripts_lines(alloc, *fault, path, cause),
+            Failure::Stream(fault) => stream_lines(alloc, *fault, path, cause),
+            Failure::Words(_) | Failure::NotDone => Ok(Vec::new(alloc)),
+            Failure::Round(refusal) => round_lines(alloc, *refusal),
+            Failure::Overgrown(reached, nodes) => overgrown_lines(alloc, *reached, *nodes),
+            Failure::TableFull(reached) | Failure::OutOfMemory(reached) => {
+                reached_lines(alloc, *reached)
+            }
+            Failure::Dump(_) | Failure::Jobs(_) | Failure::Faults => Ok(Vec::new(alloc)),
+            Failure::Batch(fault) => batch_lines(alloc, *fault, path, cause),
+            Failure::Inspect(fault) => inspect_lines(alloc, *fault, path, cause),
+        }
+    }
+}
+
+/// Which round is refused, how many nodes there are before it, and how many a round may lead to.
+fn round_lines(alloc: Global, refusal: Refusal) -> Result<Vec<u8>, AllocError>
+    ensures { IfOk result (λ line. line.items ≡ round_lines refusal) }
+{
+    let mut line = b"round ".to_vec(alloc)?;
+    line.extend_from_slice(refusal.round.to_string(alloc)?.as_bytes())?;
+    line.extend_from_slice(b", nodes ")?;
+    line.extend_from_slice(refusal.nodes.to_string(alloc)?.as_bytes())?;
+    line.extend_from_slice(limit_text(refusal.fault))?;
+    line.push(b'\n')?;
+    Ok(line)
+}
+
+/// The most nodes that a round may lead to, where they are why it is refused.
+fn limit_text(fault: RoundFault) -> &'static [u8]
+    ensures { result.now ≡ limit_text fault }
+{
+    match fault {
+        RoundFault::Overgrown => b", at most 8192",
+        RoundFault::NamesOut | RoundFault::Memory => b"",
+    }
+}
+
+/// How far a net has come that has more than so many places.
+fn overgrown_lines(alloc: Global, reached: Reached, nodes: u64) -> Result<Vec<u8>, AllocError>
+    ensures { IfOk result (λ line. line.items ≡ overgrown_lines reached nodes) }
+{
+    let mut line = reached_text(alloc, reached)?;
+    line.extend_from_slice(b", --nodes ")?;
+    line.extend_from_slice(nodes.to_string(alloc)?.as_bytes())?;
+    line.push(b'\n')?;
+    Ok(line)
+}
+
+/// How far a net has come.
+fn reached_lines(alloc: Global, reached: Reached) -> Result<Vec<u8>, AllocError>
+    ensures { IfOk result (λ line. line.items ≡ reached_lines reached) }
+{
+    let mut line = reached_text(alloc, reached)?;
+    line.push(b'\n')?;
+    Ok(line)
+}
+
+/// What is told of how far a net has come.
+fn reached_text(alloc: Global, reached: Reached) -> Result<Vec<u8>, AllocError>
+    ensures { IfOk result (λ text. text.items ≡ reached_text reached) }
+{
+    let mut text = b"interactions ".to_vec(alloc)?;
+    text.extend_from_slice(reached.interactions.to_string(alloc)?.as_bytes())?;
+    text.extend_from_slice(b", places ")?;
+    text.extend_from_slice(reached.places.to_string(alloc)?.as_bytes())?;
+    Ok(text)
+}
+
+fn inspect_lines(
+    alloc: Global,
+    fault: InspectFault,
+    path: &[u8],
+    cause: Option<Cause>,
+) -> Result<Vec<u8>, AllocError>
+    ensures { IfOk result (λ lines. lines.items ≡ inspect_lines fault path.now cause) }
+{
+    match fault {
+        InspectFault::Read => cause_line(alloc, path, cause),
+        InspectFault::Changed | InspectFault::Memory | InspectFault::Write => Ok(Vec::new(alloc)),
+    }
+}
+
+fn create_lines(
+    alloc: Global,
+    fault: CreateFault,
+    path: &[u8],
+    cause: Option<Cause>,
+) -> Result<Vec<u8>, AllocError>
+    ensures { IfOk result (λ lines. lines.items ≡ create_lines fault path.now cause) }
+{
+    match fault {
+        CreateFault::Device => cause_line(alloc, path, cause),
+        CreateFault::Memory => Ok(Vec::new(alloc)),
+    }
+}
+
+fn open_lines(
+    alloc: Global,
+    fault: OpenCause,
+    path: &[u8],
+    cause: Option<Cause>,
+) -> Result<Vec<u8>, AllocError>
+    ensures { IfOk result (λ lines. lines.items ≡ open_lines fault path.now cause) }
+{
+    match fault {
+        OpenCause::Device => cause_line(alloc, path, cause),
+        OpenCause::NoSlot => said_of(alloc, path, NO_DISK),
+        OpenCause::TwoAlike | OpenCause::Damaged => said_of(alloc, path, NOT_AS_LEFT),
+        OpenCause::Memory => Ok(Vec::new(alloc)),
+    }
+}
+
+fn book_lines(
+    alloc: Global,
+    fault: BookFault,
+    path: &[u8],
+    cause: Option<Cause>,
+) -> Result<Vec<u8>, AllocError>
+    ensures { IfOk result (λ lines. lines.items ≡ book_lines fault path.now cause) }
+{
+    match fault {
+        BookFault::Broken | BookFault::Device => cause_line(alloc, path, cause),
+        BookFault::LogFull | BookFault::Worn | BookFault::Memory => Ok(Vec::new(alloc)),
+    }
+}
+
+fn serve_lines(
+    alloc: Global,
+    fault: ServeFault,
+    path: &[u8],
+    cause: Option<Cause>,
+) -> Result<Vec<u8>, AllocError>
+    ensures { IfOk result (λ lines. lines.items ≡ serve_lines fault path.now cause) }
+{
+    match fault {
+        ServeFault::Book(refused) => book_lines(alloc, refused, path, cause),
+        ServeFault::Read => input_lines(alloc, path, cause),
+        ServeFault::Write | ServeFault::Pool(_) | ServeFault::Memory => Ok(Vec::new(alloc)),
+        ServeFault::TooManyLines | ServeFault::LongLine => Ok(Vec::new(alloc)),
+    }
+}
+
+fn scripts_lines(
+    alloc: Global,
+    fault: ScriptsFault,
+    path: &[u8],
+    cause: Option<Cause>,
+) -> Result<Vec<u8>, AllocError>
+    ensures { IfOk result (λ lines. lines.items ≡ scripts_lines fault path.now cause) }
+{
+    match fault {
+        ScriptsFault::Open(refused) => open_lines(alloc, refused, path, cause),
+        ScriptsFault::Book(refused) => book_lines(alloc, refused, path, cause),
+        ScriptsFault::Read | ScriptsFault::Script(_, _) | ScriptsFault::NoThread => {
+            Ok(Vec::new(alloc))
+        }
+        ScriptsFault::Torn | ScriptsFault::Pool(_) => Ok(Vec::new(alloc)),
+        ScriptsFault::Memory | ScriptsFault::Write => Ok(Vec::new(alloc)),
+    }
+}
+
+fn stream_lines(
+    alloc: Global,
+    fault: StreamFault,
+    path: &[u8],
+    cause: Option<Cause>,
+) -> Result<Vec<u8>, AllocError>
+    ensures { IfOk result (λ lines. lines.items ≡ stream_lines fault path.now cause) }
+{
+    match fault {
+        StreamFault::Read => input_lines(alloc, path, cause),
+        StreamFault::Text(_) | StreamFault::Round(_) => Ok(Vec::new(alloc)),
+        StreamFault::Memory | StreamFault::Write => Ok(Vec::new(alloc)),
+    }
+}
+
+/// Why standard input can't be read, where that is what has failed last.
+fn input_lines(alloc: Global, path: &[u8], cause: Option<Cause>) -> Result<Vec<u8>, AllocError>
+    ensures { IfOk result (λ lines. lines.items ≡ input_lines path.now cause) }
+{
+    let Some(failed) = cause else {
+        return Ok(Vec::new(alloc));
+    };
+    match failed.target {
+        Target::Input => cause_line(alloc, path, Some(failed)),
+        Target::File | Target::Folder | Target::StandIn => Ok(Vec::new(alloc)),
+    }
+}
+
+fn batch_lines(
+    alloc: Global,
+    fault: BatchFault,
+    path: &[u8],
+    cause: Option<Cause>,
+) -> Result<Vec<u8>, AllocError>
+    ensures { IfOk result (λ lines. lines.items ≡ batch_lines fault path.now cause) }
+{
+    match fault {
+        BatchFault::Taken(_, difference) => said_of(alloc, path, taken_words(difference)),
+        BatchFault::Full => said_of(alloc, path, NO_ROOM),
+        BatchFault::Serve(fault) => serve_lines(alloc, fault, path, cause),
+    }
+}
+
+/// What is said of a disk that has another job of a name.
+fn taken_words(difference: Difference) -> &'static [u8]
+    ensures { result.now ≡ taken_words difference }
+{
+    match difference {
+        Difference::Rules => b"its job of this name has other rules",
+        Difference::Budget => b"its job of this name has another budget",
+        Difference::Start => b"its job of this name begins with another configuration",
+    }
+}
+
+/// The line that says this of the file of a path.
+fn said_of(alloc: Global, path: &[u8], words: &[u8]) -> Result<Vec<u8>, AllocError>
+    ensures { IfOk result (λ line. line.items ≡ shown_of path.now words.now) }
+{
+    let mut line = shown_path(alloc, path)?;
+    line.extend_from_slice(b": ")?;
+    line.extend_from_slice(words)?;
+    line.push(b'\n')?;
+    Ok(line)
+}

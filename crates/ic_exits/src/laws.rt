@@ -1,0 +1,353 @@
+//! Laws of what the program makes of its failures.
+
+ghost use Rattle.std.specs.Prelude.{◌≡◌, ◌≢◌, ℕ, List, [], ◌∷◌, ◌++◌, Option, None, Some, Ok, Err, map, codes, string_bytes};
+ghost use Rattle.std.specs.Fmt.{decimal};
+ghost use Rattle.ic_disk.specs.declared.disk.DiskFault.{DiskFault};
+ghost use Rattle.ic_text.specs.Text.{fault_text};
+ghost use Rattle.ic_text.specs.declared.fault.TextFault.{TextFault};
+ghost use Rattle.ic_round.specs.declared.round_fault.RoundFault.{RoundFault};
+ghost use Rattle.ic_round.specs.declared.round_fault.RoundFault.TheVariants as round;
+ghost use Rattle.ic_pool.specs.declared.fault.PoolFault.{PoolFault};
+ghost use Rattle.ic_frames.specs.declared.faults.OpenCause.{OpenCause};
+ghost use Rattle.ic_frames.specs.declared.faults.OpenCause.TheVariants as opening;
+ghost use Rattle.ic_slots.specs.declared.fault.CreateFault.{CreateFault};
+ghost use Rattle.ic_slots.specs.declared.fault.CreateFault.TheVariants as creating;
+ghost use Rattle.ic_book.specs.declared.fault.BookFault.{BookFault};
+ghost use Rattle.ic_book.specs.declared.fault.BookFault.TheVariants as book;
+ghost use Rattle.ic_streams.specs.declared.fault.StreamFault.TheVariants as stream;
+ghost use Rattle.ic_serving.specs.declared.fault.ServeFault.{ServeFault};
+ghost use Rattle.ic_serving.specs.declared.fault.ServeFault.TheVariants as serve;
+ghost use Rattle.ic_args.specs.declared.words.WordsFault.TheVariants as words;
+ghost use Rattle.ic_dump.specs.declared.fault.DumpFault.{DumpFault};
+ghost use Rattle.ic_dump.specs.declared.fault.DumpFault.TheVariants as dump;
+ghost use Rattle.ic_dump.specs.declared.fault.DiskDumpFault.TheVariants as disk_dump;
+ghost use Rattle.ic_check.specs.declared.files.Verdict.TheVariants as verdict;
+ghost use Rattle.ic_inspect.specs.declared.fault.InspectFault.TheVariants as inspect;
+ghost use Rattle.ic_lines.specs.declared.script.ScriptFault.{ScriptFault};
+ghost use Rattle.ic_scripts.specs.declared.fault.ScriptsFault.TheVariants as scripts;
+ghost use Rattle.ic_exits.specs.declared.failure.Failure.TheVariants.{Words, Stream, Disk, Locked, Create, NotEmpty, Open, Serve, Attend, Dump, Inspect, Jobs, Batch, Faults, NotDone};
+ghost use Rattle.ic_exits.specs.declared.failure.Failure.TheVariants.{Round, Overgrown, TableFull, OutOfMemory};
+ghost use Rattle.ic_by_rounds.specs.declared.refusal.Refusal.{Refusal};
+ghost use Rattle.ic_exits.specs.declared.failure.Reached.{Reached};
+ghost use Rattle.ic_in_place.specs.declared.running.End.TheVariants as end;
+ghost use Rattle.ic_jobs.specs.declared.reply.Refusal.TheVariants.{Taken, Full};
+ghost use Rattle.ic_batch.specs.declared.fault.JobsCause.{JobsCause};
+ghost use Rattle.ic_batch.specs.declared.fault.JobsCause.TheVariants as cause_of_line;
+ghost use Rattle.ic_batch.specs.declared.fault.JobsFault.{JobsFault};
+ghost use Rattle.ic_batch.specs.declared.fault.JobsFault.TheVariants as jobs;
+ghost use Rattle.ic_batch.specs.declared.fault.BatchFault.TheVariants as batch;
+ghost use Rattle.ic_batch.specs.declared.fault.Difference.{Difference};
+ghost use Rattle.ic_batch.specs.declared.fault.Difference.TheVariants as difference;
+ghost use Rattle.ic_causes.specs.declared.cause.FileCall.{FileCall};
+ghost use Rattle.ic_causes.specs.declared.cause.Reason.TheVariants as reason;
+ghost use Rattle.ic_exits.specs.Endings.{status_of, check_ending, failure_line, failure_of_dump, opening_failure, reduce_ending, stuck_line};
+ghost use Rattle.ic_exits.specs.Behind.{lines_behind};
+ghost use Rattle.ic_causes.specs.declared.cause.Cause.{Cause};
+ghost use Rattle.ic_causes.specs.declared.cause.Target.{Target};
+ghost use Rattle.ic_causes.specs.declared.cause.Target.TheVariants.{Input};
+ghost use Rattle.ic_causes.specs.Causes.{cause_line, shown_path};
+
+/// The exit status is 2 for refused words, 1 for a refused text, round, script or job and for a net
+/// that is too large, 3 for a disk that isn't made or opened, 5 for rounds or interactions that
+/// didn't suffice, 6 for a disk that another server has, and 4 for all else.
+pub fn statuses_are(text: &String)
+    ensures words { status_of (Words (words.Words text.now)) ≡ 2 }
+    ensures text { (fault : TextFault) → status_of (Stream (stream.Text fault)) ≡ 1 }
+    ensures round { (fault : RoundFault) → status_of (Stream (stream.Round fault)) ≡ 1 }
+    ensures rounds { (refusal : Refusal) → status_of (Round refusal) ≡ 1 }
+    ensures file { (fault : DiskFault) → status_of (Disk fault) ≡ 3 }
+    ensures create { (fault : CreateFault) → status_of (Create fault) ≡ 3 }
+    ensures not_empty { status_of NotEmpty ≡ 3 }
+    ensures open { (cause : OpenCause) → status_of (Open cause) ≡ 3 }
+    ensures serve { (fault : ServeFault) → status_of (Serve fault) ≡ 4 }
+    ensures script { (place : ℕ) (refusal : ScriptFault)
+        → status_of (Attend (scripts.Script place refusal)) ≡ 1 }
+    ensures attended { (cause : OpenCause) → status_of (Attend (scripts.Open cause)) ≡ 3 }
+    ensures stopped { (fault : BookFault) → status_of (Attend (scripts.Book fault)) ≡ 4 }
+    ensures pool { (fault : PoolFault) → status_of (Attend (scripts.Pool fault)) ≡ 4 }
+    ensures no_job { (name : List ℕ) → status_of (Dump (dump.NoJob name)) ≡ 1 }
+    ensures long_job { (name : List ℕ) → status_of (Dump (dump.TooLong name)) ≡ 1 }
+    ensures dumped { map status_of (Dump dump.Memory ∷ Dump dump.Write ∷ []) ≡ 4 ∷ 4 ∷ [] }
+    ensures inspected { map status_of (Inspect inspect.Read ∷ Inspect inspect.Changed
+        ∷ Inspect inspect.Memory ∷ Inspect inspect.Write ∷ []) ≡ 3 ∷ 3 ∷ 4 ∷ 4 ∷ [] }
+    ensures lines { (line : ℕ) (cause : JobsCause) → status_of (Jobs (jobs.Line line cause)) ≡ 1 }
+    ensures unread { map status_of (Jobs jobs.Read ∷ Jobs jobs.Memory ∷ []) ≡ 4 ∷ 4 ∷ [] }
+    ensures taken { (name : List ℕ) (is : Difference) → status_of (Batch (batch.Taken name is)) ≡ 1 }
+    ensures full { status_of (Batch batch.Full) ≡ 1 }
+    ensures stopped_batch { (fault : ServeFault) → status_of (Batch (batch.Serve fault)) ≡ 4 }
+    ensures locked { status_of Locked ≡ 6 }
+    ensures faults { status_of Faults ≡ 1 }
+    ensures not_done { status_of NotDone ≡ 5 }
+    ensures overgrown { (reached : Reached) (nodes : ℕ) → status_of (Overgrown reached nodes) ≡ 1 }
+    ensures table_full { (reached : Reached) → status_of (TableFull reached) ≡ 1 }
+    ensures no_memory { (reached : Reached) → status_of (OutOfMemory reached) ≡ 4 }
+    ensures others { map status_of (Words words.Memory ∷ Stream stream.Read ∷ Stream stream.Memory
+        ∷ Stream stream.Write ∷ []) ≡ 4 ∷ 4 ∷ 4 ∷ 4 ∷ [] }
+    ensures attend { map status_of (Attend scripts.Read ∷ Attend scripts.NoThread
+        ∷ Attend scripts.Torn ∷ Attend scripts.Memory ∷ Attend scripts.Write ∷ []) ≡ 4 ∷ 4 ∷ 4 ∷ 4 ∷ 4 ∷ [] }
+{}
+
+/// The line on standard error of refused words, and of each failure of `settle` and `once`.
+pub fn lines_of_streams_are(text: &String)
+    ensures words { failure_line (Words (words.Words text.now)) ≡ string_bytes text.now }
+    ensures no_memory { failure_line (Words words.Memory) ≡ codes "icserve: memory" ++ 10 ∷ [] }
+    ensures read { failure_line (Stream stream.Read) ≡ codes "icserve: read" ++ 10 ∷ [] }
+    ensures text { (fault : TextFault) → failure_line (Stream (stream.Text fault))
+        ≡ codes "icserve: " ++ fault_text fault ++ 10 ∷ [] }
+    ensures overgrown { failure_line (Stream (stream.Round round.Overgrown))
+        ≡ codes "icserve: overgrown" ++ 10 ∷ [] }
+    ensures names_out { failure_line (Stream (stream.Round round.NamesOut))
+        ≡ codes "icserve: names out" ++ 10 ∷ [] }
+    ensures round_memory { failure_line (Stream (stream.Round round.Memory))
+        ≡ codes "icserve: memory" ++ 10 ∷ [] }
+    ensures memory { failure_line (Stream stream.Memory) ≡ codes "icserve: memory" ++ 10 ∷ [] }
+    ensures write { failure_line (Stream stream.Write) ≡ codes "icserve: write" ++ 10 ∷ [] }
+{}
+
+/// The line on standard error of each reason why a disk isn't made or opened.
+pub fn lines_of_disks_are()
+    ensures file { (fault : DiskFault) → failure_line (Disk fault)
+        ≡ codes "icserve: device" ++ 10 ∷ [] }
+    ensures locked { failure_line Locked ≡ codes "icserve: locked" ++ 10 ∷ [] }
+    ensures created { failure_line (Create creating.Device) ≡ codes "icserve: device" ++ 10 ∷ [] }
+    ensures no_memory { failure_line (Create creating.Memory)
+        ≡ codes "icserve: memory" ++ 10 ∷ [] }
+    ensures not_empty { failure_line NotEmpty ≡ codes "icserve: not empty" ++ 10 ∷ [] }
+    ensures device { failure_line (Open opening.Device) ≡ codes "icserve: device" ++ 10 ∷ [] }
+    ensures no_slot { failure_line (Open opening.NoSlot) ≡ codes "icserve: no slot" ++ 10 ∷ [] }
+    ensures two_alike { failure_line (Open opening.TwoAlike)
+        ≡ codes "icserve: two alike" ++ 10 ∷ [] }
+    ensures damaged { failure_line (Open opening.Damaged) ≡ codes "icserve: damaged" ++ 10 ∷ [] }
+    ensures memory { failure_line (Open opening.Memory) ≡ codes "icserve: memory" ++ 10 ∷ [] }
+{}
+
+/// The line on standard error of each fault of a serving.
+pub fn lines_of_servings_are()
+    ensures read { failure_line (Serve serve.Read) ≡ codes "icserve: read" ++ 10 ∷ [] }
+    ensures write { failure_line (Serve serve.Write) ≡ codes "icserve: write" ++ 10 ∷ [] }
+    ensures too_many_lines { failure_line (Serve serve.TooManyLines)
+        ≡ codes "icserve: too many lines" ++ 10 ∷ [] }
+    ensures broken { failure_line (Serve (serve.Book book.Broken))
+        ≡ codes "icserve: broken" ++ 10 ∷ [] }
+    ensures log_full { failure_line (Serve (serve.Book book.LogFull))
+        ≡ codes "icserve: log full" ++ 10 ∷ [] }
+    ensures worn { failure_line (Serve (serve.Book book.Worn)) ≡ codes "icserve: worn" ++ 10 ∷ [] }
+    ensures book_memory { failure_line (Serve (serve.Book book.Memory))
+        ≡ codes "icserve: memory" ++ 10 ∷ [] }
+    ensures device { failure_line (Serve (serve.Book book.Device))
+        ≡ codes "icserve: device" ++ 10 ∷ [] }
+    ensures pool { (fault : PoolFault) → failure_line (Serve (serve.Pool fault))
+        ≡ codes "icserve: pool" ++ 10 ∷ [] }
+    ensures long_line { failure_line (Serve serve.LongLine)
+        ≡ codes "icserve: long line" ++ 10 ∷ [] }
+    ensures memory { failure_line (Serve serve.Memory) ≡ codes "icserve: memory" ++ 10 ∷ [] }
+{}
+
+/// The line on standard error of each fault of `attend`. That of a script has its place, from 0,
+/// the line, from 1, and what is wrong with it.
+pub fn lines_of_attendances_are()
+    ensures script { (place line : ℕ) (fault : TextFault)
+        → failure_line (Attend (scripts.Script place (record { line = line; fault = fault })))
+        ≡ codes "icserve: script " ++ decimal place ++ codes " line " ++ decimal line ++ codes ": "
+        ++ fault_text fault ++ 10 ∷ [] }
+    ensures read { failure_line (Attend scripts.Read) ≡ codes "icserve: read" ++ 10 ∷ [] }
+    ensures no_slot { failure_line (Attend (scripts.Open opening.NoSlot))
+        ≡ codes "icserve: no slot" ++ 10 ∷ [] }
+    ensures opened { (cause : OpenCause)
+        → failure_line (Attend (scripts.Open cause)) ≡ failure_line (Open cause) }
+    ensures no_thread { failure_line (Attend scripts.NoThread)
+        ≡ codes "icserve: no thread" ++ 10 ∷ [] }
+    ensures torn { failure_line (Attend scripts.Torn) ≡ codes "icserve: torn" ++ 10 ∷ [] }
+    ensures stopped { (fault : BookFault)
+        → failure_line (Attend (scripts.Book fault)) ≡ failure_line (Serve (serve.Book fault)) }
+    ensures pool { (fault : PoolFault) → failure_line (Attend (scripts.Pool fault))
+        ≡ codes "icserve: pool" ++ 10 ∷ [] }
+    ensures memory { failure_line (Attend scripts.Memory) ≡ codes "icserve: memory" ++ 10 ∷ [] }
+    ensures write { failure_line (Attend scripts.Write) ≡ codes "icserve: write" ++ 10 ∷ [] }
+{}
+
+/// The line on standard error of each fault of `dump`. That of a job has its name.
+pub fn lines_of_dumps_are()
+    ensures no_job { (name : List ℕ) → failure_line (Dump (dump.NoJob name))
+        ≡ codes "icserve: no job " ++ name ++ 10 ∷ [] }
+    ensures too_long { (name : List ℕ) → failure_line (Dump (dump.TooLong name))
+        ≡ codes "icserve: too long " ++ name ++ 10 ∷ [] }
+    ensures memory { failure_line (Dump dump.Memory) ≡ codes "icserve: memory" ++ 10 ∷ [] }
+    ensures write { failure_line (Dump dump.Write) ≡ codes "icserve: write" ++ 10 ∷ [] }
+{}
+
+/// The line on standard error of each fault of `batch`. That of a line has its number, from 1, and what
+/// is wrong with it, or what answers it on a disk that has the jobs of the lines before.
+pub fn lines_of_batches_are()
+    ensures text { (line : ℕ) (fault : TextFault)
+        → failure_line (Jobs (jobs.Line line (cause_of_line.Text fault)))
+        ≡ codes "icserve: line " ++ decimal line ++ codes ": " ++ fault_text fault ++ 10 ∷ [] }
+    ensures twice { (line : ℕ)
+        → failure_line (Jobs (jobs.Line line (cause_of_line.Refused Taken)))
+        ≡ codes "icserve: line " ++ decimal line ++ codes ": refused taken" ++ 10 ∷ [] }
+    ensures many { (line : ℕ)
+        → failure_line (Jobs (jobs.Line line (cause_of_line.Refused Full)))
+        ≡ codes "icserve: line " ++ decimal line ++ codes ": refused full" ++ 10 ∷ [] }
+    ensures read { failure_line (Jobs jobs.Read) ≡ codes "icserve: read" ++ 10 ∷ [] }
+    ensures memory { failure_line (Jobs jobs.Memory) ≡ codes "icserve: memory" ++ 10 ∷ [] }
+    ensures taken { (name : List ℕ) (is : Difference) → failure_line (Batch (batch.Taken name is))
+        ≡ codes "icserve: taken " ++ name ++ 10 ∷ [] }
+    ensures full { failure_line (Batch batch.Full) ≡ codes "icserve: full" ++ 10 ∷ [] }
+    ensures stopped { (fault : ServeFault)
+        → failure_line (Batch (batch.Serve fault)) ≡ failure_line (Serve fault) }
+{}
+
+/// A disk is locked exactly where its file's lock was refused since another open of it holds it.
+pub fn openings_end_so()
+    ensures locked { (fault : DiskFault) (target : Target) (call : FileCall)
+        → opening_failure fault (Some (record {
+          target = target;
+          call = call;
+          reason = reason.Locked;
+        })) ≡ Locked }
+    ensures untold { (fault : DiskFault) → opening_failure fault None ≡ Disk fault }
+    ensures others { (fault : DiskFault) (cause : Cause) → cause.reason ≢ reason.Locked
+        → opening_failure fault (Some cause) ≡ Disk fault }
+{}
+
+/// `check` tells a file that can't be read before faults of others, and is fine only where all are.
+/// `dump` of a disk that isn't opened ends as any other opening of it. `reduce` in place is fine only
+/// where no step is possible, and tells what else has ended it, and how far it came.
+pub fn endings_are()
+    ensures reduce { (reached : Reached) (nodes : ℕ) → map (λ why. reduce_ending why reached nodes)
+        (end.Quiet ∷ end.Steps ∷ end.Nodes ∷ end.Limit ∷ end.Memory ∷ [])
+        ≡ Ok tt ∷ Err NotDone ∷ Err (Overgrown reached nodes) ∷ Err (TableFull reached)
+        ∷ Err (OutOfMemory reached) ∷ [] }
+    ensures check { map check_ending (verdict.Fine ∷ verdict.Faulty ∷ verdict.Unread ∷ [])
+        ≡ Ok tt ∷ Err Faults ∷ Err (Stream stream.Read) ∷ [] }
+    ensures open { (cause : OpenCause) → failure_of_dump (disk_dump.Open cause) ≡ Open cause }
+    ensures dump { (fault : DumpFault) → failure_of_dump (disk_dump.Dump fault) ≡ Dump fault }
+{}
+
+/// The line on standard error of each fault of `inspect`.
+pub fn lines_of_inspections_are()
+    ensures read { failure_line (Inspect inspect.Read) ≡ codes "icserve: device" ++ 10 ∷ [] }
+    ensures changed { failure_line (Inspect inspect.Changed)
+        ≡ codes "icserve: changed while read" ++ 10 ∷ [] }
+    ensures memory { failure_line (Inspect inspect.Memory) ≡ codes "icserve: memory" ++ 10 ∷ [] }
+    ensures write { failure_line (Inspect inspect.Write) ≡ codes "icserve: write" ++ 10 ∷ [] }
+{}
+
+/// The line on standard error where a text that was looked over has a fault. The faults themselves
+/// stand on standard output.
+pub fn lines_of_checks_are()
+    ensures faults { failure_line Faults ≡ codes "icserve: faults" ++ 10 ∷ [] }
+{}
+
+/// The line on standard error where rounds or interactions didn't suffice, where a round is refused
+/// after others, where a net that is reduced in place is too large or memory ran out, and that of a
+/// stuck pair.
+pub fn lines_of_looks_are()
+    ensures not_done { failure_line NotDone ≡ codes "icserve: not done" ++ 10 ∷ [] }
+    ensures round { (r nodes : ℕ) → map (λ fault. failure_line
+        (Round (record { fault = fault; round = r; nodes = nodes })))
+        (round.Overgrown ∷ round.NamesOut ∷ [])
+        ≡ (codes "icserve: overgrown" ++ 10 ∷ []) ∷ (codes "icserve: names out" ++ 10 ∷ []) ∷ [] }
+    ensures overgrown { (reached : Reached) (nodes : ℕ)
+        → failure_line (Overgrown reached nodes) ≡ codes "icserve: overgrown" ++ 10 ∷ [] }
+    ensures table_full { (reached : Reached)
+        → failure_line (TableFull reached) ≡ codes "icserve: table full" ++ 10 ∷ [] }
+    ensures no_memory { (reached : Reached)
+        → failure_line (OutOfMemory reached) ≡ codes "icserve: memory" ++ 10 ∷ [] }
+    ensures stuck { (pair : List ℕ) → stuck_line pair
+        ≡ codes "icserve: stuck " ++ pair ++ 10 ∷ [] }
+{}
+
+/// What is told behind the line of a failure: of `device` why the last call to the file has failed,
+/// of a disk that isn't opened what is wrong with the file, of a `read` of standard input why it has
+/// failed, of a refused round its number and the nodes before it, of a net that is reduced in place
+/// how far it came, and of all else nothing.
+pub fn lines_behind_are(text: &String)
+    ensures round_overgrown { (r nodes : ℕ) (path : List ℕ) (cause : Option Cause)
+        → lines_behind
+        (Round (record { fault = round.Overgrown; round = r; nodes = nodes })) path cause ≡ codes "round " ++ decimal r ++ codes ", nodes " ++ decimal nodes
+        ++ codes ", at most 8192" ++ 10 ∷ [] }
+    ensures names_out { (r nodes : ℕ) (path : List ℕ) (cause : Option Cause)
+        → lines_behind
+        (Round (record { fault = round.NamesOut; round = r; nodes = nodes })) path cause ≡ codes "round " ++ decimal r ++ codes ", nodes " ++ decimal nodes ++ 10 ∷ [] }
+    ensures overgrown { (i p nodes : ℕ) (path : List ℕ) (cause : Option Cause)
+        → lines_behind (Overgrown (record { interactions = i; places = p }) nodes) path cause
+        ≡ codes "interactions " ++ decimal i ++ codes ", places " ++ decimal p
+        ++ codes ", --nodes " ++ decimal nodes ++ 10 ∷ [] }
+    ensures table_full { (i p : ℕ) (path : List ℕ) (cause : Option Cause)
+        → lines_behind (TableFull (record { interactions = i; places = p })) path cause
+        ≡ codes "interactions " ++ decimal i ++ codes ", places " ++ decimal p ++ 10 ∷ [] }
+    ensures no_memory { (reached : Reached) (path : List ℕ) (cause : Option Cause)
+        → lines_behind (OutOfMemory reached) path cause
+        ≡ lines_behind (TableFull reached) path cause }
+    ensures file { (fault : DiskFault) (path : List ℕ) (cause : Option Cause)
+        → lines_behind (Disk fault) path cause ≡ cause_line path cause }
+    ensures locked { (path : List ℕ) (cause : Option Cause)
+        → lines_behind Locked path cause ≡ cause_line path cause }
+    ensures created { (path : List ℕ) (cause : Option Cause)
+        → lines_behind (Create creating.Device) path cause ≡ cause_line path cause }
+    ensures opened { (path : List ℕ) (cause : Option Cause)
+        → lines_behind (Open opening.Device) path cause ≡ cause_line path cause }
+    ensures served { (path : List ℕ) (cause : Option Cause)
+        → lines_behind (Serve (serve.Book book.Device)) path cause ≡ cause_line path cause }
+    ensures attended { (path : List ℕ) (cause : Option Cause)
+        → lines_behind (Attend (scripts.Book book.Device)) path cause ≡ cause_line path cause }
+    ensures inspected { (path : List ℕ) (cause : Option Cause)
+        → lines_behind (Inspect inspect.Read) path cause ≡ cause_line path cause }
+    ensures no_disk { (path : List ℕ) (cause : Option Cause)
+        → lines_behind (Open opening.NoSlot) path cause ≡ shown_path path ++ codes ": "
+        ++ codes "the file is no disk; `icserve create --disk F` makes a new file F one" ++ 10 ∷ [] }
+    ensures not_empty { (path : List ℕ) (cause : Option Cause)
+        → lines_behind NotEmpty path cause ≡ shown_path path ++ codes ": "
+        ++ (codes "the file holds something; `--overwrite` makes it an empty disk"
+        ++ codes " all the same") ++ 10 ∷ [] }
+    ensures damaged { (path : List ℕ) (cause : Option Cause)
+        → lines_behind (Open opening.Damaged) path cause ≡ shown_path path ++ codes ": "
+        ++ codes "something else has changed the file, or it was copied in part" ++ 10 ∷ [] }
+    ensures two_alike { (path : List ℕ) (cause : Option Cause)
+        → lines_behind (Open opening.TwoAlike) path cause
+        ≡ lines_behind (Open opening.Damaged) path cause }
+    ensures scripts { (refused : OpenCause) (path : List ℕ) (cause : Option Cause)
+        → lines_behind (Attend (scripts.Open refused)) path cause
+        ≡ lines_behind (Open refused) path cause }
+    ensures broken { (path : List ℕ) (cause : Option Cause)
+        → (lines_behind (Serve (serve.Book book.Broken)) path cause ≡ cause_line path cause)
+        × (lines_behind (Attend (scripts.Book book.Broken)) path cause ≡ cause_line path cause) }
+    ensures input { (path : List ℕ) (cause : Cause) → cause.target ≡ Input
+        → (lines_behind (Stream stream.Read) path (Some cause) ≡ cause_line path (Some cause))
+        × (lines_behind (Serve serve.Read) path (Some cause) ≡ cause_line path (Some cause)) }
+    ensures no_input { (path : List ℕ) (cause : Cause) → cause.target ≢ Input
+        → (lines_behind (Stream stream.Read) path (Some cause) ≡ [])
+        × (lines_behind (Serve serve.Read) path (Some cause) ≡ []) }
+    ensures no_cause { (path : List ℕ) → (lines_behind (Stream stream.Read) path None ≡ [])
+        × (lines_behind (Serve serve.Read) path None ≡ []) }
+    ensures rules { (name path : List ℕ) (cause : Option Cause)
+        → lines_behind (Batch (batch.Taken name difference.Rules)) path cause
+        ≡ shown_path path ++ codes ": its job of this name has other rules" ++ 10 ∷ [] }
+    ensures budget { (name path : List ℕ) (cause : Option Cause)
+        → lines_behind (Batch (batch.Taken name difference.Budget)) path cause
+        ≡ shown_path path ++ codes ": its job of this name has another budget" ++ 10 ∷ [] }
+    ensures begin { (name path : List ℕ) (cause : Option Cause)
+        → lines_behind (Batch (batch.Taken name difference.Start)) path cause ≡ shown_path path
+        ++ codes ": its job of this name begins with another configuration" ++ 10 ∷ [] }
+    ensures full { (path : List ℕ) (cause : Option Cause)
+        → lines_behind (Batch batch.Full) path cause ≡ shown_path path
+        ++ codes ": it has jobs of other names, and no disk has more than 32" ++ 10 ∷ [] }
+    ensures stopped { (fault : ServeFault) (path : List ℕ) (cause : Option Cause)
+        → lines_behind (Batch (batch.Serve fault)) path cause ≡ lines_behind (Serve fault) path cause }
+    ensures text { (fault : TextFault) (path : List ℕ) (cause : Option Cause)
+        → lines_behind (Stream (stream.Text fault)) path cause ≡ [] }
+    ensures faults { (path : List ℕ) (cause : Option Cause)
+        → lines_behind Faults path cause ≡ [] }
+    ensures not_done { (path : List ℕ) (cause : Option Cause)
+        → lines_behind NotDone path cause ≡ [] }
+    ensures book { (path : List ℕ) (cause : Option Cause)
+        → map (λ fault. lines_behind (Serve (serve.Book fault)) path cause)
+        (book.LogFull ∷ book.Worn ∷ book.Memory ∷ []) ≡ [] ∷ [] ∷ [] ∷ [] }
+    ensures dump { (fault : DumpFault) (path : List ℕ) (cause : Option Cause)
+        → lines_behind (Dump fault) path cause ≡ [] }
+    ensures jobs { (fault : JobsFault) (path : List ℕ) (cause : Option Cause)
+        → lines_behind (Jobs fault) path cause ≡ [] }
+    ensures words { (path : List ℕ) (cause : Option Cause)
+        → lines_behind (Words (words.Words text.now)) path cause ≡ [] }
+{}

@@ -1,0 +1,17 @@
+use Rattle.ic_frames.specs.declared.slot.Slot.TheVariants.{First, Second}
+use Rattle.ic_inspect.proofs.FrontLemmas.{front_seen}
+use Rattle.ic_inspect.proofs.laws.the_front_is_seen_as_the_file.Goals as goal
+
+pub returns : goal.returns
+returns c =
+    let seen = front_seen c.a_slot_is_open_or_whole.ensures.whole in
+    record {
+      seen = seen;
+      lines = λ file lines is. record {
+        first = is.first;
+        second = is.second;
+        first_seen = seen First is.first file is.first_seen;
+        second_seen = seen Second is.second file is.second_seen;
+        told = is.told;
+      };
+    }

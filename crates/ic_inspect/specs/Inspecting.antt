@@ -1,0 +1,49 @@
+-- To be believed: what is told of a file, and what is read of it (this project's choice).
+use Rattle.std.specs.Prelude.{◌≡◌, ℕ, List, [], ◌∷◌, Option, None, Some, take}
+use Rattle.std.specs.Io.KnownBytes.{Appends}
+use Rattle.ic_output.specs.Output.{AppendsFront}
+use Rattle.ic_frames.specs.declared.slot.Slot.TheVariants.{First, Second}
+use Rattle.ic_inspect.specs.declared.fault.InspectFault.{InspectFault}
+use Rattle.ic_inspect.specs.declared.fault.InspectFault.TheVariants.{Read, Changed, Memory, Write}
+use Rattle.ic_inspect.specs.declared.inspecting.TheConstants.{LIMIT}
+use Rattle.ic_inspect.specs.declared.seen.Seen.{Seen}
+use Rattle.ic_inspect.specs.Seeing.{IsSeen}
+use Rattle.ic_inspect.specs.Report.{report}
+
+-- these lines tell what is seen of the two slots of a file
+pub record Tells (file lines : List ℕ) : Type 0 where
+  pub first : Option Seen
+  pub second : Option Seen
+  pub first_seen : IsSeen First first file
+  pub second_seen : IsSeen Second second file
+  pub told : lines ≡ report first second
+
+-- the lines of a file are appended to what was written
+abbrev pub WritesTold : List ℕ → Option (List ℕ) → Option (List ℕ) → Type 0
+WritesTold file old new = (lines : List ℕ) × Tells file lines × Appends old new lines
+
+-- a front of them is, where the writer fails
+abbrev pub WritesToldPart : List ℕ → Option (List ℕ) → Option (List ℕ) → Type 0
+WritesToldPart file old new =
+    (lines : List ℕ) × Tells file lines × AppendsFront old new [] lines
+
+-- these are the first bytes that a reader has, where it tells them
+abbrev pub IsFrontOf : List ℕ → Option (List ℕ) → Type 0
+IsFrontOf bytes None = Unit {0}
+IsFrontOf bytes (Some all) = bytes ≡ take LIMIT all
+
+-- these aren't the first bytes that a reader has, where it tells them
+abbrev pub IsOtherThan : List ℕ → Option (List ℕ) → Type 0
+IsOtherThan bytes None = Unit {0}
+IsOtherThan bytes (Some all) = ¬ (bytes ≡ take LIMIT all)
+
+-- the lasting numbers of the faults
+abbrev pub inspect_fault_number : InspectFault → ℕ
+inspect_fault_number Read = 1
+inspect_fault_number Changed = 2
+inspect_fault_number Memory = 3
+inspect_fault_number Write = 4
+
+-- all faults, in the order of their lasting numbers
+abbrev pub all_inspect_faults : List InspectFault
+all_inspect_faults = Read ∷ Changed ∷ Memory ∷ Write ∷ []

@@ -1,0 +1,33 @@
+-- To be believed: what is seen of the slots of a file.
+use Rattle.std.specs.Prelude.{◌≡◌, ◌+◌, ◌<◌, ◌≤◌, ℕ, List, Option, None, Some, true, length}
+use Rattle.ic_jobs.specs.Job.{JobParts}
+use Rattle.ic_jobs.specs.Table.{IsTable}
+use Rattle.ic_codec.specs.Tables.{IsFormOf}
+use Rattle.ic_frames.specs.declared.frame.TheConstants.{HEAD, MAX_BODY}
+use Rattle.ic_frames.specs.declared.slot.Slot.{Slot}
+use Rattle.ic_frames.specs.Fields.{number, size, body, is_open, is_whole}
+use Rattle.ic_frames.specs.Places.{place}
+use Rattle.ic_inspect.specs.declared.seen.Body.{Body}
+use Rattle.ic_inspect.specs.declared.seen.Body.TheVariants.{TooLong, CutShort, NoTable, Holds}
+use Rattle.ic_inspect.specs.declared.seen.Seen.{Seen}
+
+-- what the body of the slot that begins at this place is
+abbrev pub IsBodySeen : ℕ → Body → List ℕ → Type 0
+IsBodySeen at TooLong file = MAX_BODY < size at file
+IsBodySeen at CutShort file = (size at file ≤ MAX_BODY) × (length file < at + HEAD + size at file)
+IsBodySeen at NoTable file =
+    (is_whole at file ≡ true) × ((t : List JobParts) → IsTable t → ¬ IsFormOf t (body at file))
+IsBodySeen at (Holds t) file = (is_whole at file ≡ true) × IsTable t × IsFormOf t (body at file)
+
+-- a slot whose head lies within the file has these fields
+pub record IsSlotSeen (at : ℕ) (seen : Seen) (file : List ℕ) : Type 0 where
+  pub within : at + HEAD ≤ length file
+  pub opened : seen.opened ≡ is_open at file
+  pub number_is : seen.number ≡ number at file
+  pub size_is : seen.size ≡ size at file
+  pub body_is : IsBodySeen at seen.body file
+
+-- what is seen of a slot: nothing where the file ends before its head does
+abbrev pub IsSeen : Slot → Option Seen → List ℕ → Type 0
+IsSeen slot None file = length file < place slot + HEAD
+IsSeen slot (Some seen) file = IsSlotSeen (place slot) seen file

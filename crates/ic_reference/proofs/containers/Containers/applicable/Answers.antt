@@ -1,0 +1,51 @@
+use Rattle.std.proofs.Common.{◌≡◌, ◌<◌, ℕ, List, Option, None, Some, MatchOption, length, refl, sym, ap, ◌∙◌, arith, subst as transport}
+use Rattle.std.proofs.Math.ListN.{set}
+use Rattle.std.proofs.lemmas.List.{with_items_is}
+use Rattle.ic_settle.specs.declared.applicability.Applicable.{Applicable}
+use Rattle.ic_settle.specs.declared.applicability.Outlet.{Outlet}
+use Rattle.ic_settle.specs.lemmas.Containers.{IsRoot, redirected, applicable_of}
+use Rattle.ic_settle.specs.lemmas.Links.{still-free, set-linked, set-unlinked, set-root}
+use Rattle.ic_reference.proofs.containers.Containers.applicable.Goals as goal
+
+pub first_outlet-requires-clause-known : goal.first_outlet-requires-clause-known
+first_outlet-requires-clause-known c = λ y p is. rw c.deref_mut.ensures.value (c.requires.known y p is)
+
+pub returns-in_err-outlet-clause-free : goal.returns-in_err-outlet-clause-free
+returns-in_err-outlet-clause-free c =
+    let same : length c.first_outlet.new.links ≡ c.args.self.now.links.len = c.first_outlet.auto.links ∙ c.deref_mut.ensures.len in
+    let free = still-free c.args.self.now.links.items c.deref_mut.result.now c.first_outlet.new.links c.args.place c.requires.free c.deref_mut.ensures.value c.first_outlet.auto.links c.in_err-outlet.ensures.unlinked in
+    rw (with_items_is c.args.self.now.links c.first_outlet.new.links same) (λ e above within. free e (omega arith) within)
+
+pub returns-clause-linked : goal.returns-clause-linked
+returns-clause-linked c =
+    let links = c.first_outlet.new.links in
+    let same : length links ≡ c.args.self.now.links.len = c.first_outlet.auto.links ∙ c.deref_mut.ensures.len in
+    let free = still-free c.args.self.now.links.items c.deref_mut.result.now links c.args.place c.requires.free c.deref_mut.ensures.value c.first_outlet.auto.links c.in_ok-outlet.ensures.unlinked in
+    let inside : c.args.place < length links = omega (arith, c.requires.inside, c.first_outlet.auto.links, ap length c.deref_mut.ensures.value) in
+    let to = c.in_ok-outlet.ensures.target in
+    rw (with_items_is c.args.self.now.links links same) (set-linked links c.in_ok-outlet.ensures.linked c.args.place c.in_ok-outlet.outlet.target inside free to.0 to.1.0 to.1.1)
+
+pub returns-clause-free : goal.returns-clause-free
+returns-clause-free c =
+    let links = c.first_outlet.new.links in
+    let same : length links ≡ c.args.self.now.links.len = c.first_outlet.auto.links ∙ c.deref_mut.ensures.len in
+    let free = still-free c.args.self.now.links.items c.deref_mut.result.now links c.args.place c.requires.free c.deref_mut.ensures.value c.first_outlet.auto.links c.in_ok-outlet.ensures.unlinked in
+    let inside : c.args.place < length links = omega (arith, c.requires.inside, c.first_outlet.auto.links, ap length c.deref_mut.ensures.value) in
+    let to = c.in_ok-outlet.ensures.target in
+    rw (with_items_is c.args.self.now.links links same) (set-unlinked links c.in_ok-outlet.ensures.linked c.args.place c.in_ok-outlet.outlet.target inside free to.0 to.1.0 to.1.1)
+
+pub returns-clause-chosen : goal.returns-clause-chosen
+returns-clause-chosen c =
+    let links = c.first_outlet.new.links in
+    let o = c.in_ok-outlet.outlet in
+    let same : length links ≡ c.args.self.now.links.len = c.first_outlet.auto.links ∙ c.deref_mut.ensures.len in
+    let free = still-free c.args.self.now.links.items c.deref_mut.result.now links c.args.place c.requires.free c.deref_mut.ensures.value c.first_outlet.auto.links c.in_ok-outlet.ensures.unlinked in
+    let inside : c.args.place < length links = omega (arith, c.requires.inside, c.first_outlet.auto.links, ap length c.deref_mut.ensures.value) in
+    let to = c.in_ok-outlet.ensures.target in
+    let found : Option Applicable = Some (record { name = o.name; side = o.side }) in
+    rw (with_items_is c.args.self.now.links links same) (λ r is.
+    let P : List ℕ → Type 0 = λ l. IsRoot l r in
+    let ends = c.in_ok-outlet.ensures.root r (transport P (sym c.deref_mut.ensures.value) is) in
+    let M : Option Outlet → Type 0 = λ w. MatchOption w ((found ≡ None) × IsRoot (set links c.args.place o.target) r)
+    (λ v. (found ≡ Some (applicable_of v)) × IsRoot (set links c.args.place o.target) (redirected c.args.place v.target r)) in
+    transport M ends.0 (refl, set-root links c.in_ok-outlet.ensures.linked c.args.place o.target inside free to.0 to.1.0 to.1.1 r ends.1))

@@ -1,0 +1,5 @@
+pub mod Bindings
+pub mod Plans
+pub mod SingleSteps
+pub mod StepAnswers
+pub mod inner

@@ -1,3 +1,0 @@
--- What only the contracts of private functions cite.
-pub mod Placing
-pub mod WaitingTerms

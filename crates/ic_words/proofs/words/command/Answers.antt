@@ -1,9 +1,0 @@
-use Rattle.ic_words.specs.Words.{batch_command, check_command, dump_command, inspect_command, with_looks}
-use Rattle.ic_words.proofs.words.command.Goals as goal
-
-pub returns : goal.returns
-returns c =
-    let first = c.with_command-program.ensures with_looks dump_command c.with_looks.ensures c.dump_command.ensures in
-    let second = c.with_command-program-2.ensures _ inspect_command first c.inspect_command.ensures in
-    let third = c.with_command-program-3.ensures _ check_command second c.check_command.ensures in
-    c.with_command.ensures _ batch_command third c.batch_command.ensures
