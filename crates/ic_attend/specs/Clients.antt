@@ -39,7 +39,7 @@ abbrev pub AreParts : List Entry → List ClientRun → Type 0
 AreParts es runs =
     (who : ℕ) (run : ClientRun) → slice_get runs who ≡ Some run → run.answers.items ≡ part who es
 
--- Rounds, and behind them the one command at which a failing disk has ended its client.
+-- Rounds, and after them the one command at which a failing disk has ended its client.
 pub record EndsUnanswered (runs : List ClientRun) (es : List Entry) : Type 0 where
   pub front : List Entry
   pub last : Entry
@@ -66,6 +66,6 @@ abbrev pub FailuresStandLast : List ClientRun → List Entry → Type 0
 FailuresStandLast runs es =
     (who : ℕ) (run : ClientRun) → slice_get runs who ≡ Some run → FailureStandsLast es who run
 
--- What may stand behind the kept entries: rounds alone, or one last command that wasn't answered.
+-- What may follow the kept entries: rounds alone, or one last command that wasn't answered.
 abbrev pub MayStandBehind : List ClientRun → List Entry → Type 0
 MayStandBehind runs es = AreRounds es ⊎ EndsUnanswered runs es

@@ -43,7 +43,7 @@ pub record IsCommanded {D : Type 0} (ghosts : Ghosts D) (who : ℕ) (command : C
   pub idle : kept_of old ≡ length (log_of old) → IfOk result (λ answer.
       IsTrue (leaves_table answer) → keeper_of new ≡ keeper_of old)
 
--- Of some book this was due, or it was broken, or memory was out.
+-- This was due of some book, or that book was broken, or memory ran out.
 pub record IsTaken {D : Type 0} (ghosts : Ghosts D) (after : ℕ)
     (result : Result (Option FlightParts) BookFault) : Type 0 where
   pub book : Book D ghosts
@@ -51,8 +51,8 @@ pub record IsTaken {D : Type 0} (ghosts : Ghosts D) (after : ℕ)
   pub memory : IfErr result (λ fault. fault ≢ Broken → fault ≡ Memory)
   pub due : IfOk result (λ flight. flight ≡ due (table_of book) after)
 
--- A round, or the halt of a job that can't make one, came to some book: it stands at the end of the
--- log where the job was as it is said here, and else it was stale and nothing came.
+-- A round, or the halt of a job that can't make one, came to some book. It is at the end of the log
+-- where the job was as it is said here; else it was stale and nothing came.
 pub record IsLanded {D : Type 0} (ghosts : Ghosts D) (name : List ℕ) (rules : Rules)
     (config : Configuration) (rounds : ℕ) (reply : Reply) (result : Result Landed BookFault)
     : Type 0 where

@@ -14,7 +14,7 @@ use Rattle.ic_attend.specs.declared.attended.RunnerEnd.{RunnerEnd}
 use Rattle.ic_attend.specs.declared.attended.RunnerEnd.TheVariants.{Idle, Turns, Book as by_book, Pool as by_pool}
 
 -- What a client's refusal says of the book: a call to the disk has failed, the history is full, or
--- the numbers of the slots are used up. Want of memory says nothing of it.
+-- the numbers of the slots are used up. Where memory ran out, the refusal says nothing of it.
 abbrev pub CommandTells : {D : Type 0} {ghosts : Ghosts D} → Book D ghosts → BookFault → Type 0
 CommandTells book Broken = is_broken book ≡ true
 CommandTells book LogFull = length (log_of book) ≡ MAX_ENTRIES

@@ -12,7 +12,7 @@ use Rattle.ic_attend.specs.Parts.{AreOfClients}
 use Rattle.ic_attend.specs.Clients.{AreParts, FailuresStandLast, KeepsTo, MayStandBehind}
 use Rattle.ic_attend.specs.Runners.{EndHolds}
 
--- the entries that are kept, and those behind them
+-- the entries that are kept, and those after them
 abbrev pub kept_log : {D : Type 0} {ghosts : Ghosts D} → Attended D ghosts → List Entry
 kept_log a = take (kept_of a.book) (log_of a.book)
 

@@ -26,9 +26,11 @@ use std::thread::Threads;
 
 /// Opens a disk, and gives each script in a thread of its own, as the client of its number from 0;
 /// `runners` further threads make the rounds that are due. Each has a crew of so many workers, but no
-/// more than 64, which stand in threads of their own for all its rounds. What they leave is one legal
-/// history. A runner goes on until all scripts have ended, and then for as many rounds as it has
-/// turns, while any is due. The gate is told of each answer and passed by each work.
+/// more than 64, which stand in threads of their own for all its rounds.
+///
+/// What they leave is one legal history. A runner goes on until all scripts have ended, and then for
+/// as many rounds as it has turns, while any is due. The gate is told of each answer and passed by
+/// each work.
 pub fn attend<R: Threads + Wait + Sync, D: Disk + Send, G: Gate>(
     rt: &R,
     alloc: Global,
@@ -47,7 +49,7 @@ pub fn attend<R: Threads + Wait + Sync, D: Disk + Send, G: Gate>(
         IsOneHistory (map vec_items scripts.items) runners turns attended) }
     ensures ends { IfOk result (λ attended. EndsTell workers attended) }
 
-    // A disk that isn't opened is handed back. Where memory is out before any thread is started
+    // A disk that isn't opened is handed back. Where memory ran out before any thread was started,
     // the book is as it was opened.
     ensures unopened { IfUnopened result (λ fault. IsUnopened D.Disk disk fault) }
     ensures unbegun { IfUnbegun result (λ book. IsAsOpened disk book) }

@@ -107,7 +107,7 @@ pub(crate) fn speak<R: Wait, D: Disk, G: Gate>(
     Speech::new(answers, false)
 }
 
-/// Gives a command, and puts it behind the answers with its reply. The copy and the room are made
+/// Gives a command, and appends it with its reply to the answers. The copy and the room are made
 /// first, so a command that is answered is never lost. At Err it is handed back.
 fn ask<R: Wait, D: Disk>(
     rt: &R,

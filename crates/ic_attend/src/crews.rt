@@ -93,7 +93,7 @@ pub(crate) fn start_crew<'s, R: Threads + Wait + Sync, E, G: Gate>(
     })
 }
 
-/// Starts a thread for each post, until one can't be started. Whether all were.
+/// Starts a thread for each post, until one can't be started. Tells whether all were.
 fn start_each<'s, R: Threads + Wait + Sync, E, G: Gate>(
     rt: &'s R,
     alloc: Global,

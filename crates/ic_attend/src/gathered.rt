@@ -34,7 +34,7 @@ impl Gathered {
         })
     }
 
-    /// Puts what a client was answered behind the others.
+    /// Appends what a client was answered.
     pub(crate) fn add_speech(&mut self, speech: Speech)
         requires { vec_len self.old.answers < vec_capacity self.old.answers }
         ensures answers { self.new.answers.items ≡ self.old.answers.items ++ speech.run ∷ [] }
@@ -47,7 +47,7 @@ impl Gathered {
         self.answers.push_reserved(speech.run);
     }
 
-    /// Puts how a runner ended behind the others; none where its thread wasn't started.
+    /// Appends how a runner ended; none where its thread wasn't started.
     pub(crate) fn add_end(&mut self, end: Option<RunnerEnd>)
         requires { vec_len self.old.ends < vec_capacity self.old.ends }
         ensures ends { self.new.ends.items ≡ self.old.ends.items ++ unwrap_or end Idle ∷ [] }

@@ -51,8 +51,8 @@ pub fn a_part_is_a_clients_own()
     ensures joined { (who : ℕ) (h k : List Entry) → part who (h ++ k) ≡ part who h ++ part who k }
 {}
 
-/// Each answer of a client stands in the history at one place: before it the client's earlier
-/// answers, behind it the later ones.
+/// Each answer of a client is at one place of the history: the client's earlier answers are before
+/// it, and the later ones after it.
 pub fn each_answer_has_its_place()
     ensures { (who : ℕ) (h : List Entry) (before after : List (Command × Reply)) (c : Command)
         (r : Reply) → part who h ≡ before ++ (c, r) ∷ after
@@ -81,8 +81,8 @@ pub fn a_client_reads_what_came_before()
     ic_jobs::laws::one_entry_is_legal_where_it_is_answered();
 }
 
-/// A legal history that a stop cuts behind what was kept is a page of a server's lives, and what it
-/// leaves of it begins, for each client, with all that the client was answered.
+/// A legal history that a stop cuts after what was kept is a page of a server's lives. What the
+/// stop leaves of it begins, for each client, with all that the client was answered.
 pub fn a_stop_leaves_each_answer()
     ensures page { (start : List JobParts) (log : List Entry) (kept stop : ℕ)
         → IsLegal start log → kept ≤ stop → stop ≤ length log
@@ -130,8 +130,8 @@ pub fn each_answer_is_the_tables<D: Disk>(attended: &Attended<D>)
     a_client_reads_what_came_before();
 }
 
-/// Each command that is kept was answered to the client that gave it, behind the answers of the
-/// client's commands before it, and with those behind it behind it. So nobody else was answered it.
+/// Each command that is kept was answered to the client that gave it, after the answers to the
+/// client's earlier commands, and before those to its later ones. So nobody else was answered it.
 pub fn each_kept_command_was_answered<D: Disk>(attended: &Attended<D>)
     ensures { (scripts : List (List Command)) (runners turns who : ℕ) (front back : List Entry)
         (c : Command) (r : Reply) → IsOneHistory scripts runners turns attended.now
@@ -143,8 +143,8 @@ pub fn each_kept_command_was_answered<D: Disk>(attended: &Attended<D>)
 }
 
 /// The commands of a client begin its script, also where the last of them wasn't answered. Those that
-/// are kept are all of it exactly where the client has no end. Where it has one it was refused the
-/// command behind them. There is an end for each runner.
+/// are kept are all of it exactly where the client has no end. Where it has one, the command after
+/// them was refused. There is an end for each runner.
 pub fn each_script_is_given_in_order<D: Disk>(attended: &Attended<D>)
     ensures given { (scripts : List (List Command)) (runners turns who : ℕ)
         (script : List Command) → IsOneHistory scripts runners turns attended.now
@@ -169,8 +169,8 @@ pub fn each_script_is_given_in_order<D: Disk>(attended: &Attended<D>)
     let _ = attended;
 }
 
-/// A call at a desk adds one entry at most to the book that it found: none at a refusal, but for the
-/// command at which the disk failed, and none at a round that is stale.
+/// A call at a desk adds one entry at most to the book that it found: none at a refusal, except for
+/// the command at which the disk failed, and none at a round that is stale.
 pub fn a_call_adds_one_entry_at_most<D: Disk>(desk: &Desk<D>)
     ensures commanded { (who : ℕ) (command : Command) (result : Result Reply BookFault)
         (call : IsCommanded D.Disk who command result)
@@ -183,7 +183,7 @@ pub fn a_call_adds_one_entry_at_most<D: Disk>(desk: &Desk<D>)
     let _ = desk;
 }
 
-/// Of a failing disk one client alone is told: the one whose command stands last, unanswered.
+/// Only one client is told of a failing disk: the one whose command stands last, unanswered.
 pub fn one_client_is_told_of_a_failure<D: Disk>(attended: &Attended<D>)
     ensures alone { (scripts : List (List Command)) (runners turns who other : ℕ) (run twin : Run)
         → IsOneHistory scripts runners turns attended.now

@@ -11,7 +11,7 @@ pub(crate) struct Signs {
 }
 
 impl Signs {
-    /// Of so many scripts none has ended, and nobody is to stop.
+    /// None of so many scripts has ended, and nobody is to stop.
     pub(crate) fn new(scripts: u64) -> Signs {
         Signs {
             stop: AtomicBool::new(false),

@@ -1,11 +1,11 @@
-//! What is answered to a row: what each client is told, why a runner ended that made no more rounds, and the jobs that are left,
-//! with their states. Commands of a script stand between ` ; `, scripts between ` | `.
+//! What is answered to a row: what each client is told, why a runner ended that made no more rounds, and the jobs that
+//! are left, with their states. Commands of a script are written between ` ; `, scripts between ` | `.
 //!
 //! - `attended RUNNERS TURNS WORKERS SCRIPTS`: with no gate.
 //! - `meeting RUNNERS TURNS WORKERS COUNT SCRIPTS`: each work waits until so many have begun.
 //! - `pair RUNNERS TURNS WORKERS SCRIPTS`: each answer of one of two clients waits until the other was answered.
-//! - `during RUNNERS TURNS WORKERS SCRIPTS`: the first answer waits until a work has begun, and each work until the second answer
-//!   was given.
+//! - `during RUNNERS TURNS WORKERS SCRIPTS`: the first answer waits until a work has begun, and each work until the
+//!   second answer was given.
 
 use crate::gates::{Held, Way};
 use crate::scripts::scripts_of;
@@ -20,7 +20,7 @@ use std::sync::Wait;
 use std::thread::Threads;
 use std::time::Clock;
 
-/// The first word as a number, and what stands behind it.
+/// The first word as a number, and what follows it.
 fn number_first(text: &str) -> (usize, &str) {
     let (first, rest) = text.split_once(' ').unwrap_or((text, ""));
     (usize::from_str_radix(first, 10).unwrap_or(0), rest)
@@ -105,7 +105,7 @@ fn attended<R: Threads + Wait + Clock + Sync>(
     }
 }
 
-/// What is told of a history, with ` ; ` behind each part.
+/// What is told of a history, with ` ; ` after each part.
 fn told(alloc: Global, done: &Attended<MemDisk>) -> Result<Vec<u8>, Trouble> {
     let mut line = Vec::new(alloc);
     for run in &done.answers {

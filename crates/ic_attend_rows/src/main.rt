@@ -1,5 +1,6 @@
-//! The worked rows of clients and runners behind gates: scripts that are attended on a disk in memory, where works and answers wait
-//! for one another. `answers` says what a row may ask. What needs no gate is tried of the built program, in `trials/`.
+//! The worked rows of clients and runners behind gates: scripts that are attended on a disk in memory, where works and
+//! answers wait for one another. `answers` says what a row may ask. What needs no gate is tried of the built program,
+//! in `trials/`.
 #![tactic(auto)]
 
 mod answers;

@@ -14,10 +14,11 @@ use Rattle.ic_batch.specs.declared.jobs.NewJob.{NewJob}
 use Rattle.ic_batch.specs.Way.{fetched_all, AreOnWay, HaveEnded, IsKeptOr, IsTextOf, IsUnderWay}
 
 -- What a batch makes of any book. Its jobs go on from where they are, and those that are missing begin
--- behind them: at each moment, so that a crash leaves such a table, or the one that was kept before. At
--- Ok each job has come to its end, all is kept, and just what their fetches are answered is written, of
--- the jobs that were to be there. So it is at a fault of the writer, but that only a front is written.
--- At any other fault nothing is.
+-- after them. So it is at each moment: a crash leaves such a table, or the one that was kept before.
+--
+-- At Ok each job has come to its end, all is kept, and what is written is just the answers to fetches
+-- of the jobs that were to be there. At a fault of the writer it is the same, except that only a front
+-- of this is written. At any other fault nothing is written.
 pub record Brings {T : Type 0} {D : Type 0} {ghosts : Ghosts D} (result : Result T BatchFault) (most : ℕ)
     (jobs : List NewJob) (old new : Book D ghosts) (before behind : Option (List ℕ)) : Type 0 where
   pub table : IsUnderWay most jobs (table_of old) (table_of new)
@@ -38,7 +39,7 @@ pub record IsOnWay {D : Type 0} {ghosts : Ghosts D} (most : ℕ) (jobs : List Ne
   pub table : AreOnWay most jobs (table_of book)
   pub kept : AreOnWay most jobs (last_kept book)
 
--- What it makes of a book with jobs on their way. They are on their way behind it, however it ends, and
+-- What it makes of a book with jobs on their way. They are on their way after it, however it ends, and
 -- in each table that a crash at any moment leaves. At Ok what is written is the text of the jobs.
 pub record IsBatch {T : Type 0} {D : Type 0} {ghosts : Ghosts D} (result : Result T BatchFault) (most : ℕ)
     (jobs : List NewJob) (old new : Book D ghosts) : Type 0 where

@@ -31,13 +31,13 @@ use Rattle.ic_batch.specs.Way.{missing}
 
 -- ---- of lines
 
--- Why a command is refused behind the jobs of others: it is no submit, or a table of these jobs refuses it.
+-- Why a command is refused after these jobs: it is no submit, or a table of these jobs refuses it.
 abbrev pub IsRefused : List NewJob → Command → JobsCause → Type 0
 IsRefused jobs command (cause.Text fault) = (fault ≡ Syntax) × (is_submit command ≡ false)
 IsRefused jobs command (cause.Refused why) = (is_submit command ≡ true)
     × ((after_command (map begun_by jobs) command).reply ≡ reply.Refused why)
 
--- The lines can be read, and the command behind those of these jobs is refused.
+-- The lines can be read, and the command after those of these jobs is refused.
 pub record StopsAt (text : List ℕ) (is : JobsCause) : Type 0 where
   pub jobs : List NewJob
   pub command : Command
@@ -110,7 +110,7 @@ pub record Fails {D : Type 0} {ghosts : Ghosts D} (fault : ServeFault) (old new 
   pub counted : CountsServe {T = Unit {0}} (Err fault) (ghosts.failures (disk_of old)) (ghosts.failures (disk_of new))
   pub breaks : is_broken old ≡ false → StaysReady fault (is_broken new) (number_of new)
 
--- What a fault says. Where another job has one of the names nothing is done, and else where there is no
+-- What a fault says. Nothing is done where another job has one of the names, and else where there is no
 -- room.
 abbrev pub Says : {D : Type 0} {ghosts : Ghosts D} → List NewJob → (old new : Book D ghosts)
     → BatchFault → Type 0
@@ -118,8 +118,8 @@ Says jobs old new (Taken name is) = HasAnother jobs (table_of old) name is × Is
 Says jobs old new Full = AreSame jobs (table_of old) × HasNoRoom jobs (table_of old) × IsUnchanged old new
 Says jobs old new (Serve fault) = AreSame jobs (table_of old) × Fails fault old new
 
--- What is so where there was none: no other job had one of the names, no failure of the disk is
--- counted, and a book that wasn't broken isn't.
+-- What holds where there was no fault: no other job had one of the names, no failure of the disk is
+-- counted, and a book that wasn't broken still isn't.
 pub record Succeeds {D : Type 0} {ghosts : Ghosts D} (jobs : List NewJob) (old new : Book D ghosts)
     : Type 0 where
   pub same : AreSame jobs (table_of old)

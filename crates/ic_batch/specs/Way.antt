@@ -44,7 +44,7 @@ pub record ComesTo (most : ℕ) (from end : JobParts) : Type 0 where
 abbrev pub missing : (t : List JobParts) → List NewJob → List NewJob
 missing t jobs = filter (λ new. not (is_some (job_named new.name t))) jobs
 
--- what a batch takes to its end: the jobs of a table, and behind them those that are missing there
+-- what a batch takes to its end: the jobs of a table, and after them those that are missing there
 abbrev pub all_of : List NewJob → (t : List JobParts) → List JobParts
 all_of jobs t = t ++ map begun_by (missing t jobs)
 
@@ -52,15 +52,15 @@ all_of jobs t = t ++ map begun_by (missing t jobs)
 abbrev pub AreWays : (most : ℕ) (from : List JobParts) → List JobParts → Type 0
 AreWays most from t = AllZip (IsOnWay most) from t
 
--- A batch may take one table to another: each job is there still, on its way, and behind them are the
--- first of those that were missing, on theirs.
+-- A batch may take one table to another: each job is there still, on its way, and after these jobs
+-- come the first of those that were missing, on theirs.
 pub record IsUnderWay (most : ℕ) (jobs : List NewJob) (old t : List JobParts) : Type 0 where
   pub front : List NewJob
   pub rest : List NewJob
   pub parted : missing old jobs ≡ front ++ rest
   pub ways : AreWays most (old ++ map begun_by front) t
 
--- it takes it to this one in the end: each job has come to its end
+-- it takes the table to this one in the end: each job has come to its end
 abbrev pub HaveEnded : (most : ℕ) → List NewJob → (old t : List JobParts) → Type 0
 HaveEnded most jobs old t = AllZip (ComesTo most) (all_of jobs old) t
 

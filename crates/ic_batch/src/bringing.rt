@@ -33,14 +33,15 @@ use std::io::Write;
 use std::sync::Wait;
 use std::thread::Threads;
 
-/// Submits those of the jobs that the table hasn't, makes rounds until no job goes on, keeps all, and
-/// writes for each of the jobs the line that a serving answers to its fetch. A job goes on while it
-/// runs and has made fewer rounds than `most`. Rounds are kept after each `every` of them; one of many
-/// equations is made by at most so many workers, which are joined before it returns. The gate is told
-/// of each round.
+/// Submits those of the jobs that the table doesn't have, makes rounds until no job goes on, keeps
+/// all, and writes for each of the jobs the line that a serving answers to its fetch.
 ///
-/// Nothing is written before all is kept. Where a job of one of the names is there that is another
-/// one, or where the table has no room for those that it hasn't, nothing is done.
+/// A job goes on while it runs and has made fewer rounds than `most`. Rounds are kept after each
+/// `every` of them; one of many equations is made by at most so many workers, which are joined
+/// before it returns. The gate is told of each round.
+///
+/// Nothing is written before all is kept. Nothing is done where another job has one of the names, or
+/// where the table has no room for the jobs that it doesn't have.
 pub fn batch<T: Threads + Wait + Copy + Send + 'static, D: Disk, W: Write, G: Gate>(
     rt: &T,
     alloc: Global,
@@ -59,7 +60,7 @@ pub fn batch<T: Threads + Wait + Copy + Send + 'static, D: Disk, W: Write, G: Ga
     ensures brings { Brings result most jobs.now book.old book.new
         (W.contents writer.old) (W.contents writer.new) }
     // Where the jobs that are there are on their way, all stay so at any moment, and what is written at
-    // Ok is told by the jobs that were to be there alone.
+    // Ok depends only on the jobs that were to be there.
     ensures batch { IsOnWay most jobs.now book.old
         → IsBatch result most jobs.now book.old book.new }
     ensures fault { IfErr result (Says jobs.now book.old book.new) }

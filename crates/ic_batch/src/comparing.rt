@@ -24,8 +24,8 @@ pub(crate) fn first_taken(table: &Table, jobs: &[NewJob]) -> Option<BatchFault>
     None
 }
 
-/// In what a job differs first from the one that is to be there. Of one that has made rounds it isn't known
-/// with which configuration it began.
+/// The first thing in which a job differs from the one that is to be there. The configuration with which a
+/// job began isn't known once it has made rounds.
 fn difference_of(new: &NewJob, job: &Job) -> Option<Difference>
     ensures differs { IfSome result (Differs new.now job.now) }
     ensures same { IfNone result (IsSame new.now job.now) }

@@ -13,7 +13,7 @@ use std::alloc::{AllocError, AllocFailed};
 pub enum JobsCause {
     /// It can't be read. A command that submits nothing is `Syntax`.
     Text(TextFault),
-    /// A disk without a job would refuse it behind the lines before it: its name is taken, or there
+    /// A disk without a job would refuse it after the lines before it: its name is taken, or there
     /// are 32 jobs already.
     Refused(Refusal),
 }
@@ -64,7 +64,7 @@ impl<T: Drop> From<AllocFailed<T>> for JobsFault {
     }
 }
 
-/// In what a job of the disk differs from the one of its name that is to be there.
+/// How a job of the disk differs from the one of its name that is to be there.
 #[derive(Clone, Copy, Debug, PartialEq, Eq)]
 pub enum Difference {
     /// It has other rules.
@@ -78,7 +78,7 @@ pub enum Difference {
 /// Why a batch ended before it has written what its jobs came to, each with its lasting number.
 #[derive(Clone, Copy, Debug, PartialEq, Eq)]
 pub enum BatchFault {
-    /// 1: a job of this name is there that is another one. Nothing was done.
+    /// 1: another job has this name. Nothing was done.
     Taken(JobName, Difference),
     /// 2: the disk has no room for all jobs, beside those that it has.
     Full,

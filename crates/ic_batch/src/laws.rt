@@ -37,8 +37,8 @@ pub fn jobs_on_their_way_are_iterates()
         → IsOnWay most (begun_by new) job → job.rounds ≤ most }
 {}
 
-/// A way has one end at most, and jobs have one text at most. So a text is told by the jobs, and by how
-/// many rounds they may make, alone.
+/// A way has one end at most, and jobs have one text at most. So the text depends only on the jobs, and
+/// on how many rounds they may make.
 pub fn jobs_have_one_text()
     ensures end { (most : ℕ) (from one other : JobParts)
         → ComesTo most from one → ComesTo most from other → one ≡ other }
@@ -51,8 +51,8 @@ pub fn new_disks_have_jobs_on_their_way()
     ensures { (most : ℕ) (jobs : List NewJob) → AreOnWay most jobs [] }
 {}
 
-/// Where jobs are on their way, no other job has the name of one of them. And where a table has none that
-/// differs, it has no other job.
+/// Where jobs are on their way, no other job has the name of one of them. And where each job of such a
+/// name is the same, the table has no other job of the name.
 pub fn jobs_on_their_way_are_not_taken()
     ensures same { (most : ℕ) (jobs : List NewJob) (t : List JobParts)
         → AreOnWay most jobs t → AreSame jobs t }
@@ -60,10 +60,12 @@ pub fn jobs_on_their_way_are_not_taken()
         (is : Difference) → AreSame jobs t → ¬ HasAnother jobs t name is }
 {}
 
-/// Lines are the lines of jobs where each submits one or is blank, no two of one name and no more than a
-/// table has. One server without jobs accepts each of them, as a batch does, which has room for all. The
-/// server may make rounds of them in any runs. Once none of its jobs runs, each having made fewer rounds
-/// than it may, what it answers to their fetches is the text that a batch writes.
+/// Lines are the lines of jobs where each submits one or is blank, no two have one name, and they are no
+/// more than a table has.
+///
+/// A server without jobs accepts each of them, and so does a batch, which has room for all. The server
+/// may make rounds of them in any runs. Once none of its jobs runs, and each has made fewer rounds than
+/// it may, what it answers to their fetches is the text that a batch writes.
 pub fn batch_lines_are_taken()
     ensures jobs { (text : List ℕ) (jobs : List NewJob) (asked : List (Option Command))
         → AreAsked (lines text) asked → filter_map (λ c. c) asked ≡ map submit_of jobs

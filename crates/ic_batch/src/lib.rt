@@ -2,7 +2,7 @@
 //!
 //! `read_jobs` reads the lines, each of which submits a job. `batch` submits those jobs that aren't
 //! there yet, makes rounds until none goes on, and writes what each has come to. It may be stopped at
-//! any moment and called again with the same lines: what it writes then is told by the lines alone.
+//! any moment and called again with the same lines: what it writes then depends on the lines only.
 #![tactic(auto)]
 
 mod bringing;

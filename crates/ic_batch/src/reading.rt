@@ -40,7 +40,7 @@ pub fn read_jobs(alloc: Global, text: &[u8]) -> Result<Vec<NewJob>, JobsFault>
     Ok(jobs)
 }
 
-/// The job that a command submits, or why it isn't taken behind others.
+/// The job that a command submits, or why it isn't taken after these jobs.
 fn next_job(jobs: &[NewJob], command: Command) -> Result<NewJob, JobsCause>
     ensures next { IfOk result (IsNext jobs.now command) }
     ensures refused { IfErr result (IsRefused jobs.now command) }
@@ -74,7 +74,8 @@ fn is_taken(jobs: &[NewJob], new: &NewJob) -> bool
     false
 }
 
-/// The number, from 1, of the line behind so many lines that aren't blank and blank ones.
+/// The number, from 1, of the first line that isn't blank after so many that aren't blank; where
+/// there is none, of the last line.
 fn line_behind(text: &[u8], many: usize) -> usize {
     let mut line: usize = 1;
     let mut left = many;

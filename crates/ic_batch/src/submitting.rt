@@ -21,7 +21,7 @@ use ic_jobs::{Command, MAX_JOBS, Table};
 use ic_serving::{ServeFault, answer_command};
 use std::alloc::{AllocError, Global};
 
-/// Whether a table has room for those of the jobs that it hasn't.
+/// Whether a table has room for those of the jobs that it doesn't have.
 pub(crate) fn has_room(table: &Table, jobs: &[NewJob]) -> bool
     ensures room { OnTrue result (length (missing table.now jobs.now) + length table.now ≤ MAX_JOBS) }
     ensures full { OnFalse result (HasNoRoom jobs.now table.now) }
@@ -30,7 +30,7 @@ pub(crate) fn has_room(table: &Table, jobs: &[NewJob]) -> bool
     count_missing(table, jobs) <= MAX_JOBS - held
 }
 
-/// How many of the jobs a table hasn't.
+/// How many of the jobs a table doesn't have.
 fn count_missing(table: &Table, jobs: &[NewJob]) -> usize
     ensures { result ≡ length (missing table.now jobs.now) }
 {
@@ -43,7 +43,7 @@ fn count_missing(table: &Table, jobs: &[NewJob]) -> usize
     count
 }
 
-/// Submits each of the jobs that the table hasn't. Each is kept.
+/// Submits each of the jobs that the table doesn't have. Each is kept.
 pub(crate) fn submit_missing<D: Disk>(
     alloc: Global,
     book: &mut Book<D>,

@@ -1,5 +1,5 @@
--- To be believed: of which calls of a book a call over it is made, as moves of a server, and which
--- disk a stop in its midst has be found. This project's choice.
+-- To be believed: which calls of a book make up a call over it, as moves of a server, and which
+-- disk is found after a stop in its midst. This project's choice.
 use Rattle.std.specs.Prelude.{◌≡◌, List, [], ◌∷◌, ◌++◌, IsTrue}
 use Rattle.ic_disk.specs.declared.disk.Disk.{Ghosts}
 use Rattle.ic_disk.specs.Images.{Within}
@@ -14,7 +14,7 @@ abbrev pub IsOnMadeDisk : {D : Type 0} {ghosts : Ghosts D} → Book D ghosts →
 IsOnMadeDisk {D} {ghosts} book =
     IsTrue (ghosts.keeps (disk_of book)) × Within (ghosts.image (disk_of book)) IsMade
 
--- These calls of a book lead from one to another. The newest stands first.
+-- These calls of a book lead from one to another. The newest is first.
 abbrev pub Calls : {D : Type 0} {ghosts : Ghosts D}
     → List Move → (first last : Book D ghosts) → Type 0
 Calls [] first last = last ≡ first

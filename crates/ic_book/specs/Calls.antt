@@ -64,7 +64,7 @@ pub record BreaksOrStays {T D : Type 0} {ghosts : Ghosts D} (result : Result T B
 
 -- ---- rounds
 
--- A round is refused, in this order: the book is broken, the history is full, memory is out. Then
+-- A round is refused, in this order: the book is broken, the history is full, memory ran out. Then
 -- nothing has changed.
 pub record RefusesRound {D : Type 0} {ghosts : Ghosts D} (result : Result Landed BookFault)
     (old new : Book D ghosts) : Type 0 where
@@ -73,7 +73,7 @@ pub record RefusesRound {D : Type 0} {ghosts : Ghosts D} (result : Result Landed
   pub memory : IfErr result (λ fault. fault ≢ Broken → fault ≢ LogFull → fault ≡ Memory)
   pub refused : IsErr result → IsUnchanged old new
 
--- A round that was expected stands as this entry at the end of the log. Any other is stale, and
+-- A round that was expected is at the end of the log, as this entry. Any other is stale, and
 -- nothing has changed. What is kept stays, and no call is made to the disk.
 pub record TakesRound {D : Type 0} {ghosts : Ghosts D} (entry : Entry) (expected : Type 0)
     (result : Result Landed BookFault) (old new : Book D ghosts) : Type 0 where

@@ -21,7 +21,7 @@ abbrev pub HoldsKeptOrAll : (start : List JobParts) (log : List Entry) (kept : �
 HoldsKeptOrAll start log kept file =
     HoldsEitherTable (table_kept start log kept) (replay start log) file
 
--- Entries that may stand behind those that are kept: rounds, and one last command where the book is
+-- Entries that may follow those that are kept: rounds, and one last command where the book is
 -- broken.
 pub record MayBeUnkept (broken : Bool) (es : List Entry) : Type 0 where
   pub unbroken : broken ≡ false → AreRounds es

@@ -28,7 +28,7 @@ pub data Move : Type 0 where
   closes : Move
   stops : Move → Move
 
--- what a move brings to the history, or where it is stopped would have brought
+-- what a move brings to the history, or would have brought where it is stopped
 abbrev pub brings : Move → List Entry
 brings opens = []
 brings (refuses cause) = []

@@ -17,7 +17,7 @@ fault_number Worn = 3
 fault_number Memory = 4
 fault_number Device = 5
 
--- `Device` has one failure more counted, and all else has none
+-- at `Device` one more failure is counted, and at any other answer none
 abbrev pub CountsBook : {T : Type 0} → Result T BookFault → ℕ → ℕ → Type 0
 CountsBook (Ok value) old new = new ≡ old
 CountsBook (Err Device) old new = OneMore old new

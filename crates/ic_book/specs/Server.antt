@@ -72,8 +72,8 @@ Turns (refuses cause) old new = ⊥
 Turns closes old new = ⊥
 Turns (stops move) old new = ⊥
 
--- A call of an open book: what it makes of the page, that a broken book stays broken, and that a crash
--- in it leaves the table that was kept, or the one after the log and what the call brings.
+-- A call of an open book: what it makes of the page, and that a broken book stays broken. A crash in
+-- it leaves the table that was kept, or the one after the log and what the call brings.
 pub record Does {D : Type 0} {ghosts : Ghosts D} (move : Move)
     (old new : Book D ghosts) : Type 0 where
   pub page : Turns move old new
@@ -128,7 +128,7 @@ Step {ghosts = g} (stops move) before (down found) =
 Step move (up old) (up new) = Does move old new
 Step move before after = ⊥
 
--- These moves lead from one server to another. The newest stands first.
+-- These moves lead from one server to another. The newest is first.
 abbrev pub Runs : {D : Type 0} {ghosts : Ghosts D}
     → List Move → Server ghosts → Server ghosts → Type 0
 Runs [] first last = last ≡ first

@@ -24,8 +24,8 @@ use ic_disk::Disk;
 use ic_jobs::{Entry, Table};
 use ic_slots::Keeper;
 
-/// A job table, the history of what has come to it since it was opened, and the disk on which the
-/// table after the first `kept` entries stands.
+/// A job table, the history of what has come to it since it was opened, and the disk that has the
+/// table after the first `kept` entries.
 #[derive(Drop)]
 pub struct Book<D: Disk> {
     start: Table,
@@ -99,8 +99,8 @@ impl<D: Disk> Book<D> {
 
     /// What the type of a book says. It reads nothing.
     pub fn facts(&self)
-        // Replaying the log on the opening table gives the table and each reply. Behind what is
-        // kept stand rounds, save one last command where the book is broken.
+        // Replaying the log on the opening table gives the table and each reply. What follows the
+        // kept entries is rounds, and one last command where the book is broken.
         ensures history { IsHistory (start_of self.now) (log_of self.now) (table_of self.now)
             (kept_of self.now) (is_broken self.now) }
 

@@ -43,7 +43,7 @@ pub(crate) fn keep_table<D: Disk>(keeper: &mut Keeper<D>, table: &Table) -> Resu
         (IsOnNewest (frames_of keeper.new) (D.content (disk_of keeper.new))) }
     ensures sound { IsTable table.now }
 {
-    // Asked for what its contract says: that the table is sound.
+    // Called for what its contract says: that the table is sound.
     let _jobs = table.jobs();
     match keeper.keep(table) {
         Ok(()) => Ok(()),

@@ -28,8 +28,8 @@ pub fn limits_are()
     ensures { MAX_ENTRIES ≡ 65536 }
 {}
 
-/// Where a book tells that its disk has failed one failure more is counted, up to the end of the
-/// count. Where it doesn't, none is.
+/// Where a book tells that its disk has failed, one more failure is counted, up to the end of the
+/// count. Otherwise none is.
 pub fn a_failure_is_counted()
     ensures failed { (old new : ℕ) → CountsBook {T = Unit {0}} (Err Device) old new
         → (new ≡ old + 1) ⊎ ((old ≡ 2 ^ 64 - 1) × (new ≡ old)) }
@@ -67,7 +67,7 @@ pub fn an_entry_is_added()
 {}
 
 /// Each entry of a book that is of a round was sent by nobody, and answered by what became of its
-/// job. Behind what is kept stand such entries alone, save one last entry of any kind where a call
+/// job. What follows the kept entries is such entries, and one last entry of any kind where a call
 /// to the disk has failed.
 pub fn rounds_stand_behind()
     ensures unbroken { (start : List JobParts) (log : List Entry) (table : List JobParts)
@@ -83,8 +83,8 @@ pub fn rounds_stand_behind()
         → e.event ≡ Round name → IsRoundEntry e }
 {}
 
-/// What the words on entries behind `kept` come to: rounds alone, or one last entry of any kind
-/// behind them, and rounds that are sent by nobody.
+/// What the words on entries after `kept` come to: rounds alone, or one last entry of any kind
+/// after them, and rounds that are sent by nobody.
 pub fn rounds_are_told_so()
     ensures unbroken { (es : List Entry) → MayBeUnkept false es ↔ AreRounds es }
     ensures broken { (es : List Entry) (e : Entry)

@@ -65,7 +65,7 @@ abbrev pub title_of : Sums → List ℕ
 title_of s = head ++ counted s.rounds (codes " round, ") (codes " rounds, ")
     ++ counted s.interactions (codes " interaction, ") (codes " interactions, ") ++ averages_of s
 
--- behind the title: the window in which a unit is one round and one equation
+-- after the title: the window in which a unit is one round and one equation
 abbrev pub top_of : Sums → List ℕ
 top_of s = concat (
     codes "<svg x='80' y='50' width='640' height='350' preserveAspectRatio='none' viewBox='0.95 0 "
@@ -78,7 +78,7 @@ abbrev pub bar_of : Row → List ℕ
 bar_of row = concat (codes "<rect width='0.9' x='" ∷ decimal row.round ∷ codes "' height='"
     ∷ decimal row.pairs ∷ codes "'/>" ∷ feed ∷ [])
 
--- behind the bars: a line, in tenths of the picture's unit from where the axes meet
+-- after the bars: a line, in tenths of the picture's unit from where the axes meet
 abbrev pub middle : List ℕ
 middle = concat (codes "</g></svg>" ∷ feed
     ∷ codes "<g transform='matrix(0.1 0 0 -0.1 80 400)'>" ∷ feed
@@ -88,15 +88,15 @@ middle = concat (codes "</g></svg>" ∷ feed
 abbrev pub across : Sums → Row → ℕ
 across s row = (row.round * 2 - 1) * 3200 / s.width
 
--- how far above the axis the nodes behind a round are; the most nodes are 3500 high
+-- how far above the axis the nodes after a round are; the most nodes are 3500 high
 abbrev pub up : Sums → Row → ℕ
 up s row = row.nodes * 3500 / s.line
 
--- a point of the line: the nodes behind a round
+-- a point of the line: the nodes after a round
 abbrev pub point_of : Sums → Row → List ℕ
 point_of s row = concat (decimal (across s row) ∷ codes "," ∷ decimal (up s row) ∷ feed ∷ [])
 
--- behind the line: the axes and their numbers
+-- after the line: the axes and their numbers
 abbrev pub bottom_of : Sums → List ℕ
 bottom_of s = concat (codes "'/></g>" ∷ feed
     ∷ codes "<path d='M80 50V400H720V50' fill='none' stroke='black'/>" ∷ feed
@@ -111,7 +111,7 @@ bottom_of s = concat (codes "'/></g>" ∷ feed
     ∷ codes "<text x='720' y='420' text-anchor='end'>" ∷ decimal s.rounds ∷ codes "</text>" ∷ feed
     ∷ codes "</svg>" ∷ feed ∷ [])
 
--- the picture of rows: a bar for each, and a line through the nodes behind each
+-- the picture of rows: a bar for each, and a line through the nodes after each
 abbrev pub picture_of : List Row → List ℕ
 picture_of rows = concat (title_of (sums_of rows) ∷ top_of (sums_of rows) ∷ flat_map bar_of rows
     ∷ middle ∷ flat_map (point_of (sums_of rows)) rows ∷ bottom_of (sums_of rows) ∷ [])

@@ -14,14 +14,14 @@ pub record AreMade (rs : List Rule) (c : Configuration) (rounds : ℕ) : Type 0 
   pub going : (n : ℕ) → n < rounds → ¬ IsQuiet rs (iterate rs n c)
   pub fitting : (n : ℕ) → n < rounds → fits rs (iterate rs n c) ≡ true
 
--- Of at most so many rounds these are made. Behind them no step is possible, or no round is left.
+-- So many rounds are made, at most `most`. After them no step is possible, or no more may be made.
 pub record IsReducedBy (rs : List Rule) (c : Configuration) (most rounds : ℕ) : Type 0 where
   pub within : rounds ≤ most
   pub made : AreMade rs c rounds
   pub ended : (rounds ≡ most) ⊎ IsQuiet rs (iterate rs rounds c)
 
--- Of at most so many rounds these are made. Behind them a step is possible and a round is left,
--- which is refused.
+-- So many rounds are made, fewer than `most`. After them a step is possible, and the next round is
+-- refused.
 pub record IsRefusedAfter (rs : List Rule) (c : Configuration) (most rounds : ℕ)
     (fault : RoundFault) : Type 0 where
   pub left : rounds < most
@@ -37,7 +37,7 @@ pub record IsRefusal (rs : List Rule) (c : Configuration) (most rounds : ℕ)
   pub number : refusal.round ≡ suc rounds
   pub nodes : refusal.nodes ≡ configuration_nodes (iterate rs rounds c)
 
--- how rounds end of which at most so many may be made, and so many are: they reduce the configuration,
+-- how rounds end, of which so many are made and at most `most` may be: they reduce the configuration,
 -- or the next one is refused
 abbrev pub RoundsEnd : List Rule → Configuration → (most rounds : ℕ) → Ended → Type 0
 RoundsEnd rs c most rounds Whole = IsReducedBy rs c most rounds

@@ -14,7 +14,7 @@ use Rattle.ic_by_rounds.specs.Stuck.{stuck_text}
 use Rattle.ic_by_rounds.specs.declared.reduction.Reduction.{Reduction}
 use Rattle.ic_by_rounds.specs.declared.reduction.Reduction.TheVariants.{Done, NotDone, Refused}
 
--- How it is told that rounds ended of which at most so many may be made, and so many are: after them
+-- What is told of the end of rounds, of which so many are made and at most `most` may be: after them
 -- no step is possible, or all are made, or the next one is refused.
 abbrev pub Tells : Rules → Configuration → (most rounds : ℕ) → Reduction → Type 0
 Tells rs c most rounds (Done count stuck) = IsReducedBy rs.rules c most rounds
@@ -31,7 +31,7 @@ is_printed partial (Done count stuck) = true
 is_printed partial NotDone = true
 is_printed partial (Refused refusal) = partial
 
--- a text is read as a system, of which at most so many rounds are made, which ended so, and the
+-- a text is read as a system, at most so many rounds are made of it, they ended so, and the
 -- configuration after them is printed, or nothing
 pub record ReducesTo (most : ℕ) (partial : Bool) (input output : List ℕ)
     (reduction : Reduction) : Type 0 where
@@ -42,7 +42,7 @@ pub record ReducesTo (most : ℕ) (partial : Bool) (input output : List ℕ)
   pub prints : output ≡ (if is_printed partial reduction
       then line_of system.rules.symbols (iterate system.rules.rules rounds system.config) else [])
 
--- how the rounds of a text ended that is reduced
+-- how the rounds of a text that is reduced ended
 abbrev pub EndsAs : (most : ℕ) (partial : Bool) → List ℕ → Reduction → Type 0
 EndsAs most partial input reduction =
     (output : List ℕ) × ReducesTo most partial input output reduction

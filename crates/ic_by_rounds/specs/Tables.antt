@@ -4,7 +4,7 @@ use Rattle.std.specs.List.{flat_map, join_with_byte}
 use Rattle.std.specs.Fmt.{decimal}
 use Rattle.ic_by_rounds.specs.declared.row.Row.{Row}
 
--- texts with a tab (9) between them, and a line feed behind
+-- texts with a tab (9) between them, and a line feed at the end
 abbrev pub line_of_cells : List (List ℕ) → List ℕ
 line_of_cells cells = join_with_byte 9 cells ++ 10 ∷ []
 

@@ -11,8 +11,8 @@ use Rattle.ic_by_rounds.specs.declared.row.Row.{Row}
 use Rattle.ic_by_rounds.specs.declared.sums.Format.{Format}
 use Rattle.ic_by_rounds.specs.declared.ended.Ended.{Ended}
 
--- a text is read as a system, and this shows the rows of the rounds that are made of it, of which
--- there are at most so many, and which ended so
+-- a text is read as a system, at most so many rounds are made of it, they ended so, and this shows
+-- the rows of these rounds
 pub record TracesTo (most : ℕ) (format : Format) (input output : List ℕ)
     (ended : Ended) : Type 0 where
   pub system : SystemParts
@@ -21,7 +21,7 @@ pub record TracesTo (most : ℕ) (format : Format) (input output : List ℕ)
   pub are : AreRows system.rules.rules system.config most rows ended
   pub shows : output ≡ shown_as format rows
 
--- how the rounds of a text ended whose trace is shown
+-- how the rounds of a text whose trace is shown ended
 abbrev pub TracedAs : ℕ → Format → List ℕ → Ended → Type 0
 TracedAs most format input ended =
     (output : List ℕ) × TracesTo most format input output ended

@@ -22,7 +22,7 @@ row_between rs number before after = record {
   names = length (configuration_names after);
 }
 
--- the row of the round behind so many others
+-- the row of the round after so many others
 abbrev pub row_behind : List Rule → Configuration → ℕ → Row
 row_behind rs c n = row_between rs (n + 1) (iterate rs n c) (iterate rs (suc n) c)
 
@@ -31,8 +31,7 @@ abbrev pub rows_of : List Rule → Configuration → ℕ → List Row
 rows_of rs c zero = []
 rows_of rs c (suc n) = rows_of rs c n ++ row_behind rs c n ∷ []
 
--- the rows of the rounds that are made of a configuration, of which there are at most so many, and
--- how they ended
+-- the rows of the rounds that are made of a configuration, at most so many, and how they ended
 pub record AreRows (rs : List Rule) (c : Configuration) (most : ℕ) (rows : List Row)
     (ended : Ended) : Type 0 where
   pub rounds : ℕ

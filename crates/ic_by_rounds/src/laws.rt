@@ -85,8 +85,9 @@ pub fn stuck_pairs_have_no_rule()
         ↔ AllByRecursion (λ p. is_of_agents p ≡ false) c.equations }
 {}
 
-/// A row for each round. The equations that rounds fire are, all together, the interactions of a chain
-/// of steps to the configuration behind them; and a round fires the equations at its active places.
+/// There is a row for each round. The equations that rounds fire are, all together, the interactions
+/// of a chain of steps to the configuration after the rounds; and a round fires the equations at its
+/// active places.
 pub fn rows_count_interactions()
     ensures rows { (rs : List Rule) (c : Configuration) (n : ℕ) → length (rows_of rs c n) ≡ n }
     ensures chain { (rs : List Rule) (c : Configuration) (n : ℕ)

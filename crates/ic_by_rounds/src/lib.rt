@@ -1,8 +1,8 @@
-//! What the program does for whoever looks at nets, but for its own input and output.
+//! What the program does for whoever looks at nets, except for its own input and output.
 //!
-//! `reduce` makes rounds of a configuration until no step is possible, and `reduce_stream` does so of the system that
-//! a reader gives; a `Maker` makes the rounds, by one thread or by several. `trace` tells of each round how many equations it fires and what there is behind it, and
-//! `trace_stream` writes that as a table or a picture.
+//! `reduce` makes rounds of a configuration until no step is possible, and `reduce_stream` does so of the system that a
+//! reader gives; a `Maker` makes the rounds, by one thread or by several. `trace` tells of each round how many
+//! equations it fires and what there is after it, and `trace_stream` writes that as a table or a picture.
 #![tactic(auto)]
 
 mod ended;

@@ -14,8 +14,9 @@ use std::alloc::Global;
 use std::sync::Wait;
 use std::thread::Threads;
 
-/// A round of fewer equations is made by the calling thread alone. Measured up to the most equations
-/// that a configuration holds, while several threads made terms of all of them: they took longer.
+/// Only the calling thread makes a round of fewer equations. This was measured up to the most
+/// equations that a configuration holds, while several threads made terms of all of them: they took
+/// longer.
 const FEW: usize = 4_000;
 
 /// What makes rounds. Whoever makes them, they are the same rounds, with the same refusals.
@@ -36,7 +37,7 @@ pub trait Maker {
         ensures same { OnErr result (config.new ≡ config.old) };
 }
 
-/// The calling thread alone.
+/// Only the calling thread.
 #[derive(Clone, Copy, Debug)]
 pub struct OneThread;
 

@@ -18,7 +18,7 @@ pub enum Reduction {
 }
 
 impl Reduction {
-    /// Whether the configuration is printed: the one before a refused round is only where that is asked for.
+    /// Whether the configuration is printed: the one before a refused round is printed only where that is asked for.
     pub(crate) fn is_printed(&self, partial: bool) -> bool
         ensures { result ≡ is_printed partial self.now }
     {

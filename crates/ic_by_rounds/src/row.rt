@@ -1,7 +1,7 @@
 //! What a round did.
 
 /// What a round did: its number, counted from 1, how many equations it fired, and how many nodes, equations
-/// and names there are behind it. Names are counted as nodes are, each as often as it stands.
+/// and names there are after it. Names are counted as nodes are, each as often as it occurs.
 #[derive(Clone, Copy, Debug, PartialEq, Eq)]
 pub struct Row {
     pub round: u64,

@@ -34,10 +34,10 @@ use std::io::{Read, Write};
 /// Makes rounds of the system that the reader gives until no step is possible, but at most so many,
 /// and writes its configuration as a line.
 ///
-/// Where a round is refused, it is answered which one is, and the configuration before it is written only with `partial`.
-/// Nothing is written before the text is read and the rounds are made, and whoever makes them, the line is the same. A text
-/// of more than 262,144 bytes is `TextFault::Limit`, and at most 262,145 bytes are read. Where the text is refused, the
-/// lines that tell of it are appended to `told`.
+/// Where a round is refused, it is answered which one is, and the configuration before it is written only with
+/// `partial`. Nothing is written before the text is read and the rounds are made, and whoever makes them, the line is
+/// the same. A text of more than 262,144 bytes is `TextFault::Limit`, and at most 262,145 bytes are read. Where the
+/// text is refused, the lines that tell of it are appended to `told`.
 pub fn reduce_stream<M: Maker, R: Read, W: Write>(
     alloc: Global,
     maker: &M,
@@ -72,8 +72,8 @@ pub fn reduce_stream<M: Maker, R: Read, W: Write>(
 /// and writes what each of them does as a table or a picture.
 ///
 /// Where a round is refused, the rounds before it are written all the same, and it is answered which one is. Nothing is
-/// written before the text is read and the rounds are made. The reader is read as by `reduce_stream`, and a refused text
-/// told of as there.
+/// written before the text is read and the rounds are made. The reader is read, and a refused text is told of, as by
+/// `reduce_stream`.
 pub fn trace_stream<R: Read, W: Write>(
     alloc: Global,
     rounds: u64,

@@ -8,13 +8,13 @@ use crate::row::Row;
 /// How a trace is shown.
 #[derive(Clone, Copy, Debug, PartialEq, Eq)]
 pub enum Format {
-    /// A line for each round, with tabs between its numbers, behind a line that names them.
+    /// A line for each round, with tabs between its numbers, after a line that names them.
     Table,
-    /// A picture in SVG: the equations that each round fires as a bar, and the nodes behind it as a line.
+    /// A picture in SVG: the equations that each round fires as a bar, and the nodes after it as a line.
     Picture,
 }
 
-/// What rows say all together. What passes 2^64 - 1 is told as that.
+/// What rows say all together. A number above 2^64 - 1 is told as 2^64 - 1.
 #[derive(Clone, Copy, Debug, PartialEq, Eq)]
 pub(crate) struct Sums {
     pub rounds: u64,
@@ -22,7 +22,7 @@ pub(crate) struct Sums {
     pub interactions: u64,
     /// How many equations one round fires at most.
     pub greatest: u64,
-    /// How many nodes there are at most behind a round.
+    /// How many nodes there are at most after a round.
     pub nodes: u64,
     /// How many equations a round fires on average, and the tenths of it.
     pub whole: u64,
@@ -80,7 +80,7 @@ fn greatest_pairs(rows: &[Row]) -> u64
     most
 }
 
-/// How many nodes there are at most behind a round.
+/// How many nodes there are at most after a round.
 fn greatest_nodes(rows: &[Row]) -> u64
     ensures { result ≡ greatest (λ row. row.nodes) rows.now }
 {

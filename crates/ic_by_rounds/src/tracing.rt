@@ -63,7 +63,7 @@ fn add_row(round: u64, pairs: u64, after: &Flat, rows: &mut Vec<Row>) -> Result<
     Ok(())
 }
 
-/// How many names there are, each as often as it stands.
+/// How many names there are, each as often as it occurs.
 fn names_len(flat: &Flat) -> u64
     ensures { result ≡ length (configuration_names flat.now) }
 {

@@ -58,8 +58,8 @@ verdict_of looks =
     if list_any is_refused looks then Unread
     else (if list_any is_faulty looks then Faulty else Fine)
 
--- The files of some paths are looked over: what is written of each stands behind what was written, in
--- their order, and so does what is told beside it.
+-- The files of some paths are looked over: what is written of each is appended to what was written,
+-- in their order, and so is what is told beside it.
 pub record LooksOver (Gives : List ℕ → Content → Type 0) (paths : List (List ℕ))
     (old new : Option (List ℕ)) (before after : List ℕ) (verdict : Verdict) : Type 0 where
   pub looks : List Look
@@ -78,7 +78,7 @@ pub record LooksOverFront (Gives : List ℕ → Content → Type 0) (paths : Lis
   pub beside : after ≡ before ++ flat_map reasons_of looks
 
 -- The writer fails at the lines of a text: the files before that one are looked over, and a front of
--- its lines stands behind theirs.
+-- its lines is written after theirs.
 pub record LooksOverPart (Gives : List ℕ → Content → Type 0) (paths : List (List ℕ))
     (old new : Option (List ℕ)) (before after : List ℕ) : Type 0 where
   pub many : ℕ

@@ -45,7 +45,7 @@ IsWhole (about verb name) = IsLine (about verb name)
 IsWhole list = Unit {0}
 IsWhole (run digits) = IsLine (run digits)
 
--- this is looked for in a line behind these tokens
+-- this is looked for in a line after these tokens
 abbrev pub IsDue : Due → List Token → Type 0
 IsDue Command ts = ts ≡ []
 IsDue SubmitName ts = ts ≡ word (codes "submit") ∷ []
@@ -102,7 +102,7 @@ first_at k None later = later
 first_at k (Some limit) later = Some (k, limit)
 
 -- The first word of a line, before its system, that passes a limit: so many words stand before it. A
--- name is told before the number behind it, and of two names the first.
+-- name is told before a number after it, and the first of two names before the second.
 abbrev pub own_passed : LinePhrase → Option (ℕ × LineLimit)
 own_passed nothing = None
 own_passed (submit name most s) = first_at 1 (long_name name) (first_at 2 (unfit_budget most) None)
@@ -135,9 +135,10 @@ pub record IsSystemPlace (line : List ℕ) (fault : TextFault) (at : ℕ) (detai
     pub refused : IsFaultWord (written_system system) fault word detail
     pub place : IsWordPlace line (length (words_among (submit_front name most)) + word) at
 
--- The place of a fault of a line, and what more is known: of a fault of syntax where no line goes on;
--- where a line is too long its first byte too many; else that of the first word before its system that
--- passes a limit, or, where none does, that of the word at which its system is refused.
+-- The place of a fault of a line, and what more is known. A fault of syntax is where no line goes on.
+-- Where a line is too long, the place is its first byte too many. Else it is that of the first word
+-- before its system that passes a limit, or, where none does, that of the word at which its system is
+-- refused.
 abbrev pub IsLinePlace : List ℕ → TextFault → ℕ → LineDetail → Type 0
 IsLinePlace line Syntax at (Sought due) =
     IsSyntaxPlace IsLine line_words line at × IsSought line at due

@@ -21,7 +21,7 @@ symbol_text ss s = text_or_none (slice_get ss s)
 abbrev pub pair_text : List Symbol → ℕ → ℕ → List ℕ
 pair_text ss a b = symbol_text ss a ++ codes "><" ++ symbol_text ss b
 
--- a line of a warning, behind what tells where
+-- a line of a warning, after the bytes that say where it is
 abbrev pub warning_line : (place words : List ℕ) → List ℕ
 warning_line place words = concat (place ∷ codes ": warning: " ∷ words ∷ (10 ∷ []) ∷ [])
 
@@ -35,7 +35,7 @@ ruleless_line place rs _ _ = []
 abbrev pub ruleless_lines : List ℕ → Rules → List Pair → List ℕ
 ruleless_lines place rs es = flat_map (λ e. ruleless_line place rs e.left e.right) es
 
--- how often a symbol stands among symbols
+-- how often a symbol occurs among symbols
 abbrev pub count_of : List ℕ → ℕ → ℕ
 count_of ss s = count_by (λ t. t == s) ss
 

@@ -59,8 +59,8 @@ fn check_form(
     }
 }
 
-/// Appends lines that tell the faults of a file of this name, and the warnings of what has none, and tells whether it has a
-/// fault. A line of a faulty file may be without one, and is looked at by itself.
+/// Appends lines that tell the faults of a file of this name, and the warnings of what has none, and tells whether it
+/// has a fault. A line of a faulty file may be without one, and is looked at by itself.
 pub fn check(alloc: Global, file: &[u8], text: &[u8], out: &mut Vec<u8>) -> Result<bool, AllocError>
     ensures { IfOk result (λ faulty. (told : List ℕ) × Tells file.now text.now told faulty
         × (out.new.items ≡ out.old.items ++ told)) }

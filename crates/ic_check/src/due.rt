@@ -14,7 +14,7 @@ use ic_jobs::Budget;
 use ic_rules::{MAX_JOB_NAME, is_job_word};
 use ic_text::{is_numeral, number_in};
 
-/// What is looked for in a line behind so many of its words.
+/// What is looked for in a line after so many of its words.
 #[derive(Clone, Copy, Debug, PartialEq, Eq)]
 pub(crate) enum Due {
     /// The word of a command.
@@ -23,7 +23,7 @@ pub(crate) enum Due {
     SubmitName,
     /// The number of a budget, or a system.
     Budget,
-    /// A system alone, behind a budget.
+    /// Only a system, after a budget.
     System,
     /// The name of the job that is copied.
     OldName,
@@ -33,7 +33,7 @@ pub(crate) enum Due {
     VerbName,
     /// The number of a run.
     Number,
-    /// Nothing more, behind a line that is whole.
+    /// Nothing more, after a line that is whole.
     Nothing,
 }
 
@@ -60,7 +60,7 @@ fn is_verb(word: &[u8]) -> bool
         || word == b"fetch".as_slice()
 }
 
-/// What is due behind the first word of a line, if it begins one.
+/// What is due after the first word of a line, if it begins one.
 fn opened(word: &[u8]) -> Option<Due>
     ensures { result ≡ opened word.now }
 {
@@ -93,7 +93,7 @@ fn if_stands(stands: bool, next: Due) -> Option<Due>
     if stands { Some(next) } else { None }
 }
 
-/// What is due behind a word where this was due, if the word may stand there.
+/// What is due after a word where this was due, if the word may stand there.
 pub(crate) fn behind(due: Due, word: &[u8]) -> Option<Due>
     ensures { result ≡ behind due word.now }
 {

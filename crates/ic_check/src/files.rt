@@ -43,8 +43,9 @@ pub trait Source {
         ensures given { IfOk result (λ given. gives self.now path.now (content_of given)) };
 }
 
-/// Writes the faults and warnings of the files of these paths, in their order, each file's at once. One that isn't given
-/// doesn't keep the others from being looked over; why it isn't is appended to `told`, also where a fault comes later.
+/// Writes the faults and warnings of the files of these paths, in their order, each file's at once. One that isn't
+/// given doesn't keep the others from being looked over; why it isn't is appended to `told`, also where a fault comes
+/// later.
 pub fn check_files<S: Source, W: Write>(
     alloc: Global,
     source: &S,

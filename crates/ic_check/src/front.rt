@@ -10,7 +10,7 @@ use ic_text::{is_blank, is_word_byte};
 /// A line as far as its words may stand in one, up to its system.
 #[derive(Clone, Copy)]
 pub(crate) struct Front<'a> {
-    /// What is due behind them.
+    /// What is due after them.
     pub due: Due,
     /// What is left of the line.
     pub rest: &'a [u8],
@@ -18,7 +18,7 @@ pub(crate) struct Front<'a> {
     pub passed: Option<(usize, LineLimit)>,
 }
 
-/// A text behind the blanks with which it begins.
+/// A text after the blanks with which it begins.
 fn behind_blanks(text: &[u8]) -> &[u8]
     ensures rest { result.now ≡ behind_blanks text.now }
     ensures shorter { length result.now ≤ length text.now }
@@ -31,7 +31,7 @@ fn behind_blanks(text: &[u8]) -> &[u8]
     &text[text.len()..]
 }
 
-/// The word with which a text begins, or nothing, and the text behind it.
+/// The word with which a text begins, or nothing, and the text after it.
 fn split_word(text: &[u8]) -> (&[u8], &[u8])
     ensures word { result.0.now ≡ first_word text.now }
     ensures rest { result.1.now ≡ behind_word text.now }

@@ -72,7 +72,7 @@ pub fn pairs_without_a_rule_are_stuck()
 }
 
 /// A symbol is told to stand only once exactly where it stands at just one place among the symbols that are gone
-/// through, and each symbol of a table is asked for by its own number and told by its own text.
+/// through. Each symbol of a table is asked for by its own number and told by its own text.
 pub fn symbols_told_once_stand_at_one_place()
     ensures told { (place all : List ℕ) (s : ℕ) (text : List ℕ) → StandsOnce s all
         → once_line place all s text ≡ warning_line place (text ++ codes " stands only once") }
@@ -84,9 +84,9 @@ pub fn symbols_told_once_stand_at_one_place()
         ++ once_lines place all (i + 1) (drop (i + 1) ss) }
 {}
 
-/// Each warning has its line in what is told of a system: each equation of two agents that no rule is of, each symbol
-/// that stands at just one place, and each rule whose symbols can't both come to stand in the configuration. All that is
-/// told are lines that begin with the place: the file's name, and of a line its number.
+/// Each warning has its line in what is told of a system: an equation of two agents that no rule is of, a symbol at
+/// just one place, a rule whose symbols can't both come to stand in the configuration. All that is told are lines that
+/// begin with the place: the file's name, and of a line its number.
 pub fn each_warning_is_told()
     ensures begins { (place words : List ℕ)
         → warning_line place words ≡ place ++ codes ": warning: " ++ words ++ 10 ∷ [] }
@@ -123,8 +123,8 @@ pub fn each_symbol_of_a_text_is_gone_through()
         → is_among s (text_symbols rs c) ≡ true }
 {}
 
-/// A file is a system where `{` stands behind the blanks with which it begins, a configuration where `<` does, and lines
-/// for a server in all other cases, also where nothing but blanks stands there.
+/// A file is a system where `{` follows the blanks with which it begins, a configuration where `<` does, and lines for
+/// a server in all other cases, also where it has nothing but blanks.
 pub fn forms_are_told_by_their_first_byte()
     ensures system { (blanks rest : List ℕ) → list_all is_blank blanks ≡ true
         → form_of (blanks ++ codes "{" ++ rest) ≡ form.System }
@@ -151,8 +151,8 @@ pub fn unused_rules_are_never_used()
         → IsReach rs c among → IsReach rs c other → (s : ℕ) → among s ≡ other s }
 {}
 
-/// Warnings are lines, each of which begins with the place of what it warns of: the file's name where a system is the
-/// whole file, and of a line the file's name and the number of this line in the file.
+/// Warnings are lines, each of which begins with the place of what it warns of. That is the file's name where a
+/// system is the whole file, and for a line the file's name and the number of this line in the file.
 pub fn warnings_are_told_with_their_place()
     ensures whole { (file told : List ℕ) (rs : Rules) (c : Configuration) → Warns file rs c told
         → (words : List (List ℕ)) × (told ≡ flat_map (warning_line file) words) }
@@ -164,8 +164,9 @@ pub fn warnings_are_told_with_their_place()
         → IsToldAt file (length above + 1) line told }
 {}
 
-/// Faults and warnings are told one a line, where the file's name has no line feed and each symbol is a symbol, as those of
-/// a text are. The name under which `check_files` tells of a path has none. So all that is told of a file is lines.
+/// Faults and warnings are told one a line, where the file's name has no line feed and each symbol is a symbol, as
+/// those of a text are. The name under which `check_files` tells of a path has none. So all that is told of a file is
+/// lines.
 pub fn faults_and_warnings_are_one_line_each()
     ensures fault { (file text : List ℕ) (place : Option ℕ) (kind : Kind) (fault : TextFault)
         (detail : Detail) → has_feed file ≡ false
@@ -193,10 +194,12 @@ pub fn lines_begin_with_command_words()
     ic_commands::laws::command_words_are();
 }
 
-/// What is said to be looked for in a line is what it goes on with: a word stands there exactly where it is of this kind. A
-/// mark does so in no line but a submit, as the first one of its system, and where a system may stand each does. So it is
-/// at the place that is told. Where none of these is told the line goes on to submits alone, and a mark of their system
-/// stands before the place.
+/// What is said to be looked for in a line is what it goes on with: a word may stand there exactly where it is of this
+/// kind. A mark may stand there only as the first token of a submit's system, and each system may stand where one is
+/// due.
+///
+/// The same holds at the place that is told. Where nothing is said to be looked for, the line goes on to submits only,
+/// and a mark of their system stands before the place.
 pub fn what_is_looked_for_goes_on()
     ensures word { (due : Due) (front : List Token) (w : List ℕ) → IsDue due front
         → GoesWith front (word w) ↔ IsTrue (is_looked_for due w) }
@@ -228,9 +231,10 @@ pub fn what_is_looked_for_goes_on()
     lines_begin_with_command_words();
 }
 
-/// A limit that a line is told to pass with a word is passed by this word, and for that the line is refused. A submit
-/// whose words before the system pass none is read as its system is, and another line that passes none isn't refused. A line is
-/// told one such limit, at one place, where this word stands. No name before it is too long: of two that are, the first is told.
+/// A limit that a line is told to pass with a word is passed by this word, and the line is refused for it. A submit
+/// whose words before the system pass no limit is read as its system is, and any other line that passes none isn't
+/// refused. A line is told one such limit, at one place, where this word is. No name before it is too long: of two
+/// names that are, the first is told.
 pub fn limits_of_lines_are_passed()
     ensures passed { (p : LinePhrase) (k : ℕ) (limit : LineLimit) → own_passed p ≡ Some (k, limit)
         → (w : List ℕ) × (slice_get (words_among (line_words p)) k ≡ Some w) × Passes limit w }
@@ -295,9 +299,9 @@ pub fn a_fault_of_a_line_has_one_place()
     ic_text::laws::words_before_the_first_are_innocent();
 }
 
-/// The line before a fault is innocent. Cut before one of syntax, it has such a fault nowhere but at its end, and it has one
-/// such place at most. Cut before another it wants more, so it has none of the other faults. One that is cut where it gets
-/// too long isn't too long, and with one byte more it is.
+/// The line before a fault is innocent. A line that is cut before a fault of syntax has such a fault only at its end,
+/// and a line has one such place at most. A line that is cut before another fault wants more, so it has none of the
+/// other faults. One that is cut where it gets too long isn't too long, and with one more byte it is.
 pub fn the_line_before_a_fault_is_innocent()
     ensures cut { (line : List ℕ) (at cut : ℕ) → IsSyntaxPlace IsLine line_words line at
         → IsSyntaxPlace IsLine line_words (take at line) cut → cut ≡ at }
@@ -320,8 +324,8 @@ pub fn the_line_before_a_fault_is_innocent()
     ic_commands::laws::command_words_are();
 }
 
-/// The place of a submit's fault is that of its system's, behind the words before the system. Of a fault of syntax it is so
-/// whatever these words are; of another they have to be within their limits.
+/// The place of a submit's fault is the place of its system's fault, counted on from the words before the system. For a
+/// fault of syntax this is so whatever these words are; for another one they have to be within their limits.
 pub fn a_submit_is_told_where_its_system_is_refused()
     ensures syntax { (front text name : List ℕ) (most : Option (List ℕ)) (at : ℕ)
         → IsSubmitFront front text name most
@@ -337,9 +341,9 @@ pub fn a_submit_is_told_where_its_system_is_refused()
     ic_commands::laws::command_words_are();
 }
 
-/// The place that is told of a line's fault is one of this line. It is told by the line's number and by the column in the
-/// line alone, and that is the place in the whole file: where the lines above, each with its line feed, and the front of
-/// the line stand before it.
+/// The place that is told of a line's fault is one of this line. It is told only by the line's number and by the column
+/// in the line. That is the place in the whole file before which the lines above, each with its line feed, and the
+/// front of the line stand.
 pub fn places_of_lines_are_places_of_the_file()
     ensures within { (line : List ℕ) (fault : TextFault) (at : ℕ) (detail : LineDetail)
         → IsLinePlace line fault at detail → at ≤ length line }
@@ -362,8 +366,9 @@ pub fn fronts_of_submits_are()
     ensures budget { IsSubmitFront (codes "submit a 7") (codes "{}<|>") (codes "a") (Some (codes "7")) }
 {}
 
-/// What is told of terms and equations isn't told of nothing: each agent stands in its term, in whichever argument. An equation of
-/// two symbols is counted once, and no other one. An equation that is active by a rule is taken by that rule.
+/// What is told of terms and equations does hold of some: each agent stands in its term, in whichever argument. An
+/// equation of two symbols is counted once, and no other one. An equation that is active by a rule is taken by that
+/// rule.
 pub fn what_stands_there_is_found()
     ensures itself { (s : ℕ) (ts : Trees) → StandsIn s (agent s ts) }
     ensures argument { (s r j : ℕ) (ts : Trees) (t : Tree) → slice_get (list_of ts) j ≡ Some t

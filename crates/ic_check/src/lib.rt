@@ -1,10 +1,11 @@
 //! Looking over texts: their faults, each with its place, and what is legal in them and mostly a mistake.
 //!
-//! `check` tells in lines what a file holds: a system, a configuration, or lines for a server, by its form. Faults are told
-//! as compilers do, and lines behind a faulty one are looked at, too. Of a system without a fault it warns of pairs that no
-//! rule takes apart, of symbols that stand only once, and of rules that are never used. `check_files` does so of files, one
-//! after the other, whatever gives them. `laws` says in other words what
-//! the warnings are.
+//! `check` tells in lines what a file holds: a system, a configuration, or lines for a server, by its form. Faults are
+//! told as compilers do, and lines after a faulty one are looked at, too.
+//!
+//! For a system without a fault it warns of pairs that no rule takes apart, of symbols that stand only once, and of
+//! rules that are never used. `check_files` does so of files, one after the other, whatever gives them. `laws` says in
+//! other words what the warnings are.
 #![tactic(auto)]
 
 mod checking;

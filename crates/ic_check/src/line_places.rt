@@ -1,4 +1,4 @@
-//! Where in a line its fault stands.
+//! Where in a line its fault is.
 
 ghost use Rattle.std.specs.Prelude.{◌≡◌, ◌≤◌, ◌<◌, ◌+◌, ◌^◌, Err, IfOk, IfSome, length};
 ghost use Rattle.ic_commands.specs.LineText.{ReadsLine};
@@ -25,7 +25,7 @@ pub(crate) enum LineDetail {
 /// Where a line is refused.
 #[derive(Clone, Copy, Debug, PartialEq, Eq)]
 pub(crate) struct LinePlace {
-    /// Before how many bytes of the line the fault stands.
+    /// How many bytes of the line stand before the fault.
     pub at: usize,
     pub detail: LineDetail,
 }

@@ -85,7 +85,7 @@ fn put_unplaced(
     Ok(())
 }
 
-/// A fault, where no memory was wanted.
+/// A fault, where memory didn't run out.
 pub(crate) fn known_fault(fault: TextFault) -> Result<TextFault, AllocError>
     ensures same { IfOk result (λ known. known ≡ fault) }
     ensures known { IfOk result (λ known. fault ≢ TextFault.Memory) }
@@ -96,7 +96,7 @@ pub(crate) fn known_fault(fault: TextFault) -> Result<TextFault, AllocError>
     }
 }
 
-/// A refusal, where no memory was wanted.
+/// A refusal, where memory didn't run out.
 pub(crate) fn known(misread: Misread) -> Result<Misread, AllocError>
     ensures same { IfOk result (λ known. known ≡ misread) }
     ensures known { IfOk result (λ known. misread.fault ≢ TextFault.Memory) }

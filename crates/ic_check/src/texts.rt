@@ -45,7 +45,7 @@ pub(crate) fn check_system(
     Ok(false)
 }
 
-/// Appends the line of a fault of a text that a whole file is, where no memory was wanted.
+/// Appends the line of a fault of a text that a whole file is, where memory didn't run out.
 fn put_misread(
     alloc: Global,
     file: &[u8],

@@ -114,7 +114,7 @@ fn put_ruleless_lines(
     Ok(())
 }
 
-/// How often a symbol stands among these.
+/// How often a symbol occurs among these.
 fn count_of(symbols: &[u32], symbol: u32) -> usize
     ensures { result ≡ count_of symbols.now symbol }
 {

@@ -86,18 +86,18 @@ named n = 0xff ∷ in_eight n
 abbrev pub front_by_hand : ℕ → List ℕ
 front_by_hand digit = 0x49 ∷ 0x43 ∷ 0x54 ∷ digit ∷ 1 ∷ 3 ∷ 0x74 ∷ 0x77 ∷ 0x6f ∷ []
 
--- what all have behind `next`: three symbols, and two rules
+-- what all have after `next`: three symbols, and two rules
 abbrev pub system_by_hand : List ℕ
 system_by_hand = (3 ∷ 3 ∷ 0x41 ∷ 0x64 ∷ 0x64 ∷ 2 ∷ 1 ∷ 0x5a ∷ 0 ∷ 1 ∷ 0x53 ∷ 1 ∷ [])
     ++ (0 ∷ 2 ∷ []) ++ (0 ∷ 1 ∷ []) ++ named 0 ++ named 0
     ++ (0 ∷ 2 ∷ 2 ∷ []) ++ named 0 ++ named 1 ++ (0 ∷ []) ++ named 0 ++ named 1
 
--- `next` 18, and what stands behind it as the job is submitted: one interface term, one equation
+-- `next` 18, and what follows it as the job is submitted: one interface term, one equation
 abbrev pub begun_by_hand : List ℕ
 begun_by_hand = in_eight 18 ++ system_by_hand
     ++ (1 ∷ 0 ∷ 1 ∷ []) ++ named 17 ++ (0 ∷ []) ++ named 17 ++ (2 ∷ 1 ∷ []) ++ (2 ∷ 1 ∷ [])
 
--- `next` 21, and what stands behind it after two rounds: one interface term, no equation
+-- `next` 21, and what follows it after two rounds: one interface term, no equation
 abbrev pub ended_by_hand : List ℕ
 ended_by_hand = in_eight 21 ++ system_by_hand ++ (1 ∷ 0 ∷ 0 ∷ []) ++ (2 ∷ 2 ∷ 1 ∷ [])
 

@@ -8,7 +8,7 @@ ghost use Rattle.ic_codec.specs.declared.fault.CodecFault.TheVariants.{NotATable
 
 use crate::fault::CodecFault;
 
-/// The first byte, and those behind it.
+/// The first byte, and those after it.
 pub(crate) fn byte_at(bytes: &[u8]) -> Result<(u8, &[u8]), CodecFault>
     ensures read { IfOk result (λ r. bytes.now ≡ r.0 ∷ r.1.now) }
     ensures refused { IfErr result (λ fault. (fault ≡ NotATable) × (bytes.now ≡ [])) }
@@ -19,7 +19,7 @@ pub(crate) fn byte_at(bytes: &[u8]) -> Result<(u8, &[u8]), CodecFault>
     }
 }
 
-/// A number in two bytes, and the bytes behind it.
+/// A number in two bytes, and the bytes after it.
 pub(crate) fn two_bytes_at(bytes: &[u8]) -> Result<(u16, &[u8]), CodecFault>
     ensures read { IfOk result (λ r. bytes.now ≡ two_bytes r.0 ++ r.1.now) }
     ensures small { IfOk result (λ r. r.0 < 2 ^ 16) }
@@ -32,7 +32,7 @@ pub(crate) fn two_bytes_at(bytes: &[u8]) -> Result<(u16, &[u8]), CodecFault>
     Ok((u16::from_be_bytes([front[0], front[1]]), rest))
 }
 
-/// A number in eight bytes, and the bytes behind it.
+/// A number in eight bytes, and the bytes after it.
 pub(crate) fn eight_bytes_at(bytes: &[u8]) -> Result<(u64, &[u8]), CodecFault>
     ensures read { IfOk result (λ r. bytes.now ≡ eight_bytes r.0 ++ r.1.now) }
     ensures small { IfOk result (λ r. r.0 < 2 ^ 64) }
@@ -48,7 +48,7 @@ pub(crate) fn eight_bytes_at(bytes: &[u8]) -> Result<(u64, &[u8]), CodecFault>
     Ok((number, rest))
 }
 
-/// A text of the length that stands before it, and the bytes behind it.
+/// A text of the length that stands before it, and the bytes after it.
 pub(crate) fn text_at(bytes: &[u8]) -> Result<(&[u8], &[u8]), CodecFault>
     ensures read { IfOk result (λ r. bytes.now ≡ text_bytes r.0.now ++ r.1.now) }
     ensures refused { IfErr result (λ fault. fault ≡ NotATable

@@ -27,7 +27,7 @@ pub(crate) fn put_flat(flat: &Flat, out: &mut Vec<u8>)
     put_words(flat.words(), out);
 }
 
-/// A configuration over these symbols, with this `next`, and the bytes behind it.
+/// A configuration over these symbols, with this `next`, and the bytes after it.
 pub(crate) fn flat_at<'a>(
     alloc: Global,
     symbols: &Symbols,

@@ -23,7 +23,7 @@ pub const MAX_BYTES: usize = 3_036_677;
 /// The forms by the letters that they begin with. `Ict2` is written, and both are read.
 #[derive(Clone, Copy)]
 pub(crate) enum Form {
-    /// The form of before, in which no job has a budget.
+    /// The earlier form, in which no job has a budget.
     Ict1,
     Ict2,
 }
@@ -39,7 +39,7 @@ pub(crate) fn put_head(out: &mut Vec<u8>)
     put_byte(b'2', out);
 }
 
-/// The form whose four letters these bytes begin with, and the bytes behind them.
+/// The form whose four letters these bytes begin with, and the bytes after them.
 pub(crate) fn form_at(bytes: &[u8]) -> Result<(Form, &[u8]), CodecFault>
     ensures read { IfOk result (λ r. bytes.now ≡ form_head r.0 ++ r.1.now) }
     ensures no_old { IfErr result (λ fault. fault ≡ NotATable
@@ -111,7 +111,7 @@ fn budget_number(budget: &Option<Budget>) -> u64
     }
 }
 
-/// A heading, and the bytes behind it.
+/// A heading, and the bytes after it.
 pub(crate) fn heading_at(form: Form, bytes: &[u8]) -> Result<(Heading, &[u8]), CodecFault>
     ensures read { IfOk result (λ r.
         BeginsWith (HasHeadingBytes form) (heading_bytes form) bytes.now r.0 r.1.now) }
@@ -174,7 +174,7 @@ fn state_of(byte: u8) -> Option<State>
     }
 }
 
-/// A budget or none, where the form has a place for it, and the bytes behind it.
+/// A budget or none, where the form has a place for it, and the bytes after it.
 fn budget_at(form: Form, bytes: &[u8]) -> Result<(Option<Budget>, &[u8]), CodecFault>
     ensures read { IfOk result (λ r.
         BeginsWith (HasBudgetBytes form) (budget_bytes form) bytes.now r.0 r.1.now) }

@@ -42,7 +42,7 @@ fn put_job(job: &Job, out: &mut Vec<u8>)
     put_flat(job.config(), out);
 }
 
-/// So many jobs, and the bytes behind them.
+/// So many jobs, and the bytes after them.
 pub(crate) fn jobs_at(
     alloc: Global,
     form: Form,

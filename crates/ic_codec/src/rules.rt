@@ -41,7 +41,7 @@ fn put_rule(rule: &Rule, out: &mut Vec<u8>)
     put_terms(rule.right_args(), out);
 }
 
-/// A rule set over these symbols, the number of its rules first, and the bytes behind it.
+/// A rule set over these symbols, the number of its rules first, and the bytes after it.
 pub(crate) fn rule_set_at(
     alloc: Global,
     symbols: Symbols,
@@ -74,7 +74,7 @@ fn build(alloc: Global, symbols: Symbols, rules: Vec<(Cell, Cell)>) -> Result<Ru
     }
 }
 
-/// So many rules with at most 2,048 nodes together, how many are left, and the bytes behind them.
+/// So many rules with at most 2,048 nodes together, how many are left, and the bytes after them.
 fn rules_at<'a>(
     alloc: Global,
     symbols: &Symbols,
@@ -100,7 +100,7 @@ fn rules_at<'a>(
     Ok((rules, left, rest))
 }
 
-/// A rule whose arguments have at most so many nodes, how many are left, and the bytes behind it.
+/// A rule whose arguments have at most so many nodes, how many are left, and the bytes after it.
 fn rule_at<'a>(
     alloc: Global,
     symbols: &Symbols,
@@ -135,7 +135,7 @@ fn rule_at<'a>(
     Err(CodecFault::NotATable)
 }
 
-/// The number of a known symbol, and the bytes behind it.
+/// The number of a known symbol, and the bytes after it.
 fn symbol_at<'a>(symbols: &Symbols, bytes: &'a [u8]) -> Result<(u32, &'a [u8]), CodecFault>
     ensures read { IfOk result (λ r. bytes.now ≡ r.0 ∷ r.1.now) }
     ensures known { IfOk result (λ r. r.0 < length symbols.now) }

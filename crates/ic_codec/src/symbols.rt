@@ -35,7 +35,7 @@ fn put_symbol(symbols: &Symbols, sym: u32, out: &mut Vec<u8>)
     put_byte(symbols.arity(sym) as u8, out);
 }
 
-/// Symbols, their number first, and the bytes behind them.
+/// Symbols, their number first, and the bytes after them.
 pub(crate) fn symbols_at(alloc: Global, bytes: &[u8]) -> Result<(Symbols, &[u8]), CodecFault>
     ensures read { IfOk result (λ r. BeginsWith AreSymbols symbols_bytes bytes.now r.0 r.1.now) }
     ensures refused { IfErr result (λ fault. fault ≡ NotATable
@@ -52,7 +52,7 @@ pub(crate) fn symbols_at(alloc: Global, bytes: &[u8]) -> Result<(Symbols, &[u8])
     Ok((symbols, rest))
 }
 
-/// Numbers the symbol that the bytes begin with as the next one, and answers the bytes behind it.
+/// Numbers the symbol that the bytes begin with as the next one, and answers the bytes after it.
 fn append_symbol_at<'a>(symbols: &mut Symbols, bytes: &'a [u8]) -> Result<&'a [u8], CodecFault>
     ensures read { IfOk result (λ rest. (s : Symbol)
         × ((symbols.new ≡ symbols.old ++ s ∷ []) × (bytes.now ≡ symbol_bytes s ++ rest.now))) }

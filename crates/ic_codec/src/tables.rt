@@ -14,8 +14,8 @@ use crate::jobs::{jobs_at, put_jobs};
 use ic_jobs::{Job, Table};
 use std::alloc::Global;
 
-/// Appends the byte form of a table, and leaves what stood before. It has no answer for want of
-/// memory: the room is there.
+/// Appends the byte form of a table, and leaves what stood before. It never answers that memory ran
+/// out: the room is there.
 pub fn encode_into(table: &Table, out: &mut Vec<u8>)
     requires { vec_len out.old + MAX_BYTES ≤ vec_capacity out.old }
     ensures bytes { out.new.items ≡ out.old.items ++ table_bytes table.now }

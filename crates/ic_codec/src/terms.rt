@@ -53,7 +53,7 @@ pub(crate) fn put_terms(terms: &[Term], out: &mut Vec<u8>)
     }
 }
 
-/// A term of at most so many nodes, how many are left, and the bytes behind it. It recurses as deep as
+/// A term of at most so many nodes, how many are left, and the bytes after it. It recurses as deep as
 /// the term, which has no more nodes than that.
 #[cycle(read)]
 pub(crate) fn term_at<'a>(
@@ -84,7 +84,7 @@ pub(crate) fn term_at<'a>(
     Ok((agent(alloc, sym, args)?, left, rest))
 }
 
-/// So many terms with at most so many nodes together, how many are left, and the bytes behind them.
+/// So many terms with at most so many nodes together, how many are left, and the bytes after them.
 #[cycle(read)]
 pub(crate) fn terms_at<'a>(
     alloc: Global,

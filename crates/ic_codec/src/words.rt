@@ -37,7 +37,7 @@ fn put_word(word: Word, out: &mut Vec<u8>)
     }
 }
 
-/// A word over known symbols, and the bytes behind it.
+/// A word over known symbols, and the bytes after it.
 fn word_at<'a>(symbols: &Symbols, bytes: &'a [u8]) -> Result<(Word, &'a [u8]), CodecFault>
     requires { length symbols.now ≤ 64 }
     ensures read { IfOk result (λ r.
@@ -57,7 +57,7 @@ fn word_at<'a>(symbols: &Symbols, bytes: &'a [u8]) -> Result<(Word, &'a [u8]), C
     Ok((Word::Agent(sym, symbols.arity(sym)), rest))
 }
 
-/// The words of so many terms, at most 8,192 words, and the bytes behind them.
+/// The words of so many terms, at most 8,192 words, and the bytes after them.
 pub(crate) fn words_at<'a>(
     alloc: Global,
     symbols: &Symbols,

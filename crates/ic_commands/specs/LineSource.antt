@@ -8,9 +8,9 @@ use Rattle.ic_text.specs.Token.{Token, word}
 use Rattle.ic_text.specs.Name.{is_numeral}
 use Rattle.ic_text.specs.SystemSource.{SystemPhrase, IsSystemPhrase, system_words}
 
--- A line: nothing, the submit of a job's name, the number of its budget or none, and its system, the
--- copy of a job under a new name, what is asked of a job by its name, the list of all jobs, or a run
--- of so many (this project's choice).
+-- A line: nothing, a submit, the copy of a job under a new name, what is asked of a job by its name,
+-- the list of all jobs, or a run of so many (this project's choice). A submit has a job's name, the
+-- number of its budget or none, and its system.
 pub data LinePhrase : Type 0 where
   nothing : LinePhrase
   submit : List ℕ → Option (List ℕ) → SystemPhrase → LinePhrase

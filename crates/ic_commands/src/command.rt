@@ -102,8 +102,8 @@ fn within_limits(word: &[u8], digits: &[u8]) -> Option<(JobName, Option<Budget>)
     }
 }
 
-/// The line of a `submit` with this behind it. A name that is too long, and a number of no budget, are tested where the
-/// text behind them is a system: such a line makes no value.
+/// The line of a `submit` with this after it. A name that is too long, and a number of no budget, are tested where the
+/// text after them is a system: such a line makes no value.
 fn read_submit(alloc: Global, rest: &[u8]) -> Result<Line, TextFault>
     requires { length rest.now ≤ MAX_TEXT }
     ensures line { result ≢ Err TextFault.Memory → ReadsBehind opening.Submit rest.now result }
@@ -147,7 +147,7 @@ fn names_of(first: &[u8], second: &[u8]) -> Option<(JobName, JobName)>
     }
 }
 
-/// The line of a `copy` with this behind it.
+/// The line of a `copy` with this after it.
 fn read_copy(rest: &[u8]) -> Result<Line, TextFault>
     ensures line { ReadsBehind opening.Copy rest.now result }
     ensures memory { result ≢ Err TextFault.Memory }
@@ -165,7 +165,7 @@ fn read_copy(rest: &[u8]) -> Result<Line, TextFault>
     }
 }
 
-/// The line of a verb with this behind it.
+/// The line of a verb with this after it.
 fn read_about(verb: Verb, rest: &[u8]) -> Result<Line, TextFault>
     ensures line { ReadsBehind (opening.About verb) rest.now result }
     ensures memory { result ≢ Err TextFault.Memory }
@@ -182,7 +182,7 @@ fn read_about(verb: Verb, rest: &[u8]) -> Result<Line, TextFault>
     }
 }
 
-/// The line of a `list` with this behind it.
+/// The line of a `list` with this after it.
 fn read_list(rest: &[u8]) -> Result<Line, TextFault>
     ensures line { ReadsBehind opening.List rest.now result }
     ensures memory { result ≢ Err TextFault.Memory }
@@ -206,7 +206,7 @@ fn run_of(word: &[u8]) -> Result<Line, TextFault>
     }
 }
 
-/// The line of a `run` with this behind it.
+/// The line of a `run` with this after it.
 fn read_run(rest: &[u8]) -> Result<Line, TextFault>
     ensures line { ReadsBehind opening.Run rest.now result }
     ensures memory { result ≢ Err TextFault.Memory }
@@ -240,9 +240,9 @@ fn line_of(alloc: Global, text: &[u8]) -> Result<Line, TextFault>
     }
 }
 
-/// What a command line asks, or the first refusal over the whole line. Its end, if it stands there, is a blank and counts
-/// as a byte. The system of a submit is read as `read_flat_system` reads it, and nothing else is given the allocator. Takes
-/// n log n steps.
+/// What a command line asks, or the first refusal over the whole line. Its end, if it stands there, is a blank and
+/// counts as a byte. The system of a submit is read as `read_flat_system` reads it, and nothing else is given the
+/// allocator. Takes n log n steps.
 pub fn read_command(alloc: Global, text: &[u8]) -> Result<Line, TextFault>
     ensures read { IfOk result (λ line. ReadsLine text.now (Ok line)) }
     ensures refused { IfErr result

@@ -40,7 +40,7 @@ ghost use Rattle.ic_commands.specs.ScriptSense.{without_run, ReadsScriptLine};
 ghost use Rattle.ic_commands.specs.LinePlain.{IsPlainly, phrase_texts};
 ghost use Rattle.ic_commands.specs.ReplyText.{state_text, refusal_text, reply_text, reply_words};
 
-/// A text spells at most one line, and it is read in just one way, never as want of memory.
+/// A text spells at most one line, and it is read in just one way, which is never that memory ran out.
 pub fn one_line_reading()
     ensures source { (text : List ℕ) (p q : LinePhrase) →
         SpellsLine text p → SpellsLine text q → p ≡ q }
@@ -65,10 +65,12 @@ pub fn command_words_are()
     ensures lines { (p : LinePhrase) → words_among (line_words p) ≡ phrase_texts p }
 {}
 
-/// What each line asks that is written in its plainest form: each command with one space behind its word, a run, a line
-/// of blanks. A job's name of more than 16 bytes passes a limit, in a submit where the text behind it is a system, and
-/// in a copy whether it is the first or the second. So does a number of more than 1,000, however long it is, and in front of a system a number that is no budget's: 0, or 2^32
-/// and more.
+/// What each line asks that is written in its plainest form: each command with one space after its word, a run, a line
+/// of blanks.
+///
+/// A job's name of more than 16 bytes passes a limit. In a submit it does so where the text after it is a system, and
+/// in a copy whether it is the first or the second. So does a number of more than 1,000 in a run, however long it is.
+/// So does a number in front of a system that is no budget's: 0, or 2^32 and more.
 pub fn commands_ask()
     ensures plain { (line : Line) (text : List ℕ) → IsPlainly line text → ReadsLine text (Ok line) }
     ensures too_long { (verb : Verb) (name : List ℕ) → IsTrue (is_job_word name) →
@@ -101,8 +103,8 @@ pub fn each_command_has_a_line()
 {}
 
 /// A submit's system is read as a system by itself, where its name is a job's name: then the line is a submit of what
-/// the system means, or refused as the system is. So it is behind a budget. Where the text is no system, it may begin with
-/// a number, and then the line is another submit.
+/// the system means, or refused as the system is. The same holds after a budget. Where the text is no system, it may
+/// begin with a number, and then the line is another submit.
 pub fn a_submit_is_read_as_its_system()
     ensures without { (name text : List ℕ) (a : Result SystemParts TextFault) →
         IsTrue (is_job_name name) → length text + 24 ≤ MAX_TEXT → ReadsSystem text a →
@@ -115,8 +117,8 @@ pub fn a_submit_is_read_as_its_system()
         (submitted name (Some n) a) }
 {}
 
-/// A job's name is a word of its bytes that has at most 16 of them, a letter first. A number is `0`, or digits without a
-/// leading zero: the decimal text of what it writes.
+/// A job's name is a word of its bytes that has at most 16 of them, a letter first. A number is `0`, or digits without
+/// a leading zero: the decimal text of what it writes.
 pub fn names_of_jobs_and_numbers_are()
     ensures names { (w : List ℕ) →
         is_job_name w ≡ (is_job_word w && nat_le (length w) MAX_JOB_NAME) }
@@ -154,7 +156,7 @@ pub fn answers_are()
         ++ codes ":" ++ decimal rounds }
 {}
 
-/// A line of a script is read in just one way, never as want of memory.
+/// A line of a script is read in just one way, which is never that memory ran out.
 pub fn one_script_line_reading()
     ensures answer { (text : List ℕ) (a b : Result (Option Command) TextFault) →
         ReadsScriptLine text a → ReadsScriptLine text b → a ≡ b }

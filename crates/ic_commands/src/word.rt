@@ -20,8 +20,7 @@ fn without_blanks(text: &[u8]) -> &[u8]
     &[]
 }
 
-/// The word at the front of a text, behind its blanks, and the text behind the word. The word is empty where none stands
-/// there.
+/// The first word of a text, after its blanks, and the text after the word. The word is empty where there is none.
 pub(crate) fn split_word(text: &[u8]) -> (&[u8], &[u8])
     ensures tokens { tokens text.now ≡ before (word_of result.0.now) (tokens result.1.now) }
     ensures front { result.0.now ≡ [] → HasNoWord result.1.now (tokens result.1.now) }

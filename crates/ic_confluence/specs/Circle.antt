@@ -7,7 +7,7 @@ use Rattle.ic_term.specs.Configuration.{Configuration}
 abbrev pub one_argument : ℕ → Tree → Tree
 one_argument s t = agent s (more_trees t no_trees)
 
--- a configuration of one equation or two alone, whose names are x, numbered 0, and y, numbered 1
+-- a configuration of only one equation or two, whose names are x, numbered 0, and y, numbered 1
 abbrev pub of_equations : List Pair → Configuration
 of_equations es = record { interface = []; equations = es; next = 2 }
 

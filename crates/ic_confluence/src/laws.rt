@@ -34,7 +34,7 @@ pub fn steps_keep_free_names()
 {}
 
 /// Configurations of one net have the same free names, and as many nodes and equations. One without
-/// equations, in which each name occurs at most once, is all alone.
+/// equations, in which each name occurs at most once, is the same net as itself only.
 pub fn same_nets_have_one_shape()
     ensures free { (c d : Configuration) → Same c d → (n : ℕ)
         → (occurrences n (configuration_names c) ≡ 1)
@@ -48,8 +48,8 @@ pub fn same_nets_have_one_shape()
 {}
 
 /// Configurations of one net have the same agents, each as often. And they have the same circles:
-/// what holds of the way round a circle wherever that begins, holds of as many equations of both.
-/// Of two equations alone the ways round are one, but for where they begin.
+/// what holds of the way round a circle, wherever that begins, holds of as many equations of both.
+/// Where each has one equation only, their ways round are the same except for where they begin.
 pub fn same_nets_have_the_same_agents()
     ensures agents { (c d : Configuration) → Same c d
         → IsPermutation (configuration_symbols c) (configuration_symbols d) }

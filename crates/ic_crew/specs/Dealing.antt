@@ -34,6 +34,6 @@ pub record IsDealing (rs : List Rule) (count : ℕ) (ws : List PlainWork)
   pub sorted : IsSortedBy (is_dealt_before rs) order
   pub dealt : AreDealt rs (replicate count []) order parts
 
--- all works of the parts, one part behind the other
+-- all works of the parts, one part after the other
 abbrev pub joined : List (List PlainWork) → List PlainWork
 joined parts = flat_map (λ part. part) parts

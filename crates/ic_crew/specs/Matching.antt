@@ -16,7 +16,7 @@ work_eq v w = v.place == w.place && v.base == w.base && v.active.rule == w.activ
 abbrev pub is_answer_to : Rules → PlainWork → AnswerParts → Bool
 is_answer_to rs w a = work_eq w a.work && rules_eq rs a.rules
 
--- how often a work stands in a list
+-- how often a work occurs in a list
 abbrev pub times : PlainWork → List PlainWork → ℕ
 times w ws = count_by (work_eq w) ws
 

@@ -8,7 +8,7 @@ abbrev pub workers_of : Option Standing → ℕ
 workers_of None = 0
 workers_of (Some s) = s.crew.workers
 
--- how many workers stand behind a round: those that stood before, or, where none did, as many as it
--- was made for, but no more than MAX_THREADS
+-- how many workers there are after a round: as many as before, or, where there were none, as many
+-- as it was made for, but no more than MAX_THREADS
 abbrev pub standing_behind : ℕ → ℕ → ℕ
 standing_behind before workers = if nat_eq before 0 then min workers MAX_THREADS else before

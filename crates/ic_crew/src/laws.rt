@@ -27,7 +27,7 @@ pub fn equality_is_exact()
     ensures { (v w : PlainWork) → IsTrue (work_eq v w) ↔ (v ≡ w) }
 {}
 
-/// A crew is spent by want of memory and by results that are lost or strange, and by no other fault.
+/// A crew is spent where memory ran out and where results are lost or strange, and by no other fault.
 pub fn crews_are_spent_so()
     ensures { (fault : PoolFault) → IsTrue (is_spending fault)
         ↔ ((fault ≡ Memory) ⊎ ((fault ≡ Lost) ⊎ (fault ≡ Stranger))) }

@@ -1,10 +1,12 @@
 //! Crews: workers that stand ready for round after round.
 //!
-//! `Crew::new` makes a crew and a `Post` for each of its workers. Whoever makes it starts the
-//! threads, each with `stand` at its post. `Crew::play` makes the round of a flight: `deal` divides
-//! its works among the workers, each sends back an `Answer` for each of its works, and
-//! `match_answers` compares them with what was asked for. Dropping the crew ends its workers. A `Team`
-//! is a crew with its threads, which it starts at its first round and joins at its end.
+//! `Crew::new` makes a crew and a `Post` for each of its workers. Whoever makes it starts the threads,
+//! each with `stand` at its post. `Crew::play` makes the round of a flight: `deal` divides its works
+//! among the workers, each sends back an `Answer` for each of its works, and `match_answers` compares
+//! them with what was asked for.
+//!
+//! Dropping the crew ends its workers. A `Team` is a crew with its threads, which it starts at its
+//! first round and joins at its end.
 #![tactic(auto)]
 
 mod answers;

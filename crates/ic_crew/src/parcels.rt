@@ -24,7 +24,7 @@ pub(crate) struct Parcel {
 #[derive(Drop)]
 pub(crate) enum Returned {
     Answers(Vec<Answer>),
-    /// The worker wanted memory.
+    /// The worker's memory ran out.
     NoMemory,
 }
 

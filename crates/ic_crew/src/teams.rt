@@ -29,7 +29,7 @@ impl Team {
     ghost use Rattle.ic_pool.specs.Workers.{ByWorkers, played_by};
     ghost use Rattle.ic_crew.specs.Teams.{standing_behind};
 
-    /// A team of which nobody stands yet.
+    /// A team with no worker standing yet.
     pub fn new() -> Team
         ensures { result ≡ 0 }
     {

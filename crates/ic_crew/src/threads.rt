@@ -84,7 +84,7 @@ impl Standing {
     }
 }
 
-/// Starts a thread for each post, until one can't be started. Whether all were.
+/// Starts a thread for each post, until one can't be started. Tells whether all were.
 fn start_each<R: Threads + Wait + Copy + Send + 'static>(
     rt: &R,
     alloc: Global,

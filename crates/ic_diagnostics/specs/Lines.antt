@@ -9,11 +9,11 @@ use Rattle.ic_text.specs.Token.{is_blank}
 abbrev pub is_feed : ℕ → Bool
 is_feed b = b == 10
 
--- in which line a text ends, from 1
+-- the number of the line in which a text ends, from 1
 abbrev pub line_number : List ℕ → ℕ
 line_number front = count_by is_feed front + 1
 
--- the line in which a text ends, as far as it goes: what stands behind the last line feed
+-- the line in which a text ends, as far as it goes: what follows the last line feed
 abbrev pub last_line : List ℕ → List ℕ
 last_line [] = []
 last_line (b ∷ bs) = if list_any is_feed (b ∷ bs) then last_line bs else b ∷ bs
@@ -22,7 +22,7 @@ abbrev pub begins_with_feed : List ℕ → Bool
 begins_with_feed [] = false
 begins_with_feed (b ∷ bs) = is_feed b
 
--- a line ends before a line feed, or before a carriage return with a line feed behind it
+-- a line ends before a line feed, or before a carriage return that a line feed follows
 abbrev pub ends_line : List ℕ → Bool
 ends_line [] = false
 ends_line (b ∷ bs) = is_feed b || (b == 13 && begins_with_feed bs)
@@ -39,7 +39,7 @@ is_ascii b = nat_lt b 128
 abbrev pub begins_character : ℕ → Bool
 begins_character b = is_ascii b || nat_le 192 b
 
--- at which character behind a front of its line a place is, from 1
+-- the number of the character, after a front of its line, at which a place is, from 1
 abbrev pub column : List ℕ → ℕ
 column line = count_by begins_character line + 1
 
@@ -66,7 +66,7 @@ shown_behind line =
 abbrev pub feed : List ℕ
 feed = 10 ∷ []
 
--- how far lines of a text stand in
+-- how far lines of a text are indented
 abbrev pub margin : List ℕ
 margin = codes "    "
 
@@ -85,8 +85,8 @@ abbrev pub trimmed : List ℕ → List ℕ
 trimmed [] = []
 trimmed (b ∷ bs) = if list_all is_blank (b ∷ bs) then [] else b ∷ trimmed bs
 
--- Where a place is told: one at the end of a text behind its last byte that is no blank, so that it
--- is on a line that has something; and any other where it is.
+-- Where a place is told: one at the end of a text right after its last byte that is no blank, so
+-- that it is on a line that has something; and any other one where it is.
 abbrev pub told_at : List ℕ → ℕ → ℕ
 told_at text at = if at == length text then length (trimmed text) else at
 
@@ -100,7 +100,7 @@ abbrev pub place_lines : List ℕ → ℕ → List ℕ → List ℕ
 place_lines text at sentence = lines_at text (told_at text at) sentence
 
 -- A mark under a place: two lines, of which the first has these bytes before the place and those from
--- it on, and the second nothing but the mark, behind as many spaces as bytes stand before the place.
+-- it on, and the second nothing but the mark, after as many spaces as bytes stand before the place.
 pub record IsMarked (before behind picture : List ℕ) : Type 0 where
   pub spaces : List ℕ
   pub lines : picture ≡ concat (before ∷ behind ∷ feed ∷ spaces ∷ codes "^" ∷ feed ∷ [])

@@ -31,7 +31,7 @@ front_sight (b ∷ bs) =
     else (if b == 60 then ConfigMark
     else (if is_command (first_word (b ∷ bs)) then CommandWord else Front))
 
--- a mark behind which a term or an agent may stand
+-- a mark after which a term or an agent may come
 abbrev pub opens_term : Option ℕ → Bool
 opens_term None = false
 opens_term (Some b) = list_any (λ m. b == m) (codes "{<|=,;(")
@@ -40,11 +40,11 @@ opens_term (Some b) = list_any (λ m. b == m) (codes "{<|=,;(")
 abbrev pub last_byte : List ℕ → Option ℕ
 last_byte front = slice_get (trimmed front) (length (trimmed front) - 1)
 
--- a term may stand behind a text: such a mark is its last byte that is no blank
+-- a term may come after a text: such a mark is its last byte that is no blank
 abbrev pub is_term_due : List ℕ → Bool
 is_term_due front = opens_term (last_byte front)
 
--- anything behind this byte
+-- anything after this byte
 abbrev pub behind : Option ℕ → Sight
 behind None = Front
 behind (Some b) = Behind b
@@ -60,7 +60,7 @@ inner_sight front rest =
     if is_term_due front && is_misnamed (first_word rest) then NoName
     else behind (last_byte front)
 
--- what stands at a place of a text, of which that before it is its front where it has blanks alone
+-- what stands at a place of a text; the place is at the front where only blanks stand before it
 abbrev pub sight_at : List ℕ → ℕ → Sight
 sight_at text at =
     if at == length text then End

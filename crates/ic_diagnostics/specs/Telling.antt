@@ -30,23 +30,23 @@ abbrev pub name_sentence : List ℕ
 name_sentence = codes "a name is a letter a to z, maybe with a number from 1 on, "
     ++ codes "and a symbol begins with A to Z or 0 to 9"
 
--- a mark behind which nothing but a term goes on: `(`, `,` or `=`
+-- a mark that only a term can follow: `(`, `,` or `=`
 abbrev pub wants_term : ℕ → Bool
 wants_term b = b == 40 || b == 44 || b == 61
 
--- what is looked for behind `(`, `,`, `=` or `|`, of either kind; behind other bytes that is another
+-- what is looked for after `(`, `,`, `=` or `|`, in a text of either kind; after other bytes it is this other one
 abbrev pub behind_mark : (other : List ℕ) → ℕ → List ℕ
 behind_mark other b = if wants_term b then codes "a term is looked for here"
     else (if b == 124 then codes "a term or > is looked for here" else other)
 
--- what is looked for in a configuration behind a byte: behind `<`, behind `>`, with which it ends, or
--- behind such a mark; behind a term it isn't told
+-- what is looked for in a configuration after a byte: after `<`, after `>`, with which it ends, or
+-- after such a mark; after a term it isn't told
 abbrev pub behind_in_config : ℕ → List ℕ
 behind_in_config b = if b == 60 then codes "a term or | is looked for here"
     else (if b == 62 then codes "nothing is looked for behind a configuration"
     else behind_mark (codes "no configuration goes on with this") b)
 
--- the same of a system, behind `{`, `;`, `}` or such a mark; behind a term, `<` or `>` it isn't told
+-- the same of a system, after `{`, `;`, `}` or such a mark; after a term, `<` or `>` it isn't told
 abbrev pub behind_in_system : ℕ → List ℕ
 behind_in_system b = if b == 123 then codes "a symbol or } is looked for here"
     else (if b == 59 then codes "a symbol is looked for here"
@@ -105,7 +105,7 @@ arity_sentence symbol before here = concat (codes "a symbol has one arity: " ∷
     ∷ codes " where it stands first" ∷ [])
 
 -- A place of a text is that of the first symbol which has another arity than where it stands first:
--- the symbol, that one, and the one that it has here.
+-- this symbol, its arity there, and its arity here.
 abbrev pub IsOfArities : {P : Type 0} → (P → Type 0) → (P → List Token) → (P → Written) → List ℕ
     → (at : ℕ) → (symbol : List ℕ) → (before here : ℕ) → Type 0
 IsOfArities {P} IsOne words written text at symbol before here =
@@ -114,7 +114,7 @@ IsOfArities {P} IsOne words written text at symbol before here =
     × (slice_get (all_words (written phrase)) word
     ≡ Some (record { text = symbol; arity = here }))
 
--- what is amiss at the place of a refusal, by the word that stands there, and by what else does
+-- what is amiss at the place of a refusal, by the word there, and by whatever else stands there
 abbrev pub sight_sentence : Kind → TextFault → Detail → List ℕ → Sight → List ℕ
 sight_sentence kind fault Nothing word sight = plain_sentence kind fault sight
 sight_sentence kind fault (Passed limit) word sight = limit_sentence limit
@@ -149,7 +149,7 @@ IsToldOf Answers kind text fault before after = Answers text (Err (Text fault))
     × ((lines : List ℕ) × TellsOf kind text fault lines × (after ≡ before ++ lines))
 
 -- What a fault of a stream appends to what is told: of a text that is answered with it the lines of
--- its place, and else nothing, so that nothing half told is left where memory was wanted.
+-- its place, and else nothing, so that nothing half told remains where memory ran out.
 abbrev pub AppendedAt : Answering → Kind → List ℕ → StreamFault → (before after : List ℕ) → Type 0
 AppendedAt Answers kind text (Text fault) before after =
     IsToldOf Answers kind text fault before after

@@ -25,7 +25,7 @@ ghost use Rattle.ic_diagnostics.specs.Sights.{command_words};
 ghost use Rattle.ic_diagnostics.specs.Telling.{Appended, IsOfArities, IsToldOf, arity_sentence, limit_sentence, sentence};
 ghost use Rattle.ic_diagnostics.specs.Lines.{IsMarked, begins_with_feed, column, feed, first_line, head_of, is_ascii, is_feed, is_printable, last_line, line_number, margin, picture_of, place_lines, shown, shown_before, shown_behind, told_at};
 
-/// A line feed ends a line and begins one. The last line is what stands behind the last line feed.
+/// A line feed ends a line and begins one. The last line is what follows the last line feed.
 pub fn lines_stand_between_line_feeds()
     ensures one { (a : List ℕ) → list_any is_feed a ≡ false → line_number a ≡ 1 }
     ensures number { (a b : List ℕ) →
@@ -34,8 +34,8 @@ pub fn lines_stand_between_line_feeds()
     ensures last { (a b : List ℕ) → list_any is_feed b ≡ false → last_line (a ++ 10 ∷ b) ≡ b }
 {}
 
-/// The first line ends at a line feed, and before a carriage return that stands right before one. A carriage return alone
-/// ends no line.
+/// The first line ends at a line feed, and before a carriage return that stands right before one. A carriage return by
+/// itself ends no line.
 pub fn the_first_line_ends_so()
     ensures alone { (a : List ℕ) → list_any is_feed a ≡ false → first_line a ≡ a }
     ensures none { (b : List ℕ) → first_line (10 ∷ b) ≡ [] }
@@ -67,8 +67,8 @@ pub fn bytes_are_shown_so()
     ensures other { (b : ℕ) → (b < 32) ⊎ (127 ≤ b) → is_blank b ≡ false → shown b ≡ 63 }
 {}
 
-/// What is shown of a line is printable ASCII, and as long as what it shows, up to 60 bytes before the place and 20 from it
-/// on.
+/// What is shown of a line is printable ASCII, and as long as what it shows, up to 60 bytes before the place and 20
+/// from it on.
 pub fn what_is_shown_is_printable()
     ensures before { (line : List ℕ) → list_all is_printable (shown_before line) ≡ true }
     ensures behind { (line : List ℕ) → list_all is_printable (shown_behind line) ≡ true }
@@ -78,8 +78,8 @@ pub fn what_is_shown_is_printable()
         length (shown_behind line) ≡ min (length line) 20 }
 {}
 
-/// A short line is shown whole. Of a longer one the last 57 bytes before the place and the first 17 from it on are shown, and
-/// dots stand for the rest.
+/// A short line is shown whole. Of a longer one the last 57 bytes before the place and the first 17 from it on are
+/// shown, and dots stand for the rest.
 pub fn lines_are_cut_around_the_place()
     ensures short_before { (line : List ℕ) → length line ≤ 60 →
         shown_before line ≡ map shown line }
@@ -91,14 +91,14 @@ pub fn lines_are_cut_around_the_place()
         shown_behind (a ++ b) ≡ map shown a ++ codes "..." }
 {}
 
-/// The mark stands under the byte of the place: behind as many spaces as bytes are shown before it.
+/// The mark stands under the byte of the place: after as many spaces as bytes are shown before it.
 pub fn the_mark_stands_under_the_place()
     ensures mark { (before behind : List ℕ) → IsMarked (margin ++ shown_before before)
         (shown_behind behind) (picture_of before behind) }
     ensures under { (b : ℕ) (bs : List ℕ) → slice_get (shown_behind (b ∷ bs)) 0 ≡ Some (shown b) }
 {}
 
-/// The end of a text is told behind its last byte that is no blank, and any other place where it is.
+/// The end of a text is told right after its last byte that is no blank, and any other place where it is.
 pub fn an_end_is_told_behind_what_stands_last()
     ensures end { (a blanks : List ℕ) (b : ℕ) → is_blank b ≡ false →
         list_all is_blank blanks ≡ true →
@@ -108,8 +108,8 @@ pub fn an_end_is_told_behind_what_stands_last()
     ensures inner { (text : List ℕ) (at : ℕ) → at < length text → told_at text at ≡ at }
 {}
 
-/// A place is told in its parts: its line and its column by what stands before it, then the line with the mark, then the
-/// sentence.
+/// A place is told in its parts: its line and its column by what stands before it, then the line with the mark, then
+/// the sentence.
 pub fn places_are_told_in_parts()
     ensures parts { (a b sentence : List ℕ) (c : ℕ) → place_lines (a ++ c ∷ b) (length a) sentence
         ≡ concat (head_of a ∷ picture_of (last_line a) (first_line (c ∷ b)) ∷ sentence ∷ feed ∷ []) }
@@ -118,7 +118,8 @@ pub fn places_are_told_in_parts()
         ∷ codes "         ^" ∷ feed ∷ codes "so" ∷ feed ∷ []) }
 {}
 
-/// A text that begins with the mark of the other kind, or with the word of a command, is told so, and so is one that ends.
+/// A text that begins with the mark of the other kind, or with the word of a command, is told so, and so is one that
+/// ends.
 pub fn other_texts_are_told_so()
     ensures system { (blanks rest : List ℕ) → list_all is_blank blanks ≡ true →
         sentence Config (blanks ++ 123 ∷ rest) Syntax (length blanks) Nothing
@@ -139,7 +140,7 @@ pub fn other_texts_are_told_so()
         ≡ codes "the text ends before its system does") }
 {}
 
-/// Behind a mark the sentence tells what is looked for there.
+/// After a mark the sentence tells what is looked for there.
 pub fn what_is_looked_for_is_told()
     ensures term { AllByRecursion (λ text.
         sentence Config (text ++ codes "=Z>") Syntax (length text) Nothing
@@ -181,7 +182,7 @@ pub fn limits_are_told_with_their_numbers()
         ≡ codes "a configuration has at most " ++ decimal MAX_NODES ++ codes " nodes" }
 {}
 
-/// Of a symbol with two arities the sentence tells the symbol, the one that it has at the place, and then the one with which
+/// For a symbol with two arities the sentence tells the symbol, its arity at the place, and then the arity with which
 /// it stands first.
 pub fn two_arities_are_told()
     ensures fewer { arity_sentence (codes "Add") 2 1
@@ -203,8 +204,8 @@ pub fn two_arities_are_told()
     ic_text::laws::words_are_those_of_tokens();
 }
 
-/// The lines that are told are those of the text that is answered: of the reader's, where it tells its bytes, and else of
-/// some text. Of one that is too long they are those of its first 262,145 bytes.
+/// The lines that are told are those of the text that is answered: of the reader's, where it tells its bytes, and else
+/// of some text. Of one that is too long they are those of its first 262,145 bytes.
 pub fn the_text_that_is_answered_is_told_of()
     ensures config { (old new : Option (List ℕ)) (fault : TextFault) (before after : List ℕ)
         → Appended Settles Config old new (Text fault) before after

@@ -1,8 +1,8 @@
-//! Where in a text its refusal stands, as it is told beside the refusal.
+//! Where in a text its refusal is, as it is told beside the refusal.
 //!
 //! `place_lines` tells a place by its line and column, shows the line with a mark under the place, and says what is
-//! amiss. `settle_telling` and `once_telling` answer streams as `ic_streams` does, and tell so of a text that is refused;
-//! `refused` does so for other answers.
+//! amiss. `settle_telling` and `once_telling` answer streams as `ic_streams` does, and tell so of a text that is
+//! refused; `refused` does so for other answers.
 #![tactic(auto)]
 
 pub mod laws;

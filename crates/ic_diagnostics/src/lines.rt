@@ -7,7 +7,7 @@ use crate::shown::{SHOWN_BEHIND, shown_before, shown_behind};
 use ic_text::is_blank;
 use std::alloc::{AllocError, Global};
 
-/// In which line a text ends, from 1.
+/// The number of the line in which a text ends, from 1.
 pub fn line_number(front: &[u8]) -> usize
     ensures { result ≡ line_number front.now }
 {
@@ -70,7 +70,7 @@ fn line_behind(rest: &[u8]) -> &[u8]
     first_line(&rest[..rest.len().min(SHOWN_BEHIND + 2)])
 }
 
-/// At which character behind a front of its line a place is, from 1.
+/// The number of the character, after a front of its line, at which a place is, from 1.
 pub fn column(line: &[u8]) -> usize
     ensures { result ≡ column line.now }
 {
@@ -130,7 +130,8 @@ pub(crate) fn trimmed(text: &[u8]) -> &[u8]
     &text[..0]
 }
 
-/// Where a place is told: one at the end of a text behind its last byte that is no blank, any other where it is.
+/// Where a place is told: one at the end of a text right after its last byte that is no blank, any other one where it
+/// is.
 pub fn told_at(text: &[u8], at: usize) -> usize
     requires { at ≤ length text.now }
     ensures place { result ≡ told_at text.now at }

@@ -23,7 +23,7 @@ pub enum Sight {
     NoName,
     /// At the front, anything else.
     Front,
-    /// Further on anything else, behind this byte, which is the last one before it that is no blank.
+    /// Further on anything else, after this byte, which is the last one before it that is no blank.
     Behind(u8),
 }
 
@@ -63,7 +63,7 @@ fn is_misnamed(word: &[u8]) -> bool
     }
 }
 
-/// Whether a byte is a mark behind which a term or an agent may stand.
+/// Whether a byte is a mark after which a term or an agent may come.
 fn opens_term(byte: Option<u8>) -> bool
     ensures { result ≡ opens_term byte }
 {
@@ -88,14 +88,14 @@ fn last_byte(front: &[u8]) -> Option<u8>
     trimmed(front).last().copied()
 }
 
-/// Whether a term may stand behind a text.
+/// Whether a term may come after a text.
 fn is_term_due(front: &[u8]) -> bool
     ensures { result ≡ is_term_due front.now }
 {
     opens_term(last_byte(front))
 }
 
-/// Anything behind this byte.
+/// Anything after this byte.
 fn behind(byte: Option<u8>) -> Sight
     ensures { result ≡ behind byte }
 {

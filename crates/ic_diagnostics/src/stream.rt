@@ -13,11 +13,11 @@ use ic_text::{Misread, TextFault, find_flat_config, find_flat_system};
 use std::alloc::Global;
 use std::io::{Read, Write};
 
-/// Settles the configuration that the reader gives, and writes it as a line. Where the text is refused, the lines that tell
-/// of it are appended to `told`.
+/// Settles the configuration that the reader gives, and writes it as a line. Where the text is refused, the lines that
+/// tell of it are appended to `told`.
 ///
-/// Nothing is written before the text is read and settled. Where the writer fails, a front of the line is written. A text
-/// of more than 262,144 bytes is `TextFault::Limit`, and at most 262,145 bytes are read.
+/// Nothing is written before the text is read and settled. Where the writer fails, a front of the line is written. A
+/// text of more than 262,144 bytes is `TextFault::Limit`, and at most 262,145 bytes are read.
 pub fn settle_telling<R: Read, W: Write>(
     alloc: Global,
     reader: &mut R,
@@ -42,8 +42,8 @@ pub fn settle_telling<R: Read, W: Write>(
     write_line(writer, &line)
 }
 
-/// Makes one round of the system that the reader gives, and writes its configuration as a line. Where the text is refused,
-/// the lines that tell of it are appended to `told`.
+/// Makes one round of the system that the reader gives, and writes its configuration as a line. Where the text is
+/// refused, the lines that tell of it are appended to `told`.
 ///
 /// Nothing is written before the text is read and the round is made. Where the writer fails, a front of the line is
 /// written. The reader is read as by `settle_telling`.
@@ -71,7 +71,7 @@ pub fn once_telling<R: Read, W: Write>(
     write_line(writer, &line)
 }
 
-/// The fault of a stream whose text is refused, of which `told` gets the lines. Where memory is wanted it gets nothing.
+/// The fault of a stream whose text is refused, of which `told` gets the lines. Where memory ran out it gets nothing.
 pub fn refused(
     alloc: Global,
     kind: Kind,

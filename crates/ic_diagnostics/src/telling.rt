@@ -19,7 +19,8 @@ pub enum Kind {
 const NAMES: &[u8] =
     b"a name is a letter a to z, maybe with a number from 1 on, and a symbol begins with A to Z or 0 to 9";
 
-/// What is looked for behind a mark of either kind of text, or else the other sentence.
+/// What is looked for after a mark in a text of either kind; after another byte it is the other
+/// sentence.
 fn behind_mark(other: &'static [u8], byte: u8) -> &'static [u8]
     ensures { result.now ≡ behind_mark other.now byte }
 {
@@ -32,7 +33,7 @@ fn behind_mark(other: &'static [u8], byte: u8) -> &'static [u8]
     }
 }
 
-/// What is looked for in a configuration behind a byte, as far as it is told.
+/// What is looked for in a configuration after a byte, as far as it is told.
 fn behind_in_config(byte: u8) -> &'static [u8]
     ensures { result.now ≡ behind_in_config byte }
 {
@@ -45,7 +46,7 @@ fn behind_in_config(byte: u8) -> &'static [u8]
     }
 }
 
-/// What is looked for in a system behind a byte, as far as it is told.
+/// What is looked for in a system after a byte, as far as it is told.
 fn behind_in_system(byte: u8) -> &'static [u8]
     ensures { result.now ≡ behind_in_system byte }
 {

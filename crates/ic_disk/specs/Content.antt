@@ -2,7 +2,7 @@
 -- To be read: contracts of public calls cite it. This project's choice.
 use Rattle.std.specs.Prelude.{ℕ, ◌+◌, ◌-◌, List, ◌++◌, length, take, drop, replicate}
 
--- the file with zeros behind it, up to this place
+-- the file with zeros after it, up to this place
 abbrev pub filled_to : ℕ → List ℕ → List ℕ
 filled_to at file = file ++ replicate (at - length file) 0
 

@@ -23,7 +23,7 @@ abbrev pub MayTell : {E : Type 0} → Result ℕ E → State → Type 0
 MayTell (Ok n) s = n ≡ length s.content
 MayTell (Err fault) s = Unit {0}
 
--- What a read at a place may make of a buffer. At Err any bytes.
+-- What a read at a place may make of a buffer. At Err it may hold any bytes.
 abbrev pub MayRead : {T E : Type 0} → ℕ → Result T E → (old new : List ℕ) → State → Type 0
 MayRead at (Ok value) old new s = new ≡ bytes_at at (length old) s.content
 MayRead at (Err fault) old new s = Unit {0}

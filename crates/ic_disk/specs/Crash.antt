@@ -21,7 +21,7 @@ pub record IsFilled (byte : ℕ) (s : State) (left : List ℕ) : Type 0 where
       → slice_index left i ≡ byte
   pub past : (i : ℕ) → i < length s.content → length s.synced ≤ i → slice_index left i ≡ byte
 
--- the file after these bytes were written to it, or no write was begun where there are none
+-- the file after these bytes were written to it; where there are none, no write was begun
 abbrev pub after_bytes : ℕ → List ℕ → List ℕ → List ℕ
 after_bytes at [] file = file
 after_bytes at (byte ∷ bytes) file = laid at (byte ∷ bytes) file

@@ -31,7 +31,7 @@ turn_of n fuse =
 abbrev pub torn_bytes : ℕ → List ℕ → List ℕ
 torn_bytes n bytes = take n bytes ++ replicate (length bytes - n) 0
 
--- what is made of a call that is torn: of a write that, and no sync
+-- what is made of a call that is torn: a torn write may be made, and no sync is
 abbrev pub IsTorn : ℕ → Call → History → History → Type 0
 IsTorn n (write w) old new =
     (new ≡ with_call (write (record { at = w.at; bytes = torn_bytes n w.bytes })) old)

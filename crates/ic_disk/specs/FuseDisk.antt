@@ -27,7 +27,7 @@ failures_of f = f.failures
 abbrev pub next_turn : FuseDisk → Turn
 next_turn f = turn_of (f.calls + 1) f.fuse
 
--- the fuse has had one call more
+-- the fuse has had one more call
 pub record Spends (old new : FuseDisk) : Type 0 where
   pub same_fuse : fuse_of new ≡ fuse_of old
   pub one_more : calls_of new ≡ one_call_more (calls_of old)

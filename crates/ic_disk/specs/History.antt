@@ -56,11 +56,11 @@ IsSynced = IsDiskSync content_of image_of clock_of IsLeftAt
 abbrev pub fresh : List ℕ → History
 fresh file = record { first = file; calls = []; failures = 0 }
 
--- with one call more
+-- with one more call
 abbrev pub with_call : Call → History → History
 with_call call h = record { first = h.first; calls = h.calls ++ call ∷ []; failures = h.failures }
 
--- with one failure more, up to 2^64 - 1
+-- with one more failure, up to 2^64 - 1
 abbrev pub with_failure : History → History
 with_failure h =
     record { first = h.first; calls = h.calls; failures = min (h.failures + 1) (2 ^ 64 - 1) }

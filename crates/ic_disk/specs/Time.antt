@@ -24,7 +24,7 @@ pub record LeavesOnly {D : Type 0} (clock : D → ℕ) (left : D → ℕ → Lis
   pub each : (file : List ℕ) → LeftSince (left new) (clock old) file → P file
   pub before : (t : ℕ) (file : List ℕ) → t < clock old → left new t file → left old t file
 
--- the count of failures rises by one, or stands at its end, 2^64 - 1
+-- the count of failures rises by one, or is at its end, 2^64 - 1
 abbrev pub OneMore : ℕ → ℕ → Type 0
 OneMore old new = ((old < 2 ^ 64 - 1) × (new ≡ old + 1)) ⊎ ((old ≡ 2 ^ 64 - 1) × (new ≡ old))
 

@@ -34,7 +34,7 @@ pub trait Disk {
     ghost image: { Self → List ℕ → Type 0 };
 
     /// How many calls there have been. One that changes nothing may be left out, and so may all
-    /// that come once the count stands at its end.
+    /// that come once the count is at its end.
     ghost clock: { Self → ℕ };
 
     /// What a crash at this time of the clock may have left, between two calls or in the midst of

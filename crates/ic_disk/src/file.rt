@@ -1,4 +1,4 @@
-//! A disk in a file of the operating system, of whose bytes no clause speaks.
+//! A disk in a file of the operating system. Nothing is claimed of its bytes.
 
 ghost use Rattle.std.specs.Prelude.{◌≡◌, ◌↔◌, [], false, not, is_ok, IsTrue, IsOk, IsErr, IfOk};
 ghost use Rattle.std.specs.Fs.{file_type};
@@ -12,7 +12,7 @@ use std::io;
 use std::io::{Read, Seek, SeekFrom, Write};
 use std::rt::Files;
 
-/// A file that a disk can be in: one that other opens of it can be kept out of.
+/// A file that a disk can be in: one from which its other opens can be kept out.
 pub trait DiskFile: Read + Write + Seek + OpenFile + Drop {
     /// Locks the file for as long as it is open. An error where another open of it is locked.
     fn lock_alone(&self) -> io::Result<()>;
@@ -42,9 +42,11 @@ impl<F: DiskFile> FileDisk<F> {
 
     /// Opens the file to read and write, and locks it (by an advisory lock on the whole file) for
     /// as long as the disk lives: a second open of it is an error meanwhile, in this process too.
-    /// With `create` a file that is missing is made, one that is there stays as it is. The file is
-    /// synced with all that the system keeps of it, and with `create` its folder is. A folder, a
-    /// device, a pipe, a socket, or a file that may not be read, written and synced, is an error.
+    /// With `create` a file that is missing is made, one that is there stays as it is.
+    ///
+    /// The file is synced with all that the system keeps of it, and with `create` its folder is. A
+    /// folder, a device, a pipe, a socket, or a file that may not be read, written and synced, is
+    /// an error.
     pub fn open<R: Files<File = F>>(
         rt: &R,
         path: &str,
@@ -108,7 +110,7 @@ fn refuse_special(about: &Metadata) -> io::Result<()>
     Err(io::ErrorKind::InvalidInput.into())
 }
 
-// The folder in which a path's last name stands.
+// The folder in which a path's last name is.
 fn folder_of(path: &str) -> &str {
     match path.rsplit_once('/') {
         Some(("", _)) => "/",

@@ -40,7 +40,7 @@ pub fn write_synced<D: Disk>(disk: &mut D, at: u64, bytes: &[u8]) -> Result<(), 
     disk.sync()
 }
 
-/// Writes some bytes and then one byte more, each synced before the next call.
+/// Writes some bytes and then one more byte, each synced before the next call.
 pub fn write_and_mark<D: Disk>(
     disk: &mut D,
     at: u64,
@@ -213,7 +213,7 @@ pub fn courses_go_on<T, E>(answer: &Result<T, E>)
     let _ = answer;
 }
 
-/// The count of failures rises by one where a call failed, until it stands at its end.
+/// The count of failures rises by one where a call failed, until it is at its end.
 pub fn failures_rise<T, E>(answer: &Result<T, E>)
     ensures stays { (old new : ℕ) → CountsFailure answer.now old new
         → OnOk answer.now (new ≡ old) }

@@ -11,7 +11,7 @@ use Rattle.ic_commands.specs.LineText.{ReadsLine}
 use Rattle.ic_naming.specs.Naming.{IsOneToOne, renamed_pair}
 use Rattle.ic_dump.specs.Writing.{system_of}
 
--- a name is free in a configuration: it stands there once
+-- a name is free in a configuration: it occurs there once
 abbrev pub IsFree : Configuration → ℕ → Type 0
 IsFree c n = occurrences n (configuration_names c) ≡ 1
 
@@ -23,8 +23,8 @@ HasFreeNamesOfTexts c = (n : ℕ) → IsFree c n → n ≤ MAX_NAME
 abbrev pub KeepsFree : (ℕ → ℕ) → Configuration → Type 0
 KeepsFree f c = (n : ℕ) → IsFree c n → n ≤ MAX_NAME → f n ≡ n
 
--- A configuration is another one but for the names of its wires, and free names that can't stand in a
--- text.
+-- A configuration is another one except for the names of its wires, and free names that can't stand
+-- in a text.
 pub record IsRenaming (f : ℕ → ℕ) (c d : Configuration) : Type 0 where
   pub free : KeepsFree f c
   pub one_to_one : IsOneToOne f (configuration_names c)
@@ -32,8 +32,8 @@ pub record IsRenaming (f : ℕ → ℕ) (c d : Configuration) : Type 0 where
   pub equations : d.equations ≡ map (renamed_pair f) c.equations
 
 -- A line submits a job: it is read as the submit of the job's name and budget, with a system that is
--- written as the job's rules and configuration are, but for the names of wires. Symbols may have other
--- numbers.
+-- written as the job's rules and configuration are, except for the names of wires. Symbols may have
+-- other numbers.
 pub record Submits (line : List ℕ) (j : JobParts) : Type 0 where
   pub system : SystemParts
   pub reads : ReadsLine line (Ok (Asks (command.Submit j.name system j.budget)))

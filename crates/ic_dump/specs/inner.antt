@@ -1,2 +1,2 @@
--- For private functions: the texts of the parts of rules. No public clause needs what stands here.
+-- For private functions: the texts of the parts of rules. No public clause needs what is here.
 pub mod Printing

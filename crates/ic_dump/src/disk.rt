@@ -17,8 +17,8 @@ use std::io::Write;
 
 /// Writes the line of each job of these names, or of each job where no name is given, of the table that a disk holds.
 ///
-/// The disk is opened as by `Keeper::open`, and handed back with nothing changed but for a sync. Nothing is written before
-/// all lines are made, and a front of them where the writer fails.
+/// The disk is opened as by `Keeper::open`, and handed back with nothing changed except for a sync. Nothing is
+/// written before all lines are made, and a front of them where the writer fails.
 pub fn dump_disk<D: Disk, W: Write>(
     alloc: Global,
     disk: D,

@@ -19,8 +19,8 @@ use std::io::Write;
 
 /// Writes the line of each job of these names, or of each job where no name is given, in the order of the table.
 ///
-/// Nothing is written before all lines are made: where no job has one of the names, or one of the lines is longer than a
-/// line may be, nothing is. Where the writer fails a front of the lines is written.
+/// Nothing is written before all lines are made: where no job has one of the names, or one of the lines is longer than
+/// a line may be, nothing is. Where the writer fails a front of the lines is written.
 pub fn dump_jobs<W: Write>(
     alloc: Global,
     table: &Table,

@@ -20,8 +20,9 @@ ghost use Rattle.ic_dump.specs.Told.{has_names_of_texts, told};
 ghost use Rattle.ic_dump.specs.Telling.{job_line, told_system};
 ghost use Rattle.ic_dump.specs.Writing.{system_of};
 
-/// The line of a job is read as the submit of a job of its name and budget, with rules that are written as its rules are
-/// and a configuration that is written as its own is, but for the names of wires; where it isn't longer than a line may be.
+/// The line of a job, where it isn't longer than a line may be, is read as the submit of a job of its name and budget.
+/// The rules are written as the job's rules are, and the configuration as the job's own is, except for the names of
+/// wires.
 pub fn a_line_submits_its_job()
     ensures { (j : JobParts) → IsJob j → length (job_line j) ≤ MAX_TEXT → Submits (job_line j) j }
 {
@@ -33,8 +34,9 @@ pub fn a_line_submits_its_job()
     ic_commands::laws::commands_ask();
 }
 
-/// The lines of a table's jobs, taken in its order by a table without jobs, leave the jobs as they begin: the same names in
-/// the same order with the same budgets, systems that are written as the told ones are, and no rounds made.
+/// The lines of a table's jobs, taken in its order by a table without jobs, leave the jobs as they begin. They have the
+/// same names in the same order with the same budgets, systems that are written as the told ones are, and no rounds
+/// made.
 pub fn the_lines_of_a_table_fill_an_empty_one()
     ensures read { (j : JobParts) → IsJob j → length (job_line j) ≤ MAX_TEXT →
         ReadsLine (job_line j) (Ok (Asks (submit_of j))) }
@@ -53,8 +55,8 @@ pub fn the_lines_of_a_table_fill_an_empty_one()
     ic_commands::laws::commands_ask();
 }
 
-/// What a server makes of a dump: its lines are those of the jobs that were asked for, one each. Served from a table without
-/// jobs on, each is answered `accepted`, and they leave these jobs as they begin, in their order.
+/// What a server makes of a dump: its lines are those of the jobs that were asked for, one each. Served from a table
+/// without jobs on, each is answered `accepted`, and they leave these jobs as they begin, in their order.
 pub fn a_dump_is_served_as_its_jobs()
     ensures lines { (names : List (List ℕ)) (t : List JobParts) (bytes : List ℕ) →
         IsTable t → dumped names t ≡ Ok bytes → lines bytes ≡ map job_line (chosen names t) }
@@ -77,8 +79,8 @@ pub fn names_of_texts_are_kept()
     ensures { (c : Configuration) → has_names_of_texts c ≡ true → told c ≡ c }
 {}
 
-/// What is read back of a job has the free names of the job, and no others, where these may stand in a text. So jobs that
-/// differ in a free name have two lines.
+/// What is read back of a job has the free names of the job, and no others, where these may stand in a text. So jobs
+/// that differ in a free name have two lines.
 pub fn free_names_are_read_again()
     ensures read { (j : JobParts) → IsJob j → HasFreeNamesOfTexts j.config → (n : ℕ) →
         IsFree (read_again j).config n ↔ IsFree j.config n }
@@ -101,8 +103,8 @@ pub fn all_jobs_are_asked_for_without_names()
     ensures { (t : List JobParts) → chosen [] t ≡ t }
 {}
 
-/// A job is asked for exactly where it has one of the names, or no name is given. The jobs that are asked for stand in the
-/// order of the table: going through it, each is taken once, and every other job is passed over.
+/// A job is asked for exactly where it has one of the names, or no name is given. The jobs that are asked for stand in
+/// the order of the table: going through it, each is taken once, and every other job is passed over.
 pub fn jobs_are_asked_for_by_their_names()
     ensures asked { (names : List (List ℕ)) (j : JobParts) →
         (is_chosen names j ≡ true) ↔ ((names ≡ []) ⊎ Contains names j.name) }
@@ -113,8 +115,8 @@ pub fn jobs_are_asked_for_by_their_names()
         is_chosen names j ≡ false → chosen names (j ∷ t) ≡ chosen names t }
 {}
 
-/// A name is refused exactly where it is the first of those given that no job of the table has: it is one of them, and each
-/// name before it is a job's. None is refused exactly where each is a job's.
+/// A name is refused exactly where it is the first of those given that no job of the table has: it is one of them, and
+/// each name before it is a job's. None is refused exactly where each is a job's.
 pub fn the_first_missing_name_is_told()
     ensures first { (names : List (List ℕ)) (t : List JobParts) (name : List ℕ) →
         (first_missing names t ≡ Some name) ↔ IsFirstMissing names t name }

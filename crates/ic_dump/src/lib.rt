@@ -2,8 +2,8 @@
 //!
 //! `dump_jobs` writes for each job of a table, or for those of the names that are given, the line that submits it, and
 //! `dump_disk` does so of the table that a disk holds. `job_line` makes one such line. What is read back has the job's
-//! rules, and its configuration but for the names of wires; rounds and states are not told. `laws` says so of the reader
-//! of command lines.
+//! rules, and its configuration except for the names of wires; rounds and states are not told. `laws` says so of the
+//! reader of command lines.
 #![tactic(auto)]
 
 mod disk;

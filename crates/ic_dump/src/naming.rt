@@ -35,8 +35,8 @@ fn is_of_texts(word: Word) -> bool
     }
 }
 
-/// The configuration with names that may stand in a text: its own where they stand once and may stand there, and all others
-/// numbered by first occurrence. Takes n log n steps.
+/// The configuration with names that may stand in a text: its own where they occur once and may stand there, and all
+/// others numbered by first occurrence. Takes n log n steps.
 pub(crate) fn renumbered(alloc: Global, flat: &Flat) -> Result<Flat, AllocError>
     ensures { IfOk result (λ numbered. numbered ≡ renumbered flat.now) }
 {

@@ -15,9 +15,9 @@ use ic_term::Symbols;
 use ic_text::{put_decimal, put_flat};
 use std::alloc::{AllocError, Global};
 
-/// The line that submits a job, without its end. Its budget is told as it is, whatever rounds were made of it. Names are
-/// told as they are where all of them may stand in a text, else numbered by first occurrence. It may be longer than a line
-/// may be.
+/// The line that submits a job, without its end. Its budget is told as it is, whatever rounds were made of it. Names
+/// are told as they are where all of them may stand in a text, else numbered by first occurrence. It may be longer than
+/// a line may be.
 pub fn job_line(alloc: Global, job: &Job) -> Result<Vec<u8>, AllocError>
     ensures { IfOk result (λ line. line.items ≡ job_line job.now) }
 {

@@ -4,12 +4,12 @@ use Rattle.ic_term.specs.Symbol.{Symbol, has_arity}
 use Rattle.ic_flat.specs.declared.word.Word.{Word}
 use Rattle.ic_flat.specs.declared.word.Word.TheVariants.{Name, Agent}
 
--- how many of the terms behind it a word takes
+-- how many of the terms after it a word takes
 abbrev pub arguments : Word → ℕ
 arguments (Name n) = 0
 arguments (Agent s arity) = arity
 
--- A name is a term by itself, and an agent takes as many of the terms behind it as it has arguments.
+-- A name is a term by itself, and an agent takes as many of the terms after it as it has arguments.
 abbrev pub with_word : Word → List Tree → List Tree
 with_word (Name n) ts = name n ∷ ts
 with_word (Agent s arity) ts = agent s (trees_of (take arity ts)) ∷ drop arity ts
@@ -20,7 +20,7 @@ abbrev pub forest : List Word → List Tree
 forest [] = []
 forest (w ∷ ws) = with_word w (forest ws)
 
--- each agent has all its arguments behind it
+-- each agent has all its arguments after it
 abbrev pub IsWhole : List Word → Type 0
 IsWhole [] = Unit {0}
 IsWhole (w ∷ ws) = (arguments w ≤ length (forest ws)) × IsWhole ws

@@ -1,3 +1,3 @@
--- For private functions. No public clause needs what stands here.
+-- For private functions. No public clause needs what is here.
 pub mod Stacks
 pub mod Testing

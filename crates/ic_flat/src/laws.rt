@@ -17,8 +17,8 @@ pub fn words_are_their_terms()
     ensures written { (ws : List Word) → IsWhole ws → flat_map tree_words (forest ws) ≡ ws }
 {}
 
-/// Words behind whole words write their terms behind those, each word is a node, and what stands behind any place of
-/// whole words is whole.
+/// Words after whole words write their terms after those, each word is a node, and what follows any place of whole
+/// words is whole.
 pub fn words_write_in_order()
     ensures term { (t : Tree) (ws : List Word) → forest (tree_words t ++ ws) ≡ t ∷ forest ws }
     ensures append { (vs ws : List Word) → IsWhole vs
@@ -37,8 +37,8 @@ pub fn each_configuration_has_its_words()
         → configuration_of ws (length c.interface) c.next ≡ c → ws ≡ configuration_words c }
 {}
 
-/// The words of a configuration have its names, in the order of the text, and are as many as its nodes. The configuration
-/// is over symbols where each of its words is.
+/// The words of a configuration have its names, in the order of the text, and are as many as its nodes. The
+/// configuration is over symbols where each of its words is.
 pub fn words_say_what_their_configuration_says()
     ensures names { (c : Configuration)
         → flat_map word_names (configuration_words c) ≡ configuration_names c }

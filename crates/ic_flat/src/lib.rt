@@ -1,9 +1,9 @@
 //! Configurations and systems in flat form: all words of a configuration in one list.
 //!
-//! A term is written in prefix order, an agent's symbol before its arguments, so that no parentheses are needed. A `Flat`
-//! keeps the words of the interface and behind them those of the equations, and stands for the same configuration as a
-//! `Config`; a `FlatSystem` has one beside its rules, and stands for the same as a `System`. Nothing here recurses on the
-//! depth of a configuration's terms.
+//! A term is written in prefix order, an agent's symbol before its arguments, so that no parentheses are needed. A
+//! `Flat` keeps the words of the interface and after them those of the equations, and stands for the same configuration
+//! as a `Config`; a `FlatSystem` has one beside its rules, and stands for the same as a `System`. Nothing here recurses
+//! on the depth of a configuration's terms.
 #![tactic(auto)]
 
 mod arities;

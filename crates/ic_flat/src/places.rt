@@ -5,7 +5,7 @@ ghost use Rattle.ic_flat.specs.Words.{forest, IsWhole};
 
 use crate::word::Word;
 
-/// The place behind the term that begins at a place. Takes as many steps as the term has nodes.
+/// The place after the term that begins at a place. Takes as many steps as the term has nodes.
 pub fn end_of_term(words: &[Word], place: usize) -> usize
     requires whole { IsWhole words.now }
     requires there { place < length words.now }

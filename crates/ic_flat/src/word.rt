@@ -13,7 +13,7 @@ pub enum Word {
 }
 
 impl Word {
-    /// How many of the terms behind it the word takes.
+    /// How many of the terms after it the word takes.
     pub fn arguments(self) -> usize
         ensures { result ≡ arguments self }
     {

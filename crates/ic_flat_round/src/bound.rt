@@ -10,8 +10,8 @@ ghost use Rattle.ic_flat_round.specs.inner.Waits.{waiting, AreWithin};
 use ic_flat::Word;
 use indexmap::IndexMap;
 
-/// Where the terms stand that wait until the names that they stand for are met. Each such name is met at most once, so it
-/// is taken out then.
+/// The places of the terms that wait until the names that they stand for are met. Each such name is met at most once,
+/// so it is taken out then.
 pub(crate) type Bound = IndexMap<u64, usize>;
 
 /// What a name is bound to, which is taken out. Nothing is looked up where no name is bound.
@@ -28,8 +28,8 @@ pub(crate) fn unbound(bound: &mut Bound, name: u64) -> Option<usize>
     bound.swap_remove(&name)
 }
 
-/// Where what stands for the term at a place begins: there itself, or where the term is a bound name, where what stands
-/// for the term begins that the name is bound to.
+/// The place of the term that stands for the one at a place. It is the same place, unless that term is a bound name:
+/// then it is the place so found for the term that the name is bound to.
 pub(crate) fn resolved(words: &[Word], place: usize, bound: &mut Bound) -> usize
     requires there { place < length words.now }
     requires within { AreWithin words.now bound.old.entries }

@@ -1,4 +1,4 @@
-//! In which equations a name stands.
+//! The equations in which a name stands.
 
 ghost use Rattle.std.specs.Prelude.{◌≡◌, ◌==◌, ℕ, ◌+◌, ◌<◌, ◌≤◌, None, Some, IfSome, OnOk, length, drop, nat_eq, slice_index, if◌then◌else◌};
 ghost use Rattle.std.specs.List.{flat_map};
@@ -15,12 +15,12 @@ use indexmap::IndexMap;
 use indexmap::map::Entry;
 use std::alloc::{AllocError, Global};
 
-/// For each name the first and the last container in which it stands: the number of an equation, or for the interface how
-/// many equations there are.
+/// For each name the first and the last container in which it occurs: the number of an equation, or for the interface
+/// how many equations there are.
 type Places = IndexMap<u64, (usize, usize)>;
 
-/// Where each name stands while equations are removed. What a removed equation holds goes to another container, by a link
-/// from its number.
+/// Where each name occurs while equations are removed. What a removed equation holds goes to another container, by a
+/// link from its number.
 #[derive(Drop)]
 pub(crate) struct Containers {
     links: Vec<usize>,
@@ -50,7 +50,7 @@ fn note_word(places: &mut Places, word: Word, place: usize) -> Result<(), AllocE
     }
 }
 
-/// Notes the names among words that stand in a container.
+/// Notes the names among words that occur in a container.
 fn note_words(places: &mut Places, words: &[Word], place: usize) -> Result<(), AllocError>
     ensures { OnOk result ((y : ℕ) → get nat_eq places.new y
         ≡ noted_in y place (flat_map word_names words.now) (get nat_eq places.old y)) }
@@ -112,8 +112,8 @@ fn root(links: &mut [usize], from: usize) -> usize
     place
 }
 
-/// The name at the top of a side, if it stands outside of the container with this number, and the container in which it
-/// stands.
+/// The name at the top of a side, if it occurs outside of the container with this number, and the container in which it
+/// occurs.
 fn find_outlet(
     links: &mut [usize],
     places: &Places,
@@ -145,7 +145,7 @@ fn find_outlet(
     None
 }
 
-/// The first side of an equation that is a name which stands outside of it, and the container in which it stands.
+/// The first side of an equation that is a name which occurs outside of it, and the container in which it occurs.
 fn first_outlet(
     links: &mut [usize],
     places: &Places,
@@ -198,8 +198,8 @@ impl Containers {
         Ok(())
     }
 
-    /// The applicable side of an equation whose resolved sides begin with these words, the left one if both are. What the
-    /// equation holds then goes to the container in which the name stands besides.
+    /// The applicable side of an equation whose resolved sides begin with these words, the left one if both are. What
+    /// the equation holds then goes to the container in which the name occurs besides.
     pub fn applicable(&mut self, left: Word, right: Word, place: usize) -> Option<Applicable>
         requires inside { place < length self.old.links.items }
         requires linked { IsLinked self.old.links.items }

@@ -16,8 +16,8 @@ use ic_settle::is_twice_in;
 /// The names of a configuration, each as often as it occurs: no more than its nodes.
 type Names = ArrayVec<u64, 8_192>;
 
-/// Whether settling takes no step. Takes n log n steps for n nodes, and no memory but for a table
-/// of names on the stack (64 KiB); where there is no equation, one step and no table.
+/// Whether settling takes no step. Takes n log n steps for n nodes, and no memory except for a
+/// table of names on the stack (64 KiB); where there is no equation, one step and no table.
 pub fn is_settled(flat: &Flat) -> bool
     ensures { result ≡ is_none (settling_step flat.now) }
 {

@@ -24,8 +24,8 @@ use ic_rules::RuleSet;
 use ic_term::{Equation, MAX_NODES};
 use std::alloc::{AllocError, Global};
 
-/// The configuration with all its active equations fired, and not settled, from the results of its works in their order.
-/// Takes memory for as many words as a configuration may have.
+/// The configuration with all its active equations fired, and not settled, from the results of its works in their
+/// order. Takes memory for as many words as a configuration may have.
 pub fn filled(
     alloc: Global,
     rules: &RuleSet,

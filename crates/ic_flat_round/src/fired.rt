@@ -24,14 +24,14 @@ use ic_round::RoundFault;
 use ic_term::{MAX_NEXT, MAX_NODES};
 use std::alloc::Global;
 
-/// How many equations firing has put on a list, and the first number behind the names that they take.
+/// How many equations firing has put on a list, and the first number after the names that they take.
 #[derive(Clone, Copy, Debug)]
 pub(crate) struct Reached {
     pub equations: usize,
     pub next: u64,
 }
 
-/// Whether so many more words behind the first `len`, and so many more names from `next` on, stay within the limits.
+/// Whether so many more words after the first `len`, and so many more names from `next` on, stay within the limits.
 fn is_within(len: usize, more: usize, next: u64, names: u64) -> bool
     requires few { len ≤ MAX_NODES }
     requires low { next ≤ MAX_NEXT }
@@ -51,8 +51,8 @@ fn in_order(sides: Sides, turned: bool) -> (usize, usize)
     }
 }
 
-/// Appends an equation, fired if it is active, its fresh names from `next` on, and tells how far it reaches. Answers None
-/// where a limit would be passed.
+/// Appends an equation, fired if it is active, its fresh names from `next` on, and tells how far it reaches. Answers
+/// None where a limit would be passed.
 fn put_fired(
     rules: &FlatRules,
     words: &[Word],
@@ -100,8 +100,8 @@ fn put_fired(
     }
 }
 
-/// Appends the equations from a place on, each fired if it is active, their fresh names from `next` on, and tells how far
-/// they reach. Answers None at the first one that would pass a limit.
+/// Appends the equations from a place on, each fired if it is active, their fresh names from `next` on, and tells how
+/// far they reach. Answers None at the first one that would pass a limit.
 fn put_equations(
     rules: &FlatRules,
     words: &[Word],
@@ -137,8 +137,8 @@ fn put_equations(
     Some(Reached { equations, next })
 }
 
-/// Puts a configuration, whose equations begin at this place, with all the active ones fired, on an empty list, and tells
-/// how far it reaches. Answers None where it passes a limit.
+/// Puts a configuration, whose equations begin at this place, with all the active ones fired, on an empty list, and
+/// tells how far it reaches. Answers None where it passes a limit.
 fn put_configuration(
     rules: &FlatRules,
     flat: &Flat,
@@ -160,8 +160,8 @@ fn put_configuration(
     put_equations(rules, words, place, flat.next(), out)
 }
 
-/// The configuration with all its active equations fired, and not settled, on a list whose own words go. Takes memory only
-/// where the list is too short for as many words as a configuration may have.
+/// The configuration with all its active equations fired, and not settled, on a list whose own words go. Takes memory
+/// only where the list is too short for as many words as a configuration may have.
 pub(crate) fn fire_onto(
     rules: &FlatRules,
     flat: &Flat,

@@ -65,7 +65,7 @@ fn put_product(
     (end, until)
 }
 
-/// Appends so many arguments of an agent, the first of them at a place, each with the rule's term for it behind it, and
+/// Appends so many arguments of an agent, the first of them at a place, each followed by the rule's term for it, and
 /// tells where these terms end.
 fn put_products(
     words: &[Word],
@@ -98,7 +98,7 @@ fn put_products(
     from
 }
 
-/// Appends the arguments of two agents, each with a rule's term for it behind it, where these are the words of the rule,
+/// Appends the arguments of two agents, each followed by a rule's term for it, where these are the words of the rule,
 /// and tells how many arguments they are.
 pub(crate) fn put_interaction(
     words: &[Word],

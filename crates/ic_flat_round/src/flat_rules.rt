@@ -16,7 +16,7 @@ use std::sync::Arc;
 #[derive(Debug, Drop)]
 pub struct FlatRules {
     rules: Arc<RuleSet>,
-    /// The words of all rules, one rule's behind the other's.
+    /// The words of all rules, rule by rule.
     words: Vec<Word>,
     /// Where the words of each rule begin, and where those of the last one end.
     bounds: Vec<usize>,

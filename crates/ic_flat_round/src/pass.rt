@@ -20,9 +20,9 @@ pub(crate) struct Kept {
     pub right: usize,
 }
 
-/// Goes through the equations once. Each whose resolved sides have an applicable one is removed, and its other side waits
-/// for that name. Leaves the equations that stay, with their sides resolved, and what stands for the names of the others.
-/// What the lists held goes, and their memory is kept.
+/// Goes through the equations once. Each whose resolved sides have an applicable one is removed, and its other side
+/// waits for that name. Leaves the equations that stay, with their sides resolved, and what stands for the names of the
+/// others. What the lists held goes, and their memory is kept.
 pub(crate) fn pass(
     flat: &Flat,
     containers: &mut Containers,

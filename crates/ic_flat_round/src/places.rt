@@ -1,4 +1,4 @@
-//! Where equations and their sides stand among words.
+//! The places of equations and their sides among words.
 
 ghost use Rattle.std.specs.Prelude.{◌≡◌, ◌∷◌, ◌<◌, ◌≤◌, length, drop};
 ghost use Rattle.ic_flat.specs.Words.{forest, IsWhole};
@@ -6,7 +6,7 @@ ghost use Rattle.ic_flat_round.specs.inner.Standing.{pair_at, pairs_at, AreSides
 
 use ic_flat::{Flat, Word, end_of_term};
 
-/// Where the sides of an equation begin, and the place behind the right one.
+/// Where the sides of an equation begin, and the place after the right one.
 #[derive(Clone, Copy, Debug)]
 pub(crate) struct Sides {
     pub left: usize,
@@ -14,14 +14,14 @@ pub(crate) struct Sides {
     pub end: usize,
 }
 
-/// The place behind the interface, where the equations begin.
+/// The place after the interface, where the equations begin.
 pub(crate) fn equations_place(flat: &Flat) -> usize
     ensures { IsEquationsPlace flat.now result }
 {
     end_of_terms(flat.words(), flat.interface_len())
 }
 
-/// The place behind so many terms.
+/// The place after so many terms.
 fn end_of_terms(words: &[Word], count: usize) -> usize
     requires whole { IsWhole words.now }
     requires there { count ≤ length (forest words.now) }
@@ -35,7 +35,7 @@ fn end_of_terms(words: &[Word], count: usize) -> usize
     end
 }
 
-/// Where the sides of the equation stand that begins at a place.
+/// The places of the sides of the equation that begins at a place.
 pub(crate) fn sides_at(words: &[Word], place: usize) -> Sides
     requires whole { IsWhole words.now }
     requires there { place < length words.now }

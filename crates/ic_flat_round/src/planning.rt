@@ -91,8 +91,8 @@ fn equation_at(alloc: Global, words: &[Word], sides: Sides) -> Result<Equation, 
     Ok(Equation { left, right })
 }
 
-/// The work of an equation of two agents, whose rule stands at this place, with its sides turned round where the rule has
-/// them so.
+/// The work of an equation of two agents, whose rule stands at this place, with its sides turned round where the rule
+/// has them so.
 fn oriented_work(number: u64, base: u64, rule: usize, turned: bool, equation: Equation) -> Work
     requires left { is_agent (tree equation.left) }
     requires right { is_agent (tree equation.right) }

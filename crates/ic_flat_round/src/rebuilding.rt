@@ -12,14 +12,15 @@ use crate::pass::Kept;
 use ic_flat::Word;
 use std::alloc::AllocError;
 
-/// So many terms, one behind the other from a place on.
+/// So many terms, one after the other from a place on.
 #[derive(Clone, Copy, Debug)]
 pub(crate) struct Span {
     pub place: usize,
     pub count: usize,
 }
 
-/// Writes the first word of a span, or turns to the term that its name is bound to, and tells what is to be written next.
+/// Writes the first word of a span, or turns to the term that its name is bound to, and tells what is to be written
+/// next.
 fn put_word(
     words: &[Word],
     span: Span,

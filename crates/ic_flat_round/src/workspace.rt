@@ -46,7 +46,8 @@ impl Workspace {
         }
     }
 
-    /// The configuration, settled. Takes time nearly in proportion to its nodes, and memory only where a list is too short.
+    /// The configuration, settled. Takes time nearly in proportion to its nodes, and memory only where a list is too
+    /// short.
     pub fn settle(&mut self, alloc: Global, flat: &Flat) -> Result<Flat, AllocError>
         ensures settled { IfOk result (λ after. after ≡ settled flat.now) }
         ensures reached { IfOk result (λ after. NameSteps flat.now after) }

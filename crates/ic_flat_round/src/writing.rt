@@ -1,5 +1,5 @@
-//! Words of rules, one rule's behind the other's. A rule's terms are walked by recursion: they have
-//! 2,048 nodes at most.
+//! Words of rules, rule by rule. A rule's terms are walked by recursion: they have 2,048 nodes at
+//! most.
 
 ghost use Rattle.std.specs.Prelude.{◌≡◌, ◌++◌, map, IfOk, OnOk};
 ghost use Rattle.std.specs.List.{flat_map};

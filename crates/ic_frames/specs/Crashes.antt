@@ -39,8 +39,8 @@ pub record CrashInWriting {D T K : Type 0} {ghosts : Ghosts D} (Holds Has : K �
   pub whole : KeepsModel old
       → OnOk result (EachImage new (Stages (target_of new) (number_of new + 1) next))
   pub made : KeepsModel old → OnOk result (EachImage new IsMade)
-  -- on a disk that isn't made too: whatever it answers, what each image had each holds after it, if
-  -- each is made then
+  -- also on a disk that isn't made: whatever it answers, what each image had, each holds after it,
+  -- if each is made then
   pub holds_if_made : (kept : K) → KeepsModel old → EachImage old (Has kept)
       → EachImage new IsMade → EachImage new (Holds kept)
 
@@ -52,7 +52,7 @@ pub record CrashInOpening {D T K : Type 0} {ghosts : Ghosts D} (Holds : K → Li
   pub any_moment : (kept next : K) → KeepsModel old → EachImage old (Holds kept)
       → EachImage old (Stages (target_of old) (number_of old + 1) next)
       → Leaves old new (IsEither Holds kept next)
-  -- at Ok the latter alone, in the newest slot
+  -- at Ok only the latter, in the newest slot
   pub holds : (next : K) → KeepsModel old
       → EachImage old (Stages (target_of old) (number_of old + 1) next)
       → OnOk result (EachImage new (Holds next))
@@ -64,8 +64,8 @@ pub record CrashInKeeping {D T K : Type 0} {ghosts : Ghosts D} (Holds Has : K �
   pub keeps : ghosts.keeps (disk_of new) ≡ ghosts.keeps (disk_of old)
   pub any_moment : (kept : K) → KeepsModel old → EachImage old (Holds kept)
       → Leaves old new (IsEither Holds kept next)
-  -- on a disk that isn't made too: whatever it answers, where each image had one, each holds that or
-  -- the next one after it, if each is made then
+  -- also on a disk that isn't made: whatever it answers, where each image had one, each holds that
+  -- or the next one after it, if each is made then
   pub either_if_made : (kept : K) → KeepsModel old → EachImage old (Has kept)
       → EachImage new IsMade → EachImage new (IsEither Holds kept next)
   -- at Ok the next one, in the newest slot, and so do reads

@@ -8,7 +8,7 @@ use Rattle.ic_frames.specs.declared.faults.OpenCause.{OpenCause}
 use Rattle.ic_frames.specs.declared.faults.OpenCause.TheVariants.{NoSlot, TwoAlike, Damaged, Memory}
 use Rattle.ic_frames.specs.declared.faults.OpenCause.TheVariants.{Device as OpenDevice}
 
--- `Device` has one failure more counted, and all else has none
+-- at `Device` one more failure is counted, and at any other answer none
 abbrev pub CountsKeep : {T : Type 0} → Result T KeepFault → ℕ → ℕ → Type 0
 CountsKeep (Ok value) old new = new ≡ old
 CountsKeep (Err KeepDevice) old new = OneMore old new

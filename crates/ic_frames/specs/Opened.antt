@@ -29,7 +29,7 @@ pub record KeepsOneBody {D : Type 0} {ghosts : Ghosts D} (frames : Frames D ghos
   pub images : EachImage frames (HasBody kept)
 
 -- The slot beside the one that is written next is the newest of this file, with this number, and
--- the other is held for closed exactly where it is.
+-- the other is taken for closed exactly where it is closed.
 pub record IsOnNewest {D : Type 0} {ghosts : Ghosts D} (frames : Frames D ghosts) (file : List ℕ)
     : Type 0 where
   pub newest : IsNewest (other (target_of frames)) file

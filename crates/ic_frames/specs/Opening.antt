@@ -15,8 +15,8 @@ Answers Device held = Unit {0}
 Answers Memory held = Unit {0}
 
 -- What an opening leaves of a disk, seen by these members: what was there. A crash at any moment
--- leaves an image from before. Unless the disk has failed a sync has come before, and so there is
--- one image then, what reads give.
+-- leaves an image from before. Unless the disk has failed, a sync was made, and so there is one
+-- image then: what reads give.
 pub record LeavesAsFound {D T : Type 0} (keeps_model : D → Bool) (content : D → List ℕ)
     (image : D → List ℕ → Type 0) (clock : D → ℕ) (left : D → ℕ → List ℕ → Type 0)
     (result : Result T OpenCause) (old new : D) : Type 0 where

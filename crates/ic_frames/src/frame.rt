@@ -9,7 +9,7 @@ pub const HEAD: usize = 13;
 /// The length of the longest body, in bytes: that of the longest table.
 pub const MAX_BODY: usize = 3_036_677;
 
-// Writes the head of a frame: a closed gate, this number and the length of the body behind it.
+// Writes the head of a frame: a closed gate, this number and the length of the body, which follows.
 pub(crate) fn fill_head(frame: &mut [u8], number: u64)
     requires head { 13 ≤ length frame.old }
     requires short { length frame.old ≤ 13 + MAX_BODY }

@@ -16,7 +16,7 @@ use crate::{KeepFault, OpenFault, Opened, Slot};
 use ic_disk::Disk;
 use std::alloc::Global;
 
-// From which byte on a frame is written: from behind its gate, or from the gate on where the disk
+// The byte from which on a frame is written: the one behind its gate, or the gate where the disk
 // isn't made and a gate that was cut off from its head may be 1.
 fn written_from(made: bool) -> usize
     ensures which { ((made ≡ true) × (result ≡ 1)) ⊎ ((made ≡ false) × (result ≡ 0)) }
@@ -31,7 +31,7 @@ pub struct Frames<D: Disk> {
     disk: D,
     newest: Slot,
     number: u64,
-    // Of the slot that is written next: whether it is closed, and whether a body is written there.
+    // Whether the slot that is written next is closed, and whether a body is written there.
     closed: bool,
     staged: bool,
     // Whether both heads lie within the disk.
@@ -175,8 +175,8 @@ impl<D: Disk> Frames<D> {
         Ok(())
     }
 
-    /// Puts the body of this frame in the place of the one that is kept. It isn't answered want of
-    /// memory, and has no allocator in reach but the disk's own.
+    /// Puts the body of this frame in the place of the one that is kept. It never answers that
+    /// memory ran out, and has no allocator in reach but the disk's own.
     pub fn keep(&mut self, frame: &mut [u8]) -> Result<(), KeepFault>
         requires head { 13 ≤ length frame.old }
         requires short { length frame.old ≤ 13 + MAX_BODY }

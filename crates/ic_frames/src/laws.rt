@@ -70,8 +70,8 @@ pub fn a_slot_is_open_or_whole()
         → length (body at file) ≡ size at file }
 {}
 
-/// Where the disk is told to have failed one failure more is counted, up to the end of the count.
-/// Where it isn't, none is.
+/// Where the disk is told to have failed, one more failure is counted, up to the end of the count.
+/// Otherwise none is.
 pub fn a_failure_is_counted()
     ensures keep_failed { (old new : ℕ) → CountsKeep {T = Unit {0}} (Err KeepDevice) old new
         → (new ≡ old + 1) ⊎ ((old ≡ 2 ^ 64 - 1) × (new ≡ old)) }

@@ -3,8 +3,8 @@
 //!
 //! `create` writes the first body. `Frames::open` finds the newest, and `Frames::keep` writes the
 //! next one into the slot beside it, in three phases that may be called by themselves. A body is
-//! any list of bytes up to `MAX_BODY`; what it means is up to the rooms above. `laws` holds what is
-//! proved of the definitions alone.
+//! any list of bytes up to `MAX_BODY`; what it means is up to the crates above. `laws` holds what
+//! is proved of the definitions alone.
 #![tactic(auto)]
 
 mod creation;

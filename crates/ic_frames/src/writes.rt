@@ -25,7 +25,7 @@ pub(crate) fn write_gate<D: Disk>(disk: &mut D, slot: Slot, gate: u8) -> Result<
     write_synced(disk, slot.place(), &[gate])
 }
 
-// Writes what stands in a frame from some byte of its head on.
+// Writes what is in a frame from some byte of its head on.
 pub(crate) fn write_frame<D: Disk>(
     disk: &mut D,
     slot: Slot,

@@ -1,4 +1,4 @@
--- To be believed: a file that a server writes while it is read, as it stands at each moment (this
+-- To be believed: a file that a server writes while it is read, as it is at each moment (this
 -- project's choice).
 use Rattle.std.specs.Prelude.{◌≡◌, ◌⊎◌, ◌+◌, ◌<◌, ◌≤◌, ℕ, List, true, false, length, slice_index}
 use Rattle.ic_frames.specs.declared.frame.TheConstants.{HEAD}
@@ -56,7 +56,7 @@ IsBodyAmid slot at from until read = (k : ℕ) → k < size (place slot) read
     → (m : ℕ) × (from ≤ m) × (m ≤ until) × IsByteOf (place slot + HEAD + k) read (at m)
 
 -- These bytes were read of the file between two moments: the head of each slot at one moment, that of
--- the first slot first, and each body byte by byte behind its head.
+-- the first slot first, and each body byte by byte after its head.
 pub record IsReading (at : ℕ → List ℕ) (from until : ℕ) (read : List ℕ) : Type 0 where
   pub first : ℕ
   pub second : ℕ
@@ -66,8 +66,8 @@ pub record IsReading (at : ℕ → List ℕ) (from until : ℕ) (read : List ℕ
   pub first_body : IsBodyAmid First at first until read
   pub second_body : IsBodyAmid Second at second until read
 
--- These bytes were read twice, one reading behind the other: the head of each slot at one moment each
--- time, and each body of the first reading byte by byte behind its head.
+-- These bytes were read twice, one reading after the other: the head of each slot at one moment each
+-- time, and each body of the first reading byte by byte after its head.
 pub record IsReadTwice (at : ℕ → List ℕ) (read : List ℕ) : Type 0 where
   pub first : ℕ
   pub second : ℕ

@@ -81,7 +81,7 @@ newest_text TwoAlike = codes "two alike"
 abbrev pub table_lines : List ℕ → List JobParts → List ℕ
 table_lines words t = line (codes "held: " ++ words) ++ flat_map job_line t
 
--- the lines of what is held: of a table those of its jobs, behind the words of its slot
+-- the lines of what is held: of a table those of its jobs, after the words of its slot
 abbrev pub told_held : List ℕ → Held → List ℕ
 told_held words (the_table t) = table_lines words t
 told_held words no_slot = line (codes "held: no slot")

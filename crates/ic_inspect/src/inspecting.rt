@@ -45,11 +45,11 @@ pub fn read_front<R: Read>(alloc: Global, reader: &mut R) -> Result<Vec<u8>, Ins
     Err(InspectFault::Read)
 }
 
-/// Writes what these bytes of a file hold, if a second reading gives them too: what is seen of each slot, which of them is
-/// held, and the jobs of its table.
+/// Writes what these bytes of a file hold, if a second reading gives them too: what is seen of each slot, which of them
+/// is held, and the jobs of its table.
 ///
-/// The bytes are what a first reading gave, so it has ended before the second one begins. Where that gives other bytes the
-/// file was written meanwhile, and nothing is written. Where the writer fails a front of the lines is written.
+/// The bytes are what a first reading gave, so it has ended before the second one begins. Where that gives other bytes
+/// the file was written meanwhile, and nothing is written. Where the writer fails a front of the lines is written.
 pub fn inspect<R: Read, W: Write>(
     alloc: Global,
     first: &[u8],

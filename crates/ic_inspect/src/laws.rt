@@ -54,8 +54,8 @@ pub fn what_is_told_as_held_is_held()
     ic_slots::laws::one_is_held();
 }
 
-/// Where a table is told as held, the slot that is told with it is the newest of the file, and has a form of that table.
-/// The lines of this table stand behind the words of this slot.
+/// Where a table is told as held, the slot that is told with it is the newest of the file, and has a form of that
+/// table. The lines of this table follow the words of this slot.
 pub fn a_table_is_told_of_its_slot()
     ensures newest { (file : List ℕ) (first second : Option Seen) (t : List JobParts)
         → IsSeen First first file → IsSeen Second second file
@@ -72,7 +72,7 @@ pub fn a_table_is_told_of_its_slot()
     ic_frames::laws::a_slot_is_open_or_whole();
 }
 
-/// The line of a slot, word for word. Behind the digit both slots have the same words.
+/// The line of a slot, word for word. After the digit both slots have the same words.
 pub fn slots_are_told_so()
     ensures same_words { (seen : Option Seen) → (words : List ℕ)
         × (slot_line 49 seen ≡ codes "slot 1" ++ words)
@@ -151,8 +151,8 @@ pub fn the_front_is_seen_as_the_file()
     ic_frames::laws::a_slot_is_open_or_whole();
 }
 
-/// Of a file that a server writes meanwhile: a table that the bytes hold that were read twice stood in the file at a moment
-/// of the reading. Where it is told that none is held, the file may hold one all the same.
+/// A server may write the file meanwhile. Where bytes that were read twice hold a table, this table stood in the file
+/// at a moment of the reading. Where it is told that none is held, the file may hold one all the same.
 pub fn a_table_that_is_shown_stood()
     ensures { (at : ℕ → List ℕ) (read : List ℕ) (t : List JobParts) → IsServed at
         → (twice : IsReadTwice at read) → IsHeld (the_table t) read
@@ -163,8 +163,8 @@ pub fn a_table_that_is_shown_stood()
     ic_slots::laws::the_newest_table_is_held();
 }
 
-/// A file that stays as it is, and has both bodies within it, is read as it is, at any moment and twice. A server that does
-/// nothing leaves it so.
+/// A file that stays as it is, and has both bodies within it, is read as it is, at any moment and twice. A server that
+/// does nothing leaves it so.
 pub fn a_file_that_stays_is_read_as_it_is()
     ensures read { (file : List ℕ) (from until : ℕ) → from ≤ until
         → ((slot : Slot) → place slot + HEAD + size (place slot) file ≤ length file)
@@ -176,9 +176,9 @@ pub fn a_file_that_stays_is_read_as_it_is()
         → IsServed (λ moment. file) }
 {}
 
-/// Two readings of a file over time, of which the second begins where the first has ended: what is told is told of the bytes
-/// of the first, and these were read twice. So a table of them stood in the file meanwhile, as `a_table_that_is_shown_stood`
-/// says.
+/// Two readings of a file over time, of which the second begins where the first has ended: what is told is told of the
+/// bytes of the first, and these were read twice. So a table of them stood in the file meanwhile, as
+/// `a_table_that_is_shown_stood` says.
 pub fn what_is_inspected_was_read_twice<R: Read, S: Read, W: Write>(
     alloc: Global,
     reader: &mut R,
@@ -196,14 +196,14 @@ pub fn what_is_inspected_was_read_twice<R: Read, S: Read, W: Write>(
     inspect(alloc, &first, again, writer)
 }
 
-/// What a keep writes beside a newest slot that is whole is a step of a server, and so is what stands in the midst of it:
-/// any bytes in the range that is written.
+/// What a keep writes beside a newest slot that is whole is a step of a server, and so is what stands in the midst of
+/// it: any bytes in the range that is written.
 pub fn the_writes_of_a_keep_are_steps()
     ensures closing { (target : Slot) (old new : List ℕ) → IsWholeNewest (other target) old
         → is_open (place target) old ≡ true → length new ≡ length old
         → Torn (place target) 1 old new → IsServerStep old new }
 
-    // Behind a closed gate each file in the midst of a write goes to each other one, the last too.
+    // With a closed gate, any file in the midst of a write may become any other one, the last one too.
     ensures writing { (target : Slot) (count : ℕ) (old amid later : List ℕ)
         → IsWholeNewest (other target) old → IsClosedIn target old → IsMade old
         → count < HEAD + MAX_BODY → Torn (place target + 1) count old amid
@@ -227,7 +227,7 @@ pub fn closing_a_gate_is_a_step<D: Disk>(frames: &mut Frames<D>) -> Result<(), K
     frames.close_gate()
 }
 
-/// The second phase is one step too, also on a disk that isn't made. Behind it the next body is staged.
+/// The second phase is one step too, also on a disk that isn't made. After it the next body is staged.
 pub fn writing_a_body_is_a_step<D: Disk>(
     frames: &mut Frames<D>,
     frame: &mut [u8],

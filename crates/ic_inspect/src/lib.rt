@@ -1,8 +1,8 @@
 //! What a disk's file holds, told in lines, with nothing changed and no lock taken.
 //!
-//! `read_front` reads a file once. `inspect` is handed what it gave, reads the file again, and writes what both readings
-//! saw: each slot, and the jobs of the table that is held. `told` makes these lines of bytes. `laws` says that what is told
-//! as held is what an opening of the disk finds.
+//! `read_front` reads a file once. `inspect` is handed what it gave, reads the file again, and writes what both
+//! readings saw: each slot, and the jobs of the table that is held. `told` makes these lines of bytes. `laws` says that
+//! what is told as held is what an opening of the disk finds.
 #![tactic(auto)]
 
 mod choosing;

@@ -70,7 +70,7 @@ fn size_at(file: &[u8], at: usize) -> u32
     u32::from_be_bytes(bytes)
 }
 
-/// What the body of this length is that stands behind the head that begins here.
+/// What the body of this length is that follows the head at this place.
 fn body_at(alloc: Global, file: &[u8], at: usize, count: usize) -> Result<Body, AllocError>
     requires head { at + 13 ≤ length file.now }
     requires count { count ≡ size at file.now }

@@ -1,16 +1,16 @@
 //! What is answered to a row, by its kind.
 //!
-//! - `round SYSTEM`: the places that pass the gate in a round, each once, and the text and `next` after it: by each number of
-//!   workers the same, at a gate that yields at every second place.
-//! - `at_once WORKERS COUNT SYSTEM`: the same of a round by so many workers, and how many are in the gate at once, where each
-//!   waits in it until so many have begun; or why there is no round.
+//! - `round SYSTEM`: the places that pass the gate in a round, each once, and the text and `next` after it: by each
+//!   number of workers the same, at a gate that yields at every second place.
+//! - `at_once WORKERS COUNT SYSTEM`: the same of a round by so many workers, and how many are in the gate at once,
+//!   where each waits in it until so many have begun; or why there is no round.
 //! - `deal COUNT SYSTEM`: the places of the works of a round, dealt to so many parts.
 //! - `matched SYSTEM`: what becomes of the works of the second round with their own answers, one missing, one twice,
 //!   those of the first round beside them, those alone, and those in place of one.
-//! - `made WORKERS`: how many workers a crew and how many posts it has. `dropped WORKERS SYSTEM`: what a crew answers twice
-//!   whose posts were dropped, and whether it is spent then.
-//! - `undumped LINE`: the numbers of the faults of a dump of this line's job, where the output can't be written and where it can't be
-//!   flushed. `unshown BYTES`: the same of a look at a disk with these bytes.
+//! - `made WORKERS`: how many workers a crew and how many posts it has. `dropped WORKERS SYSTEM`: what a crew answers
+//!   twice whose posts were dropped, and whether it is spent then.
+//! - `undumped LINE`: the numbers of the faults of a dump of this line's job, where the output can't be written and
+//!   where it can't be flushed. `unshown BYTES`: the same of a look at a disk with these bytes.
 //! - `book LIVES`: what a book on a disk answers (`books` has the words).
 
 use crate::books::book;
@@ -56,7 +56,7 @@ fn of_number<R: Wait>(rt: &R, alloc: Global, kind: &str, text: &str) -> Result<V
     }
 }
 
-/// The first word as a number, and what stands after it.
+/// The first word as a number, and what follows it.
 pub fn number_first(text: &str) -> (u64, &str) {
     let (first, rest) = text.split_once(' ').unwrap_or((text, ""));
     (u64::from_str_radix(first, 10).unwrap_or(0), rest)

@@ -1,10 +1,13 @@
 //! A book on a disk in memory, of which a call fails.
 //!
-//! `LIFE + LIFE ..`, the first on a new disk, each on what the last one left, or, after `on BYTES `, on a disk with these bytes.
-//! A life is `CALL WORD ; WORD ..`: this call to the disk fails, counted from the first of the opening, and no other; none where
-//! it is 0. Then the book is closed. A word is a command line, `by WHO LINE`, `times COUNT WORD` for the same word so many times; `due PLACE`,
-//! which takes the flight that is due from a place on; `land K`, which lands the round of the K-th flight or halts its job, and
-//! `round` for both; `keep`, `page`; and what the book tells: `log`, `entry K`, `table`, `start`.
+//! `LIFE + LIFE ..`, the first on a new disk, each on what the last one left, or, after `on BYTES `, on a disk with
+//! these bytes. A life is `CALL WORD ; WORD ..`: this call to the disk fails, counted from the first of the opening,
+//! and no other; none where it is 0. Then the book is closed.
+//!
+//! A word is a command line, `by WHO LINE`, or `times COUNT WORD` for the same word so many times. `due PLACE` takes
+//! the flight that is due from a place on, `land K` lands the round of the K-th flight or halts its job, and `round`
+//! does both. Further words are `keep` and `page`, and for what the book tells `log`, `entry K`, `table` and
+//! `start`.
 
 use crate::answers::number_first;
 use ic_book::{Book, BookFault};

@@ -1,6 +1,6 @@
-//! The worked rows of what only calls of the libraries reach: rounds by workers at a gate that counts them, works that are dealt
-//! out and matched, a book over a disk that fails, and outputs that fail. `answers` says what a row may ask. What the built program
-//! is asked of lines, byte forms and disks stands in `trials/rows`.
+//! The worked rows of what only calls of the libraries reach: rounds by workers at a gate that counts them, works that
+//! are dealt out and matched, a book over a disk that fails, and outputs that fail. `answers` says what a row may ask.
+//! What the built program is asked of lines, byte forms and disks is in `trials/rows`.
 #![tactic(auto)]
 
 mod answers;

@@ -12,7 +12,7 @@ use std::sync::{Arc, Wait};
 use std::thread::Threads;
 use std::time::Clock;
 
-/// By how many workers each round is made.
+/// The numbers of workers by which each round is made.
 const WORKERS: &[usize] = &[1, 2, 3, 7, 64, 200];
 
 /// A flight of a job, where these are the parts of one.

@@ -28,7 +28,8 @@ impl Write for Broken {
     }
 }
 
-/// The numbers of the faults of a dump of the job of a line, where the output can't be written and where it can't be flushed.
+/// The numbers of the faults of a dump of the job of a line, where the output can't be written and where it can't be
+/// flushed.
 pub fn undumped(alloc: Global, line: &str) -> Result<Vec<u8>, Trouble> {
     let mut table = Table::new(alloc);
     match read_command(alloc, line.as_bytes()) {

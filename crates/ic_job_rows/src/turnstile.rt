@@ -7,8 +7,9 @@ use std::sync::atomic::{AtomicBool, AtomicU64, Ordering};
 use std::thread;
 use std::time::{Clock, Duration};
 
-/// A gate with a counter for each place of a configuration, and one for all others. It holds each work up until so many have
-/// begun, at most 10,000 times a millisecond, and counts how many are in it at once. Where none are wanted it holds up none.
+/// A gate with a counter for each place of a configuration, and one for all others. It holds each work up until so many
+/// have begun, at most 10,000 times a millisecond, and counts how many are in it at once. Where none are wanted it
+/// holds up none.
 #[derive(Drop)]
 pub struct Turnstile<'a, R> {
     rt: &'a R,

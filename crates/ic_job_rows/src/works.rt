@@ -120,8 +120,8 @@ fn told(
     }
 }
 
-/// What becomes of works with their own answers, one missing, one twice, others beside them, those alone, and those in place
-/// of one.
+/// What becomes of works with their own answers, one missing, one twice, others beside them, those alone, and those in
+/// place of one.
 fn line_of_matches<'a>(
     alloc: Global,
     rules: &Arc<RuleSet>,

@@ -20,11 +20,11 @@ flight_of place j = record {
   rounds = j.rounds;
 }
 
--- the place of the first running job at this place or behind it
+-- the place of the first running job at this place or after it
 abbrev pub running_from : ℕ → List JobParts → Option ℕ
 running_from place t = position_from (λ j. is_running j.state) place (drop place t)
 
--- the place of the first running job at this place or behind it, or else of the first running job
+-- the place of the first running job at this place or after it, or else of the first running job
 abbrev pub due_place : List JobParts → ℕ → Option ℕ
 due_place t after = option_or (running_from after t) (running_from 0 t)
 

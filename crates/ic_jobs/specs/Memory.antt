@@ -15,7 +15,7 @@ takes_memory (Cancel name) = false
 takes_memory (Fetch name) = true
 takes_memory list_jobs = true
 
--- a copy of a command takes memory of a submit alone
+-- a copy of a command takes memory only where it is a submit
 abbrev pub is_submit : Command → Bool
 is_submit (Submit name system budget) = true
 is_submit (CopyJob old new) = false

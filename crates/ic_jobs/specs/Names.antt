@@ -38,7 +38,7 @@ abbrev pub event_names : Event → List (List ℕ)
 event_names (by_command c) = command_names c
 event_names (Round n) = n ∷ []
 
--- names with one more behind them
+-- names with one more after them
 abbrev pub with_name : List ℕ → List (List ℕ) → List (List ℕ)
 with_name n names = names ++ n ∷ []
 

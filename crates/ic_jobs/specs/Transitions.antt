@@ -104,8 +104,8 @@ abbrev pub LeadsWhere : List JobParts → Event → List ℕ → Option Row → 
 LeadsWhere t e name None = apply t e ≡ None
 LeadsWhere t e name (Some w) = LeadsBy t e name w
 
--- What a command leads to: it tells and leaves the whole table as it was, or it is answered and
--- leaves the jobs that it names, in their order, in these states.
+-- What a command leads to: it only tells, and leaves the whole table as it was; or it is answered
+-- and leaves the jobs that it names, in their order, in these states.
 pub data CommandRow : Type 0 where
   tells : Reply → CommandRow
   leaves : Reply → List (Option State) → CommandRow

@@ -7,7 +7,7 @@ use Rattle.ic_jobs.specs.declared.state.State.TheVariants.{Running}
 use Rattle.ic_jobs.specs.Job.{JobParts}
 use Rattle.ic_jobs.specs.Landing.{flight_of}
 
--- A running job stands at this place.
+-- A running job is at this place.
 pub record RunsAt (t : List JobParts) (place : ℕ) : Type 0 where
   pub job : JobParts
   pub there : slice_get t place ≡ Some job

@@ -66,9 +66,10 @@ impl Job {
     ghost use Rattle.ic_jobs.specs.Landing.{flight_of, agrees};
     ghost use Rattle.ic_jobs.specs.Shown.{shown};
 
-    /// The job of these parts, if the configuration is over the symbols of the rules, the rounds
-    /// are at most 2^62 and at most the budget, and the state is `Done` exactly where the
-    /// configuration is quiet, and `Spent` exactly where it isn't and the rounds are the budget.
+    /// The job of these parts, if they make one. The configuration has to be over the symbols of
+    /// the rules, and the rounds at most 2^62 and at most the budget. The state has to be `Done`
+    /// exactly where the configuration is quiet, and `Spent` exactly where it isn't and the rounds
+    /// are the budget.
     pub fn restore(
         name: JobName,
         rules: Arc<FlatRules>,

@@ -116,10 +116,12 @@ pub fn events_mention_their_names()
 {}
 
 /// What each event answers, and the state in which it leaves the job of its name, go by the tables
-/// of specs/Transitions: row by row for each command, and for a round, which is an event of a
-/// running job alone. A job begins done where its configuration is quiet, and else it runs. After a
-/// round it is done where its configuration is quiet; else it is spent where its rounds are its
-/// budget, and else it runs.
+/// of specs/Transitions. They go row by row for each command, and for a round, which is an event of
+/// a running job only.
+///
+/// A job begins done where its configuration is quiet, and else it runs. After a round it is done
+/// where its configuration is quiet; else it is spent where its rounds are its budget, and else it
+/// runs.
 pub fn events_change_states_so()
     ensures events { (t : List JobParts) (e : Event) → EventLeads t e }
     ensures done { (rules : Rules) (c : Configuration)
@@ -137,8 +139,8 @@ pub fn events_change_states_so()
 {}
 
 /// A command that is answered with a new job, or with what it tells of jobs, is one that takes
-/// memory; one that is answered `Okay` takes none. A copy of a command takes memory of a submit
-/// alone, and a copy of a reply of one that tells of jobs.
+/// memory; one that is answered `Okay` takes none. A copy of a command takes memory only where it
+/// is a submit, and a copy of a reply only where it tells of jobs.
 pub fn memory_is_taken_by()
     ensures submitting { (t : List JobParts) (c : Command)
         → is_accepted (after_command t c).reply ≡ true → takes_memory c ≡ true }
@@ -156,7 +158,7 @@ pub fn memory_is_taken_by()
 
 /// An accepted copy begins its job with the rules and the whole configuration that the copied job
 /// has, with no rounds made and no budget, done where it is quiet and else running. The new job goes
-/// last, behind all jobs as they were.
+/// last, after all jobs as they were.
 pub fn copies_begin_so()
     ensures accepted { (t : List JobParts) (old new : List ℕ) (j : JobParts)
         → job_named old t ≡ Some j
@@ -184,9 +186,9 @@ pub fn budgets_are_kept()
     ensures in_state { (s : State) (j : JobParts) → (in_state s j).budget ≡ j.budget }
 {}
 
-/// The names of a table stand in the order in which their jobs began: an accepted submit or copy
-/// puts the new name last, a cancel takes its name out, and any other event leaves all names as they
-/// are. What is refused leaves the whole table.
+/// The names of a table are in the order in which their jobs began: an accepted submit or copy puts
+/// the new name last, a cancel takes its name out, and any other event leaves all names as they are.
+/// What is refused leaves the whole table.
 pub fn names_keep_their_order()
     ensures names { (t : List JobParts) (e : Event) (o : Outcome)
         → apply t e ≡ Some o → job_names o.table ≡ names_after (job_names t) e o.reply }

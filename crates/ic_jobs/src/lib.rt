@@ -1,9 +1,9 @@
 //! The job table: jobs, commands and their replies, and rounds that land.
 //!
-//! A `Table` has jobs in the order in which they began. `apply` takes a client's command.
-//! `due` gives a running job as it is, to be played outside; `land` puts its round and `halt` stops
-//! it, if the job is still as it was. Rules and configurations are in flat form, and are shared, not
-//! copied. The definitions of events, histories and lives stand in specs/, and `laws` holds what is
+//! A `Table` has jobs in the order in which they began. `apply` takes a client's command. `due`
+//! gives a running job as it is, to be played outside; `land` puts its round and `halt` stops it, if
+//! the job is still as it was. Rules and configurations are in flat form, and are shared, not
+//! copied. The definitions of events, histories and lives are in specs/, and `laws` holds what is
 //! proved of them alone.
 #![tactic(auto)]
 

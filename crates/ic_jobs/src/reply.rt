@@ -54,7 +54,7 @@ impl Reply {
     ghost use Rattle.ic_jobs.specs.Memory.{tells_jobs};
 
     /// A copy, equal to its source, which shares what is shown and listed. Only those of `Shown` and
-    /// `Listed` may be answered want of memory.
+    /// `Listed` may answer that memory ran out.
     pub fn copy(&self) -> Result<Reply, AllocError>
         ensures copy { IfOk result (λ copy. copy ≡ self.now) }
         ensures memory { OnErr result (IsTrue (tells_jobs self.now)) }

@@ -24,17 +24,18 @@ command_of (Err fault) = None
 abbrev pub commands : List ScriptLine → List Command
 commands rs = filter_map command_of rs
 
--- Why a line behind so many commands is refused: for its own fault, or its command is one too many.
+-- Why a line after so many commands is refused: for its own fault, or as its command is one too
+-- many.
 abbrev pub fault_behind : ℕ → ScriptLine → Option TextFault
 fault_behind n (Err fault) = Some fault
 fault_behind n (Ok None) = None
 fault_behind n (Ok (Some command)) = if nat_lt n MAX_SCRIPT then None else Some Limit
 
--- a fault of the line behind these
+-- a fault of the line after these
 abbrev pub numbered : List ScriptLine → TextFault → ScriptFault
 numbered before fault = record { line = length before + 1; fault = fault }
 
--- the first refusal among lines that stand behind others
+-- the first refusal among lines that follow others
 abbrev pub first_fault : List ScriptLine → List ScriptLine → Option ScriptFault
 first_fault before [] = None
 first_fault before (r ∷ rs) =
@@ -56,14 +57,14 @@ pub record ReadsScript (text : List ℕ) (answer : Result (List Command) ScriptF
   pub read : AllZip ReadsScriptLine (lines text) readings
   pub answered : answer ≡ unless_refused (first_fault [] readings) (commands readings)
 
--- A line for which memory may be wanting behind so many commands: it spells a submit, or it asks for a
--- command, which isn't one too many.
+-- A line at which memory may run out after so many commands: it spells a submit, or it asks for a
+-- command that isn't one too many.
 abbrev pub WantsMemory : ℕ → List ℕ → Type 0
 WantsMemory many line = IsSubmitText line
     ⊎ ((command : Command) × ReadsScriptLine line (Ok (Some command)) × (many < MAX_SCRIPT))
 
--- Memory is wanting at the line of a script with this number, from 1: the lines before it are read,
--- and none of them is refused.
+-- Memory may run out at the line of a script with this number, counted from 1: the lines before it
+-- are read, and none of them is refused.
 pub record IsWanting (text : List ℕ) (number : ℕ) : Type 0 where
   pub before : List (List ℕ)
   pub line : List ℕ

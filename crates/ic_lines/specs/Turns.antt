@@ -13,12 +13,12 @@ use Rattle.ic_jobs.specs.Landing.{due}
 abbrev pub after_events : List JobParts → List Event → List JobParts
 after_events t es = fold table_after t es
 
--- a round of a job that is due, and what comes behind it
+-- a round of a job that is due, and what comes after it
 abbrev pub round_and : (ℕ → List JobParts → List Event) → List JobParts → FlightParts → List Event
 round_and behind t f = Round f.name ∷ behind (f.place + 1) (table_after t (Round f.name))
 
--- At most so many rounds: the first of the job that is due from a place on, each further one of the
--- job that is due from above the place of the last one on. They end where none is due.
+-- At most so many rounds. The first is of the job that is due from a place on, and each further one
+-- of the job that is due from above the place of the one before. They end where none is due.
 abbrev pub turns : ℕ → ℕ → List JobParts → List Event
 turns zero place t = []
 turns (suc k) place t = option_map_or (round_and (turns k) t) (due t place) []

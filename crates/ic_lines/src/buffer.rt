@@ -41,7 +41,7 @@ impl From<AllocError> for LineFault {
 #[derive(Drop)]
 struct Ahead {
     bytes: Vec<u8>,
-    // What stands ahead begins here.
+    // What was read ahead begins here.
     start: usize,
 }
 
@@ -70,8 +70,8 @@ impl Ahead {
         }
     }
 
-    /// Moves what stands ahead, up to the first line feed, to the end of a line. Whether there was a line feed, which
-    /// is taken away.
+    /// Moves what was read ahead, up to the first line feed, to the end of a line. Tells whether there was a line
+    /// feed, which is taken away.
     fn move_line(&mut self, line: &mut Vec<u8>) -> Result<bool, LineFault>
         requires { IsFront line.old.items }
         ensures moved { MovesFront result line.old.items self.old line.new.items self.new }
@@ -93,8 +93,8 @@ impl Ahead {
         Ok(true)
     }
 
-    /// Reads what comes next, where nothing stands ahead. Whether anything came. The memory for it is taken first, so
-    /// that nothing that was read is lost.
+    /// Reads what comes next, where nothing was read ahead. Tells whether anything came. The memory for it is
+    /// taken first, so that nothing that was read is lost.
     fn fill<R: Read>(&mut self, reader: &mut R) -> Result<bool, LineFault>
         requires { self.old ≡ [] }
         ensures bytes { OnOk result
@@ -192,7 +192,7 @@ impl LineBuffer {
         self.advance(reader, writer)
     }
 
-    /// Moves the next line from what stands ahead, and from what the reader has behind it, into an empty line.
+    /// Moves the next line from what was read ahead, and from what the reader gives after it, into an empty line.
     fn advance<R: Read, W: Write>(
         &mut self,
         reader: &mut R,

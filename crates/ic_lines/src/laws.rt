@@ -27,9 +27,9 @@ ghost use Rattle.ic_lines.specs.declared.script.ScriptFault.{ScriptFault};
 ghost use Rattle.ic_lines.specs.declared.script.TheConstants.{MAX_SCRIPT};
 ghost use Rattle.ic_lines.specs.Script.{AreAsked, ReadsScript};
 
-/// A line is what stands before a line feed, and the last one needs none where it has a byte. No
+/// A line is what comes before a line feed, and the last one needs none where it has a byte. No
 /// line has a line feed in it. The lines of a text that ends with a line feed, each with its line
-/// feed, are the text; behind such a text the lines of another go on.
+/// feed, are the text; and a text with such an end can be followed by the lines of another one.
 pub fn lines_are_parted_by_line_feeds()
     ensures none { lines [] ≡ [] }
     ensures last { (b : ℕ) (line : List ℕ) → has_feed (b ∷ line) ≡ false
@@ -43,7 +43,7 @@ pub fn lines_are_parted_by_line_feeds()
 {}
 
 /// Lines are answered one after the other: the answers to two lists of lines are those to the first,
-/// and behind them those to the second over the table that the first leaves.
+/// and after them those to the second over the table that the first leaves.
 pub fn lines_are_answered_in_turn()
     ensures nothing { (t : List JobParts) → out t [] ≡ [] }
     ensures stays { (t : List JobParts) → after t [] ≡ t }
@@ -53,7 +53,7 @@ pub fn lines_are_answered_in_turn()
         → after t (a ++ b) ≡ after (after t a) b }
 {}
 
-/// Any lines are served in just one way, no lines are answered nothing, and lines behind other lines
+/// Any lines are served in just one way, no lines are answered nothing, and lines after other lines
 /// are served from the table that those leave.
 pub fn lines_are_served_in_one_way()
     ensures some { (t : List JobParts) (ls : List (List ℕ))
@@ -81,7 +81,7 @@ pub fn each_line_is_answered()
 }
 
 /// A run makes rounds of running jobs: at most so many, and fewer only where no job runs then. The
-/// first is that of the job that is due from a place on; what comes behind it is the run of one
+/// first is that of the job that is due from a place on; what comes after it is the run of one
 /// fewer from above the job's place. A front of a run's events is a shorter run.
 pub fn runs_are_rounds_in_turn()
     ensures few { (k place : ℕ) (t : List JobParts) → length (turns k place t) ≤ k }
@@ -109,7 +109,8 @@ pub fn runs_are_legal()
     ic_jobs::laws::events_leave_tables();
 }
 
-/// A script is read in just one way, never as want of memory, and never as more commands than a script may have.
+/// A script is read in just one way, which is never that memory ran out, and never more commands than a script may
+/// have.
 pub fn scripts_are_read_in_one_way()
     ensures answer { (text : List ℕ) (a b : Result (List Command) ScriptFault) →
         ReadsScript text a → ReadsScript text b → a ≡ b }
@@ -139,7 +140,7 @@ pub fn scripts_hold_the_commands_of_their_lines()
 }
 
 /// The first fault of a script is that of its first line with one, which is numbered from 1, blank lines counted; a
-/// command behind as many as a script may have is a limit. What stands behind that line says nothing.
+/// command after as many as a script may have passes a limit. What follows that line changes nothing.
 pub fn scripts_are_refused_at_their_first_fault()
     ensures first { (text line : List ℕ) (before behind : List (List ℕ))
         (asked : List (Option Command)) (fault : TextFault) →
@@ -156,7 +157,7 @@ pub fn scripts_are_refused_at_their_first_fault()
     ic_commands::laws::one_script_line_reading();
 }
 
-/// Scripts one behind the other: their commands one behind the other, where they are not too many; and a fault of the
+/// Scripts one after the other: their commands one after the other, where they are not too many; and a fault of the
 /// first stays the first fault.
 pub fn scripts_are_joined_at_a_line_feed()
     ensures commands { (text more : List ℕ) (a b : List Command) →

@@ -61,8 +61,8 @@ fn take_line(
 }
 
 /// The commands of a script's lines in order, or the first fault of a line. A line ends with a line feed, and the last
-/// may go without; a blank one gives no command; a `run` is `Syntax`; a command behind 65,536 others is `Limit`. Each byte
-/// is looked at once for line feeds, and each line is read as `read_script_line` reads it.
+/// may go without; a blank one gives no command; a `run` is `Syntax`; a command after 65,536 others is `Limit`. Each
+/// byte is looked at once for line feeds, and each line is read as `read_script_line` reads it.
 pub fn read_script(alloc: Global, text: &[u8]) -> Result<Vec<Command>, ScriptFault>
     ensures read { IfOk result (λ commands. ReadsScript text.now (Ok commands.items)) }
     ensures refused { IfErr result

@@ -4,8 +4,8 @@ use Rattle.ic_jobs.specs.declared.event.Entry.{Entry}
 use Rattle.ic_book.specs.Entries.{command_entry, round_entry}
 use Rattle.ic_book.specs.Moves.{Move, opens, refuses, answers, fails, rounds, keeps, stays, closes, stops, brings}
 
--- All that has come but for what openings didn't find, in order, and how many of these entries last
--- whatever stop comes: those up to the last answered command, keep or opening.
+-- All that has come except for what openings didn't find, in order, and how many of these entries
+-- last whatever stop comes: those up to the last answered command, keep or opening.
 pub record Past : Type 0 where
   pub entries : List Entry
   pub lasting : ℕ
@@ -50,7 +50,7 @@ Next stays old new = new ≡ old
 Next closes old new = new ≡ old
 Next (stops move) old new = Grows (brings move) old new × NoMoreLast old new
 
--- These moves may lead from one past to another. The newest stands first.
+-- These moves may lead from one past to another. The newest is first.
 abbrev pub Leads : List Move → (first last : Past) → Type 0
 Leads [] first last = last ≡ first
 Leads (move ∷ moves) first last =

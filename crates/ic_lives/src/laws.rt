@@ -57,9 +57,9 @@ pub fn the_headline<D: Disk>(book: &Book<D>, found: &D)
     ic_slots::laws::one_is_held();
 }
 
-/// The headline by histories alone: what an open book has, and whatever file is found of a disk, is
-/// the table after a legal history that has every answered command with its reply, in order, and
-/// nothing but what has come.
+/// The headline by histories alone. What an open book has, and whatever file is found of a disk, is
+/// the table after a legal history. This history has every answered command with its reply, in
+/// order, and nothing but what has come.
 pub fn every_answer_stands<D: Disk>(book: &Book<D>, found: &D)
     ensures open { (moves : List Move) → Reaches moves (up book.now)
         → (history : List Entry) × IsHistoryOf moves history
@@ -110,8 +110,8 @@ pub fn what_is_kept_stays()
         → Leads later then now → take (length then.entries) now.entries ≡ then.entries }
 {}
 
-/// What has come up to an answered command, and the command, begins the history for ever after: of
-/// the past that was told then, and so of one for each past that is told later.
+/// What has come up to an answered command, and the command, begins the history for ever after. So
+/// it is of the past that was told then, and each past that is told later has such a one.
 pub fn an_answer_stays()
     ensures told { (later : List Move) (who : ℕ) (command : Command) (reply : Reply)
         (before then now : Past) → Next (answers who command reply) before then
@@ -122,8 +122,9 @@ pub fn an_answer_stays()
         × (take (length then.entries) now.entries ≡ then.entries) }
 {}
 
-/// The life of a name goes on as it was at each entry that neither begins, moves nor ends its job: a
-/// copy of the job to another name, a pause, a resume, a refusal, a job that is shown, and a halt.
+/// The life of a name goes on as it was at each entry that neither begins, moves nor ends its job.
+/// Such entries are a copy of the job to another name, a pause, a resume, a refusal, a job that is
+/// shown, and a halt.
 ///
 /// With the clauses of `ic_jobs::laws::lives_go_so` this settles the life of a name at every entry of
 /// a legal history.
@@ -150,15 +151,15 @@ pub fn a_copied_job_stays()
 {}
 
 /// An accepted submit begins its job with the system and the budget that were submitted. The new job
-/// goes last, behind all jobs as they were.
+/// goes last, after all jobs as they were.
 pub fn submits_begin_so()
     ensures { (t : List JobParts) (name : List ℕ) (s : SystemParts) (budget : Option ℕ)
         → (after_command t (Submit name s budget)).reply ≡ Accepted
         → (after_command t (Submit name s budget)).table ≡ t ++ begun name s budget ∷ [] }
 {}
 
-/// A job that was begun is read back as it was begun. Behind an accepted submit the job of its name
-/// has the system and the budget that were submitted. Behind an accepted copy it has what the copied
+/// A job that was begun is read back as it was begun. After an accepted submit the job of its name
+/// has the system and the budget that were submitted. After an accepted copy it has what the copied
 /// job had, which was there, and no budget.
 pub fn a_begun_job_is_there()
     ensures submitted { (start : List JobParts) (front : List Entry) (e : Entry)

@@ -77,7 +77,7 @@ pub fn life_law()
 
 /// After any number of stops, at each moment of the last life, when its log had n entries: the
 /// history of all lives up to then is legal from the empty table and leaves the table of that
-/// moment, and in this table there are the jobs that have a life in this history, each as its life
+/// moment. In this table there are the jobs that have a life in this history, each as its life
 /// says.
 pub fn each_job_is_as_it_lived()
     ensures legal { (before : List Page) (last : Page) (n : ℕ)
@@ -96,7 +96,7 @@ pub fn each_job_is_as_it_lived()
 }
 
 /// After any number of stops, at each moment of the last life: each job began with some rules and a
-/// configuration, and its configuration after its r-th round is the r-th iterate of the sequential
+/// configuration. Its configuration after its r-th round is the r-th iterate of the sequential
 /// round on the configuration that it began with.
 pub fn each_round_is_the_next_iterate()
     ensures began { (before : List Page) (last : Page) (n : ℕ) (name : List ℕ) (j : JobParts)
@@ -122,8 +122,8 @@ pub fn each_round_is_the_next_iterate()
     each_job_is_as_it_lived();
 }
 
-/// What was kept in a life stands in the history of all of them, behind what the lives before it
-/// left: no stop takes it away. A stop leaves as many entries as the page says.
+/// What was kept in a life is in the history of all of them, after what the lives before it left:
+/// no stop takes it away. A stop leaves as many entries as the page says.
 pub fn what_was_kept_is_lived()
     ensures kept { (before after : List Page) (p : Page) → IsPage p
         → lived (before ++ p ∷ after) ≡ lived before ++ take p.kept p.log

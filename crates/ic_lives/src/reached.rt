@@ -22,7 +22,7 @@ pub fn each_file_left_is_found(before: &MemDisk, after: &MemDisk)
     let _ = after;
 }
 
-/// Where the process alone was killed behind a call, the disk is found as the call left it, with all
+/// Where only the process was killed, after a call, the disk is found as the call left it, with all
 /// its images.
 pub fn a_disk_in_use_is_found(before: &MemDisk, after: &MemDisk)
     ensures { clock_of before.now ≤ clock_of after.now
@@ -49,7 +49,7 @@ pub fn a_call_may_be_stopped<D: Disk>(disk: &D, before: &Book<D>, after: &Book<D
 }
 
 /// A run over a disk in memory. The empty table is put there, and a book is opened. A command is
-/// answered. The server is stopped, and the disk that is found is opened. None where memory is out
+/// answered. The server is stopped, and the disk that is found is opened. None where memory ran out
 /// on the way, or the command is refused.
 pub fn a_run_is_reached(alloc: Global, command: Command) -> Option<Book<MemDisk>>
     ensures { IfSome result (λ book. (reply : Reply)

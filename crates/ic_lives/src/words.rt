@@ -15,7 +15,7 @@ ghost use Rattle.ic_lives.specs.Headline.{AreIterates};
 ghost use Rattle.ic_lives.specs.Histories.{IsHistoryOf, StandAmong, answered, come};
 
 /// An entry that stands among others is one of them. Those before it stand before that one, and those
-/// behind it behind.
+/// after it stand after that one.
 pub fn each_stands_in_order()
     ensures { (front back others : List Entry) (entry : Entry)
         → StandAmong (front ++ entry ∷ back) others
@@ -24,7 +24,7 @@ pub fn each_stands_in_order()
 {}
 
 /// An entry of a history of moves was brought by one of them. What stands before it has come by earlier
-/// moves, and what stands behind it by later ones.
+/// moves, and what follows it by later ones.
 pub fn each_entry_was_brought()
     ensures { (moves : List Move) (front back : List Entry) (entry : Entry)
         → IsHistoryOf moves (front ++ entry ∷ back)

@@ -1,5 +1,6 @@
-//! The worked rows of the law over several lives: that a run is reached which meets its premises. Servers that are stopped at any
-//! moment and opened again are trials of the built program (`trials/test_power.py`, and the kind `stopped` of `trials/rows`).
+//! The worked rows of the law over several lives: that a run is reached which meets its premises. Servers that are
+//! stopped at any moment and opened again are trials of the built program (`trials/test_power.py`, and the kind
+//! `stopped` of `trials/rows`).
 //!
 //! - `reached LINE`: how many jobs a book has that the witness hands out, where this command was answered.
 #![tactic(auto)]

@@ -57,7 +57,7 @@ pub record AreNetPieces (arities : List ℕ) (interface : List Word) (ps : List 
   pub separate : IsSeparate arities interface ps
   pub once : (w : Word) → sum_by (holds w) ps ≤ 1
 
--- an equation among pieces that no step is possible of
+-- an equation among pieces of which no step is possible
 abbrev pub IsStuckPiece : Plans → Piece → Type 0
 IsStuckPiece p (equated l r) = IsStuck p (record { left = l; right = r })
 IsStuckPiece p (idle x) = Unit {0}

@@ -83,9 +83,9 @@ HasRegister arguments registers fresh count x =
     ⊎ ((i : ℕ) × (slice_get arguments i
     ≡ Some (record { register = registers x; term = name x })))
 
--- A plan stands for a rule, for symbols with these arities. Each name of the rule is read from a register, and each agent
--- that is made is used once. And whatever the registers hold, the equations of the plan are those of the arguments with
--- the rule's, but for a name against itself.
+-- A plan stands for a rule, for symbols with these arities. Each name of the rule is read from a register, and each
+-- agent that is made is used once. And whatever the registers hold, the equations of the plan are those of the
+-- arguments with the rule's, except for a name against itself.
 pub record StandsFor (arities : List ℕ) (r : Rule) (p : Planned) : Type 0 where
   pub registers : ℕ → ℕ
   pub read : (x : ℕ) → x < r.names

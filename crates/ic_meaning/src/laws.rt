@@ -21,7 +21,7 @@ ghost use Rattle.ic_meaning.specs.Nets.{net_of, ArePieces, AreNetPieces, IsStuck
 ghost use Rattle.ic_meaning.specs.Plans.{ArePlansOf, StandsFor, StandsForNet, rule_number};
 ghost use Rattle.ic_meaning.specs.Example.{addition_arities, addition_plan, addition_rule};
 
-/// The order of pieces is no matter to the net that they are, and steps that fire nothing keep it.
+/// The order of pieces doesn't matter to the net that they are, and steps that fire nothing keep it.
 pub fn steps_that_fire_nothing_keep_the_net()
     ensures order { (n : Numbers) (i : List Word) (xs ys : List Piece) → HasNames (net_of n i xs)
         → IsPermutation xs ys → OneNet (net_of n i xs) (net_of n i ys) }
@@ -141,9 +141,9 @@ pub fn what_is_reached_has_the_same_free_names()
     ic_reaching::laws::what_is_reached_goes_on();
 }
 
-/// A machine that begins with a configuration, whose free names are those that were given, and
-/// takes steps until all pairs are stuck: what it then holds is one net with a quiet configuration
-/// that is reached by the rules of the plans that fired. So it is the end of every order
+/// A machine begins with a configuration, whose free names are those that were given, and takes
+/// steps until all pairs are stuck. What it then holds is one net with a quiet configuration that
+/// is reached by the rules of the plans that fired. So it is the end of every order
 /// (`ic_reaching`).
 pub fn a_run_that_ends_has_the_net_of_every_order()
     ensures { (rs : Rules) (numbers : List ℕ) (p : Plans) (n : Numbers) (c : Configuration)

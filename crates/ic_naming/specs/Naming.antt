@@ -18,14 +18,14 @@ abbrev pub renamed_word : (ℕ → ℕ) → Word → Word
 renamed_word f (Name n) = Name (f n)
 renamed_word f (Agent s arity) = Agent s arity
 
--- whether a name that stands so often is kept: it is free, and may stand in a text
+-- whether a name that occurs so often is kept: it is free, and may stand in a text
 abbrev pub is_counted_kept : (times : ℕ) → ℕ → Bool
 is_counted_kept times n = (times == 1) && nat_le n MAX_NAME
 
 abbrev pub is_kept : List ℕ → ℕ → Bool
 is_kept names n = is_counted_kept (occurrences n names) n
 
--- the numbers 0, 1, .. without the names that are kept; of twice as many as there are names enough are left
+-- the numbers 0, 1, .. without the names that are kept; of twice as many numbers as names enough remain
 abbrev pub spare_numbers : List ℕ → List ℕ
 spare_numbers names = filter (λ n. not (is_kept names n)) (range_with_len 0 (length names + length names))
 

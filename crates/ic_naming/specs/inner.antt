@@ -1,2 +1,2 @@
--- For private functions: by what names are numbered. No public clause needs what stands here.
+-- For private functions: by what names are numbered. No public clause needs what is here.
 pub mod Numbering

@@ -11,8 +11,8 @@ ghost use Rattle.ic_flat.specs.Flat.{configuration_of, configuration_words};
 ghost use Rattle.ic_text.specs.declared.limits.TheConstants.{MAX_NAME};
 ghost use Rattle.ic_naming.specs.Naming.{IsOneToOne, RenamesUntold, renamed_pair, renamed_word, renumbered, renumbered_words, told_name};
 
-/// Names are told apart, free names by themselves where they may stand in a text. All may stand there where they are no
-/// more than half as many as the names of texts.
+/// Different names are told as different ones, and a free name as itself where it may stand in a text. All told names
+/// may stand there where the names are at most half as many as those of texts.
 pub fn names_are_told_apart()
     ensures apart { (ns : List ℕ) → IsOneToOne (told_name ns) ns }
     ensures free { (ns : List ℕ) (n : ℕ) → occurrences n ns ≡ 1 → n ≤ MAX_NAME →
@@ -21,14 +21,14 @@ pub fn names_are_told_apart()
         AllByRecursion (λ n. n ≤ MAX_NAME) (map (told_name ns) ns) }
 {}
 
-/// Words are renumbered alike whatever names they had before, but for free ones that may stand in a text.
+/// Words are renumbered alike whatever names they had before, except for free ones that may stand in a text.
 pub fn what_is_renumbered_forgets_names()
     ensures { (f : ℕ → ℕ) (ws : List Word) → RenamesUntold f (flat_map word_names ws) →
         renumbered_words (map (renamed_word f) ws) ≡ renumbered_words ws }
 {}
 
-/// Words with their names turned into others write the terms with these names, over the same symbols, and are whole where
-/// they were.
+/// Words with their names turned into others write the terms with these names, over the same symbols, and are whole
+/// where they were.
 pub fn renamed_words_write_renamed_terms()
     ensures whole { (f : ℕ → ℕ) (ws : List Word) → IsWhole ws →
         IsWhole (map (renamed_word f) ws) }
@@ -46,8 +46,8 @@ pub fn renamed_words_write_renamed_terms()
         ≡ map (renamed_pair f) (configuration_of ws terms next).equations }
 {}
 
-/// Renumbered words write the renumbered configuration, and have its `next` where they are given it. It is over the same
-/// symbols, and within the limits of a configuration where the other is.
+/// Renumbered words write the renumbered configuration, and have its `next` where they are given it. It is over the
+/// same symbols, and within the limits of a configuration where the other is.
 pub fn renumbered_words_write_the_renumbered_configuration()
     ensures written { (ws : List Word) (terms equations next : ℕ) →
         length (forest ws) ≡ terms + 2 * equations →

@@ -16,7 +16,7 @@ use indexmap::IndexSet;
 use std::alloc::{AllocError, Global};
 use std::collections::BTreeMap;
 
-/// The words with names that may stand in a text: a name that stands once keeps its number where that may stand there,
+/// The words with names that may stand in a text: a name that occurs once keeps its number where that may stand there,
 /// and all others are numbered by first occurrence. Takes n log n steps.
 pub fn renumbered_words(alloc: Global, words: &[Word]) -> Result<Vec<Word>, AllocError>
     ensures { IfOk result (λ out. out.items ≡ renumbered_words words.now) }
@@ -87,7 +87,7 @@ fn first_occurrences(alloc: Global, names: &[u64]) -> Result<IndexSet<u64>, Allo
     Ok(firsts)
 }
 
-/// How often each name of a list stands there.
+/// How often each name of a list occurs there.
 fn counts_of(alloc: Global, names: &[u64]) -> Result<BTreeMap<u64, usize>, AllocError>
     ensures { IfOk result
         (λ counts. (n : ℕ) → unwrap_or (get nat_cmp counts n) 0 ≡ occurrences n names.now) }

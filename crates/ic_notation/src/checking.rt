@@ -48,7 +48,7 @@ impl Tally {
     }
 }
 
-/// Answers each row of standard input. A line that is empty, or begins with `--`, says nothing. Printed is each row with
+/// Answers each row of standard input. A line that is empty, or begins with `--`, says nothing. It prints each row with
 /// another answer, and how many rows there are.
 pub fn check_rows<R: Input + Print, A: Answers>(
     rt: &R,

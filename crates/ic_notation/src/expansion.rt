@@ -1,7 +1,7 @@
 //! The bytes that a text of a row stands for.
 //!
-//! `[4095 ,A=A]` stands for `,A=A` so many times; in it `#` is the number of the time, from 1, and `^` the one after it.
-//! `~n`, `~t`, `~r` stand for the blanks of these names, and `~` with two hexadecimal digits for that byte.
+//! `[4095 ,A=A]` stands for `,A=A` so many times; in it `#` is the number of the time, from 1, and `^` the one after
+//! it. `~n`, `~t`, `~r` stand for the blanks of these names, and `~` with two hexadecimal digits for that byte.
 
 use std::alloc::{AllocError, Global};
 
@@ -60,7 +60,7 @@ fn unescaped(bytes: &mut Vec<u8>, text: &str) -> Result<(), AllocError> {
     Ok(())
 }
 
-/// Adds the byte of an escape, and answers what is behind it.
+/// Adds the byte of an escape, and answers what follows it.
 fn escaped<'a>(bytes: &mut Vec<u8>, part: &'a str) -> Result<&'a str, AllocError> {
     for (letter, byte) in [("n", b'\n'), ("t", b'\t'), ("r", b'\r')] {
         if let Some(rest) = part.strip_prefix(letter) {

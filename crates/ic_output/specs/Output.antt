@@ -1,8 +1,8 @@
--- To be believed: what stands in an output whose writer has failed.
+-- To be believed: what an output has whose writer has failed.
 use Rattle.std.specs.Prelude.{◌≡◌, ℕ, List, ◌++◌, Option}
 use Rattle.std.specs.Io.KnownBytes.{Appends}
 
--- these bytes were written, and behind them a front of these
+-- these bytes were written, and after them a front of these
 pub record AppendsFront (old new : Option (List ℕ)) (before behind : List ℕ) : Type 0 where
   pub sent : List ℕ
   pub unsent : List ℕ

@@ -1,4 +1,4 @@
-//! Writing bytes to a writer, of which a front stands in the output where the writer fails.
+//! Writing bytes to a writer. Where the writer fails, a front of them stands in the output.
 #![tactic(auto)]
 
 mod writing;

@@ -1,4 +1,4 @@
--- For private functions. No public clause needs what stands here.
+-- For private functions. No public clause needs what is here.
 pub mod Registers
 pub mod Flattening
 pub mod Entries

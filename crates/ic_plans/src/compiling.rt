@@ -13,8 +13,8 @@ use ic_rules::{Rule, RuleSet};
 use ic_term::{Symbols, Term};
 use std::alloc::{AllocError, Global};
 
-/// The plans of all pairs of symbols that have a rule, and the numbers of the rules, by the places of their plans. A pair
-/// is met in both orders, so a rule of two symbols has two plans.
+/// The plans of all pairs of symbols that have a rule, and the numbers of the rules, by the places of their plans. A
+/// pair is met in both orders, so a rule of two symbols has two plans.
 pub fn compile(alloc: Global, rules: &RuleSet) -> Result<(Program, Vec<u32>), AllocError>
     ensures arities { IfOk result
         (λ made. made.0.arities ≡ map (λ s. s.arity) rules.now.symbols) }

@@ -24,7 +24,8 @@ pub struct First {
     pub interface: Vec<u32>,
 }
 
-/// The plan of a configuration. It is given the names that occur once. Takes time and memory in proportion to the nodes.
+/// The plan of a configuration. It is given the names that occur once. Takes time and memory in proportion to the
+/// nodes.
 pub fn first_plan(alloc: Global, system: &FlatSystem) -> Result<First, AllocError>
     ensures start { let arities = map (λ s. s.arity) system.now.rules.symbols
         in IfOk result (λ first. IsStart arities (length first.given.items) (planned first.plan)
@@ -60,7 +61,7 @@ pub fn first_plan(alloc: Global, system: &FlatSystem) -> Result<First, AllocErro
     })
 }
 
-/// How often each name stands among words.
+/// How often each name occurs among words.
 fn occurrences_of(alloc: Global, words: &[Word]) -> Result<HashMap<u64, u32>, AllocError>
     requires { length words.now ≤ u32.MAX }
     ensures { IfOk result (λ counts. (x : ℕ) → unwrap_or (found counts x) 0
@@ -76,7 +77,7 @@ fn occurrences_of(alloc: Global, words: &[Word]) -> Result<HashMap<u64, u32>, Al
     Ok(counts)
 }
 
-/// The names that stand once among words, each with a register, the first of which is `start`.
+/// The names that occur once among words, each with a register, the first of which is `start`.
 fn read_given(
     alloc: Global,
     words: &[Word],

@@ -62,8 +62,9 @@ pub fn one_thread_answers_so()
         ↔ ((r ≡ played f) ⊎ ((r ≡ Err Memory) × ¬ (f.rounds ≡ 2 ^ 62))) }
 {}
 
-/// No workers are refused before all else. Workers answer what one thread does, and where a round
-/// is to be made also that a thread could not be started, or that a result was lost or strange.
+/// A round by no workers is refused before all else. Workers answer what one thread does, and where
+/// a round is to be made also that a thread could not be started, or that a result was lost or
+/// strange.
 pub fn workers_answer_so()
     ensures none { (f : FlightParts) (r : Result PlayedParts PoolFault)
         → ByWorkers r (played_by 0 f) ↔ (r ≡ Err NoWorkers) }

@@ -3,8 +3,10 @@
 //! A `Flight` is a job that is due, as it is then, in flat form. `play_alone` makes its round in the
 //! calling thread and answers a `Played`, whose type says that `after` is the round of `before`;
 //! `play_in` does so in lists that are kept. Neither holds its job's table, so other events may come
-//! between. `play` makes it by threads of its own, which fire works that are made of the active
-//! equations alone, and `flat_round_by_workers` that of a configuration which is no job's.
+//! between.
+//!
+//! `play` makes it by threads of its own, which fire works that are made of the active equations
+//! alone, and `flat_round_by_workers` that of a configuration which is no job's.
 #![tactic(auto)]
 
 mod alone;

@@ -1,5 +1,5 @@
--- When two configurations are one net, wherever terms stand: a term may stand in the place of a
--- name, or be a piece of its own, in an equation of that name with it.
+-- When two configurations are one net, wherever terms stand: a term may be in the place of a name,
+-- or be a piece of its own, in an equation of that name with it.
 use Rattle.std.specs.Prelude.{ℕ, ◌+◌}
 use Rattle.ic_term.specs.Configuration.{Configuration}
 use Rattle.ic_settle.specs.NameSteps.{NameSteps}

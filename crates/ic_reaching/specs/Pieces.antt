@@ -16,7 +16,7 @@ abbrev pub names_of_pieces : List Binding → List ℕ
 names_of_pieces bs = map (λ b. b.name) bs
 
 -- The terms of pieces put for their names, one after another. Those of agents within a term are put
--- behind it.
+-- after it.
 abbrev pub put_in_turn : List Binding → Configuration → Configuration
 put_in_turn [] c = c
 put_in_turn (b ∷ bs) c = put_in_turn bs (subst_in b.name b.term c)

@@ -31,7 +31,7 @@ pub fn one_net_is_an_equivalence()
     ic_confluence::laws::every_order_settles_to_the_same_net();
 }
 
-/// To be the same net wherever fresh names begin is an equivalence, and where they begin is no
+/// To be the same net wherever fresh names begin is an equivalence, and where they begin doesn't
 /// matter to it.
 pub fn where_names_begin_is_no_matter()
     ensures same { (c d : Configuration) → Same c d → SameButNext c d }
@@ -46,7 +46,7 @@ pub fn where_names_begin_is_no_matter()
 
 /// Configurations that are the same net wherever fresh names begin have the same free names, as
 /// many nodes and equations, and the same agents, each as often. One without equations, in which
-/// each name occurs at most once, is all alone but for that.
+/// each name occurs at most once, is such a net with itself only, except for where they begin.
 pub fn where_names_begin_is_all_that_differs()
     ensures free { (c d : Configuration) → SameButNext c d → (n : ℕ)
         → (occurrences n (configuration_names c) ≡ 1)
@@ -65,9 +65,8 @@ pub fn where_names_begin_is_all_that_differs()
     ic_confluence::laws::same_nets_have_the_same_agents();
 }
 
-/// The same net is one net; so is what a name step leads to, and where fresh names begin is no
-/// matter. No other configurations are one net than these make so: what none of them changes is
-/// the same of both.
+/// The same net is one net; so is what a name step leads to, and where fresh names begin doesn't
+/// matter. Only these make configurations one net: what none of them changes is the same of both.
 pub fn a_name_step_leads_to_one_net()
     ensures same { (c d : Configuration) → HasNames c → Same c d → OneNet c d }
     ensures step { (c d : Configuration) → HasNames c → NameStep c d → OneNet c d }
@@ -155,9 +154,9 @@ pub fn what_is_reached_quiet_is_the_end_of_every_order()
     ic_confluence::laws::rounds_end_in_the_net_of_every_order();
 }
 
-/// What is reached and isn't quiet yet: it goes on by name steps to a net that a chain of steps
-/// leads to as well, wherever fresh names begin. And from what is reached the same net is the end
-/// of every order as from the beginning, with the interactions that are left.
+/// What is reached, quiet or not, goes on by name steps to a net that a chain of steps leads to as
+/// well, wherever fresh names begin. And every order of steps from what is reached ends in the same
+/// net as from the beginning, with the interactions that are left.
 pub fn what_is_reached_has_the_same_end()
     ensures further { (rs : List Rule) (c d : Configuration) (fired : List ℕ) → Reaches rs c d fired
         → (kinds : List Kind) × (end : Configuration) × (other : Configuration)

@@ -1,4 +1,4 @@
-//! In which equations a name stands.
+//! The equations in which a name stands.
 
 ghost use Rattle.std.specs.Prelude.{◌≡◌, ◌==◌, ℕ, ◌+◌, ◌<◌, ◌≤◌, None, Some, IfOk, IfSome, OnOk, length, map, nat_eq, slice_index, if◌then◌else◌};
 ghost use Rattle.std.specs.List.{flat_map};
@@ -12,11 +12,11 @@ use ic_term::{Cell, Equation, Term};
 use indexmap::IndexMap;
 use std::alloc::{AllocError, Global};
 
-/// For each name the first and the last container in which it stands: the number of an equation, or
+/// For each name the first and the last container in which it occurs: the number of an equation, or
 /// for the interface how many equations there are.
 type Places = IndexMap<u64, (usize, usize)>;
 
-/// Where each name stands while equations are removed. What a removed equation holds goes to
+/// Where each name occurs while equations are removed. What a removed equation holds goes to
 /// another container, by a link from its number.
 #[derive(Drop)]
 pub(crate) struct Containers {
@@ -108,7 +108,7 @@ fn root(links: &mut [usize], from: usize) -> usize
     place
 }
 
-/// The name at the top of a side, if it stands outside of the container with this number.
+/// The name at the top of a side, if it occurs outside of the container with this number.
 fn find_outlet(
     links: &mut [usize],
     places: &Places,
@@ -141,7 +141,7 @@ fn find_outlet(
     None
 }
 
-/// The first side of an equation that is a name which stands outside of it.
+/// The first side of an equation that is a name which occurs outside of it.
 fn first_outlet(
     links: &mut [usize],
     places: &Places,
@@ -186,7 +186,7 @@ impl Containers {
     }
 
     /// The applicable side of an equation with resolved sides, the left one if both are. What the
-    /// equation holds then goes to the container in which the name stands besides.
+    /// equation holds then goes to the container in which the name occurs besides.
     pub fn applicable(&mut self, equation: &Equation, place: usize) -> Option<Applicable>
         requires inside { place < length self.old.links.items }
         requires linked { IsLinked self.old.links.items }

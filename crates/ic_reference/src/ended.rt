@@ -17,8 +17,8 @@ use ic_term::{Cell, Config, Equation, Term};
 /// The names of a configuration, each as often as it occurs: no more than its nodes.
 type Names = ArrayVec<u64, 8_192>;
 
-/// Whether settling takes no step. Takes n log n steps for n nodes, and no memory but for a table
-/// of names on the stack (64 KiB).
+/// Whether settling takes no step. Takes n log n steps for n nodes, and no memory except for a
+/// table of names on the stack (64 KiB).
 pub fn is_settled(config: &Config) -> bool
     ensures { result ≡ is_none (settling_step config.now) }
 {

@@ -1,11 +1,12 @@
 //! Settling and rounds of configurations as terms and equations: an engine beside that of the program.
 //!
-//! Its calls meet the same definitions as those of `ic_flat_round`, found in another way. Rows and wrong bodies are compared
-//! with it, and nothing of the program uses it. `settle` makes all name steps at once, `settle_slowly` one after the other,
-//! `is_settled` tells whether there is none, and `bind` what is replaced. `plan` takes the active equations out of a
-//! configuration as works, `gather` puts their results back in any order, and `round` does all of it in turn. `fits` tells
-//! whether a round stays within the limits, and `quiet` whether no step is possible. `interact_at`, `indirect_at` and
-//! `collect_at` make one step.
+//! Its calls meet the same definitions as those of `ic_flat_round`, found in another way. Rows and wrong bodies are
+//! compared with it, and nothing of the program uses it.
+//!
+//! `settle` makes all name steps at once, `settle_slowly` one after the other, `is_settled` tells whether there is
+//! none, and `bind` what is replaced. `plan` takes the active equations out of a configuration as works, `gather` puts
+//! their results back in any order, and `round` does all of it in turn. `fits` tells whether a round stays within the
+//! limits, and `quiet` whether no step is possible. `interact_at`, `indirect_at` and `collect_at` make one step.
 #![tactic(auto)]
 
 mod applicability;

@@ -49,7 +49,7 @@ pub(crate) fn orient(rules: &RuleSet, equation: Equation) -> Oriented
 }
 
 /// The works of a list of equations, the equations with a gap for each work, and the next number
-/// behind their names.
+/// after their names.
 #[derive(Drop)]
 pub(crate) struct Separated {
     pub works: Vec<Work>,

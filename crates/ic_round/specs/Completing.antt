@@ -8,8 +8,8 @@ use Rattle.ic_round.specs.Rounds.{round, unless_unfit}
 use Rattle.ic_round.specs.Works.{PlainFired}
 use Rattle.ic_round.specs.Gathering.{Gapped, gathered}
 
--- The results fill the gaps; what comes of it is a configuration, and settled it is the round,
--- which is what is answered.
+-- The results fill the gaps. What comes of it is a configuration. Settled, it is the round, which
+-- is what is answered.
 pub record Completes (rs : List Rule) (c : Configuration) (rest : Gapped)
     (fs : List PlainFired) : Type 0 where
   pub gathers : gathered rest fs ≡ Ok (fired rs c)

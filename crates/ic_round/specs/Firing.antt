@@ -65,12 +65,12 @@ abbrev pub fired_pair : List Rule → ℕ → Pair → List Pair
 fired_pair rs base p = option_map_or (products_by rs base) (active_pair rs p) (p ∷ [])
 
 -- The equations with each active one fired: its products stand in its place, and the names of the
--- next one begin behind its own (this project's choice).
+-- next one begin after its own (this project's choice).
 abbrev pub fired_from : List Rule → ℕ → List Pair → List Pair
 fired_from rs base [] = []
 fired_from rs base (p ∷ ps) = fired_pair rs base p ++ fired_from rs (base + names_taken rs p) ps
 
--- the first number behind the names that the equations take
+-- the first number after the names that the equations take
 abbrev pub next_behind : List Rule → ℕ → List Pair → ℕ
 next_behind rs base [] = base
 next_behind rs base (p ∷ ps) = next_behind rs (base + names_taken rs p) ps

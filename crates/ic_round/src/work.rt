@@ -11,8 +11,8 @@ use ic_term::{Cell, Equation, MAX_NEXT, Term};
 use std::alloc::{AllocError, Global};
 
 /// The firing of one active equation: its place in the list of equations, the place of its rule in
-/// the rule set, the base of its fresh names, and its sides, turned so that the left symbol is the
-/// rule's left symbol.
+/// the rule set, the base of its fresh names, and its sides. These are turned so that the left
+/// symbol is the rule's left symbol.
 #[derive(Debug, Drop)]
 pub struct Work {
     pub place: u64,

@@ -1,24 +1,26 @@
-//! What is answered to a row, by its kind. Terms and words, as a configuration in flat form has them, have to make the same of
-//! it.
+//! What is answered to a row, by its kind. Terms and words, as a configuration in flat form has them, have to make the
+//! same of it.
 //!
 //! - `interact PLACE SYSTEM`, `indirect PLACE SYSTEM`, `collect PLACE SYSTEM`: the text after a single step on terms.
 //!   `products COUNT SYSTEM`: the rule, the base and the number of products of the first works of a round.
-//! - `both_bodies CONFIGURATION`: the settled text, on terms alone, by bindings and by single steps. `bind CONFIGURATION`:
-//!   what is bound.
+//! - `both_bodies CONFIGURATION`: the settled text, on terms alone, by bindings and by single steps.
+//!   `bind CONFIGURATION`: what is bound.
 //! - `drawn`, `drawn_rounds`: whether all bodies agree on 2,000 configurations or systems that look drawn by chance.
-//! - `net A + B`, `orders COUNT SYSTEM`, `drawn_orders SYSTEMS ORDERS`, `order_ends SYSTEM`, `limits SYSTEM`, `spoiled SYSTEMS
-//!   WAY`: nets, and orders of steps (`nets`).
+//! - `net A + B`, `orders COUNT SYSTEM`, `drawn_orders SYSTEMS ORDERS`, `order_ends SYSTEM`, `limits SYSTEM`,
+//!   `spoiled SYSTEMS WAY`: nets, and orders of steps (`nets`).
 //! - `gathered RESULTS`: what gathering refuses. `deep`: whether a term of the greatest depth fits a thread's stack.
-//! - `words CONFIGURATION`: its words in flat form, and after `;` how many terms its interface has, how many equations and
-//!   nodes there are, and `next`. A name is its number, and an agent its symbol's number, `/` and how many arguments it has.
+//! - `words CONFIGURATION`: its words in flat form, and after `;` how many terms its interface has, how many equations
+//!   and nodes there are, and `next`. A name is its number, and an agent its symbol's number, `/` and how many
+//!   arguments it has.
 //! - `back CONFIGURATION`: the text that is read back from its flat form, copied and taken apart on the way.
-//! - `same A + B`: whether two configurations are the same in flat form. `over A + B`: whether the second is over the first's
-//!   symbols.
+//! - `same A + B`: whether two configurations are the same in flat form. `over A + B`: whether the second is over the
+//!   first's symbols.
 //! - `restore TERMS NEXT WORDS`, `new TERMS WORDS`: the configuration of words with so many terms in its interface.
 //! - `term_ends WORDS`: how many terms there are, and the place after each.
-//! - `tests SYSTEM`, `tests_from NEXT SYSTEM`: whether the configuration, with this `next` or its own, fits and is quiet.
-//! - `fires SYSTEM`, `fires_from NEXT SYSTEM`: `next` and the text once all active equations have fired, which settles to
-//!   what a round of terms and equations gives.
+//! - `tests SYSTEM`, `tests_from NEXT SYSTEM`: whether the configuration, with this `next` or its own, fits and is
+//!   quiet.
+//! - `fires SYSTEM`, `fires_from NEXT SYSTEM`: `next` and the text once all active equations have fired, which settles
+//!   to what a round of terms and equations gives.
 
 use crate::configurations::{are_over, are_same, read_back, words};
 use crate::deep::deep_terms;

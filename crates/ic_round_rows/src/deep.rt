@@ -61,8 +61,8 @@ fn gives(alloc: Global, system: System, line: &[u8]) -> Result<bool, AllocError>
     }
 }
 
-/// Whether `A(T)`, 8,190 nested agents, is read, copied, compared, fired, settled and printed as it should be: the round
-/// of `{A(x)><B(x)} <|A(T)=B(P)>` is `<|P=T>`.
+/// Whether `A(T)`, 8,190 nested agents, is read, copied, compared, fired, settled and printed as it should be: the
+/// round of `{A(x)><B(x)} <|A(T)=B(P)>` is `<|P=T>`.
 fn goes_deep(alloc: Global) -> Result<bool, AllocError> {
     let text = nested(alloc, b"{A(x)><B(x)}<|A(", b")=B(P)>")?;
     let expected = nested(alloc, b"<|P=", b">")?;

@@ -53,7 +53,7 @@ fn push_term(
     Ok(())
 }
 
-/// The names of a configuration: some stand once, most twice.
+/// The names of a configuration: some occur once, most twice.
 fn fill_pool(draws: &mut Draws, pool: &mut Vec<u64>) -> Result<(), AllocError> {
     for name in 0..draws.below(20) as u64 {
         pool.push(name)?;

@@ -1,5 +1,5 @@
-//! Nets: whether two configurations are one net, and that whatever order steps have, they end in one net. The comparison is the
-//! program's own: it draws both nets and shares nothing with the laws.
+//! Nets: whether two configurations are one net, and that whatever order steps have, they end in one net. The
+//! comparison is the program's own: it draws both nets and shares nothing with the laws.
 
 mod comparison;
 mod counts;

@@ -106,7 +106,7 @@ fn line_of_fault(alloc: Global, fault: ConfigFault) -> Result<Vec<u8>, Trouble> 
     }
 }
 
-/// How many terms words write, and the place behind each.
+/// How many terms words write, and the place after each.
 pub fn ends(alloc: Global, text: &str) -> Result<Vec<u8>, Trouble> {
     let words = words_of(alloc, text)?;
     let Some(count) = terms_in(&words) else {

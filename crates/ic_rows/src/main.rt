@@ -1,5 +1,5 @@
-//! The worked rows of values that are made by calls, and of words: `answers` says what a row may ask. Rows of texts are trials of
-//! the built program, in `trials/rows`.
+//! The worked rows of values that are made by calls, and of words: `answers` says what a row may ask. Rows of texts are
+//! trials of the built program, in `trials/rows`.
 #![tactic(auto)]
 
 mod answers;

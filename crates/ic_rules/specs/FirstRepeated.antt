@@ -3,8 +3,8 @@ use Rattle.std.specs.List.{list_any}
 use Rattle.ic_rules.specs.Rule.{Rule, same_pair}
 use Rattle.ic_rules.specs.RuleSet.{repeated_behind}
 
--- At this place, counted from the first of the rules seen before, stands a rule whose unordered pair of symbols an
--- earlier one has, and no rule between has the pair of an earlier one.
+-- The rule at this place, counted from the first of the rules seen before, has an unordered pair of symbols that
+-- an earlier one has, and no rule between has the pair of an earlier one.
 pub record IsFirstRepeated (seen rs : List Rule) (i : ℕ) : Type 0 where
   pub before : List Rule
   pub rule : Rule

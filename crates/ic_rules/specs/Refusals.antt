@@ -8,7 +8,7 @@ use Rattle.ic_rules.specs.FirstRepeated.{IsFirstRepeated}
 use Rattle.ic_rules.specs.declared.rule_set.RuleFault.{RuleFault}
 use Rattle.ic_rules.specs.declared.rule_set.RuleFault.TheVariants.{Limit, Arity, NameCount, Twice, Lopsided, Memory}
 
--- At this place of a list stands the first rule that a test finds.
+-- The first rule of a list that a test finds is at this place.
 pub record IsFirst (p : Rule → Bool) (rs : List Rule) (i : ℕ) : Type 0 where
   pub before : List Rule
   pub rule : Rule
@@ -31,7 +31,7 @@ pub record IsFirstUnfit (ss : List Symbol) (agents : List (ℕ × ℕ)) (s : ℕ
 abbrev pub AreCounted : List Rule → Type 0
 AreCounted rs = AllByRecursion (λ r. IsTrue (are_paired (rule_names r))) rs
 
--- Rules are refused for a fault where it is found, and none that is tried before it.
+-- Rules are refused for a fault where it is found, and no fault that is tried before it is.
 abbrev pub IsRefusal : List Symbol → List Rule → RuleFault → Type 0
 IsRefusal ss rs Limit = are_few rs ≡ false
 IsRefusal ss rs (Arity s) = IsTrue (are_few rs) × IsFirstUnfit ss (flat_map rule_agents rs) s

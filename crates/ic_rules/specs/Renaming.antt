@@ -13,7 +13,7 @@ abbrev mutual
   renamed_trees f no_trees = no_trees
   renamed_trees f (more_trees t ts) = more_trees (renamed f t) (renamed_trees f ts)
 
--- the names of a list in the order in which they first occur, behind those seen
+-- the names of a list in the order in which they first occur, after those seen
 abbrev pub first_behind : List ℕ → List ℕ → List ℕ
 first_behind seen [] = seen
 first_behind seen (n ∷ ns) = if list_any (λ m. n == m) seen then first_behind seen ns
@@ -27,6 +27,6 @@ first_occurrences ns = first_behind [] ns
 abbrev pub number_among : List ℕ → ℕ → ℕ
 number_among firsts n = position_or_len (λ m. n == m) firsts
 
--- each name of a list stands there exactly twice
+-- each name of a list occurs there exactly twice
 abbrev pub are_paired : List ℕ → Bool
 are_paired ns = list_all (λ n. occurrences n ns == 2) ns

@@ -39,7 +39,7 @@ pub record IsRuleOver (ss : List Symbol) (r : Rule) : Type 0 where
 abbrev pub first_uncounted : List Rule → Option ℕ
 first_uncounted rs = position_from (λ r. not (are_paired (rule_names r))) 0 rs
 
--- the first rule, behind earlier ones, whose unordered pair an earlier one has
+-- the first rule, after earlier ones, whose unordered pair an earlier one has
 abbrev pub repeated_behind : List Rule → List Rule → Option ℕ
 repeated_behind earlier [] = None
 repeated_behind earlier (r ∷ rs) = if list_any (same_pair r) earlier then Some (length earlier)

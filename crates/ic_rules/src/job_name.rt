@@ -65,7 +65,7 @@ fn is_name(text: &[u8]) -> bool
     is_job_word(text) && text.len() <= MAX_JOB_NAME
 }
 
-/// Whether a text is a job's name but for its length.
+/// Whether a text is a job's name, whatever its length is.
 pub fn is_job_word(text: &[u8]) -> bool
     ensures { result ≡ is_job_word text.now }
 {

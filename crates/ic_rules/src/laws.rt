@@ -46,8 +46,8 @@ pub fn rule_nodes_are_those_of_both_sides()
         }) ≡ 4 }
 {}
 
-/// What `RuleSet::build` takes as they are, are exactly the rule sets; and the rule for which it answers `Twice` has a pair
-/// that an earlier one has, and none before it has such a pair.
+/// What `RuleSet::build` takes as they are, are exactly the rule sets; and the rule for which it answers `Twice` has a
+/// pair that an earlier one has, and none before it has such a pair.
 pub fn build_takes_rule_sets()
     ensures taken { (rs : Rules) → (built rs.symbols rs.rules ≡ Ok rs) ↔ IsRuleSet rs }
     ensures twice { (rs : List Rule) (i : ℕ) → first_repeated rs ≡ Some i
@@ -94,7 +94,7 @@ pub fn numbered_rules_stay()
 {}
 
 /// Numbering the names of a list by first occurrence gives 0, 1, .. in the order of their first occurrences, and keeps
-/// that each name stands there exactly twice.
+/// that each name occurs there exactly twice.
 pub fn numbering_counts_up()
     ensures order { (ns : List ℕ)
         → first_occurrences (map (number_among (first_occurrences ns)) ns)

@@ -65,7 +65,7 @@ pub(crate) fn first_occurrences(alloc: Global, names: &[u64]) -> Result<IndexSet
     Ok(firsts)
 }
 
-/// Whether each name of a list stands there exactly twice. Takes n log n steps.
+/// Whether each name of a list occurs there exactly twice. Takes n log n steps.
 pub(crate) fn are_paired(alloc: Global, names: &[u64]) -> Result<bool, AllocError>
     ensures { IfOk result (λ yes. yes ≡ are_paired names.now) }
 {
@@ -78,7 +78,7 @@ pub(crate) fn are_paired(alloc: Global, names: &[u64]) -> Result<bool, AllocErro
     Ok(true)
 }
 
-/// How often each name of a list stands there.
+/// How often each name of a list occurs there.
 fn counts_of(alloc: Global, names: &[u64]) -> Result<BTreeMap<u64, usize>, AllocError>
     ensures { IfOk result
         (λ counts. (n : ℕ) → unwrap_or (get nat_cmp counts n) 0 ≡ occurrences n names.now) }

@@ -31,22 +31,22 @@ pub record IsToldFault (runs : List ClientRun) (faults : List ScriptsFault) (fau
   pub first : IsFirstOf {T = Unit {0}} faults (Err fault)
   pub written : WritesFront (told runs) old new
 
--- All ended well, but not all answers could be written, or a line of them not be made.
+-- All ended well, but not all answers could be written, or memory ran out for a line of them.
 pub record IsToldPart (runs : List ClientRun) (faults : List ScriptsFault) (fault : ScriptsFault)
     (old new : Option (List ℕ)) : Type 0 where
   pub well : faults ≡ []
   pub cause : (fault ≡ Write) ⊎ (fault ≡ Memory)
   pub written : WritesFront (told runs) old new
 
--- what clients are told where there are these faults, and which of them is told behind
+-- what clients are told where there are these faults, and which of them is told after that
 abbrev pub IsToldOf : {T : Type 0} → List ClientRun → List ScriptsFault → Result T ScriptsFault
     → (old new : Option (List ℕ)) → Type 0
 IsToldOf runs faults (Ok done) old new = IsToldAll runs faults old new
 IsToldOf runs faults (Err fault) old new =
     IsToldFault runs faults fault old new ⊎ IsToldPart runs faults fault old new
 
--- The faults are those of the clients, of the runners and of the keep behind them. The keep ended
--- as the book that they left has it, and on the disk that it left a call more is counted as failed
+-- The faults are those of the clients, of the runners and of the keep after them. The keep ended as
+-- the book that they left has it, and on the disk that it left a call more is counted as failed
 -- exactly where it was `Device`. At Ok this disk is handed out.
 pub record IsTold {D : Type 0} {ghosts : Ghosts D} (a : Attended D ghosts)
     (result : Result D ScriptsFault) (old new : Option (List ℕ)) : Type 0 where

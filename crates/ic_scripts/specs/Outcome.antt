@@ -27,7 +27,7 @@ abbrev pub keep_faults : {T : Type 0} → Result T BookFault → List ScriptsFau
 keep_faults (Ok done) = []
 keep_faults (Err fault) = Book fault ∷ []
 
--- the faults of an attendance: of its clients in order, of its runners, and of the keep behind
+-- the faults of an attendance: of its clients in order, of its runners, and of the keep after them
 abbrev pub faults_of : {T : Type 0} → List ClientRun → List RunnerEnd → Result T BookFault
     → List ScriptsFault
 faults_of runs ends kept =

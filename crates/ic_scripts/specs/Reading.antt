@@ -1,4 +1,4 @@
--- To be believed: scripts that are read one behind the other (this project's choice).
+-- To be believed: scripts that are read one after the other (this project's choice).
 use Rattle.std.specs.Prelude.{◌≡◌, ℕ, List, [], ◌∷◌, ◌++◌, Ok, Err}
 use Rattle.std.specs.List.{AllZip}
 use Rattle.ic_jobs.specs.declared.command.Command.{Command}
@@ -6,7 +6,7 @@ use Rattle.ic_lines.specs.Script.{ReadsScript}
 use Rattle.ic_scripts.specs.declared.fault.ScriptsFault.{ScriptsFault}
 use Rattle.ic_scripts.specs.declared.fault.ScriptsFault.TheVariants.{Read, Script, Open, NoThread, Torn, Book, Pool, Memory, Write}
 
--- the commands of a text stand behind the scripts before
+-- the commands of a text follow the scripts before
 abbrev pub AddsScript : List ℕ → (old new : List (List Command)) → Type 0
 AddsScript text old new = (commands : List Command) × ReadsScript text (Ok commands)
     × (new ≡ old ++ commands ∷ [])

@@ -41,7 +41,7 @@ abbrev pub told_from : ℕ → List ClientRun → List ℕ
 told_from number [] = []
 told_from number (run ∷ runs) = told_client number run ++ told_from (number + 1) runs
 
--- what clients are told, one behind the other
+-- what clients are told, one after the other
 abbrev pub told : List ClientRun → List ℕ
 told runs = told_from 0 runs
 

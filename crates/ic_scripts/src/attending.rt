@@ -32,9 +32,9 @@ pub fn attend_scripts<R: Threads + Wait + Sync, D: Disk + Send + Drop, G: Gate, 
     gate: &G,
     writer: &mut W,
 ) -> Result<D, ScriptsFault>
-    // What is written are the answers of one legal history of these scripts' clients, which goes on
-    // from the table that the disk held. At Ok the disk holds the table that this history leaves.
-    // A fault is one that the history or the keep behind it has, or says why there is none.
+    // The answers that are written are those of one legal history of these scripts' clients, which
+    // goes on from the table that the disk held. At Ok the disk holds the table that this history
+    // leaves. A fault is one that the history or the keep after it has, or says why there is none.
     ensures { IsAttended D.Disk disk (map vec_items scripts.items) runners turns workers
         result (W.contents writer.old) (W.contents writer.new) }
 {

@@ -8,8 +8,8 @@ use crate::fault::ScriptsFault;
 use ic_attend::{ClientRun, RunnerEnd};
 use ic_book::BookFault;
 
-/// Whether the clients, the runners and the keep behind them ended well, or the first fault: that
-/// of the first client that stopped, else of the first runner that ended by one, else of the keep.
+/// Whether the clients, the runners and the keep after them ended well, or the first fault: that of
+/// the first client that stopped, else of the first runner that ended by one, else of the keep.
 pub fn outcome(
     runs: &[ClientRun],
     ends: &[RunnerEnd],
@@ -29,7 +29,7 @@ pub fn outcome(
     }
 }
 
-/// Why the first client stopped that did.
+/// Why the first client that stopped did.
 fn first_client(runs: &[ClientRun]) -> Option<ScriptsFault>
     ensures { result ≡ slice_get (filter_map client_fault runs.now) 0 }
 {

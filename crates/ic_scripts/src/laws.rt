@@ -17,7 +17,7 @@ ghost use Rattle.ic_scripts.specs.Telling.{answer_line, stop_line, told};
 ghost use Rattle.ic_scripts.specs.Outcome.{IsFirstOf, faults_of, runner_fault};
 ghost use Rattle.ic_scripts.specs.Reading.{AddsScript, AreScripts};
 
-/// Clients are told in their order, each behind a line with its number from 0: a line for each
+/// Clients are told in their order, each after a line with its number from 0: a line for each
 /// answer, and last why it stopped, if it did.
 pub fn clients_are_told_in_order()
     ensures none { told [] ≡ [] }
@@ -34,8 +34,8 @@ pub fn clients_are_told_in_order()
         ∷ (codes "stopped device" ++ 10 ∷ []) ∷ [] }
 {}
 
-/// Of several faults the first client's is told, else the first runner's, else the keep's; and none
-/// where all ended well.
+/// The fault that is told of several is the first client's, else the first runner's, else the
+/// keep's. None is told where all ended well.
 pub fn the_first_fault_is_told()
     ensures client { (before behind : List ClientRun) (run : ClientRun) (ends : List RunnerEnd)
         (fault : BookFault) (kept : Result (Unit {0}) BookFault)
@@ -62,7 +62,7 @@ pub fn the_first_fault_is_told()
         ≡ None ∷ None ∷ Some (Book Device) ∷ [] }
 {}
 
-/// Texts that are added one behind the other are read as scripts in their order.
+/// Texts that are added one after the other are read as scripts in their order.
 pub fn scripts_are_read_in_order()
     ensures none { AreScripts [] [] }
     ensures one_more { (texts : List (List ℕ)) (scripts more : List (List Command)) (text : List ℕ)

@@ -1,4 +1,4 @@
-//! Reading scripts, one behind the other.
+//! Reading scripts, one after the other.
 
 ghost use Rattle.std.specs.Prelude.{◌≡◌, OnOk, OnErr, IfErr, length, map, vec_items};
 ghost use Rattle.ic_scripts.specs.Reading.{AddsScript, IsRefusal};
@@ -9,7 +9,7 @@ use ic_lines::read_script;
 use ic_text::TextFault;
 use std::alloc::Global;
 
-/// Reads a text as the script behind these, and adds its commands. At a fault the scripts are as
+/// Reads a text as the script after these, and adds its commands. At a fault the scripts are as
 /// before.
 pub fn add_script(
     alloc: Global,

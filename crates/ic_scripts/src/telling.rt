@@ -32,7 +32,7 @@ pub fn tell<W: Write>(alloc: Global, runs: &[ClientRun], writer: &mut W) -> Resu
     writer.flush().map_err(|_| ScriptsFault::Write)
 }
 
-/// Writes what a client was answered, behind its number.
+/// Writes what a client was answered, after its number.
 fn tell_client<W: Write>(
     alloc: Global,
     place: usize,

@@ -1,4 +1,4 @@
-//! Writing bytes, of which at a fault a front is written.
+//! Writing bytes. At a fault a front of them is written.
 
 ghost use Rattle.std.specs.Prelude.{◌≡◌, OnOk, OnErr, IfErr};
 ghost use Rattle.std.specs.Io.KnownBytes.{Appends};

@@ -16,7 +16,7 @@ use Rattle.ic_book.specs.ByCalls.{IsByCalls}
 use Rattle.ic_serving.specs.Booked.{Begins, IsAllKept}
 use Rattle.ic_serving.specs.Grown.{GoesOn, HasRoom}
 
--- what is kept where a line is answered: all, behind a command and a run; a blank line and a refused
+-- what is kept where a line is answered: all, after a command and a run; a blank line and a refused
 -- one change nothing
 abbrev pub IsKeptFor : {D : Type 0} {ghosts : Ghosts D} → Reading → (old new : Book D ghosts) → Type 0
 IsKeptFor (Ok Blank) old new = IsUnchanged old new
@@ -44,7 +44,7 @@ pub record EndsWith {D : Type 0} {ghosts : Ghosts D} (move : Move) (old new : Bo
   pub earlier : List Move
   pub last : done.moves ≡ move ∷ earlier
 
--- a command is answered by its reply, which the book gave to it, and which these bytes are
+-- a command is answered by the reply that the book gave to it, and these bytes are its line
 pub record IsReplied {D : Type 0} {ghosts : Ghosts D} (command : Command) (bytes : List ℕ)
     (old new : Book D ghosts) : Type 0 where
   pub reply : Reply
@@ -52,7 +52,7 @@ pub record IsReplied {D : Type 0} {ghosts : Ghosts D} (command : Command) (bytes
   pub made : EndsWith (answers 0 command reply) old new
 
 -- What is done for a line is made of calls of the book: at a command the last of them answers it with
--- the reply that these bytes are, and at a run the last one keeps all.
+-- the reply whose line these bytes are, and at a run the last one keeps all.
 abbrev pub IsDoneFor : {D : Type 0} {ghosts : Ghosts D} → Reading → List ℕ → (old new : Book D ghosts) → Type 0
 IsDoneFor (Ok Blank) bytes old new = IsByCalls old new
 IsDoneFor (Ok (Asks command)) bytes old new = IsReplied command bytes old new

@@ -30,7 +30,7 @@ pub record StaysPut {D : Type 0} {ghosts : Ghosts D} (old new : Book D ghosts) :
   pub kept : (last_kept new ≡ last_kept old) ⊎ (last_kept new ≡ table_of old)
   pub page : length (log_of old) < MAX_ENTRIES → IsSamePage old new
 
--- one event comes to the table, and none of it is kept but what was there before
+-- one event comes to the table, and it isn't kept; what was there before may be kept now
 pub record Advances {D : Type 0} {ghosts : Ghosts D} (e : Event) (old new : Book D ghosts) : Type 0 where
   pub table : table_of new ≡ table_after (table_of old) e
   pub kept : (last_kept new ≡ last_kept old) ⊎ (last_kept new ≡ table_of old)
@@ -45,8 +45,8 @@ pub record MakesRound {D : Type 0} {ghosts : Ghosts D} (after place : ℕ) (old 
 
 -- ---- of a line that is begun
 
--- some events were begun: a front of them has come to the table and to its page, and one no longer
--- is kept
+-- some events were begun: a front of them has come to the table and to its page, and what was kept
+-- before or a front of them is kept
 pub record Begins {D : Type 0} {ghosts : Ghosts D} (es : List Event) (old new : Book D ghosts) : Type 0 where
   pub table : IsPart (table_of old) es (table_of new)
   pub kept : IsKeptWithin (table_of old) (last_kept old) es (last_kept new)

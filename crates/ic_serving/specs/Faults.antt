@@ -79,7 +79,7 @@ StaysReady (Pool fault) broken number = broken ≡ false
 StaysReady LongLine broken number = broken ≡ false
 StaysReady Memory broken number = broken ≡ false
 
--- one failure more of the disk is counted where the book tells of one, and none otherwise
+-- one more failure of the disk is counted where the book tells of one, and none otherwise
 abbrev pub CountsServe : {T : Type 0} → Result T ServeFault → (old new : ℕ) → Type 0
 CountsServe (Ok value) old new = new ≡ old
 CountsServe (Err Read) old new = new ≡ old

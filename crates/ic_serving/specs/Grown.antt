@@ -13,7 +13,7 @@ pub record IsSamePage {D : Type 0} {ghosts : Ghosts D} (old new : Book D ghosts)
   pub start : start_of new ≡ start_of old
   pub log : log_of new ≡ log_of old
 
--- The page goes on: it begins with the same table, and behind its entries stand those of these
+-- The page goes on: it begins with the same table, and its entries are followed by those of these
 -- events, which are sent by 0.
 pub record GoesOn {D : Type 0} {ghosts : Ghosts D} (es : List Event) (old new : Book D ghosts) : Type 0 where
   pub entries : List Entry

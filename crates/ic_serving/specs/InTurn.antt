@@ -49,7 +49,7 @@ replies_in_turn (line ∷ ls) first last turns =
     reply_for turns.2.reading turns.1 first turns.0 turns.2.done
     ++ replies_in_turn ls turns.0 last turns.3
 
--- These lines were answered in turn, and what was done behind them is calls of the book.
+-- These lines were answered in turn, and all that was done after them is calls of the book.
 pub record AreServedInTurn {D : Type 0} {ghosts : Ghosts D} (ls : List (List ℕ))
     (old new : Book D ghosts) : Type 0 where
   pub between : Book D ghosts

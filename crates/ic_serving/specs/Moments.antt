@@ -13,9 +13,9 @@ use Rattle.ic_book.specs.ByCalls.{IsByCalls}
 use Rattle.ic_serving.specs.Parts.{IsInLine}
 use Rattle.ic_serving.specs.Stopped.{HoldsOne}
 
--- What a call over a book says of it by its answer: which faults it has; that a failure of the disk
--- is counted exactly where `Device` tells it; and that a book that wasn't broken is so behind `Device`
--- alone.
+-- What a call over a book says of it by its answer. It has such faults, a failure of the disk is
+-- counted exactly where `Device` tells it, and a book that wasn't broken is broken after `Device`
+-- only.
 pub record FaultLeaves {T : Type 0} {D : Type 0} {ghosts : Ghosts D} (may : ServeFault → Type 0)
     (result : Result T ServeFault) (old new : Book D ghosts) : Type 0 where
   pub causes : IfErr result may

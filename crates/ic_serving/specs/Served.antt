@@ -52,8 +52,8 @@ IsLeftBy (Book fault) t ls u = IsInFirst t ls u
 IsLeftBy (Pool fault) t ls u = IsInFirst t ls u
 IsLeftBy Memory t ls u = IsInFirst t ls u
 
--- A serving was ended by a fault other than that of the writer: this front of the lines is answered,
--- and the table is within the line behind it, as is the one that was kept last where all was kept.
+-- A serving was ended by a fault other than that of the writer: this front of the lines is answered.
+-- The table is within the line after it, as is the one that was kept last where all was kept.
 pub record IsEnded (fault : ServeFault) (all_kept : Type 0) (front rest : List (List ℕ))
     (t u kept : List JobParts) (old new : Option (List ℕ)) : Type 0 where
   pub between : List JobParts
@@ -62,15 +62,15 @@ pub record IsEnded (fault : ServeFault) (all_kept : Type 0) (front rest : List (
   pub in_line : IsLeftBy fault between rest u
   pub keeps : all_kept → IsLeftBy fault between rest kept
 
--- these bytes were written, and behind them a front of these
+-- these bytes were written, and after them a front of these
 pub record AppendsFront (old new : Option (List ℕ)) (before behind : List ℕ) : Type 0 where
   pub sent : List ℕ
   pub unsent : List ℕ
   pub parted : behind ≡ sent ++ unsent
   pub written : Appends old new (before ++ sent)
 
--- The writer failed: this front of the lines is done. The answers to all of them are written, but for
--- at most the last one, of which a front is.
+-- The writer failed: this front of the lines is done. The answers to all of them are written, except
+-- for at most the last one, of which a front is.
 pub record IsCut (front : List (List ℕ)) (t u : List JobParts) (old new : Option (List ℕ)) : Type 0 where
   pub whole : List (List ℕ)
   pub last : List (List ℕ)

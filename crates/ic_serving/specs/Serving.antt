@@ -11,11 +11,12 @@ use Rattle.ic_serving.specs.Stopped.{MayStand}
 use Rattle.ic_serving.specs.Moments.{Leaves}
 use Rattle.ic_serving.specs.InTurn.{AreServedInTurn}
 
--- These lines are served over a book, from what was written before to what is written behind. A front
+-- These lines are served over a book, from what was written before to what is written after. A front
 -- of them was answered in turn, each by calls of the book of its own: at Ok all of them. A fault ends
--- the serving behind this front, and one of the writer cuts the last answer to it. Where all was kept,
--- all is kept behind each answer. A crash at any moment leaves a table that the lines reach, or where
--- not all was kept before, the one that was.
+-- the serving after this front, and one of the writer cuts the last answer to it.
+--
+-- Where all was kept, all is kept after each answer. A crash at any moment leaves a table that the
+-- lines reach, or where not all was kept before, the one that was.
 pub record IsServing {T : Type 0} {D : Type 0} {ghosts : Ghosts D} (result : Result T ServeFault)
     (ls : List (List ℕ)) (old new : Book D ghosts) (before behind : Option (List ℕ)) : Type 0 where
   pub front : List (List ℕ)

@@ -10,8 +10,8 @@ use Rattle.ic_serving.specs.Served.{MayBeServed}
 abbrev pub HoldsOne : (List JobParts → Type 0) → List ℕ → Type 0
 HoldsOne tables file = (t : List JobParts) × tables t × HoldsTable t file
 
--- This table was reached: that after a front of the lines, and a front of the events of the line
--- behind them.
+-- This table was reached: the one after a front of the lines, and after a front of the events of
+-- the next line.
 pub record IsReached (t : List JobParts) (ls : List (List ℕ)) (u : List JobParts) : Type 0 where
   pub front : List (List ℕ)
   pub rest : List (List ℕ)

@@ -21,7 +21,7 @@ pub struct Makers {
 }
 
 impl Makers {
-    /// Makers of whom nobody stands yet.
+    /// Makers with no worker standing yet.
     pub fn new(alloc: Global) -> Makers {
         Makers {
             workspace: Workspace::new(alloc),

@@ -59,7 +59,7 @@ pub fn keep_all<D: Disk>(book: &mut Book<D>) -> Result<(), ServeFault>
 }
 
 /// Makes the round of the job that is due from a place on, or halts it where it can't make one, for a
-/// loop of one's own. Its place, or none where nothing is due. The round isn't kept yet.
+/// loop of one's own. Answers its place, or none where nothing is due. The round isn't kept yet.
 pub fn make_round<T: Threads + Wait + Copy + Send + 'static, D: Disk>(
     rt: &T,
     alloc: Global,

@@ -23,7 +23,7 @@ use std::sync::Wait;
 use std::thread::Threads;
 
 /// Makes at most so many rounds of running jobs in turn, and keeps what they leave: after each
-/// `every` rounds and halts, and at the end. How many there were. The gate is told of each.
+/// `every` rounds and halts, and at the end. Answers how many there were. The gate is told of each.
 pub(crate) fn run<T: Threads + Wait + Copy + Send + 'static, D: Disk, G: Gate>(
     rt: &T,
     alloc: Global,

@@ -31,8 +31,8 @@ use std::thread::Threads;
 /// and before each command but `fetch` and `list`. Workers that stand for large rounds are joined
 /// before it returns.
 ///
-/// At a fault the lines before are answered, but for a fault of the writer; the line at which it came
-/// isn't, though some of its events may stand in the book.
+/// At a fault the lines before it are answered, except at a fault of the writer. The line at which it
+/// came isn't answered, though some of its events may stand in the book.
 pub fn serve_lines<T: Threads + Wait + Copy + Send + 'static, D: Disk, R: Read, W: Write>(
     rt: &T,
     alloc: Global,
@@ -156,7 +156,7 @@ fn may_take_long(reading: &Reading) -> bool {
     }
 }
 
-/// Why no line is taken behind the last one that may be served: one that is too long is one too
+/// Why no line is taken after the last one that may be served: one that is too long is one too
 /// many.
 fn behind_the_last(fault: LineFault) -> ServeFault
     ensures long { fault ≡ LongLine → result ≡ ServeFault.TooManyLines }

@@ -14,7 +14,7 @@ use Rattle.ic_serving.specs.Serving.{IsServing}
 use Rattle.ic_lives.specs.Histories.{answered}
 use Rattle.ic_serving_laws.specs.Served.{IsCutShort}
 
--- A line was answered between others: those in front of it led to the book `before`, and those behind
+-- A line was answered between others: those in front of it led to the book `before`, and those after
 -- it on from the book `after`.
 pub record IsAnsweredBetween {D : Type 0} {ghosts : Ghosts D} (front : List (List ℕ))
     (line : List ℕ) (back : List (List ℕ)) (first last : Book D ghosts) : Type 0 where
@@ -42,15 +42,15 @@ pub record Serving {D : Type 0} (ghosts : Ghosts D) : Type 0 where
   pub first_lines : AreAnsweredInTurn front old answering
   pub other_lines : AreAnsweredInTurn more answering serves.turns.between
 
--- A part of a run: a serving that has ended, a serving in which a stop came behind its first lines, or
+-- A part of a run: a serving that has ended, a serving in which a stop came after its first lines, or
 -- any other moves, which lead to this server.
 pub data Part {D : Type 0} (ghosts : Ghosts D) : Type 0 where
   ended : Serving ghosts → Part ghosts
   stopped : Serving ghosts → (found : D) → Part ghosts
   other : List Move → Server ghosts → Part ghosts
 
--- These parts lead from one server to another, each from where the one before it led. The newest
--- stands first.
+-- These parts lead from one server to another, each from where the one before it led. The newest is
+-- first.
 abbrev pub ArePartsOf : {D : Type 0} {ghosts : Ghosts D}
     → List (Part ghosts) → (first last : Server ghosts) → Type 0
 ArePartsOf [] first last = last ≡ first
@@ -71,7 +71,7 @@ line_moves s = moves_in_turn s.front s.old s.answering s.first_lines
 abbrev pub line_replies : {D : Type 0} {ghosts : Ghosts D} → Serving ghosts → List Entry
 line_replies s = replies_in_turn s.front s.old s.answering s.first_lines
 
--- The moves of these parts. In a serving those of its first lines come first; behind them it makes
+-- The moves of these parts. In a serving those of its first lines come first; after them it makes
 -- calls of the book, or a stop cuts these short.
 abbrev pub AreMovesOf : {D : Type 0} {ghosts : Ghosts D}
     → List (Part ghosts) → List Move → Type 0

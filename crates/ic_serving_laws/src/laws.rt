@@ -48,8 +48,8 @@ pub fn a_part_is_a_front()
         ↔ ((u ≡ kept) ⊎ IsPart t es u) }
 {}
 
-/// Within a run stand the tables that runs of at most as many rounds leave; within a command the
-/// table before it and the one after it; within a blank or refused line the table before it alone.
+/// Within a run are the tables that runs of at most as many rounds leave; within a command the
+/// table before it and the one after it; within a blank or refused line only the table before it.
 /// Where no line is to come, the table stays.
 pub fn tables_within_a_line_are()
     ensures run { (t u : List JobParts) (line : List ℕ) (k : ℕ) → ReadsLine line (Ok (Run k))
@@ -96,7 +96,7 @@ pub fn answers_are_appended()
     ic_lines::laws::lines_are_served_in_one_way();
 }
 
-/// `LongLine` says that fewer than 1,000,000 lines are answered and that the line behind them has
+/// `LongLine` says that fewer than 1,000,000 lines are answered and that the line after them has
 /// more than 262,144 bytes, and `TooManyLines` that 1,000,000 are answered and one more is to come.
 /// Some faults of the book and of the pool never come.
 pub fn faults_say()
@@ -129,8 +129,8 @@ pub fn faults_leave()
     ic_commands::laws::one_line_reading();
 }
 
-/// A fault ends a serving behind a front of the lines, which are answered. The table is within the
-/// line behind them, as is the one that was kept last, where all was kept when it began.
+/// A fault ends a serving after a front of the lines, which are answered. The table is within the
+/// line after them, as is the one that was kept last, where all was kept when it began.
 pub fn a_fault_ends_a_serving()
     ensures within { (fault : ServeFault) (all : Bool) (front rest : List (List ℕ))
         (t u kept : List JobParts) (old new : Option (List ℕ))
@@ -156,7 +156,7 @@ pub fn a_fault_ends_a_serving()
     ic_commands::laws::one_line_reading();
 }
 
-/// A failing writer ends a serving behind a front of the lines, which are done. All of them are
+/// A failing writer ends a serving after a front of the lines, which are done. All of them are
 /// answered but at most the last one, of whose answer a front was written.
 pub fn a_failing_writer_cuts_a_serving()
     ensures sent { (before behind a b : List ℕ) → AppendsFront (Some a) (Some b) before behind
@@ -185,9 +185,9 @@ pub fn all_is_kept_where_each_entry_is<D: Disk>(book: &Book<D>)
     book.facts();
 }
 
-/// A line that is answered is served: this answers it, and it leaves this table. Behind a command
-/// and a run all is kept; behind a blank and a refused line nothing has changed. Where a line was
-/// only begun, the table is within it, and what is kept is what was kept before it, or within it too.
+/// A line that is answered is served: this answers it, and it leaves this table. After a command and
+/// a run all is kept; after a blank and a refused line nothing has changed. Where a line was only
+/// begun, the table is within it, and what is kept is what was kept before it, or within it too.
 pub fn a_line_is_answered_as_it_is_served<D: Disk>(before: &Book<D>, behind: &Book<D>)
     ensures served { (line bytes : List ℕ) → IsAnswered line bytes before.now behind.now
         → IsServed (table_of before.now) (line ∷ []) bytes (table_of behind.now) }
@@ -212,7 +212,7 @@ pub fn a_line_is_answered_as_it_is_served<D: Disk>(before: &Book<D>, behind: &Bo
 }
 
 /// A command or a run is answered over no broken book, and a command over none whose slots' numbers
-/// are used up. A line's events stand behind the log of the page, where there is room for them.
+/// are used up. A line's events stand after the log of the page, where there is room for them.
 pub fn an_answered_line_tells_of_its_book<D: Disk>(before: &Book<D>, behind: &Book<D>)
     ensures whole { (line bytes : List ℕ) (c : Command) → ReadsLine line (Ok (Asks c))
         → IsAnswered line bytes before.now behind.now → is_broken behind.now ≡ false }
@@ -234,7 +234,7 @@ pub fn an_answered_line_tells_of_its_book<D: Disk>(before: &Book<D>, behind: &Bo
 }
 
 /// A page that goes on begins with the table that it began with, and its log is the one that it had
-/// with the entries of these events behind it, one for each, in their order, sent by 0. So the old
+/// with the entries of these events after it, one for each, in their order, sent by 0. So the old
 /// log is a front of the new one. It goes on within events by the first so many of them.
 pub fn a_page_goes_on<D: Disk>(before: &Book<D>, behind: &Book<D>)
     ensures start { (es : List Event) → GoesOn es before.now behind.now
@@ -252,9 +252,9 @@ pub fn a_page_goes_on<D: Disk>(before: &Book<D>, behind: &Book<D>)
         ↔ (length (log_of before.now) + length es < 65536) }
 {}
 
-/// `Device` says that one failure more of the disk was counted, or that the count stands at its end,
-/// and no other fault does. Only `Device` breaks a book; `Broken` is told of none that wasn't broken,
-/// and `Worn` only where the numbers of the slots are used up.
+/// `Device` says that one more failure of the disk was counted, or that the count is at its end, and
+/// no other fault does. Only `Device` breaks a book; `Broken` is told of none that wasn't broken, and
+/// `Worn` only where the numbers of the slots are used up.
 pub fn causes_say()
     ensures device { (old new : ℕ) → CountsServe {T = Unit {0}} (Err (by_book book_fault.Device)) old new
         ↔ OneMore old new }
@@ -270,9 +270,9 @@ pub fn causes_say()
         → StaysReady (by_book book_fault.Worn) broken number → number ≡ 2 ^ 64 - 1 }
 {}
 
-/// What a stop in the midst of a call leaves is told of a disk that keeps the model and is made: a
-/// file that holds one of these tables. Behind the call it keeps the model where it did before, and
-/// is made.
+/// What a stop in the midst of a call leaves is claimed of a disk that keeps the model and is made:
+/// a file that holds one of these tables. After the call it keeps the model where it did before,
+/// and is made.
 pub fn a_stop_leaves_one_of_these_tables<D: Disk>(before: &Book<D>, behind: &Book<D>)
     ensures made { IsOnMadeDisk before.now
         ↔ (IsTrue (D.keeps (disk_of before.now)) × Within (D.image (disk_of before.now)) IsMade) }
@@ -287,7 +287,7 @@ pub fn a_stop_leaves_one_of_these_tables<D: Disk>(before: &Book<D>, behind: &Boo
 {}
 
 /// A stop in the midst of a serving leaves a table that lines reach: a front of them is served, and
-/// the table is within the line behind them. Only where not all was kept when it began, the table
+/// the table is within the line after them. Only where not all was kept when it began, the table
 /// may be the one that was.
 pub fn a_stop_is_within_the_lines()
     ensures reached { (t u : List JobParts) (ls : List (List ℕ)) → IsReached t ls u

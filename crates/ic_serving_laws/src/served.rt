@@ -38,14 +38,14 @@ use ic_disk::Disk;
 /// made go on from those before; and where they are stopped at any moment, the stop came in the midst
 /// of one of them.
 pub fn the_served_headline<D: Disk>(old: &Book<D>, new: &Book<D>, found: &D)
-    // Behind a serving the open book is reached, and has the table after a past of all moves.
+    // After a serving the open book is reached, and has the table after a past of all moves.
     ensures ended { (moves : List Move) (done : IsByCalls old.now new.now)
         → Reaches moves (up old.now)
         → Reaches (done.moves ++ moves) (up new.now)
         × IsTableAfter (done.moves ++ moves) (table_of new.now) }
 
     // A disk that is found after a stop in its midst is reached by the moves that were cut short. So
-    // all that is said of runs is said of it, and of what comes behind it.
+    // all that is said of runs is said of it, and of what comes after it.
     ensures stopped { (moves : List Move) (done : IsByCalls old.now new.now)
         → Reaches moves (up old.now)
         → IsFound D.Disk (disk_of old.now) (disk_of new.now) found.now
@@ -108,7 +108,7 @@ pub fn a_stopped_serving_opens_again<D: Disk>(
 
 /// Any number of servings of lines, each stopped at any moment or ended, are a run of a server, with
 /// any other moves between them: openings, also those that are refused or stopped, calls of one's own,
-/// closings. Behind them the table is the one after a legal history of these moves. Every command that
+/// closings. After them the table is the one after a legal history of these moves. Every command that
 /// one of the first lines of a serving was answered stands there, in order, with the reply whose line
 /// answers it.
 pub fn servings_are_a_run<D: Disk>(first: &D, last: &D, book: &Book<D>)
@@ -184,10 +184,10 @@ pub fn lines_are_moves<D: Disk>(old: &Book<D>, new: &Book<D>, found: &D)
     ic_slots::laws::one_is_held();
 }
 
-/// What a serving has answered stays, also where it ends by a fault. Behind any number of the first
-/// lines that it answered there is a book that their moves reach, each line's last an answer with the
-/// reply whose line the bytes are, or a keep behind a run. A stop from that book's clock on is one in
-/// the midst of a later call: the moves of these lines are all there.
+/// What a serving has answered stays, also where it ends by a fault. After any number of the first
+/// lines that it answered there is a book that their moves reach. The last move of each line is an
+/// answer with the reply whose line the bytes are, or a keep after a run. A stop from that book's
+/// clock on is one in the midst of a later call: the moves of these lines are all there.
 pub fn answered_lines_stay<D: Disk>(old: &Book<D>, new: &Book<D>, found: &D)
     ensures { (moves : List Move) (result : Result (Unit {0}) ServeFault)
         (ls : List (List ℕ)) (before behind : Option (List ℕ))

@@ -10,8 +10,8 @@ ghost use Rattle.ic_serving.specs.Served.{MayBeServed};
 ghost use Rattle.ic_serving.specs.Stopped.{HoldsOne, IsReached, MayStand};
 
 /// Lines reach the table before them, those within the first line, and the one that all of them
-/// leave; more lines reach no less. No lines reach nothing else, one line nothing but the tables
-/// within it, and a line that is too long nothing behind it.
+/// leave; more lines reach no less. No lines reach nothing else, one line only the tables within
+/// it, and a line that is too long reaches nothing after it.
 pub fn lines_reach_tables()
     ensures before { (t : List JobParts) (ls : List (List ℕ)) → IsReached t ls t }
     ensures none { (t u : List JobParts) → IsReached t [] u ↔ (u ≡ t) }

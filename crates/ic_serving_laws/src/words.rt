@@ -20,7 +20,7 @@ use ic_book::Book;
 use ic_disk::Disk;
 
 /// What lines that were answered in turn tell of commands: a command line its own, with the reply whose
-/// line it was answered, between what those before it and those behind it tell. No other line tells any.
+/// line it was answered, between what those before it and those after it tell. No other line tells any.
 pub fn each_command_line_is_told<D: Disk>(first: &Book<D>, last: &Book<D>)
     ensures command { (front back : List (List ℕ)) (line : List ℕ) (command : Command)
         (turns : AreAnsweredInTurn (front ++ line ∷ back) first.now last.now)
@@ -47,7 +47,7 @@ pub fn each_command_line_is_told<D: Disk>(first: &Book<D>, last: &Book<D>)
 }
 
 /// What parts have answered, one after the other: a serving the commands of its first lines, also where
-/// it was stopped behind them, and other moves those that they answer.
+/// it was stopped after them, and other moves those that they answer.
 pub fn each_part_is_told<D: Disk>(disk: &D)
     ensures joined { (later earlier : List (Part D.Disk))
         → answered_by (later ++ earlier) ≡ answered_by earlier ++ answered_by later }

@@ -50,7 +50,7 @@ IsSideIn (p ∷ ps) t = (t ≡ p.left) ⊎ ((t ≡ p.right) ⊎ IsSideIn ps t)
 abbrev pub put_into : Binding → Binding → Binding
 put_into b later = record later { term = subst b.name b.term later.term }
 
--- The binding of this first step is replaced first; what is replaced behind it, with its term put
+-- The binding of this first step is replaced first; what is replaced after it, with its term put
 -- for its name, is what settling what is left replaces.
 abbrev pub ReplacesFirst : Configuration → Choice → Type 0
 ReplacesFirst c choice =

@@ -31,7 +31,7 @@ pub record Binding : Type 0 where
   pub name : ℕ
   pub term : Tree
 
--- whether a name stands in a list of names
+-- whether a name occurs in a list of names
 abbrev pub occurs : ℕ → List ℕ → Bool
 occurs x ns = list_any (λ n. n == x) ns
 
@@ -62,7 +62,7 @@ abbrev pub choice_or : List Pair → List Pair → Option Binding → Option Cho
 choice_or before after (Some b) _ = Some (record { before = before; after = after; bound = b })
 choice_or before after None later = later
 
--- the first equation with an applicable side, behind those before
+-- the first equation with an applicable side, after those before
 abbrev pub first_choice : List Tree → List Pair → List Pair → Option Choice
 first_choice ts before [] = None
 first_choice ts before (p ∷ after) =

@@ -14,7 +14,7 @@ pub struct Applicable {
     pub side: Side,
 }
 
-/// A name at the top of a side, and the container in which it stands besides.
+/// A name at the top of a side, and the container in which it occurs besides.
 #[derive(Clone, Copy)]
 pub struct Outlet {
     pub name: u64,

@@ -8,7 +8,7 @@ ghost use Rattle.ic_settle.specs.Bindings.{replaced, bound_names, IsSideIn, Repl
 
 /// Nothing is replaced exactly where no step is possible. Each step replaces its name, in the order
 /// of the steps, and removes one equation. The first takes the other side of its equation, and the
-/// others are those of the settling behind it, where its term is put for its name. Each term is a
+/// others are those of the settling after it, where its term is put for its name. Each term is a
 /// side of an equation as it is given.
 pub fn each_step_replaces_its_name()
     ensures none { (c : Configuration) → (replaced c ≡ []) ↔ (settling_step c ≡ None) }

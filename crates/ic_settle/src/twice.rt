@@ -1,10 +1,10 @@
-//! Whether a name stands twice in a list that rises.
+//! Whether a name occurs twice in a list that rises.
 
 ghost use Rattle.std.specs.Prelude.{◌≡◌, nat_le};
 ghost use Rattle.std.specs.List.Sorted.{IsNonDecreasing};
 ghost use Rattle.ic_term.specs.Configuration.{occurrences};
 
-/// Whether a name stands at least twice in a list that rises.
+/// Whether a name occurs at least twice in a list that rises.
 pub fn is_twice_in(names: &[u64], name: u64) -> bool
     requires { IsNonDecreasing names.now }
     ensures { result ≡ nat_le 2 (occurrences name names.now) }

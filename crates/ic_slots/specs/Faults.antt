@@ -4,7 +4,7 @@ use Rattle.ic_disk.specs.Time.{OneMore}
 use Rattle.ic_slots.specs.declared.fault.CreateFault.{CreateFault}
 use Rattle.ic_slots.specs.declared.fault.CreateFault.TheVariants.{Device, Memory}
 
--- `Device` has one failure more counted, and all else has none
+-- at `Device` one more failure is counted, and at any other answer none
 abbrev pub CountsCreate : {T : Type 0} → Result T CreateFault → ℕ → ℕ → Type 0
 CountsCreate (Ok value) old new = new ≡ old
 CountsCreate (Err Device) old new = OneMore old new

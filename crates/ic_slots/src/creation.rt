@@ -23,7 +23,7 @@ pub fn create<D: Disk>(alloc: Global, disk: &mut D) -> Result<(), CreateFault>
     ensures counted { CountsCreate result (D.failures disk.old) (D.failures disk.new) }
     ensures calls { D.clock disk.new ≤ D.clock disk.old + 6 }
 
-    // Without memory the disk is as it was.
+    // Where memory ran out, the disk is as it was.
     ensures unchanged { IsErrOf result CreateFault.Memory → disk.new ≡ disk.old }
 
     // At Ok the slot's bytes are at the beginning of the disk, and thirteen zeros are written at the

@@ -119,7 +119,7 @@ impl<D: Disk> Keeper<D> {
         self.frames.open_gate()
     }
 
-    /// Puts this table in the place of the one that is kept. It isn't answered want of memory.
+    /// Puts this table in the place of the one that is kept. It never answers that memory ran out.
     pub fn keep(&mut self, table: &Table) -> Result<(), KeepFault>
         ensures fault { FaultLeaves result (frames_of self.old) (frames_of self.new) }
         ensures turns { TakesTurns result (frames_of self.old) (frames_of self.new) }
@@ -169,7 +169,7 @@ fn cause_of(fault: CodecFault) -> OpenCause
     }
 }
 
-// A table behind the head of a frame, in the room that the frame has.
+// A table after the head of a frame, in the room that the frame has.
 fn lay(frame: &mut Vec<u8>, table: &Table)
     requires room { 13 + MAX_BODY ≤ vec_capacity frame.old }
     requires head { 13 ≤ length frame.old.items }

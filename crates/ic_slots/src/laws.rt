@@ -67,9 +67,9 @@ pub fn the_old_form_is_held()
     each_table_has_its_own_bytes();
 }
 
-/// What a stop in a keep leaves, of a program that writes the old form or the new one: where a made
-/// file has one of two bodies, each a form of a table, it holds one of the two tables. So a keep of
-/// either form over either form leaves the old table or the new one.
+/// What a stop in a keep leaves, whether the program writes the old form or the new one. Where a
+/// made file has one of two bodies, each a form of a table, it holds one of the two tables. So a
+/// keep of either form over either form leaves the old table or the new one.
 pub fn one_of_two_forms_is_one_of_two_tables()
     ensures either { (t u : List JobParts) (one other file : List ℕ) → IsTable t → IsTable u
         → IsFormOf t one → IsFormOf u other → HoldsEither one other file
@@ -89,8 +89,8 @@ pub fn a_refusal_says_what_is_held()
     ensures spoiled { (file : List ℕ) → Says Damaged file → IsHeld damaged file }
 {}
 
-/// Where `create` tells that the disk has failed one failure more is counted, up to the end of the
-/// count. Where it doesn't, none is.
+/// Where `create` tells that the disk has failed, one more failure is counted, up to the end of the
+/// count. Otherwise none is.
 pub fn a_failure_is_counted()
     ensures create_failed { (old new : ℕ) → CountsCreate {T = Unit {0}} (Err CreateDevice) old new
         → (new ≡ old + 1) ⊎ ((old ≡ 2 ^ 64 - 1) × (new ≡ old)) }
@@ -117,8 +117,8 @@ pub fn what_is_begun_is_shut()
     the_newest_slot_is_held();
 }
 
-/// No job is lost where a disk is made anew that may be: a table that it holds has none. An empty file
-/// may be, and so may a file that holds the empty table.
+/// No job is lost where a disk that may be made anew is made anew: a table that it holds has none. An
+/// empty file may be, and so may a file that holds the empty table.
 pub fn no_job_is_lost()
     ensures lost { (file : List ℕ) (t : List JobParts)
         → IsUnused file → IsHeld (the_table t) file → t ≡ [] }
@@ -130,7 +130,7 @@ pub fn no_job_is_lost()
 }
 
 /// What a stopped `create` leaves ends with the head of the second slot at the latest, is closed, and has
-/// zeros behind the 18 bytes of an empty table. Each byte of it is 0, or the one that a `create` writes
+/// zeros after the 18 bytes of an empty table. Each byte of it is 0, or the one that a `create` writes
 /// there.
 pub fn what_is_begun_is_nearly_empty()
     ensures short { (file : List ℕ) → IsBegun file → length file ≤ SECOND_AT + HEAD }
@@ -141,8 +141,9 @@ pub fn what_is_begun_is_nearly_empty()
         ⊎ (slice_index file i ≡ slice_index (first_bytes (old_table_bytes [])) i)) }
 {}
 
-/// The bytes that a `create` writes in the first slot before it opens the gate: a gate that is closed, the
-/// number 1 in eight bytes, the length 5 in four, the name of the form, and that there are no jobs.
+/// The bytes that a `create` writes in the first slot before it opens the gate. They are a gate that is
+/// closed, the number 1 in eight bytes, the length 5 in four, the name of the form, and that there are no
+/// jobs.
 pub fn the_first_bytes_are()
     ensures ict2 { first_bytes (table_bytes [])
         ≡ 0 ∷ 0 ∷ 0 ∷ 0 ∷ 0 ∷ 0 ∷ 0 ∷ 0 ∷ 1 ∷ 0 ∷ 0 ∷ 0 ∷ 5 ∷ codes "ICT2" ++ 0 ∷ [] }
@@ -150,8 +151,9 @@ pub fn the_first_bytes_are()
         ≡ 0 ∷ 0 ∷ 0 ∷ 0 ∷ 0 ∷ 0 ∷ 0 ∷ 0 ∷ 1 ∷ 0 ∷ 0 ∷ 0 ∷ 5 ∷ codes "ICT1" ++ 0 ∷ [] }
 {}
 
-/// Behind each write of a `create` of an empty file, but for the last one, which opens the gate, the
-/// file is what a stopped `create` leaves: behind that of the second head, and of the first slot.
+/// After each write of a `create` of an empty file, except for the last one, which opens the gate,
+/// the file is what a stopped `create` leaves. Such writes are that of the second head and that of
+/// the first slot.
 pub fn each_write_of_create_is_begun()
     ensures head { IsBegun (laid SECOND_AT (replicate HEAD 0) []) }
     ensures slot { IsBegun (laid 0 (first_bytes (table_bytes []))

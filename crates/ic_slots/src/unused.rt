@@ -16,7 +16,8 @@ use ic_frames::{HEAD, SECOND_AT};
 use std::alloc::Global;
 
 /// Whether a disk may be made anew without a loss: it holds the empty table, or is what a stopped
-/// `create` leaves of an empty file. The disk is handed back, with nothing changed but for a sync.
+/// `create` leaves of an empty file. The disk is handed back, with nothing changed except for a
+/// sync.
 pub fn is_unused<D: Disk>(alloc: Global, disk: D) -> (D, Result<bool, CreateFault>)
     ensures keeps { D.keeps result.0 ≡ D.keeps disk }
     ensures same { IsTrue (D.keeps disk) → D.content result.0 ≡ D.content disk }

@@ -1,19 +1,20 @@
 //! What is answered to a row, by its kind.
 //!
-//! A script is words with `, ` between two, each of which is answered in turn: `o` or `e` says that a call went well or was
-//! refused, `y` or `n` whether something is so. Bytes are hexadecimal digits, `-` none, and `[COUNT DIGITS]` so many times. What is
-//! read is written over the bytes that a word names.
+//! A script is words with `, ` between two, each of which is answered in turn: `o` or `e` says that a call went well or
+//! was refused, `y` or `n` whether something is so. Bytes are hexadecimal digits, `-` none, and `[COUNT DIGITS]` so
+//! many times. What is read is written over the bytes that a word names.
 //!
-//! - `memory SCRIPT`: over an empty disk in memory. `has BYTES` puts another in its place, all synced. `fuse CALL BLOW THEN` lets
-//!   a call fail, counted from 1: `before` it is made, `after` it or torn behind so many bytes; and then `stop` or go `on`.
-//!   `crash CHOICE` leaves what a crash leaves, and `bytes` tells the bytes.
-//! - `file SCRIPT`: over a file. `open` and `create` open the disk in it, and `shut` closes it. `read PLACE BYTES` tells as many
-//!   bytes. `cut` makes the file empty, and `there` tells whether it is there.
-//! - Of any disk: `write PLACE BYTES`, `sync`, `len`, `synced PLACE BYTES` for a write and a sync, `mark PLACE BYTE PLACE BYTES`
-//!   for those of the bytes and then of the byte, `touch` for a read of nothing, `look PLACE BYTES` for the length and as many
-//!   bytes.
-//! - Of the frames on a disk in memory: `begin BODY` makes the first, `find` opens them, `keep BODY` keeps one, `stage BODY` writes it behind a
-//!   closed gate, `usable` tells whether they are neither broken nor worn, `leave` closes them. `holds BODY` tells what was found.
+//! - `memory SCRIPT`: over an empty disk in memory. `has BYTES` puts another in its place, all synced.
+//!   `fuse CALL BLOW THEN` lets a call fail, counted from 1: `before` it is made, `after` it or torn after so many
+//!   bytes; and then `stop` or go `on`. `crash CHOICE` leaves what a crash leaves, and `bytes` tells the bytes.
+//! - `file SCRIPT`: over a file. `open` and `create` open the disk in it, and `shut` closes it. `read PLACE BYTES`
+//!   tells as many bytes. `cut` makes the file empty, and `there` tells whether it is there.
+//! - Of any disk: `write PLACE BYTES`, `sync`, `len`, `synced PLACE BYTES` for a write and a sync,
+//!   `mark PLACE BYTE PLACE BYTES` for those of the bytes and then of the byte, `touch` for a read of nothing,
+//!   `look PLACE BYTES` for the length and as many bytes.
+//! - Of the frames on a disk in memory: `begin BODY` makes the first, `find` opens them, `keep BODY` keeps one,
+//!   `stage BODY` writes it behind a closed gate, `usable` tells whether they are neither broken nor worn, `leave`
+//!   closes them. `holds BODY` tells what was found.
 //! - `opens PATH`: whether a disk is opened there, without making it and with. `laws`: the calls that are laws.
 
 use crate::files::{in_file, opens};

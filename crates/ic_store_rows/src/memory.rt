@@ -164,7 +164,7 @@ fn staged(frames: &mut Frames<FuseDisk>, frame: &mut [u8]) -> Result<(), KeepFau
     frames.write_body(frame)
 }
 
-/// The disk of which the call of a text fails: it is made `before` or `after`, or torn behind so many bytes.
+/// The disk of which the call of a text fails: it is made `before` or `after`, or torn after so many bytes.
 fn fused(disk: MemDisk, text: &str) -> FuseDisk {
     let (at, rest) = number_and_rest(text);
     let (blow, then) = first_of(rest);

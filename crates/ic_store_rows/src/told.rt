@@ -3,7 +3,7 @@
 use ic_notation::{decimal, digits_of};
 use std::alloc::{AllocError, Global};
 
-/// The answers of the words so far, each with a blank behind it.
+/// The answers of the words so far, each with a blank after it.
 #[derive(Drop)]
 pub struct Told {
     line: Vec<u8>,

@@ -3,7 +3,7 @@
 use ic_notation::{bytes_of, expanded};
 use std::alloc::{AllocError, Global};
 
-/// The first word of a text, and what is behind it.
+/// The first word of a text, and what follows it.
 pub fn first_of(text: &str) -> (&str, &str) {
     text.split_once(' ').unwrap_or((text, ""))
 }
@@ -13,7 +13,7 @@ pub fn number(text: &str) -> u64 {
     u64::from_str_radix(text, 10).unwrap_or(0)
 }
 
-/// A number, and what is behind it.
+/// A number, and what follows it.
 pub fn number_and_rest(text: &str) -> (u64, &str) {
     let (first, rest) = first_of(text);
     (number(first), rest)

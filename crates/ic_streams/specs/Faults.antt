@@ -19,12 +19,12 @@ stream_fault_number Write = 5
 abbrev pub all_stream_faults : TextFault → RoundFault → List StreamFault
 all_stream_faults text round = Read ∷ Text text ∷ Round round ∷ Memory ∷ Write ∷ []
 
--- a refused text, save that want of memory isn't the text's
+-- a refused text, except that memory ran out, which is no fault of the text
 abbrev pub fault_of_text : TextFault → StreamFault
 fault_of_text text.Memory = Memory
 fault_of_text fault = Text fault
 
--- a refused round, save that want of memory isn't the round's
+-- a refused round, except that memory ran out, which is no fault of the round
 abbrev pub fault_of_round : RoundFault → StreamFault
 fault_of_round round.Memory = Memory
 fault_of_round fault = Round fault

@@ -1,7 +1,7 @@
 //! What the commands that answer a text do with their reader and writer, and how they are refused.
 //!
-//! `read_text` takes a text from a reader, `flat_line` prints a configuration as a line, and `write_line` writes it. The
-//! refusals of these commands are a `StreamFault`.
+//! `read_text` takes a text from a reader, `flat_line` prints a configuration as a line, and `write_line` writes it.
+//! The refusals of these commands are a `StreamFault`.
 #![tactic(auto)]
 
 mod fault;

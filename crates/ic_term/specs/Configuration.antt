@@ -30,21 +30,21 @@ configuration_nodes c = nodes_in c.interface c.equations
 abbrev pub configuration_names : Configuration → List ℕ
 configuration_names c = names_in c.interface c.equations
 
--- how often a name stands in a list of names
+-- how often a name occurs in a list of names
 abbrev pub occurrences : ℕ → List ℕ → ℕ
 occurrences n ns = count_by (λ m. m == n) ns
 
--- the first name of a list, behind the names seen, that stands there for the third time
+-- the first name of a list, after the names seen, that occurs there for the third time
 abbrev pub third_from : List ℕ → List ℕ → Option ℕ
 third_from seen [] = None
 third_from seen (n ∷ ns) = if nat_le 2 (occurrences n seen) then Some n
     else third_from (seen ++ n ∷ []) ns
 
--- the first name of a list that stands there for the third time
+-- the first name of a list that occurs there for the third time
 abbrev pub third_occurrence : List ℕ → Option ℕ
 third_occurrence ns = third_from [] ns
 
--- A name stands in a list for the third time, behind names that stand there at most twice.
+-- A name occurs in a list for the third time, after names that occur there at most twice.
 pub record IsFirstThird (n : ℕ) (ns before after : List ℕ) : Type 0 where
   pub parts : ns ≡ before ++ n ∷ after
   pub twice_before : occurrences n before ≡ 2

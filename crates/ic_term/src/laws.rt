@@ -17,8 +17,8 @@ pub fn limits_are()
     ensures arity { MAX_ARITY ≡ 15 }
 {}
 
-/// No name of a list is the first third occurrence exactly where each name stands there at most twice, and the
-/// name that is one stands there for the third time, behind names that stand there at most twice.
+/// No name of a list is the first third occurrence exactly where each name occurs there at most twice, and the
+/// name that is one occurs there for the third time, after names that occur there at most twice.
 pub fn third_occurrence_is_the_first()
     ensures none { (ns : List ℕ) → (third_occurrence ns ≡ None) ↔ ((n : ℕ) → occurrences n ns ≤ 2) }
     ensures some { (ns : List ℕ) (n : ℕ) → third_occurrence ns ≡ Some n
@@ -38,8 +38,8 @@ pub fn next_is_one_above_the_greatest_name()
         → IsTrue (list_any (λ m. m + 1 == one_above (n ∷ ns)) (n ∷ ns)) }
 {}
 
-/// What `Symbols::number` makes is what lists of symbols keep: a text that gets a number keeps it, and each such list is
-/// made by numbering its texts one after the other.
+/// What `Symbols::number` makes is what lists of symbols keep: a text that gets a number keeps it, and each such list
+/// is made by numbering its texts one after the other.
 pub fn numbering_makes_exactly_such_symbols()
     ensures kept { (ss : List Symbol) (text : List ℕ) (arity n : ℕ) → AreSymbols ss
         → IsTrue (is_symbol_text text) → numbered ss text arity ≡ Ok n

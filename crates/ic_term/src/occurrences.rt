@@ -6,7 +6,7 @@ ghost use Rattle.ic_term.specs.Configuration.{third_occurrence};
 use indexmap::IndexMap;
 use std::alloc::{AllocError, Global};
 
-/// The first name of a list that stands there for the third time. Takes time in proportion to the
+/// The first name of a list that occurs there for the third time. Takes time in proportion to the
 /// list.
 pub fn third_occurrence(alloc: Global, names: &[u64]) -> Result<Option<u64>, AllocError>
     ensures { IfOk result (λ name. name ≡ third_occurrence names.now) }

@@ -61,9 +61,9 @@ pub record IsPlacedWord {P : Type 0} (IsOne : P → Type 0) (words : P → List 
   pub refused : IsFaultWord (written phrase) fault word detail
   pub place : IsWordPlace text word at
 
--- The place that is told of a refusal, and what more is known: of a fault of syntax its place; where
--- a text is too long its first byte too many; of others that of the word at which it is found. Of
--- memory that was refused none is told.
+-- The place that is told of a refusal, and what more is known. A fault of syntax has its place, a
+-- text that is too long its first byte too many, and any other fault that of the word at which it is
+-- found. Where memory ran out none is told.
 abbrev pub IsPlaced : {P : Type 0} → (P → Type 0) → (P → List Token) → (P → Written) → List ℕ
     → TextFault → Option ℕ → Detail → Type 0
 IsPlaced IsOne words written text Syntax (Some at) Nothing = IsSyntaxPlace IsOne words text at

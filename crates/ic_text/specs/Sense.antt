@@ -10,7 +10,7 @@ use Rattle.ic_text.specs.declared.fault.TextFault.{TextFault}
 use Rattle.ic_text.specs.declared.fault.TextFault.TheVariants.{Limit, Arity, Name}
 use Rattle.ic_text.specs.Source.{Source, leaf, node, Sources, no_sources, more_sources, Sides, Phrase, phrase_names, phrase_symbols, phrase_nodes}
 
--- Symbols in the order in which their texts first occur, behind those seen. A symbol has the arity
+-- Symbols in the order in which their texts first occur, after those seen. A symbol has the arity
 -- of its first occurrence (this project's choice).
 abbrev pub symbols_after : List Symbol → List Symbol → List Symbol
 symbols_after seen [] = seen

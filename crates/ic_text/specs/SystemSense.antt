@@ -59,10 +59,11 @@ abbrev pub unless_found : Option ℕ → (ℕ → TextFault) → Result SystemPa
 unless_found None fault answer = answer
 unless_found (Some n) fault answer = Err (fault n)
 
--- What a system that is written means, or the first refusal: a limit that is passed, a symbol with
--- two arities, the first rule with a name that doesn't occur exactly twice in it, the first third
--- occurrence of a name in the configuration, the first rule whose pair of symbols an earlier one
--- has, the first lopsided rule (the order is this project's choice).
+-- What a system that is written means, or the first refusal. First come a limit that is passed and
+-- a symbol with two arities, then the first rule with a name that doesn't occur exactly twice in
+-- it. Then come the first third occurrence of a name in the configuration, the first rule whose
+-- pair of symbols an earlier one has, and the first lopsided rule (the order is this project's
+-- choice).
 abbrev pub system_sense : SystemPhrase → Result SystemParts TextFault
 system_sense s =
     if is_system_in_limits s then

@@ -65,15 +65,15 @@ abbrev pub followed : Option (List Token) → Option (List Token) → Option (Li
 followed None rest = None
 followed (Some ts) rest = before ts rest
 
--- The tokens of a text that stands behind a run of word bytes. A word is a longest run (this
--- project's choice).
+-- The tokens of a text that follows a run of word bytes. A word is a longest run (this project's
+-- choice).
 abbrev pub tokens_behind : List ℕ → List ℕ → Option (List Token)
 tokens_behind run [] = Some (word_of run)
 tokens_behind run (b ∷ bs) =
     if is_word_byte b then tokens_behind (run ++ b ∷ []) bs
     else before (word_of run) (followed (tokens_at b (mark_of b)) (tokens_behind [] bs))
 
--- the tokens of a text without its blanks, or none where another byte stands (this project's
+-- the tokens of a text without its blanks, or none where there is another byte (this project's
 -- choice)
 abbrev pub tokens : List ℕ → Option (List Token)
 tokens bytes = tokens_behind [] bytes

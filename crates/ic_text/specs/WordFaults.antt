@@ -28,8 +28,8 @@ keeps NameNumber ws = list_all (λ n. nat_le n MAX_NAME) (names_among ws)
 keeps Symbols ws = nat_le (length (word_table ws)) MAX_SYMBOLS
 keeps bound ws = true
 
--- How many terms are due behind a word in prefix notation, before which so many were: none in front of
--- a term that no other holds.
+-- How many terms are due after a word in prefix notation, if so many were due before it: none in front
+-- of a term that no other one holds.
 abbrev pub due_behind : ℕ → ℕ → ℕ
 due_behind zero arity = arity
 due_behind (suc due) arity = due + arity
@@ -77,8 +77,8 @@ keeps_so_far bound w k = keeps bound (take k (all_words w)) && counts_keep bound
 abbrev pub agree : List Symbol → Bool
 agree ws = list_all (has_its_arity (word_table ws)) (symbols_among ws)
 
--- The first word with which words aren't innocent: so many stand before it, and these are innocent,
--- and each front of them.
+-- The first word with which words aren't innocent: so many stand before it; these are innocent, and
+-- so is each front of them.
 pub record IsFirstWord (is_innocent : List Symbol → Bool) (ws : List Symbol) (k : ℕ) : Type 0 where
   pub inside : k < length ws
   pub innocent : (j : ℕ) → j ≤ k → IsTrue (is_innocent (take j ws))
@@ -104,7 +104,7 @@ pub record IsLimitWord (bound : Bound) (w : Written) (k : ℕ) : Type 0 where
   pub passed : keeps_so_far bound w (k + 1) ≡ false
   pub first : (b : Bound) → rank b < rank bound → IsTrue (keeps_so_far b w (k + 1))
 
--- the first word that is a symbol with another arity than before: those of its first use, and of this
+-- the first word that is a symbol with another arity than before: the arity of its first use, and of this one
 pub record IsSecondUse (before here : ℕ) (ws : List Symbol) (k : ℕ) : Type 0 where
   pub first : IsFirstWord agree ws k
   pub word : Symbol
@@ -117,17 +117,17 @@ pub record IsSecondUse (before here : ℕ) (ws : List Symbol) (k : ℕ) : Type 0
 abbrev pub uses : List ℕ → List Symbol → ℕ
 uses text ws = count_by (λ w. bytes_eq w.text text) ws
 
--- a name stands at most twice among words
+-- a name occurs at most twice among words
 abbrev pub at_most_twice : ℕ → List Symbol → Bool
 at_most_twice n ws = nat_le (uses (name_text n) ws) 2
 
--- the first word of the configuration with which a name stands there more than twice
+-- the first word of the configuration with which a name occurs there more than twice
 pub record IsThirdWord (n : ℕ) (w : Written) (k : ℕ) : Type 0 where
   pub before : ℕ
   pub first : IsFirstWord (at_most_twice n) w.config before
   pub place : k ≡ length (in_a_row w.rules) + before
 
--- a word of a rule, behind so many others, is a name that stands there for the only or for the third time
+-- a word of a rule, after so many others, is a name that stands there for the only or for the third time
 abbrev pub is_wrong_use : List Symbol → ℕ → Option Symbol → Bool
 is_wrong_use ws j None = false
 is_wrong_use ws j (Some w) =

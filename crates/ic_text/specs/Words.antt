@@ -1,5 +1,5 @@
--- To be believed: the words of what is written, in the order of the text, each with how many arguments stand behind it
--- (Łukasiewicz's notation, which needs no parentheses).
+-- To be believed: the words of what is written, in the order of the text, each with the number of arguments that
+-- follow it (Łukasiewicz's notation, which needs no parentheses).
 use Rattle.std.specs.Prelude.{ℕ, List, [], ◌∷◌, ◌++◌, length, map, if◌then◌else◌}
 use Rattle.std.specs.List.{flat_map}
 use Rattle.ic_term.specs.Symbol.{Symbol}
@@ -50,7 +50,7 @@ written_system s = record {
   terms = length s.config.interface;
 }
 
--- words of lists, one list behind the other
+-- words of lists, one list after the other
 abbrev pub in_a_row : List (List Symbol) → List Symbol
 in_a_row wss = flat_map (λ ws. ws) wss
 

@@ -1,4 +1,4 @@
--- For private functions: how a text is read, step by step. No public clause needs what stands here.
+-- For private functions: how a text is read, step by step. No public clause needs what is here.
 pub mod Syntax
 pub mod Survey
 pub mod Braces

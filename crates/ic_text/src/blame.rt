@@ -44,7 +44,7 @@ fn is_named(node: &Node, name: u64) -> bool
     }
 }
 
-/// Before how many words the one stands that is this name for the third time.
+/// How many words stand before the one that is this name for the third time.
 fn third_word(nodes: &[Node], name: u64) -> usize
     requires low { name ≤ MAX_NAME }
     requires thrice { 3 ≤ uses (name_text name) (nodes_of nodes.now) }
@@ -71,7 +71,7 @@ fn is_miscounted(nodes: &[Node], word: usize) -> bool
     is_name(text) && (uses(nodes, text) == 1 || uses(&nodes[..word], text) == 2)
 }
 
-/// Before how many words of a rule the first one of those stands. Takes as many steps as the square of the words.
+/// How many words of a rule stand before the first one of those. Takes as many steps as the square of the words.
 fn first_miscounted(nodes: &[Node]) -> usize
     requires { are_paired (names_among (nodes_of nodes.now)) ≡ false }
     ensures { IsFirstMiscounted (nodes_of nodes.now) result }
@@ -84,7 +84,7 @@ fn first_miscounted(nodes: &[Node]) -> usize
     nodes.len()
 }
 
-/// How many terms of a rule are due behind a word, before which so many were: none were in front of a rule.
+/// How many terms of a rule are due after a word, if so many were due before it: none were in front of a rule.
 fn due_behind(due: usize, arity: usize) -> usize
     requires begins { due ≡ 0 → 1 + arity < 2 ^ 64 }
     requires within { 0 < due → due + arity ≤ 2 ^ 64 }
@@ -94,7 +94,7 @@ fn due_behind(due: usize, arity: usize) -> usize
     if due == 0 { 1 + arity } else { due - 1 + arity }
 }
 
-/// Before how many words of rules, which may stand in front of others, a rule begins, or the rules end.
+/// How many words of rules stand before the beginning of a rule, or are there in all. Other words may follow the rules.
 fn rule_begin(nodes: &[Node], rule: usize) -> usize
     requires { (rs : List RulePhrase) × BeginsWith (nodes_of nodes.now) rs × (rule ≤ length rs) }
     ensures within { result ≤ length nodes.now }
@@ -116,7 +116,7 @@ fn rule_begin(nodes: &[Node], rule: usize) -> usize
     words
 }
 
-/// Before how many words of rules the first one stands that is a name's only or third one in this rule.
+/// How many words of rules stand before the first one that is a name's only or third one in this rule.
 fn miscounted_word(nodes: &[Node], rule: u32) -> usize
     requires { (rs : List RulePhrase) × IsMiscountedRule (nodes_of nodes.now) rs rule }
     ensures { (rs : List RulePhrase) → IsMiscountedRule (nodes_of nodes.now) rs rule →

@@ -12,7 +12,7 @@ use crate::prefix::Node;
 use ic_rules::{MAX_RULE_NODES, MAX_RULES};
 use ic_term::{MAX_INTERFACE, MAX_NODES};
 
-/// A limit that is passed, and before how many words the one stands with which it is.
+/// A limit that is passed, and how many words stand before the one that passes it.
 #[derive(Clone, Copy)]
 pub(crate) struct Excess {
     pub word: usize,
@@ -46,7 +46,7 @@ fn earlier(one: Option<Excess>, other: Option<Excess>) -> Option<Excess>
     }
 }
 
-/// How many terms are due behind a word, before which so many were: none in front of a term that no other holds.
+/// How many terms are due after a word, if so many were due before it: none in front of a term that no other one holds.
 fn due_behind(due: usize, arity: usize) -> usize
     requires { due + arity < 2 ^ 64 }
     ensures { result ≡ due_behind due arity }
@@ -154,8 +154,8 @@ pub(crate) fn config_excess(nodes: &[Node], terms: usize) -> Option<Excess>
     earlier(too_many_terms(nodes, terms), too_many_nodes(nodes))
 }
 
-/// The limit of how much is written that is passed first, if one is, and with which word. So many words are those of the
-/// rules, so many agents are their sides, and the interface has so many terms.
+/// The limit of how much is written that is passed first, if one is, and with which word. So many words are those of
+/// the rules, so many agents are their sides, and the interface has so many terms.
 pub(crate) fn excess_of(nodes: &[Node], rules: usize, agents: usize, terms: usize) -> Option<Excess>
     requires { (s : SystemPhrase) × IsCounted s (nodes_of nodes.now) rules agents terms }
     ensures { (s : SystemPhrase) → IsCounted s (nodes_of nodes.now) rules agents terms →

@@ -25,7 +25,7 @@ fn put_head(symbols: &Symbols, word: Word, out: &mut Vec<u8>) -> Result<(), Allo
     }
 }
 
-/// Appends what stands behind a term, up to the next one: closes each agent that has all its arguments. Tells whether a
+/// Appends what follows a term, up to the next one: closes each agent that has all its arguments. Tells whether a
 /// further term comes.
 fn close(due: &mut Vec<usize>, out: &mut Vec<u8>) -> Result<bool, AllocError>
     ensures { IfOk result (λ more. Begins (closing (reverse due.old.items))
@@ -43,7 +43,7 @@ fn close(due: &mut Vec<usize>, out: &mut Vec<u8>) -> Result<bool, AllocError>
     Ok(false)
 }
 
-/// Appends what stands behind a word of so many arguments, up to the next one. Tells whether a further term comes.
+/// Appends what follows a word of so many arguments, up to the next one. Tells whether a further term comes.
 fn put_mark(arguments: usize, due: &mut Vec<usize>, out: &mut Vec<u8>) -> Result<bool, AllocError>
     ensures { IfOk result (λ more. Begins (behind_word arguments (reverse due.old.items))
         (arguments + lacking (reverse due.old.items)) out.old.items out.new.items more
@@ -57,7 +57,7 @@ fn put_mark(arguments: usize, due: &mut Vec<usize>, out: &mut Vec<u8>) -> Result
     close(due, out)
 }
 
-/// Appends a word, and what stands behind it up to the next one. Tells whether a further term comes.
+/// Appends a word, and what follows it up to the next one. Tells whether a further term comes.
 fn put_word(
     symbols: &Symbols,
     word: Word,
@@ -74,8 +74,8 @@ fn put_word(
     put_mark(word.arguments(), due, out)
 }
 
-/// Appends the term that begins at a place, and tells the place behind it. The list is empty before and after: it holds how
-/// many arguments each agent that is open lacks.
+/// Appends the term that begins at a place, and tells the place after it. The list is empty before and after: it holds
+/// how many arguments each agent that is open lacks.
 fn put_term(
     symbols: &Symbols,
     words: &[Word],
@@ -112,7 +112,7 @@ fn put_comma(place: usize, out: &mut Vec<u8>) -> Result<(), AllocError>
     Ok(())
 }
 
-/// Appends so many terms from the first one on, and tells the place behind them.
+/// Appends so many terms from the first one on, and tells the place after them.
 fn put_interface(
     symbols: &Symbols,
     words: &[Word],
@@ -138,7 +138,7 @@ fn put_interface(
     Ok(end)
 }
 
-/// Appends the equation whose left side begins at a place, and tells the place behind it.
+/// Appends the equation whose left side begins at a place, and tells the place after it.
 fn put_equation(
     symbols: &Symbols,
     words: &[Word],
@@ -185,8 +185,8 @@ fn put_equations(
     Ok(())
 }
 
-/// Appends the text of the configuration that words write, so many of their terms in its interface, the others as the sides
-/// of so many equations. Where a growth is refused a part of it may stand there.
+/// Appends the text of the configuration that words write, so many of their terms in its interface, the others as the
+/// sides of so many equations. Where a growth is refused a part of it may stand there.
 pub fn put_words(
     alloc: Global,
     symbols: &Symbols,
@@ -210,7 +210,8 @@ pub fn put_words(
     Ok(())
 }
 
-/// Appends the text of a configuration, as `print_flat` writes it. Where a growth is refused a part of it may stand there.
+/// Appends the text of a configuration, as `print_flat` writes it. Where a growth is refused a part of it may stand
+/// there.
 pub fn put_flat(
     alloc: Global,
     symbols: &Symbols,

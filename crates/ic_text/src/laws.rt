@@ -80,8 +80,8 @@ pub fn a_refusal_is_found_at_one_place()
         IsPlaced IsSystemPhrase system_words written_system text fault (Some b) e → a ≡ b }
 {}
 
-/// A text that is cut before the place of a refusal wants more, and has a fault of syntax at its end: it ends no phrase,
-/// so it has none of the other faults. One that is cut where it gets too long isn't too long.
+/// A text that is cut before the place of a refusal wants more, and has a fault of syntax at its end: it ends no
+/// phrase, so it has none of the other faults. One that is cut where it gets too long isn't too long.
 pub fn the_text_before_a_refusal_wants_more()
     ensures config { (text : List ℕ) (fault : TextFault) (at : ℕ) (detail : Detail) →
         fault ≢ Syntax → detail ≢ Passed TextBytes →
@@ -100,9 +100,9 @@ pub fn the_text_before_a_refusal_wants_more()
         length (take at text) ≤ MAX_TEXT }
 {}
 
-/// What is written passes limits first with one word, of which one limit is told; as far as any word before it, it keeps
-/// them all. Where the word passes several, that of rules, of their nodes, of the interface or of nodes is told, else that
-/// of a symbol's bytes, of its arguments, of a name's number or of symbols.
+/// What is written passes limits first with one word, and one limit of it is told; as far as any word before it, all
+/// limits are kept. Where the word passes several, the limit of rules, of their nodes, of the interface or of nodes is
+/// told, else that of a symbol's bytes, of its arguments, of a name's number or of symbols.
 pub fn words_before_a_passed_limit_are_innocent()
     ensures one { (a b : Bound) (w : Written) (j k : ℕ) →
         IsLimitWord a w j → IsLimitWord b w k → j ≡ k }
@@ -118,7 +118,7 @@ pub fn words_before_a_passed_limit_are_innocent()
 {}
 
 /// A limit that is told is one that is passed, and its word the first one too many. That of rules is the first word of
-/// the first rule too many; that of nodes in rules stands within an agent, behind so many nodes and the symbols of this
+/// the first rule too many; that of nodes in rules stands within an agent, after so many nodes and the symbols of this
 /// agent and of those before. A configuration is written as a system without rules.
 pub fn a_limit_that_is_told_is_passed()
     ensures rules { (s : SystemPhrase) (k : ℕ) → IsLimitWord Rules (written_system s) k →
@@ -161,7 +161,8 @@ pub fn words_before_the_first_are_innocent()
         IsFirstWord is_innocent ws k → ¬ IsFirstWord is_innocent (take k ws) j }
 {}
 
-/// The words of what is written are those of its tokens, in their order; the symbols and the names among them are its own.
+/// The words of what is written are those of its tokens, in their order; the symbols and the names among them are its
+/// own.
 pub fn words_are_those_of_tokens()
     ensures config { (p : Phrase) → words_among (phrase_words p) ≡ texts (phrase_prefix p) }
     ensures system { (s : SystemPhrase) → words_among (system_words s) ≡ texts (system_prefix s) }
@@ -191,8 +192,8 @@ pub fn two_arities_that_are_told_differ()
         × (uses text (take j ws) ≡ 0) }
 {}
 
-/// The word told of a name of the configuration is this name, for the third time; that told of a rule's names is a name
-/// of the rule that stands only there in it, or there for the third time.
+/// The word that is told for a name of the configuration is this name, there for the third time. The word that is told
+/// for a rule's names is a name of the rule that stands only there in it, or there for the third time.
 pub fn names_that_are_told_are_miscounted()
     ensures config { (n : ℕ) (w : Written) (k : ℕ) → IsThirdWord n w k →
         (before : ℕ) × (v : Symbol) × (slice_get (all_words w) k ≡ Some v)
@@ -204,7 +205,7 @@ pub fn names_that_are_told_are_miscounted()
         × ((uses v.text is.words ≡ 1) ⊎ (uses v.text (take is.before is.words) ≡ 2)) }
 {}
 
-/// The word told of a rule is the symbol of its agent on the left.
+/// The word that is told for a rule is the symbol of its agent on the left.
 pub fn rules_are_told_at_their_left_symbols()
     ensures { (i : ℕ) (s : SystemPhrase) (k : ℕ) → IsRuleWord i (written_system s) k →
         (r : RulePhrase) × (slice_get s.rules i ≡ Some r)
@@ -231,7 +232,7 @@ pub fn rules_before_the_first_refused_are_innocent()
         first_lopsided rs ≡ Some i → first_lopsided (take i rs) ≡ None }
 {}
 
-/// A text can go on to a phrase exactly where with more text behind a blank it spells one.
+/// A text can go on to a phrase exactly where it spells one with a blank and more text after it.
 pub fn a_text_can_go_on_where_more_makes_a_phrase()
     ensures config { (text : List ℕ) → GoesOn IsPhrase phrase_words text
         ↔ ((more : List ℕ) × (p : Phrase) × Spells (text ++ 32 ∷ more) p) }
@@ -261,7 +262,7 @@ pub fn numbers_are_lasting()
         ≡ 1 ∷ 2 ∷ 3 ∷ 4 ∷ 5 ∷ 6 ∷ 7 ∷ 8 ∷ [] }
 {}
 
-/// The line of each refusal: a word, and behind it the place of the rule, from 1, or the name.
+/// The line of each refusal: a word, and after it the place of the rule, from 1, or the name.
 pub fn refusals_are_written_so()
     ensures { (rule name : ℕ) → map fault_text (all_faults rule name)
         ≡ codes "bad syntax" ∷ codes "bad limit" ∷ codes "bad arity"
@@ -342,7 +343,7 @@ pub fn next_is_one_above_the_names()
         ReadsSystem text (Ok v) → v.config.next ≡ one_above (configuration_names v.config) }
 {}
 
-/// The tokens of a text are its bytes in order, but for the blanks.
+/// The tokens of a text are its bytes in order, except for the blanks.
 pub fn tokens_keep_bytes()
     ensures { (text : List ℕ) (ts : List Token) → tokens text ≡ Some ts →
         text_of ts ≡ filter (λ b. not (is_blank b)) text }

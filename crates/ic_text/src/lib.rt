@@ -2,12 +2,13 @@
 //!
 //! `read_config` answers what a text means, or the first refusal: its value is `sense` of the one phrase that the text
 //! spells. `read_system` does the same of rules and a configuration, and `is_system` tells whether a text is one.
-//! `read_flat_system` answers the same system in flat form. `find_config`, `find_system`,
-//! `find_flat_config` and `find_flat_system` also tell the place of a refusal.
-//! `print_config` and `put_config` write the tokens of a configuration without blanks, `print_flat` and `put_flat` the same
-//! of one in flat form, `put_words` of one that words write, which may pass the limits, and `print_fault` the line of a
-//! refusal. For texts that hold others, `is_blank`, `is_word_byte`, `is_numeral` and `number_in` say what parts words and
-//! what digits write. `laws` holds what is proved of the definitions alone.
+//! `read_flat_system` answers the same system in flat form. `find_config`, `find_system`, `find_flat_config` and
+//! `find_flat_system` also tell the place of a refusal.
+//!
+//! `print_config` and `put_config` write the tokens of a configuration without blanks, `print_flat` and `put_flat` the
+//! same of one in flat form, `put_words` of one that words write, which may pass the limits, and `print_fault` the line
+//! of a refusal. For texts that hold others, `is_blank`, `is_word_byte`, `is_numeral` and `number_in` say what parts
+//! words and what digits write. `laws` holds what is proved of the definitions alone.
 #![tactic(auto)]
 
 mod blame;

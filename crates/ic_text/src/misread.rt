@@ -44,7 +44,7 @@ pub enum Detail {
 #[derive(Clone, Copy, Debug, PartialEq, Eq)]
 pub struct Misread {
     pub fault: TextFault,
-    /// Before how many bytes of the text the fault stands, if that is told.
+    /// How many bytes of the text stand before the fault, if that is told.
     pub place: Option<usize>,
     pub detail: Detail,
 }

@@ -85,7 +85,7 @@ pub(crate) struct Numbering {
 }
 
 impl Numbering {
-    /// Numbers the word behind so many others. Goes on behind a symbol that has two arities, since limits come before
+    /// Numbers the word after so many others. Goes on after a symbol that has two arities, since limits come before
     /// arities.
     fn take(&mut self, word: usize, node: &Node) -> Result<(), Refusal>
         requires { IsWord (node_of node.now) }

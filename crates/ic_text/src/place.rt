@@ -7,14 +7,14 @@ ghost use Rattle.ic_text.specs.inner.Refused.{HasWord};
 
 use crate::token::is_word_byte;
 
-/// Whether a word begins at a byte, which stands behind a byte of a word or behind none.
+/// Whether a word begins at a byte, which comes after a byte of a word or after none.
 fn begins_word(within: bool, byte: u8) -> bool
     ensures { result ≡ (is_word_byte byte && not within) }
 {
     is_word_byte(byte) && !within
 }
 
-/// Before how many bytes of a text the word stands before which so many words stand.
+/// How many bytes of a text stand before the word that so many words stand before.
 pub(crate) fn word_place(text: &[u8], word: usize) -> usize
     requires { HasWord text.now word }
     ensures { IsWordPlace text.now word result }

@@ -16,7 +16,7 @@ use crate::token::{Mark, is_word_byte, mark_of};
 use ic_term::MAX_NODES;
 use std::alloc::{AllocError, Global};
 
-/// A word, and how many arguments stand behind it.
+/// A word, and how many arguments follow it.
 #[derive(Clone, Copy)]
 pub(crate) struct Node<'a> {
     pub text: &'a [u8],
@@ -40,9 +40,9 @@ impl Prefix<'_> {
     }
 }
 
-/// What is known of tokens that are scanned from their end: their words but for the last ones, and how many more of those
-/// are left out. Then the arguments so far of each list that is open, those of the list that just opened, and the terms
-/// outside all parentheses before a `|`.
+/// What is known of tokens that are scanned from their end: their words except for the last ones, and how many more of
+/// those are left out. Then the arguments so far of each list that is open, those of the list that just opened, and the
+/// terms outside all parentheses before a `|`.
 #[derive(Drop)]
 pub(crate) struct Scan<'a> {
     nodes: Vec<Node<'a>>,
@@ -124,7 +124,7 @@ impl<'a> Scan<'a> {
     }
 }
 
-/// The scan behind a mark, with what was found there.
+/// The scan after a mark, with what was found there.
 fn scan_behind<'a>(nodes: Vec<Node<'a>>, skip: usize, tail: Tail) -> Scan<'a>
     requires none { nodes.items ≡ [] }
     requires few { tail.counts.words ≤ skip }
@@ -143,7 +143,7 @@ fn scan_behind<'a>(nodes: Vec<Node<'a>>, skip: usize, tail: Tail) -> Scan<'a>
     }
 }
 
-/// A scan of a text that is begun: at a mark behind the words that are kept, where what stands behind it was gone over, or
+/// A scan of a text that is begun: at a mark after the words that are kept, where what follows it was gone over, or
 /// else at the end. Room is made for so many words at first.
 fn begun(alloc: Global, text: &[u8], words: usize, skip: usize) -> Result<(Scan, usize), AllocError>
     requires { (ts : List Token) × (tokens text.now ≡ Some ts) }
@@ -170,8 +170,8 @@ fn begun(alloc: Global, text: &[u8], words: usize, skip: usize) -> Result<(Scan,
     }
 }
 
-/// What is known of the tokens of a text, without its last words, so many as `skip`. Takes one pass over its bytes, from
-/// their end. Room is made for so many words at first.
+/// What is known of the tokens of a text, without its last words, so many as `skip`. Takes one pass over its bytes,
+/// from their end. Room is made for so many words at first.
 fn scan_of(alloc: Global, text: &[u8], words: usize, skip: usize) -> Result<Scan, AllocError>
     requires { (ts : List Token) × (tokens text.now ≡ Some ts) }
     ensures { IfOk result (λ found. (ts : List Token) → tokens text.now ≡ Some ts →
@@ -216,7 +216,7 @@ pub(crate) fn front_of(
     Ok(Prefix { nodes, terms })
 }
 
-/// How many of the words of a configuration are kept, which has so many: with the first one too many it is refused.
+/// How many words are kept of a configuration that has so many: with the first one too many it is refused.
 pub(crate) fn enough_of(words: usize) -> usize
     ensures { IsEnough result words }
 {
@@ -227,8 +227,8 @@ pub(crate) fn enough_of(words: usize) -> usize
     }
 }
 
-/// The words of a configuration that a text spells, and its number of terms, or those of rules behind a `{`, and how many
-/// agents are their sides. Room is made for so many words at first.
+/// The words of a configuration that a text spells, and its number of terms, or those of rules after a `{`, and how
+/// many agents are their sides. Room is made for so many words at first.
 pub(crate) fn prefix_of(alloc: Global, text: &[u8], words: usize) -> Result<Prefix, AllocError>
     requires { (ts : List Token) × (tokens text.now ≡ Some ts) }
     ensures nodes { IfOk result (λ found. (p : Phrase) →

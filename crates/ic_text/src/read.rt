@@ -25,8 +25,8 @@ use ic_flat::Flat;
 use ic_term::{Config, Symbols};
 use std::alloc::Global;
 
-/// The sense of a text that spells a configuration of so many words. Every limit is tested before they are numbered. Of too
-/// many words only the first ones are kept: no later one can be refused.
+/// The sense of a text that spells a configuration of so many words. Every limit is tested before they are numbered. Of
+/// too many words only the first ones are kept: no later one can be refused.
 fn sense_of(alloc: Global, text: &[u8], counts: Counts) -> Result<(Symbols, Flat), Refusal>
     requires { Tells IsPhrase phrase_words text.now (Some counts) }
     ensures sense { (p : Phrase) → Spells text.now p → Gives (λ v. v) (bare result) (sense p) }
@@ -91,8 +91,8 @@ pub fn find_flat_config(alloc: Global, text: &[u8]) -> Result<(Symbols, Flat), M
     }
 }
 
-/// The configuration that `find_flat_config` answers, as terms and equations, or its refusal. Limits are settled before a
-/// term is made.
+/// The configuration that `find_flat_config` answers, as terms and equations, or its refusal. Limits are settled before
+/// a term is made.
 pub fn find_config(alloc: Global, text: &[u8]) -> Result<(Symbols, Config), Misread>
     ensures read { IfOk result (λ v. Reads text.now (Ok v)) }
     ensures over { IfOk result (λ v. IsTrue (is_over v.0 v.1)) }

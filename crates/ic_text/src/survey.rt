@@ -21,8 +21,8 @@ pub(crate) struct Counts {
     pub words: usize,
 }
 
-/// A check of syntax that is on its way over a text, and what it has counted so far. It is changed in place, since a byte
-/// takes less than a copy.
+/// A check of syntax that is on its way over a text, and what it has counted so far. It is changed in place, since a
+/// byte takes less than a copy.
 #[derive(Clone, Copy)]
 pub(crate) struct Progress {
     state: State,

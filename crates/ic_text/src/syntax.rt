@@ -17,7 +17,7 @@ pub(crate) enum Part {
     Start,
     /// The left side of a rule.
     RuleLeft,
-    /// The `<` of a rule, behind its `>`.
+    /// The `<` of a rule, after its `>`.
     Turn,
     /// The right side of a rule.
     RuleRight,
@@ -150,7 +150,7 @@ impl State {
         true
     }
 
-    /// Takes a mark, if a term has such a mark here: `(` behind its symbol, `,` or `)` within parentheses.
+    /// Takes a mark, if a term has such a mark here: `(` after its symbol, `,` or `)` within parentheses.
     #[inline(always)]
     fn take_inside(&mut self, mark: Mark) -> bool
         requires { self.old.depth + 1 < 2 ^ 64 }
@@ -209,7 +209,7 @@ impl State {
     }
 }
 
-/// The bytes before the first `}`, and those behind it.
+/// The bytes before the first `}`, and those after it.
 pub(crate) fn split_at_brace(text: &[u8]) -> (&[u8], &[u8])
     ensures { (result.0.now, result.1.now) ≡ split_at_brace text.now }
 {

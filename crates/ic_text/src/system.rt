@@ -63,8 +63,8 @@ fn system_at(alloc: Global, text: &[u8], counts: Counts) -> Result<FlatSystem, M
 }
 
 /// The system that a text means in flat form, or the first refusal and its place. Symbols are numbered by first
-/// occurrence, rules first, and so are the names of each rule; `next` is one above the greatest name of the configuration.
-/// Takes n log n steps. Nothing recurses on the nesting of the configuration.
+/// occurrence, rules first, and so are the names of each rule; `next` is one above the greatest name of the
+/// configuration. Takes n log n steps. Nothing recurses on the nesting of the configuration.
 pub fn find_flat_system(alloc: Global, text: &[u8]) -> Result<FlatSystem, Misread>
     ensures read { IfOk result (λ system. ReadsSystem text.now (Ok system)) }
     ensures spelled { IfOk result (λ _. (s : SystemPhrase) × SpellsSystem text.now s) }

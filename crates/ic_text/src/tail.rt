@@ -1,5 +1,5 @@
-//! The end of a text, whose words are left out. It is gone over from its beginning, so that no list is kept of what opens
-//! there.
+//! The end of a text, whose words are left out. It is gone over from its beginning, so that no list is kept of what
+//! opens there.
 
 ghost use Rattle.std.specs.Prelude.{◌≡◌, ◌==◌, ℕ, List, ◌+◌, ◌<◌, ◌≤◌, ◌^◌, IfOk, IfSome, OnOk, IsSome, IsTrue, drop, false, length, get_or};
 ghost use Rattle.ic_text.specs.Token.{is_word_byte, mark_of};
@@ -8,9 +8,9 @@ ghost use Rattle.ic_text.specs.inner.Tail.{IsTailOf, nothing_passed, pass_byte, 
 use crate::token::{is_word_byte, mark_of};
 use std::alloc::{AllocError, Global};
 
-/// What is counted of tokens that were gone over: how many lists opened here and are open; the commas in the list around
-/// them; the words; and the terms outside all parentheses before a `|`, and whether there was one. The lists stand
-/// elsewhere, so that the counts stay in registers.
+/// What is counted of tokens that were gone over: how many lists opened here and are open; the commas in the list
+/// around them; the words; and the terms outside all parentheses before a `|`, and whether there was one. The lists
+/// stand elsewhere, so that the counts stay in registers.
 #[derive(Clone, Copy)]
 struct Passing {
     deep: usize,
@@ -20,8 +20,9 @@ struct Passing {
     barred: bool,
 }
 
-/// What is known of tokens that were gone over: whether each list that opened here is closed; the arguments of each list
-/// that was open before and is closed, the first one first; the words; and the terms outside all parentheses before a `|`.
+/// What is known of tokens that were gone over. It has whether each list that opened here is closed; the arguments of
+/// each list that was open before and is closed, the first one first; the words; and the terms outside all parentheses
+/// before a `|`.
 #[derive(Drop)]
 pub(crate) struct Tail {
     counts: Passing,
@@ -98,7 +99,8 @@ impl Passing {
         }
     }
 
-    /// Takes a byte behind one of a word, or behind none, the commonest bytes tested first. Whether it is one of a word.
+    /// Takes a byte after one of a word, or after none; the commonest bytes are tested first. Tells whether it is one
+    /// of a word.
     #[inline(always)]
     fn take_byte(
         &mut self,
@@ -158,7 +160,7 @@ fn tail_of(alloc: Global, text: &[u8]) -> Result<Tail, AllocError>
     Ok(Tail { counts, closed })
 }
 
-/// The first mark behind so many words, if there is one.
+/// The first mark after so many words, if there is one.
 fn mark_behind(text: &[u8], words: usize) -> Option<usize>
     ensures inside { IfSome result (λ place. place < length text.now) }
     ensures apart { IfSome result (λ place. is_word_byte (get_or text.now place 0) ≡ false) }
@@ -182,8 +184,8 @@ fn mark_behind(text: &[u8], words: usize) -> Option<usize>
     None
 }
 
-/// A mark behind so many words, and what stands behind it, if each list that opens there is closed and no more words
-/// stand there than are left out.
+/// A mark after so many words, and what follows it, if each list that opens there is closed and no more words stand
+/// there than are left out.
 pub(crate) fn tail_behind(
     alloc: Global,
     text: &[u8],

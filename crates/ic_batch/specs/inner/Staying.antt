@@ -10,15 +10,15 @@ use Rattle.ic_batch.specs.declared.jobs.NewJob.{NewJob}
 use Rattle.ic_batch.specs.Jobs.{begun_by}
 use Rattle.ic_batch.specs.Way.{missing, IsKeptOr}
 
--- The table is such. So is the one that is kept now, and each that a crash leaves, but for the one that
--- was kept before.
+-- The table is such a one. So is the one that is kept now, and each that a crash leaves, except for the
+-- one that was kept before.
 pub record Leads {D : Type 0} {ghosts : Ghosts D} (such : List JobParts → Type 0)
     (old new : Book D ghosts) : Type 0 where
   pub table : such (table_of new)
   pub kept : IsKeptOr (last_kept old) such (last_kept new)
   pub crash : Leaves old new (IsKeptOr (last_kept old) such)
 
--- the first of the jobs that were missing in a table are behind it
+-- the first of the jobs that were missing in a table follow it
 pub record AreBegun (jobs : List NewJob) (old t : List JobParts) : Type 0 where
   pub front : List NewJob
   pub rest : List NewJob

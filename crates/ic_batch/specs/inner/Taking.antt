@@ -7,7 +7,7 @@ use Rattle.ic_jobs.specs.declared.limits.TheConstants.{MAX_JOBS}
 use Rattle.ic_batch.specs.declared.jobs.NewJob.{NewJob}
 use Rattle.ic_batch.specs.Jobs.{submit_of}
 
--- a command submits a job, which has a name of its own behind these, and room
+-- a command submits a job with a name that none of these has, and there is room for it
 pub record IsNext (jobs : List NewJob) (command : Command) (new : NewJob) : Type 0 where
   pub submits : command ≡ submit_of new
   pub other : list_any (λ job. bytes_eq job.name new.name) jobs ≡ false

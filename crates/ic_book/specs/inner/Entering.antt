@@ -12,7 +12,7 @@ IsStale (Ok Moved) = ⊥
 IsStale (Ok Stale) = Unit {0}
 IsStale (Err fault) = Unit {0}
 
--- A round that was expected stands as this entry at the end of the log. Any other is stale.
+-- A round that was expected is at the end of the log, as this entry. Any other is stale.
 pub record EntersRound {E : Type 0} (entry : Entry) (expected : Type 0) (result : Result Landed E)
     (old_log new_log : List Entry) (old new : List JobParts) : Type 0 where
   pub moved : IfOk result (λ landed. landed ≡ Moved → Adds entry old_log new_log old new)

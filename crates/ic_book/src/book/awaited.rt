@@ -28,10 +28,10 @@ impl<D: Disk> Book<D> {
         ensures step { Step (round_move played.name reply.Moved result)
             (up self.old) (up self.new) }
 
-        // Refusals: broken and full, in this order. `Memory` comes behind them.
+        // Refusals: broken and full, in this order. `Memory` comes after them.
         ensures fault { RefusesRound result self.old self.new }
 
-        // It lands, and one round more stands in the log.
+        // It lands, and one more round is in the log.
         ensures moves { IfOk result (λ landed. landed ≡ Moved) }
         ensures round { TakesRound (round_entry played.name reply.Moved)
             (Awaits (table_of self.old) played.name played.rules played.before played.rounds)
@@ -54,10 +54,10 @@ impl<D: Disk> Book<D> {
         ensures step { Step (round_move flight.now.name reply.Halted result)
             (up self.old) (up self.new) }
 
-        // Refusals: broken and full, in this order. `Memory` comes behind them.
+        // Refusals: broken and full, in this order. `Memory` comes after them.
         ensures fault { RefusesRound result self.old self.new }
 
-        // It halts, and one round more stands in the log.
+        // It halts, and one more round is in the log.
         ensures moves { IfOk result (λ landed. landed ≡ Moved) }
         ensures round { TakesRound (round_entry flight.now.name reply.Halted)
             (Awaits (table_of self.old)

@@ -19,15 +19,15 @@ use std::alloc::Global;
 
 impl<D: Disk> Book<D> {
     /// Does what a client's command asks and keeps what it leaves, with all that came before it. At
-    /// Ok the answer and all before it are kept. After `Device` the command stands at the log's
-    /// end, unanswered, and the book is broken. A fetch, a list or a refusal makes no call to the
-    /// disk where all was kept.
+    /// Ok the answer and all before it are kept. After `Device` the command is at the log's end,
+    /// unanswered, and the book is broken. A fetch, a list or a refusal makes no call to the disk
+    /// where all was kept.
     pub fn command(&mut self, alloc: Global, who: u64, command: Command) -> Result<Reply, BookFault>
-        // At Ok the command is answered by its event, and all is kept. At `Device` the event stands
-        // at the end of the log, and nothing more is kept.
+        // At Ok the command is answered by its event, and all is kept. At `Device` the event is at
+        // the end of the log, and nothing more is kept.
         ensures step { StepsByCommand who command result self.old self.new }
 
-        // Refusals: broken, full and worn, in this order. `Memory` comes behind them, and then
+        // Refusals: broken, full and worn, in this order. `Memory` comes after them, and then
         // `Device`.
         ensures fault { BreaksOrStays result self.old self.new }
         ensures full { TellsFull result self.old }

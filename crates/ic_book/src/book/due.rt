@@ -11,7 +11,7 @@ use ic_disk::Disk;
 use ic_pool::Flight;
 
 impl<D: Disk> Book<D> {
-    /// The round that is due: the first running job at this place or behind it, or else the first
+    /// The round that is due: the first running job at this place or after it, or else the first
     /// running job, as it is now. Nothing is copied. None where no job runs.
     pub fn due(&self, after: usize) -> Result<Option<Flight>, BookFault>
         ensures broken { TellsBroken result self.now }

@@ -26,10 +26,10 @@ impl<D: Disk> Book<D> {
         ensures step { Step (round_move flight.now.name reply.Halted result)
             (up self.old) (up self.new) }
 
-        // Refusals: broken and full, in this order. `Memory` comes behind them.
+        // Refusals: broken and full, in this order. `Memory` comes after them.
         ensures fault { RefusesRound result self.old self.new }
 
-        // The job that is as it was halts, and one round more stands in the log. All else is stale.
+        // The job that is as it was halts, and one more round is in the log. All else is stale.
         ensures round { TakesRound (round_entry flight.now.name reply.Halted)
             (Awaits (table_of self.old)
             flight.now.name flight.now.rules flight.now.config flight.now.rounds)

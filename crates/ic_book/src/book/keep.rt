@@ -13,11 +13,11 @@ use ic_disk::Disk;
 
 impl<D: Disk> Book<D> {
     /// Keeps what has come since the last keep. Where all is kept it makes no call to the disk. It
-    /// isn't answered want of memory.
+    /// never answers that memory ran out.
     pub fn keep(&mut self) -> Result<(), BookFault>
         ensures step { Step (keep_move result) (up self.old) (up self.new) }
 
-        // Refusals: broken and worn, in this order. `Device` comes behind them.
+        // Refusals: broken and worn, in this order. `Device` comes after them.
         ensures fault { BreaksOrStays result self.old self.new }
         ensures worn { TellsWorn result self.old }
         ensures others { IfErr result (λ fault. fault ≢ BookFault.Broken → fault ≢ BookFault.Worn

@@ -22,10 +22,10 @@ impl<D: Disk> Book<D> {
         ensures step { Step (round_move played.name reply.Moved result)
             (up self.old) (up self.new) }
 
-        // Refusals: broken and full, in this order. `Memory` comes behind them.
+        // Refusals: broken and full, in this order. `Memory` comes after them.
         ensures fault { RefusesRound result self.old self.new }
 
-        // What the job awaits lands, and one round more stands in the log. All else is stale.
+        // What the job awaits lands, and one more round is in the log. All else is stale.
         ensures round { TakesRound (round_entry played.name reply.Moved)
             (Awaits (table_of self.old) played.name played.rules played.before played.rounds)
             result self.old self.new }

@@ -17,7 +17,7 @@ impl<D: Disk> Book<D> {
     pub fn new_page(&mut self, alloc: Global) -> Result<(), BookFault>
         ensures step { Step (keep_move result) (up self.old) (up self.new) }
 
-        // Refusals: broken and worn, in this order. `Memory` comes behind them, and then `Device`.
+        // Refusals: broken and worn, in this order. `Memory` comes after them, and then `Device`.
         ensures fault { BreaksOrStays result self.old self.new }
         ensures worn { TellsWorn result self.old }
         ensures not_full { ¬ IsErrOf result BookFault.LogFull }

@@ -10,7 +10,7 @@ use Rattle.ic_check.specs.declared.due.Due.{Due}
 use Rattle.ic_check.specs.declared.due.Due.TheVariants.{Command, SubmitName, Budget, System, OldName, NewName, VerbName, Number, Nothing}
 use Rattle.ic_check.specs.declared.due.LineLimit.{LineLimit}
 
--- what is due behind the first word of a line
+-- what is due after the first word of a line
 abbrev pub opened : List ℕ → Option Due
 opened w =
     if bytes_eq w (codes "submit") then Some SubmitName
@@ -23,7 +23,7 @@ opened w =
 abbrev pub if_stands : Bool → Due → Option Due
 if_stands stands next = if stands then Some next else None
 
--- what is due behind a word where this was due
+-- what is due after a word where this was due
 abbrev pub behind : Due → List ℕ → Option Due
 behind Command w = opened w
 behind SubmitName w = if_stands (is_job_word w) Budget
@@ -72,7 +72,7 @@ IsPassed line None None = Unit {0}
 IsPassed line (Some (k, limit)) (Some (at, other)) = IsWordPlace line k at × (other ≡ limit)
 IsPassed line found passed = ⊥
 
--- a text behind the blanks with which it begins, and behind the word
+-- a text after the blanks with which it begins, and after the word
 abbrev pub behind_blanks : List ℕ → List ℕ
 behind_blanks [] = []
 behind_blanks (b ∷ bs) = if is_blank b then behind_blanks bs else b ∷ bs
@@ -86,7 +86,7 @@ abbrev pub IsFilled : List ℕ → Type 0
 IsFilled [] = Unit {0}
 IsFilled (b ∷ bs) = is_blank b ≡ false
 
--- A line as far as some of its own words: what is due behind them, what is left, and the place of the
+-- A line as far as some of its own words: what is due after them, what is left, and the place of the
 -- first that passes a limit.
 pub record IsFront (line : List ℕ) (due : Due) (rest : List ℕ) (passed : Option (ℕ × LineLimit))
     : Type 0 where

@@ -26,7 +26,7 @@ pub record IsInnerOf (due : Due) (text : List ℕ) (inner : Option (ℕ × Detai
   pub system : is_system_due due ≡ true → IsInner text inner
   pub none : is_system_due due ≡ false → inner ≡ None
 
--- where a line is refused, behind whose own words its system may be refused
+-- where a line is refused; its system, after its own words, may be refused too
 abbrev pub place_of : TextFault → ℕ → Due → Option (ℕ × LineLimit) → Option (ℕ × Detail) → LinePlace
 place_of Limit at due (Some (own, limit)) inner = record { at = own; detail = Passed limit }
 place_of Syntax at due passed (Some (zero, detail)) = record { at = at; detail = Sought due }

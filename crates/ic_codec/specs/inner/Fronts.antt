@@ -22,7 +22,7 @@ abbrev pub BeginsWithNoTree : List Symbol → ℕ → List ℕ → Type 0
 BeginsWithNoTree ss budget bytes =
     (t : Tree) (rest : List ℕ) → HasBytes ss t → nodes t ≤ budget → bytes ≢ tree_bytes t ++ rest
 
--- The same of so many terms, one behind the other.
+-- The same of so many terms, one after the other.
 pub record BeginsWithTrees (ss : List Symbol) (count budget : ℕ) (bytes : List ℕ) (ts : List Tree)
     (left : ℕ) (rest : List ℕ) : Type 0 where
   pub parts : bytes ≡ flat_map tree_bytes ts ++ rest
@@ -57,7 +57,7 @@ module _ {X : Type 0} where
   BeginsWithNoOne V spell size budget bytes =
       (x : X) (rest : List ℕ) → V x → size x ≤ budget → bytes ≢ spell x ++ rest
 
-  -- The same of so many values, one behind the other.
+  -- The same of so many values, one after the other.
   pub record BeginsWithMany (V : X → Type 0) (spell : X → List ℕ) (size : X → ℕ) (count budget : ℕ)
       (bytes : List ℕ) (xs : List X) (left : ℕ) (rest : List ℕ) : Type 0 where
     pub parts : bytes ≡ flat_map spell xs ++ rest

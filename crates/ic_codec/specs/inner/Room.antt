@@ -18,7 +18,7 @@ module _ {Z : Type 0} where
     pub len : vec_len new ≡ vec_len old + length bytes
     pub capacity : vec_capacity new ≡ vec_capacity old
 
-  -- Of bytes that are to be appended, these are left.
+  -- These are left of the bytes that are to be appended.
   pub record GoesOn (start : Vec ℕ Z) (bytes : List ℕ) (now : Vec ℕ Z)
       (left : List ℕ) : Type 0 where
     pub items : now.items ++ left ≡ start.items ++ bytes

@@ -18,7 +18,7 @@ pub record HasWordBytes (ss : List Symbol) (w : Word) : Type 0 where
   pub over : IsTrue (is_word_over ss w)
   pub names : AllByRecursion (λ n. n < 2 ^ 64) (word_names w)
 
--- The bytes begin with those of whole words that write so many terms; this rest is behind.
+-- The bytes begin with those of whole words that write so many terms; this rest follows.
 pub record BeginsWithWords (ss : List Symbol) (count : ℕ) (bytes : List ℕ) (ws : List Word)
     (rest : List ℕ) : Type 0 where
   pub parts : bytes ≡ flat_map word_bytes ws ++ rest

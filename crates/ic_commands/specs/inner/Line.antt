@@ -70,6 +70,6 @@ IsSubmitLine o =
     × IsLine (submit name most s) × (o ≡ Some (line_words (submit name most s)))
     × IsTrue (is_job_name name && fits_budget most)
 
--- what the text behind the first word makes of a line
+-- what the text after the first word makes of a line
 abbrev pub ReadsBehind : Opening → List ℕ → Result Line TextFault → Type 0
 ReadsBehind o rest answer = IsLineOf (before (word_of (opening_text o)) (tokens rest)) answer

@@ -12,7 +12,7 @@ module _ {D : Type 0} (clock : D → ℕ) (left : D → ℕ → List ℕ → Typ
   pub started : (old : D) (P : List ℕ → Type 0) → ((file : List ℕ) → LeftSince (left old) (clock old) file → P file) → LeavesOnly clock left old old P
   started old P here = record { later = omega arith; each = here; before = λ t c past left. left }
 
-  -- one call more, in whose midst a crash leaves what has P
+  -- one more call, in whose midst a crash leaves what has P
   pub goes_on : (old mid new : D) (P midst : List ℕ → Type 0) → LeavesOnly clock left old mid P → Elapses (clock mid) (clock new) (left mid) (left new) midst
       → ((file : List ℕ) → midst file → P file) → LeavesOnly clock left old new P
   goes_on old mid new P midst so_far time here = record {

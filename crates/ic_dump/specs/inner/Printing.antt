@@ -26,7 +26,7 @@ first_or_none (t ∷ ts) = t
 abbrev pub semicolon : Token
 semicolon = first_or_none (unwrap_or (tokens_at 59 (mark_of 59)) [])
 
--- lists of tokens, each behind a `;`, and with one between them
+-- lists of tokens, each after a `;`, and with one between them
 abbrev pub behind_semicolons : List (List Token) → List Token
 behind_semicolons tss = flat_map (λ us. semicolon ∷ us) tss
 

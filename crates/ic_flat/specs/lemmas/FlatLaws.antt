@@ -1,4 +1,4 @@
--- Lemmas, which no clause is read by: configurations against the words that write them.
+-- Lemmas, which a reader of the contracts doesn't need: configurations against the words that write them.
 use Rattle.std.specs.Prelude.{◌≡◌, ℕ, ◌+◌, ◌*◌, ◌==◌, List, [], ◌∷◌, ◌++◌, Bool, true, false, ◌&&◌, length, take, drop, sum_by, refl}
 use Rattle.std.specs.List.{flat_map, list_all}
 use Rattle.std.specs.Cmp.{unsigned_Decides}

@@ -1,4 +1,5 @@
--- Lemmas, which no clause is read by: words in prefix order against the terms that they write.
+-- Lemmas, which a reader of the contracts doesn't need: words in prefix order against the terms that they
+-- write.
 use Rattle.std.specs.Prelude.{◌≡◌, ℕ, ◌+◌, ◌≤◌, List, [], ◌∷◌, ◌++◌, length, take, drop, sum_by, refl}
 use Rattle.std.specs.List.{flat_map}
 use Rattle.std.proofs.Common.{sym, ◌∙◌, ap, subst, arith, append_assoc, append-nil, zero, suc}
@@ -29,7 +30,7 @@ with_word-agent s ts us =
     ∙ ap (λ l. agent s l ∷ us) (trees_of-list_of ts)
 
 mutual
-  -- the words of a term write it in front of what the words behind them write
+  -- the words of a term write it in front of what the words after them write
   pub forest-tree_words : (t : Tree) (ws : List Word) → forest (tree_words t ++ ws) ≡ t ∷ forest ws
   forest-tree_words (name n) ws = refl
   forest-tree_words (agent s ts) ws =
@@ -82,14 +83,14 @@ words-forest (Agent s arity ∷ ws) whole =
     ∙ ap (λ l. Agent s arity ∷ (l ++ flat_map tree_words us)) (trees_words-trees_of ts)
     ∙ ap (λ l. Agent s arity ∷ l) (sym (flat_map-append tree_words ts us) ∙ ap (flat_map tree_words) (take-append-drop arity (forest ws)) ∙ words-forest ws whole.1)
 
--- words behind whole words write their terms behind those
+-- words after whole words write their terms after those
 pub forest-append : (vs ws : List Word) → IsWhole vs → forest (vs ++ ws) ≡ forest vs ++ forest ws
 forest-append vs ws whole = ap (λ l. forest (l ++ ws)) (sym (words-forest vs whole)) ∙ forest-flat_map (forest vs) ws
 
 pub whole-append : (vs ws : List Word) → IsWhole vs → IsWhole ws → IsWhole (vs ++ ws)
 whole-append vs ws whole behind = subst (λ l. IsWhole (l ++ ws)) (words-forest vs whole) (whole-flat_map (forest vs) ws behind)
 
--- what stands behind any place of whole words is whole
+-- what follows any place of whole words is whole
 pub whole-drop : (n : ℕ) (ws : List Word) → IsWhole ws → IsWhole (drop n ws)
 whole-drop zero ws whole = whole
 whole-drop (suc n) [] whole = whole

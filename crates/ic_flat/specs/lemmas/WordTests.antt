@@ -1,4 +1,5 @@
--- Lemmas, which no clause is read by: names of words, words over symbols, and that the test of equality is equality.
+-- Lemmas, which a reader of the contracts doesn't need: names of words, words over symbols, and that the test of
+-- equality is equality.
 use Rattle.std.specs.Prelude.{◌≡◌, ℕ, ◌==◌, List, [], ◌∷◌, ◌++◌, Bool, true, false, ◌&&◌, length, take, drop, slice_get, refl}
 use Rattle.std.specs.List.{flat_map, list_all}
 use Rattle.std.specs.Bool.{Decides}

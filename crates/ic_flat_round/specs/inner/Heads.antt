@@ -8,7 +8,7 @@ use Rattle.ic_settle.specs.lemmas.Containers.{outlet_at, outlet, applicable_of}
 use Rattle.ic_flat.specs.declared.word.Word.{Word}
 use Rattle.ic_flat.specs.declared.word.Word.TheVariants.{Name, Agent}
 
--- the term of a word alone: whether a side is applicable is told by no more of it
+-- the term of a single word: whether a side is applicable depends on no more of it
 abbrev pub head : Word → Tree
 head (Name n) = name n
 head (Agent s arity) = agent s no_trees
@@ -16,7 +16,7 @@ head (Agent s arity) = agent s no_trees
 abbrev pub heads : Word → Word → Pair
 heads left right = record { left = head left; right = head right }
 
--- a side that is a name which stands in another container, and that container
+-- a side that is a name which occurs in another container, and that container
 abbrev pub told_at : (ℕ → Option ℕ) → Side → Tree → Option (Applicable × ℕ)
 told_at other side t = option_map (λ o. (applicable_of o, o.target)) (outlet_at other side t)
 

@@ -20,6 +20,6 @@ module _ {Z : Type 0} where
     pub few : vec_len out ≤ MAX_NODES
     pub room : MAX_NODES ≤ vec_capacity out
 
-  -- a list with these equations put behind its words, and names below this number, is within the limits
+  -- a list with these equations put after its words, and names below this number, is within the limits
   abbrev pub fits_behind : Vec Word Z → List Pair → ℕ → Bool
   fits_behind out ps next = is_within (vec_len out + length (pairs_words ps)) next

@@ -12,7 +12,7 @@ module _ {X Z : Type 0} where
     pub len : vec_len new ≡ vec_len old + length xs
     pub capacity : vec_capacity new ≡ vec_capacity old
 
-  -- of what is to be appended, this is left
+  -- this is left of what is to be appended
   pub record GoesOn (start : Vec X Z) (all : List X) (now : Vec X Z) (left : List X) : Type 0 where
     pub items : now.items ++ left ≡ start.items ++ all
     pub len : vec_len now + length left ≡ vec_len start + length all

@@ -28,19 +28,19 @@ pairs_at ws place = pairs_of (forest (drop place ws))
 abbrev pub AreInTwos : List Word → ℕ → Type 0
 AreInTwos ws place = (count : ℕ) × (length (forest (drop place ws)) ≡ 2 * count)
 
--- a term stands from one place up to another
+-- a term is written from one place up to another
 pub record IsTermAt (ws : List Word) (place end : ℕ) : Type 0 where
   pub before : place < end
   pub within : end ≤ length ws
   pub terms : forest (drop place ws) ≡ tree_at ws place ∷ forest (drop end ws)
 
--- the place behind the interface of a configuration, where its equations begin
+-- the place after the interface of a configuration, where its equations begin
 pub record IsEquationsPlace (c : Configuration) (place : ℕ) : Type 0 where
   pub within : place ≤ length (configuration_words c)
   pub equations : forest (drop place (configuration_words c)) ≡ sides c.equations
   pub nodes : place ≡ sum_by nodes c.interface
 
--- two sides stand one behind the other
+-- two sides, one after the other
 pub record AreSides (ws : List Word) (s : Sides) : Type 0 where
   pub left : IsTermAt ws s.left s.right
   pub right : IsTermAt ws s.right s.end

@@ -22,8 +22,8 @@ use ic_rules::JobName;
 use std::alloc::AllocError;
 
 impl Table {
-    /// Does what a command asks, and answers it. Pause, resume and cancel aren't answered want of
-    /// memory.
+    /// Does what a command asks, and answers it. Pause, resume and cancel never answer that memory
+    /// ran out.
     pub fn apply(&mut self, command: Command) -> Result<Reply, AllocError>
         ensures event { IfOk result (λ reply.
             apply self.old (by_command command) ≡ Some (outcome self.new reply)) }

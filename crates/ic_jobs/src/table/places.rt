@@ -38,7 +38,7 @@ pub(super) fn are_distinct(jobs: &[Job]) -> bool
     true
 }
 
-/// The place of the first running job at this place or behind it.
+/// The place of the first running job at this place or after it.
 fn running_from(jobs: &[Job], after: usize) -> Option<usize>
     ensures place { result ≡ running_from after jobs.now }
     ensures within { IfSome result (λ place. place < length jobs.now) }
@@ -51,7 +51,7 @@ fn running_from(jobs: &[Job], after: usize) -> Option<usize>
     None
 }
 
-/// The place of the first running job at this place or behind it, or else of the first running job.
+/// The place of the first running job at this place or after it, or else of the first running job.
 pub(super) fn due_place(jobs: &[Job], after: usize) -> Option<usize>
     ensures place { result ≡ due_place jobs.now after }
     ensures within { IfSome result (λ place. place < length jobs.now) }

@@ -18,7 +18,7 @@ use ic_rules::{JobName, RuleSet};
 use std::alloc::AllocError;
 
 impl Table {
-    /// The first running job at this place or behind it, or else the first running job, to be
+    /// The first running job at this place or after it, or else the first running job, to be
     /// played. None where no job runs. Rules and configuration are shared, nothing is copied.
     pub fn due(&self, after: usize) -> Result<Option<Flight>, AllocError>
         ensures { IfOk result (λ flight. flight ≡ due self.now after) }
@@ -39,7 +39,7 @@ impl Table {
     }
 
     /// Puts a round that was made, if its job is still as it was before the round; else the round
-    /// is stale. It isn't answered want of memory.
+    /// is stale. It never answers that memory ran out.
     pub fn land(&mut self, played: Played) -> Landed
         ensures event { result ≡ Moved
             → apply self.old (Round played.name) ≡ Some (outcome self.new reply.Moved) }
@@ -78,7 +78,7 @@ impl Table {
     }
 
     /// Halts a job whose round can't be made, if it is still as it was; else the flight is stale.
-    /// The job keeps its configuration. It isn't answered want of memory.
+    /// The job keeps its configuration. It never answers that memory ran out.
     pub fn halt(&mut self, flight: &Flight) -> Landed
         requires { IsTrue (is_blocked flight.now) }
         ensures event { result ≡ Moved

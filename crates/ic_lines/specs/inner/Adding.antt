@@ -1,4 +1,4 @@
--- For private functions: a line of a script behind others.
+-- For private functions: a line of a script after others.
 use Rattle.std.specs.Prelude.{◌≡◌, ℕ, List, ◌++◌, None, Some, length}
 use Rattle.std.specs.Option.{option_to_list}
 use Rattle.ic_jobs.specs.declared.command.Command.{Command}
@@ -13,7 +13,7 @@ pub record AddsLine (line : List ℕ) (old new : List Command) : Type 0 where
   pub unrefused : fault_behind (length old) reading ≡ None
   pub added : new ≡ old ++ option_to_list (command_of reading)
 
--- a line is refused behind these commands
+-- a line is refused after these commands
 pub record RefusesLine (line : List ℕ) (old : List Command) (fault : TextFault) : Type 0 where
   pub reading : ScriptLine
   pub read : ReadsScriptLine line reading

@@ -130,7 +130,7 @@ table_in damaged = []
 module _ {D : Type 0} {ghosts : Ghosts D} where
   -- ---- what stands
 
-  -- of an open book: its page goes on behind a history, and what lasts is kept
+  -- of an open book: its page goes on after a history, and what lasts is kept
   pub record IsUp (past : Past) (book : Book D ghosts) : Type 0 where
     pub front : List Entry
     pub legal : IsLegal [] front

@@ -1,4 +1,4 @@
--- How often names stand in a list, and in that of their new names.
+-- How often names occur in a list, and in that of their new names.
 use Rattle.std.proofs.Common.{◌≡◌, ℕ, ◌+◌, ◌≤◌, ◌==◌, Bool, true, false, cond, List, [], ◌∷◌, map, refl, sym, ap, subst, ◌∙◌, arith}
 use Rattle.std.specs.Cmp.{unsigned_Decides}
 use Rattle.std.proofs.lemmas.Bool.{eqb-true}
@@ -9,7 +9,7 @@ use Rattle.ic_rules.specs.lemmas.NumberingLaws.{Undone}
 pub occurrences-cons : (q n : ℕ) (ns : List ℕ) → occurrences q (n ∷ ns) ≡ cond (n == q) 1 0 + occurrences q ns
 occurrences-cons q n ns = sum_by-append (λ m. cond (m == q) 1 0) (n ∷ []) ns ∙ ap (λ k. k + occurrences q ns) (omega arith)
 
--- another name before a list changes nothing of how often a name stands there
+-- another name before a list changes nothing of how often a name occurs there
 pub occurrences-other : (q n : ℕ) (ns : List ℕ) → (n == q) ≡ false → occurrences q (n ∷ ns) ≡ occurrences q ns
 occurrences-other q n ns apart =
     occurrences-cons q n ns ∙ ap (λ (b : Bool). cond b 1 0 + occurrences q ns) apart ∙ omega arith
@@ -40,7 +40,7 @@ module _ (f back : ℕ → ℕ) where
       by_test false is later =
           later (omega (arith, there, occurrences-other q n ns is))
 
-  -- no name stands more often than before
+  -- no name occurs more often than before
   pub no_more : (q : ℕ) (ns : List ℕ) → Undone f back ns → occurrences q (map f ns) ≤ occurrences (back q) ns
   no_more q [] undone = omega arith
   no_more q (n ∷ ns) undone =

@@ -26,7 +26,7 @@ kept_low names n kept = leb-true n MAX_NAME (and_parts _ _ kept).1
 
 -- ---- how many of these numbers are kept
 
--- how often a name stands among numbers, and how often names do
+-- how often a name occurs among numbers, and how often names do
 abbrev hits : ℕ → List ℕ → ℕ
 hits n [] = 0
 hits n (m ∷ ms) = cond (n == m) 1 0 + hits n ms

@@ -29,7 +29,7 @@ pub record AreRegisters (arguments : List Argument) (start fresh : ℕ) (registe
       ⊎ ((i : ℕ) × (slice_get arguments i ≡ Some (record { register = r; term = name x })))
   pub apart : (x y r : ℕ) → found registers x ≡ Some r → found registers y ≡ Some r → x ≡ y
 
--- arguments linked with the registers of their terms, but for a name that is read from its own register
+-- arguments linked with the registers of their terms, except for a name that is read from its own register
 abbrev pub links_of : (ℕ → ℕ) → List Argument → List ℕ → List Link
 links_of registers [] operands = []
 links_of registers (a ∷ arguments) [] = []

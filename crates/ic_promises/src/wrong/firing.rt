@@ -28,7 +28,7 @@ pub fn fires_a_new_one(alloc: Global, rules: &RuleSet, config: Config) -> Result
     }
 }
 
-/// Fires the first active equation alone, and settles. Refuses what a round refuses.
+/// Fires only the first active equation, and settles. Refuses what a round refuses.
 pub fn fires_only_the_first(
     alloc: Global,
     rules: &RuleSet,

@@ -25,7 +25,7 @@ pub fn takes_empty_parentheses(alloc: Global, text: &[u8]) -> Result<System, Tex
     }
 }
 
-/// Reads a text without each `0` behind a small letter, where its syntax is refused: so `x0` is taken as `x`.
+/// Reads a text without each `0` after a small letter, where its syntax is refused: so `x0` is taken as `x`.
 pub fn takes_leading_zero(alloc: Global, text: &[u8]) -> Result<System, TextFault>
     ensures another { IfOk result (λ system. (other : List ℕ) × ReadsSystem other (Ok system)) }
     ensures refused { IfErr result
@@ -79,7 +79,7 @@ fn without_empty_parentheses(alloc: Global, text: &[u8]) -> Result<Vec<u8>, Allo
     Ok(kept)
 }
 
-/// A text without each `0` behind a small letter.
+/// A text without each `0` after a small letter.
 fn without_leading_zeros(alloc: Global, text: &[u8]) -> Result<Vec<u8>, AllocError> {
     let mut kept: Vec<u8> = Vec::new(alloc);
     for byte in text {

@@ -190,7 +190,7 @@ same_found rs p base (Some a) = by (slice_get rs a.rule)
 pub nodes-any_base : (rs : List Rule) (p : Pair) (base : ℕ) → sum_by pair_nodes (fired_pair rs base p) ≡ fired_nodes rs p
 nodes-any_base rs p base = same_found rs p base (active_pair rs p)
 
--- the nodes and the next number behind all equations, as sums
+-- the nodes and the next number after all equations, as sums
 pub nodes-fired_from : (rs : List Rule) (base : ℕ) (ps : List Pair) → sum_by pair_nodes (fired_from rs base ps) ≡ sum_by (fired_nodes rs) ps
 nodes-fired_from rs base [] = refl
 nodes-fired_from rs base (p ∷ ps) =

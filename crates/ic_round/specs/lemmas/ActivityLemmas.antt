@@ -1,5 +1,5 @@
--- Lemmas, which no clause is read by: an equation is active where the rules hold one of its two
--- symbols.
+-- Lemmas, which a reader of the contracts doesn't need: an equation is active where the rules hold
+-- one of its two symbols.
 use Rattle.std.proofs.Common.{◌≡◌, ◌||◌, ℕ, List, Bool, true, false, Option, None, Some, is_some, refl, sym, ◌∙◌, inl, inr, subst}
 use Rattle.std.specs.List.{list_any, position_from}
 use Rattle.ic_term.specs.Tree.{Tree, name, agent, Trees}

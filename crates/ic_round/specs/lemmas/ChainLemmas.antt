@@ -1,4 +1,4 @@
--- Lemmas, which no clause is read by: what each chain of steps keeps.
+-- Lemmas, which a reader of the contracts doesn't need: what each chain of steps keeps.
 use Rattle.std.proofs.Common.{◌≡◌, ◌↔◌, ◌≤◌, ◌∷◌, ℕ, zero, suc, List, true, Some, refl, sym, ap, ◌∙◌, arith, [], subst as transport}
 use Rattle.std.specs.List.{list_all}
 use Rattle.ic_term.specs.Tree.{Pair}

@@ -22,7 +22,7 @@ apart_or m n false e apart = e
 pub apart_false : (m n : ℕ) → (m ≡ n → ⊥) → (m == n) ≡ false
 apart_false m n apart = apart_or m n (m == n) refl apart
 
--- a name below or above all names of a list doesn't stand there
+-- a name below or above all names of a list doesn't occur there
 pub absent_below : (n base : ℕ) (ms : List ℕ) → AllByRecursion (λ m. base ≤ m) ms → n < base → occurrences n ms ≡ 0
 absent_below n base [] all low = refl
 absent_below n base (m ∷ ms) all low =
@@ -48,7 +48,7 @@ same_shift base m n false true e f =
     let same = (unsigned_Decides m n).0 f in
     let yes = (unsigned_Decides (base + m) (base + n)).1 (ap (λ k. base + k) same) in cc
 
--- a shifted name stands in the shifted list as often as before
+-- a shifted name occurs in the shifted list as often as before
 pub occurrences-shift : (base n : ℕ) (ms : List ℕ) → occurrences (base + n) (map (λ k. base + k) ms) ≡ occurrences n ms
 occurrences-shift base n [] = refl
 occurrences-shift base n (m ∷ ms) =
@@ -98,7 +98,7 @@ all_below firsts k [] is among = tt
 all_below firsts k (n ∷ ns) is among =
     ((let low = in_range n 0 k (rw is at among.0) in let h : n < k = omega arith in h), all_below firsts k ns is among.1)
 
--- its names are below their count, and each stands there at most twice
+-- its names are below their count, and each occurs there at most twice
 pub rule_below : (r : Rule) → IsRule r → AllByRecursion (λ n. n < r.names) (rule_names r)
 rule_below r is = all_below (first_occurrences (rule_names r)) r.names (rule_names r) is.in_order (each_among [] (rule_names r))
 

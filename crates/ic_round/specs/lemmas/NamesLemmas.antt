@@ -1,4 +1,5 @@
--- Lemmas, which no clause is read by: each step keeps that names are below `next` and occur at most twice.
+-- Lemmas, which a reader of the contracts doesn't need: each step keeps that names are below `next` and occur at most
+-- twice.
 use Rattle.std.proofs.Common.{◌≡◌, ℕ, ◌+◌, ◌*◌, ◌≤◌, ◌<◌, List, ◌∷◌, ◌++◌, map, sym, ap, ◌∙◌, arith, inl, inr, subst as transport}
 use Rattle.std.proofs.lemmas.Bool.{cases_lt}
 use Rattle.std.proofs.lemmas.Grind.{flat_map-append}

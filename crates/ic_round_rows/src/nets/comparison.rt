@@ -1,7 +1,7 @@
 //! Whether two nets are one: a one-to-one image of nodes that keeps labels and wires, port by port.
 //!
-//! What is connected with a node is forced by the image of that node. So each part of one net is tried at each node of the
-//! other that is left.
+//! What is connected with a node is forced by the image of that node. So each part of one net is tried at each node of
+//! the other that is left.
 
 use crate::nets::net::{Label, Net};
 use std::alloc::{AllocError, Global};

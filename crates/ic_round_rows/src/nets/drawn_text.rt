@@ -175,7 +175,7 @@ fn whole(alloc: Global, text: &[u8]) -> Result<Vec<u8>, AllocError> {
     Ok(turned)
 }
 
-/// Adds a rule behind those that there are.
+/// Adds a rule after those that there are.
 fn add_rule(system: &mut Vec<u8>, rule: &[u8]) -> Result<(), AllocError> {
     if system.len() > 1 {
         system.push(b';')?;

@@ -28,7 +28,7 @@ fn add_ends(alloc: Global, text: &[u8], texts: &mut Vec<Vec<u8>>) -> Result<(), 
     visit(alloc, &rules, &mut left, texts)
 }
 
-/// Visits the configurations that are left, and those behind them.
+/// Visits the configurations that are left, and those that steps reach from them.
 fn visit(
     alloc: Global,
     rules: &RuleSet,
@@ -44,7 +44,7 @@ fn visit(
     Ok(())
 }
 
-/// Adds the configurations behind this one, or its text where there are none.
+/// Adds the configurations one step after this one, or its text where there are none.
 fn visit_one(
     alloc: Global,
     rules: &RuleSet,
@@ -60,7 +60,7 @@ fn visit_one(
     Ok(())
 }
 
-/// Adds the configurations behind each step, the first one last.
+/// Adds the configurations after each step, the first one last.
 fn push_steps(
     alloc: Global,
     rules: &RuleSet,

@@ -12,8 +12,8 @@ const MOST_ROUNDS: u32 = 1_000;
 
 const MOST_STEPS: u32 = 50_000;
 
-/// What becomes of a system by rounds, by the first step that is possible each time, and by the last one: the most nodes
-/// that there are behind a round or a step, and the end, or that it is too large on the way.
+/// What becomes of a system by rounds, by the first step that is possible each time, and by the last one. It tells
+/// the most nodes that there are after a round or a step, and the end, or that it is too large on the way.
 pub fn limits(alloc: Global, text: &[u8]) -> Result<Vec<u8>, Trouble> {
     let (rules, config) = system_of(alloc, text)?.into_parts();
     limits_of(alloc, &rules, &config)

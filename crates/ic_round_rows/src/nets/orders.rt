@@ -33,7 +33,7 @@ pub fn are_one_net(
     Ok(are_one(alloc, &one, &other)?)
 }
 
-/// The end by rounds, where at most 12 of them end it and at most 300 nodes are there before and behind each.
+/// The end by rounds, where at most 12 of them end it and at most 300 nodes are there before and after each.
 pub fn by_rounds(
     alloc: Global,
     rules: &RuleSet,
@@ -51,8 +51,8 @@ pub fn by_rounds(
     Ok(is_end.then_some(Outcome { end, counts }))
 }
 
-/// The configuration after a round, its steps counted: an interaction leaves an equation for each argument, and each name
-/// that is replaced takes one away.
+/// The configuration after a round, its steps counted: an interaction leaves an equation for each argument, and each
+/// name that is replaced takes one away.
 fn counted_round(
     alloc: Global,
     rules: &RuleSet,

@@ -31,7 +31,8 @@ fn told(alloc: Global, changed: u64, apart: u64) -> Result<Vec<u8>, Trouble> {
     Ok(line)
 }
 
-/// Whether the end of a system is another net once it is changed in a way. Nothing where it has no end, or that can't be.
+/// Whether the end of a system is another net once it is changed in a way. Nothing where it has no end, or that can't
+/// be.
 fn is_told_apart(alloc: Global, text: &[u8], way: &str) -> Result<Option<bool>, Trouble> {
     let (rules, config) = system_of(alloc, text)?.into_parts();
     match by_rounds(alloc, &rules, &config)? {
@@ -89,7 +90,7 @@ fn cross(equations: &mut Vec<Equation>, last: Equation) -> Result<bool, Trouble>
     Ok(true)
 }
 
-/// Adds the equation with the symbol of its right side changed to the one behind it, if that is an agent.
+/// Adds the equation with the symbol of its right side changed to the next one, if that is an agent.
 fn with_other_symbol(equations: &mut Vec<Equation>, mut last: Equation) -> Result<bool, Trouble> {
     let is_agent = match &mut last.right {
         Term::Name(_) => false,

@@ -7,8 +7,8 @@ use ic_term::{Config, Term, over};
 use std::alloc::Global;
 use std::mem::swap;
 
-/// A place has five steps at most: interaction; indirection; collect; the last two with the equation turned round before,
-/// so that of `x=y` either name is replaced.
+/// A place has five steps at most: interaction; indirection; collect; the last two with the equation turned round
+/// before, so that of `x=y` either name is replaced.
 const STEPS_AT: usize = 5;
 
 /// What comes of a step.

@@ -3,7 +3,7 @@ use Rattle.std.specs.Prelude.{◌≡◌, ℕ, ◌-◌, List, ◌++◌, length, r
 use Rattle.ic_rules.specs.declared.job_name.TheConstants.{MAX_JOB_NAME}
 use Rattle.ic_rules.specs.JobName.{is_job_name}
 
--- a name's bytes with zeros behind them, as many bytes as the longest name
+-- a name's bytes with zeros after them, as many bytes as the longest name
 abbrev pub padded : List ℕ → List ℕ
 padded text = text ++ replicate (MAX_JOB_NAME - length text) 0
 

@@ -1,4 +1,5 @@
--- Lemmas, which no clause is read by: what `rule_for` finds is the one rule of its pair of symbols.
+-- Lemmas, which a reader of the contracts doesn't need: what `rule_for` finds is the one rule of its pair
+-- of symbols.
 use Rattle.std.proofs.Common.{◌≡◌, ℕ, zero, suc, ◌+◌, ◌<◌, Bool, true, false, List, [], ◌∷◌, ◌++◌, ◌||◌, Option, None, Some, length, cond, is_some, refl, sym, ap, ◌∙◌, arith, IfSome, slice_get, append_assoc, append-nil, subst}
 use Rattle.std.specs.List.{position_from, list_any}
 use Rattle.ic_rules.specs.Rule.{Rule, stands_for, same_pair}

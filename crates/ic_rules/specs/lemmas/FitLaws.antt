@@ -1,4 +1,5 @@
--- Lemmas, which no clause is read by: where no agent of rules is unfit, each rule is over the symbols.
+-- Lemmas, which a reader of the contracts doesn't need: where no agent of rules is unfit, each rule is over the
+-- symbols.
 use Rattle.std.proofs.Common.{◌≡◌, ◌↔◌, ℕ, zero, suc, Bool, true, false, ◌&&◌, List, [], ◌∷◌, ◌++◌, Option, None, Some, cond, slice_get, length, unwrap_or, refl, sym, ap, ◌∙◌, subst}
 use Rattle.std.proofs.lemmas.Bool.{and_parts}
 use Rattle.std.specs.List.{flat_map, list_all, AllByRecursion}

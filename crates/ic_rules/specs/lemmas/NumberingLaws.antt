@@ -1,5 +1,6 @@
--- Lemmas, which no clause is read by: names numbered by first occurrence have 0, 1, .. in the order of their first
--- occurrences, a name stands as often as its number, and a rule that is numbered already stays as it is.
+-- Lemmas, which a reader of the contracts doesn't need: names numbered by first occurrence have 0, 1, .. in the
+-- order of their first occurrences. A name occurs as often as its number, and a rule that is numbered already
+-- stays as it is.
 use Rattle.std.proofs.Common.{◌≡◌, ◌↔◌, ℕ, zero, suc, ◌+◌, ◌==◌, ◌||◌, Bool, true, false, List, [], ◌∷◌, ◌++◌, length, map, get_or, nat_eq, cond, refl, sym, ap, ◌∙◌, arith, one-add, subst}
 use Rattle.std.proofs.lemmas.List.{map-append}
 use Rattle.std.proofs.lemmas.List.Folds.{list_any-append}
@@ -105,7 +106,7 @@ pub first_behind-distinct : (seen ns : List ℕ) → IsDistinct nat_eq seen → 
 first_behind-distinct seen [] d = d
 first_behind-distinct seen (n ∷ ns) d = distinct_next seen n ns (list_any (λ m. n == m) seen) refl d (first_behind-distinct seen ns d) (first_behind-distinct (seen ++ n ∷ []) ns)
 
--- behind another name the numbers are one more
+-- after another name the numbers are one more
 shift : (n : ℕ) (firsts ms : List ℕ) → AllByRecursion (λ m. nat_eq n m ≡ false) ms
     → map (number_among (n ∷ firsts)) ms ≡ map (λ k. 1 + k) (map (number_among firsts) ms)
 shift n firsts [] apart = refl
@@ -149,7 +150,7 @@ first_occurrences-numbered ns =
 occurrences-cons : (q n : ℕ) (ns : List ℕ) → occurrences q (n ∷ ns) ≡ cond (n == q) 1 0 + occurrences q ns
 occurrences-cons q n ns = sum_by-append (λ m. cond (m == q) 1 0) (n ∷ []) ns ∙ ap (λ k. k + occurrences q ns) (omega arith)
 
--- a name stands in a list as often as its new name among the new names
+-- a name occurs in a list as often as its new name among the new names
 pub occurrences-renamed : (f back : ℕ → ℕ) (a : ℕ) (ns : List ℕ) → back (f a) ≡ a → Undone f back ns → occurrences (f a) (map f ns) ≡ occurrences a ns
 occurrences-renamed f back a [] ua un = refl
 occurrences-renamed f back a (n ∷ ns) ua un =
@@ -163,7 +164,7 @@ paired_renamed : (f back : ℕ → ℕ) (all ns : List ℕ) → Undone f back al
 paired_renamed f back all [] ua un = refl
 paired_renamed f back all (n ∷ ns) ua un = rw (occurrences-renamed f back n all un.0 ua, paired_renamed f back all ns ua un.1) refl
 
--- numbering keeps that each name stands exactly twice
+-- numbering keeps that each name occurs exactly twice
 pub are_paired-numbered : (ns : List ℕ) → are_paired (map (number_among (first_occurrences ns)) ns) ≡ are_paired ns
 are_paired-numbered ns = paired_renamed (number_among (first_occurrences ns)) (name_at (first_occurrences ns)) ns ns (each_undone ns) (each_undone ns)
 

@@ -1,4 +1,4 @@
--- Lemmas, which no clause is read by: terms with their names turned into others.
+-- Lemmas, which a reader of the contracts doesn't need: terms with their names turned into others.
 use Rattle.std.proofs.Common.{◌≡◌, ℕ, List, [], ◌∷◌, ◌++◌, map, refl, sym, ap}
 use Rattle.std.proofs.lemmas.List.{map-append}
 use Rattle.std.specs.List.{flat_map, AllByRecursion}

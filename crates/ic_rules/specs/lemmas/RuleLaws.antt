@@ -1,4 +1,5 @@
--- Lemmas, which no clause is read by: the tests of equality of rules and rule sets are equality.
+-- Lemmas, which a reader of the contracts doesn't need: the tests of equality of rules and rule sets are
+-- equality.
 use Rattle.std.specs.Prelude.{◌≡◌, ◌==◌, Bool, true, ◌&&◌, refl}
 use Rattle.std.specs.Bool.{Decides}
 use Rattle.std.specs.Cmp.{IsEquivalence, decided, unsigned_Decides}

@@ -1,4 +1,4 @@
--- Tables that lines reach, and what is kept behind a line.
+-- Tables that lines reach, and what is kept after a line.
 use Rattle.std.proofs.Common.{◌≡◌, ◌⊎◌, inl, inr, ℕ, List, [], ◌∷◌, ◌++◌, Ok, Err, length, refl, sym, ap, subst, ◌∙◌, arith, append_assoc}
 use Rattle.std.proofs.lemmas.List.{take_all}
 use Rattle.ic_disk.specs.declared.disk.Disk.{Ghosts}

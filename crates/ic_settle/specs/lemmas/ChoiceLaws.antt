@@ -108,7 +108,7 @@ abbrev pub NoneApplicable : List Tree → List Pair → List Pair → List Pair 
 NoneApplicable ts before [] after = Unit {0}
 NoneApplicable ts before (q ∷ qs) after = (binding (names_in ts (before ++ (qs ++ after))) q ≡ None) × NoneApplicable ts (before ++ q ∷ []) qs after
 
--- the first choice lies behind them
+-- the first choice lies after them
 pub first_choice-passed : (ts : List Tree) (before qs after : List Pair) → NoneApplicable ts before qs after
     → first_choice ts before (qs ++ after) ≡ first_choice ts (before ++ qs) after
 first_choice-passed ts before [] after none = rw (append-nil before) refl

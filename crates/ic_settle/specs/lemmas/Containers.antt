@@ -34,7 +34,7 @@ AreUnlinkedFrom place links = (e : ℕ) → place ≤ e → e < length links →
 abbrev pub redirected : ℕ → ℕ → (ℕ → ℕ) → ℕ → ℕ
 redirected place target root e = if root e == place then target else root e
 
--- ---- the containers in which each name stands
+-- ---- the containers in which each name occurs
 
 -- the first and the last container of a name, once it is met in one more
 abbrev pub noted : ℕ → Option (ℕ × ℕ) → Option (ℕ × ℕ)
@@ -52,7 +52,7 @@ noted_equations y place [] found = found
 noted_equations y place (p ∷ ps) found =
     noted_equations y (suc place) ps (noted_in y place (pair_names p) found)
 
--- those of a name, once the equations and the interface, numbered behind them, are met
+-- those of a name, once the equations and the interface, numbered after them, are met
 abbrev pub noted_from : ℕ → ℕ → List Pair → List Tree → Option (ℕ × ℕ) → Option (ℕ × ℕ)
 noted_from y place [] ts found = noted_in y place (flat_map names ts) found
 noted_from y place (p ∷ ps) ts found =
@@ -65,7 +65,7 @@ AreKnown links look = (y : ℕ) (p : ℕ × ℕ) → look y ≡ Some p
 
 -- ---- the choice of a side
 
--- the container, other than this one, in which a name stands
+-- the container, other than this one, in which a name occurs
 abbrev pub elsewhere : (ℕ → ℕ) → ℕ → Option (ℕ × ℕ) → Option ℕ
 elsewhere root place None = None
 elsewhere root place (Some p) =
@@ -73,7 +73,7 @@ elsewhere root place (Some p) =
     then (if root p.1 == place then None else Some (root p.1))
     else Some (root p.0)
 
--- a side that is a name which stands in another container
+-- a side that is a name which occurs in another container
 abbrev pub outlet_at : (ℕ → Option ℕ) → Side → Tree → Option Outlet
 outlet_at other side (name x) =
     option_map (λ target. record { name = x; side = side; target = target }) (other x)

@@ -1,4 +1,4 @@
--- A name stands outside of an equation just where the links from one of its containers end elsewhere.
+-- A name occurs outside of an equation just where the links from one of its containers end elsewhere.
 use Rattle.std.proofs.Common.{◌≡◌, ℕ, ◌+◌, ◌*◌, ◌<◌, ◌≤◌, ◌==◌, List, [], ◌∷◌, ◌++◌, Bool, true, false, cond, Option, None, Some, is_some, option_map, length, map, refl, sym, ap, ◌∙◌, eq-eqb, inl, inr, arith}
 use Rattle.std.proofs.lemmas.Bool.{cases_Bool, eqb-true, ne_eqb, true_from_ne_false}
 use Rattle.ic_term.specs.Tree.{Tree, name, agent, Pair, pair_names}
@@ -73,7 +73,7 @@ elsewhere_fewer root e found (a ∷ b ∷ []) t is few some = elim (cases_Bool (
 ]
 elsewhere_fewer root e found (a ∷ b ∷ c ∷ ds) t is few some = absurd (omega arith)
 
--- where a name stands in this container and in another one, it stands in no third
+-- where a name occurs in this container and in another one, it occurs in no third
 pub elsewhere_other : (root : ℕ → ℕ) (e : ℕ) (found : Option (ℕ × ℕ)) (spots : List ℕ) (t : ℕ) → IsPlaced found spots → length spots ≤ 2
     → elsewhere root e found ≡ Some t → 1 ≤ occurrences e (map root spots)
     → (k : ℕ) → occurrences k (map root spots) ≡ cond (e == k) 1 0 + cond (t == k) 1 0

@@ -72,7 +72,7 @@ delays-absent bs es x rest none d =
     step : (P r W B E : ℕ) → P ≡ 1 + r → E ≡ 0 → P + W + 2 * B ≤ 2 + E → B ≡ 0
     step P r W B E f g h = omega arith
 
--- ---- one binding more
+-- ---- one more binding
 
 module _ (bs : List Binding) (es es' : List (ℕ × Tree)) (x : ℕ) (v : Tree) (added : IsAdded es es' x v)
     (free : bound x bs ≡ 0) (absent : occurrences x (names (put_each bs v)) ≡ 0) where

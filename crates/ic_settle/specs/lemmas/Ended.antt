@@ -5,7 +5,7 @@ use Rattle.ic_term.specs.Tree.{Tree, name, agent, Pair, names}
 use Rattle.ic_term.specs.Configuration.{occurrences}
 use Rattle.ic_settle.specs.Settling.{occurs}
 
--- a side is a name that stands twice among all names of the configuration, and not in the other side
+-- a side is a name that occurs twice among all names of the configuration, and not in the other side
 abbrev pub is_applicable : List ℕ → Tree → Tree → Bool
 is_applicable all (name x) other = not (occurs x (names other)) && nat_le 2 (occurrences x all)
 is_applicable all (agent s ts) other = false

@@ -9,7 +9,7 @@ use Rattle.std.specs.Map.{keys_of, lookup}
 use Rattle.std.specs.Option.{option_map_or}
 use Rattle.indexmap.specs.IndexMap.{swap_remove_entry, insert_entry}
 
--- where a look-up finds a value, and that the value stands there
+-- where a look-up finds a value, and that the value is there
 found_at : {X : Type 0} (test : ℕ → Bool) (es : List (ℕ × X)) (t : X) → lookup test es ≡ Some t
     → (position_or_len test (keys_of es) < length es) × ((d : ℕ × X) → (get_or es (position_or_len test (keys_of es)) d).1 ≡ t)
 found_at test [] t e = cc

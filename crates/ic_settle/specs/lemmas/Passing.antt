@@ -36,7 +36,7 @@ current c bs kept rest =
 abbrev pub spots : Configuration → ℕ → List ℕ
 spots c y = spots_from y 0 c.equations c.interface
 
--- Bindings, and where the links end, such that the slow settling is on its way with the kept equations behind it.
+-- Bindings, and where the links end, such that the slow settling is on its way and has passed the kept equations.
 pub record IsPassing (c : Configuration) (kept : List Pair) (es : List (ℕ × Tree)) (links : List ℕ) (look_up : ℕ → Option (ℕ × ℕ))
     (chosen : List (Option Applicable)) (rest : List Pair) : Type 0 where
   pub bs : List Binding

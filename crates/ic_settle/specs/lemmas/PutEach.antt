@@ -29,7 +29,7 @@ pub one_node : (t : Tree) → (n : ℕ) × (nodes t ≡ n + 1)
 one_node (name x) = (0, refl)
 one_node (agent s ts) = (nodes_of ts, omega arith)
 
--- ---- one binding more
+-- ---- one more binding
 
 pub map_put : (b : Binding) (bs : List Binding) (ts : List Tree) → map (subst b.name b.term) (map (put_each bs) ts) ≡ map (put_each (b ∷ bs)) ts
 map_put b bs [] = refl
@@ -76,7 +76,7 @@ put_each-unbound (b ∷ bs) y none =
     let parts = counted_no (b.name == y) (bound y bs) (sym (bound-cons y b bs) ∙ none) in
     ap (subst b.name b.term) (put_each-unbound bs y parts.1) ∙ other_name b.name b.term y parts.0
 
--- ---- how often a name occurs behind a substitution of another one
+-- ---- how often a name occurs after a substitution of another one
 
 product_one : (A p a k : ℕ) → A ≡ k → p ≡ 0 → a ≡ 1 → A ≡ p + a * k
 product_one A p a k f g h = rw (f, g, h) (omega arith)

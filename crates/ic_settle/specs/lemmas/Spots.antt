@@ -1,4 +1,4 @@
--- The containers in which a name stands, as a list with one entry for each occurrence.
+-- The containers in which a name occurs, as a list with one entry for each occurrence.
 use Rattle.std.proofs.Common.{◌≡◌, ℕ, suc, ◌+◌, ◌<◌, ◌≤◌, ◌==◌, List, [], ◌∷◌, ◌++◌, Bool, cond, Option, None, Some, length, refl, sym, ap, ◌∙◌, append_assoc, append-nil, length-append, eq-eqb, inl, inr, arith, subst as transport}
 use Rattle.std.proofs.lemmas.Bool.{cases_Bool, cases_lt, ne_eqb}
 use Rattle.std.specs.List.{flat_map}
@@ -15,7 +15,7 @@ abbrev pub spots_in : ℕ → ℕ → List ℕ → List ℕ
 spots_in y place [] = []
 spots_in y place (n ∷ ns) = cond (n == y) (place ∷ spots_in y place ns) (spots_in y place ns)
 
--- those of a name in equations, numbered from a place on, and in the interface behind them
+-- those of a name in equations, numbered from a place on, and in the interface after them
 abbrev pub spots_from : ℕ → ℕ → List Pair → List Tree → List ℕ
 spots_from y place [] ts = spots_in y place (flat_map names ts)
 spots_from y place (p ∷ ps) ts = spots_in y place (pair_names p) ++ spots_from y (suc place) ps ts
@@ -208,7 +208,7 @@ placed-within y es ts found few noted_is =
         (omega (arith, ap (λ q. q.0) pair_is, first), omega (arith, ap (λ q. q.1) pair_is, second))
     by (a ∷ b ∷ c ∷ ds) short o is here none = absurd (omega arith)
 
--- the interface is noted behind the equations
+-- the interface is noted after the equations
 pub noted_behind : (y place : ℕ) (es : List Pair) (ts : List Tree) (found : Option (ℕ × ℕ))
     → noted_in y (place + length es) (flat_map names ts) (noted_equations y place es found) ≡ noted_from y place es ts found
 noted_behind y place [] ts found = (let same : place + 0 ≡ place = omega arith in ap (λ k. noted_in y k (flat_map names ts) found) same)

@@ -51,7 +51,7 @@ once_outside ts before p after b side twice outside =
     let some = occurrences_some b.name (names_in ts (before ++ after)) outside in
     omega (arith, twice b.name)
 
--- how often a name occurs behind a substitution in a configuration
+-- how often a name occurs after a substitution in a configuration
 pub occurrences-subst_in : (n x : ℕ) (u : Tree) (ts : List Tree) (es : List Pair)
     → occurrences n (names_in (map (subst x u) ts) (map (subst_pair x u) es)) ≤ occurrences n (names_in ts es) + occurrences x (names_in ts es) * occurrences n (names u)
 occurrences-subst_in n x u ts es =

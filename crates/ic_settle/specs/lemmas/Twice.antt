@@ -1,4 +1,5 @@
--- A name at a side occurs outside of its equation where it stands twice in the configuration, and not in the other side.
+-- A name at a side occurs outside of its equation where it occurs twice in the configuration, and not in the other
+-- side.
 use Rattle.std.proofs.Common.{◌≡◌, ℕ, zero, suc, ◌+◌, ◌<◌, ◌≤◌, ◌==◌, List, [], ◌∷◌, ◌++◌, Bool, true, false, ◌&&◌, ◌||◌, not, cond, Option, None, Some, is_none, length, get_or, refl, sym, ap, ◌∙◌, append_assoc, add-one, arith, inl, inr}
 use Rattle.std.specs.Prelude.{nat_eq, nat_le, nat_lt}
 use Rattle.std.specs.List.{list_any}
@@ -29,7 +30,7 @@ none_at : (b : Bool) (bound : Binding) → is_none (cond b (Some bound) None) �
 none_at true bound = refl
 none_at false bound = refl
 
--- the names of a side and of the other one, and how often each stands outside of them
+-- the names of a side and of the other one, and how often each occurs outside of them
 abbrev IsTotal : List ℕ → List ℕ → Tree → Tree → Type 0
 IsTotal outside all t other = (x : ℕ) → occurrences x all ≡ occurrences x outside + (occurrences x (names t) + occurrences x (names other))
 
@@ -106,7 +107,7 @@ few_here : (b : Bool) → cond b 1 0 ≤ 1
 few_here true = omega arith
 few_here false = omega arith
 
--- behind lower names, a name stands twice where it stands at the second place
+-- after lower names, a name occurs twice where it is at the second place
 abbrev IsTwiceAt : ℕ → List ℕ → ℕ → Type 0
 IsTwiceAt x ns next =
     (next < length ns → get_or ns next 0 ≡ x → 2 ≤ occurrences x ns) × ((next < length ns → get_or ns next 0 ≡ x → ⊥) → occurrences x ns < 2)

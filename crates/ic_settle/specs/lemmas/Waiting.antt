@@ -1,5 +1,5 @@
 -- Bindings that wait in a map until their names are met. The pass over the equations and the
--- rebuilding behind it keep what stands here; what settling is doesn't rest on it.
+-- rebuilding after it keep what is said here; what settling is doesn't rest on it.
 use Rattle.std.specs.Prelude.{◌≡◌, ℕ, ◌+◌, ◌*◌, ◌≤◌, ◌==◌, List, [], ◌∷◌, ◌++◌, Option, None, Some, sum_by, map, nat_eq, is_some, if◌then◌else◌}
 use Rattle.std.specs.List.{flat_map}
 use Rattle.std.specs.Map.{lookup}
@@ -17,7 +17,7 @@ kept_by view es = map (λ e. (e.0, view e.1)) es
 abbrev pub look : List (ℕ × Tree) → ℕ → Option Tree
 look es x = lookup (nat_eq x) es
 
--- how often a name stands in the terms that are kept
+-- how often a name occurs in the terms that are kept
 abbrev pub held : List (ℕ × Tree) → ℕ → ℕ
 held es y = sum_by (λ e. occurrences y (names e.1)) es
 
@@ -55,7 +55,7 @@ bound y bs = occurrences y (map (λ b. b.name) bs)
 abbrev pub here : Option Tree → ℕ
 here found = if is_some found then 1 else 0
 
--- Bindings of which some wait in a map: each that waits is as good as its name, and a bound name has
+-- Bindings of which some wait in a map. Each that waits is as good as its name, and a bound name has
 -- at most one occurrence left, in what is pending or in a term that waits, and none if it doesn't
 -- wait itself.
 pub record IsDelayed (bs : List Binding) (es : List (ℕ × Tree)) (pending : List ℕ) : Type 0 where

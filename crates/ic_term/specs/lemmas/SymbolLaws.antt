@@ -1,4 +1,4 @@
--- Lemmas, which no clause is read by: the test of equality of symbols is equality.
+-- Lemmas, which a reader of the contracts doesn't need: the test of equality of symbols is equality.
 use Rattle.std.specs.Prelude.{◌≡◌, ℕ, ◌==◌, List, Bool, true, false, ◌&&◌, refl}
 use Rattle.std.specs.Bool.{Decides}
 use Rattle.std.specs.Str.{bytes_eq}

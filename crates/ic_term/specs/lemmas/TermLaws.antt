@@ -1,5 +1,5 @@
--- Lemmas, which no clause is read by: the equations of `tree` and `cell_tree`, for proofs about what makes terms or
--- takes them apart.
+-- Lemmas, which a reader of the contracts doesn't need: the equations of `tree` and `cell_tree`, for proofs about
+-- what makes terms or takes them apart.
 use Rattle.std.specs.Prelude.{◌≡◌, ℕ, Box, map}
 use Rattle.std.proofs.Common.{sym, ◌∙◌, ap}
 use Rattle.std.specs.declared.alloc.Global.{Global}

@@ -1,5 +1,5 @@
--- Lemmas, which no clause is read by: how terms as plain data are stored, their arguments as lists, and that the
--- test of equality is equality.
+-- Lemmas, which a reader of the contracts doesn't need: how terms as plain data are stored, their arguments as
+-- lists, and that the test of equality is equality.
 use Rattle.std.specs.Prelude.{◌≡◌, ◌+◌, ◌==◌, List, [], ◌∷◌, Bool, true, false, ◌&&◌, sum_by, refl}
 use Rattle.std.specs.Bool.{Decides}
 use Rattle.std.specs.Cmp.{IsEquivalence, decided, unsigned_Decides}

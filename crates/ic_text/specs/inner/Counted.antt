@@ -19,7 +19,7 @@ abbrev pub limit_at : Option Excess → ℕ → Option Limit
 limit_at None k = None
 limit_at (Some excess) k = if excess.word == k then Some excess.limit else None
 
--- how many terms are due behind words
+-- how many terms are due after words
 abbrev pub due_over : ℕ → List Symbol → ℕ
 due_over due [] = due
 due_over due (w ∷ ws) = due_over (due_behind due w.arity) ws

@@ -26,7 +26,7 @@ abbrev pub agent_word : ℕ → Result ℕ SymbolFault → Result Word SymbolFau
 agent_word arity (Ok n) = Ok (Agent n arity)
 agent_word arity (Err e) = Err e
 
--- a word with its number, where it comes behind the symbols of a table
+-- a word with its number, where it comes after the symbols of a table
 abbrev pub word_found : List Symbol → Symbol → Result Word SymbolFault
 word_found table w =
     if is_name w.text
@@ -34,7 +34,7 @@ word_found table w =
     else Err OverLimit)
     else agent_word w.arity (numbered table w.text w.arity)
 
--- the table behind a word, and behind a list of words
+-- the table after a word, and after a list of words
 abbrev pub table_with : List Symbol → Symbol → List Symbol
 table_with table w = if is_name w.text then table else with_symbol table w.text w.arity
 
@@ -81,7 +81,7 @@ WordAnswers (Err OverLimit) answer = Err OverLimit ≡ answer
 WordAnswers (Err (OtherArity n)) answer = Err (OtherArity n) ≡ answer
 WordAnswers (Err NoMemory) answer = Unit {0}
 
--- a refusal, unless it is want of memory
+-- a refusal, unless it is that memory ran out
 abbrev pub Refuses : {A : Type 0} → TextFault → Result A TextFault → Type 0
 Refuses Syntax answer = Err Syntax ≡ answer
 Refuses Limit answer = Err Limit ≡ answer

@@ -25,12 +25,12 @@ abbrev pub tail_of : List ℕ → List ℕ
 tail_of [] = []
 tail_of (n ∷ ns) = ns
 
--- one argument more
+-- one more argument
 abbrev pub one_more : List ℕ → List ℕ
 one_more [] = []
 one_more (n ∷ ns) = (n + 1) ∷ ns
 
--- one term more, outside all parentheses
+-- one more term, outside all parentheses
 abbrev pub term_more : List ℕ → ℕ → ℕ
 term_more [] terms = terms + 1
 term_more (n ∷ ns) terms = terms
@@ -71,8 +71,8 @@ abbrev pub scan_at : Option Mark → Scanned → Scanned
 scan_at None s = s
 scan_at (Some m) s = mark_scan m s
 
--- What is kept of what was scanned: its words but for the last ones, and how many more of those are
--- left out.
+-- What is kept of what was scanned: its words except for the last ones, and how many more of those
+-- are left out.
 pub record Cut : Type 0 where
   pub seen : Scanned
   pub skip : ℕ
@@ -107,7 +107,8 @@ cut_run (b ∷ bs) c =
 abbrev pub cut_at : Option Mark → Cut → Cut
 cut_at o c = record { seen = scan_at o c.seen; skip = c.skip }
 
--- A scan begins at the end of a text, or before a byte of no word, with all behind it scanned.
+-- A scan begins at the end of a text, or before a byte of no word, with all that follows it
+-- scanned.
 abbrev pub IsBegunAt : List ℕ → (skip place : ℕ) → Cut → Type 0
 IsBegunAt text skip place c =
     ((place ≡ length text) × (c ≡ cut_from skip (scan [])))

@@ -27,7 +27,7 @@ use Rattle.ic_text.specs.SystemSource.{RulePhrase, SystemPhrase}
 use Rattle.ic_text.specs.Words.{Written, names_among, phrase_prefix, rule_prefix, rules_prefix, symbols_among, system_prefix}
 use Rattle.ic_text.specs.WordFaults.{IsFaultWord, IsFirstWord, IsSecondUse, is_miscounted, keeps, rank, uses, word_table}
 
--- a text has a word behind so many others
+-- a text has a word after so many others
 abbrev pub HasWord : List ℕ → ℕ → Type 0
 HasWord text k = (ts : List Token) × (tokens text ≡ Some ts) × (k < length (words_among ts))
 
@@ -98,14 +98,14 @@ pub record IsFirstMiscounted (ws : List Symbol) (j : ℕ) : Type 0 where
   pub wrong : IsTrue (is_miscounted ws j)
   pub first : (i : ℕ) → i < j → is_miscounted ws i ≡ false
 
--- words begin with those of rules, one of which has a name that doesn't stand there twice
+-- words begin with those of rules, one of which has a name that doesn't occur there twice
 pub record IsMiscountedRule (ws : List Symbol) (rs : List RulePhrase) (i : ℕ) : Type 0 where
   pub begins : BeginsWith ws rs
   pub rule : RulePhrase
   pub there : slice_get rs i ≡ Some rule
   pub unpaired : are_paired (names_among (rule_prefix rule)) ≡ false
 
--- and where the first of its words is that is refused
+-- and the place of the first of its words that is refused
 pub record IsMiscountedWord (rs : List RulePhrase) (i k : ℕ) : Type 0 where
   pub rule : RulePhrase
   pub there : slice_get rs i ≡ Some rule
@@ -146,7 +146,7 @@ limit_of w = if is_name w.text then NameNumber
     else (if nat_lt MAX_SYMBOL_TEXT (length w.text) then SymbolBytes
     else (if nat_lt MAX_ARITY w.arity then Arguments else Symbols))
 
--- the words numbered so far with one word more, by what was found of it
+-- the words numbered so far with one more word, by what was found of it
 abbrev pub Takes : ℕ → Symbol → Result Word SymbolFault → Numbering → Numbering → Type 0
 Takes k w (Ok word) old new = (new.symbols ≡ table_with old.symbols w)
     × (new.words.items ≡ old.words.items ++ word ∷ []) × (new.clash ≡ old.clash)

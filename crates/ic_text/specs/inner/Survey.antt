@@ -19,7 +19,7 @@ pub record HasRisen (most : ℕ) (old new : Progress) : Type 0 where
   pub words : new.counts.words ≤ old.counts.words + most
   pub depth : new.state.depth ≤ old.state.depth + most
 
--- the check behind one more token
+-- the check after one more token
 abbrev pub take_one : Progress → Token → Option Progress
 take_one p t = option_map (λ s. record {
   state = s;
@@ -28,17 +28,17 @@ take_one p t = option_map (λ s. record {
   };
 }) (step p.state t)
 
--- the check behind more tokens
+-- the check after more tokens
 abbrev pub taken : Option Progress → List Token → Option Progress
 taken o [] = o
 taken o (t ∷ ts) = taken (option_and_then (λ p. take_one p t) o) ts
 
--- the check behind the tokens of more bytes, if they have any
+-- the check after the tokens of more bytes, if they have any
 abbrev pub taken_behind : Option Progress → Option (List Token) → Option Progress
 taken_behind o None = None
 taken_behind o (Some ts) = taken o ts
 
--- the check behind a byte that is no word byte
+-- the check after a byte that is no word byte
 abbrev pub taken_at : Progress → ℕ → Option Progress
 taken_at p b = taken_behind (Some p) (tokens_at b (mark_of b))
 

@@ -31,7 +31,7 @@ inside_step depth Comma = if depth == 0 then None else Some (Due, depth)
 inside_step depth Close = if depth == 0 then None else Some (After, depth - 1)
 inside_step depth _ = None
 
--- a mark right behind a symbol
+-- a mark right after a symbol
 abbrev pub symbol_step : ℕ → Mark → Option (Spot × ℕ)
 symbol_step depth Open = Some (Due, depth + 1)
 symbol_step depth m = inside_step depth m
@@ -90,7 +90,7 @@ either_step p s depth (mark m) None = if depth == 0 then outside (part_step p s 
 abbrev pub step : State → Token → Option State
 step st t = either_step st.part st.spot st.depth t (term_step st.spot st.depth t)
 
--- the check behind a word, and behind a mark
+-- the check after a word, and after a mark
 abbrev pub word_step : State → List ℕ → Option State
 word_step st text = step st (word text)
 

@@ -5,9 +5,9 @@ use Rattle.ic_text.specs.Token.{is_word_byte, mark_of}
 use Rattle.ic_text.specs.declared.tail.Passing.{Passing}
 use Rattle.ic_text.specs.declared.tail.Tail.{Tail}
 
--- What is known of tokens that were gone over: how many lists opened here and are open; the commas in the
--- list around them; the arguments of each list that was open before and is closed, the first one first;
--- the words; the terms outside all parentheses before a `|`, and whether there was one.
+-- What is known of tokens that were gone over. It has how many lists opened here and are open; the commas
+-- in the list around them; the arguments of each list that was open before and is closed, the first one
+-- first. It has the words, the terms outside all parentheses before a `|`, and whether there was one.
 pub record Passed : Type 0 where
   pub deep : ℕ
   pub commas : ℕ
@@ -92,11 +92,11 @@ pass_byte b t =
 abbrev pub pass_end : Bool → Passed → Passed
 pass_end within t = if within then pass_word t else t
 
--- a byte behind one of a word, or behind none
+-- a byte after one of a word, or after none
 abbrev pub pass_next : ℕ → Bool → Passed → Passed
 pass_next b within t = if is_word_byte b then t else pass_byte b (pass_end within t)
 
--- bytes behind one of a word, or behind none
+-- bytes after one of a word, or after none
 abbrev pub passed_over : Passed → Bool → List ℕ → Passed
 passed_over t within [] = pass_end within t
 passed_over t within (b ∷ bs) =
@@ -117,7 +117,7 @@ passed_with t closed = record {
 abbrev pub passed : Tail → Passed
 passed t = passed_with t.counts t.closed.items
 
--- A mark stands at a place, and behind it what was gone over, in which each list that opens is closed, and
+-- A mark stands at a place, and after it what was gone over, in which each list that opens is closed, and
 -- no more words stand than are left out.
 pub record IsTailOf (text : List ℕ) (skip place : ℕ) (t : Passed) : Type 0 where
   pub inside : place < length text

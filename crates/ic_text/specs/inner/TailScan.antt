@@ -1,4 +1,4 @@
--- For private functions: what was gone over behind a mark, as a scan.
+-- For private functions: what was gone over after a mark, as a scan.
 use Rattle.std.specs.Prelude.{ℕ, ◌-◌, []}
 use Rattle.ic_text.specs.inner.Prefix.{Cut}
 use Rattle.ic_text.specs.inner.Tail.{Passed}

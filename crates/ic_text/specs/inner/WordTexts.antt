@@ -12,9 +12,9 @@ abbrev pub word_text : List Symbol → Word → List ℕ
 word_text table (Name n) = name_text n
 word_text table (Agent s arity) = text_or_none (slice_get table s)
 
--- What is to be written behind a term, given the texts of the terms that follow. Of the agents that are
+-- What is to be written after a term, given the texts of the terms that follow. Of the agents that are
 -- open, the innermost first, each lacks so many arguments: a comma stands before each of them, and a
--- parenthesis behind the last one.
+-- parenthesis after the last one.
 abbrev pub closing : List ℕ → List (List ℕ) → List ℕ
 closing [] texts = []
 closing (n ∷ due) texts =
@@ -36,7 +36,7 @@ abbrev pub needed : Bool → List ℕ → ℕ
 needed false due = 0
 needed true due = 1 + lacking due
 
--- what is to be written behind a word that takes so many arguments
+-- what is to be written after a word that takes so many arguments
 abbrev pub behind_word : ℕ → List ℕ → List (List ℕ) → List ℕ
 behind_word zero due texts = closing due texts
 behind_word (suc n) due texts = 40 ∷ coming true (n ∷ due) texts

@@ -4,7 +4,7 @@ use Rattle.std.specs.List.{list_all}
 use Rattle.std.proofs.lemmas.Bool.{and_parts}
 use Rattle.ic_text.specs.Token.{Token, word, is_word_byte, mark_of, word_of, before, tokens_at, followed, tokens_behind, tokens}
 
--- tokens one behind another, however they are taken together
+-- tokens one after another, however they are taken together
 pub followed-assoc : (front : List Token) (here a b : Option (List Token)) → before front (followed here (followed a b)) ≡ followed (before front (followed here a)) b
 followed-assoc front None a b = refl
 followed-assoc front (Some ts) None b = refl
