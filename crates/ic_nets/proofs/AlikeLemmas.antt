@@ -1,14 +1,8 @@
 -- Lemmas: each net is like itself, likeness goes on, and the order of wires and of their ends says nothing.
-use Rattle.std.proofs.Common.{◌≡◌, ℕ, ◌⊎◌, inl, inr, List, [], ◌∷◌, map, refl, sym, ap, ◌∙◌, subst as transport}
+use Rattle.std.proofs.Common.{◌≡◌, inl, inr, List, [], ◌∷◌, map, refl, sym, ap, ◌∙◌, subst as transport}
 use Rattle.ic_nets.specs.Likeness.{AreAlike, EitherWay, InSomeOrder, empty, matched, crossed, chained, IsVertex, Vertex, carried, carried_ends, edges, points, vertices}
-use Rattle.ic_term.specs.Configuration.{Configuration, IsConfiguration}
-use Rattle.ic_rules.specs.Rule.{Rule}
-use Rattle.ic_confluence.specs.Sameness.{Renames}
-use Rattle.ic_nets.specs.Nets.{IsNet}
 use Rattle.ic_nets.specs.declared.net.Net.{Net}
-use Rattle.ic_nets.specs.declared.net.Wire.{Wire}
 use Rattle.ic_nets.specs.declared.port.Port.{Port}
-use Rattle.ic_nets.proofs.RenamingLemmas.{net_forgets}
 
 -- ---- lists in some order
 
@@ -110,14 +104,3 @@ alike_through m n o r s = record {
       (carried_on EitherWay (carried_ends s.to) (either_kept s.to) _ _ r.wires))
       s.wires;
 }
-
--- the net of a configuration is one net, whichever way it is written down
-one_of : (rs : List Rule) (c : Configuration) (m n : Net) → IsNet rs c m → IsNet rs c n → AreAlike m n
-one_of rs c m n is_m is_n = alike_in_order m n
-    (is_m.interface ∙ sym is_n.interface)
-    (is_m.agents ∙ sym is_n.agents)
-    (is_m.joints ∙ sym is_n.joints)
-    (transport (λ (ws : List Wire). InSomeOrder EitherWay (edges m.wires.items) (edges ws)) (is_m.wires ∙ sym is_n.wires) (as_is EitherWay (λ e. inl refl) (edges m.wires.items)))
-
-pub renamed_alike : (rs : List Rule) (c d : Configuration) (m n : Net) → IsConfiguration c → Renames c d → IsNet rs c m → IsNet rs d n → AreAlike m n
-renamed_alike rs c d m n sound renames is_m is_n = one_of rs d m n (net_forgets rs c d m sound renames is_m) is_n

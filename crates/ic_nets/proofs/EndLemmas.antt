@@ -1,5 +1,5 @@
 -- Each bound port of a net is an end of its wires as often as it is a port.
-use Rattle.std.proofs.Common.{◌≡◌, ℕ, zero, suc, ◌+◌, ◌==◌, List, [], ◌∷◌, ◌++◌, true, false, cond, length, refl, sym, ap, ◌∙◌, subst, arith}
+use Rattle.std.proofs.Common.{◌≡◌, ℕ, zero, suc, ◌+◌, ◌≤◌, ◌==◌, List, [], ◌∷◌, ◌++◌, true, false, cond, length, refl, sym, ap, ◌∙◌, subst, arith}
 use Rattle.std.proofs.lemmas.List.Concat.{flat_map-append}
 use Rattle.std.specs.Cmp.{unsigned_Decides}
 use Rattle.ic_term.specs.Configuration.{Configuration, IsConfiguration, configuration_names, occurrences}
@@ -70,8 +70,12 @@ pub often-names : (rs : List Rule) (c : Configuration) (n : ℕ) → often n (st
 often-names rs c n =
     often-occurrences n (standings 0 (links_of rs c)) ∙ ap (occurrences n) (standings-names 0 (links_of rs c) ∙ links-names rs c)
 
-pub are_few : (rs : List Rule) (c : Configuration) → IsConfiguration c → AreFew [] (standings 0 (links_of rs c))
-are_few rs c is n = let twice = is.twice n in let same = often-names rs c n in omega arith
+-- each name occurs at most twice
+abbrev pub AtMostTwice : Configuration → Type 0
+AtMostTwice c = (n : ℕ) → occurrences n (configuration_names c) ≤ 2
+
+pub are_few : (rs : List Rule) (c : Configuration) → AtMostTwice c → AreFew [] (standings 0 (links_of rs c))
+are_few rs c twice n = let low = twice n in let same = often-names rs c n in omega arith
 
 -- ---- the law
 
@@ -86,7 +90,7 @@ ends_are_ports rs c net p sound is bound =
     let wires = ap (λ ws. times p (ends ws)) is.wires
     ∙ ap (times p) (flat_map-append (λ (w : Wire). w.from ∷ w.to ∷ []) (plain_wires ls) (name_wires ss))
     ∙ times-append p (ends (plain_wires ls)) (ends (name_wires ss)) in
-    let named = bound_ends p _ bound ∙ all_added p [] ss (are_bound rs c) (are_few rs c sound) in
+    let named = bound_ends p _ bound ∙ all_added p [] ss (are_bound rs c) (are_few rs c sound.twice) in
     let ports : times p (counted_ports Interface 1 (length c.interface)) + times p (agent_ports 0 (agents_of c)) ≡ times p places + times p agents =
     λ i. times p (counted_ports Interface 1 (sym is.interface i)) + times p (agent_ports 0 (sym is.agents i)) in
     let count : times p (joint_ports 0 (joints_in ls)) ≡ times p joints = ap (λ m. times p (joint_ports 0 m)) (sym is.joints) in
@@ -95,13 +99,13 @@ ends_are_ports rs c net p sound is bound =
     sums : (all e n s w j l pl a jj : ℕ) {aj pa : ℕ} → all ≡ e + n → n ≡ 0 + s → e + s ≡ w + j → w ≡ l → l ≡ pl + a → j ≡ jj → pa ≡ pl + aj → aj ≡ a + jj → all ≡ pa
     sums all e n s w j l pl a jj e1 e2 e3 e4 e5 e6 e7 e8 = omega arith
 
-pub free_ends_are_names : (rs : List Rule) (c : Configuration) (net : Net) (n : ℕ) → IsConfiguration c → IsNet rs c net
+pub free_ends_are_names : (rs : List Rule) (c : Configuration) (net : Net) (n : ℕ) → AtMostTwice c → IsNet rs c net
     → times (Free n) (ends net.wires.items) ≡ cond (occurrences n (configuration_names c) == 1) 1 0
-free_ends_are_names rs c net n sound is =
+free_ends_are_names rs c net n twice is =
     let ls = links_of rs c in
     let ss = standings 0 ls in
     let bound = are_bound rs c in
-    let low = are_few rs c sound in
+    let low = are_few rs c twice in
     let wires = ap (λ ws. times (Free n) (ends ws)) is.wires
     ∙ ap (times (Free n)) (flat_map-append (λ (w : Wire). w.from ∷ w.to ∷ []) (plain_wires ls) (name_wires ss))
     ∙ times-append (Free n) (ends (plain_wires ls)) (ends (name_wires ss)) in

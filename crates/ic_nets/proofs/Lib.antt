@@ -20,6 +20,13 @@ pub mod LikeLemmas
 pub mod CircleLemmas
 pub mod SameLemmas
 pub mod AlikeLemmas
+pub mod SumLemmas
+pub mod MarkLemmas
+pub mod ValueLemmas
+pub mod MovedLemmas
+pub mod DrawnLemmas
+pub mod CarriedLemmas
+pub mod GraphLemmas
 pub mod BackLemmas
 pub mod UnlikeLemmas
 pub mod PartedLemmas

@@ -34,10 +34,10 @@ module _ (n : ℕ) where
           at_other (e.0 == n) (s.name == n) (wire_named n (with_standing es s)) off rest
 
   -- the wire of a name that stands at these ports too
-  abbrev led : Option Wire → List Port → Option Wire
+  abbrev pub led : Option Wire → List Port → Option Wire
   led o ps = fold (λ (found : Option Wire) (p : Port). Some (wire_of found (record { name = n; port = p }))) o ps
 
-  named-all : (es : List (ℕ × Wire)) (ss : List Standing) → wire_named n (fold with_standing es ss) ≡ led (wire_named n es) (ports_at n ss)
+  pub named-all : (es : List (ℕ × Wire)) (ss : List Standing) → wire_named n (fold with_standing es ss) ≡ led (wire_named n es) (ports_at n ss)
   named-all es [] = refl
   named-all es (s ∷ ss) = named-all (with_standing es s) ss ∙ ap (λ o. led o (ports_at n ss)) (named-more es s) ∙ by (s.name == n) refl
     where

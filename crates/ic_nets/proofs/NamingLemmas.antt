@@ -287,7 +287,7 @@ module _ (rs : List Rule) (c : Configuration) (net : Net) (f : Port → ℕ) (ne
         ap (λ es. wire_part ++ es) (append-nil named_part) ∙ sym (map-append (wire_equation f) (plain_wires ls) (name_wires ss)) in
         let net_is : read_back f next net ≡ parts interface_names (agent_part ++ (joint_part ++ wire_equations f (plain_wires ls ++ name_wires ss))) next =
         λ i. parts (names_at f Interface 1 (is.interface i)) (agent_equations f 0 (is.agents i) ++ (joint_equations f 0 (is.joints i) ++ wire_equations f (is.wires i))) next in
-        leads-through laws _ _ _ (all_stood f laws next interface_names naming.free ss [] rest_part (are_bound rs c) (are_few rs c sound) tt)
+        leads-through laws _ _ _ (all_stood f laws next interface_names naming.free ss [] rest_part (are_bound rs c) (are_few rs c sound.twice) tt)
         (leads-through laws _ _ _ (leads-rearranged laws interface_names next _ _ (one_by_one _ _ _ (exchange named_part agent_part (joint_part ++ (wire_part ++ [])))
         (after_these agent_part _ _ (one_by_one _ _ _ (exchange named_part joint_part (wire_part ++ [])) (after_these joint_part _ _ (exchange named_part wire_part []))))))
         (leads-itself laws _ _ (ap (λ (es : List Pair). parts interface_names (agent_part ++ (joint_part ++ es)) next) wired ∙ sym net_is)))

@@ -6,7 +6,7 @@ use Rattle.std.proofs.lemmas.List.{length-map, map-append}
 use Rattle.std.proofs.lemmas.List.Concat.{flat_map-append}
 use Rattle.std.proofs.lemmas.List.Sums.{sum_by-cons}
 use Rattle.ic_term.specs.Tree.{Tree, name, agent, Trees, no_trees, more_trees, list_of, trees_of, Pair}
-use Rattle.ic_term.specs.Configuration.{Configuration, IsConfiguration, configuration_names, occurrences}
+use Rattle.ic_term.specs.Configuration.{Configuration, configuration_names, occurrences}
 use Rattle.ic_rules.specs.Rule.{Rule}
 use Rattle.ic_rules.specs.Renaming.{renamed, renamed_trees}
 use Rattle.ic_round.specs.Firing.{rule_of_sides}
@@ -24,8 +24,8 @@ use Rattle.ic_nets.specs.declared.links.Standing.{Standing}
 use Rattle.ic_nets.specs.declared.port.Port.{Port}
 use Rattle.ic_nets.specs.declared.port.Port.TheVariants.{Interface, Principal, Auxiliary, Left, Right, Free}
 use Rattle.ic_nets.proofs.PortLemmas.{times-append}
-use Rattle.ic_nets.proofs.NameLemmas.{AreBound, own_wires}
-use Rattle.ic_nets.proofs.EndLemmas.{are_bound, free_ends_are_names}
+use Rattle.ic_nets.proofs.NameLemmas.{AreBound, often, own_wires}
+use Rattle.ic_nets.proofs.EndLemmas.{AtMostTwice, are_bound, free_ends_are_names, often-names}
 
 module _ (f : ℕ → ℕ) where
   -- ---- agents
@@ -249,8 +249,8 @@ free_once : (b : Bool) (t k : ℕ) → t ≡ cond b 1 0 → 1 ≤ k → k ≤ t 
 free_once true t k e some le = refl
 free_once false t k e some le = absurd (omega arith)
 
-pub net_forgets : (rs : List Rule) (c d : Configuration) (net : Net) → IsConfiguration c → Renames c d → IsNet rs c net → IsNet rs d net
-net_forgets rs c d net sound renames is =
+pub net_forgets : (rs : List Rule) (c d : Configuration) (net : Net) → AtMostTwice c → Renames c d → IsNet rs c net → IsNet rs d net
+net_forgets rs c d net twice renames is =
     let f = renames.to in
     let ls = links_of rs c in
     let ss = standings 0 ls in
@@ -262,7 +262,7 @@ net_forgets rs c d net sound renames is =
     ∙ times-append (Free m) (ends (plain_wires ls)) (ends (name_wires ss)) in
     let free : (m : ℕ) → 1 ≤ times (Free m) (ends (name_wires ss)) → f m ≡ m =
     λ m some. renames.free m ((unsigned_Decides (occurrences m (configuration_names c)) 1).0
-    (free_once (occurrences m (configuration_names c) == 1) _ _ (free_ends_are_names rs c net m sound is) some (within _ _ _ (ends_in m)))) in
+    (free_once (occurrences m (configuration_names c) == 1) _ _ (free_ends_are_names rs c net m twice is) some (within _ _ _ (ends_in m)))) in
     let stay = wires_stay f (name_wires ss) free in
     let wires : plain_wires (links_of rs (renamed_in f c)) ++ name_wires (standings 0 (links_of rs (renamed_in f c))) ≡ plain_wires ls ++ name_wires ss =
     (λ i. plain_wires (links i) ++ name_wires (standings 0 (links i)))
@@ -278,3 +278,27 @@ net_forgets rs c d net sound renames is =
   where
     within : (t a b : ℕ) → t ≡ a + b → b ≤ t
     within t a b e = omega arith
+
+-- ---- names occur as often
+
+module _ (f g : ℕ → ℕ) (back : (n : ℕ) → g (f n) ≡ n) (there : (n : ℕ) → f (g n) ≡ n) (n : ℕ) where
+  often_renamed : (ss : List Standing) → often n (map (standing_named f) ss) ≡ often (g n) ss
+  often_renamed [] = refl
+  often_renamed (s ∷ ss) =
+      let test : (f s.name == n) ≡ (s.name == g n) = ap (λ m. f s.name == m) (sym (there n)) ∙ same_test f g back s.name (g n) in
+      λ i. cond (test i) 1 0 + often_renamed ss i
+
+pub still_twice : (c d : Configuration) → AtMostTwice c → Renames c d → AtMostTwice d
+still_twice c d twice renames n =
+    let f = renames.to in
+    let g = renames.from in
+    let same = ap (λ (e : Configuration). occurrences n (configuration_names e)) renames.result
+    ∙ sym (often-names [] (renamed_in f c) n)
+    ∙ ap (λ (ls : List Link). often n (standings 0 ls)) (links-renamed f [] c)
+    ∙ ap (often n) (standings-renamed f 0 (links_of [] c))
+    ∙ often_renamed f g renames.there_and_back renames.back_and_there n (standings 0 (links_of [] c))
+    ∙ often-names [] c (g n) in
+    low _ _ same (twice (g n))
+  where
+    low : (a b : ℕ) → a ≡ b → b ≤ 2 → a ≤ 2
+    low a b e le = omega arith

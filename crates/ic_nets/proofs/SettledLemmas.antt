@@ -65,3 +65,20 @@ settled_ends c d step =
     let none = no_choice_left (length c.equations) c (let same : length c.equations ≤ length c.equations = omega arith in same) in
     let still : is_settled (settled c) ≡ true = rw none refl in
     no_step_when_quiet [] (settled c) (and_both (inert (settled c).equations) still) d (name_step [] (settled c) d step)
+
+-- ---- settling leaves `next`
+
+abbrev with_next : ℕ → Configuration → Configuration
+with_next next c = record c { next = next }
+
+steps_next : (next n : ℕ) (c : Configuration) → settled_in n (with_next next c) ≡ with_next next (settled_in n c)
+steps_next next zero c = refl
+steps_next next (suc n) c = at (first_choice c.interface [] c.equations) refl (steps_next next n)
+  where
+    at : (found : Option Choice) → first_choice c.interface [] c.equations ≡ found → ((d : Configuration) → settled_in n (with_next next d) ≡ with_next next (settled_in n d))
+        → settled_in (suc n) (with_next next c) ≡ with_next next (settled_in (suc n) c)
+    at None e rest = rw e refl
+    at (Some choice) e rest = rw e (rest (applied c choice))
+
+pub settled_next : (next : ℕ) (c : Configuration) → settled c ≡ c → settled (with_next next c) ≡ with_next next c
+settled_next next c still = steps_next next (length c.equations) c ∙ ap (with_next next) still

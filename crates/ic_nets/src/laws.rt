@@ -1,6 +1,6 @@
 //! Laws of the definitions that the contracts of this crate cite.
 
-ghost use Rattle.std.specs.Prelude.{◌≡◌, ◌≤◌, ◌==◌, ◌++◌, ℕ, List, [], ◌∷◌, true, false, Some, codes, if◌then◌else◌, length, count_by, is_some};
+ghost use Rattle.std.specs.Prelude.{◌≡◌, ◌↔◌, ◌≤◌, ◌==◌, ◌++◌, ℕ, List, [], ◌∷◌, true, false, Some, codes, if◌then◌else◌, length, count_by, is_some};
 ghost use Rattle.std.specs.Fmt.{decimal};
 ghost use Rattle.std.specs.List.{list_all};
 ghost use Rattle.ic_term.specs.Configuration.{Configuration, IsConfiguration, configuration_names, occurrences};
@@ -122,15 +122,19 @@ pub fn same_nets_are_renamed_and_rearranged()
     ic_confluence::laws::same_nets_have_one_shape();
 }
 
-/// Configurations have nets that are alike where one is the other with its names turned into others, so also where they are one
-/// net and have no equations.
-pub fn renamed_nets_are_alike()
-    ensures renamed { (rs : List Rule) (c d : Configuration) (m n : Net) → IsConfiguration c
-        → Renames c d → IsNet rs c m → IsNet rs d n → AreAlike m n }
-    ensures same { (rs : List Rule) (c d : Configuration) (m n : Net) → IsConfiguration c
-        → Same c d → c.equations ≡ [] → IsNet rs c m → IsNet rs d n → AreAlike m n }
+/// Configurations that are one net have nets that are one graph. So those whose nets differ in a wire are two nets. Of settled
+/// configurations the nets are one graph exactly where, with some `next` for both, they are one net.
+pub fn same_nets_are_alike()
+    ensures same { (rs : List Rule) (c d : Configuration) (m n : Net)
+        → ((x : ℕ) → occurrences x (configuration_names c) ≤ 2)
+        → Same c d → IsNet rs c m → IsNet rs d n → AreAlike m n }
+    ensures settled { (rs : List Rule) (c d : Configuration) (m n : Net) → IsConfiguration c
+        → IsConfiguration d → settled c ≡ c → settled d ≡ d → IsNet rs c m → IsNet rs d n
+        → AreAlike m n
+        ↔ ((next : ℕ) × Same (record c { next = next }) (record d { next = next })) }
 {
     same_nets_are_renamed_and_rearranged();
+    alike_nets_settle_to_one();
 }
 
 /// To be alike is an equivalence of nets. Wires may stand in any order, and each with either end first.

@@ -5,4 +5,4 @@ pub returns-clause-bound : goal.returns-clause-bound
 returns-clause-bound c = ends_are_ports
 
 pub returns-clause-free : goal.returns-clause-free
-returns-clause-free c = free_ends_are_names
+returns-clause-free c rs k net n sound = free_ends_are_names rs k net n sound.twice
