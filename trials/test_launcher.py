@@ -48,7 +48,7 @@ class Launcher(Trial):
         super().setUp()
         self.calls = self.room / "calls"
         self.calls.write_text("")
-        for name in ("icserve", "Makefile"):
+        for name in ("icserve", "film", "Makefile"):
             shutil.copy(TOP / name, self.room / name)
         (self.room / "crates.txt").write_text("low:\nicserve: low\n")
         for part in ("src", "specs", "proofs"):
@@ -109,6 +109,7 @@ class Launcher(Trial):
         self.ended(self.launch("settle"), out=["proved"])
         self.says("is proved", self.make("install", "PREFIX=prefix"))
         self.ended(run(program=self.room / "prefix/bin/icserve"), out=["proved"])
+        self.holds(self.room / "prefix/bin/icserve-film", (TOP / "film").read_bytes())
         self.source.write_text("second\n")
         self.says(ISNT_PROVED, self.settles())
         self.says("isn't proved", self.make("install", "PREFIX=~/prefix"))
@@ -237,7 +238,7 @@ class FirstCommands(Trial):
         (self.room / "section.md").write_text((TOP / "README.md").read_text().split("## Try it")[1].split("\n## ")[0])
         told = ISNT_PROVED
         for command, wanted in [it for block in blocks_of(self.room / "section.md") for it in typed_in(block)]:
-            if "dot " in command and not shutil.which("dot"):
+            if ("dot " in command or "./film " in command) and not shutil.which("dot"):
                 continue
             words = ["sh", "-c", command.replace("/tmp/", f"{self.room}/")]
             ran = subprocess.run(words, cwd=copy, stdin=subprocess.DEVNULL, capture_output=True, timeout=PATIENCE * 12)

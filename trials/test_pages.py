@@ -40,6 +40,7 @@ class Pages(Trial):
     def setUp(self):
         super().setUp()
         (self.room / "icserve").symlink_to(PROGRAM)
+        (self.room / "film").symlink_to(TOP / "film")
         for it in ("examples", "cluster"):
             (self.room / it).symlink_to(TOP / it)
 
@@ -93,7 +94,7 @@ class Pages(Trial):
         self.equals("README.md and docs/", "pages without a command that is typed", set(), wanting)
         for page, commands in consoles:
             for command, wanted in commands:
-                if "| dot " in f"| {command}" and not shutil.which("dot"):
+                if re.search(r"(^|\| )(dot|\./film) ", command) and not shutil.which("dot"):
                     # Graphviz isn't needed for the rest: trials of the word itself look at what it prints.
                     continue
                 with self.subTest(page=str(page), command=command):
