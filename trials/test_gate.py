@@ -1,26 +1,26 @@
-"""`./gate` sums its parts, tells how long each proof took, and tells at its end what has failed. Scripts stand for its parts, so
-nothing is proved or tried here."""
+"""`./gate` sums its parts, tells how long each proof took and what it waited for, and tells at its end what has failed. Scripts
+stand for its parts, so nothing is proved or tried here."""
 
 import os
 import re
 import shutil
 import subprocess
-import time
 
 from program import TOP, Trial
 
-# Stands for `rt`: proves a library in a copy, and then the program here, and says what the variables have it say.
+# Stands for `rt ci`: proves a library in a copy, and the program here half a second after it, if no variable has it fail.
 RT = """#!/bin/sh
 echo "$*, $RT_JOBS" >>"$CALLS"
-out=$TMPDIR/rt-copy-$$-x/repo/crates/ic_low/out last='2 passed, 0 failed (alone)'
-[ -n "$2" ] || out=crates/icserve/out last='7 passed, 0 failed'
-mkdir -p $out
+mkdir -p $TMPDIR/rt-copy-$$-x/repo/crates/ic_low/out
 sleep 1.2
-[ -z "$2" ] && [ -n "$FAILS" ] && last='6 passed, 1 failed' &&
-    printf '== icserve\\n./src/main.rt:3:1: error: a type\\nfn main: not proved\\nrt: icserve NOT PROVED\\nrt: FAILED: icserve\\n'
-if [ -n "$2" ]; then echo "rt: ic_low proved"; elif [ -z "$FAILS" ]; then echo "rt: icserve proved"; fi
-echo "$last"
-[ "$last" != '6 passed, 1 failed' ]
+echo "rt: ic_low proved"
+sleep 0.5
+mkdir -p crates/icserve/out
+sleep 2.2
+[ -n "$FAILS" ] || { echo "rt: icserve proved"; echo "9 passed, 0 failed"; exit; }
+printf '== icserve\\n./src/main.rt:3:1: error: a type\\nfn main: not proved\\nrt: icserve NOT PROVED\\nrt: FAILED: icserve\\n'
+echo "6 passed, 1 failed"
+exit 1
 """
 
 # Stands for the trials: one fails where the program isn't said to be proved of its sources.
@@ -40,7 +40,7 @@ class Gate(Trial):
         super().setUp()
         for name in ("gate", "icserve"):
             shutil.copy(TOP / name, self.room / name)
-        files = {"crates.txt": "icserve:\n", "tools/rt": RT, "trials/__main__.py": TRIALS, "checks/layout.py": "print('9 passed, 0 failed')\n"}
+        files = {"crates.txt": "ic_low: std\nicserve: ic_low std\n", "tools/rt": RT, "trials/__main__.py": TRIALS, "checks/layout.py": "print('9 passed, 0 failed')\n"}
         for part in ("src", "specs", "proofs"):
             files[f"crates/icserve/{part}/file"] = "text\n"
         for path, text in files.items():
@@ -60,18 +60,15 @@ class Gate(Trial):
         return ran.stdout.splitlines()
 
     def test_it_sums_its_parts_and_tells_how_long_each_proof_took(self):
-        before = time.monotonic()
         lines = self.gate(0)
-        took = time.monotonic() - before
-        self.equals("./gate", "its last line", "17 passed, 0 failed", lines[-1])
+        self.equals("./gate", "its last line", "19 passed, 0 failed", lines[-1])
         self.equals("./gate", f"whether the trials draw by one seed: {lines}", True, "trials: SEED=1" in lines)
-        for name in ("ic_low", "icserve"):
-            seconds = [int(it[1]) for it in (re.fullmatch(rf"gate: +(\d+) s  {name}", line) for line in lines) if it]
-            self.equals("./gate", f"how often it tells {name}: {lines}", 1, len(seconds))
-            is_told = int(subprocess.check_output(["stat", "-c", "%W", self.room])) > 0
-            self.equals("./gate", f"whether {name} took some of {took} seconds: {lines}", is_told, 1 <= seconds[0] <= took)
-        processors = len(os.sched_getaffinity(0))
-        self.holds(self.room / "calls", f"ci ic_flat_round, \nci, {processors}\n")
+        told = [it[1] for it in (re.fullmatch(r"gate: +(.*)", line) for line in lines) if it]
+        if int(subprocess.check_output(["stat", "-c", "%W", self.room])) > 0:
+            wanted = ["N s  icserve, N s after ic_low", "N s  ic_low, N s after the gate began", "N processor minutes in N minutes"]
+            self.equals("./gate", f"what it tells of the proofs: {told}", wanted, [re.sub(r"\d+", "N", it) for it in told])
+            self.equals("./gate", f"whether it tells how long they took: {told}", True, [int(it.split()[0]) for it in told[:2]] >= [2, 1])
+        self.holds(self.room / "calls", f"ci, {len(os.sched_getaffinity(0))}\n")
 
     def test_what_has_failed_is_told_last(self):
         (self.room / "checks/layout.py").write_text(LAYOUT)

@@ -4,3 +4,4 @@ pub mod WaitingTerms
 pub mod Slots
 pub mod Orienting
 pub mod Replacing
+pub mod Underway

@@ -1,9 +1,12 @@
 //! The one pass of settling over the equations.
 
-ghost use Rattle.std.specs.Prelude.{◌≡◌, IfOk, length, map};
+ghost use Rattle.std.specs.Prelude.{◌≡◌, ◌∷◌, List, IfOk, OnOk, length, map};
+ghost use Rattle.ic_term.specs.Tree.{Pair};
 ghost use Rattle.ic_term.specs.Term.{tree, pair};
+ghost use Rattle.ic_term.specs.Configuration.{Configuration, IsConfiguration};
 ghost use Rattle.ic_settle.specs.Bindings.{replaced};
 ghost use Rattle.ic_reference.specs.inner.WaitingTerms.{waiting};
+ghost use Rattle.ic_reference.specs.inner.Underway.{IsUnderway};
 ghost use Rattle.ic_settle.specs.lemmas.Passed.{IsPassed, bound_sides};
 
 use crate::applicability::other_side;
@@ -26,6 +29,56 @@ pub(crate) struct Passed {
     pub chosen: Vec<Option<Applicable>>,
 }
 
+/// What is noted while the equations are gone through.
+#[derive(Drop)]
+struct Passing {
+    containers: Containers,
+    bindings: Bindings,
+    kept: Vec<Equation>,
+    chosen: Vec<Option<Applicable>>,
+}
+
+impl Passing {
+    /// Nothing is noted yet, and there is room for each equation.
+    fn new(alloc: Global, interface: &[Term], equations: &[Equation]) -> Result<Passing, AllocError>
+        ensures { IfOk result (λ p. (c : Configuration) → IsConfiguration c
+            → map tree interface.now ≡ c.interface → map pair equations.now ≡ c.equations
+            → IsUnderway c p c.equations) }
+    {
+        let containers = Containers::of(alloc, interface, equations)?;
+        let bindings = Bindings::with_capacity(alloc, equations.len())?;
+        let kept = Vec::with_capacity(alloc, equations.len())?;
+        Ok(Passing {
+            containers,
+            bindings,
+            kept,
+            chosen: Vec::with_capacity(alloc, equations.len())?,
+        })
+    }
+
+    /// Resolves the sides of the next equation. If one is applicable, the equation is removed, and
+    /// its other side waits for that name. Else it stays.
+    fn look_at(&mut self, equation: Equation) -> Result<(), AllocError>
+        requires { (c : Configuration) × ((rest : List Pair)
+            × IsUnderway c self.old (pair equation ∷ rest)) }
+        ensures { OnOk result ((c : Configuration) (rest : List Pair)
+            → IsUnderway c self.old (pair equation ∷ rest) → IsUnderway c self.new rest) }
+    {
+        let left = self.bindings.resolved(equation.left);
+        let right = self.bindings.resolved(equation.right);
+        let equation = Equation { left, right };
+        let applicable = self.containers.applicable(&equation, self.chosen.len());
+        self.chosen.push(applicable)?;
+        match applicable {
+            Some(Applicable { name, side }) => {
+                self.bindings.insert(name, other_side(equation, side))?;
+            }
+            None => self.kept.push(equation)?,
+        }
+        Ok(())
+    }
+}
+
 /// Goes through the equations once. Each whose resolved sides have an applicable one is removed,
 /// and its other side waits for that name.
 pub(crate) fn pass(alloc: Global, config: Config) -> Result<Passed, AllocError>
@@ -38,21 +91,16 @@ pub(crate) fn pass(alloc: Global, config: Config) -> Result<Passed, AllocError>
         (λ p. bound_sides config.equations p.chosen.items ≡ replaced config) }
 {
     let (interface, equations, next) = config.into_parts();
-    let mut containers = Containers::of(alloc, &interface, &equations)?;
-    let mut bindings = Bindings::with_capacity(alloc, equations.len())?;
-    let mut kept = Vec::with_capacity(alloc, equations.len())?;
-    let mut chosen = Vec::with_capacity(alloc, equations.len())?;
+    let mut passing = Passing::new(alloc, &interface, &equations)?;
     for equation in equations {
-        let left = bindings.resolved(equation.left);
-        let right = bindings.resolved(equation.right);
-        let equation = Equation { left, right };
-        let applicable = containers.applicable(&equation, chosen.len());
-        chosen.push(applicable)?;
-        match applicable {
-            Some(Applicable { name, side }) => bindings.insert(name, other_side(equation, side))?,
-            None => kept.push(equation)?,
-        }
+        passing.look_at(equation)?;
     }
+    let Passing {
+        bindings,
+        kept,
+        chosen,
+        ..
+    } = passing;
     Ok(Passed {
         interface,
         kept,
