@@ -1,7 +1,7 @@
 """Nets without the program: a plain reduction by steps in any order, written from docs/calculus.md, and a form that two
 configurations share just where they are one net. Terms are those of `model`."""
 
-from collections import defaultdict
+from collections import Counter, defaultdict
 
 import model
 
@@ -99,6 +99,17 @@ def phrases_of(line):
     phrases = reader.configuration()
     reader.end()
     return phrases
+
+
+def puttable(line):
+    """The names of a configuration that was printed for which a term could be put: sides of equations that occur elsewhere."""
+    interface, equations = phrases_of(line)
+    everywhere = Counter(it for term in (*interface, *model.flat(equations)) for it in term if isinstance(it, int))
+    found = []
+    for sides in equations:
+        here = Counter(it for it in model.flat(sides) if isinstance(it, int))
+        found += [side[0] for side in sides if isinstance(side[0], int) and everywhere[side[0]] > here[side[0]]]
+    return found
 
 
 def form_of(rules, line):

@@ -43,6 +43,7 @@ class DrawnInPlace(Trial):
         wanted = plain.net()
         self.equals(ran.command, "the model's net", wanted, nets.form_of(rules, ran.out))
         self.equals(ran.command, "standard error", self.stuck_line(ran.out), rest)
+        self.equals(ran.command, "names for which a term could be put", [], nets.puttable(ran.out))
         by_rounds = run("reduce", "--rounds", 10_000, given=text)
         if by_rounds.status == 0:
             self.seen["by rounds"] += 1
@@ -99,6 +100,25 @@ class DrawnInPlace(Trial):
 
         self.all_are_reduced(system)
         self.have_come(quiet=40, by_rounds=30, cut=30)
+
+    def test_circles_at_which_terms_hang(self):
+        def system(drawn):
+            cells = range(drawn.randint(1, 12))
+            users = [drawn.choice(cells) for _ in cells]
+            equations = []
+            for cell in cells:
+                names = [model.name_text(it) for it in cells if users[it] == cell]
+                terms = names + ["Z"] * drawn.randrange(2)
+                drawn.shuffle(terms)
+                agent = chr(ord("A") + len(terms)) + (f"({','.join(terms)})" if terms else "")
+                sides = [model.name_text(cell), agent]
+                drawn.shuffle(sides)
+                equations.append("=".join(sides))
+            drawn.shuffle(equations)
+            return model.read_system(("{}<|" + ",".join(equations) + ">").encode())
+
+        self.all_are_reduced(system)
+        self.have_come(quiet=100, by_rounds=100)
 
     def test_known_rules_over_drawn_configurations(self):
         def system(drawn):

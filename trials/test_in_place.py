@@ -208,6 +208,31 @@ class HardNets(InPlace):
             self.equals(ran.command, "status and standard error", (0, b""), (ran.status, ran.err))
             self.is_net(ran.command, text, ran.out, wanted)
 
+    def test_what_hangs_at_a_circle_is_put_into_it(self):
+        for text, wanted in (
+            ("{} <|x=A(Z),y=B(x,y)>", "<|a=B(A(Z),a)>"),
+            ("{} <|y=B(x,y),x=A(Z)>", "<|a=B(A(Z),a)>"),
+            ("{} <|x=A(Z),y=B(y,x),z=C(z)>", "<|a=B(a,A(Z)),b=C(b)>"),
+            ("{} <|x=A(p,y),y=B(q,z),z=C(r,x),p=S(Z),q=T(s,Z),s=S(S(Z)),r=Z>", "<|x=A(S(Z),B(T(S(S(Z)),Z),C(Z,x)))>"),
+            ("{} <|p=S(Z),q=S(p),r=T(q,s),s=S(Z),x=A(r,x),t=S(u),u=S(v),v=A(t,w),w=Z>", "<|x=A(T(S(S(Z)),S(Z)),x),t=S(S(A(t,Z)))>"),
+            ("{} <a,b|x=A(a),y=B(x,y),b=S(d),d=Z>", "<a,S(Z)|y=B(A(a),y)>"),
+            ("{E(x,y)><F(x,y)} <|E(p,x)=F(A(Z),B(p,x))>", "<|a=B(A(Z),a)>"),
+        ):
+            ran = run("reduce", given=text)
+            self.equals(ran.command, "status and standard error", (0, b""), (ran.status, ran.err))
+            self.is_net(ran.command, text, ran.out, wanted)
+            self.equals(ran.command, "names for which a term could be put", [], nets.puttable(ran.out))
+        self.reduces(given="{} <|x=A(Z),y=B(x,y)>", out=["<|a=B(A(Z),a)>"], interactions=0)
+
+    def test_a_long_tail_at_a_circle_is_put_into_it(self):
+        names = [model.name_text(it) for it in range(2_000)]
+        tail = [f"{one}=S({two})" for one, two in zip(names[1:], names)]
+        whole = "a=A(" + "S(" * 1_999 + "Z" + ")" * 1_999 + ",a)"
+        for order in (tail, tail[::-1], tail[::2] + tail[1::2]):
+            ends = [f"{names[0]}=Z", f"z9999=A({names[-1]},z9999)"]
+            for equations in (ends + order, order + ends):
+                self.reduces(given="{} <|" + ",".join(equations) + ">", out=[f"<|{whole}>"], interactions=0)
+
     def test_rings_through_many_names_and_many_rules_become_circles(self):
         names = [model.name_text(it) for it in range(3_000)]
         around = list(zip(names, names[1:] + names[:1]))

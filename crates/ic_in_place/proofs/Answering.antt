@@ -19,6 +19,7 @@ use Rattle.ic_naming.specs.Naming.{RenamesUntold, renamed_word, renumbered, renu
 use Rattle.ic_naming.specs.lemmas.RenamedWords.{forest-renamed, whole-renamed, word_over-renamed}
 use Rattle.ic_naming.specs.lemmas.Renumbered.{renumbered-written}
 use Rattle.ic_round.specs.Naming.{HasNames}
+use Rattle.ic_round.specs.Rounds.{IsQuiet}
 use Rattle.ic_reaching.specs.OneNet.{OneNet}
 use Rattle.ic_reaching.specs.Reaching.{Reaches}
 use Rattle.ic_machine.specs.Net.{Net, pieces, HasNext, IsStuck}
@@ -65,15 +66,14 @@ pub record AnswerLaws : Type 0 where
   pub forgets : (f : ℕ → ℕ) (ws : List FlatWord) → RenamesUntold f (flat_map word_names ws) → renumbered_words (map (renamed_word f) ws) ≡ renumbered_words ws
 
 -- what the stop says is what the end does
-ends_alike : AnswerLaws → (s : SystemParts) (bounds : Bounds) (p : Plans) (c d : Configuration) (m : Net) (places : ℕ) (end : End) → OneNet c d
-    → (HasNext p m.pending → CanInteract s.rules.rules d) → (m.pending ≡ [] → AllByRecursion (IsStuck p) m.aside → IsPutTogether d)
-    → StopsBy s bounds p c m places end → EndsBy s.rules.rules bounds d m.interactions places end
-ends_alike laws s bounds p c d m places Quiet net next together ((e, one, quiet), none, stuck) =
-    ((e, laws.through d c e (laws.other_way c d net) one, quiet), together none stuck)
-ends_alike laws s bounds p c d m places Steps net next together is = (is.0, next is.1)
-ends_alike laws s bounds p c d m places Nodes net next together is = is
-ends_alike laws s bounds p c d m places Limit net next together is = is
-ends_alike laws s bounds p c d m places end.Memory net next together is = is
+ends_alike : (s : SystemParts) (bounds : Bounds) (p : Plans) (d : Configuration) (m : Net) (places : ℕ) (end : End)
+    → (HasNext p m.pending → CanInteract s.rules.rules d) → (m.pending ≡ [] → AllByRecursion (IsStuck p) m.aside → IsQuiet s.rules.rules d × IsPutTogether d)
+    → StopsBy bounds p m places end → EndsBy s.rules.rules bounds d m.interactions places end
+ends_alike s bounds p d m places Quiet next quiet is = quiet is.0 is.1
+ends_alike s bounds p d m places Steps next quiet is = (is.0, next is.1)
+ends_alike s bounds p d m places Nodes next quiet is = is
+ends_alike s bounds p d m places Limit next quiet is = is
+ends_alike s bounds p d m places end.Memory next quiet is = is
 
 numbered_names : (given : List ℕ) (ts : List Token) → AllByRecursion (IsNumbered given) ts → AllByRecursion (HasNumber given) (names_of ts)
 numbered_names given [] all = tt
@@ -103,11 +103,12 @@ pub answered_so : AnswerLaws → (s : SystemParts) (bounds : Bounds) (given : Li
     → OneNet (net_of stopped.held.numbers m.interface (pieces m)) (configuration_read stopped.held.numbers ts terms)
     → (HasNext stopped.plans m.pending → CanInteract s.rules.rules (configuration_read stopped.held.numbers ts terms))
     → (m.pending ≡ [] → AllByRecursion (IsStuck stopped.plans) m.aside → HasNames (configuration_read stopped.held.numbers ts terms)
-    → AreGiven stopped.held.numbers.given (configuration_read stopped.held.numbers ts terms) → IsPutTogether (configuration_read stopped.held.numbers ts terms))
+    → AreGiven stopped.held.numbers.given (configuration_read stopped.held.numbers ts terms)
+    → IsQuiet s.rules.rules (configuration_read stopped.held.numbers ts terms) × IsPutTogether (configuration_read stopped.held.numbers ts terms))
     → IsWhole (flat_words stopped.held.numbers ts) → length (forest (flat_words stopped.held.numbers ts)) ≡ terms + 2 * equations
     → AllByRecursion (IsNumbered given) ts → words ≡ renumbered_words (flat_words (written_numbers (arities_of s) given) ts)
     → (answer : Configuration) × IsReached s bounds answer end m.interactions places × Writes s.rules.symbols words terms equations answer
-answered_so laws s bounds given m end places stopped ts terms equations words net next together whole counted numbered written =
+answered_so laws s bounds given m end places stopped ts terms equations words net next quiet whole counted numbered written =
     let held = stopped.held in
     let n : Numbers = held.numbers in
     let here : Configuration = net_of n m.interface (pieces m) in
@@ -139,7 +140,7 @@ answered_so laws s bounds given m end places stopped ts terms equations words ne
         counted = stopped.counted;
         within = stopped.within;
         held = held_at s bounds given m end places answer stopped net;
-        ended = ends_alike laws s bounds stopped.plans here answer m places end net next (λ none stuck. together none stuck net.names_too are) stopped.ended;
+        ended = ends_alike s bounds stopped.plans answer m places end next (λ none stuck. quiet none stuck net.names_too are) stopped.ended;
       }),
       transport (λ (l : List FlatWord). Writes rs.symbols l terms equations answer) (sym words_are) (writes_so rs.symbols ws terms equations answer whole counted refl refl over),
     )

@@ -12,4 +12,3 @@ pub mod OneText
 pub mod Answered
 pub mod Written
 pub mod Interacts
-pub mod QuietEnds

@@ -1,5 +1,5 @@
 -- Lemmas: what is reached and quiet, and every order.
-use Rattle.std.proofs.Common.{◌≡◌, ℕ, List, [], ◌∷◌, ◌++◌, length, refl, sym, ◌∙◌, arith, sum_by}
+use Rattle.std.proofs.Common.{◌≡◌, ℕ, List, [], ◌∷◌, ◌++◌, length, refl, sym, ◌∙◌, arith, sum_by, subst as transport}
 use Rattle.std.specs.Prelude.{IsPermutation, IsTrue}
 use Rattle.std.proofs.lemmas.List.Sorted.{sum_by-IsPermutation}
 use Rattle.std.proofs.lemmas.List.Sums.{sum_by-cons}
@@ -9,15 +9,13 @@ use Rattle.ic_rules.specs.Rule.{Rule}
 use Rattle.ic_rules.specs.RuleSet.{Rules, IsRuleSet}
 use Rattle.ic_settle.specs.NameSteps.{no_step}
 use Rattle.ic_round.specs.Naming.{HasNames}
-use Rattle.ic_round.specs.Rounds.{IsQuiet, iterate}
+use Rattle.ic_round.specs.Rounds.{IsQuiet}
 use Rattle.ic_confluence.specs.Kinds.{Kind, Chain}
 use Rattle.ic_reaching.specs.OneNet.{OneNet, SameButNext}
 use Rattle.ic_reaching.specs.Reaching.{Reaches, rules_fired}
-use Rattle.ic_in_place.specs.Reducing.{HasQuiet}
 
 -- what the laws say that this one builds on
 pub record OrderLaws : Type 0 where
-  pub through : (c d e : Configuration) → OneNet c d → OneNet d e → OneNet c e
   pub itself : (rs : List Rule) (c : Configuration) → HasNames c → Reaches rs c c []
   pub net : (rs : List Rule) (c d e : Configuration) (fired : List ℕ) → Reaches rs c d fired → OneNet d e → Reaches rs c e fired
   pub names : (rs : List Rule) (c d : Configuration) (fired : List ℕ) → Reaches rs c d fired → HasNames d
@@ -26,10 +24,6 @@ pub record OrderLaws : Type 0 where
   pub every_order : (rs : Rules) (c d e : Configuration) (fired : List ℕ) (kinds : List Kind) → IsRuleSet rs → IsTrue (is_over rs.symbols c) → HasNames c
       → Reaches rs.rules c d fired → IsQuiet rs.rules d → Chain rs.rules kinds c e → IsQuiet rs.rules e
       → SameButNext d e × IsPermutation fired (rules_fired kinds)
-  pub some_rounds : (rs : Rules) (c d : Configuration) (fired : List ℕ) → IsRuleSet rs → IsTrue (is_over rs.symbols c) → HasNames c
-      → Reaches rs.rules c d fired → IsQuiet rs.rules d → (n : ℕ) × IsQuiet rs.rules (iterate rs.rules n c)
-  pub rounds : (rs : Rules) (n : ℕ) (c d : Configuration) (fired : List ℕ) → IsRuleSet rs → IsTrue (is_over rs.symbols c) → HasNames c
-      → Reaches rs.rules c d fired → IsQuiet rs.rules d → IsQuiet rs.rules (iterate rs.rules n c) → SameButNext d (iterate rs.rules n c)
 
 one_net : (c d : Configuration) → HasNames c → HasNames d → SameButNext c d → OneNet c d
 one_net c d named named_too same = record {
@@ -51,25 +45,19 @@ as_many xs ys moved = sym (same_length ys) ∙ sum_by-IsPermutation (λ x. 1) xs
 
 -- whichever order ends quiet, it ends in the net that was reached, with as many interactions
 pub every_order_so : OrderLaws → (rs : Rules) (c answer e : Configuration) (fired : List ℕ) (kinds : List Kind) → IsRuleSet rs → IsTrue (is_over rs.symbols c) → HasNames c
-    → Reaches rs.rules c answer fired → HasQuiet rs.rules answer → Chain rs.rules kinds c e → IsQuiet rs.rules e
+    → Reaches rs.rules c answer fired → IsQuiet rs.rules answer → Chain rs.rules kinds c e → IsQuiet rs.rules e
     → OneNet answer e × (length (rules_fired kinds) ≡ length fired)
 every_order_so laws rs c answer e fired kinds set over named reached quiet chain still =
-    let d = quiet.0 in
-    let there : Reaches rs.rules c d fired = laws.net rs.rules c answer d fired reached quiet.1 in
-    let same = laws.every_order rs c d e fired kinds set over named there quiet.2 chain still in
+    let same = laws.every_order rs c answer e fired kinds set over named reached quiet chain still in
     let ended = laws.chain rs c c e [] kinds set over named (laws.itself rs.rules c named) chain in (
-      laws.through answer d e quiet.1 (one_net d e (laws.names rs.rules c d fired there) (laws.names rs.rules c e (rules_fired kinds) ended) same.0),
+      one_net answer e (laws.names rs.rules c answer fired reached) (laws.names rs.rules c e (rules_fired kinds) ended) same.0,
       as_many fired (rules_fired kinds) same.1,
     )
 
--- some number of rounds ends quiet, and whichever does is the net that was reached
-pub rounds_so : OrderLaws → (rs : Rules) (n : ℕ) (c answer : Configuration) (fired : List ℕ) → IsRuleSet rs → IsTrue (is_over rs.symbols c) → HasNames c
-    → Reaches rs.rules c answer fired → HasQuiet rs.rules answer → IsQuiet rs.rules (iterate rs.rules n c)
-    → (d : Configuration) × OneNet answer d × SameButNext d (iterate rs.rules n c)
-rounds_so laws rs n c answer fired set over named reached quiet still =
-    (quiet.0, quiet.1, laws.rounds rs n c quiet.0 fired set over named (laws.net rs.rules c answer quiet.0 fired reached quiet.1) quiet.2 still)
-
-pub some_rounds_so : OrderLaws → (rs : Rules) (c answer : Configuration) (fired : List ℕ) → IsRuleSet rs → IsTrue (is_over rs.symbols c) → HasNames c
-    → Reaches rs.rules c answer fired → HasQuiet rs.rules answer → (n : ℕ) × IsQuiet rs.rules (iterate rs.rules n c)
-some_rounds_so laws rs c answer fired set over named reached quiet =
-    laws.some_rounds rs c quiet.0 fired set over named (laws.net rs.rules c answer quiet.0 fired reached quiet.1) quiet.2
+-- what is reached from what was reached is reached, by as many interactions as both
+pub reached_through : OrderLaws → (rs : Rules) (c d e : Configuration) (fired more : List ℕ) → IsRuleSet rs → IsTrue (is_over rs.symbols c) → HasNames c
+    → Reaches rs.rules c d fired → Reaches rs.rules d e more → Reaches rs.rules c e (fired ++ more)
+reached_through laws rs c d e fired more set over named first second =
+    laws.net rs.rules c second.end e (fired ++ more)
+    (transport (λ l. Reaches rs.rules c second.end (fired ++ l)) second.interactions (laws.chain rs c d second.end fired second.kinds set over named first second.chain))
+    second.net

@@ -8,18 +8,14 @@ use Rattle.ic_term.specs.Symbol.{is_over}
 use Rattle.ic_rules.specs.RuleSet.{Rules, IsRuleSet}
 use Rattle.ic_rules.specs.System.{SystemParts}
 use Rattle.ic_round.specs.Naming.{HasNames}
-use Rattle.ic_round.specs.Rounds.{IsQuiet}
-use Rattle.ic_reaching.specs.OneNet.{OneNet}
-use Rattle.ic_machine.specs.Net.{Net, pieces, IsAtPlace, IsStuck}
+use Rattle.ic_machine.specs.Net.{Net, IsStuck}
 use Rattle.ic_machine.specs.Plan.{Planned, Plans, ArePlans, IsPlan}
 use Rattle.ic_machine.specs.Runs.{IsStart, Ran}
-use Rattle.ic_meaning.specs.Nets.{net_of}
 use Rattle.ic_meaning.specs.Plans.{ArePlansOf, StandsForNet, rule_number}
 use Rattle.ic_in_place.specs.declared.running.Bounds.{Bounds}
 use Rattle.ic_in_place.specs.declared.running.End.{End}
 use Rattle.ic_in_place.specs.declared.running.End.TheVariants.{Quiet, Steps, Nodes, Limit, Memory}
-use Rattle.ic_in_place.specs.Holding.{AreGiven, AreCompiled, HasRun, Holds, HasEnded}
-use Rattle.ic_in_place.specs.Reducing.{HasQuiet}
+use Rattle.ic_in_place.specs.Holding.{AreGiven, AreCompiled, HasRun, Holds}
 use Rattle.ic_in_place.specs.Running.{RunsOn, IsWatched}
 use Rattle.ic_in_place.proofs.Onward.{ran_nothing, ran_nothing-fired}
 use Rattle.ic_in_place.specs.inner.Stopping.{arities_of, IsSound, IsBegun, StopsBy, HasStopped}
@@ -53,25 +49,22 @@ pub record StopLaws : Type 0 where
   pub reached : (rs : Rules) (numbers : List ℕ) (p : Plans) (c : Configuration) (given : List ℕ) (plan : Planned) (operands : List ℕ) (m : Net)
       → IsRuleSet rs → IsTrue (is_over rs.symbols c) → HasNames c → AreCompiled rs numbers p c given plan operands
       → (run : HasRun p (length given) plan operands m) → Holds rs p c given (map (rule_number numbers) run.ran.fired) m
-  pub ends : (rs : Rules) (numbers : List ℕ) (p : Plans) (c : Configuration) (given fired : List ℕ) (plan : Planned) (operands : List ℕ) (m : Net)
-      → IsRuleSet rs → AreCompiled rs numbers p c given plan operands → HasRun p (length given) plan operands m → HasEnded m
-      → (held : Holds rs p c given fired m) → (e : Configuration) × OneNet (net_of held.numbers m.interface (pieces m)) e × IsQuiet rs.rules e
 
-by_end : (s : SystemParts) (bounds : Bounds) (p : Plans) (old m : Net) (c : Configuration) (places : ℕ) (end : End) → old.interactions ≡ 0
-    → RunsOn p bounds.steps end old m → (end ≡ Quiet → HasQuiet s.rules.rules c) → AllByRecursion (IsStuck p) m.aside → (end ≡ Nodes → bounds.nodes < places) → StopsBy s bounds p c m places end
-by_end s bounds p old m c places Quiet none runs quiet stuck nodes = (quiet refl, runs.quiet refl, stuck)
-by_end s bounds p old m c places Steps none runs quiet stuck nodes = let all = runs.all refl in (omega (arith, all, none), runs.more refl)
-by_end s bounds p old m c places Nodes none runs quiet stuck nodes = nodes refl
-by_end s bounds p old m c places Limit none runs quiet stuck nodes = tt
-by_end s bounds p old m c places Memory none runs quiet stuck nodes = tt
+by_end : (bounds : Bounds) (p : Plans) (old m : Net) (places : ℕ) (end : End) → old.interactions ≡ 0
+    → RunsOn p bounds.steps end old m → AllByRecursion (IsStuck p) m.aside → (end ≡ Nodes → bounds.nodes < places) → StopsBy bounds p m places end
+by_end bounds p old m places Quiet none runs stuck nodes = (runs.quiet refl, stuck)
+by_end bounds p old m places Steps none runs stuck nodes = let all = runs.all refl in (omega (arith, all, none), runs.more refl)
+by_end bounds p old m places Nodes none runs stuck nodes = nodes refl
+by_end bounds p old m places Limit none runs stuck nodes = tt
+by_end bounds p old m places Memory none runs stuck nodes = tt
 
 pub stopped_so : StopLaws → (s : SystemParts) (bounds : Bounds) (numbers : List ℕ) (p : Plans) (given : List ℕ) (plan : Planned) (operands : List ℕ) (old m : Net) (end : End) (places : ℕ)
     → IsSound s → p.arities ≡ arities_of s → ArePlans p → ArePlansOf s.rules numbers p
     → IsStart (arities_of s) (length given) plan operands → StandsForNet (arities_of s) given s.config plan operands
     → ((x : ℕ) → (occurrences x (configuration_names s.config) ≡ 1) ↔ Contains given x)
-    → IsBegun p (length given) plan operands old → Ran p old m → RunsOn p bounds.steps end old m → AllByRecursion IsAtPlace m.places
+    → IsBegun p (length given) plan operands old → Ran p old m → RunsOn p bounds.steps end old m
     → (end ≡ Nodes → bounds.nodes < places) → places ≡ m.names + sum m.agents → length m.places ≤ places → IsWatched p bounds.nodes old m → HasStopped s bounds given m end places
-stopped_so laws s bounds numbers p given plan operands old m end places sound arities plans of_rules start stands are begun ran runs at_places nodes all enough watched =
+stopped_so laws s bounds numbers p given plan operands old m end places sound arities plans of_rules start stands are begun ran runs nodes all enough watched =
     let count : length (arities_of s) ≡ length s.rules.symbols = length-map s.rules.symbols (λ x. x.arity) in
     let compiled : AreCompiled s.rules numbers p s.config given plan operands = record {
       plans = plans;
@@ -111,9 +104,7 @@ stopped_so laws s bounds numbers p given plan operands old m end places sound ar
           (record { first = old; starts = begun.starts; separate = begun.separate; aside = begun.aside; ran = ran_nothing p old }));
       none = begun.none;
       watched = watched;
-      ended = by_end s bounds p old m (net_of held.numbers m.interface (pieces m)) places end begun.none runs
-          (λ is. laws.ends s.rules numbers p s.config given (map (rule_number numbers) ran.fired) plan operands m sound.rules compiled run
-          (record { pending = runs.quiet is; places = at_places }) held)
+      ended = by_end bounds p old m places end begun.none runs
           (transport (AllByRecursion (IsStuck p)) (sym (ran.aside ∙ ap (λ es. es ++ ran.more) begun.aside)) ran.stuck)
           nodes;
     }

@@ -1,25 +1,25 @@
 -- Lemmas: what is read back where no pair is left is put together.
-use Rattle.std.proofs.Common.{◌≡◌, ℕ, zero, suc, ◌+◌, ◌≤◌, List, [], ◌∷◌, ◌++◌, length, take, drop, refl, sym, ap, ◌∙◌, arith, append_assoc, subst as transport}
-use Rattle.std.specs.List.{flat_map, AllByRecursion}
+use Rattle.std.proofs.Common.{◌≡◌, ℕ, zero, suc, ◌+◌, ◌*◌, ◌≤◌, List, [], ◌∷◌, ◌++◌, length, take, drop, refl, sym, ap, arith, subst as transport}
+use Rattle.std.specs.List.{AllByRecursion}
 use Rattle.std.proofs.lemmas.List.{take-append-drop}
-use Rattle.std.proofs.lemmas.List.Concat.{flat_map-append}
-use Rattle.ic_term.specs.Tree.{Tree, name, names, agent, Pair, pair_names}
-use Rattle.ic_term.specs.Configuration.{Configuration, names_in, configuration_names, occurrences}
-use Rattle.ic_settle.specs.lemmas.SubstitutionLaws.{occurrences-append}
+use Rattle.ic_term.specs.Tree.{Tree, name, names, agent, Pair}
+use Rattle.ic_term.specs.Configuration.{Configuration, configuration_names, occurrences}
 use Rattle.ic_flat.specs.Words.{forest}
 use Rattle.ic_flat.specs.Flat.{pairs_of}
+use Rattle.ic_rules.specs.RuleSet.{Rules, IsRuleSet}
 use Rattle.ic_round.specs.Naming.{HasNames}
+use Rattle.ic_round.specs.Rounds.{IsQuiet}
 use Rattle.ic_arena.specs.declared.word.Word.{Word}
 use Rattle.ic_machine.specs.declared.equation.Equation.{Equation}
 use Rattle.ic_machine.specs.Net.{Net, IsStuck}
 use Rattle.ic_machine.specs.Plan.{Plans}
 use Rattle.ic_meaning.specs.Words.{Numbers, AreNumbers}
+use Rattle.ic_meaning.specs.Plans.{ArePlansOf}
 use Rattle.ic_readback.specs.declared.token.Token.{Token}
 use Rattle.ic_readback.specs.Reading.{flat_words, configuration_read, HeadIs, BeginAs, sides_of, AreCirclesAfter, IsCircle as IsReadCircle}
 use Rattle.ic_in_place.specs.Holding.{AreGiven}
 use Rattle.ic_in_place.specs.Reducing.{IsAgentOrFree, IsCircle, IsPutTogether}
 use Rattle.ic_in_place.proofs.Interacts.{begin_after}
-use Rattle.ic_in_place.proofs.QuietEnds.{on_sides, on_left}
 
 -- ---- the pairs
 
@@ -39,23 +39,13 @@ all_ends p n c (e ∷ es) (t ∷ u ∷ ts) are stuck begin = (
 
 -- ---- the circles
 
--- A name of a place, which is none of those before circles, and is on the left of one of these, is on the right of one: it
--- isn't given, so that it doesn't occur once.
-right_once : (n : Numbers) (is : List Tree) (ends front rest circles : List Pair) (e : Pair) (c : Configuration) → AreNumbers n → AreGiven n.given c → HasNames c
-    → configuration_names c ≡ names_in is ends ++ flat_map pair_names circles → circles ≡ front ++ e ∷ rest → IsReadCircle n (names_in is ends) circles e → IsCircle circles e
-right_once n is ends front rest circles e c sound are named parts at circle =
+-- a name of a place isn't given, so it doesn't occur once: its equation has it on the right too
+circle_so : (n : Numbers) (c : Configuration) (e : Pair) → AreNumbers n → AreGiven n.given c → HasNames c → IsReadCircle n c e → IsCircle e
+circle_so n c e sound are named circle =
     let x : ℕ = n.of_place circle.place in
-    let sum = ap (occurrences x) parts ∙ occurrences-append x (names_in is ends) (flat_map pair_names circles) in
-    let sides = on_sides x circles in
-    let some = on_left x front rest e circle.left in
-    let same = ap (λ es. occurrences x (flat_map (λ p. names p.left) es)) at in
     let other : ¬ (occurrences x (configuration_names c) ≡ 1) =
-    (λ once. let found = (are x).0 once in sound.not_given found.0 x circle.place found.1 refl) in (
-      x,
-      circle.left,
-      by_count (occurrences x (configuration_names c)) (occurrences x (flat_map (λ p. names p.right) circles)) other (named.twice x)
-          (omega (arith, sum, sides, some, same, circle.apart, circle.once)),
-    )
+    (λ once. let found = (are x).0 once in sound.not_given found.0 x circle.place found.1 refl) in
+    (x, circle.left, by_count (occurrences x (configuration_names c)) (occurrences x (names e.right)) other (named.twice x) circle.alone)
   where
     by_count : (a b : ℕ) → ¬ (a ≡ 1) → a ≤ 2 → a ≡ 1 + b → b ≡ 1
     by_count zero b other few same = absurd (omega (arith, same))
@@ -63,14 +53,9 @@ right_once n is ends front rest circles e c sound are named parts at circle =
     by_count (suc (suc zero)) b other few same = omega (arith, same)
     by_count (suc (suc (suc a))) b other few same = absurd (omega (arith, few))
 
-all_circles : (n : Numbers) (is : List Tree) (ends front rest circles : List Pair) (c : Configuration) → AreNumbers n → AreGiven n.given c → HasNames c
-    → configuration_names c ≡ names_in is ends ++ flat_map pair_names circles → circles ≡ front ++ rest → AllByRecursion (IsReadCircle n (names_in is ends) circles) rest
-    → AllByRecursion (IsCircle circles) rest
-all_circles n is ends front [] circles c sound are named parts at all = tt
-all_circles n is ends front (e ∷ rest) circles c sound are named parts at all = (
-  right_once n is ends front rest circles e c sound are named parts at all.0,
-  all_circles n is ends (front ++ e ∷ []) rest circles c sound are named parts (at ∙ sym (append_assoc front (e ∷ []) rest)) all.1,
-)
+all_circles : (n : Numbers) (c : Configuration) (es : List Pair) → AreNumbers n → AreGiven n.given c → HasNames c → AllByRecursion (IsReadCircle n c) es → AllByRecursion IsCircle es
+all_circles n c [] sound are named all = tt
+all_circles n c (e ∷ es) sound are named all = (circle_so n c e sound are named all.0, all_circles n c es sound are named all.1)
 
 -- ---- all together
 
@@ -82,22 +67,33 @@ put_together p n m ts terms sound none stuck counted begin circles named are =
     let c : Configuration = configuration_read n ts terms in
     let F : List Tree = forest (flat_words n ts) in
     let K : ℕ = length m.aside in
-    let ends : List Pair = take K c.equations in
-    let others : List Pair = drop K c.equations in
     let aside : BeginAs n (sides_of m.aside) (drop terms F) =
     transport (λ (k : ℕ). BeginAs n (sides_of m.aside) (drop k F)) (sym counted)
     (begin_after n m.interface (sides_of m.aside) F (transport (λ (l : List Equation). BeginAs n (m.interface ++ (sides_of l ++ sides_of m.aside)) F) none begin)) in
-    let read : AllByRecursion (IsReadCircle n (names_in c.interface ends) others) others =
-    (let few : length m.pending + length m.aside ≡ K = omega (arith, ap (length {A = Equation}) none) in transport (λ (k : ℕ). AreCirclesAfter n k c) few circles) in
-    let parts : ends ++ others ≡ c.equations = take-append-drop K c.equations in
-    let names_are : configuration_names c ≡ names_in c.interface ends ++ flat_map pair_names others =
-    ap (λ es. flat_map names c.interface ++ flat_map pair_names es) (sym parts)
-    ∙ (ap (λ l. flat_map names c.interface ++ l) (flat_map-append pair_names ends others)
-    ∙ sym (append_assoc (flat_map names c.interface) (flat_map pair_names ends) (flat_map pair_names others))) in
+    let few : length m.pending + length m.aside ≡ K = omega (arith, ap (length {A = Equation}) none) in
     record {
-      ends = ends;
-      circles = others;
-      parts = sym parts;
+      ends = take K c.equations;
+      circles = drop K c.equations;
+      parts = sym (take-append-drop K c.equations);
       are_ends = all_ends p n c m.aside (drop terms F) are stuck aside;
-      are_circles = all_circles n c.interface ends [] others others c sound are named names_are refl read;
+      are_circles = all_circles n c (drop K c.equations) sound are named (transport (λ (k : ℕ). AreCirclesAfter n k c) few circles);
     }
+
+-- what the law says of what is read of stuck pairs
+abbrev pub StuckLaw : Type 0
+StuckLaw = (rs : Rules) (numbers : List ℕ) (p : Plans) (n : Numbers) (m : Net) (ts : List Token) (equations : ℕ) → IsRuleSet rs → ArePlansOf rs numbers p → AreNumbers n
+    → m.pending ≡ [] → AllByRecursion (IsStuck p) m.aside → BeginAs n (m.interface ++ (sides_of m.pending ++ sides_of m.aside)) (forest (flat_words n ts))
+    → length (forest (flat_words n ts)) ≡ length m.interface + 2 * equations → HasNames (configuration_read n ts (length m.interface))
+    → AreCirclesAfter n (length m.pending + length m.aside) (configuration_read n ts (length m.interface)) → AreGiven n.given (configuration_read n ts (length m.interface))
+    → IsQuiet rs.rules (configuration_read n ts (length m.interface))
+
+-- what was read is quiet
+pub quiet_read : StuckLaw → (rs : Rules) (numbers : List ℕ) (p : Plans) (n : Numbers) (m : Net) (ts : List Token) (terms equations : ℕ) → IsRuleSet rs → ArePlansOf rs numbers p → AreNumbers n
+    → m.pending ≡ [] → AllByRecursion (IsStuck p) m.aside → terms ≡ length m.interface
+    → BeginAs n (m.interface ++ (sides_of m.pending ++ sides_of m.aside)) (forest (flat_words n ts)) → length (forest (flat_words n ts)) ≡ terms + 2 * equations
+    → AreCirclesAfter n (length m.pending + length m.aside) (configuration_read n ts terms)
+    → HasNames (configuration_read n ts terms) → AreGiven n.given (configuration_read n ts terms) → IsQuiet rs.rules (configuration_read n ts terms)
+quiet_read law rs numbers p n m ts terms equations set plans sound none stuck counted begin long circles named are =
+    transport (λ (k : ℕ). length (forest (flat_words n ts)) ≡ k + 2 * equations → AreCirclesAfter n (length m.pending + length m.aside) (configuration_read n ts k)
+    → HasNames (configuration_read n ts k) → AreGiven n.given (configuration_read n ts k) → IsQuiet rs.rules (configuration_read n ts k)) (sym counted)
+    (λ long circles named are. law rs numbers p n m ts equations set plans sound none stuck begin long named circles are) long circles named are

@@ -1,6 +1,6 @@
 -- What a system is reduced to in place (this project's choice).
-use Rattle.std.specs.Prelude.{◌≡◌, ℕ, ◌+◌, ◌*◌, ◌<◌, ◌≤◌, List, ◌∷◌, ◌++◌, IsTrue, length}
-use Rattle.std.specs.List.{flat_map, list_all, AllByRecursion}
+use Rattle.std.specs.Prelude.{◌≡◌, ℕ, ◌+◌, ◌*◌, ◌<◌, ◌≤◌, List, ◌++◌, IsTrue, length}
+use Rattle.std.specs.List.{list_all, AllByRecursion}
 use Rattle.ic_term.specs.Tree.{Tree, name, agent, names, Pair}
 use Rattle.ic_term.specs.Configuration.{Configuration, configuration_names, occurrences}
 use Rattle.ic_term.specs.Symbol.{Symbol}
@@ -12,7 +12,6 @@ use Rattle.ic_flat.specs.Flat.{configuration_of}
 use Rattle.ic_naming.specs.Naming.{renumbered}
 use Rattle.ic_round.specs.Rounds.{IsQuiet}
 use Rattle.ic_round.specs.Steps.{Interaction}
-use Rattle.ic_reaching.specs.OneNet.{OneNet}
 use Rattle.ic_reaching.specs.Reaching.{Reaches}
 use Rattle.ic_text.specs.declared.limits.TheConstants.{MAX_NAME}
 use Rattle.ic_in_place.specs.declared.running.Bounds.{Bounds}
@@ -20,28 +19,23 @@ use Rattle.ic_in_place.specs.declared.running.End.{End}
 use Rattle.ic_in_place.specs.declared.running.End.TheVariants.{Quiet, Steps, Nodes, Limit, Memory}
 use Rattle.ic_in_place.specs.Holding.{IsHeldAt}
 
--- A configuration is one net with a quiet one.
-abbrev pub HasQuiet : List Rule → Configuration → Type 0
-HasQuiet rs c = (e : Configuration) × OneNet c e × IsQuiet rs e
-
 -- a term is an agent, or a name that occurs once
 abbrev pub IsAgentOrFree : Configuration → Tree → Type 0
 IsAgentOrFree c (name x) = occurrences x (configuration_names c) ≡ 1
 IsAgentOrFree c (agent s ts) = Unit {0}
 
--- A circle is an equation of a name with a term, and this name occurs once on the right of circles.
-abbrev pub IsCircle : List Pair → Pair → Type 0
-IsCircle circles e =
-    (x : ℕ) × (e.left ≡ name x) × (occurrences x (flat_map (λ p. names p.right) circles) ≡ 1)
+-- A circle is an equation of a name with a term that has this name once.
+abbrev pub IsCircle : Pair → Type 0
+IsCircle e = (x : ℕ) × (e.left ≡ name x) × (occurrences x (names e.right) ≡ 1)
 
--- Nothing is left that could be put for a name, but in circles. Each side of the equations before them is an agent, or a
--- name that occurs once.
+-- Nothing is left that could be put for a name. Each side of the first equations is an agent, or a name that occurs once, and
+-- all others are circles.
 pub record IsPutTogether (c : Configuration) : Type 0 where
   pub ends : List Pair
   pub circles : List Pair
   pub parts : c.equations ≡ ends ++ circles
   pub are_ends : AllByRecursion (λ e. IsAgentOrFree c e.left × IsAgentOrFree c e.right) ends
-  pub are_circles : AllByRecursion (IsCircle circles) circles
+  pub are_circles : AllByRecursion IsCircle circles
 
 -- an interaction is possible
 abbrev pub CanInteract : List Rule → Configuration → Type 0
@@ -49,7 +43,7 @@ CanInteract rs c = (d : Configuration) × (place : ℕ) × Interaction rs c d pl
 
 -- what an end says of the configuration that was reached, and of how many interactions were made and places there are
 abbrev pub EndsBy : List Rule → Bounds → Configuration → ℕ → ℕ → End → Type 0
-EndsBy rs bounds c interactions places Quiet = HasQuiet rs c × IsPutTogether c
+EndsBy rs bounds c interactions places Quiet = IsQuiet rs c × IsPutTogether c
 EndsBy rs bounds c interactions places Steps =
     (interactions ≡ bounds.steps) × CanInteract rs c
 EndsBy rs bounds c interactions places Nodes = bounds.nodes < places
@@ -74,8 +68,3 @@ pub record Writes (symbols : List Symbol) (words : List Word) (terms equations :
   pub over : IsTrue (list_all (is_word_over symbols) words)
   pub counted : length (forest words) ≡ terms + 2 * equations
   pub written : configuration_of words terms (MAX_NAME + 1) ≡ renumbered c
-
--- No circle is left: a name on the left of an equation occurs there alone.
-abbrev pub HasNoCircle : Configuration → Type 0
-HasNoCircle c = (before after : List Pair) (e : Pair) (x : ℕ) → c.equations ≡ before ++ e ∷ after
-    → e.left ≡ name x → occurrences x (configuration_names c) ≤ 1

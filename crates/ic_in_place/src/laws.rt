@@ -1,6 +1,6 @@
 //! Laws of what a machine holds.
 
-ghost use Rattle.std.specs.Prelude.{◌≡◌, ℕ, List, [], IsTrue, length, map};
+ghost use Rattle.std.specs.Prelude.{◌≡◌, ℕ, ◌+◌, List, [], IsTrue, length, map};
 ghost use Rattle.ic_term.specs.Configuration.{Configuration};
 ghost use Rattle.ic_term.specs.Symbol.{is_over};
 ghost use Rattle.ic_rules.specs.RuleSet.{Rules, IsRuleSet};
@@ -8,18 +8,18 @@ ghost use Rattle.ic_naming.specs.Naming.{renumbered};
 ghost use Rattle.ic_round.specs.Naming.{HasNames};
 ghost use Rattle.ic_rules.specs.System.{SystemParts};
 ghost use Rattle.ic_round.specs.Rounds.{IsQuiet, iterate};
-ghost use Rattle.ic_round.specs.Steps.{Interaction};
 ghost use Rattle.ic_confluence.specs.Kinds.{Kind, Chain};
 ghost use Rattle.ic_reaching.specs.OneNet.{OneNet, SameButNext};
-ghost use Rattle.ic_reaching.specs.Reaching.{rules_fired};
+ghost use Rattle.ic_reaching.specs.Reaching.{Reaches, rules_fired};
 ghost use Rattle.ic_machine.specs.Net.{Net, pieces};
 ghost use Rattle.ic_machine.specs.Plan.{Planned, Plans};
 ghost use Rattle.ic_machine.specs.Runs.{Ran};
 ghost use Rattle.ic_meaning.specs.Nets.{net_of};
 ghost use Rattle.ic_meaning.specs.Plans.{rule_number};
 ghost use Rattle.ic_in_place.specs.declared.running.Bounds.{Bounds};
+ghost use Rattle.ic_in_place.specs.declared.running.End.{End};
 ghost use Rattle.ic_in_place.specs.declared.running.End.TheVariants.{Quiet};
-ghost use Rattle.ic_in_place.specs.Reducing.{IsReached, HasNoCircle};
+ghost use Rattle.ic_in_place.specs.Reducing.{IsReached};
 ghost use Rattle.ic_in_place.specs.Holding.{AreCompiled, HasRun, Holds, HasEnded};
 
 /// Runs go on: what a run leads to, and what a run from there leads to.
@@ -65,15 +65,13 @@ pub fn a_quiet_end_is_that_of_every_order()
         → IsRuleSet s.rules → IsTrue (is_over s.rules.symbols s.config) → HasNames s.config
         → IsReached s bounds answer Quiet interactions places
         → IsQuiet s.rules.rules (iterate s.rules.rules n s.config)
-        → (e : Configuration) × OneNet answer e
-        × SameButNext e (iterate s.rules.rules n s.config) }
+        → SameButNext answer (iterate s.rules.rules n s.config) }
     ensures some_rounds { (s : SystemParts) (bounds : Bounds) (answer : Configuration)
         (interactions places : ℕ)
         → IsRuleSet s.rules → IsTrue (is_over s.rules.symbols s.config) → HasNames s.config
         → IsReached s bounds answer Quiet interactions places
         → (n : ℕ) × IsQuiet s.rules.rules (iterate s.rules.rules n s.config) }
 {
-    ic_reaching::laws::one_net_is_an_equivalence();
     ic_reaching::laws::what_is_reached_is_one_net();
     ic_reaching::laws::what_is_reached_goes_on();
     ic_reaching::laws::what_is_reached_quiet_is_the_end_of_every_order();
@@ -93,22 +91,32 @@ pub fn without_equations_every_order_has_one_text()
     ic_naming::laws::what_is_renumbered_forgets_names();
 }
 
-/// Where a reduction ends quiet, no interaction is possible in its answer. Where no circle is left either, no step is.
-pub fn at_a_quiet_end_no_interaction_is_possible()
-    ensures interaction { (s : SystemParts) (bounds : Bounds) (answer d : Configuration)
-        (interactions places place : ℕ)
-        → IsRuleSet s.rules → IsTrue (is_over s.rules.symbols s.config) → HasNames s.config
-        → IsReached s bounds answer Quiet interactions places
-        → ¬ Interaction s.rules.rules answer d place }
-    ensures step { (s : SystemParts) (bounds : Bounds) (answer : Configuration)
-        (interactions places : ℕ)
-        → IsRuleSet s.rules → IsTrue (is_over s.rules.symbols s.config) → HasNames s.config
-        → IsReached s bounds answer Quiet interactions places → HasNoCircle answer
+/// Where a reduction ends quiet, no step of its answer is possible: no interaction, and no term can be put for a name.
+pub fn at_a_quiet_end_no_step_is_possible()
+    ensures { (s : SystemParts) (bounds : Bounds) (answer : Configuration)
+        (interactions places : ℕ) → IsReached s bounds answer Quiet interactions places
         → IsQuiet s.rules.rules answer }
+{}
+
+/// A reduction may be cut and gone on with. What is reached from an answer, or from what is one net with it, is reached from
+/// the beginning, and the interactions add up. Where it ends quiet, it is the net of every order.
+pub fn a_reduction_that_was_cut_goes_on()
+    ensures reached { (s t : SystemParts) (bounds more : Bounds) (middle answer : Configuration)
+        (end last : End) (i j p q : ℕ)
+        → IsRuleSet s.rules → IsTrue (is_over s.rules.symbols s.config) → HasNames s.config
+        → IsReached s bounds middle end i p → t.rules ≡ s.rules → OneNet middle t.config
+        → IsReached t more answer last j q
+        → (fired : List ℕ) × Reaches s.rules.rules s.config answer fired
+        × (length fired ≡ i + j) }
+    ensures every_order { (s t : SystemParts) (bounds more : Bounds)
+        (middle answer e : Configuration) (end : End) (i j p q : ℕ) (kinds : List Kind)
+        → IsRuleSet s.rules → IsTrue (is_over s.rules.symbols s.config) → HasNames s.config
+        → IsReached s bounds middle end i p → t.rules ≡ s.rules → OneNet middle t.config
+        → IsReached t more answer Quiet j q
+        → Chain s.rules.rules kinds s.config e → IsQuiet s.rules.rules e
+        → OneNet answer e × (length (rules_fired kinds) ≡ i + j) }
 {
     ic_reaching::laws::what_is_reached_is_one_net();
     ic_reaching::laws::what_is_reached_goes_on();
-    ic_reaching::laws::what_is_reached_has_the_same_end();
     ic_reaching::laws::what_is_reached_quiet_is_the_end_of_every_order();
-    ic_confluence::laws::every_order_ends_in_the_same_net();
 }

@@ -76,6 +76,7 @@ pub(crate) fn read_stopped(
     ic_reaching::laws::one_net_is_an_equivalence();
     ic_reaching::laws::what_is_reached_is_one_net();
     ic_meaning::laws::what_is_reached_has_the_same_free_names();
+    ic_readback::laws::what_is_read_of_stuck_pairs_is_quiet();
     ic_naming::laws::what_is_renumbered_forgets_names();
     let interactions = stopped.machine.interactions();
     let (places, end) = (stopped.places, stopped.end);

@@ -5,6 +5,8 @@ pub mod Heaps
 pub mod Fresh
 pub mod Making
 pub mod Firings
+pub mod Spare
+pub mod Numbers
 pub mod Running
 pub mod Starting
 pub mod Sound

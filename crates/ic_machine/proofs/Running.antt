@@ -1,29 +1,30 @@
 -- What a run leads to, from its parts.
-use Rattle.std.proofs.Common.{◌≡◌, ℕ, zero, suc, ◌+◌, ◌-◌, ◌<◌, List, [], ◌∷◌, ◌++◌, length, map, take, Option, None, Some, MatchOption, is_none, false, slice_get, IfSome, refl, ap, sym, subst, ◌∙◌, append_assoc, add_assoc, add-zero, arith, sum_by}
+use Rattle.std.proofs.Common.{◌≡◌, ℕ, zero, suc, ◌+◌, ◌-◌, ◌<◌, List, [], ◌∷◌, ◌++◌, length, map, take, Option, None, Some, MatchOption, is_none, false, slice_get, IfSome, refl, ap, sym, subst, ◌∙◌, append_assoc, add-zero, arith, sum_by}
 use Rattle.std.specs.List.{AllByRecursion}
 use Rattle.std.specs.List.Sorted.{IsPermutation}
 use Rattle.std.proofs.Math.Seq.{take-append_seam}
-use Rattle.std.proofs.lemmas.List.{append-nil, length-append, length_push, map-append}
+use Rattle.std.proofs.lemmas.List.{append-nil, length_push, map-append}
 use Rattle.std.proofs.lemmas.List.Sorted.{IsPermutation-refl, IsPermutation-sym, IsPermutation-trans, IsPermutation-append_left, IsPermutation-append_right, IsPermutation-append_comm, IsPermutation-cons, IsPermutation-map, IsPermutation-to_front}
 use Rattle.std.proofs.lemmas.List.Sums.{sum_by-append}
 use Rattle.ic_arena.specs.declared.word.Word.{Word}
 use Rattle.ic_arena.specs.Word.{count}
 use Rattle.ic_arena.specs.Piece.{Piece, room, uses}
 use Rattle.ic_machine.specs.declared.equation.Equation.{Equation}
-use Rattle.ic_machine.specs.Plan.{Planned, Plans, ArePlans, IsPlan, plan_at, number_of}
+use Rattle.ic_machine.specs.Plan.{Planned, Plans, ArePlans, IsPlan, plan_at}
 use Rattle.ic_machine.specs.Net.{Net, equated_of, pieces, HasNext, IsStuck}
-use Rattle.ic_machine.specs.Runs.{Ran}
+use Rattle.ic_machine.specs.Runs.{Counted, Ran}
 use Rattle.ic_machine.specs.Separate.{IsSeparate}
 use Rattle.ic_machine.specs.Steps.{Steps, no_step}
 use Rattle.ic_machine.specs.inner.Linking.{IsPair}
-use Rattle.ic_machine.specs.inner.Pairs.{HasPlan, CanFire, IsLast, Passed}
+use Rattle.ic_machine.specs.inner.Pairs.{HasNumber, HasPlan, CanFire, IsLast, Passed}
 use Rattle.ic_machine.specs.inner.Tables.{IsNumbered}
 use Rattle.ic_machine.specs.lemmas.Balance.{equations_room}
 use Rattle.ic_machine.specs.lemmas.FiresKeep.{steps_keep}
 use Rattle.ic_machine.specs.lemmas.FiringKeeps.{all_append}
 use Rattle.ic_machine.specs.lemmas.Orders.{to_front}
+use Rattle.ic_machine.specs.lemmas.RunsOn.{counted_none}
 use Rattle.ic_machine.specs.lemmas.Separation.{separate_in_order}
-use Rattle.ic_machine.specs.lemmas.StepsOn.{steps_through, steps_to}
+use Rattle.ic_machine.specs.lemmas.StepsOn.{steps_to}
 use Rattle.ic_machine.proofs.Fresh.{all_front}
 use Rattle.ic_machine.proofs.Links.{steps_from}
 
@@ -143,21 +144,29 @@ can_fire p e plan h =
           (h.sound.each h.left h.right l.0 r.0 l.1 r.1);
     }
 
--- the number of a plan that was found
-plan_number : (ps : List Planned) (o : Option ℕ) (plan : Planned) → plan_at ps o ≡ Some plan
-    → (i : ℕ) × ((o ≡ Some i) × (slice_get ps i ≡ Some plan))
-plan_number ps None plan e = absurd (none_some plan e)
-  where
-    none_some : (x : Planned) → ◌≡◌ {A = Option Planned} None (Some x) → ⊥
-    none_some x e = cc
-plan_number ps (Some i) plan e = (i, (refl, e))
+-- the plan with a number that was found
+abbrev pub numbered_plan : (p : Plans) (e : Equation) (i : ℕ) (plan : Planned) → HasNumber p e i
+    → slice_get p.plans i ≡ Some plan → HasPlan p e plan
+numbered_plan p e i plan h is = record {
+  left = h.left;
+  right = h.right;
+  left_tag = h.left_tag;
+  right_tag = h.right_tag;
+  left_known = h.left_known;
+  right_known = h.right_known;
+  is = ap (plan_at p.plans) h.number ∙ is;
+  sound = h.sound;
+}
 
-pub numbered : (p : Plans) (e : Equation) (plan : Planned) (h : HasPlan p e plan)
-    → (i : ℕ) × IsNumbered p i h.left h.right plan
-numbered p e plan h =
-    let n : (i : ℕ) × ((number_of p h.left h.right ≡ Some i) × (slice_get p.plans i ≡ Some plan)) =
-    plan_number p.plans (number_of p h.left h.right) plan h.is in
-    (n.0, record { number = n.1.0; has_plan = n.1.1 })
+pub numbered : (p : Plans) (e : Equation) (i : ℕ) (plan : Planned) (h : HasNumber p e i)
+    → slice_get p.plans i ≡ Some plan → IsNumbered p i h.left h.right plan
+numbered p e i plan h is = record { number = h.number; has_plan = is }
+
+-- a plan whose number is known
+get_planned : (ps : List Planned) (i : ℕ) → i < length ps → (plan : Planned) × (slice_get ps i ≡ Some plan)
+get_planned [] i h = absurd (omega arith)
+get_planned (p ∷ ps) zero h = (p, refl)
+get_planned (p ∷ ps) (suc i) h = get_planned ps i (omega arith)
 
 -- The net stays separate where equations are set aside, and no side of what is pending is a name.
 pub passed_separate : (arities : List ℕ) (i : List Word) (p : Plans) (ps us ps' us' : List Equation)
@@ -195,34 +204,6 @@ passed_then p is ps us ps' us' qs n h n' h' passed s =
     (passed_order p ps us ps' us' (n ++ h) passed)
     (net_steps p is (map equated_of ps') (map equated_of qs) (map equated_of us') n n' h h' s)
 
--- one run after another
-pub ran_on : (p : Plans) (a b c : Net) → Ran p a b → Ran p b c → Ran p a c
-ran_on p a b c r s = record {
-  fired = r.fired ++ s.fired;
-  steps = steps_through p r.fired s.fired (pieces a) (pieces b) (pieces c) r.steps s.steps;
-  counted = s.counted ∙ (ap (λ (n : ℕ). n + length s.fired) r.counted
-      ∙ (add_assoc a.interactions (length r.fired) (length s.fired)
-      ∙ ap (λ (n : ℕ). a.interactions + n) (sym (length-append r.fired s.fired))));
-  arities = s.arities ∙ r.arities;
-  interface = s.interface ∙ r.interface;
-  more = r.more ++ s.more;
-  aside = s.aside ∙ (ap (λ (l : List Equation). l ++ s.more) r.aside ∙ append_assoc a.aside r.more s.more);
-  stuck = all_append (IsStuck p) r.more s.more r.stuck s.stuck;
-}
-
--- nothing was run
-pub ran_none : (p : Plans) (a : Net) → Ran p a a
-ran_none p a = record {
-  fired = [];
-  steps = no_step (pieces a) (pieces a) (IsPermutation-refl (pieces a));
-  counted = sym (add-zero a.interactions);
-  arities = refl;
-  interface = refl;
-  more = [];
-  aside = sym (append-nil a.aside);
-  stuck = tt;
-}
-
 -- the last of some equations
 pub last_of : (es : List Equation) (n : ℕ) (e : Equation) → n + 1 ≡ length es → slice_get es n ≡ Some e
     → IsLast e es
@@ -250,13 +231,14 @@ popped es new n e last len rest =
 
 -- What a net leads to where equations are set aside alone.
 pub passed_ran : (p : Plans) (a b : Net) → Passed p a.pending a.aside b.pending b.aside → b.arities ≡ a.arities
-    → b.interface ≡ a.interface → b.places ≡ a.places → b.interactions ≡ a.interactions → Ran p a b
-passed_ran p a b h arities interface places interactions = record {
+    → b.interface ≡ a.interface → b.places ≡ a.places → b.interactions ≡ a.interactions → b.counts ≡ a.counts → Ran p a b
+passed_ran p a b h arities interface places interactions counts = record {
   fired = [];
   steps = subst (λ (l : List Piece). Steps p [] (pieces a)
       (map equated_of b.pending ++ (map equated_of b.aside ++ l))) (sym places)
       (passed_steps p a.pending a.aside b.pending b.aside a.places h);
   counted = interactions ∙ sym (add-zero a.interactions);
+  counts = subst (λ (l : List ℕ). Counted [] a.counts l) (sym counts) (counted_none a.counts);
   arities = arities;
   interface = interface;
   more = h.more;
@@ -309,8 +291,10 @@ next_pair p es e plan last has = record {
   };
 }
 
-pub found_next : {X : Type 0} (pair : X → Equation) (plan : X → Planned) (p : Plans) (es : List Equation) (o : Option X)
-    → MatchOption o (es ≡ []) (λ f. IsLast (pair f) es × HasPlan p (pair f) (plan f)) → is_none o ≡ false
+pub found_next : {X : Type 0} (pair : X → Equation) (number : X → ℕ) (p : Plans) (es : List Equation) (o : Option X)
+    → MatchOption o (es ≡ []) (λ f. IsLast (pair f) es × HasNumber p (pair f) (number f)) → is_none o ≡ false
     → HasNext p es
-found_next pair plan p es None h e = absurd (cc e)
-found_next pair plan p es (Some f) h e = next_pair p es (pair f) (plan f) h.0 h.1
+found_next pair number p es None h e = absurd (cc e)
+found_next pair number p es (Some f) h e =
+    let plan : (x : Planned) × (slice_get p.plans (number f) ≡ Some x) = get_planned p.plans (number f) h.1.there in
+    next_pair p es (pair f) plan.0 h.0 (numbered_plan p (pair f) (number f) plan.0 h.1 plan.1)

@@ -1,33 +1,46 @@
 -- What a machine keeps, where its parts change.
-use Rattle.std.proofs.Common.{◌≡◌, ℕ, List, ◌++◌, length, take, subst}
+use Rattle.std.proofs.Common.{◌≡◌, ℕ, zero, suc, ◌+◌, ◌^◌, ◌<◌, ◌≤◌, ◌==◌, List, [], ◌∷◌, ◌++◌, Bool, true, false, cond, count_by, slice_index_or, length, map, take, refl, ap, sym, subst, arith, vec_capacity}
+use Rattle.std.specs.List.{AllByRecursion}
 use Rattle.std.proofs.Math.Seq.{take-append_seam, take-length}
 use Rattle.std.proofs.lemmas.List.FromFn.{length-map-range_with_len}
 use Rattle.ic_arena.specs.declared.word.Word.{Word}
 use Rattle.ic_arena.specs.Word.{agent_word}
 use Rattle.ic_arena.specs.Tables.{names_pieces}
+use Rattle.ic_machine.specs.declared.tables.Tables.{Tables}
 use Rattle.ic_machine.specs.declared.machine.Machine.TheInside.{Inside}
-use Rattle.ic_machine.specs.Plan.{Plans, constants}
+use Rattle.ic_machine.specs.declared.plan.Plan.{Plan}
+use Rattle.ic_machine.specs.Plan.{Plans, constants, planned}
+use Rattle.ic_machine.specs.Runs.{Counted}
 use Rattle.ic_machine.specs.inner.Firing.{heaps_pieces, arities_of}
 use Rattle.ic_machine.specs.inner.Machine.{IsSound}
 use Rattle.ic_machine.specs.inner.Pairs.{Passed}
+use Rattle.ic_machine.specs.inner.Tables.{HasSpare}
+use Rattle.ic_machine.proofs.Spare.{passed_spare}
 use Rattle.ic_machine.proofs.Running.{passed_pairs, passed_separate}
 
 -- equations are set aside
 pub passed_sound : (p : Plans) (m n : Inside) → IsSound m
     → Passed p m.tables.pending.items m.aside.items n.tables.pending.items n.aside.items
-    → n.interface.items ≡ m.interface.items → n.tables.names.entries ≡ m.tables.names.entries
-    → n.tables.heaps.items ≡ m.tables.heaps.items → n.tables.registers.items ≡ m.tables.registers.items
-    → IsSound n
-passed_sound p m n sound h interface names heaps registers = record {
-  separate = rw (heaps, interface, names)
-      (passed_separate (arities_of m.tables.heaps.items) m.interface.items p m.tables.pending.items m.aside.items
-      n.tables.pending.items n.aside.items
-      (names_pieces 0 m.tables.names.entries ++ heaps_pieces 0 m.tables.heaps.items) h sound.separate);
-  pairs = passed_pairs p m.tables.pending.items m.aside.items n.tables.pending.items n.aside.items h sound.pairs;
-  names = rw names sound.names;
-  symbols = rw heaps sound.symbols;
-  registers = rw (heaps, registers) sound.registers;
-}
+    → n.interface.items ≡ m.interface.items → n.tables ≡ record m.tables { pending = n.tables.pending }
+    → n.counts.items ≡ m.counts.items → n.interactions ≡ m.interactions
+    → vec_capacity n.tables.pending ≡ vec_capacity m.tables.pending → IsSound n
+passed_sound p m n sound h interface tables counts interactions memory =
+    let names : n.tables.names.entries ≡ m.tables.names.entries = ap (λ (t : Tables). t.names.entries) tables in
+    let heaps : n.tables.heaps.items ≡ m.tables.heaps.items = ap (λ (t : Tables). t.heaps.items) tables in
+    let registers : n.tables.registers.items ≡ m.tables.registers.items = ap (λ (t : Tables). t.registers.items) tables in
+    record {
+      separate = rw (heaps, interface, names)
+          (passed_separate (arities_of m.tables.heaps.items) m.interface.items p m.tables.pending.items m.aside.items
+          n.tables.pending.items n.aside.items
+          (names_pieces 0 m.tables.names.entries ++ heaps_pieces 0 m.tables.heaps.items) h sound.separate);
+      pairs = passed_pairs p m.tables.pending.items m.aside.items n.tables.pending.items n.aside.items h sound.pairs;
+      names = rw names sound.names;
+      symbols = rw heaps sound.symbols;
+      registers = rw (heaps, registers) sound.registers;
+      spare = subst HasSpare (sym tables)
+          (passed_spare p m.tables n.tables.pending m.aside.items n.aside.items h memory sound.spare);
+      counts = rw (counts, interactions) sound.counts;
+    }
 
 -- the registers begin with the agents without arguments
 pub first_registers : (n m : ℕ) (rs : List Word) → m ≡ n → rs ≡ constants n → take m rs ≡ constants m
@@ -40,3 +53,44 @@ first_of n m rs more same is =
     let len : length (constants n) ≡ n = length-map-range_with_len (λ s. agent_word s 0) 0 n in
     rw (same, is) (subst (λ (k : ℕ). take k (constants n ++ more) ≡ constants n) len
     (take-append_seam (constants n) more))
+
+-- no plan has fired more often than all, where one has fired once more
+pub counts_within : (i n : ℕ) (old new : List ℕ) → AllByRecursion (λ k. k ≤ n) old → Counted (i ∷ []) old new
+    → AllByRecursion (λ k. k ≤ n + 1) new
+counts_within i n old new h c = all_at (λ k. k ≤ n + 1) new (λ j lt.
+    let len : length new ≡ length old = c.all in
+    let one = c.each j (omega arith) in
+    let most : slice_index_or old j 0 ≤ n = at_all (λ k. k ≤ n) old j 0 (omega arith) h in
+    let once : count_by (λ k. k == j) (i ∷ []) ≤ 1 = at_most_one (i == j) in
+    omega arith)
+  where
+    at_most_one : (b : Bool) → 0 + cond b 1 0 ≤ 1
+    at_most_one true = omega arith
+    at_most_one false = omega arith
+
+    at_all : (P : ℕ → Type 0) (xs : List ℕ) (j d : ℕ) → j < length xs → AllByRecursion P xs → P (slice_index_or xs j d)
+    at_all P [] j d lt h = absurd (omega arith)
+    at_all P (x ∷ xs) zero d lt h = h.0
+    at_all P (x ∷ xs) (suc j) d lt h = at_all P xs j d (omega arith) h.1
+
+    all_at : (P : ℕ → Type 0) (xs : List ℕ) → ((j : ℕ) → j < length xs → P (slice_index_or xs j 0)) → AllByRecursion P xs
+    all_at P [] f = tt
+    all_at P (x ∷ xs) f = (f zero (omega arith), all_at P xs (λ j lt. f (suc j) (omega arith)))
+
+-- there is a number for a count that is one more
+pub counts_below : (n : ℕ) (xs : List ℕ) → n + 1 < 2 ^ 64 → AllByRecursion (λ k. k ≤ n) xs
+    → AllByRecursion (λ k. k + 1 < 2 ^ 64) xs
+counts_below n [] few h = tt
+counts_below n (x ∷ xs) few h = (let most = h.0 in omega arith, counts_below n xs few h.1)
+
+-- no plan has fired yet
+pub none_counted : (plans : List Plan) (counts : List ℕ) → counts ≡ map {B = ℕ} (λ plan. 0) plans → AllByRecursion (λ k. k ≤ 0) counts
+none_counted plans counts is = subst (λ (l : List ℕ). AllByRecursion (λ k. k ≤ 0) l) (sym is) (zeros plans)
+  where
+    zeros : (plans : List Plan) → AllByRecursion (λ k. k ≤ 0) (map {B = ℕ} (λ plan. 0) plans)
+    zeros [] = tt
+    zeros (p ∷ ps) = (omega arith, zeros ps)
+
+pub all_none : (plans : List Plan) → map {B = ℕ} (λ plan. 0) (map planned plans) ≡ map {B = ℕ} (λ plan. 0) plans
+all_none [] = refl
+all_none (p ∷ ps) = ap (λ (l : List ℕ). 0 ∷ l) (all_none ps)

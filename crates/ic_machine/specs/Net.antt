@@ -7,8 +7,8 @@ use Rattle.ic_machine.specs.declared.equation.Equation.{Equation}
 use Rattle.ic_machine.specs.Plan.{Made, Planned, Plans, plan_of}
 
 -- What a machine holds: the arities of the symbols; the words of the interface; the equations that are still to be looked
--- at, and those set aside; what each place holds; how many pairs it has fired; and how many names there are, and places for
--- agents of each symbol, the free ones too.
+-- at, and those set aside; what each place holds; how many pairs it has fired; how many names there are, and places for agents
+-- of each symbol, the free ones too; and how often each plan has fired.
 pub record Net : Type 0 where
   pub arities : List ℕ
   pub interface : List Word
@@ -18,6 +18,7 @@ pub record Net : Type 0 where
   pub interactions : ℕ
   pub names : ℕ
   pub agents : List ℕ
+  pub counts : List ℕ
 
 abbrev pub equated_of : Equation → Piece
 equated_of e = equated e.left e.right

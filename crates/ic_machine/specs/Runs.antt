@@ -1,5 +1,5 @@
 -- What a machine begins with, and what a run leads to.
-use Rattle.std.specs.Prelude.{◌≡◌, ℕ, ◌+◌, ◌<◌, ◌≤◌, ◌==◌, List, [], ◌++◌, Some, length, map, count_by, slice_get}
+use Rattle.std.specs.Prelude.{◌≡◌, ℕ, ◌+◌, ◌<◌, ◌≤◌, ◌==◌, List, [], ◌++◌, Some, length, map, count_by, slice_get, slice_index_or}
 use Rattle.std.specs.List.{AllByRecursion, range_with_len}
 use Rattle.ic_arena.specs.declared.word.Word.{Word}
 use Rattle.ic_arena.specs.declared.word.TheConstants.{NAME, GIVEN}
@@ -46,11 +46,19 @@ pub record Starts (p : Plans) (given : ℕ) (plan : Planned) (operands : List �
   pub begins : Begins p.arities given plan operands n.interface first
   pub steps : Steps p [] first (pieces n)
 
--- Steps lead from one net to another. They fired as many pairs as were counted, and set aside equations that are stuck.
+-- What was counted of each plan, and what is counted of it after these have fired.
+pub record Counted (fired old new : List ℕ) : Type 0 where
+  pub all : length new ≡ length old
+  pub each : (i : ℕ) → i < length old
+      → slice_index_or new i 0 ≡ slice_index_or old i 0 + count_by (λ j. j == i) fired
+
+-- Steps lead from one net to another. They fired as many pairs as were counted, of each plan too, and set aside equations that
+-- are stuck.
 pub record Ran (p : Plans) (old new : Net) : Type 0 where
   pub fired : List ℕ
   pub steps : Steps p fired (pieces old) (pieces new)
   pub counted : new.interactions ≡ old.interactions + length fired
+  pub counts : Counted fired old.counts new.counts
   pub arities : new.arities ≡ old.arities
   pub interface : new.interface ≡ old.interface
   pub more : List Equation

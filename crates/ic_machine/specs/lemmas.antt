@@ -7,3 +7,4 @@ pub mod FiringKeeps
 pub mod FiresKeep
 pub mod Balance
 pub mod Active
+pub mod RunsOn

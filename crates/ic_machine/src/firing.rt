@@ -1,12 +1,12 @@
 //! What a firing takes, opens and makes.
 
-ghost use Rattle.std.specs.Prelude.{◌≡◌, ℕ, ◌+◌, ◌-◌, ◌^◌, ◌<◌, ◌≤◌, List, [], ◌∷◌, ◌++◌, Err, Contains, map, length, sum_by, vec_len, vec_capacity, OnOk};
+ghost use Rattle.std.specs.Prelude.{◌≡◌, ℕ, ◌+◌, ◌-◌, ◌^◌, ◌<◌, ◌≤◌, List, [], ◌∷◌, ◌++◌, true, Err, Contains, map, length, sum_by, vec_len, vec_capacity, OnOk};
 ghost use Rattle.std.specs.List.{AllByRecursion};
 ghost use Rattle.ic_arena.specs.Piece.{room};
 ghost use Rattle.ic_arena.specs.declared.word.TheConstants.{GIVEN, IDLE};
 ghost use Rattle.ic_machine.specs.Plan.{Made, made_of, AreMade};
 ghost use Rattle.ic_machine.specs.Runs.{given_words};
-ghost use Rattle.ic_machine.specs.inner.Firing.{heaps_pieces, arities_of, table, Taken, Opened, Makes, SameSize, AreSame, HasRoom};
+ghost use Rattle.ic_machine.specs.inner.Firing.{heaps_pieces, arities_of, table, Taken, Opened, Makes, SameSize, IsGrown, AreSame, HasBlocks, HasRoom};
 
 use crate::machine::MachineFault;
 use crate::plan::Make;
@@ -33,6 +33,26 @@ pub(crate) fn reserve_blocks(heaps: &mut Vec<Heap>, makes: &[Make]) -> Result<()
         heap.reserve(makes.len() * heap.arity() as usize)?;
     }
     Ok(())
+}
+
+/// Takes the memory for so many agents more of each symbol. Answers false where there are no numbers for them, or memory is
+/// refused.
+pub(crate) fn reserve_each(heaps: &mut Vec<Heap>, more: usize) -> bool
+    requires { more < 2 ^ 32 }
+    ensures same { AreSame heaps.old.items heaps.new.items }
+    ensures room { result ≡ true → (s : ℕ) → s < length heaps.new.items
+        → HasBlocks more (table heaps.new.items s) }
+{
+    for symbol in 0..heaps.len() {
+        let heap = &mut heaps[symbol];
+        if more > MAX_ENTRIES - heap.count() as usize {
+            return false;
+        }
+        if heap.reserve(more * heap.arity() as usize).is_err() {
+            return false;
+        }
+    }
+    true
 }
 
 /// Takes the arguments of an agent out of its block.
@@ -64,6 +84,7 @@ pub(crate) fn open_names(names: &mut Names, count: u32, registers: &mut Vec<Word
     ensures opened { Opened count names.old.entries names.new.entries
         registers.old.items registers.new.items }
     ensures few { length names.new.entries ≤ length names.old.entries + count }
+    ensures memory { names.new.capacity ≡ names.old.capacity }
     ensures capacity { vec_capacity registers.new ≡ vec_capacity registers.old }
 {
     for opened in 0..count {
@@ -97,6 +118,8 @@ pub(crate) fn make_agents(heaps: &mut Vec<Heap>, makes: &[Make], registers: &mut
         registers.old.items registers.new.items }
     ensures words { AllByRecursion (λ w. w.tag < IDLE) registers.new.items }
     ensures arities { arities_of heaps.new.items ≡ arities_of heaps.old.items }
+    ensures sizes { (s : ℕ)
+        → IsGrown (length makes.now) (table heaps.old.items s) (table heaps.new.items s) }
 {
     for make in makes {
         let heap = &mut heaps[make.symbol as usize];

@@ -28,7 +28,10 @@ pub(crate) fn link_each(
         ++ (names_pieces 0 names.old.entries ++ (map equated_of pending.old.items ++ rest)))
         (names_pieces 0 names.new.entries ++ (map equated_of pending.new.items ++ rest)) }
     ensures pushed { Pushed pending.old.items pending.new.items }
+    ensures len { vec_len pending.new ≤ vec_len pending.old + length links.now }
+    ensures capacity { vec_capacity pending.new ≡ vec_capacity pending.old }
     ensures names { length names.new.entries ≡ length names.old.entries }
+    ensures memory { names.new.capacity ≡ names.old.capacity }
 {
     for each in links {
         let equation = Equation {
@@ -52,6 +55,7 @@ fn link(names: &mut Names, pending: &mut Vec<Equation>, equation: Equation)
     ensures len { vec_len pending.new ≤ vec_len pending.old + 1 }
     ensures capacity { vec_capacity pending.new ≡ vec_capacity pending.old }
     ensures names { length names.new.entries ≡ length names.old.entries }
+    ensures memory { names.new.capacity ≡ names.old.capacity }
 {
     let mut left = equation.left;
     let mut right = equation.right;
@@ -82,6 +86,7 @@ fn meet(names: &mut Names, name: u32, word: Word) -> Option<Word>
     ensures met { IfSome result (λ u. Meeting (name_word name) word u
         names.old.entries names.new.entries) }
     ensures names { length names.new.entries ≡ length names.old.entries }
+    ensures memory { names.new.capacity ≡ names.old.capacity }
 {
     let waiting = names.get(name);
     if waiting.tag == IDLE {

@@ -1,6 +1,6 @@
 //! The machine.
 
-ghost use Rattle.std.specs.Prelude.{◌≡◌, ◌≢◌, ℕ, ◌+◌, ◌^◌, ◌<◌, ◌≤◌, List, [], ◌∷◌, ◌++◌, true, false, Ok, Err, Contains, length, map, sum, sum_by, IfOk, OnErr, IfSome, IfNone, MatchOption};
+ghost use Rattle.std.specs.Prelude.{◌≡◌, ◌≢◌, ℕ, ◌+◌, ◌^◌, ◌<◌, ◌≤◌, List, [], ◌∷◌, ◌++◌, true, false, Ok, Err, Contains, length, map, sum, sum_by, vec_capacity, IfOk, OnErr, IfSome, IfNone, MatchOption};
 ghost use Rattle.std.specs.List.{AllByRecursion};
 ghost use Rattle.ic_arena.specs.declared.word.Word.{Word as AnyWord};
 ghost use Rattle.ic_arena.specs.declared.word.TheConstants.{GIVEN};
@@ -9,10 +9,10 @@ ghost use Rattle.ic_arena.specs.Piece.{agent_of, room, waits};
 ghost use Rattle.ic_arena.specs.Tables.{register};
 ghost use Rattle.ic_machine.specs.Plan.{planned};
 ghost use Rattle.ic_machine.specs.Separate.{IsSeparate};
-ghost use Rattle.ic_machine.specs.Runs.{IsStart, Starts, Ran};
+ghost use Rattle.ic_machine.specs.Runs.{IsStart, Starts, Counted, Ran};
 ghost use Rattle.ic_machine.specs.Net.{pieces, HasNext, IsAtPlace, IsFull};
 ghost use Rattle.ic_machine.specs.inner.Linking.{IsPair};
-ghost use Rattle.ic_machine.specs.inner.Pairs.{HasPlan, IsLast, Passed};
+ghost use Rattle.ic_machine.specs.inner.Pairs.{HasNumber, IsLast, Passed};
 
 use crate::equation::Equation;
 use crate::firing::push_given;
@@ -58,6 +58,7 @@ pub struct Machine {
     aside: Vec<Equation>,
     tables: Tables,
     interactions: u64,
+    counts: Vec<u64>,
 }
 
 impl Model for Machine {
@@ -88,10 +89,12 @@ impl Machine {
         ensures starts { IfOk result (Starts program.now given (planned plan.now) interface.now) }
         ensures aside { IfOk result (λ m. m.aside ≡ []) }
         ensures interactions { IfOk result (λ m. m.interactions ≡ 0) }
+        ensures counts { IfOk result (λ m. m.counts ≡ map (λ plan. 0) program.now.plans) }
         ensures separate { IfOk result (λ m.
             IsSeparate program.now.arities m.interface (pieces m)) }
         ensures limit { result ≡ Err MachineFault.Limit → 2 ^ 32 ≤ length plan.now.makes.items }
     {
+        let counts = no_counts(alloc, program.plans())?;
         let mut tables = Tables::new(alloc, program.arities())?;
         tables.reserve(plan, given as usize)?;
         push_given(&mut tables.registers, given);
@@ -102,6 +105,7 @@ impl Machine {
             aside: Vec::new(alloc),
             tables,
             interactions: 0,
+            counts,
         })
     }
 
@@ -148,11 +152,12 @@ impl Machine {
             → (next : HasNext program.now self.new.pending) × IsFull next.active.plan self.new }
     {
         let found = find_plan(program, &mut self.tables.pending, &mut self.aside)?;
-        let Some((pair, plan)) = found else {
+        let Some((pair, number)) = found else {
             return Ok(false);
         };
-        self.tables.fire(pair, plan)?;
+        self.tables.fire(pair, program.plan_at(number))?;
         self.interactions += 1;
+        count(&mut self.counts, number);
         Ok(true)
     }
 
@@ -199,6 +204,13 @@ impl Machine {
         self.interactions
     }
 
+    /// How often each plan of the program has fired, by its number.
+    pub fn fired(&self) -> &[u64]
+        ensures { result.now ≡ self.now.counts }
+    {
+        self.counts.as_slice()
+    }
+
     /// The word that waits for a name, if one does.
     pub fn waiting(&self, name: u32) -> Option<Word>
         ensures found { IfSome result (λ w. Contains self.now.places (waits (name_word name) w)) }
@@ -237,6 +249,7 @@ impl Machine {
         ensures aside { result.aside.items ≡ self.aside }
         ensures arities { result.places.arities ≡ self.arities }
         ensures pieces { result.places.pieces ≡ self.places }
+        ensures counts { result.counts.items ≡ self.counts }
     {
         let tables = self.tables;
         Parts {
@@ -244,27 +257,30 @@ impl Machine {
             pending: tables.pending,
             aside: self.aside,
             places: Places::from_tables(tables.names, tables.heaps),
+            counts: self.counts,
         }
     }
 }
 
-/// The last pending pair that has a plan, with its plan. Those that come after it are set aside.
-fn find_plan<'a>(
-    program: &'a Program,
+/// The last pending pair that has a plan, with the number of its plan. Those that come after it are set aside.
+#[inline(always)]
+fn find_plan(
+    program: &Program,
     pending: &mut Vec<Equation>,
     aside: &mut Vec<Equation>,
-) -> Result<Option<(Equation, &'a Plan)>, MachineFault>
+) -> Result<Option<(Equation, u32)>, MachineFault>
     requires { AllByRecursion IsPair pending.old.items }
+    ensures memory { vec_capacity pending.new ≡ vec_capacity pending.old }
     ensures passed { Passed program.now
         pending.old.items aside.old.items pending.new.items aside.new.items }
     ensures found { IfOk result (λ o. MatchOption o (pending.new.items ≡ [])
-        (λ f. IsLast f.0 pending.new.items × HasPlan program.now f.0 (planned f.1.now))) }
+        (λ f. IsLast f.0 pending.new.items × HasNumber program.now f.0 f.1)) }
     ensures limit { result ≢ Err MachineFault.Limit }
 {
     while let Some(pair) = pending.last() {
         let pair = *pair;
-        if let Some(plan) = program.plan_for(pair) {
-            return Ok(Some((pair, plan)));
+        if let Some(number) = program.number_for(pair) {
+            return Ok(Some((pair, number)));
         }
         if aside.push(pair).is_err() {
             return Err(MachineFault::Memory);
@@ -272,6 +288,28 @@ fn find_plan<'a>(
         pending.pop();
     }
     Ok(None)
+}
+
+/// Counts a plan that has fired, if it is one of those that are counted.
+#[inline(always)]
+fn count(counts: &mut Vec<u64>, number: u32)
+    requires { AllByRecursion (λ k. k + 1 < 2 ^ 64) counts.old.items }
+    ensures { Counted (number ∷ []) counts.old.items counts.new.items }
+{
+    if (number as usize) < counts.len() {
+        counts[number as usize] += 1;
+    }
+}
+
+/// A count of 0 for each plan.
+fn no_counts(alloc: Global, plans: &[Plan]) -> Result<Vec<u64>, AllocError>
+    ensures { IfOk result (λ v. v.items ≡ map (λ plan. 0) plans.now) }
+{
+    let mut counts = Vec::with_capacity(alloc, plans.len())?;
+    for plan in plans {
+        counts.push_reserved(0u64);
+    }
+    Ok(counts)
 }
 
 /// The words in these registers.

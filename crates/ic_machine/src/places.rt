@@ -27,6 +27,8 @@ pub struct Parts {
     pub aside: Vec<Equation>,
     /// What each place holds.
     pub places: Places,
+    /// How often each plan has fired.
+    pub counts: Vec<u64>,
 }
 
 /// What each place of a net holds. The words that wait and the arguments of agents can be taken out, each once, in any

@@ -1,11 +1,11 @@
 //! Plans: what a rule makes of two agents, ready to be made.
 
-ghost use Rattle.std.specs.Prelude.{◌≡◌, ◌<◌, length, map, IfSome, IfNone};
+ghost use Rattle.std.specs.Prelude.{◌≡◌, ◌<◌, Some, length, map, slice_get, IfSome, IfNone};
 ghost use Rattle.std.specs.Option.{option_map};
 ghost use Rattle.ic_machine.specs.Plan.{planned, plan_of, ArePlans};
 ghost use Rattle.ic_machine.specs.Net.{IsStuck};
 ghost use Rattle.ic_machine.specs.inner.Linking.{IsPair};
-ghost use Rattle.ic_machine.specs.inner.Pairs.{HasPlan};
+ghost use Rattle.ic_machine.specs.inner.Pairs.{HasNumber};
 
 use crate::equation::Equation;
 use std::marker::Model;
@@ -105,9 +105,26 @@ impl Program {
         }
     }
 
-    /// The plan of an equation, where both sides are agents whose symbols have one.
-    pub(crate) fn plan_for(&self, equation: Equation) -> Option<&Plan>
-        ensures found { IfSome result (λ p. HasPlan self.now equation (planned p.now)) }
+    /// The plans, by their numbers.
+    pub(crate) fn plans(&self) -> &[Plan]
+        ensures { map planned result.now ≡ self.now.plans }
+    {
+        self.plans.as_slice()
+    }
+
+    /// The plan with a number.
+    #[inline(always)]
+    pub(crate) fn plan_at(&self, number: u32) -> &Plan
+        requires { number < length self.now.plans }
+        ensures { slice_get self.now.plans number ≡ Some (planned result.now) }
+    {
+        &self.plans[number as usize]
+    }
+
+    /// The number of the plan of an equation, where both sides are agents whose symbols have one.
+    #[inline(always)]
+    pub(crate) fn number_for(&self, equation: Equation) -> Option<u32>
+        ensures found { IfSome result (HasNumber self.now equation) }
         ensures none { IfNone result (IsPair equation → IsStuck self.now equation) }
     {
         let count = self.arities.len();
@@ -115,6 +132,6 @@ impl Program {
         if left == 0 || right == 0 || count < left as usize || count < right as usize {
             return None;
         }
-        self.plan(left - 1, right - 1)
+        self.table[(left as usize - 1) * count + (right as usize - 1)]
     }
 }

@@ -12,12 +12,15 @@ ghost use Rattle.ic_machine.specs.inner.Linking.{IsPair, Pushed};
 ghost use Rattle.ic_machine.specs.inner.Pairs.{CanFire, IsLast};
 
 use crate::equation::Equation;
-use crate::firing::{MAX_ENTRIES, make_agents, open_names, reserve_blocks, take};
+use crate::firing::{MAX_ENTRIES, make_agents, open_names, reserve_blocks, reserve_each, take};
 use crate::linking::link_each;
 use crate::machine::MachineFault;
 use crate::plan::Plan;
 use ic_arena::{Heap, Names, Word};
 use std::alloc::{AllocError, Global};
+
+/// How much of each kind plans may make before more memory is taken.
+const SPARE: usize = 1_024;
 
 /// What is at each place, the pairs that are still to be looked at, and the registers of the plan that is made.
 #[derive(Drop)]
@@ -26,10 +29,12 @@ pub(crate) struct Tables {
     pub(crate) heaps: Vec<Heap>,
     pub(crate) pending: Vec<Equation>,
     pub(crate) registers: Vec<Word>,
+    /// So many names, links, and agents of each symbol can be made with the memory that is there.
+    pub(crate) spare: usize,
 }
 
 impl Tables {
-    ghost use Rattle.ic_machine.specs.inner.Tables.{held, HasMemory, IsReady, IsMade, IsNumbered, IsTooMuch};
+    ghost use Rattle.ic_machine.specs.inner.Tables.{held, size_of, HasMemory, HasRoomFor, HasSpare, IsReady, IsMade, IsNumbered, IsTooMuch};
 
     /// Tables of nothing, for symbols of these arities. The registers hold the agents without arguments.
     pub(crate) fn new(alloc: Global, arities: &[u32]) -> Result<Tables, AllocError>
@@ -41,6 +46,7 @@ impl Tables {
         ensures registers { IfOk result (λ t.
             t.registers.items ≡ constants (length arities.now)) }
         ensures counts { IfOk result (λ t. AllByRecursion (λ b. b.count ≡ 0) t.heaps.items) }
+        ensures spare { IfOk result (λ t. t.spare ≡ 0) }
     {
         let mut heaps = Vec::with_capacity(alloc, arities.len())?;
         let mut registers = Vec::with_capacity(alloc, arities.len())?;
@@ -55,6 +61,7 @@ impl Tables {
             heaps,
             pending: Vec::new(alloc),
             registers,
+            spare: 0,
         })
     }
 
@@ -73,6 +80,7 @@ impl Tables {
         ensures limit { result ≡ Err MachineFault.Limit
             → IsTooMuch (planned plan.now) (length self.new.names.entries) self.new.heaps.items }
         ensures range { plan.now.names < 2 ^ 32 }
+        ensures spare { self.new.spare ≡ self.old.spare }
     {
         let names = plan.names as usize;
         self.registers.truncate(self.heaps.len());
@@ -87,6 +95,70 @@ impl Tables {
         Ok(())
     }
 
+    /// Takes memory for the plans to come, after one that makes so many names and agents, and so many links. Answers how much of
+    /// each kind they may make: nothing where it is refused, or there are no numbers for so much.
+    fn take_spare(&mut self, size: usize, links: usize) -> usize
+        requires { length self.old.names.entries < 2 ^ 32 }
+        ensures names { self.new.names.entries ≡ self.old.names.entries }
+        ensures more_names { self.old.names.capacity ≤ self.new.names.capacity }
+        ensures heaps { AreSame self.old.heaps.items self.new.heaps.items }
+        ensures pending { self.new.pending.items ≡ self.old.pending.items }
+        ensures more_pending { vec_capacity self.old.pending ≤ vec_capacity self.new.pending }
+        ensures registers { self.new.registers ≡ self.old.registers }
+        ensures room { 1 ≤ result → HasRoomFor (result + (size + links)) self.new }
+    {
+        if size > SPARE || links > SPARE {
+            return 0;
+        }
+        let more = SPARE + size + links;
+        if more > MAX_ENTRIES - self.names.len() {
+            return 0;
+        }
+        if self.names.reserve(more).is_err() || self.pending.reserve(more).is_err() {
+            return 0;
+        }
+        if reserve_each(&mut self.heaps, more) {
+            SPARE
+        } else {
+            0
+        }
+    }
+
+    /// Sees that there is all memory that a plan may need with so many arguments, before anything is changed. What was taken
+    /// for earlier plans and is spare is used first.
+    #[inline(always)]
+    fn prepare(&mut self, plan: &Plan, arguments: usize) -> Result<(), MachineFault>
+        requires few { length self.old.names.entries < 2 ^ 32 }
+        requires arguments { arguments < 2 ^ 33 }
+        requires known { AllByRecursion (λ m. m.symbol < length self.old.heaps.items)
+            (map made_of plan.now.makes.items) }
+        requires spare { HasSpare self.old }
+        ensures names { self.new.names.entries ≡ self.old.names.entries }
+        ensures heaps { AreSame self.old.heaps.items self.new.heaps.items }
+        ensures pending { self.new.pending.items ≡ self.old.pending.items }
+        ensures registers { self.new.registers.items
+            ≡ take (length self.old.heaps.items) self.old.registers.items }
+        ensures memory { OnOk result (HasMemory (planned plan.now) arguments self.new) }
+        ensures spare { OnOk result (1 ≤ self.new.spare
+            → HasRoomFor (self.new.spare + size_of (planned plan.now)) self.new) }
+        ensures none { OnErr result (self.new.spare ≡ 0) }
+        ensures limit { result ≡ Err MachineFault.Limit
+            → IsTooMuch (planned plan.now) (length self.new.names.entries) self.new.heaps.items }
+    {
+        let size = plan.names as usize + plan.makes.len();
+        let links = plan.links.len();
+        self.registers.truncate(self.heaps.len());
+        let free = self.registers.capacity() - self.registers.len();
+        if size < self.spare && links < self.spare - size && arguments + size <= free {
+            self.spare -= size + links;
+            return Ok(());
+        }
+        self.spare = 0;
+        self.reserve(plan, arguments)?;
+        self.spare = self.take_spare(size, links);
+        Ok(())
+    }
+
     /// Makes what a plan makes of the arguments in the registers.
     pub(crate) fn make(&mut self, plan: &Plan)
         requires ready { IsReady (planned plan.now) self.old }
@@ -95,6 +167,9 @@ impl Tables {
         ensures pushed { Pushed self.old.pending.items self.new.pending.items }
         ensures arities { arities_of self.new.heaps.items ≡ arities_of self.old.heaps.items }
         ensures few { length self.new.names.entries < 2 ^ 32 }
+        ensures room { (n : ℕ) → HasRoomFor (n + size_of (planned plan.now)) self.old
+            → HasRoomFor n self.new }
+        ensures spare { self.new.spare ≡ self.old.spare }
     {
         open_names(&mut self.names, plan.names, &mut self.registers);
         make_agents(&mut self.heaps, &plan.makes, &mut self.registers);
@@ -115,6 +190,8 @@ impl Tables {
         requires last { IsLast pair self.old.pending.items }
         requires plan { CanFire (arities_of self.old.heaps.items) pair (planned plan.now) }
         requires separate { IsSeparate (arities_of self.old.heaps.items) [] (held self.old []) }
+        requires spare { HasSpare self.old }
+        ensures spare { HasSpare self.new }
         ensures fires { OnOk result ((p : Plans) (i left right : ℕ) (rest : List Equation)
             → pair.left.tag ≡ left + 1 → pair.right.tag ≡ right + 1
             → p.arities ≡ arities_of self.old.heaps.items
@@ -136,7 +213,7 @@ impl Tables {
         let left = &self.heaps[pair.left.tag as usize - 1];
         let right = &self.heaps[pair.right.tag as usize - 1];
         let arguments = left.arity() as usize + right.arity() as usize;
-        self.reserve(plan, arguments)?;
+        self.prepare(plan, arguments)?;
         self.pending.pop();
         take(&mut self.heaps, pair.left, &mut self.registers);
         take(&mut self.heaps, pair.right, &mut self.registers);

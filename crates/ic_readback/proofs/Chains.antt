@@ -8,7 +8,7 @@ use Rattle.std.proofs.lemmas.List.Sorted.{IsPermutation-sym, Contains-permutatio
 use Rattle.ic_arena.specs.declared.word.Word.{Word}
 use Rattle.ic_arena.specs.Piece.{Piece, equated, idle, waits, agent_of}
 use Rattle.ic_readback.specs.declared.token.Token.TheVariants.{Name, Agent}
-use Rattle.ic_readback.specs.inner.Expanding.{State, state, Step, follow, opened, plain, named, Steps, no_step, one_more, Left, none, circle, alone}
+use Rattle.ic_readback.specs.inner.Expanding.{State, state, Step, follow, opened, plain, named, Steps, no_step, one_more}
 
 pub steps_on : (arities : List ℕ) (s t u : State) → Steps arities s t → Steps arities t u → Steps arities s u
 steps_on arities s t u (no_step a) later = later
@@ -102,39 +102,6 @@ pub steps_pieces : (arities : List ℕ) (p : Piece) (s t : State) → Steps arit
 steps_pieces arities p s t (no_step a) there = there
 steps_pieces arities p s t (one_more a b c first rest) there = step_pieces arities p a b first (steps_pieces arities p b c rest there)
 
-pub left_pieces : (arities : List ℕ) (p : Piece) (k : ℕ) (s t : State) → Left arities k s t → Contains t.pieces p → Contains s.pieces p
-left_pieces arities p k s t (none a) there = there
-left_pieces arities p k s t (circle j a ts us x u ps qs rs before tag taken steps) there =
-    left_pieces arities p j a (state ts [] ps) before (behind ps qs (waits x u) p taken (steps_pieces arities p (state (ts ++ Name x ∷ []) (u ∷ []) qs) (state us [] rs) steps there))
-left_pieces arities p k s t (alone j a ts us x vs ps qs rs before is taken steps) there =
-    left_pieces arities p j a (state ts [] ps) before (behind ps qs (agent_of x vs) p taken (steps_pieces arities p (state (ts ++ Name x ∷ Agent (x.tag - 1) ∷ []) vs qs) (state us [] rs) steps there))
-
-pub left_tokens : (arities : List ℕ) (k : ℕ) (s t : State) → Left arities k s t → s.words ≡ [] → length s.tokens + k ≤ length t.tokens
-left_tokens arities k s t (none a) empty = omega arith
-left_tokens arities k s t (circle j a ts us x u ps qs rs before tag taken steps) empty =
-    let first = left_tokens arities j a (state ts [] ps) before empty in
-    let more = length-append ts (Name x ∷ []) in
-    let later = steps_tokens arities (state (ts ++ Name x ∷ []) (u ∷ []) qs) (state us [] rs) steps in
-    omega arith
-left_tokens arities k s t (alone j a ts us x vs ps qs rs before is taken steps) empty =
-    let first = left_tokens arities j a (state ts [] ps) before empty in
-    let more = length-append ts (Name x ∷ Agent (x.tag - 1) ∷ []) in
-    let later = steps_tokens arities (state (ts ++ Name x ∷ Agent (x.tag - 1) ∷ []) vs qs) (state us [] rs) steps in
-    omega arith
-
-pub left_on : (arities : List ℕ) (j k m : ℕ) (s t u : State) → Left arities j s t → Left arities k t u → m ≡ j + k → Left arities m s u
-left_on arities j k m s t u first (none a) e =
-    let same : j ≡ m = omega arith in
-    transport (λ (i : ℕ). Left arities i s a) same first
-left_on arities j k m s t u first (circle i a ts us x w ps qs rs before tag taken steps) e =
-    let rest = left_on arities j i (j + i) s a (state ts [] ps) first before refl in
-    let same : (j + i) + 1 ≡ m = omega arith in
-    transport (λ (o : ℕ). Left arities o s (state us [] rs)) same (circle (j + i) s ts us x w ps qs rs rest tag taken steps)
-left_on arities j k m s t u first (alone i a ts us x vs ps qs rs before is taken steps) e =
-    let rest = left_on arities j i (j + i) s a (state ts [] ps) first before refl in
-    let same : (j + i) + 1 ≡ m = omega arith in
-    transport (λ (o : ℕ). Left arities o s (state us [] rs)) same (alone (j + i) s ts us x vs ps qs rs rest is taken steps)
-
 -- ---- no place is held more often
 
 pub gone : (f : Piece → ℕ) (ps qs : List Piece) (p : Piece) → IsPermutation ps (p ∷ qs) → sum_by f qs + f p ≡ sum_by f ps
@@ -154,19 +121,6 @@ steps_fewer arities f s t (no_step a) = omega arith
 steps_fewer arities f s t (one_more a b c first rest) =
     let here = step_fewer arities f a b first in
     let later = steps_fewer arities f b c rest in
-    omega arith
-
-pub left_fewer : (arities : List ℕ) (f : Piece → ℕ) (k : ℕ) (s t : State) → Left arities k s t → sum_by f t.pieces ≤ sum_by f s.pieces
-left_fewer arities f k s t (none a) = omega arith
-left_fewer arities f k s t (circle j a ts us x u ps qs rs before tag taken steps) =
-    let first = left_fewer arities f j a (state ts [] ps) before in
-    let all = gone f ps qs (waits x u) taken in
-    let later = steps_fewer arities f (state (ts ++ Name x ∷ []) (u ∷ []) qs) (state us [] rs) steps in
-    omega arith
-left_fewer arities f k s t (alone j a ts us x vs ps qs rs before is taken steps) =
-    let first = left_fewer arities f j a (state ts [] ps) before in
-    let all = gone f ps qs (agent_of x vs) taken in
-    let later = steps_fewer arities f (state (ts ++ Name x ∷ Agent (x.tag - 1) ∷ []) vs qs) (state us [] rs) steps in
     omega arith
 
 pub contained_sum : (f : Piece → ℕ) (p : Piece) (ps : List Piece) → Contains ps p → f p ≤ sum_by f ps

@@ -1,299 +1,173 @@
--- Lemmas: what is read after the words of a machine.
-use Rattle.std.proofs.Common.{◌≡◌, ℕ, ◌+◌, ◌*◌, ◌-◌, ◌≤◌, ◌<◌, ◌==◌, List, [], ◌∷◌, ◌++◌, Bool, true, false, cond, length, take, drop, map, slice_index_or, sum_by, refl, sym, ap, ◌∙◌, eq-eqb, arith, inl, inr, append_assoc, append-nil, subst as transport}
-use Rattle.std.specs.Prelude.{◌⊎◌, Contains, IsPermutation}
+-- Lemmas: the equations after those of a machine are circles.
+use Rattle.std.proofs.Common.{◌≡◌, ℕ, ◌+◌, ◌*◌, ◌==◌, List, [], ◌∷◌, ◌++◌, Bool, true, false, cond, length, take, drop, slice_index_or, refl, sym, ap, ◌∙◌, arith, append-nil, subst as transport}
 use Rattle.std.specs.List.{flat_map, AllByRecursion}
 use Rattle.std.specs.Cmp.{unsigned_Decides}
-use Rattle.std.proofs.lemmas.Bool.{ne_eqb, and_parts}
-use Rattle.std.proofs.lemmas.List.{length-append, length-drop, map-append, take_at, drop_at, take-append-le, drop-append-le, take-append-drop}
+use Rattle.std.proofs.lemmas.Bool.{ne_eqb}
+use Rattle.std.proofs.lemmas.List.{length-drop, take-append-drop, drop_at}
 use Rattle.std.proofs.lemmas.List.Concat.{flat_map-append}
-use Rattle.std.proofs.lemmas.Option.{slice_get-get_or, slice_get_within}
 use Rattle.std.proofs.lemmas.List.Sums.{sum_by-cons}
-use Rattle.std.proofs.lemmas.List.Sorted.{IsPermutation-sym, Contains-permutation}
+use Rattle.std.proofs.lemmas.Option.{slice_get-get_or}
 use Rattle.ic_term.specs.Tree.{Tree, name, names, Pair, pair_names}
-use Rattle.ic_term.specs.Configuration.{names_in, occurrences}
+use Rattle.ic_term.specs.Configuration.{configuration_names, occurrences}
 use Rattle.ic_settle.specs.lemmas.SubstitutionLaws.{occurrences-append}
 use Rattle.ic_arena.specs.declared.word.Word.{Word}
-use Rattle.ic_arena.specs.declared.word.TheConstants.{NAME, GIVEN}
-use Rattle.ic_arena.specs.Word.{word_eq, count}
-use Rattle.ic_arena.specs.Piece.{Piece, waits, agent_of, uses}
-use Rattle.ic_machine.specs.declared.equation.Equation.{Equation}
-use Rattle.ic_machine.specs.Net.{Net, equated_of, pieces}
-use Rattle.ic_flat.specs.declared.word.Word.{Word as FlatWord}
+use Rattle.ic_arena.specs.declared.word.TheConstants.{GIVEN}
+use Rattle.ic_arena.specs.Word.{word_eq}
+use Rattle.ic_machine.specs.Net.{Net, pieces}
 use Rattle.ic_flat.specs.Words.{forest, word_names}
 use Rattle.ic_flat.specs.Flat.{pairs_of}
 use Rattle.ic_meaning.specs.Words.{Numbers, AreNumbers}
-use Rattle.ic_meaning.specs.Nets.{AreNetPieces, holds}
+use Rattle.ic_meaning.specs.Nets.{AreNetPieces}
 use Rattle.ic_readback.specs.declared.token.Token.{Token}
 use Rattle.ic_readback.specs.declared.token.Token.TheVariants.{Name, Agent}
-use Rattle.ic_readback.specs.declared.reader.Reader.{Reader}
-use Rattle.ic_readback.specs.Reading.{number_of, flat_word, flat_words, configuration_read, AreGiven, IsCircle, AreCirclesAfter}
-use Rattle.ic_readback.specs.inner.Expanding.{State, state, IsName, Step, follow, opened, plain, named, Steps, no_step, one_more, Left, none, circle, alone}
-use Rattle.ic_readback.proofs.Chains.{contains_first, steps_pieces, steps_fewer, left_pieces, gone}
-use Rattle.ic_readback.proofs.Rows.{over, over-nil, over-append, over-more, over-names, pairs-more, pairs-names, pairs-length}
-use Rattle.ic_readback.proofs.Words.{row, whole_steps, true_false}
-use Rattle.ic_readback.proofs.Ends.{IsRow, WasRead, first_state, left_whole, first_row, once_places}
-use Rattle.ic_readback.proofs.Heads.{Longer, longer_steps, Kept, kept_step, first_kept}
-use Rattle.ic_readback.proofs.Results.{ReadsNet}
+use Rattle.ic_readback.specs.Reading.{number_of, flat_words, configuration_read, AreGiven, IsCircle, AreCirclesAfter}
+use Rattle.ic_readback.specs.inner.Expanding.{State, state}
+use Rattle.ic_readback.specs.inner.Writing.{Part}
+use Rattle.ic_readback.proofs.Rows.{over, over-nil, over-names, pairs-names, pairs-length}
+use Rattle.ic_readback.proofs.Words.{true_false}
+use Rattle.ic_readback.proofs.Ends.{first_state, sides_given, once_places, given_steps}
+use Rattle.ic_readback.proofs.Puttings.{token_names, EachName, each_both, Not, named_in, MendedSo, mended_so, mended_each, mended_places, equations_in, all_so, same_word, word_itself}
+use Rattle.ic_readback.proofs.Parts.{IsLeft, steps_untold, gathered_order, gathered_left, gathered_terms, gathered_numbered, gathered_places, steps_numbered, IsNumbered}
+use Rattle.ic_readback.proofs.Shapes.{IsTerm, mended_terms, sides_in, term_pair}
+use Rattle.ic_readback.proofs.Results.{ReadsNet, with_arities, rows_read, shape_of, result_counted}
 
--- something is left at a place
-abbrev pub IsLeft : Word → List Piece → Type 0
-IsLeft w ps = ((w.tag ≡ NAME) × ((u : Word) × Contains ps (waits w u))) ⊎ (¬ (w.tag ≡ NAME) × ((vs : List Word) × Contains ps (agent_of w vs)))
+-- ---- how often the number of a place occurs
 
-left_before : (arities : List ℕ) (w : Word) (s t : State) → Steps arities s t → IsLeft w t.pieces → IsLeft w s.pieces
-left_before arities w s t steps (inl found) = inl (found.0, (found.1.0, steps_pieces arities (waits w found.1.0) s t steps found.1.1))
-left_before arities w s t steps (inr found) = inr (found.0, (found.1.0, steps_pieces arities (agent_of w found.1.0) s t steps found.1.1))
+place_number : (n : Numbers) (w : Word) → (w.tag ≡ GIVEN → ⊥) → number_of n w ≡ n.of_place w
+place_number n w other = rw (ne_eqb w.tag GIVEN other) refl
 
--- ---- what is left was not written
-
-same_word : (v w : Word) → word_eq v w ≡ true → v ≡ w
-same_word v w e =
-    let both = and_parts (v.tag == w.tag) (v.index == w.index) e in
-    let tags = (unsigned_Decides v.tag w.tag).0 both.0 in
-    let places = (unsigned_Decides v.index w.index).0 both.1 in
-    λ i. record { tag = tags i; index = places i }
-
-not_written : (arities : List ℕ) (v w : Word) (ps : List Piece) → IsName arities ps v → IsLeft w ps → v ≡ w → ⊥
-not_written arities v w ps is (inl found) same =
-    is.waits_not (ap (λ (x : Word). x.tag) same ∙ found.0) found.1.0 (transport (λ (x : Word). Contains ps (waits x found.1.0)) (sym same) found.1.1)
-not_written arities v w ps is (inr found) same =
-    is.agent_not (λ e. found.0 (sym (ap (λ (x : Word). x.tag) same) ∙ e)) found.1.0 (transport (λ (x : Word). Contains ps (agent_of x found.1.0)) (sym same) found.1.1)
-
-some_first : (w : Word) (ws : List Word) (ps : List Piece) → 1 ≤ count w (w ∷ ws) + sum_by (uses w) ps
-some_first w ws ps =
-    let parts = sum_by-cons (λ v. cond (word_eq w v) 1 0) w ws in
-    let itself : ◌≡◌ {A = ℕ} (cond (word_eq w w) 1 0) 1 = rw (eq-eqb w.tag w.tag refl, eq-eqb w.index w.index refl) refl in
-    omega arith
-
--- the name of a place that is left is not that of a token
-token_apart : (n : Numbers) (ts : List Token) (v w : Word) (ws : List Word) (ps : List Piece) → AreNumbers n → Kept n (state ts (v ∷ ws) ps) → IsName n.arities ps v → IsLeft w ps
-    → number_of n v ≡ n.of_place w → ⊥
-token_apart n ts v w ws ps sound kept is left same = at (v.tag == GIVEN) refl
+-- the numbers of two names are the same only where the names are
+one_number : (n : Numbers) (w v : Word) → AreNumbers n → (w.tag ≡ GIVEN → ⊥) → IsNumbered n.given v → number_of n v ≡ n.of_place w → v ≡ w
+one_number n w v sound other numbered same = at (v.tag == GIVEN) refl
   where
-    at : (b : Bool) → (v.tag == GIVEN) ≡ b → ⊥
+    at : (b : Bool) → (v.tag == GIVEN) ≡ b → v ≡ w
     at true e =
         let tag = (unsigned_Decides v.tag GIVEN).0 e in
-        let low = kept.given v tag (some_first v ws ps) in
         let number : number_of n v ≡ slice_index_or n.given v.index 0 = rw e refl in
-        let found = slice_get-get_or n.given v.index 0 low in
-        sound.not_given v.index (slice_index_or n.given v.index 0) w found (sym same ∙ number)
+        let found = slice_get-get_or n.given v.index 0 (numbered tag) in
+        absurd (sound.not_given v.index (slice_index_or n.given v.index 0) w found (sym same ∙ number))
     at false e =
         let number : number_of n v ≡ n.of_place v = rw e refl in
-        not_written n.arities v w ps is left (same_word v w (sound.apart v w (sym number ∙ same)))
+        same_word v w (sound.apart v w (sym number ∙ same))
 
-flat_names : (vs ws : List FlatWord) → flat_map word_names (vs ++ ws) ≡ flat_map word_names vs ++ flat_map word_names ws
-flat_names vs ws = flat_map-append word_names vs ws
+one_name : (n : Numbers) (w v : Word) → AreNumbers n → (w.tag ≡ GIVEN → ⊥) → IsNumbered n.given v → ◌≡◌ {A = ℕ} (cond (number_of n v == n.of_place w) 1 0) (cond (word_eq w v) 1 0)
+one_name n w v sound other numbered = at (word_eq w v) refl
+  where
+    at : (b : Bool) → word_eq w v ≡ b → ◌≡◌ {A = ℕ} (cond (number_of n v == n.of_place w) 1 0) (cond (word_eq w v) 1 0)
+    at true e =
+        let same : w ≡ v = same_word w v e in
+        let number : number_of n v ≡ n.of_place w = ap (number_of n) (sym same) ∙ place_number n w other in
+        rw (e, (unsigned_Decides (number_of n v) (n.of_place w)).1 number) refl
+    at false e =
+        let apart : number_of n v ≡ n.of_place w → ⊥ = (λ same. true_false (sym (ap (word_eq w) (one_number n w v sound other numbered same) ∙ word_itself w) ∙ e)) in
+        rw (e, ne_eqb (number_of n v) (n.of_place w) apart) refl
 
-occurs_apart : (n m : ℕ) → (m ≡ n → ⊥) → occurrences n (m ∷ []) ≡ 0
-occurs_apart n m apart = rw (ne_eqb m n apart) refl
+counted_names : (n : Numbers) (w : Word) (ts : List Token) → AreNumbers n → (w.tag ≡ GIVEN → ⊥) → EachName (IsNumbered n.given) ts
+    → occurrences (n.of_place w) (flat_map word_names (flat_words n ts)) ≡ named_in w ts
+counted_names n w [] sound other each = refl
+counted_names n w (Name v ∷ ts) sound other each =
+    let rest = counted_names n w ts sound other each.1 in
+    let a = sum_by-cons (λ k. cond (k == n.of_place w) 1 0) (number_of n v) (flat_map word_names (flat_words n ts)) in
+    let b = sum_by-cons (λ v. cond (word_eq w v) 1 0) v (flat_map token_names ts) in
+    let one = one_name n w v sound other each.0 in
+    omega arith
+counted_names n w (Agent s ∷ ts) sound other each = counted_names n w ts sound other each
 
-agent_absent : (n : Numbers) (w : Word) (ts : List Token) (k : ℕ) → occurrences (n.of_place w) (flat_map word_names (flat_words n ts)) ≡ 0
-    → occurrences (n.of_place w) (flat_map word_names (flat_words n (ts ++ Agent k ∷ []))) ≡ 0
-agent_absent n w ts k before =
-    ap (occurrences (n.of_place w))
-    (ap (flat_map word_names) (map-append (flat_word n) ts (Agent k ∷ [])) ∙ (flat_names (flat_words n ts) (flat_word n (Agent k) ∷ []) ∙ append-nil (flat_map word_names (flat_words n ts))))
-    ∙ before
+-- the names of terms are those of their tokens
+forest_names : (n : Numbers) (x : ℕ) (ts : List Token) → occurrences x (flat_map names (forest (flat_words n ts))) ≡ occurrences x (flat_map word_names (flat_words n ts))
+forest_names n x ts =
+    ap (λ l. occurrences x (flat_map names l)) (sym (over-nil (flat_words n ts)))
+    ∙ (ap (occurrences x) (over-names (flat_words n ts) []) ∙ ap (occurrences x) (append-nil (flat_map word_names (flat_words n ts))))
 
-pub absent_step : (n : Numbers) (w : Word) (s t : State) → AreNumbers n → Kept n s → Step n.arities s t → IsLeft w s.pieces
-    → occurrences (n.of_place w) (flat_map word_names (flat_words n s.tokens)) ≡ 0 → occurrences (n.of_place w) (flat_map word_names (flat_words n t.tokens)) ≡ 0
-absent_step n w s t sound kept (follow ts x u ws ps qs tag taken) left before = before
-absent_step n w s t sound kept (opened ts a vs ws ps qs is taken) left before = agent_absent n w ts (a.tag - 1) before
-absent_step n w s t sound kept (plain ts k v ws ps tag known) left before = agent_absent n w ts k before
-absent_step n w s t sound kept (named ts v ws ps is) left before =
-    let x : ℕ = n.of_place w in
-    let tokens = ap (flat_map word_names) (map-append (flat_word n) ts (Name v ∷ [])) ∙ flat_names (flat_words n ts) (flat_word n (Name v) ∷ []) in
-    let parts = ap (occurrences x) tokens ∙ occurrences-append x (flat_map word_names (flat_words n ts)) (number_of n v ∷ []) in
-    let here = occurs_apart x (number_of n v) (token_apart n ts v w ws ps sound kept is left) in
+-- the names of a configuration that is read are those of its tokens
+read_names : (n : Numbers) (x terms k : ℕ) (ts : List Token) → length (forest (flat_words n ts)) ≡ terms + 2 * k
+    → occurrences x (configuration_names (configuration_read n ts terms)) ≡ occurrences x (flat_map word_names (flat_words n ts))
+read_names n x terms k ts counted =
+    let F : List Tree = forest (flat_words n ts) in
+    let even : length (drop terms F) ≡ 2 * k = omega (arith, length-drop terms F) in
+    let a = occurrences-append x (flat_map names (take terms F)) (flat_map pair_names (pairs_of (drop terms F))) in
+    let b = ap (occurrences x) (pairs-names (drop terms F) k even) in
+    let d = ap (occurrences x) (sym (flat_map-append names (take terms F) (drop terms F)) ∙ ap (flat_map names) (take-append-drop terms F)) in
+    let e = occurrences-append x (flat_map names (take terms F)) (flat_map names (drop terms F)) in
+    let f = forest_names n x ts in
     omega arith
 
-pub absent_steps : (n : Numbers) (w : Word) (s t : State) → AreNumbers n → Kept n s → Steps n.arities s t → IsLeft w t.pieces
-    → occurrences (n.of_place w) (flat_map word_names (flat_words n s.tokens)) ≡ 0 → occurrences (n.of_place w) (flat_map word_names (flat_words n t.tokens)) ≡ 0
-absent_steps n w s t sound kept (no_step a) left before = before
-absent_steps n w s t sound kept (one_more a b c first rest) left before =
-    absent_steps n w b c sound (kept_step n a b first kept) rest left
-    (absent_step n w a b sound kept first (left_before n.arities w a c (one_more a b c first rest) left) before)
+-- ---- circles
 
--- ---- the terms of circles
+-- what is said of a term that was written, after these tokens
+pub record IsDone (n : Numbers) (ts : List Token) (d : Part) : Type 0 where
+  pub other : d.place.tag ≡ GIVEN → ⊥
+  pub term : IsTerm n d.tokens
+  pub numbered : EachName (IsNumbered n.given) d.tokens
+  pub alone : named_in d.place ts ≡ 1 + named_in d.place d.tokens
 
-occurs_few : (n m : ℕ) → occurrences n (m ∷ []) ≤ 1
-occurs_few n m = at (m == n) refl
-  where
-    at : (b : Bool) → (m == n) ≡ b → occurrences n (m ∷ []) ≤ 1
-    at true e = let one : occurrences n (m ∷ []) ≡ 1 = rw e refl in omega arith
-    at false e = let none : occurrences n (m ∷ []) ≡ 0 = rw e refl in omega arith
-
--- the number of a place stands for what is held there
-place_held : (n : Numbers) (w x : Word) (p : Piece) → AreNumbers n → (word_eq w x ≡ true → holds w p ≡ 1) → occurrences (n.of_place w) (n.of_place x ∷ []) ≤ holds w p
-place_held n w x p sound held = at (word_eq w x) refl
-  where
-    at : (b : Bool) → word_eq w x ≡ b → occurrences (n.of_place w) (n.of_place x ∷ []) ≤ holds w p
-    at true e =
-        let few = occurs_few (n.of_place w) (n.of_place x) in
-        let one = held e in
-        omega arith
-    at false e =
-        let none = occurs_apart (n.of_place w) (n.of_place x) (λ same. true_false (sym (sound.apart w x (sym same)) ∙ e)) in
-        omega arith
-
--- The row of a state has more terms than that of another one, two by two, each pair a name of a place with a term. Something
--- was left at each of these places. None of them is named more often than it was held, but for what is held still.
-pub record Circles (n : Numbers) (ps : List Piece) (j : ℕ) (s t : State) : Type 0 where
-  pub terms : List Tree
-  pub row_is : row n t ≡ row n s ++ terms
-  pub even : length terms ≡ 2 * j
-  pub all : AllByRecursion (λ p. (w : Word) × ((p.left ≡ name (n.of_place w)) × IsLeft w ps)) (pairs_of terms)
-  pub each : (w : Word) → occurrences (n.of_place w) (flat_map (λ p. names p.left) (pairs_of terms)) + sum_by (holds w) t.pieces ≤ sum_by (holds w) ps
+done_circle : (n : Numbers) (terms k : ℕ) (ts : List Token) (d : Part) → AreNumbers n → length (forest (flat_words n ts)) ≡ terms + 2 * k → EachName (IsNumbered n.given) ts → IsDone n ts d
+    → AllByRecursion (IsCircle n (configuration_read n ts terms)) (pairs_of (sides_in n d))
+done_circle n terms k ts d sound counted each is =
+    let x : ℕ = n.of_place d.place in
+    let a = read_names n x terms k ts counted in
+    let b = counted_names n d.place ts sound is.other each in
+    let e = counted_names n d.place d.tokens sound is.other is.numbered in
+    let f = forest_names n x d.tokens in
+    let g = ap (λ l. occurrences x (flat_map names l)) is.term.is in
+    let h = ap (occurrences x) (append-nil (names is.term.term)) in
+    let alone = is.alone in
+    transport (AllByRecursion (IsCircle n (configuration_read n ts terms))) (sym (term_pair n d is.term))
+    (record { place = d.place; left = ap name (place_number n d.place is.other); alone = omega arith }, tt)
 
 all_parts : {X : Type 0} (P : X → Type 0) (xs ys : List X) → AllByRecursion P xs → AllByRecursion P ys → AllByRecursion P (xs ++ ys)
 all_parts P [] ys a b = b
 all_parts P (x ∷ xs) ys a b = (a.0, all_parts P xs ys a.1 b)
 
-one_term : (ts : List Tree) → length ts ≡ 1 → (t : Tree) × (ts ≡ t ∷ [])
-one_term [] e = absurd (omega arith)
-one_term (t ∷ []) e = (t, refl)
-one_term (t ∷ u ∷ ts) e = absurd (omega arith)
+all_flat : {X Y : Type 0} (P : Y → Type 0) (f : X → List Y) (xs : List X) → AllByRecursion (λ x. AllByRecursion P (f x)) xs → AllByRecursion P (flat_map f xs)
+all_flat P f [] all = tt
+all_flat P f (x ∷ xs) all = all_parts P (f x) (flat_map f xs) all.0 (all_flat P f xs all.1)
 
--- a name and the tokens of a term after it are two terms
-two_terms : (n : Numbers) (k : ℕ) (ts more : List Token) (x : Word) (ps qs : List Piece) (terms : ℕ) → IsRow n terms k (state ts [] ps)
-    → IsRow n terms (k + 1) (state (ts ++ Name x ∷ more) [] qs) → (t : Tree) × (row n (state (ts ++ Name x ∷ more) [] qs) ≡ row n (state ts [] ps) ++ name (number_of n x) ∷ t ∷ [])
-two_terms n k ts more x ps qs terms before after =
-    let W : List FlatWord = flat_words n ts in
-    let M : List FlatWord = flat_words n more in
-    let last : List Tree = over M [] in
-    let all : over (flat_words n (ts ++ Name x ∷ more)) [] ≡ over W [] ++ name (number_of n x) ∷ last =
-    ap (λ l. over l []) (map-append (flat_word n) ts (Name x ∷ more))
-    ∙ (over-append W (flat_word n (Name x) ∷ M) [] ∙ over-more W [] (name (number_of n x) ∷ last) before.whole) in
-    let long = ap length all ∙ length-append (over W []) (name (number_of n x) ∷ last) in
-    let even = before.even in
-    let even_too = after.even in
-    let one = one_term last (omega arith) in
-    (one.0, all ∙ ap (λ l. over W [] ++ name (number_of n x) ∷ l) one.1)
+all_four : {X : Type 0} (P Q R S T : X → Type 0) (xs : List X) → ((x : X) → P x → Q x → R x → S x → T x) → AllByRecursion P xs → AllByRecursion Q xs → AllByRecursion R xs → AllByRecursion S xs
+    → AllByRecursion T xs
+all_four P Q R S T [] f a b c d = tt
+all_four P Q R S T (x ∷ xs) f a b c d = (f x a.0 b.0 c.0 d.0, all_four P Q R S T xs f a.1 b.1 c.1 d.1)
 
-more_circle : (n : Numbers) (whole : List Piece) (j k terms : ℕ) (s : State) (ts us more : List Token) (x : Word) (p : Piece) (ps qs rs : List Piece) → Circles n whole j s (state ts [] ps)
-    → IsRow n terms (k + j) (state ts [] ps) → IsRow n terms (k + (j + 1)) (state us [] rs) → us ≡ ts ++ Name x ∷ more → number_of n x ≡ n.of_place x → IsLeft x whole
-    → AreNumbers n → IsPermutation ps (p ∷ qs) → ((w : Word) → word_eq w x ≡ true → holds w p ≡ 1) → ((f : Piece → ℕ) → sum_by f rs ≤ sum_by f qs)
-    → Circles n whole (j + 1) s (state us [] rs)
-more_circle n whole j k terms s ts us more x p ps qs rs before is is_too tokens number left sound taken held fewer =
-    let after : IsRow n terms ((k + j) + 1) (state (ts ++ Name x ∷ more) [] rs) =
-    transport (λ l. IsRow n terms ((k + j) + 1) (state l [] rs)) tokens
-    (let same : k + (j + 1) ≡ (k + j) + 1 = omega arith in transport (λ (m : ℕ). IsRow n terms m (state us [] rs)) same is_too) in
-    let two = two_terms n (k + j) ts more x ps rs terms is after in
-    let pair : List Tree = name (number_of n x) ∷ two.0 ∷ [] in
-    let even = before.even in
-    let long = length-append before.terms pair in
-    record {
-      terms = before.terms ++ pair;
-      row_is = ap (λ l. row n (state l [] rs)) tokens ∙ (two.1 ∙ (ap (λ l. l ++ pair) before.row_is ∙ append_assoc (row n s) before.terms pair));
-      even = omega arith;
-      all = transport (AllByRecursion (λ p. (w : Word) × ((p.left ≡ name (n.of_place w)) × IsLeft w whole))) (sym (pairs-more before.terms pair j even))
-          (all_parts (λ p. (w : Word) × ((p.left ≡ name (n.of_place w)) × IsLeft w whole)) (pairs_of before.terms) (pairs_of pair) before.all ((x, (ap name number, left)), tt));
-      each = λ w.
-          let y : ℕ = n.of_place w in
-          let pairs = ap (λ es. occurrences y (flat_map (λ e. names e.left) es)) (pairs-more before.terms pair j even) in
-          let both = ap (occurrences y) (flat_map-append (λ e. names e.left) (pairs_of before.terms) (pairs_of pair))
-          ∙ occurrences-append y (flat_map (λ e. names e.left) (pairs_of before.terms)) (number_of n x ∷ []) in
-          let named = ap (λ k. occurrences y (k ∷ [])) number in
-          let here = place_held n w x p sound (held w) in
-          let first = before.each w in
-          let less = fewer (holds w) in
-          let all = gone (holds w) ps qs p taken in
-          omega (arith, pairs, both, named, here, first, less, all);
-    }
+-- the names of places and of equations
+equations_each : (P : Word → Type 0) (ds : List Part) → AllByRecursion (λ d. P d.place) ds → AllByRecursion (λ d. EachName P d.tokens) ds → EachName P (equations_in ds)
+equations_each P [] a b = tt
+equations_each P (d ∷ ds) a b = (a.0, each_both P d.tokens (equations_in ds) b.0 (equations_each P ds a.1 b.1))
 
-taken_there : (ps qs : List Piece) (p : Piece) → IsPermutation ps (p ∷ qs) → Contains ps p
-taken_there ps qs p taken = Contains-permutation (p ∷ qs) ps p (IsPermutation-sym ps (p ∷ qs) taken) (contains_first p qs)
-
-pub left_circles : (n : Numbers) (terms k j : ℕ) (s t : State) → AreNumbers n → Left n.arities j s t → s.words ≡ [] → IsRow n terms k s → Circles n s.pieces j s t
-left_circles n terms k j s t sound (none a) empty is = record { terms = []; row_is = sym (append-nil (row n a)); even = omega arith; all = tt; each = λ w. omega arith }
-left_circles n terms k j s t sound (circle i a ts us x u ps qs rs before tag taken steps) empty is =
-    let first = left_circles n terms k i a (state ts [] ps) sound before empty is in
-    let m : State = state (ts ++ Name x ∷ []) (u ∷ []) qs in
-    let longer : Longer m (state us [] rs) = longer_steps n.arities m (state us [] rs) steps in
-    let number : number_of n x ≡ n.of_place x = rw (ne_eqb x.tag GIVEN (λ e. absurd (omega (arith, tag, e)))) refl in
-    let there = left_pieces n.arities (waits x u) i a (state ts [] ps) before (taken_there ps qs (waits x u) taken) in
-    more_circle n a.pieces i k terms a ts us longer.more x (waits x u) ps qs rs first (left_whole n terms k i a (state ts [] ps) before empty is)
-    (left_whole n terms k (i + 1) a (state us [] rs) (circle i a ts us x u ps qs rs before tag taken steps) empty is)
-    (longer.tokens ∙ append_assoc ts (Name x ∷ []) longer.more) number (inl (tag, (u, there)))
-    sound taken (λ w e. let h : holds w (waits x u) ≡ 1 = rw e refl in h) (λ f. steps_fewer n.arities f m (state us [] rs) steps)
-left_circles n terms k j s t sound (alone i a ts us x vs ps qs rs before of taken steps) empty is =
-    let first = left_circles n terms k i a (state ts [] ps) sound before empty is in
-    let g : Token = Agent (x.tag - 1) in
-    let m : State = state (ts ++ Name x ∷ g ∷ []) vs qs in
-    let longer : Longer m (state us [] rs) = longer_steps n.arities m (state us [] rs) steps in
-    let known = slice_get_within n.arities of.symbol (length vs) of.known in
-    let symbol = of.is in
-    let number : number_of n x ≡ n.of_place x = rw (ne_eqb x.tag GIVEN (λ e. absurd (omega (arith, sound.few, known, symbol, e)))) refl in
-    let there = left_pieces n.arities (agent_of x vs) i a (state ts [] ps) before (taken_there ps qs (agent_of x vs) taken) in
-    more_circle n a.pieces i k terms a ts us (g ∷ longer.more) x (agent_of x vs) ps qs rs first (left_whole n terms k i a (state ts [] ps) before empty is)
-    (left_whole n terms k (i + 1) a (state us [] rs) (alone i a ts us x vs ps qs rs before of taken steps) empty is)
-    (longer.tokens ∙ append_assoc ts (Name x ∷ g ∷ []) longer.more) number (inr ((λ e. absurd (omega (arith, symbol, e))), (vs, there)))
-    sound taken (λ w e. let h : holds w (agent_of x vs) ≡ 1 = rw e refl in h) (λ f. steps_fewer n.arities f m (state us [] rs) steps)
-
--- ---- all together
-
-all_so : {X : Type 0} (P Q : X → Type 0) (xs : List X) → ((x : X) → P x → Q x) → AllByRecursion P xs → AllByRecursion Q xs
-all_so P Q [] f all = tt
-all_so P Q (x ∷ xs) f all = (f x all.0, all_so P Q xs f all.1)
-
-abbrev AreCircles : Numbers → List Tree → List Pair → List Pair → Type 0
-AreCircles n interface before circles = AllByRecursion (IsCircle n (names_in interface before) circles) circles
-
-read_between : (n : Numbers) (is : List Word) (es fs : List Equation) (ps : List Piece) (ts : List Token) (j : ℕ) (r : WasRead n.arities is es fs ps ts j)
-    → IsRow n (length is) (length es + length fs) (state r.tokens [] r.between)
-read_between n is es fs ps ts j r =
-    let first = first_row n is es fs ps in
-    let kept = whole_steps n (first_state is es fs ps) (state r.tokens [] r.between) r.steps first.whole in
-    record { whole = kept.0; even = kept.1 ∙ first.even }
-
-pub read_circles : (n : Numbers) (is : List Word) (es fs : List Equation) (ps : List Piece) (ts : List Token) (j : ℕ) → AreNumbers n → WasRead n.arities is es fs ps ts j
-    → AreNetPieces n.arities is (map equated_of es ++ (map equated_of fs ++ ps)) → AreGiven n.given is (map equated_of es ++ (map equated_of fs ++ ps))
-    → AreCirclesAfter n (length es + length fs) (configuration_read n ts (length is))
-read_circles n is es fs ps ts j sound r are given =
-    let terms : ℕ = length is in
-    let K : ℕ = length es + length fs in
-    let s : State = first_state is es fs ps in
-    let m : State = state r.tokens [] r.between in
-    let e : State = state ts [] r.end in
-    let kept = first_kept n is es fs ps are given in
-    let row_m : IsRow n terms K m = read_between n is es fs ps ts j r in
-    let c : Circles n r.between j m e = left_circles n terms K j m e sound r.left refl row_m in
-    let R : List Tree = row n m in
-    let P : List Pair = pairs_of (drop terms R) in
-    let Q : List Pair = pairs_of c.terms in
-    let I : List Tree = take terms R in
-    let even = row_m.even in
-    let long : terms ≤ length R = omega arith in
-    let counted : length (drop terms R) ≡ 2 * K = omega (arith, length-drop terms R) in
-    let many : length P ≡ K = pairs-length (drop terms R) K counted in
-    let forest_is : forest (flat_words n ts) ≡ R ++ c.terms = sym (over-nil (flat_words n ts)) ∙ c.row_is in
-    let interface_is : take terms (forest (flat_words n ts)) ≡ I = ap (take terms) forest_is ∙ take-append-le terms R c.terms long in
-    let equations_is : pairs_of (drop terms (forest (flat_words n ts))) ≡ P ++ Q =
-    ap (λ l. pairs_of (drop terms l)) forest_is ∙ (ap pairs_of (drop-append-le terms R c.terms long) ∙ pairs-more (drop terms R) c.terms K counted) in
-    let none_before : (w : Word) → IsLeft w r.between → occurrences (n.of_place w) (names_in I P) ≡ 0 =
-    (λ w left.
-    let x : ℕ = n.of_place w in
-    let absent = absent_steps n w s m sound kept r.steps left refl in
-    let a = occurrences-append x (flat_map names I) (flat_map pair_names P) in
-    let b = ap (occurrences x) (pairs-names (drop terms R) K counted) in
-    let d = ap (occurrences x) (sym (flat_map-append names (take terms R) (drop terms R)) ∙ ap (flat_map names) (take-append-drop terms R)) in
-    let f = occurrences-append x (flat_map names (take terms R)) (flat_map names (drop terms R)) in
-    let g = ap (occurrences x) (over-names (flat_words n r.tokens) [] ∙ append-nil (flat_map word_names (flat_words n r.tokens))) in
-    omega arith) in
-    let few : (w : Word) → occurrences (n.of_place w) (flat_map (λ p. names p.left) Q) ≤ 1 =
-    (λ w.
-    let here = c.each w in
-    let less = steps_fewer n.arities (holds w) s m r.steps in
-    let one = once_places es fs ps are.once w in
-    omega (arith, here, less, one)) in
-    let circles : AllByRecursion (IsCircle n (names_in I P) Q) Q =
-    all_so (λ p. (w : Word) × ((p.left ≡ name (n.of_place w)) × IsLeft w r.between)) (IsCircle n (names_in I P) Q) Q
-    (λ p found. record { place = found.0; left = found.1.0; apart = none_before found.0 found.1.1; once = few found.0 }) c.all in
-    let split : AreCircles n I (take K (P ++ Q)) (drop K (P ++ Q)) =
-    transport (λ l. AreCircles n I l (drop K (P ++ Q))) (sym (take_at P Q K many)) (transport (λ l. AreCircles n I P l) (sym (drop_at P Q K many)) circles) in
-    transport (λ l. AreCircles n l (take K (pairs_of (drop terms (forest (flat_words n ts))))) (drop K (pairs_of (drop terms (forest (flat_words n ts)))))) (sym interface_is)
-    (transport (λ l. AreCircles n I (take K l) (drop K l)) (sym equations_is) split)
-
-pub result_circles : (m : Net) (new : Reader) → ReadsNet m.arities m new → (n : Numbers) → n.arities ≡ m.arities → AreNumbers n → AreNetPieces n.arities m.interface (pieces m)
-    → AreGiven n.given m.interface (pieces m) → AreCirclesAfter n (length m.pending + length m.aside) (configuration_read n new.tokens.items (length m.interface))
-result_circles m new r n same sound are given =
-    read_circles n m.interface m.pending m.aside m.places new.tokens.items r.count sound
-    (transport (λ a. WasRead a m.interface m.pending m.aside m.places new.tokens.items r.count) (sym same) r.read) are given
+pub result_circles : (m : Net) (ts : List Token) (k : ℕ) → ReadsNet m.arities m ts k → (n : Numbers) → n.arities ≡ m.arities → AreNumbers n → AreNetPieces n.arities m.interface (pieces m)
+    → AreGiven n.given m.interface (pieces m) → AreCirclesAfter n (length m.pending + length m.aside) (configuration_read n ts (length m.interface))
+result_circles m ts k reads n same sound are given =
+    let r = with_arities m ts k n same reads in
+    let terms : ℕ = length m.interface in
+    let K : ℕ = length m.pending + length m.aside in
+    let s : State = first_state m.interface m.pending m.aside m.places in
+    let t : State = state r.roots [] r.between in
+    let U : List Token = r.roots ++ equations_in r.done in
+    let once = r.fewer (once_places m.pending m.aside m.places are.once) in
+    let start = sides_given n.given m.interface m.pending m.aside m.places given in
+    let left = gathered_left n.arities r.parts r.between r.end r.gathered in
+    let untold : AllByRecursion (λ p. EachName (Not p.place) r.roots) r.parts =
+    all_so (λ p. IsLeft p.place r.between) (λ p. EachName (Not p.place) r.roots) r.parts (λ p there. steps_untold n.arities p.place s t r.steps there tt) left in
+    let so : MendedSo r.roots [] r.done = mended_so r.roots r.parts [] r.done r.mended (gathered_order n.arities r.parts r.between r.end once r.gathered) untold in
+    let numbered = gathered_numbered n.arities n.given r.parts r.between r.end r.gathered (given_steps n.arities n.given s t r.steps start) in
+    let roots : EachName (IsNumbered n.given) r.roots = steps_numbered n.arities n.given s t r.steps start tt in
+    let tokens = (mended_each (IsNumbered n.given) r.parts [] r.done r.mended numbered.0).1 in
+    let places = (mended_places (λ w. w.tag ≡ GIVEN → ⊥) r.parts [] r.done r.mended (gathered_places n.arities r.parts r.between r.end sound.few r.gathered)).1 in
+    let all = gathered_terms n r.parts r.between r.end r.gathered in
+    let done = (mended_terms n r.parts [] r.done r.mended all).1 in
+    let each : EachName (IsNumbered n.given) U =
+    each_both (IsNumbered n.given) r.roots (equations_in r.done) roots
+    (equations_each (IsNumbered n.given) r.done (all_so (λ d. d.place.tag ≡ GIVEN → ⊥) (λ d. IsNumbered n.given d.place) r.done (λ d other tag. absurd (other tag)) places) tokens) in
+    let counted : length (forest (flat_words n U)) ≡ terms + 2 * k = ap (λ l. length (forest (flat_words n l))) (sym r.tokens) ∙ result_counted m ts k reads n same in
+    let of : AllByRecursion (IsDone n U) r.done =
+    all_four (λ d. d.place.tag ≡ GIVEN → ⊥) (λ d. IsTerm n d.tokens) (λ d. EachName (IsNumbered n.given) d.tokens) (λ d. named_in d.place U ≡ 1 + named_in d.place d.tokens) (IsDone n U) r.done
+    (λ d a b e f. record { other = a; term = b; numbered = e; alone = f }) places done tokens so.alone in
+    let circles : AllByRecursion (IsCircle n (configuration_read n U terms)) (flat_map (λ p. pairs_of (sides_in n p)) r.done) =
+    all_flat (IsCircle n (configuration_read n U terms)) (λ p. pairs_of (sides_in n p)) r.done
+    (all_so (IsDone n U) (λ d. AllByRecursion (IsCircle n (configuration_read n U terms)) (pairs_of (sides_in n d))) r.done (λ d is. done_circle n terms k U d sound counted each is) of) in
+    let shape = shape_of n m r.roots r.done (rows_read n m r.roots r.between r.steps) done in
+    let first : List Pair = pairs_of (drop terms (over (flat_words n r.roots) [])) in
+    let many : length first ≡ K = pairs-length (drop terms (over (flat_words n r.roots) [])) K shape.first in
+    let last : drop K (pairs_of (drop terms (forest (flat_words n U)))) ≡ flat_map (λ p. pairs_of (sides_in n p)) r.done =
+    ap (drop K) shape.equations ∙ drop_at first (flat_map (λ p. pairs_of (sides_in n p)) r.done) K many in
+    transport (λ l. AreCirclesAfter n K (configuration_read n l terms)) (sym r.tokens)
+    (transport (AllByRecursion (IsCircle n (configuration_read n U terms))) (sym last) circles)

@@ -19,7 +19,7 @@ use Rattle.ic_arena.specs.Piece.{Piece, equated, idle, waits, agent_of, uses}
 use Rattle.ic_machine.specs.declared.equation.Equation.{Equation}
 use Rattle.ic_machine.specs.Net.{equated_of}
 use Rattle.ic_flat.specs.declared.word.Word.{Word as FlatWord}
-use Rattle.ic_flat.specs.Words.{forest, IsWhole, with_word}
+use Rattle.ic_flat.specs.Words.{forest, with_word}
 use Rattle.ic_flat.specs.Flat.{pairs_of}
 use Rattle.ic_meaning.specs.Words.{Numbers, term}
 use Rattle.ic_meaning.specs.Nets.{equations_of, net_of, holds, IsAgentOf}
@@ -29,7 +29,7 @@ use Rattle.ic_readback.specs.Reading.{number_of, flat_word, flat_words, configur
 use Rattle.ic_readback.specs.inner.Expanding.{State, state, Steps, no_step, one_more, Left, none, circle, alone, IsIdle}
 use Rattle.ic_readback.proofs.Given.{NetLaws}
 use Rattle.ic_readback.proofs.Orders.{flat_order}
-use Rattle.ic_readback.proofs.Rows.{over, WholeOver, over-nil, whole-nil, over-append, whole-append, over-more, over-agent, pairs-more}
+use Rattle.ic_readback.proofs.Rows.{over, WholeOver, over-nil, over-append, whole-append, over-more, over-agent, pairs-more}
 use Rattle.ic_readback.proofs.RowNets.{net_of_row, row_of_piece, to_configured}
 use Rattle.ic_readback.proofs.Words.{row, whole_steps, given_step}
 use Rattle.ic_readback.proofs.StepNets.{net_at, named_row, net_steps}
@@ -95,7 +95,7 @@ agent_begun n ts a vs ps qs is whole =
       row_is = ap (λ l. over l V) tokens ∙ (over-append W (f ∷ g ∷ []) V ∙ (ap (over W) named ∙ over-more W [] (name (number_of n a) ∷ t ∷ []) whole));
     }
 
-agent_not_given : (arities : List ℕ) (tag k : ℕ) → length arities < GIVEN → IsAgentOf arities tag k → ¬ (tag ≡ GIVEN)
+pub agent_not_given : (arities : List ℕ) (tag k : ℕ) → length arities < GIVEN → IsAgentOf arities tag k → ¬ (tag ≡ GIVEN)
 agent_not_given arities tag k few is same =
     let known = slice_get_within arities is.symbol k is.known in
     let e = is.is in
@@ -125,7 +125,7 @@ left_whole n terms k j s t (alone i a ts us x vs ps qs rs before of taken steps)
     let even = first.even in
     record { whole = all.0; even = omega arith }
 
-given_piece : (given : List ℕ) (p : Piece) (ws : List Word) (ps qs : List Piece) → ((w : Word) → count w ws ≤ uses w p) → IsPermutation ps (p ∷ qs)
+pub given_piece : (given : List ℕ) (p : Piece) (ws : List Word) (ps qs : List Piece) → ((w : Word) → count w ws ≤ uses w p) → IsPermutation ps (p ∷ qs)
     → AreGiven given [] ps → AreGiven given ws qs
 given_piece given p ws ps qs inside taken are w tag some =
     let a = sum_by-IsPermutation (uses w) ps (p ∷ qs) taken in
@@ -184,7 +184,7 @@ left_net laws n terms k next j s t few given (alone i a ts us x vs ps qs rs befo
 
 -- ---- the words of a machine
 
-sides_long : (es : List Equation) → length (sides_of es) ≡ 2 * length es
+pub sides_long : (es : List Equation) → length (sides_of es) ≡ 2 * length es
 sides_long [] = refl
 sides_long (e ∷ es) = omega (arith, sides_long es)
 
@@ -268,20 +268,6 @@ pub record WasRead (arities : List ℕ) (is : List Word) (es fs : List Equation)
   pub end : List Piece
   pub steps : Steps arities (first_state is es fs ps) (state tokens [] between)
   pub left : Left arities j (state tokens [] between) (state ts [] end)
-
-pub read_row : (n : Numbers) (is : List Word) (es fs : List Equation) (ps : List Piece) (ts : List Token) (j : ℕ) (r : WasRead n.arities is es fs ps ts j)
-    → IsRow n (length is) ((length es + length fs) + j) (state ts [] r.end)
-read_row n is es fs ps ts j r =
-    let first = first_row n is es fs ps in
-    let kept = whole_steps n (first_state is es fs ps) (state r.tokens [] r.between) r.steps first.whole in
-    left_whole n (length is) (length es + length fs) j (state r.tokens [] r.between) (state ts [] r.end) r.left refl
-    (record { whole = kept.0; even = kept.1 ∙ first.even })
-
-pub read_whole : (n : Numbers) (is : List Word) (es fs : List Equation) (ps : List Piece) (ts : List Token) (j : ℕ) → WasRead n.arities is es fs ps ts j
-    → IsWhole (flat_words n ts) × (length (forest (flat_words n ts)) ≡ length is + 2 * ((length es + length fs) + j))
-read_whole n is es fs ps ts j r =
-    let all = read_row n is es fs ps ts j r in
-    (whole-nil (flat_words n ts) all.whole, ap length (sym (over-nil (flat_words n ts))) ∙ all.even)
 
 pub read_net : NetLaws → (n : Numbers) (is : List Word) (es fs : List Equation) (ps : List Piece) (ts : List Token) (j : ℕ) → length n.arities < GIVEN
     → (r : WasRead n.arities is es fs ps ts j) → AllByRecursion IsIdle r.end → AreGiven n.given is (map equated_of es ++ (map equated_of fs ++ ps))

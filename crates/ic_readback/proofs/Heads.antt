@@ -21,14 +21,14 @@ use Rattle.ic_meaning.specs.Words.{Numbers}
 use Rattle.ic_meaning.specs.Nets.{IsPiece, ArePieces, AreNetPieces}
 use Rattle.ic_readback.specs.declared.token.Token.{Token}
 use Rattle.ic_readback.specs.declared.token.Token.TheVariants.{Name, Agent}
-use Rattle.ic_readback.specs.declared.reader.Reader.{Reader}
 use Rattle.ic_readback.specs.Reading.{number_of, flat_word, flat_words, AreGiven, HeadIs, BeginAs, sides_of}
-use Rattle.ic_readback.specs.inner.Expanding.{State, state, IsName, Step, follow, opened, plain, named, Steps, no_step, one_more, Left, none, circle, alone}
+use Rattle.ic_readback.specs.inner.Expanding.{State, state, IsName, Step, follow, opened, plain, named, Steps, no_step, one_more}
 use Rattle.ic_readback.proofs.Chains.{contains_cons, contains_first, all_contained, step_pieces}
 use Rattle.ic_readback.proofs.Moves.{all_there}
 use Rattle.ic_readback.proofs.Words.{balance_step, given_step}
-use Rattle.ic_readback.proofs.Ends.{WasRead, first_state, sides_given}
-use Rattle.ic_readback.proofs.Results.{ReadsNet}
+use Rattle.ic_readback.proofs.Ends.{first_state, sides_given}
+use Rattle.ic_readback.proofs.Puttings.{equations_in}
+use Rattle.ic_readback.proofs.Results.{ReadsNet, with_arities}
 
 -- ---- lists
 
@@ -183,39 +183,6 @@ written n s t (no_step a) empty kept = record {
 }
 written n s t (one_more a b c first rest) empty kept = written_first n a b c first kept (written n b c rest empty (kept_step n a b first kept))
 
--- ---- tokens that come later
-
-pub record Longer (s t : State) : Type 0 where
-  pub more : List Token
-  pub tokens : t.tokens ≡ s.tokens ++ more
-
-longer_step : (arities : List ℕ) (s t : State) → Step arities s t → Longer s t
-longer_step arities s t (follow ts x u ws ps qs tag taken) = record { more = []; tokens = sym (append-nil ts) }
-longer_step arities s t (opened ts a vs ws ps qs is taken) = record { more = Agent (a.tag - 1) ∷ []; tokens = refl }
-longer_step arities s t (plain ts k w ws ps tag known) = record { more = Agent k ∷ []; tokens = refl }
-longer_step arities s t (named ts w ws ps is) = record { more = Name w ∷ []; tokens = refl }
-
-longer_on : (s t u : State) → Longer s t → Longer t u → Longer s u
-longer_on s t u first second = record {
-  more = first.more ++ second.more;
-  tokens = second.tokens ∙ (ap (λ l. l ++ second.more) first.tokens ∙ append_assoc s.tokens first.more second.more);
-}
-
-pub longer_steps : (arities : List ℕ) (s t : State) → Steps arities s t → Longer s t
-longer_steps arities s t (no_step a) = record { more = []; tokens = sym (append-nil a.tokens) }
-longer_steps arities s t (one_more a b c first rest) = longer_on a b c (longer_step arities a b first) (longer_steps arities b c rest)
-
-longer_left : (arities : List ℕ) (k : ℕ) (s t : State) → Left arities k s t → Longer s t
-longer_left arities k s t (none a) = record { more = []; tokens = sym (append-nil a.tokens) }
-longer_left arities k s t (circle j a ts us x u ps qs rs before tag taken steps) =
-    let m : State = state (ts ++ Name x ∷ []) (u ∷ []) qs in
-    longer_on a (state ts [] ps) (state us [] rs) (longer_left arities j a (state ts [] ps) before)
-    (longer_on (state ts [] ps) m (state us [] rs) (record { more = Name x ∷ []; tokens = refl }) (longer_steps arities m (state us [] rs) steps))
-longer_left arities k s t (alone j a ts us x vs ps qs rs before is taken steps) =
-    let m : State = state (ts ++ Name x ∷ Agent (x.tag - 1) ∷ []) vs qs in
-    longer_on a (state ts [] ps) (state us [] rs) (longer_left arities j a (state ts [] ps) before)
-    (longer_on (state ts [] ps) m (state us [] rs) (record { more = Name x ∷ Agent (x.tag - 1) ∷ []; tokens = refl }) (longer_steps arities m (state us [] rs) steps))
-
 -- ---- the first state
 
 sides_used : (w : Word) (es : List Equation) → sum_by (uses w) (map equated_of es) ≡ count w (sides_of es)
@@ -260,22 +227,16 @@ first_kept n is es fs ps are given = record {
         let j = sides_room w fs in
         omega arith
 
-pub read_heads : (n : Numbers) (is : List Word) (es fs : List Equation) (ps : List Piece) (ts : List Token) (j : ℕ) → WasRead n.arities is es fs ps ts j
-    → AreNetPieces n.arities is (map equated_of es ++ (map equated_of fs ++ ps)) → AreGiven n.given is (map equated_of es ++ (map equated_of fs ++ ps))
-    → BeginAs n (is ++ (sides_of es ++ sides_of fs)) (forest (flat_words n ts))
-read_heads n is es fs ps ts j r are given =
-    let roots : List Word = is ++ (sides_of es ++ sides_of fs) in
-    let m : State = state r.tokens [] r.between in
-    let w : Written n (first_state is es fs ps) m = written n (first_state is es fs ps) m r.steps refl (first_kept n is es fs ps are given) in
-    let l : Longer m (state ts [] r.end) = longer_left n.arities j m (state ts [] r.end) r.left in
-    let tokens : flat_words n ts ≡ flat_words n w.more ++ flat_words n l.more =
-    ap (flat_words n) (l.tokens ∙ ap (λ k. k ++ l.more) w.tokens) ∙ map-append (flat_word n) w.more l.more in
-    transport (λ k. BeginAs n roots (forest k)) (sym tokens)
-    (transport (BeginAs n roots) (sym (forest-append (flat_words n w.more) (flat_words n l.more) w.whole))
-    (begin_more n roots (forest (flat_words n w.more)) (forest (flat_words n l.more)) w.begin))
-
-pub result_heads : (m : Net) (new : Reader) → ReadsNet m.arities m new → (n : Numbers) → n.arities ≡ m.arities → AreNetPieces n.arities m.interface (pieces m)
-    → AreGiven n.given m.interface (pieces m) → BeginAs n (m.interface ++ (sides_of m.pending ++ sides_of m.aside)) (forest (flat_words n new.tokens.items))
-result_heads m new r n same are given =
-    read_heads n m.interface m.pending m.aside m.places new.tokens.items r.count
-    (transport (λ a. WasRead a m.interface m.pending m.aside m.places new.tokens.items r.count) (sym same) r.read) are given
+pub result_heads : (m : Net) (ts : List Token) (k : ℕ) → ReadsNet m.arities m ts k → (n : Numbers) → n.arities ≡ m.arities → AreNetPieces n.arities m.interface (pieces m)
+    → AreGiven n.given m.interface (pieces m) → BeginAs n (m.interface ++ (sides_of m.pending ++ sides_of m.aside)) (forest (flat_words n ts))
+result_heads m ts k reads n same are given =
+    let r = with_arities m ts k n same reads in
+    let words : List Word = m.interface ++ (sides_of m.pending ++ sides_of m.aside) in
+    let s : State = first_state m.interface m.pending m.aside m.places in
+    let w : Written n s (state r.roots [] r.between) = written n s (state r.roots [] r.between) r.steps refl (first_kept n m.interface m.pending m.aside m.places are given) in
+    let more : List Token = equations_in r.done in
+    let tokens : flat_words n ts ≡ flat_words n w.more ++ flat_words n more =
+    ap (flat_words n) (r.tokens ∙ ap (λ l. l ++ more) w.tokens) ∙ map-append (flat_word n) w.more more in
+    transport (λ l. BeginAs n words (forest l)) (sym tokens)
+    (transport (BeginAs n words) (sym (forest-append (flat_words n w.more) (flat_words n more) w.whole))
+    (begin_more n words (forest (flat_words n w.more)) (forest (flat_words n more)) w.begin))

@@ -7,7 +7,13 @@ pub mod Words
 pub mod StepNets
 pub mod Ends
 pub mod Moves
+pub mod Gathering
 pub mod Readers
+pub mod Puttings
+pub mod Writers
+pub mod Shapes
+pub mod MendNets
+pub mod Parts
 pub mod Results
 pub mod Heads
 pub mod Circles

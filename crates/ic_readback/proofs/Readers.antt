@@ -1,5 +1,5 @@
 -- Lemmas: what a reader has read.
-use Rattle.std.proofs.Common.{◌≡◌, ℕ, ◌+◌, ◌-◌, ◌≤◌, ◌<◌, List, [], ◌∷◌, ◌++◌, true, cond, length, take, reverse, sum_by, slice_index_or, refl, sym, ap, ◌∙◌, eq-eqb, arith, inl, inr, subst as transport}
+use Rattle.std.proofs.Common.{◌≡◌, ℕ, ◌+◌, ◌-◌, ◌≤◌, ◌<◌, List, [], ◌∷◌, ◌++◌, true, cond, length, map, take, reverse, sum_by, slice_index_or, refl, sym, ap, ◌∙◌, eq-eqb, arith, inl, inr, append_assoc, append-nil, subst as transport}
 use Rattle.std.specs.Prelude.{Contains, IsPermutation}
 use Rattle.std.specs.List.{AllByRecursion}
 use Rattle.std.proofs.lemmas.Bool.{cases_lt}
@@ -12,12 +12,15 @@ use Rattle.ic_machine.specs.declared.equation.Equation.{Equation}
 use Rattle.ic_machine.specs.Held.{Held, IsHeld, ArgumentsTaken}
 use Rattle.ic_meaning.specs.Nets.{holds, IsAgentOf}
 use Rattle.ic_readback.specs.declared.token.Token.{Token}
-use Rattle.ic_readback.specs.declared.token.Token.TheVariants.{Name, Agent}
+use Rattle.ic_readback.specs.declared.token.Token.TheVariants.{Agent}
+use Rattle.ic_readback.specs.declared.loose.Loose.{Loose}
 use Rattle.ic_readback.specs.declared.reader.Reader.{Reader}
 use Rattle.ic_readback.specs.Reading.{sides_of}
-use Rattle.ic_readback.specs.inner.Expanding.{state, Steps, no_step, Left, none, circle, alone, IsIdle}
-use Rattle.ic_readback.specs.inner.Reading.{at_words, HasRead, LeavesRead, HoldOnce}
-use Rattle.ic_readback.proofs.Chains.{steps_on, steps_more, steps_tokens, steps_fewer, steps_pieces, left_on, left_tokens, left_fewer, left_pieces, contained_sum, gone, all_contained}
+use Rattle.ic_readback.specs.inner.Expanding.{state, Steps, no_step, IsIdle}
+use Rattle.ic_readback.specs.inner.Writing.{part, part_of, Gathered, nothing, waited, alone as alone_part}
+use Rattle.ic_readback.specs.inner.Reading.{at_words, HasRead, Gathers, Keeps, HoldOnce}
+use Rattle.ic_readback.proofs.Chains.{steps_on, steps_more, steps_tokens, steps_fewer, steps_pieces, contained_sum, gone, all_contained}
+use Rattle.ic_readback.proofs.Gathering.{gathered_on, gathered_pieces, gathered_fewer}
 use Rattle.ic_readback.proofs.Moves.{all_there}
 
 pub no_read : (r : Reader) → r.stack.items ≡ [] → HasRead [] r r
@@ -60,53 +63,59 @@ sides_many (e ∷ es) = let rest = sides_many es in omega arith
 
 -- ---- what is left
 
-pub no_leave : (r : Reader) → r.stack.items ≡ [] → LeavesRead r r
-no_leave r empty = record { count = 0; counted = omega arith; left = none (at_words [] r); empty = empty; arities = refl }
+pub no_gather : (r : Reader) (ls : List Loose) → r.tokens.items ≡ [] → r.stack.items ≡ [] → Gathers r r ls ls
+no_gather r ls none empty = record {
+  parts = [];
+  added = sym (append-nil (map part_of ls));
+  gathered = nothing r.places.pieces;
+  tokens = none;
+  empty = empty;
+  arities = refl;
+  equations = refl;
+}
 
-pub leave_on : (old mid new : Reader) → LeavesRead old mid → LeavesRead mid new → LeavesRead old new
-leave_on old mid new first second =
+pub gather_on : (old mid new : Reader) (ls ms ns : List Loose) → Gathers old mid ls ms → Gathers mid new ms ns → Gathers old new ls ns
+gather_on old mid new ls ms ns first second =
     let a : List ℕ = old.places.arities in
-    let c = first.counted in
-    let d = second.counted in
     record {
-      count = first.count + second.count;
-      counted = omega arith;
-      left = left_on a first.count second.count (first.count + second.count) (at_words [] old) (at_words [] mid) (at_words [] new) first.left
-          (transport (λ b. Left b second.count (at_words [] mid) (at_words [] new)) first.arities second.left) refl;
+      parts = first.parts ++ second.parts;
+      added = second.added ∙ (ap (λ l. l ++ second.parts) first.added ∙ append_assoc (map part_of ls) first.parts second.parts);
+      gathered = gathered_on a first.parts second.parts old.places.pieces mid.places.pieces new.places.pieces first.gathered
+          (transport (λ b. Gathered b second.parts mid.places.pieces new.places.pieces) first.arities second.gathered);
+      tokens = second.tokens;
       empty = second.empty;
       arities = second.arities ∙ first.arities;
+      equations = second.equations ∙ first.equations;
     }
 
-pub leave_few : (old new : Reader) → LeavesRead old new → old.equations ≤ length old.tokens.items → new.equations ≤ length new.tokens.items
-leave_few old new read few =
-    let long = left_tokens old.places.arities read.count (at_words [] old) (at_words [] new) read.left refl in
-    let c = read.counted in
-    omega arith
+pub gather_pieces : (p : Piece) (old new : Reader) (ls ms : List Loose) → Gathers old new ls ms → Contains new.places.pieces p → Contains old.places.pieces p
+gather_pieces p old new ls ms read there = gathered_pieces old.places.arities p read.parts old.places.pieces new.places.pieces read.gathered there
 
-pub leave_pieces : (p : Piece) (old new : Reader) → LeavesRead old new → Contains new.places.pieces p → Contains old.places.pieces p
-leave_pieces p old new read there = left_pieces old.places.arities p read.count (at_words [] old) (at_words [] new) read.left there
-
-pub leave_once : (old new : Reader) → LeavesRead old new → HoldOnce old.places.pieces → HoldOnce new.places.pieces
-leave_once old new read once w =
-    let fewer = left_fewer old.places.arities (holds w) read.count (at_words [] old) (at_words [] new) read.left in
+pub gather_once : (old new : Reader) (ls ms : List Loose) → Gathers old new ls ms → HoldOnce old.places.pieces → HoldOnce new.places.pieces
+gather_once old new ls ms read once w =
+    let fewer = gathered_fewer old.places.arities (holds w) read.parts old.places.pieces new.places.pieces read.gathered in
     let one = once w in
     omega arith
 
-pub leave_circle : (old mid new : Reader) (index : ℕ) (word : Word) → IsPermutation old.places.pieces (waits (name_word index) word ∷ mid.places.pieces)
-    → mid.places.arities ≡ old.places.arities → mid.tokens.items ≡ old.tokens.items ++ Name (name_word index) ∷ [] → new.equations ≡ old.equations + 1
-    → HasRead (word ∷ []) mid new → LeavesRead old new
-leave_circle old mid new index word taken same tokens counted read =
+-- a word that waited for a name is taken, put together, and kept
+pub gather_name : (old mid read new : Reader) (ls ms : List Loose) (index : ℕ) (word : Word) → IsPermutation old.places.pieces (waits (name_word index) word ∷ mid.places.pieces)
+    → mid.places.arities ≡ old.places.arities → mid.tokens.items ≡ [] → mid.equations ≡ old.equations → read.equations ≡ mid.equations → HasRead (word ∷ []) mid read
+    → Keeps (name_word index) read new ls ms → Gathers old new ls ms
+gather_name old mid read new ls ms index word taken same tokens equations more has kept =
     let a : List ℕ = old.places.arities in
-    let steps : Steps a (state (old.tokens.items ++ Name (name_word index) ∷ []) (word ∷ []) mid.places.pieces) (at_words [] new) =
-    transport (λ l. Steps a (state l (word ∷ []) mid.places.pieces) (at_words [] new)) tokens
-    (transport (λ b. Steps b (at_words (word ∷ []) mid) (at_words [] new)) same read.steps) in
+    let us : List Token = read.tokens.items in
+    let steps : Steps a (state [] (word ∷ []) mid.places.pieces) (state us [] read.places.pieces) =
+    transport (λ l. Steps a (state l (word ∷ []) mid.places.pieces) (state us [] read.places.pieces)) tokens
+    (transport (λ b. Steps b (at_words (word ∷ []) mid) (at_words [] read)) same has.steps) in
     record {
-      count = 1;
-      counted = counted;
-      left = circle 0 (at_words [] old) old.tokens.items new.tokens.items (name_word index) word old.places.pieces mid.places.pieces new.places.pieces
-          (none (at_words [] old)) refl taken steps;
-      empty = read.empty;
-      arities = read.arities ∙ same;
+      parts = part (name_word index) us ∷ [];
+      added = kept.added;
+      gathered = transport (λ (h : Held). Gathered a (part (name_word index) us ∷ []) old.places.pieces h.pieces) (sym kept.places)
+          (waited [] (name_word index) word us old.places.pieces old.places.pieces mid.places.pieces read.places.pieces (nothing old.places.pieces) refl taken steps);
+      tokens = kept.tokens;
+      empty = kept.stack ∙ has.empty;
+      arities = ap (λ (h : Held). h.arities) kept.places ∙ (has.arities ∙ same);
+      equations = kept.equations ∙ (more ∙ equations);
     }
 
 word_itself : (w : Word) → word_eq w w ≡ true
@@ -122,25 +131,32 @@ room_none x u ps free there =
 pub read_pieces : (p : Piece) (ws : List Word) (old new : Reader) → HasRead ws old new → Contains new.places.pieces p → Contains old.places.pieces p
 read_pieces p ws old new read there = steps_pieces old.places.arities p (at_words ws old) (at_words [] new) read.steps there
 
-pub leave_alone : (old new : Reader) (mid : Held) (agent : Word) (ts : List Token) (st : List Word) → old.stack.items ≡ [] → ArgumentsTaken agent old.places mid old.stack.items st
+-- the arguments of an agent are taken, put together after it, and kept
+pub gather_agent : (old read new : Reader) (mid : Held) (ls ms : List Loose) (agent : Word) (ts : List Token) (st : List Word) → old.stack.items ≡ [] → old.tokens.items ≡ []
+    → ArgumentsTaken agent old.places mid old.stack.items st
     → ((vs : List Word) → IsPermutation old.places.pieces (agent_of agent vs ∷ mid.pieces) → IsAgentOf old.places.arities agent.tag (length vs))
-    → mid.arities ≡ old.places.arities → ts ≡ old.tokens.items ++ Name agent ∷ Agent (agent.tag - 1) ∷ [] → new.equations ≡ old.equations + 1
-    → Steps mid.arities (state ts (reverse st) mid.pieces) (at_words [] new) → new.stack.items ≡ [] → new.places.arities ≡ mid.arities → LeavesRead old new
-leave_alone old new mid agent ts st empty taken known same tokens counted steps empty_too arities =
+    → mid.arities ≡ old.places.arities → ts ≡ old.tokens.items ++ Agent (agent.tag - 1) ∷ []
+    → Steps mid.arities (state ts (reverse st) mid.pieces) (at_words [] read) → read.stack.items ≡ [] → read.places.arities ≡ mid.arities → read.equations ≡ old.equations
+    → Keeps agent read new ls ms → Gathers old new ls ms
+gather_agent old read new mid ls ms agent ts st empty none taken known same tokens steps empty_too arities equations kept =
     let a : List ℕ = old.places.arities in
     let vs : List Word = taken.arguments in
+    let us : List Token = read.tokens.items in
     let stack : reverse st ≡ vs = ap reverse (taken.pushed ∙ ap (λ l. l ++ reverse vs) empty) ∙ reverse-reverse vs in
-    let all : Steps a (state (old.tokens.items ++ Name agent ∷ Agent (agent.tag - 1) ∷ []) vs mid.pieces) (at_words [] new) =
-    transport (λ l. Steps a (state l vs mid.pieces) (at_words [] new)) tokens
-    (transport (λ l. Steps a (state ts l mid.pieces) (at_words [] new)) stack
-    (transport (λ b. Steps b (state ts (reverse st) mid.pieces) (at_words [] new)) same steps)) in
+    let start : ts ≡ Agent (agent.tag - 1) ∷ [] = tokens ∙ ap (λ l. l ++ Agent (agent.tag - 1) ∷ []) none in
+    let all : Steps a (state (Agent (agent.tag - 1) ∷ []) vs mid.pieces) (state us [] read.places.pieces) =
+    transport (λ l. Steps a (state l vs mid.pieces) (at_words [] read)) start
+    (transport (λ l. Steps a (state ts l mid.pieces) (at_words [] read)) stack
+    (transport (λ b. Steps b (state ts (reverse st) mid.pieces) (at_words [] read)) same steps)) in
     record {
-      count = 1;
-      counted = counted;
-      left = alone 0 (at_words [] old) old.tokens.items new.tokens.items agent vs old.places.pieces mid.pieces new.places.pieces
-          (none (at_words [] old)) (known vs taken.taken) taken.taken all;
-      empty = empty_too;
-      arities = arities ∙ same;
+      parts = part agent us ∷ [];
+      added = kept.added;
+      gathered = transport (λ (h : Held). Gathered a (part agent us ∷ []) old.places.pieces h.pieces) (sym kept.places)
+          (alone_part [] agent vs us old.places.pieces old.places.pieces mid.pieces read.places.pieces (nothing old.places.pieces) (known vs taken.taken) taken.taken all);
+      tokens = kept.tokens;
+      empty = kept.stack ∙ empty_too;
+      arities = ap (λ (h : Held). h.arities) kept.places ∙ (arities ∙ same);
+      equations = kept.equations ∙ equations;
     }
 
 -- once an agent is taken, it is at its place no more
@@ -158,13 +174,15 @@ taken_once agent old mid before after vs taken once there =
 pub read_as : (ws : List Word) (old new : Reader) (k : ℕ) → HasRead ws old new → HasRead ws old (record new { equations = k })
 read_as ws old new k read = record { steps = read.steps; empty = read.empty; arities = read.arities }
 
-pub leave_same : (old new : Reader) → new.places ≡ old.places → new.tokens.items ≡ old.tokens.items → new.equations ≡ old.equations → new.stack.items ≡ [] → LeavesRead old new
-leave_same old new places tokens equations empty = record {
-  count = 0;
-  counted = omega arith;
-  left = transport (Left old.places.arities 0 (at_words [] old)) (λ i. state (sym tokens i) [] (sym places i).pieces) (none (at_words [] old));
+pub gather_same : (old new : Reader) (ls : List Loose) → new.places ≡ old.places → new.tokens.items ≡ [] → new.equations ≡ old.equations → new.stack.items ≡ [] → Gathers old new ls ls
+gather_same old new ls places tokens equations empty = record {
+  parts = [];
+  added = sym (append-nil (map part_of ls));
+  gathered = transport (λ (h : Held). Gathered old.places.arities [] old.places.pieces h.pieces) (sym places) (nothing old.places.pieces);
+  tokens = tokens;
   empty = empty;
   arities = ap (λ (h : Held). h.arities) places;
+  equations = equations;
 }
 
 pub none_next : (P : ℕ → Type 0) (i : ℕ) → ((j : ℕ) → j < i → P j) → P i → (j : ℕ) → j < i + 1 → P j
@@ -173,11 +191,11 @@ none_next P i before here j low = elim (cases_lt j i) [
   | inr high ↦ transport P (let same : i ≡ j = omega arith in same) here
 ]
 
-pub leave_held : (old new : Reader) → LeavesRead old new → AllByRecursion (IsHeld old.places.arities) old.places.pieces → AllByRecursion (IsHeld new.places.arities) new.places.pieces
-leave_held old new read held =
+pub gather_held : (old new : Reader) (ls ms : List Loose) → Gathers old new ls ms → AllByRecursion (IsHeld old.places.arities) old.places.pieces → AllByRecursion (IsHeld new.places.arities) new.places.pieces
+gather_held old new ls ms read held =
     transport (λ a. AllByRecursion (IsHeld a) new.places.pieces) (sym read.arities)
     (all_contained (IsHeld old.places.arities) new.places.pieces
-    (λ p there. all_there (IsHeld old.places.arities) old.places.pieces p held (leave_pieces p old new read there)))
+    (λ p there. all_there (IsHeld old.places.arities) old.places.pieces p held (gather_pieces p old new ls ms read there)))
 
 pub agent_is : (a : Word) (s : ℕ) → a.tag ≡ s + 1 → a ≡ agent_word s a.index
 agent_is a s e = λ i. record { tag = e i; index = a.index }

@@ -2,7 +2,7 @@
 use Rattle.std.specs.Prelude.{◌≡◌, ℕ, ◌+◌, ◌<◌, ◌≤◌, ◌==◌, List, [], ◌∷◌, length, map, sum_by, slice_index_or, take, drop, if◌then◌else◌, Some, slice_get}
 use Rattle.std.specs.List.{flat_map, AllByRecursion}
 use Rattle.ic_term.specs.Tree.{Tree, name, agent, names, Pair}
-use Rattle.ic_term.specs.Configuration.{Configuration, configured, names_in, occurrences}
+use Rattle.ic_term.specs.Configuration.{Configuration, configured, configuration_names, occurrences}
 use Rattle.ic_arena.specs.declared.word.Word.{Word}
 use Rattle.ic_arena.specs.declared.word.TheConstants.{NAME, GIVEN}
 use Rattle.ic_arena.specs.Word.{count}
@@ -53,16 +53,13 @@ BeginAs n [] ts = Unit {0}
 BeginAs n (w ∷ ws) [] = ⊥
 BeginAs n (w ∷ ws) (t ∷ ts) = (¬ (w.tag ≡ NAME) → HeadIs n w t) × BeginAs n ws ts
 
--- An equation of the name of a place with a term. This name is none of those before, and one circle at most has it on its
--- left.
-pub record IsCircle (n : Numbers) (before : List ℕ) (circles : List Pair) (p : Pair) : Type 0 where
+-- An equation of the name of a place with a term. This name occurs nowhere else in the configuration.
+pub record IsCircle (n : Numbers) (c : Configuration) (p : Pair) : Type 0 where
   pub place : Word
   pub left : p.left ≡ name (n.of_place place)
-  pub apart : occurrences (n.of_place place) before ≡ 0
-  pub once : occurrences (n.of_place place) (flat_map (λ e. names e.left) circles) ≤ 1
+  pub alone : occurrences (n.of_place place) (configuration_names c)
+      ≡ 1 + occurrences (n.of_place place) (names p.right)
 
--- All equations after so many are circles. Their names are different, and occur neither in the interface nor in the
--- equations before them.
+-- all equations after so many are circles
 abbrev pub AreCirclesAfter : Numbers → ℕ → Configuration → Type 0
-AreCirclesAfter n k c = let circles = drop k c.equations in
-    AllByRecursion (IsCircle n (names_in c.interface (take k c.equations)) circles) circles
+AreCirclesAfter n k c = AllByRecursion (IsCircle n c) (drop k c.equations)

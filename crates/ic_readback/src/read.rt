@@ -11,8 +11,10 @@ ghost use Rattle.ic_readback.specs.Reading.{flat_words, configuration_read, AreG
 
 use crate::reader::Reader;
 use crate::token::ReadBack;
+use crate::writer::write_loose;
 use ic_machine::Machine;
 use std::alloc::{AllocError, Global};
+use std::mem;
 
 /// Reads the net of a machine back into terms: those of its interface, then the sides of its pairs, and last an equation
 /// of a name with a term for each circle.
@@ -51,9 +53,13 @@ pub fn read_back(alloc: Global, machine: Machine) -> Result<ReadBack, AllocError
         equations: 0,
     };
     reader.expand_all(&parts.interface, &parts.pending, &parts.aside)?;
+    let tokens = mem::replace(&mut reader.tokens, Vec::new(alloc));
+    let mut loose = Vec::new(alloc);
+    reader.read_left(alloc, &mut loose)?;
+    let written = write_loose(alloc, loose, tokens, reader.equations)?;
     Ok(ReadBack {
-        tokens: reader.tokens,
+        tokens: written.tokens,
         terms: parts.interface.len(),
-        equations: reader.equations,
+        equations: written.equations,
     })
 }

@@ -1,18 +1,20 @@
 //! A reader, which puts words together to terms.
 
-ghost use Rattle.std.specs.Prelude.{◌≡◌, ℕ, ◌+◌, ◌^◌, ◌<◌, ◌≤◌, List, [], ◌∷◌, true, false, Some, length, reverse, slice_get, Contains, OnOk};
+ghost use Rattle.std.specs.Prelude.{◌≡◌, ℕ, ◌+◌, ◌^◌, ◌<◌, ◌≤◌, List, [], ◌∷◌, ◌++◌, true, false, Some, length, reverse, slice_get, Contains, OnOk};
 ghost use Rattle.std.specs.List.{AllByRecursion};
 ghost use Rattle.ic_arena.specs.declared.word.Word.{Word as AnyWord};
 ghost use Rattle.ic_arena.specs.Word.{name_word};
 ghost use Rattle.ic_arena.specs.Piece.{waits, agent_of};
 ghost use Rattle.ic_machine.specs.Held.{IsHeld};
 ghost use Rattle.ic_readback.specs.Reading.{sides_of};
-ghost use Rattle.ic_readback.specs.inner.Expanding.{state, Step, Steps};
+ghost use Rattle.ic_readback.specs.inner.Expanding.{state, Step, Steps, IsIdle};
 
+use crate::loose::Loose;
 use crate::token::Token;
 use ic_arena::{NAME, Word};
 use ic_machine::{Equation, Places};
-use std::alloc::AllocError;
+use std::alloc::{AllocError, Global};
+use std::mem;
 
 /// What was read of a net, and what is left to read.
 #[derive(Drop)]
@@ -27,9 +29,9 @@ pub(crate) struct Reader {
 }
 
 impl Reader {
-    ghost use Rattle.ic_readback.specs.inner.Reading.{HasRead, LeavesRead, ReadsAll, HoldOnce};
+    ghost use Rattle.ic_readback.specs.inner.Reading.{HasRead, Gathers, Keeps, HoldOnce};
 
-    /// Puts together the words of an interface and the sides of equations, and then what is left.
+    /// Puts together the words of an interface and the sides of equations.
     pub(crate) fn expand_all(
         &mut self,
         interface: &[Word],
@@ -38,13 +40,32 @@ impl Reader {
     ) -> Result<(), AllocError>
         requires empty { self.old.stack.items ≡ [] }
         requires few { self.old.equations ≤ length self.old.tokens.items }
-        ensures { OnOk result (ReadsAll interface.now pending.now aside.now self.old self.new) }
+        ensures read { OnOk result (HasRead (interface.now
+            ++ (sides_of pending.now ++ sides_of aside.now)) self.old self.new) }
+        ensures counted { OnOk result (self.new.equations
+            ≡ self.old.equations + (length pending.now + length aside.now)) }
+        ensures few { OnOk result (self.new.equations ≤ length self.new.tokens.items) }
     {
         self.expand_each(interface)?;
         self.expand_sides(pending)?;
         self.expand_sides(aside)?;
-        self.expand_circles()?;
-        self.expand_agents()?;
+        Ok(())
+    }
+
+    /// Reads what no term had, as terms by themselves, until nothing is left.
+    pub(crate) fn read_left(
+        &mut self,
+        alloc: Global,
+        loose: &mut Vec<Loose>,
+    ) -> Result<(), AllocError>
+        requires empty { self.old.stack.items ≡ [] }
+        requires none { self.old.tokens.items ≡ [] }
+        ensures read { OnOk result (Gathers self.old self.new loose.old.items loose.new.items) }
+        ensures idle { OnOk result (HoldOnce self.old.places.pieces
+            → AllByRecursion IsIdle self.new.places.pieces) }
+    {
+        self.read_names(alloc, loose)?;
+        self.read_agents(alloc, loose)?;
         Ok(())
     }
 
@@ -139,40 +160,44 @@ impl Reader {
         Ok(())
     }
 
-    /// Puts together what waits for names that no term had: each is an equation of the name with a term.
-    fn expand_circles(&mut self) -> Result<(), AllocError>
+    /// Reads what waits for names that no term had: each is a term by itself.
+    fn read_names(&mut self, alloc: Global, loose: &mut Vec<Loose>) -> Result<(), AllocError>
         requires empty { self.old.stack.items ≡ [] }
-        requires few { self.old.equations ≤ length self.old.tokens.items }
-        ensures read { OnOk result (LeavesRead self.old self.new) }
+        requires none { self.old.tokens.items ≡ [] }
+        ensures read { OnOk result (Gathers self.old self.new loose.old.items loose.new.items) }
         ensures none { OnOk result ((x u : AnyWord) → ¬ Contains self.new.places.pieces (waits x u)) }
     {
         for index in 0..self.places.names() {
-            self.expand_circle(index)?;
+            self.read_name(alloc, index, loose)?;
         }
         Ok(())
     }
 
-    /// Puts together what still waits for a name, if something does.
-    fn expand_circle(&mut self, index: u32) -> Result<(), AllocError>
+    /// Reads what still waits for a name, if something does.
+    fn read_name(
+        &mut self,
+        alloc: Global,
+        index: u32,
+        loose: &mut Vec<Loose>,
+    ) -> Result<(), AllocError>
         requires empty { self.old.stack.items ≡ [] }
-        requires few { self.old.equations ≤ length self.old.tokens.items }
-        ensures read { OnOk result (LeavesRead self.old self.new) }
+        requires none { self.old.tokens.items ≡ [] }
+        ensures read { OnOk result (Gathers self.old self.new loose.old.items loose.new.items) }
         ensures none { OnOk result ((u : AnyWord)
             → ¬ Contains self.new.places.pieces (waits (name_word index) u)) }
     {
         if let Some(word) = self.places.take_waiting(index) {
-            self.tokens.push(Token::Name(Word::name(index)))?;
-            self.equations += 1;
             self.expand(word)?;
+            self.keep(alloc, Word::name(index), loose)?;
         }
         Ok(())
     }
 
-    /// Puts together the agents that no term had: each is an equation of the name of its place with a term.
-    fn expand_agents(&mut self) -> Result<(), AllocError>
+    /// Reads the agents that no term had: each is a term by itself.
+    fn read_agents(&mut self, alloc: Global, loose: &mut Vec<Loose>) -> Result<(), AllocError>
         requires empty { self.old.stack.items ≡ [] }
-        requires few { self.old.equations ≤ length self.old.tokens.items }
-        ensures read { OnOk result (LeavesRead self.old self.new) }
+        requires none { self.old.tokens.items ≡ [] }
+        ensures read { OnOk result (Gathers self.old self.new loose.old.items loose.new.items) }
         ensures held { OnOk result
             (AllByRecursion (IsHeld self.new.places.arities) self.new.places.pieces) }
         ensures none { OnOk result (HoldOnce self.old.places.pieces
@@ -180,44 +205,68 @@ impl Reader {
             → ¬ Contains self.new.places.pieces (agent_of a vs)) }
     {
         for symbol in 0..self.places.symbols() {
-            self.expand_agents_of(symbol)?;
+            self.read_agents_of(alloc, symbol, loose)?;
         }
         Ok(())
     }
 
-    /// Puts together the agents of a symbol that no term had.
-    fn expand_agents_of(&mut self, symbol: u32) -> Result<(), AllocError>
+    /// Reads the agents of a symbol that no term had.
+    fn read_agents_of(
+        &mut self,
+        alloc: Global,
+        symbol: u32,
+        loose: &mut Vec<Loose>,
+    ) -> Result<(), AllocError>
         requires empty { self.old.stack.items ≡ [] }
-        requires few { self.old.equations ≤ length self.old.tokens.items }
+        requires none { self.old.tokens.items ≡ [] }
         requires held { AllByRecursion (IsHeld self.old.places.arities) self.old.places.pieces }
         requires symbol { symbol + 1 < 2 ^ 32 }
-        ensures read { OnOk result (LeavesRead self.old self.new) }
+        ensures read { OnOk result (Gathers self.old self.new loose.old.items loose.new.items) }
         ensures none { OnOk result (HoldOnce self.old.places.pieces
             → (a : AnyWord) (vs : List AnyWord) → a.tag ≡ symbol + 1
             → ¬ Contains self.new.places.pieces (agent_of a vs)) }
     {
         for index in 0..self.places.agents(symbol) {
-            self.expand_agent(Word::agent(symbol, index))?;
+            self.read_agent(alloc, Word::agent(symbol, index), loose)?;
         }
         Ok(())
     }
 
-    /// Puts an agent together, if it is still at its place.
-    fn expand_agent(&mut self, agent: Word) -> Result<(), AllocError>
+    /// Reads an agent, if it is still at its place.
+    fn read_agent(
+        &mut self,
+        alloc: Global,
+        agent: Word,
+        loose: &mut Vec<Loose>,
+    ) -> Result<(), AllocError>
         requires empty { self.old.stack.items ≡ [] }
-        requires few { self.old.equations ≤ length self.old.tokens.items }
+        requires none { self.old.tokens.items ≡ [] }
         requires held { AllByRecursion (IsHeld self.old.places.arities) self.old.places.pieces }
         requires tag { 1 ≤ agent.tag }
-        ensures read { OnOk result (LeavesRead self.old self.new) }
+        ensures read { OnOk result (Gathers self.old self.new loose.old.items loose.new.items) }
         ensures none { OnOk result (HoldOnce self.old.places.pieces → (vs : List AnyWord)
             → ¬ Contains self.new.places.pieces (agent_of agent vs)) }
     {
         if self.places.take_arguments(agent, &mut self.stack)? {
-            self.tokens.push(Token::Name(agent))?;
             self.tokens.push(Token::Agent(agent.tag - 1))?;
-            self.equations += 1;
             self.expand_stack()?;
+            self.keep(alloc, agent, loose)?;
         }
+        Ok(())
+    }
+
+    /// Keeps the tokens that were read as a term for a place.
+    fn keep(&mut self, alloc: Global, place: Word, loose: &mut Vec<Loose>) -> Result<(), AllocError>
+        ensures { OnOk result (Keeps place self.old self.new loose.old.items loose.new.items) }
+    {
+        let mut reversed = mem::replace(&mut self.tokens, Vec::new(alloc));
+        reversed.reverse();
+        let written = false;
+        loose.push(Loose {
+            place,
+            reversed,
+            written,
+        })?;
         Ok(())
     }
 }

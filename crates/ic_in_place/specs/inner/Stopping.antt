@@ -1,7 +1,7 @@
 -- For private functions: a machine that begins with the configuration of a system, and where it stops.
 use Rattle.std.specs.Prelude.{◌≡◌, ℕ, ◌+◌, ◌^◌, ◌<◌, ◌≤◌, List, [], IsTrue, length, map, sum}
 use Rattle.std.specs.List.{AllByRecursion}
-use Rattle.ic_term.specs.Configuration.{Configuration, configuration_nodes}
+use Rattle.ic_term.specs.Configuration.{configuration_nodes}
 use Rattle.ic_term.specs.Symbol.{is_over}
 use Rattle.ic_term.specs.declared.limits.TheConstants.{MAX_NODES}
 use Rattle.ic_rules.specs.RuleSet.{IsRuleSet}
@@ -12,13 +12,11 @@ use Rattle.ic_machine.specs.Net.{Net, pieces, HasNext, IsStuck}
 use Rattle.ic_machine.specs.Plan.{Planned, Plans}
 use Rattle.ic_machine.specs.Runs.{Starts}
 use Rattle.ic_machine.specs.Separate.{IsSeparate}
-use Rattle.ic_meaning.specs.Nets.{net_of}
 use Rattle.ic_meaning.specs.Plans.{ArePlansOf}
 use Rattle.ic_in_place.specs.declared.running.Bounds.{Bounds}
 use Rattle.ic_in_place.specs.declared.running.End.{End}
 use Rattle.ic_in_place.specs.Holding.{Holds}
 use Rattle.ic_in_place.specs.declared.running.End.TheVariants.{Quiet, Steps, Nodes, Limit, Memory}
-use Rattle.ic_in_place.specs.Reducing.{HasQuiet}
 use Rattle.ic_in_place.specs.Running.{IsWatched}
 
 -- how many arguments each symbol has
@@ -43,13 +41,12 @@ pub record IsBegun (p : Plans) (given : ℕ) (plan : Planned) (operands : List �
   pub separate : IsSeparate p.arities m.interface (pieces m)
 
 -- what a stop says of the net that a machine holds, and of the pairs that are left
-abbrev pub StopsBy : SystemParts → Bounds → Plans → Configuration → Net → ℕ → End → Type 0
-StopsBy s bounds p c m places Quiet =
-    HasQuiet s.rules.rules c × (m.pending ≡ []) × AllByRecursion (IsStuck p) m.aside
-StopsBy s bounds p c m places Steps = (m.interactions ≡ bounds.steps) × HasNext p m.pending
-StopsBy s bounds p c m places Nodes = bounds.nodes < places
-StopsBy s bounds p c m places Limit = Unit {0}
-StopsBy s bounds p c m places Memory = Unit {0}
+abbrev pub StopsBy : Bounds → Plans → Net → ℕ → End → Type 0
+StopsBy bounds p m places Quiet = (m.pending ≡ []) × AllByRecursion (IsStuck p) m.aside
+StopsBy bounds p m places Steps = (m.interactions ≡ bounds.steps) × HasNext p m.pending
+StopsBy bounds p m places Nodes = bounds.nodes < places
+StopsBy bounds p m places Limit = Unit {0}
+StopsBy bounds p m places Memory = Unit {0}
 
 -- A machine began with the configuration of a system, whose names that occur once are given, and has stopped.
 pub record HasStopped (s : SystemParts) (bounds : Bounds) (given : List ℕ) (m : Net) (end : End)
@@ -71,4 +68,4 @@ pub record HasStopped (s : SystemParts) (bounds : Bounds) (given : List ℕ) (m 
   pub begun : Holds s.rules plans s.config given [] first
   pub none : first.interactions ≡ 0
   pub watched : IsWatched plans bounds.nodes first m
-  pub ended : StopsBy s bounds plans (net_of held.numbers m.interface (pieces m)) m places end
+  pub ended : StopsBy bounds plans m places end

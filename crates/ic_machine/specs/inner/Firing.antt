@@ -28,6 +28,13 @@ pub record SameSize (a b : Blocks) : Type 0 where
   pub len : length b.words ≡ length a.words
   pub capacity : b.capacity ≡ a.capacity
 
+-- a table has at most so many blocks more, and memory for as many as before
+pub record IsGrown (n : ℕ) (a b : Blocks) : Type 0 where
+  pub arity : b.arity ≡ a.arity
+  pub count : b.count ≤ a.count + n
+  pub len : length b.words ≤ length a.words + n * a.arity
+  pub capacity : b.capacity ≡ a.capacity
+
 -- the same tables, where some have more memory
 abbrev pub AreSame : List Blocks → List Blocks → Type 0
 AreSame [] [] = Unit {0}
@@ -36,11 +43,13 @@ AreSame (b ∷ bs) [] = ⊥
 AreSame (b ∷ bs) (c ∷ cs) =
     ((c.arity ≡ b.arity) × (c.count ≡ b.count) × (c.words ≡ b.words) × (b.capacity ≤ c.capacity)) × AreSame bs cs
 
--- the table of an agent that is to be made has memory for so many more, and numbers for them
+-- a table has memory for so many more blocks, and numbers for them
+abbrev pub HasBlocks : ℕ → Blocks → Type 0
+HasBlocks n b = (length b.words + n * b.arity ≤ b.capacity) × (b.count + n < 2 ^ 32)
+
+-- so has the table of an agent that is to be made
 abbrev pub HasRoom : List Blocks → ℕ → Made → Type 0
-HasRoom hs n m =
-    (length (table hs m.symbol).words + n * (table hs m.symbol).arity ≤ (table hs m.symbol).capacity)
-    × ((table hs m.symbol).count + n < 2 ^ 32)
+HasRoom hs n m = HasBlocks n (table hs m.symbol)
 
 -- The arguments of an agent are taken out of its table, and put after those in registers.
 pub record Taken (agent : Word) (arity : ℕ) (xs ys : List Piece) (before after : List Word) : Type 0 where

@@ -2,7 +2,7 @@
 use Rattle.std.specs.Prelude.{◌≡◌, ℕ, ◌+◌, ◌<◌, List, [], ◌∷◌, ◌++◌, Some, length, slice_get, IsPermutation}
 use Rattle.std.specs.List.{AllByRecursion}
 use Rattle.ic_machine.specs.declared.equation.Equation.{Equation}
-use Rattle.ic_machine.specs.Plan.{Planned, Plans, plan_of, IsPlan, ArePlans}
+use Rattle.ic_machine.specs.Plan.{Planned, Plans, number_of, plan_of, IsPlan, ArePlans}
 use Rattle.ic_machine.specs.Net.{IsStuck}
 
 -- both sides of an equation are agents, and their symbols have this plan
@@ -14,6 +14,18 @@ pub record HasPlan (p : Plans) (e : Equation) (plan : Planned) : Type 0 where
   pub left_known : left < length p.arities
   pub right_known : right < length p.arities
   pub is : plan_of p left right ≡ Some plan
+  pub sound : ArePlans p
+
+-- both sides of an equation are agents, and the plan of their symbols has this number
+pub record HasNumber (p : Plans) (e : Equation) (i : ℕ) : Type 0 where
+  pub left : ℕ
+  pub right : ℕ
+  pub left_tag : e.left.tag ≡ left + 1
+  pub right_tag : e.right.tag ≡ right + 1
+  pub left_known : left < length p.arities
+  pub right_known : right < length p.arities
+  pub number : number_of p left right ≡ Some i
+  pub there : i < length p.plans
   pub sound : ArePlans p
 
 -- both sides of an equation are agents of symbols with these arities, for which this is a plan

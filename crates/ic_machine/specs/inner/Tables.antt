@@ -11,7 +11,7 @@ use Rattle.ic_machine.specs.declared.tables.Tables.{Tables}
 use Rattle.ic_machine.specs.Plan.{Made, Planned, Plans, IsPlan, constants, number_of, pieces_made}
 use Rattle.ic_machine.specs.Net.{equated_of}
 use Rattle.ic_machine.specs.Steps.{AreFresh, Steps}
-use Rattle.ic_machine.specs.inner.Firing.{heaps_pieces, arities_of, table, HasRoom}
+use Rattle.ic_machine.specs.inner.Firing.{heaps_pieces, arities_of, table, HasBlocks, HasRoom}
 
 -- what the tables say, and after it other pieces
 abbrev pub held : Tables → List Piece → List Piece
@@ -31,6 +31,21 @@ pub record HasMemory (p : Planned) (arguments : ℕ) (t : Tables) : Type 0 where
   pub pending : length t.pending.items + length p.links ≤ vec_capacity t.pending
   pub registers : length t.registers.items + (arguments + p.names + length p.made) ≤ vec_capacity t.registers
   pub heaps : AllByRecursion (HasRoom t.heaps.items (length p.made)) p.made
+
+-- there is memory for so many names more, so many links, and so many agents of each symbol, and there are numbers for them
+pub record HasRoomFor (n : ℕ) (t : Tables) : Type 0 where
+  pub names : length t.names.entries + n ≤ t.names.capacity
+  pub few : length t.names.entries + n < 2 ^ 32
+  pub pending : length t.pending.items + n ≤ vec_capacity t.pending
+  pub heaps : (s : ℕ) → s < length t.heaps.items → HasBlocks n (table t.heaps.items s)
+
+-- how many names, agents and links a plan makes
+abbrev pub size_of : Planned → ℕ
+size_of p = p.names + length p.made + length p.links
+
+-- what is spare is there
+abbrev pub HasSpare : Tables → Type 0
+HasSpare t = 1 ≤ t.spare → HasRoomFor t.spare t
 
 -- The registers hold the agents without arguments and these arguments, of which a plan can make what it makes: no word is a
 -- mark, and each name is named at most as often as there is room.

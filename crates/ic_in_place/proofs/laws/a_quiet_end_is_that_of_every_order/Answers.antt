@@ -1,49 +1,24 @@
 use Rattle.std.proofs.Common.{◌∙◌, sym}
-use Rattle.ic_in_place.proofs.Orders.{OrderLaws, every_order_so, rounds_so, some_rounds_so}
+use Rattle.ic_in_place.proofs.Orders.{OrderLaws, every_order_so}
 use Rattle.ic_in_place.proofs.laws.a_quiet_end_is_that_of_every_order.Goals as goal
 
 pub returns-clause-every_order : goal.returns-clause-every_order
 returns-clause-every_order c =
     let laws : OrderLaws = record {
-      through = c.one_net_is_an_equivalence.ensures.through;
       itself = c.what_is_reached_is_one_net.ensures.itself;
       net = c.what_is_reached_is_one_net.ensures.net;
       names = c.what_is_reached_is_one_net.ensures.names;
       chain = c.what_is_reached_goes_on.ensures.chain;
       every_order = c.what_is_reached_quiet_is_the_end_of_every_order.ensures.every_order;
-      some_rounds = c.what_is_reached_quiet_is_the_end_of_every_order.ensures.some_rounds;
-      rounds = c.what_is_reached_quiet_is_the_end_of_every_order.ensures.rounds;
     } in
     λ s bounds answer e interactions places kinds set over named is chain still.
     let so = every_order_so laws s.rules s.config answer e is.fired kinds set over named is.reached is.ended.0 chain still in
     (so.0, so.1 ∙ sym is.counted)
 
 pub returns-clause-rounds : goal.returns-clause-rounds
-returns-clause-rounds c =
-    let laws : OrderLaws = record {
-      through = c.one_net_is_an_equivalence.ensures.through;
-      itself = c.what_is_reached_is_one_net.ensures.itself;
-      net = c.what_is_reached_is_one_net.ensures.net;
-      names = c.what_is_reached_is_one_net.ensures.names;
-      chain = c.what_is_reached_goes_on.ensures.chain;
-      every_order = c.what_is_reached_quiet_is_the_end_of_every_order.ensures.every_order;
-      some_rounds = c.what_is_reached_quiet_is_the_end_of_every_order.ensures.some_rounds;
-      rounds = c.what_is_reached_quiet_is_the_end_of_every_order.ensures.rounds;
-    } in
-    λ s bounds answer interactions places n set over named is still.
-    rounds_so laws s.rules n s.config answer is.fired set over named is.reached is.ended.0 still
+returns-clause-rounds c = λ s bounds answer interactions places n set over named is still.
+    c.what_is_reached_quiet_is_the_end_of_every_order.ensures.rounds s.rules n s.config answer is.fired set over named is.reached is.ended.0 still
 
 pub returns-clause-some_rounds : goal.returns-clause-some_rounds
-returns-clause-some_rounds c =
-    let laws : OrderLaws = record {
-      through = c.one_net_is_an_equivalence.ensures.through;
-      itself = c.what_is_reached_is_one_net.ensures.itself;
-      net = c.what_is_reached_is_one_net.ensures.net;
-      names = c.what_is_reached_is_one_net.ensures.names;
-      chain = c.what_is_reached_goes_on.ensures.chain;
-      every_order = c.what_is_reached_quiet_is_the_end_of_every_order.ensures.every_order;
-      some_rounds = c.what_is_reached_quiet_is_the_end_of_every_order.ensures.some_rounds;
-      rounds = c.what_is_reached_quiet_is_the_end_of_every_order.ensures.rounds;
-    } in
-    λ s bounds answer interactions places set over named is.
-    some_rounds_so laws s.rules s.config answer is.fired set over named is.reached is.ended.0
+returns-clause-some_rounds c = λ s bounds answer interactions places set over named is.
+    c.what_is_reached_quiet_is_the_end_of_every_order.ensures.some_rounds s.rules s.config answer is.fired set over named is.reached is.ended.0

@@ -3,19 +3,23 @@ use Rattle.ic_arena.specs.declared.word.TheConstants.{GIVEN}
 use Rattle.ic_flat.specs.Words.{forest}
 use Rattle.ic_flat.specs.Flat.{pairs_of}
 use Rattle.std.specs.List.{AllByRecursion}
+use Rattle.ic_term.specs.Configuration.{Configuration}
 use Rattle.ic_term.specs.Symbol.{is_over}
 use Rattle.ic_rules.specs.RuleSet.{Rules}
 use Rattle.ic_naming.specs.Naming.{renumbered_words}
+use Rattle.ic_round.specs.Naming.{HasNames}
+use Rattle.ic_round.specs.Rounds.{IsQuiet}
 use Rattle.ic_machine.specs.Net.{pieces, HasNext, IsStuck}
 use Rattle.ic_meaning.specs.Nets.{net_of, AreNetPieces}
 use Rattle.ic_readback.specs.declared.token.Token.{Token}
 use Rattle.ic_readback.specs.Reading.{flat_words, configuration_read}
-use Rattle.ic_in_place.specs.Reducing.{IsReached}
+use Rattle.ic_in_place.specs.Holding.{AreGiven}
+use Rattle.ic_in_place.specs.Reducing.{IsPutTogether, IsReached}
 use Rattle.ic_in_place.specs.inner.Numbering.{written_numbers, IsNumbered}
 use Rattle.ic_in_place.proofs.Answering.{AnswerLaws, answered_so}
 use Rattle.ic_in_place.proofs.Interacts.{can_interact}
 use Rattle.ic_in_place.proofs.InRange.{in_range}
-use Rattle.ic_in_place.proofs.Together.{put_together}
+use Rattle.ic_in_place.proofs.Together.{put_together, quiet_read}
 use Rattle.ic_in_place.proofs.reducing.read_stopped.Goals as goal
 
 pub returns-clause-reached : goal.returns-clause-reached
@@ -48,14 +52,20 @@ returns-clause-reached c = λ bounds stopped.
     can_interact s.rules stopped.rule_numbers stopped.plans n m.interface m.pending m.aside (forest (flat_words n read.tokens.items)) (configuration_read n read.tokens.items read.terms)
     stopped.of_rules (subst (λ (a : List ℕ). length a < GIVEN) held.arities held.sound.few) has (c.in_ok-read.ensures.heads n arities are ranged)
     (ap (λ k. pairs_of (drop k (forest (flat_words n read.tokens.items)))) c.in_ok-read.ensures.terms)) in
-    let together = (λ (none : m.pending ≡ []) (stuck : AllByRecursion (IsStuck stopped.plans) m.aside).
-    put_together stopped.plans n m read.tokens.items read.terms held.sound none stuck c.in_ok-read.ensures.terms (c.in_ok-read.ensures.heads n arities are ranged)
-    (c.in_ok-read.ensures.circles n arities held.sound are ranged)) in
+    let heads = c.in_ok-read.ensures.heads n arities are ranged in
+    let circles = c.in_ok-read.ensures.circles n arities held.sound are ranged in
+    let d : Configuration = configuration_read n read.tokens.items read.terms in
+    let quiet : m.pending ≡ [] → AllByRecursion (IsStuck stopped.plans) m.aside → HasNames d → AreGiven n.given d → IsQuiet s.rules.rules d × IsPutTogether d =
+    (λ none stuck named free. (
+      quiet_read c.what_is_read_of_stuck_pairs_is_quiet.ensures s.rules stopped.rule_numbers stopped.plans n m read.tokens.items read.terms read.equations
+          sound.rules stopped.of_rules held.sound none stuck c.in_ok-read.ensures.terms heads (c.in_ok-read.ensures.counted n arities) circles named free,
+      put_together stopped.plans n m read.tokens.items read.terms held.sound none stuck c.in_ok-read.ensures.terms heads circles named free,
+    )) in
     let written = c.in_ok-renumbered_words.ensures ∙ ap renumbered_words (c.deref-4.ensures.value ∙ c.in_ok-words.ensures.words
     ∙ (λ i. flat_words (written_numbers (map (λ x. x.arity) (symbols i)) (c.deref-2.ensures.value i)) (c.deref-3.ensures.value i))) in
     let numbered : AllByRecursion (IsNumbered given) read.tokens.items =
     subst (λ (g : List ℕ). AllByRecursion (IsNumbered g) read.tokens.items) c.deref-2.ensures.value
     (subst (λ (ts : List Token). AllByRecursion (IsNumbered c.deref-2.result.now) ts) c.deref-3.ensures.value c.in_ok-words.ensures.numbered) in
     let answer = answered_so laws s bounds given m end places stopped read.tokens.items read.terms read.equations c.in_ok-renumbered_words.field-0.items
-    net next together (c.in_ok-read.ensures.whole n arities) (c.in_ok-read.ensures.counted n arities) numbered written in
+    net next quiet (c.in_ok-read.ensures.whole n arities) (c.in_ok-read.ensures.counted n arities) numbered written in
     (answer.0, subst (λ (k : ℕ). IsReached s bounds answer.0 end k places) (sym c.interactions-interactions.ensures) answer.1, answer.2)

@@ -8,10 +8,7 @@ use Rattle.ic_in_place.proofs.reducing.run_system.Goals as goal
 pub returns : goal.returns
 returns g c =
     let rules : c.deref.result.now ≡ c.args.system.now.rules = c.deref.ensures ∙ c.rules.ensures.rules in
-    let laws : StopLaws = record {
-      reached = c.what_a_machine_holds_is_reached.ensures.reached;
-      ends = c.what_a_machine_holds_is_reached.ensures.ends;
-    } in
+    let laws : StopLaws = record { reached = c.what_a_machine_holds_is_reached.ensures.reached } in
     let p = c.in_ok-program.program in
     let numbers = c.in_ok-program.numbers.items in
     let first = c.in_ok-first.first in
@@ -20,5 +17,5 @@ returns g c =
     run.result.0 run.result.1 c.systems_are_sound.ensures
     (c.in_ok-program.ensures.arities ∙ ap (λ (r : Rules). map (λ x. x.arity) r.symbols) rules) c.in_ok-program.ensures.sound
     (subst (λ (r : Rules). ArePlansOf r numbers p) rules c.in_ok-program.ensures.plans)
-    c.in_ok-first.ensures.start c.in_ok-first.ensures.stands c.in_ok-first.ensures.given c.in_ok-machine.ensures run.ensures.ran run.ensures.ends run.ensures.places
+    c.in_ok-first.ensures.start c.in_ok-first.ensures.stands c.in_ok-first.ensures.given c.in_ok-machine.ensures run.ensures.ran run.ensures.ends
     run.ensures.nodes run.ensures.count run.ensures.enough run.ensures.watched

@@ -13,6 +13,7 @@ use Rattle.ic_machine.specs.inner.Firing.{arities_of, heaps_pieces, table, HasRo
 use Rattle.ic_machine.specs.lemmas.FiringKeeps.{all_append, all_of}
 use Rattle.ic_machine.proofs.Fresh.{earlier_within, fact_now, front_more, makes_more, planned_now, IsMadeOf}
 use Rattle.ic_machine.proofs.Heaps.{arities_set, arity_known, room_taken, table_read, table_replaced, table_room}
+use Rattle.ic_machine.proofs.Spare.{grown_set}
 use Rattle.ic_machine.proofs.firing.make_agents.Goals as goal
 
 -- the symbol of an agent that is made has a table of its arity
@@ -218,6 +219,7 @@ loop-make-preserved c =
           (map made_of ms)
           (λ m h. room_taken hs s (length ms - (i + 1)) b' m arity fewer shorter capacity
           (subst (λ (k : ℕ). HasRoom hs k m) left h)) c.loop-make.invariant.room;
+      sizes = grown_set h0 hs i s b' c.loop-make.invariant.sizes arity fewer shorter capacity;
       len = omega (arith, c.push_reserved.ensures.len);
       capacity = c.push_reserved.ensures.capacity ∙ c.loop-make.invariant.capacity;
     }

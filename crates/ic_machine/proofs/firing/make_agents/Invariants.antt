@@ -1,8 +1,8 @@
-use Rattle.std.proofs.Common.{◌≡◌, ◌+◌, ◌-◌, ◌<◌, length, map, take, vec_len, vec_capacity}
+use Rattle.std.proofs.Common.{◌≡◌, ◌+◌, ◌-◌, ◌<◌, ℕ, length, map, take, vec_len, vec_capacity}
 use Rattle.std.specs.List.{AllByRecursion}
 use Rattle.ic_arena.specs.declared.word.TheConstants.{IDLE}
 use Rattle.ic_machine.specs.Plan.{made_of}
-use Rattle.ic_machine.specs.inner.Firing.{heaps_pieces, arities_of, HasRoom, Makes}
+use Rattle.ic_machine.specs.inner.Firing.{heaps_pieces, arities_of, table, HasRoom, IsGrown, Makes}
 use Rattle.ic_machine.proofs.firing.make_agents.Given as goal
 
 abbrev pub invariant-loop-make : goal.invariant-loop-make
@@ -13,6 +13,7 @@ invariant-loop-make l = record {
   words : AllByRecursion (λ w. w.tag < IDLE) l.registers.items;
   arities : arities_of l.heaps.items ≡ arities_of l.initial.heaps.items;
   room : AllByRecursion (HasRoom l.heaps.items (length l.makes - l.make-index)) (map made_of l.makes);
+  sizes : (s : ℕ) → IsGrown l.make-index (table l.initial.heaps.items s) (table l.heaps.items s);
   len : vec_len l.registers ≡ vec_len l.initial.registers + l.make-index;
   capacity : vec_capacity l.registers ≡ vec_capacity l.initial.registers;
 }

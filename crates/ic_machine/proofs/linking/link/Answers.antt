@@ -18,6 +18,7 @@ follow-init c = record {
       no_step xs xs (IsPermutation-refl xs);
   named = c.requires.named;
   names = refl;
+  memory = refl;
   pending = refl;
   len = refl;
   capacity = refl;
@@ -52,6 +53,7 @@ follow-preserved-then-left-eq-NAME c = record {
       c.if-left-eq-NAME.true (c.follow.invariant.steps p rest) (c.in-Some.ensures.met.steps p rest);
   named = c.in-Some.ensures.met.named;
   names = c.meet.ensures.names ∙ c.follow.invariant.names;
+  memory = c.meet.ensures.memory ∙ c.follow.invariant.memory;
   pending = c.follow.invariant.pending;
   len = c.follow.invariant.len;
   capacity = c.follow.invariant.capacity;
@@ -90,6 +92,7 @@ follow-preserved c = record {
   named = named_turned c.in-Some-meet.waiting c.follow.left c.meet-then-right-eq-NAME.new.names.entries
       c.in-Some-meet.ensures.met.named;
   names = c.meet-then-right-eq-NAME.ensures.names ∙ c.follow.invariant.names;
+  memory = c.meet-then-right-eq-NAME.ensures.memory ∙ c.follow.invariant.memory;
   pending = c.follow.invariant.pending;
   len = c.follow.invariant.len;
   capacity = c.follow.invariant.capacity;

@@ -17,6 +17,7 @@ invariant-follow l = record {
   pending : l.pending.items ≡ l.initial.pending.items;
   len : vec_len l.pending ≡ vec_len l.initial.pending;
   capacity : vec_capacity l.pending ≡ vec_capacity l.initial.pending;
+  memory : l.names.capacity ≡ l.initial.names.capacity;
 }
 
 abbrev pub decreases-follow : goal.decreases-follow

@@ -21,6 +21,7 @@ loop-each-init c = record {
   pushed = pushed_none c.args.pending.now.items;
   len = omega arith;
   capacity = refl;
+  memory = refl;
   names = refl;
 }
 
@@ -60,6 +61,7 @@ loop-each-preserved c =
           c.loop-each.invariant.pushed c.link.ensures.pushed;
       len = omega arith;
       capacity = c.link.ensures.capacity ∙ c.loop-each.invariant.capacity;
+      memory = c.link.ensures.memory ∙ c.loop-each.invariant.memory;
       names = c.link.ensures.names ∙ c.loop-each.invariant.names;
     }
 

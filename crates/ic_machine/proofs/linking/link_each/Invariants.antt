@@ -18,5 +18,6 @@ invariant-loop-each l = record {
   pushed : Pushed l.initial.pending.items l.pending.items;
   len : vec_len l.pending ≤ vec_len l.initial.pending + l.each-index;
   capacity : vec_capacity l.pending ≡ vec_capacity l.initial.pending;
+  memory : l.names.capacity ≡ l.initial.names.capacity;
   names : length l.names.entries ≡ length l.initial.names.entries;
 }

@@ -1,4 +1,4 @@
-use Rattle.std.proofs.Common.{◌≡◌, ◌+◌, ◌-◌, ℕ, List, [], ◌∷◌, ◌++◌, Bool, true, cond, length, take, slice_get, Some, ap, not, sym, subst, ◌∙◌}
+use Rattle.std.proofs.Common.{◌≡◌, ◌+◌, ◌-◌, ℕ, List, [], ◌∷◌, ◌++◌, Bool, true, cond, length, take, slice_get, Some, ap, not, refl, sym, subst, ◌∙◌}
 use Rattle.std.specs.List.{AllByRecursion}
 use Rattle.ic_machine.specs.declared.equation.Equation.{Equation}
 use Rattle.ic_machine.specs.inner.Linking.{IsPair}
@@ -11,6 +11,7 @@ pub loop-pair-init : goal.loop-pair-init
 loop-pair-init c = record {
   pairs = c.requires;
   passed = passed_none c.args.program.now c.args.pending.now.items c.args.aside.now.items;
+  memory = refl;
 }
 
 pub loop-pair-preserved : goal.loop-pair-preserved
@@ -39,5 +40,6 @@ loop-pair-preserved c =
           (passed_more c.args.program.now c.args.pending.now.items c.args.aside.now.items new us e
           (subst (λ (l : List Equation). Passed c.args.program.now c.args.pending.now.items c.args.aside.now.items l us)
           parts c.loop-pair.invariant.passed)
-          (c.in_default-plan_for.ensures.none (all_back IsPair new (e ∷ []) pairs).0));
+          (c.in_default-number_for.ensures.none (all_back IsPair new (e ∷ []) pairs).0));
+      memory = c.pop.ensures.capacity ∙ c.loop-pair.invariant.memory;
     }

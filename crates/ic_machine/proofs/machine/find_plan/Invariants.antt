@@ -1,4 +1,4 @@
-use Rattle.std.proofs.Common.{vec_len}
+use Rattle.std.proofs.Common.{◌≡◌, vec_capacity, vec_len}
 use Rattle.std.specs.List.{AllByRecursion}
 use Rattle.ic_machine.specs.inner.Linking.{IsPair}
 use Rattle.ic_machine.specs.inner.Pairs.{Passed}
@@ -8,6 +8,7 @@ abbrev pub invariant-loop-pair : goal.invariant-loop-pair
 invariant-loop-pair l = record {
   pairs : AllByRecursion IsPair l.pending.items;
   passed : Passed l.program l.initial.pending.items l.initial.aside.items l.pending.items l.aside.items;
+  memory : vec_capacity l.pending ≡ vec_capacity l.initial.pending;
 }
 
 abbrev pub decreases-loop-pair : goal.decreases-loop-pair

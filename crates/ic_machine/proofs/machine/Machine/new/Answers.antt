@@ -23,7 +23,7 @@ use Rattle.ic_machine.specs.lemmas.FiringKeeps.{all_of}
 use Rattle.ic_machine.proofs.Heaps.{made_known, same_arities, same_at, same_pieces}
 use Rattle.ic_machine.proofs.Limits.{none_yet, same_fault}
 use Rattle.ic_machine.proofs.Making.{filled_count}
-use Rattle.ic_machine.proofs.Sound.{first_of, first_registers}
+use Rattle.ic_machine.proofs.Sound.{all_none, first_of, first_registers, none_counted}
 use Rattle.ic_machine.proofs.Starting.{given_length, given_marks, given_none, start_fresh, start_separate, start_steps}
 use Rattle.ic_machine.proofs.machine.Machine.new.Goals as goal
 
@@ -208,6 +208,8 @@ invariant_of-result c =
       names = c.make.ensures.few;
       symbols = subst (λ (k : ℕ). k < GIVEN) (sym many2) c.requires.symbols;
       registers = first_of n (length h2) t2.registers.items (gs ++ (made.names ++ made.made)) many2 registers2;
+      spare = λ some. absurd (omega (arith, c.make.ensures.spare, c.reserve.ensures.spare, c.in_ok-tables.ensures.spare));
+      counts = none_counted c.plans.result.now c.in_ok-counts.counts.items c.in_ok-counts.ensures;
     }
 
 pub returns-clause-arities : goal.returns-clause-arities
@@ -387,3 +389,7 @@ returns-in_err-reserve-clause-limit c = λ e.
           let many = most.2 in
           omega arith)
     ]
+
+pub returns-clause-counts : goal.returns-clause-counts
+returns-clause-counts c =
+    c.in_ok-counts.ensures ∙ (sym (all_none c.plans.result.now) ∙ ap (λ (l : List Planned). map {B = ℕ} (λ plan. 0) l) c.plans.ensures)

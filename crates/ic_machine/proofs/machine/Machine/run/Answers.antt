@@ -2,7 +2,7 @@ use Rattle.std.proofs.Common.{◌≡◌, ◌+◌, Err, ap, arith, sym, add-zero}
 use Rattle.std.proofs.lemmas.Result.{err_from_is_err_and}
 use Rattle.ic_machine.specs.declared.machine.MachineFault.TheVariants.{Limit}
 use Rattle.ic_machine.proofs.Limits.{same_fault}
-use Rattle.ic_machine.proofs.Running.{ran_none, ran_on}
+use Rattle.ic_machine.specs.lemmas.RunsOn.{ran_none, ran_on}
 use Rattle.ic_machine.proofs.machine.Machine.run.Goals as goal
 
 pub loop-step-init : goal.loop-step-init

@@ -13,11 +13,12 @@ use Rattle.ic_machine.specs.Net.{equated_of}
 use Rattle.ic_machine.specs.Separate.{IsSeparate}
 use Rattle.ic_machine.specs.Steps.{AreFresh, Steps}
 use Rattle.ic_machine.specs.inner.Firing.{AreSame, HasRoom, arities_of, heaps_pieces, table}
-use Rattle.ic_machine.specs.inner.Tables.{held}
+use Rattle.ic_machine.specs.inner.Tables.{HasRoomFor, held}
 use Rattle.ic_machine.specs.lemmas.FiringKeeps.{all_of}
 use Rattle.ic_machine.proofs.Firings.{args_named, args_words, fire_separate, fire_steps, left_there, right_there}
 use Rattle.ic_machine.proofs.Heaps.{arity_known, as_many, made_known, room_same, same_arities, same_length, same_pieces, same_sizes_on, table_read}
 use Rattle.ic_machine.proofs.Sound.{first_of, first_registers}
+use Rattle.ic_machine.proofs.Spare.{blocks_same}
 use Rattle.ic_machine.proofs.tables.Tables.fire.Goals as goal
 
 -- the arity of a table that is read is that of its symbol
@@ -37,32 +38,32 @@ popped_front es new front e is rest =
     rest ∙ (ap (λ (k : ℕ). take k es) here
     ∙ (ap (take (length front)) is ∙ take-append_seam front (e ∷ [])))
 
-pub reserve-requires-clause-known : goal.reserve-requires-clause-known
-reserve-requires-clause-known c =
+pub prepare-requires-clause-known : goal.prepare-requires-clause-known
+prepare-requires-clause-known c =
     let p : Planned = planned c.args.plan.now in
     let hs : List Blocks = c.args.self.now.heaps.items in
     let can = c.requires.plan in
     made_known hs (length (arities_of hs) + (can.left_args + can.right_args) + p.names) p.made can.is_plan.made
 
-pub returns-in_err-reserve-clause-same : goal.returns-in_err-reserve-clause-same
-returns-in_err-reserve-clause-same c =
-    let pieces : heaps_pieces 0 c.reserve.new.self.heaps.items ≡ heaps_pieces 0 c.args.self.now.heaps.items =
-    same_pieces c.args.self.now.heaps.items c.reserve.new.self.heaps.items 0 c.reserve.ensures.heaps in
-    let same : (rest : List Equation) → held c.reserve.new.self (map equated_of rest) ≡ held c.args.self.now (map equated_of rest) =
-    λ rest. rw (c.reserve.ensures.names, pieces, c.reserve.ensures.pending) refl in
+pub returns-in_err-prepare-clause-same : goal.returns-in_err-prepare-clause-same
+returns-in_err-prepare-clause-same c =
+    let pieces : heaps_pieces 0 c.prepare.new.self.heaps.items ≡ heaps_pieces 0 c.args.self.now.heaps.items =
+    same_pieces c.args.self.now.heaps.items c.prepare.new.self.heaps.items 0 c.prepare.ensures.heaps in
+    let same : (rest : List Equation) → held c.prepare.new.self (map equated_of rest) ≡ held c.args.self.now (map equated_of rest) =
+    λ rest. rw (c.prepare.ensures.names, pieces, c.prepare.ensures.pending) refl in
     let e = err_from_is_err_and c.from_residual.result c.from_residual.ensures.1 in
     rw e.1 same
 
-pub returns-in_err-reserve-clause-arities : goal.returns-in_err-reserve-clause-arities
-returns-in_err-reserve-clause-arities c =
-    same_arities c.args.self.now.heaps.items c.reserve.new.self.heaps.items c.reserve.ensures.heaps
+pub returns-in_err-prepare-clause-arities : goal.returns-in_err-prepare-clause-arities
+returns-in_err-prepare-clause-arities c =
+    same_arities c.args.self.now.heaps.items c.prepare.new.self.heaps.items c.prepare.ensures.heaps
 
-pub returns-in_err-reserve-clause-registers : goal.returns-in_err-reserve-clause-registers
-returns-in_err-reserve-clause-registers c =
-    first_registers (length c.args.self.now.heaps.items) (length c.reserve.new.self.heaps.items)
-    c.reserve.new.self.registers.items
-    (same_length c.args.self.now.heaps.items c.reserve.new.self.heaps.items c.reserve.ensures.heaps)
-    (c.reserve.ensures.registers ∙ c.requires.registers)
+pub returns-in_err-prepare-clause-registers : goal.returns-in_err-prepare-clause-registers
+returns-in_err-prepare-clause-registers c =
+    first_registers (length c.args.self.now.heaps.items) (length c.prepare.new.self.heaps.items)
+    c.prepare.new.self.registers.items
+    (same_length c.args.self.now.heaps.items c.prepare.new.self.heaps.items c.prepare.ensures.heaps)
+    (c.prepare.ensures.registers ∙ c.requires.registers)
 
 pub take-requires-clause-symbol : goal.take-requires-clause-symbol
 take-requires-clause-symbol c =
@@ -70,10 +71,10 @@ take-requires-clause-symbol c =
     let e : Equation = c.args.pair in
     let can = c.requires.plan in
     let last = c.requires.last in
-    let t1 : Tables = c.reserve.new.self in
+    let t1 : Tables = c.prepare.new.self in
     let h0 : List Blocks = t.heaps.items in
     let h1 : List Blocks = t1.heaps.items in
-    let same : AreSame h0 h1 = c.reserve.ensures.heaps in
+    let same : AreSame h0 h1 = c.prepare.ensures.heaps in
     let arities1 : arities_of h1 ≡ arities_of h0 = same_arities h0 h1 same in
     let left_arity : slice_get (arities_of h1) can.left ≡ Some can.left_args =
     ap (λ (l : List ℕ). slice_get l can.left) arities1 ∙ can.left_arity in
@@ -98,10 +99,10 @@ take-requires-clause-there c = λ some.
     let e : Equation = c.args.pair in
     let can = c.requires.plan in
     let last = c.requires.last in
-    let t1 : Tables = c.reserve.new.self in
+    let t1 : Tables = c.prepare.new.self in
     let h0 : List Blocks = t.heaps.items in
     let h1 : List Blocks = t1.heaps.items in
-    let same : AreSame h0 h1 = c.reserve.ensures.heaps in
+    let same : AreSame h0 h1 = c.prepare.ensures.heaps in
     let arities1 : arities_of h1 ≡ arities_of h0 = same_arities h0 h1 same in
     let left_arity : slice_get (arities_of h1) can.left ≡ Some can.left_args =
     ap (λ (l : List ℕ). slice_get l can.left) arities1 ∙ can.left_arity in
@@ -119,7 +120,7 @@ take-requires-clause-there c = λ some.
     ap (λ (s : ℕ). (table h1 s).arity) right_place ∙ right_known.1 in
     let separate : IsSeparate (arities_of h1) []
     (names_pieces 0 t1.names.entries ++ (heaps_pieces 0 h1 ++ (map equated_of (last.front ++ e ∷ []) ++ []))) =
-    fire_separate t.names.entries t1.names.entries h0 h1 t.pending.items last.front e c.reserve.ensures.names same
+    fire_separate t.names.entries t1.names.entries h0 h1 t.pending.items last.front e c.prepare.ensures.names same
     last.is c.requires.separate in
     left_there t1.names.entries h1 last.front e can.left can.left_args separate can.left_tag left_arity (omega arith)
 
@@ -129,10 +130,10 @@ take-requires-clause-room c =
     let e : Equation = c.args.pair in
     let can = c.requires.plan in
     let last = c.requires.last in
-    let t1 : Tables = c.reserve.new.self in
+    let t1 : Tables = c.prepare.new.self in
     let h0 : List Blocks = t.heaps.items in
     let h1 : List Blocks = t1.heaps.items in
-    let same : AreSame h0 h1 = c.reserve.ensures.heaps in
+    let same : AreSame h0 h1 = c.prepare.ensures.heaps in
     let arities1 : arities_of h1 ≡ arities_of h0 = same_arities h0 h1 same in
     let left_arity : slice_get (arities_of h1) can.left ≡ Some can.left_args =
     ap (λ (l : List ℕ). slice_get l can.left) arities1 ∙ can.left_arity in
@@ -148,7 +149,7 @@ take-requires-clause-room c =
     ap (λ (s : ℕ). (table h1 s).arity) left_place ∙ left_known.1 in
     let right_table : (table h1 (e.right.tag - 1)).arity ≡ can.right_args =
     ap (λ (s : ℕ). (table h1 s).arity) right_place ∙ right_known.1 in
-    let memory = c.in_ok-reserve.ensures.memory in
+    let memory = c.in_ok-prepare.ensures.memory in
     let left_read : c.arity.result ≡ can.left_args =
     c.arity.ensures.arity ∙ read_arity h0 c.index-left.result.now (e.left.tag - 1) can.left can.left_args left_place
     c.index-left.ensures can.left_arity in
@@ -167,10 +168,10 @@ take-requires-2-clause-symbol c =
     let e : Equation = c.args.pair in
     let can = c.requires.plan in
     let last = c.requires.last in
-    let t1 : Tables = c.reserve.new.self in
+    let t1 : Tables = c.prepare.new.self in
     let h0 : List Blocks = t.heaps.items in
     let h1 : List Blocks = t1.heaps.items in
-    let same : AreSame h0 h1 = c.reserve.ensures.heaps in
+    let same : AreSame h0 h1 = c.prepare.ensures.heaps in
     let arities1 : arities_of h1 ≡ arities_of h0 = same_arities h0 h1 same in
     let left_arity : slice_get (arities_of h1) can.left ≡ Some can.left_args =
     ap (λ (l : List ℕ). slice_get l can.left) arities1 ∙ can.left_arity in
@@ -202,10 +203,10 @@ take-requires-2-clause-there c = λ some.
     let e : Equation = c.args.pair in
     let can = c.requires.plan in
     let last = c.requires.last in
-    let t1 : Tables = c.reserve.new.self in
+    let t1 : Tables = c.prepare.new.self in
     let h0 : List Blocks = t.heaps.items in
     let h1 : List Blocks = t1.heaps.items in
-    let same : AreSame h0 h1 = c.reserve.ensures.heaps in
+    let same : AreSame h0 h1 = c.prepare.ensures.heaps in
     let arities1 : arities_of h1 ≡ arities_of h0 = same_arities h0 h1 same in
     let left_arity : slice_get (arities_of h1) can.left ≡ Some can.left_args =
     ap (λ (l : List ℕ). slice_get l can.left) arities1 ∙ can.left_arity in
@@ -223,7 +224,7 @@ take-requires-2-clause-there c = λ some.
     ap (λ (s : ℕ). (table h1 s).arity) right_place ∙ right_known.1 in
     let separate : IsSeparate (arities_of h1) []
     (names_pieces 0 t1.names.entries ++ (heaps_pieces 0 h1 ++ (map equated_of (last.front ++ e ∷ []) ++ []))) =
-    fire_separate t.names.entries t1.names.entries h0 h1 t.pending.items last.front e c.reserve.ensures.names same
+    fire_separate t.names.entries t1.names.entries h0 h1 t.pending.items last.front e c.prepare.ensures.names same
     last.is c.requires.separate in
     let h2 : List Blocks = c.take.new.heaps.items in
     let l = c.take.ensures.taken in
@@ -241,10 +242,10 @@ take-requires-2-clause-room c =
     let e : Equation = c.args.pair in
     let can = c.requires.plan in
     let last = c.requires.last in
-    let t1 : Tables = c.reserve.new.self in
+    let t1 : Tables = c.prepare.new.self in
     let h0 : List Blocks = t.heaps.items in
     let h1 : List Blocks = t1.heaps.items in
-    let same : AreSame h0 h1 = c.reserve.ensures.heaps in
+    let same : AreSame h0 h1 = c.prepare.ensures.heaps in
     let arities1 : arities_of h1 ≡ arities_of h0 = same_arities h0 h1 same in
     let left_arity : slice_get (arities_of h1) can.left ≡ Some can.left_args =
     ap (λ (l : List ℕ). slice_get l can.left) arities1 ∙ can.left_arity in
@@ -260,7 +261,7 @@ take-requires-2-clause-room c =
     ap (λ (s : ℕ). (table h1 s).arity) left_place ∙ left_known.1 in
     let right_table : (table h1 (e.right.tag - 1)).arity ≡ can.right_args =
     ap (λ (s : ℕ). (table h1 s).arity) right_place ∙ right_known.1 in
-    let memory = c.in_ok-reserve.ensures.memory in
+    let memory = c.in_ok-prepare.ensures.memory in
     let left_read : c.arity.result ≡ can.left_args =
     c.arity.ensures.arity ∙ read_arity h0 c.index-left.result.now (e.left.tag - 1) can.left can.left_args left_place
     c.index-left.ensures can.left_arity in
@@ -289,10 +290,10 @@ make-requires-clause-ready c =
     let e : Equation = c.args.pair in
     let can = c.requires.plan in
     let last = c.requires.last in
-    let t1 : Tables = c.reserve.new.self in
+    let t1 : Tables = c.prepare.new.self in
     let h0 : List Blocks = t.heaps.items in
     let h1 : List Blocks = t1.heaps.items in
-    let same : AreSame h0 h1 = c.reserve.ensures.heaps in
+    let same : AreSame h0 h1 = c.prepare.ensures.heaps in
     let arities1 : arities_of h1 ≡ arities_of h0 = same_arities h0 h1 same in
     let left_arity : slice_get (arities_of h1) can.left ≡ Some can.left_args =
     ap (λ (l : List ℕ). slice_get l can.left) arities1 ∙ can.left_arity in
@@ -310,7 +311,7 @@ make-requires-clause-ready c =
     ap (λ (s : ℕ). (table h1 s).arity) right_place ∙ right_known.1 in
     let separate : IsSeparate (arities_of h1) []
     (names_pieces 0 t1.names.entries ++ (heaps_pieces 0 h1 ++ (map equated_of (last.front ++ e ∷ []) ++ []))) =
-    fire_separate t.names.entries t1.names.entries h0 h1 t.pending.items last.front e c.reserve.ensures.names same
+    fire_separate t.names.entries t1.names.entries h0 h1 t.pending.items last.front e c.prepare.ensures.names same
     last.is c.requires.separate in
     let h2 : List Blocks = c.take.new.heaps.items in
     let l = c.take.ensures.taken in
@@ -325,10 +326,10 @@ make-requires-clause-ready c =
     let arities3 : arities_of h3 ≡ arities_of h1 = c.take-2.ensures.arities ∙ c.take.ensures.arities in
     let len3 : length h3 ≡ length h1 = as_many h1 h3 arities3 in
     let len1 : length h1 ≡ length h0 = same_length h0 h1 same in
-    let first : t1.registers.items ≡ constants (length h0) = c.reserve.ensures.registers ∙ c.requires.registers in
+    let first : t1.registers.items ≡ constants (length h0) = c.prepare.ensures.registers ∙ c.requires.registers in
     let args : List Word = l.args ++ r.args in
     let front : c.pop.new.self.items ≡ last.front =
-    popped_front t1.pending.items c.pop.new.self.items last.front e (c.reserve.ensures.pending ∙ last.is)
+    popped_front t1.pending.items c.pop.new.self.items last.front e (c.prepare.ensures.pending ∙ last.is)
     (c.pop.ensures.rest ∙ ap (λ (k : ℕ). take (k - 1) t1.pending.items) t1.pending.ok.0) in
     let count : length args ≡ can.left_args + can.right_args =
     length-append l.args r.args ∙ (rw (left_count, right_count) refl) in
@@ -355,10 +356,10 @@ make-requires-clause-memory c =
     let e : Equation = c.args.pair in
     let can = c.requires.plan in
     let last = c.requires.last in
-    let t1 : Tables = c.reserve.new.self in
+    let t1 : Tables = c.prepare.new.self in
     let h0 : List Blocks = t.heaps.items in
     let h1 : List Blocks = t1.heaps.items in
-    let same : AreSame h0 h1 = c.reserve.ensures.heaps in
+    let same : AreSame h0 h1 = c.prepare.ensures.heaps in
     let arities1 : arities_of h1 ≡ arities_of h0 = same_arities h0 h1 same in
     let left_arity : slice_get (arities_of h1) can.left ≡ Some can.left_args =
     ap (λ (l : List ℕ). slice_get l can.left) arities1 ∙ can.left_arity in
@@ -374,7 +375,7 @@ make-requires-clause-memory c =
     ap (λ (s : ℕ). (table h1 s).arity) left_place ∙ left_known.1 in
     let right_table : (table h1 (e.right.tag - 1)).arity ≡ can.right_args =
     ap (λ (s : ℕ). (table h1 s).arity) right_place ∙ right_known.1 in
-    let memory = c.in_ok-reserve.ensures.memory in
+    let memory = c.in_ok-prepare.ensures.memory in
     let left_read : c.arity.result ≡ can.left_args =
     c.arity.ensures.arity ∙ read_arity h0 c.index-left.result.now (e.left.tag - 1) can.left can.left_args left_place
     c.index-left.ensures can.left_arity in
@@ -398,17 +399,17 @@ make-requires-clause-memory c =
     let arities3 : arities_of h3 ≡ arities_of h1 = c.take-2.ensures.arities ∙ c.take.ensures.arities in
     let len3 : length h3 ≡ length h1 = as_many h1 h3 arities3 in
     let len1 : length h1 ≡ length h0 = same_length h0 h1 same in
-    let first : t1.registers.items ≡ constants (length h0) = c.reserve.ensures.registers ∙ c.requires.registers in
+    let first : t1.registers.items ≡ constants (length h0) = c.prepare.ensures.registers ∙ c.requires.registers in
     let args : List Word = l.args ++ r.args in
     let front : c.pop.new.self.items ≡ last.front =
-    popped_front t1.pending.items c.pop.new.self.items last.front e (c.reserve.ensures.pending ∙ last.is)
+    popped_front t1.pending.items c.pop.new.self.items last.front e (c.prepare.ensures.pending ∙ last.is)
     (c.pop.ensures.rest ∙ ap (λ (k : ℕ). take (k - 1) t1.pending.items) t1.pending.ok.0) in
     let len2r : length c.take.new.registers.items ≡ length t1.registers.items + length l.args =
     ap length l.pushed ∙ length-append t1.registers.items l.args in
     let len3r : length c.take-2.new.registers.items ≡ length c.take.new.registers.items + length r.args =
     ap length r.pushed ∙ length-append c.take.new.registers.items r.args in
     let whole_front : length t1.pending.items ≡ length last.front + 1 =
-    ap length (c.reserve.ensures.pending ∙ last.is) ∙ length_push last.front e in
+    ap length (c.prepare.ensures.pending ∙ last.is) ∙ length_push last.front e in
     let popped_len : length c.pop.new.self.items ≡ length last.front = ap length front in
     let links : length t1.pending.items + length p.links ≤ vec_capacity t1.pending = memory.pending in
     record {
@@ -427,10 +428,10 @@ returns-clause-fires c = λ q i a b rest left_tag right_tag arities number.
     let e : Equation = c.args.pair in
     let can = c.requires.plan in
     let last = c.requires.last in
-    let t1 : Tables = c.reserve.new.self in
+    let t1 : Tables = c.prepare.new.self in
     let h0 : List Blocks = t.heaps.items in
     let h1 : List Blocks = t1.heaps.items in
-    let same : AreSame h0 h1 = c.reserve.ensures.heaps in
+    let same : AreSame h0 h1 = c.prepare.ensures.heaps in
     let arities1 : arities_of h1 ≡ arities_of h0 = same_arities h0 h1 same in
     let left_arity : slice_get (arities_of h1) can.left ≡ Some can.left_args =
     ap (λ (l : List ℕ). slice_get l can.left) arities1 ∙ can.left_arity in
@@ -459,10 +460,10 @@ returns-clause-fires c = λ q i a b rest left_tag right_tag arities number.
     let arities3 : arities_of h3 ≡ arities_of h1 = c.take-2.ensures.arities ∙ c.take.ensures.arities in
     let len3 : length h3 ≡ length h1 = as_many h1 h3 arities3 in
     let len1 : length h1 ≡ length h0 = same_length h0 h1 same in
-    let first : t1.registers.items ≡ constants (length h0) = c.reserve.ensures.registers ∙ c.requires.registers in
+    let first : t1.registers.items ≡ constants (length h0) = c.prepare.ensures.registers ∙ c.requires.registers in
     let args : List Word = l.args ++ r.args in
     let front : c.pop.new.self.items ≡ last.front =
-    popped_front t1.pending.items c.pop.new.self.items last.front e (c.reserve.ensures.pending ∙ last.is)
+    popped_front t1.pending.items c.pop.new.self.items last.front e (c.prepare.ensures.pending ∙ last.is)
     (c.pop.ensures.rest ∙ ap (λ (k : ℕ). take (k - 1) t1.pending.items) t1.pending.ok.0) in
     let made = c.make.ensures.made in
     let pa : a ≡ can.left = omega (arith, can.left_tag) in
@@ -492,7 +493,7 @@ returns-clause-fires c = λ q i a b rest left_tag right_tag arities number.
     c.take-2.new.registers.items made.names made.made (map equated_of rest) end l r left_tag right_tag ka kb number r0
     made.names_count made.made_count made.name_tags made.made_tags fresh links in
     subst (λ (n : List Word). Steps q (i ∷ []) (names_pieces 0 n ++ (heaps_pieces 0 h0 ++ (map equated_of t.pending.items ++ map equated_of rest))) end)
-    c.reserve.ensures.names
+    c.prepare.ensures.names
     (subst (λ (x : List Piece). Steps q (i ∷ []) (names_pieces 0 t1.names.entries ++ (x ++ (map equated_of t.pending.items ++ map equated_of rest))) end)
     (same_pieces h0 h1 0 same)
     (subst (λ (x : List Equation). Steps q (i ∷ []) (names_pieces 0 t1.names.entries ++ (heaps_pieces 0 h1 ++ (map equated_of x ++ map equated_of rest))) end)
@@ -501,7 +502,7 @@ returns-clause-fires c = λ q i a b rest left_tag right_tag arities number.
 pub returns-clause-arities : goal.returns-clause-arities
 returns-clause-arities c =
     c.make.ensures.arities ∙ (c.take-2.ensures.arities ∙ (c.take.ensures.arities
-    ∙ same_arities c.args.self.now.heaps.items c.reserve.new.self.heaps.items c.reserve.ensures.heaps))
+    ∙ same_arities c.args.self.now.heaps.items c.prepare.new.self.heaps.items c.prepare.ensures.heaps))
 
 pub returns-clause-registers : goal.returns-clause-registers
 returns-clause-registers c =
@@ -509,10 +510,10 @@ returns-clause-registers c =
     let e : Equation = c.args.pair in
     let can = c.requires.plan in
     let last = c.requires.last in
-    let t1 : Tables = c.reserve.new.self in
+    let t1 : Tables = c.prepare.new.self in
     let h0 : List Blocks = t.heaps.items in
     let h1 : List Blocks = t1.heaps.items in
-    let same : AreSame h0 h1 = c.reserve.ensures.heaps in
+    let same : AreSame h0 h1 = c.prepare.ensures.heaps in
     let arities1 : arities_of h1 ≡ arities_of h0 = same_arities h0 h1 same in
     let left_arity : slice_get (arities_of h1) can.left ≡ Some can.left_args =
     ap (λ (l : List ℕ). slice_get l can.left) arities1 ∙ can.left_arity in
@@ -541,10 +542,10 @@ returns-clause-registers c =
     let arities3 : arities_of h3 ≡ arities_of h1 = c.take-2.ensures.arities ∙ c.take.ensures.arities in
     let len3 : length h3 ≡ length h1 = as_many h1 h3 arities3 in
     let len1 : length h1 ≡ length h0 = same_length h0 h1 same in
-    let first : t1.registers.items ≡ constants (length h0) = c.reserve.ensures.registers ∙ c.requires.registers in
+    let first : t1.registers.items ≡ constants (length h0) = c.prepare.ensures.registers ∙ c.requires.registers in
     let args : List Word = l.args ++ r.args in
     let front : c.pop.new.self.items ≡ last.front =
-    popped_front t1.pending.items c.pop.new.self.items last.front e (c.reserve.ensures.pending ∙ last.is)
+    popped_front t1.pending.items c.pop.new.self.items last.front e (c.prepare.ensures.pending ∙ last.is)
     (c.pop.ensures.rest ∙ ap (λ (k : ℕ). take (k - 1) t1.pending.items) t1.pending.ok.0) in
     let made = c.make.ensures.made in
     let more : List Word = l.args ++ (r.args ++ (made.names ++ made.made)) in
@@ -558,3 +559,38 @@ returns-clause-registers c =
     ∙ (append_assoc t1.registers.items l.args (r.args ++ (made.names ++ made.made))
     ∙ ap (λ (x : List Word). x ++ more) first)))) in
     first_of (length h0) (length c.make.new.self.heaps.items) c.make.new.self.registers.items more many is
+
+pub returns-in_err-prepare-clause-spare : goal.returns-in_err-prepare-clause-spare
+returns-in_err-prepare-clause-spare c = λ some. absurd (omega (arith, c.in_err-prepare.ensures.none))
+
+pub returns-clause-spare : goal.returns-clause-spare
+returns-clause-spare c = λ some.
+    let t : Tables = c.args.self.now in
+    let e : Equation = c.args.pair in
+    let last = c.requires.last in
+    let p : Planned = planned c.args.plan.now in
+    let t1 : Tables = c.prepare.new.self in
+    let h1 : List Blocks = t1.heaps.items in
+    let h2 : List Blocks = c.take.new.heaps.items in
+    let h3 : List Blocks = c.take-2.new.heaps.items in
+    let arities3 : arities_of h3 ≡ arities_of h1 = c.take-2.ensures.arities ∙ c.take.ensures.arities in
+    let len3 : length h3 ≡ length h1 = as_many h1 h3 arities3 in
+    let k : ℕ = c.make.new.self.spare in
+    let same : k ≡ t1.spare = c.make.ensures.spare in
+    let more : ℕ = p.names + length p.made + length p.links in
+    let room : HasRoomFor (k + more) t1 =
+    subst (λ (x : ℕ). HasRoomFor (x + more) t1) (sym same) (c.in_ok-prepare.ensures.spare (omega arith)) in
+    let front : c.pop.new.self.items ≡ last.front =
+    popped_front t1.pending.items c.pop.new.self.items last.front e (c.prepare.ensures.pending ∙ last.is)
+    (c.pop.ensures.rest ∙ ap (λ (k : ℕ). take (k - 1) t1.pending.items) t1.pending.ok.0) in
+    let whole_front : length t1.pending.items ≡ length last.front + 1 =
+    ap length (c.prepare.ensures.pending ∙ last.is) ∙ length_push last.front e in
+    let popped_len : length c.pop.new.self.items ≡ length last.front = ap length front in
+    let pending : length t1.pending.items + (k + more) ≤ vec_capacity t1.pending = room.pending in
+    c.make.ensures.room k (record {
+      names = room.names;
+      few = room.few;
+      pending = omega (arith, c.pop.ensures.capacity);
+      heaps = λ s lt. blocks_same (k + more) (table h1 s) (table h3 s)
+          (same_sizes_on h1 h2 h3 c.take.ensures.sizes c.take-2.ensures.sizes s) (room.heaps s (omega arith));
+    })

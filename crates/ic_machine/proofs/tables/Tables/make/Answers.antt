@@ -1,4 +1,4 @@
-use Rattle.std.proofs.Common.{◌≡◌, ◌+◌, ◌<◌, ◌≤◌, ℕ, List, [], ◌++◌, length, map, ap, sym, subst, ◌∙◌, append_assoc, arith, vec_capacity}
+use Rattle.std.proofs.Common.{◌≡◌, ◌+◌, ◌^◌, ◌<◌, ◌≤◌, ℕ, List, [], ◌++◌, length, map, ap, sym, subst, ◌∙◌, append_assoc, arith, vec_capacity}
 use Rattle.std.specs.List.{AllByRecursion}
 use Rattle.std.proofs.lemmas.List.{length-append, length-map}
 use Rattle.ic_arena.specs.declared.word.Word.{Word}
@@ -11,11 +11,13 @@ use Rattle.ic_machine.specs.declared.tables.Tables.{Tables}
 use Rattle.ic_machine.specs.Plan.{Planned, AreMade, constants, linked, made_of, pieces_made, planned}
 use Rattle.ic_machine.specs.Net.{equated_of}
 use Rattle.ic_machine.specs.Steps.{Steps}
-use Rattle.ic_machine.specs.inner.Firing.{arities_of, heaps_pieces, HasRoom, Makes, Opened}
+use Rattle.ic_machine.specs.inner.Firing.{arities_of, heaps_pieces, table, HasRoom, Makes, Opened}
 use Rattle.ic_machine.specs.inner.Linking.{AreLinks}
 use Rattle.ic_machine.specs.lemmas.FiringKeeps.{all_append}
 use Rattle.ic_machine.proofs.Fresh.{agent_tags}
+use Rattle.ic_machine.proofs.Heaps.{as_many}
 use Rattle.ic_machine.proofs.Making.{constant_words, filled_count, made_fresh, made_steps, name_words, plan_links}
+use Rattle.ic_machine.proofs.Spare.{blocks_fewer, blocks_left}
 use Rattle.ic_machine.proofs.tables.Tables.make.Goals as goal
 
 pub make_agents-requires-clause-made : goal.make_agents-requires-clause-made
@@ -159,3 +161,34 @@ returns-clause-few c =
     let linked_names = c.link_each.ensures.names in
     let opened_names = c.open_names.ensures.few in
     omega arith
+
+pub returns-clause-room : goal.returns-clause-room
+returns-clause-room c = λ n h.
+    let t : Tables = c.args.self.now in
+    let p : Planned = planned c.args.plan.now in
+    let hs : List Blocks = t.heaps.items in
+    let hs' : List Blocks = c.make_agents.new.heaps.items in
+    let makes : ℕ = length c.deref.result.now in
+    let made : makes ≡ length p.made =
+    ap length c.deref.ensures.value ∙ sym (length-map c.args.plan.now.makes.items made_of) in
+    let links : length c.deref-2.result.now ≡ length p.links = ap length c.deref-2.ensures.value in
+    let many : length hs' ≡ length hs = as_many hs hs' c.make_agents.ensures.arities in
+    let opened_few = c.open_names.ensures.few in
+    let opened_memory = c.open_names.ensures.memory in
+    let linked_names = c.link_each.ensures.names in
+    let linked_memory = c.link_each.ensures.memory in
+    let longer = c.link_each.ensures.len in
+    let pending_memory = c.link_each.ensures.capacity in
+    let before = t.pending.ok.0 in
+    let after = c.link_each.new.pending.ok.0 in
+    let names : length t.names.entries + (n + (p.names + length p.made + length p.links)) ≤ t.names.capacity = h.names in
+    let few : length t.names.entries + (n + (p.names + length p.made + length p.links)) < 2 ^ 32 = h.few in
+    let pending : length t.pending.items + (n + (p.names + length p.made + length p.links)) ≤ vec_capacity t.pending = h.pending in
+    record {
+      names = omega arith;
+      few = omega arith;
+      pending = omega arith;
+      heaps = λ s lt. blocks_left n makes (table hs s) (table hs' s) (c.make_agents.ensures.sizes s)
+          (blocks_fewer (n + makes) (n + (p.names + length p.made + length p.links)) (table hs s) (omega arith)
+          (h.heaps s (omega arith)));
+    }
