@@ -33,7 +33,7 @@ use Rattle.ic_in_place.specs.declared.running.Bounds.{Bounds}
 use Rattle.ic_in_place.specs.declared.running.End.{End}
 use Rattle.ic_in_place.specs.declared.running.End.TheVariants.{Quiet, Steps, Nodes, Limit}
 use Rattle.ic_in_place.specs.declared.running.End.TheVariants as end
-use Rattle.ic_in_place.specs.Reducing.{CanInteract, IsPutTogether, EndsBy, IsReached, Writes}
+use Rattle.ic_in_place.specs.Reducing.{CanInteract, IsPutTogether, EndsBy, IsReachedBy, Writes}
 use Rattle.ic_in_place.specs.Holding.{AreGiven, IsHeldAt}
 use Rattle.ic_in_place.specs.inner.Numbering.{written_numbers, HasNumber, IsNumbered}
 use Rattle.ic_in_place.specs.inner.Stopping.{arities_of, StopsBy, HasStopped}
@@ -81,9 +81,9 @@ numbered_names given (Name w ∷ ts) all = (all.0, numbered_names given ts all.1
 numbered_names given (Agent s ∷ ts) all = numbered_names given ts all.1
 
 -- a machine that has stopped holds one net with what was read back
-held_at : (s : SystemParts) (bounds : Bounds) (given : List ℕ) (m : Net) (end : End) (places : ℕ) (answer : Configuration) (stopped : HasStopped s bounds given m end places)
+held_at : (s : SystemParts) (bounds : Bounds) (given : List ℕ) (m : Net) (end : End) (places : ℕ) (by_rule : List ℕ) (answer : Configuration) (stopped : HasStopped s bounds given by_rule m end places)
     → OneNet (net_of stopped.held.numbers m.interface (pieces m)) answer → IsHeldAt s.rules s.config answer stopped.fired places bounds.nodes
-held_at s bounds given m end places answer stopped net = record {
+held_at s bounds given m end places by_rule answer stopped net = record {
   machine = m;
   plans = stopped.plans;
   given = given;
@@ -98,7 +98,7 @@ held_at s bounds given m end places answer stopped net = record {
 }
 
 -- What was read back is what was reached, and its words are written.
-pub answered_so : AnswerLaws → (s : SystemParts) (bounds : Bounds) (given : List ℕ) (m : Net) (end : End) (places : ℕ) (stopped : HasStopped s bounds given m end places)
+pub answered_so : AnswerLaws → (s : SystemParts) (bounds : Bounds) (given : List ℕ) (m : Net) (end : End) (places : ℕ) (by_rule : List ℕ) (stopped : HasStopped s bounds given by_rule m end places)
     (ts : List Token) (terms equations : ℕ) (words : List FlatWord)
     → OneNet (net_of stopped.held.numbers m.interface (pieces m)) (configuration_read stopped.held.numbers ts terms)
     → (HasNext stopped.plans m.pending → CanInteract s.rules.rules (configuration_read stopped.held.numbers ts terms))
@@ -107,8 +107,8 @@ pub answered_so : AnswerLaws → (s : SystemParts) (bounds : Bounds) (given : Li
     → IsQuiet s.rules.rules (configuration_read stopped.held.numbers ts terms) × IsPutTogether (configuration_read stopped.held.numbers ts terms))
     → IsWhole (flat_words stopped.held.numbers ts) → length (forest (flat_words stopped.held.numbers ts)) ≡ terms + 2 * equations
     → AllByRecursion (IsNumbered given) ts → words ≡ renumbered_words (flat_words (written_numbers (arities_of s) given) ts)
-    → (answer : Configuration) × IsReached s bounds answer end m.interactions places × Writes s.rules.symbols words terms equations answer
-answered_so laws s bounds given m end places stopped ts terms equations words net next quiet whole counted numbered written =
+    → (answer : Configuration) × IsReachedBy s bounds answer end m.interactions places by_rule × Writes s.rules.symbols words terms equations answer
+answered_so laws s bounds given m end places by_rule stopped ts terms equations words net next quiet whole counted numbered written =
     let held = stopped.held in
     let n : Numbers = held.numbers in
     let here : Configuration = net_of n m.interface (pieces m) in
@@ -135,12 +135,15 @@ answered_so laws s bounds given m end places stopped ts terms equations words ne
     written ∙ ap (λ (k : Numbers). renumbered_words (flat_words k ts)) numbers ∙ ap renumbered_words (sym r.words) ∙ laws.forgets r.turn ws r.untold in (
       answer,
       (record {
-        fired = stopped.fired;
-        reached = reached;
-        counted = stopped.counted;
-        within = stopped.within;
-        held = held_at s bounds given m end places answer stopped net;
-        ended = ends_alike s bounds stopped.plans answer m places end next (λ none stuck. quiet none stuck net.names_too are) stopped.ended;
+        reached = record {
+          fired = stopped.fired;
+          reached = reached;
+          counted = stopped.counted;
+          within = stopped.within;
+          held = held_at s bounds given m end places by_rule answer stopped net;
+          ended = ends_alike s bounds stopped.plans answer m places end next (λ none stuck. quiet none stuck net.names_too are) stopped.ended;
+        };
+        counts = stopped.counts;
       }),
       transport (λ (l : List FlatWord). Writes rs.symbols l terms equations answer) (sym words_are) (writes_so rs.symbols ws terms equations answer whole counted refl refl over),
     )
@@ -148,31 +151,40 @@ answered_so laws s bounds given m end places stopped ts terms equations words ne
 -- ---- what isn't written
 
 -- a machine that stopped at a bound of places or a limit holds what was reached
-pub record IsUnread (s : SystemParts) (bounds : Bounds) (partial : Bool) (end : End) (interactions places : ℕ) : Type 0 where
+pub record IsUnread (s : SystemParts) (bounds : Bounds) (partial : Bool) (end : End) (interactions places : ℕ) (by_rule : List ℕ) : Type 0 where
   pub answer : Configuration
-  pub reached : IsReached s bounds answer end interactions places
+  pub reached : IsReachedBy s bounds answer end interactions places by_rule
   pub prints : [] ≡ line_reached partial end s.rules.symbols answer
   pub stuck : None ≡ stuck_at end s.rules.symbols answer
 
-pub unread_so : ((c : Configuration) → HasNames c → OneNet c c) → (s : SystemParts) (bounds : Bounds) (given : List ℕ) (m : Net) (end : End) (places : ℕ) (partial : Bool) → HasStopped s bounds given m end places
-    → is_written partial end ≡ false → IsUnread s bounds partial end m.interactions places
-unread_so itself s bounds given m Quiet places partial stopped none = absurd (false≢true (sym none))
-unread_so itself s bounds given m Steps places partial stopped none = absurd (false≢true (sym none))
-unread_so itself s bounds given m Nodes places partial stopped none = record {
+pub unread_so : ((c : Configuration) → HasNames c → OneNet c c) → (s : SystemParts) (bounds : Bounds) (given : List ℕ) (m : Net) (end : End) (places : ℕ) (by_rule : List ℕ) (partial : Bool) → HasStopped s bounds given by_rule m end places
+    → is_written partial end ≡ false → IsUnread s bounds partial end m.interactions places by_rule
+unread_so itself s bounds given m Quiet places by_rule partial stopped none = absurd (false≢true (sym none))
+unread_so itself s bounds given m Steps places by_rule partial stopped none = absurd (false≢true (sym none))
+unread_so itself s bounds given m Nodes places by_rule partial stopped none = record {
   answer = net_of stopped.held.numbers m.interface (pieces m);
-  reached = record { fired = stopped.fired; reached = stopped.held.reached; counted = stopped.counted; within = stopped.within; held = held_at s bounds given m Nodes places _ stopped (itself _ stopped.held.has_names); ended = stopped.ended };
+  reached = record {
+    reached = record { fired = stopped.fired; reached = stopped.held.reached; counted = stopped.counted; within = stopped.within; held = held_at s bounds given m Nodes places by_rule _ stopped (itself _ stopped.held.has_names); ended = stopped.ended };
+    counts = stopped.counts;
+  };
   prints = sym (ap (λ b. cond b (line_of s.rules.symbols (renumbered (net_of stopped.held.numbers m.interface (pieces m)))) []) none);
   stuck = refl;
 }
-unread_so itself s bounds given m Limit places partial stopped none = record {
+unread_so itself s bounds given m Limit places by_rule partial stopped none = record {
   answer = net_of stopped.held.numbers m.interface (pieces m);
-  reached = record { fired = stopped.fired; reached = stopped.held.reached; counted = stopped.counted; within = stopped.within; held = held_at s bounds given m Limit places _ stopped (itself _ stopped.held.has_names); ended = stopped.ended };
+  reached = record {
+    reached = record { fired = stopped.fired; reached = stopped.held.reached; counted = stopped.counted; within = stopped.within; held = held_at s bounds given m Limit places by_rule _ stopped (itself _ stopped.held.has_names); ended = stopped.ended };
+    counts = stopped.counts;
+  };
   prints = sym (ap (λ b. cond b (line_of s.rules.symbols (renumbered (net_of stopped.held.numbers m.interface (pieces m)))) []) none);
   stuck = refl;
 }
-unread_so itself s bounds given m end.Memory places partial stopped none = record {
+unread_so itself s bounds given m end.Memory places by_rule partial stopped none = record {
   answer = net_of stopped.held.numbers m.interface (pieces m);
-  reached = record { fired = stopped.fired; reached = stopped.held.reached; counted = stopped.counted; within = stopped.within; held = held_at s bounds given m end.Memory places _ stopped (itself _ stopped.held.has_names); ended = stopped.ended };
+  reached = record {
+    reached = record { fired = stopped.fired; reached = stopped.held.reached; counted = stopped.counted; within = stopped.within; held = held_at s bounds given m end.Memory places by_rule _ stopped (itself _ stopped.held.has_names); ended = stopped.ended };
+    counts = stopped.counts;
+  };
   prints = sym (ap (λ b. cond b (line_of s.rules.symbols (renumbered (net_of stopped.held.numbers m.interface (pieces m)))) []) none);
   stuck = refl;
 }

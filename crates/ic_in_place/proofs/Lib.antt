@@ -1,4 +1,5 @@
 pub mod Onward
+pub mod Counted
 pub mod Pieces
 pub mod Holding
 pub mod Words

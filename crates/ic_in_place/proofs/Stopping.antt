@@ -1,5 +1,5 @@
 -- Lemmas: where a machine stops.
-use Rattle.std.proofs.Common.{◌≡◌, ℕ, zero, suc, ◌<◌, ◌≤◌, ◌^◌, List, [], ◌∷◌, ◌++◌, Some, length, map, slice_get, slice_index_or, refl, sym, ap, ◌∙◌, arith, subst as transport}
+use Rattle.std.proofs.Common.{◌≡◌, ℕ, zero, suc, ◌<◌, ◌≤◌, ◌^◌, List, [], ◌∷◌, ◌++◌, Some, length, map, slice_get, slice_index_or, refl, sym, ap, ◌∙◌, ◌==◌, arith, subst as transport}
 use Rattle.std.specs.List.{AllByRecursion}
 use Rattle.std.specs.Prelude.{◌↔◌, ◌+◌, Contains, IsTrue, sum}
 use Rattle.std.proofs.lemmas.List.{length-map}
@@ -8,7 +8,7 @@ use Rattle.ic_term.specs.Symbol.{is_over}
 use Rattle.ic_rules.specs.RuleSet.{Rules, IsRuleSet}
 use Rattle.ic_rules.specs.System.{SystemParts}
 use Rattle.ic_round.specs.Naming.{HasNames}
-use Rattle.ic_machine.specs.Net.{Net, IsStuck}
+use Rattle.ic_machine.specs.Net.{Net, pieces, IsStuck}
 use Rattle.ic_machine.specs.Plan.{Planned, Plans, ArePlans, IsPlan}
 use Rattle.ic_machine.specs.Runs.{IsStart, Ran}
 use Rattle.ic_meaning.specs.Plans.{ArePlansOf, StandsForNet, rule_number}
@@ -17,7 +17,13 @@ use Rattle.ic_in_place.specs.declared.running.End.{End}
 use Rattle.ic_in_place.specs.declared.running.End.TheVariants.{Quiet, Steps, Nodes, Limit, Memory}
 use Rattle.ic_in_place.specs.Holding.{AreGiven, AreCompiled, HasRun, Holds}
 use Rattle.ic_in_place.specs.Running.{RunsOn, IsWatched}
-use Rattle.ic_in_place.proofs.Onward.{ran_nothing, ran_nothing-fired}
+use Rattle.ic_in_place.proofs.Counted.{summed_told}
+use Rattle.ic_in_place.specs.inner.Summing.{IsSummed}
+use Rattle.ic_in_place.proofs.Onward.{all_of_both, ran_nothing, ran_nothing-fired}
+use Rattle.ic_arena.specs.Piece.{Piece}
+use Rattle.ic_machine.specs.Steps.{Step, Steps as StepsOf, no_step, one_more, turns, puts, meets, fires}
+use Rattle.std.proofs.lemmas.List.Sums.{count_by-le-length}
+use Rattle.std.proofs.lemmas.Option.{slice_get_within}
 use Rattle.ic_in_place.specs.inner.Stopping.{arities_of, IsSound, IsBegun, StopsBy, HasStopped}
 
 pub names_of_configuration : (c : Configuration) → IsConfiguration c → HasNames c
@@ -58,13 +64,35 @@ by_end bounds p old m places Nodes none runs stuck nodes = nodes refl
 by_end bounds p old m places Limit none runs stuck nodes = tt
 by_end bounds p old m places Memory none runs stuck nodes = tt
 
+-- each plan that fired is there
+known_step : (p : Plans) (xs ys : List Piece) (fired : List ℕ) → Step p fired xs ys → AllByRecursion (λ i. i < length p.plans) fired
+known_step p xs ys fired (turns a b is) = tt
+known_step p xs ys fired (puts a b is) = tt
+known_step p xs ys fired (meets a b is) = tt
+known_step p xs ys fired (fires i a b is) = (slice_get_within p.plans i is.plan is.has_plan, tt)
+
+known_plans : (p : Plans) (xs ys : List Piece) (fired : List ℕ) → StepsOf p fired xs ys → AllByRecursion (λ i. i < length p.plans) fired
+known_plans p xs ys fired (no_step a b is) = tt
+known_plans p xs ys fired (one_more is js a b c one more) =
+    all_of_both (λ i. i < length p.plans) is js (known_plans p a b is one) (known_step p b c js more)
+
+abbrev zeros_of : List Planned → List ℕ
+zeros_of ps = map (λ plan. 0) ps
+
+no_count : (ps : List Planned) (i : ℕ) → slice_index_or (zeros_of ps) i 0 ≡ 0
+no_count [] i = refl
+no_count (p ∷ ps) zero = refl
+no_count (p ∷ ps) (suc i) = no_count ps i
+
 pub stopped_so : StopLaws → (s : SystemParts) (bounds : Bounds) (numbers : List ℕ) (p : Plans) (given : List ℕ) (plan : Planned) (operands : List ℕ) (old m : Net) (end : End) (places : ℕ)
     → IsSound s → p.arities ≡ arities_of s → ArePlans p → ArePlansOf s.rules numbers p
     → IsStart (arities_of s) (length given) plan operands → StandsForNet (arities_of s) given s.config plan operands
     → ((x : ℕ) → (occurrences x (configuration_names s.config) ≡ 1) ↔ Contains given x)
     → IsBegun p (length given) plan operands old → Ran p old m → RunsOn p bounds.steps end old m
-    → (end ≡ Nodes → bounds.nodes < places) → places ≡ m.names + sum m.agents → length m.places ≤ places → IsWatched p bounds.nodes old m → HasStopped s bounds given m end places
-stopped_so laws s bounds numbers p given plan operands old m end places sound arities plans of_rules start stands are begun ran runs nodes all enough watched =
+    → (end ≡ Nodes → bounds.nodes < places) → places ≡ m.names + sum m.agents → length m.places ≤ places → IsWatched p bounds.nodes old m
+    → (by_rule : List ℕ) → IsSummed (length s.rules.rules) numbers m.counts by_rule → length numbers ≡ length p.plans → m.interactions < 2 ^ 64
+    → HasStopped s bounds given by_rule m end places
+stopped_so laws s bounds numbers p given plan operands old m end places sound arities plans of_rules start stands are begun ran runs nodes all enough watched by_rule summed numbered low =
     let count : length (arities_of s) ≡ length s.rules.symbols = length-map s.rules.symbols (λ x. x.arity) in
     let compiled : AreCompiled s.rules numbers p s.config given plan operands = record {
       plans = plans;
@@ -84,6 +112,12 @@ stopped_so laws s bounds numbers p given plan operands old m end places sound ar
     let held : Holds s.rules p s.config given (map (rule_number numbers) ran.fired) m =
     laws.reached s.rules numbers p s.config given plan operands m sound.rules sound.over sound.names compiled run in
     let many = length-map ran.fired (rule_number numbers) in
+    let known = known_plans p (pieces old) (pieces m) ran.fired ran.steps in
+    let zeros : (i : ℕ) → slice_index_or old.counts i 0 ≡ 0 = (λ i. ap (λ (l : List ℕ). slice_index_or l i 0) begun.counts ∙ no_count p.plans i) in
+    let plans_count : length old.counts ≡ length p.plans = ap (length {A = ℕ}) begun.counts ∙ length-map p.plans (λ plan. 0) in
+    let by_rules = (λ (i : ℕ). summed_told i numbers m.counts ran.fired (transport (λ (n : ℕ). AllByRecursion (λ k. k < n) ran.fired) (sym numbered) known)
+    (λ k there. let before = zeros k in let each = ran.counts.each k (omega (arith, there, numbered, plans_count)) in omega (arith, before, each))) in
+    let few = (λ (i : ℕ). count_by-le-length (λ j. j == i) (map (rule_number numbers) ran.fired)) in
     record {
       sound = sound;
       below = all_low given stands.names s.config.next (2 ^ 62) sound.next stands.below;
@@ -95,6 +129,10 @@ stopped_so laws s bounds numbers p given plan operands old m end places sound ar
       fired = map (rule_number numbers) ran.fired;
       held = held;
       counted = omega (arith, ran.counted, begun.none, many);
+      counts = record {
+        all = summed.all;
+        each = (λ i there. let told = by_rules i in summed.each i there (omega (arith, told, few i)) ∙ told);
+      };
       within = omega (arith, runs.within, begun.none);
       all = all;
       enough = enough;

@@ -18,6 +18,7 @@ use Rattle.ic_in_place.specs.declared.running.Bounds.{Bounds}
 use Rattle.ic_in_place.specs.declared.running.End.{End}
 use Rattle.ic_in_place.specs.declared.running.End.TheVariants.{Quiet, Steps, Nodes, Limit, Memory}
 use Rattle.ic_in_place.specs.Holding.{IsHeldAt}
+use Rattle.ic_in_place.specs.Counting.{AreCounts}
 
 -- a term is an agent, or a name that occurs once
 abbrev pub IsAgentOrFree : Configuration → Tree → Type 0
@@ -60,6 +61,12 @@ pub record IsReached (s : SystemParts) (bounds : Bounds) (answer : Configuration
   pub within : interactions ≤ bounds.steps
   pub held : IsHeldAt s.rules s.config answer fired places bounds.nodes
   pub ended : EndsBy s.rules.rules bounds answer interactions places end
+
+-- The same, and how many of these interactions were made by each rule.
+pub record IsReachedBy (s : SystemParts) (bounds : Bounds) (answer : Configuration) (end : End)
+    (interactions places : ℕ) (by_rule : List ℕ) : Type 0 where
+  pub reached : IsReached s bounds answer end interactions places
+  pub counts : AreCounts (length s.rules.rules) reached.fired by_rule
 
 -- Words write a configuration with its names numbered anew, so many of their terms in its interface, and so many equations.
 pub record Writes (symbols : List Symbol) (words : List Word) (terms equations : ℕ)

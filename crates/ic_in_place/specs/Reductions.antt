@@ -11,7 +11,7 @@ use Rattle.ic_text.specs.declared.fault.TextFault.TheVariants as text
 use Rattle.ic_streams.specs.Streams.{Answering, line_of}
 use Rattle.ic_streams.specs.declared.fault.StreamFault.TheVariants.{Read, Text, Round, Memory, Write}
 use Rattle.ic_by_rounds.specs.Stuck.{stuck_text}
-use Rattle.ic_in_place.specs.Reducing.{IsReached}
+use Rattle.ic_in_place.specs.Reducing.{IsReachedBy}
 use Rattle.ic_in_place.specs.declared.running.Bounds.{Bounds}
 use Rattle.ic_in_place.specs.declared.running.End.{End}
 use Rattle.ic_in_place.specs.declared.running.End.TheVariants as end
@@ -45,7 +45,8 @@ pub record EndsAs (bounds : Bounds) (partial : Bool) (input : List ℕ) (outcome
   pub system : SystemParts
   pub answer : Configuration
   pub reads : ReadsSystem input (Ok system)
-  pub reached : IsReached system bounds answer outcome.end outcome.interactions outcome.places
+  pub reached : IsReachedBy system bounds answer outcome.end outcome.interactions outcome.places
+      outcome.by_rule.items
   pub prints : line ≡ line_reached partial outcome.end system.rules.symbols answer
   pub stuck : option_map (λ text. text.items) outcome.stuck
       ≡ stuck_at outcome.end system.rules.symbols answer

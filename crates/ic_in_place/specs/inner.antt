@@ -2,3 +2,4 @@
 pub mod Told
 pub mod Stopping
 pub mod Numbering
+pub mod Summing

@@ -4,6 +4,7 @@
 //! holds, and that a quiet end is that of every order.
 #![tactic(auto)]
 
+mod counting;
 pub mod laws;
 mod reducing;
 mod running;

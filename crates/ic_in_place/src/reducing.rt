@@ -5,9 +5,10 @@ ghost use Rattle.ic_term.specs.Configuration.{Configuration, configuration_nodes
 ghost use Rattle.ic_machine.specs.Plan.{planned};
 ghost use Rattle.ic_machine.specs.Runs.{IsStart};
 ghost use Rattle.ic_in_place.specs.declared.running.Bounds.{Bounds as AnyBounds};
-ghost use Rattle.ic_in_place.specs.Reducing.{IsReached, Writes};
+ghost use Rattle.ic_in_place.specs.Reducing.{IsReachedBy, Writes};
 ghost use Rattle.ic_in_place.specs.inner.Stopping.{HasStopped, IsBegun, IsSound, arities_of};
 
+use crate::counting::{no_counts, sum_by_rule};
 use crate::running::{Bounds, End, Watch, run_in_pieces};
 use crate::writing::words_of;
 use ic_flat::{FlatSystem, Word};
@@ -28,6 +29,8 @@ pub struct Reduced {
     pub equations: usize,
     /// How many interactions were made.
     pub interactions: u64,
+    /// How often each rule fired, in the order of the rules.
+    pub by_rule: Vec<u64>,
     /// How many places the machine had at the end, the free ones too.
     pub places: u64,
     /// Why the reduction ended.
@@ -39,6 +42,7 @@ pub struct Reduced {
 pub(crate) struct Stopped {
     pub(crate) machine: Machine,
     given: Vec<u64>,
+    pub(crate) by_rule: Vec<u64>,
     pub(crate) places: u64,
     pub(crate) end: End,
 }
@@ -52,7 +56,8 @@ pub fn reduce_in_place<V: Watch>(
     watch: &V,
 ) -> Result<Reduced, AllocError>
     ensures { IfOk result (λ reduced. (answer : Configuration)
-        × IsReached system.now bounds answer reduced.end reduced.interactions reduced.places
+        × IsReachedBy system.now bounds answer reduced.end reduced.interactions reduced.places
+        reduced.by_rule.items
         × Writes system.now.rules.symbols reduced.words.items reduced.terms reduced.equations answer) }
 {
     let stopped = run_system(alloc, system, bounds, watch)?;
@@ -67,9 +72,11 @@ pub(crate) fn read_stopped(
     stopped: Stopped,
 ) -> Result<Reduced, AllocError>
     ensures reached { IfOk result (λ reduced. (bounds : AnyBounds)
-        → HasStopped system.now bounds stopped.given.items stopped.machine stopped.end stopped.places
+        → HasStopped system.now bounds stopped.given.items stopped.by_rule.items
+        stopped.machine stopped.end stopped.places
         → (answer : Configuration)
-        × IsReached system.now bounds answer reduced.end reduced.interactions reduced.places
+        × IsReachedBy system.now bounds answer reduced.end reduced.interactions reduced.places
+        reduced.by_rule.items
         × Writes system.now.rules.symbols reduced.words.items reduced.terms reduced.equations answer) }
     ensures places { IfOk result (λ reduced. reduced.places ≡ stopped.places) }
 {
@@ -88,6 +95,7 @@ pub(crate) fn read_stopped(
         terms: read.terms,
         equations: read.equations,
         interactions,
+        by_rule: stopped.by_rule,
         places,
         end,
     })
@@ -101,17 +109,20 @@ pub(crate) fn run_system<V: Watch>(
     watch: &V,
 ) -> Result<Stopped, AllocError>
     ensures { IfOk result (λ stopped. HasStopped system.now bounds stopped.given.items
-        stopped.machine stopped.end stopped.places) }
+        stopped.by_rule.items stopped.machine stopped.end stopped.places) }
 {
     crate::laws::what_a_machine_holds_is_reached();
     systems_are_sound(system);
     let (program, numbers) = compile(alloc, system.rules())?;
     let first = first_plan(alloc, system)?;
     let mut machine = begin(alloc, system, &program, &first)?;
+    let mut by_rule = no_counts(alloc, system.rules().rules().len())?;
     let (end, places) = run_in_pieces(&mut machine, &program, bounds, watch);
+    sum_by_rule(&mut by_rule, &numbers, machine.fired());
     Ok(Stopped {
         machine,
         given: first.given,
+        by_rule,
         places,
         end,
     })

@@ -28,6 +28,8 @@ pub struct Outcome {
     pub end: End,
     /// How many interactions were made.
     pub interactions: u64,
+    /// How often each rule fired, in the order of the rules.
+    pub by_rule: Vec<u64>,
     /// How many places there were at the end, the free ones too.
     pub places: u64,
     /// The symbols of the first equation of two agents, where the end is quiet.
@@ -98,6 +100,7 @@ fn reached_line<V: Watch>(
         let outcome = Outcome {
             end: stopped.end,
             interactions: stopped.machine.interactions(),
+            by_rule: stopped.by_rule,
             places: stopped.places,
             stuck: None,
         };
@@ -110,6 +113,7 @@ fn reached_line<V: Watch>(
     let outcome = Outcome {
         end: reduced.end,
         interactions: reduced.interactions,
+        by_rule: reduced.by_rule,
         places: reduced.places,
         stuck,
     };

@@ -15,6 +15,7 @@ use Rattle.ic_machine.specs.Separate.{IsSeparate}
 use Rattle.ic_meaning.specs.Plans.{ArePlansOf}
 use Rattle.ic_in_place.specs.declared.running.Bounds.{Bounds}
 use Rattle.ic_in_place.specs.declared.running.End.{End}
+use Rattle.ic_in_place.specs.Counting.{AreCounts}
 use Rattle.ic_in_place.specs.Holding.{Holds}
 use Rattle.ic_in_place.specs.declared.running.End.TheVariants.{Quiet, Steps, Nodes, Limit, Memory}
 use Rattle.ic_in_place.specs.Running.{IsWatched}
@@ -38,6 +39,7 @@ pub record IsBegun (p : Plans) (given : ℕ) (plan : Planned) (operands : List �
   pub starts : Starts p given plan operands m
   pub aside : m.aside ≡ []
   pub none : m.interactions ≡ 0
+  pub counts : m.counts ≡ map (λ plan. 0) p.plans
   pub separate : IsSeparate p.arities m.interface (pieces m)
 
 -- what a stop says of the net that a machine holds, and of the pairs that are left
@@ -49,8 +51,8 @@ StopsBy bounds p m places Limit = Unit {0}
 StopsBy bounds p m places Memory = Unit {0}
 
 -- A machine began with the configuration of a system, whose names that occur once are given, and has stopped.
-pub record HasStopped (s : SystemParts) (bounds : Bounds) (given : List ℕ) (m : Net) (end : End)
-    (places : ℕ) : Type 0 where
+pub record HasStopped (s : SystemParts) (bounds : Bounds) (given by_rule : List ℕ) (m : Net)
+    (end : End) (places : ℕ) : Type 0 where
   pub sound : IsSound s
   pub below : AllByRecursion (λ x. x < 2 ^ 62) given
   pub plans : Plans
@@ -61,6 +63,7 @@ pub record HasStopped (s : SystemParts) (bounds : Bounds) (given : List ℕ) (m 
   pub fired : List ℕ
   pub held : Holds s.rules plans s.config given fired m
   pub counted : m.interactions ≡ length fired
+  pub counts : AreCounts (length s.rules.rules) fired by_rule
   pub within : m.interactions ≤ bounds.steps
   pub all : places ≡ m.names + sum m.agents
   pub enough : length m.places ≤ places

@@ -14,7 +14,7 @@ use Rattle.ic_meaning.specs.Nets.{net_of, AreNetPieces}
 use Rattle.ic_readback.specs.declared.token.Token.{Token}
 use Rattle.ic_readback.specs.Reading.{flat_words, configuration_read}
 use Rattle.ic_in_place.specs.Holding.{AreGiven}
-use Rattle.ic_in_place.specs.Reducing.{IsPutTogether, IsReached}
+use Rattle.ic_in_place.specs.Reducing.{IsPutTogether, IsReachedBy}
 use Rattle.ic_in_place.specs.inner.Numbering.{written_numbers, IsNumbered}
 use Rattle.ic_in_place.proofs.Answering.{AnswerLaws, answered_so}
 use Rattle.ic_in_place.proofs.Interacts.{can_interact}
@@ -66,6 +66,6 @@ returns-clause-reached c = λ bounds stopped.
     let numbered : AllByRecursion (IsNumbered given) read.tokens.items =
     subst (λ (g : List ℕ). AllByRecursion (IsNumbered g) read.tokens.items) c.deref-2.ensures.value
     (subst (λ (ts : List Token). AllByRecursion (IsNumbered c.deref-2.result.now) ts) c.deref-3.ensures.value c.in_ok-words.ensures.numbered) in
-    let answer = answered_so laws s bounds given m end places stopped read.tokens.items read.terms read.equations c.in_ok-renumbered_words.field-0.items
+    let answer = answered_so laws s bounds given m end places c.args.stopped.by_rule.items stopped read.tokens.items read.terms read.equations c.in_ok-renumbered_words.field-0.items
     net next quiet (c.in_ok-read.ensures.whole n arities) (c.in_ok-read.ensures.counted n arities) numbered written in
-    (answer.0, subst (λ (k : ℕ). IsReached s bounds answer.0 end k places) (sym c.interactions-interactions.ensures) answer.1, answer.2)
+    (answer.0, subst (λ (k : ℕ). IsReachedBy s bounds answer.0 end k places c.args.stopped.by_rule.items) (sym c.interactions-interactions.ensures) answer.1, answer.2)

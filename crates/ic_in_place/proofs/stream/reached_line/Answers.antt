@@ -5,7 +5,7 @@ use Rattle.ic_flat.specs.Words.{is_word_over}
 use Rattle.ic_text.specs.SystemSource.{IsSystemPhrase, system_words}
 use Rattle.ic_text.specs.Words.{written_system}
 use Rattle.ic_text.specs.lemmas.PlacedWithin.{placed-within}
-use Rattle.ic_in_place.specs.Reducing.{IsReached}
+use Rattle.ic_in_place.specs.Reducing.{IsReachedBy}
 use Rattle.ic_in_place.proofs.Answering.{unread_so}
 use Rattle.ic_in_place.proofs.Written.{line_so, stuck_so}
 use Rattle.ic_in_place.proofs.stream.reached_line.Goals as goal
@@ -45,12 +45,12 @@ returns-then-not-is_written-clause-line g c =
     let s = c.in-Ok.found in
     let stopped = c.in_ok-stopped.stopped in
     let unwritten : c.is_written.result ≡ false = cc c.if-not-is_written.true in
-    let unread = unread_so c.one_net_is_an_equivalence.ensures.itself s c.args.bounds stopped.given.items stopped.machine stopped.end stopped.places c.args.partial c.in_ok-stopped.ensures (sym c.is_written.ensures ∙ unwritten) in
+    let unread = unread_so c.one_net_is_an_equivalence.ensures.itself s c.args.bounds stopped.given.items stopped.machine stopped.end stopped.places stopped.by_rule.items c.args.partial c.in_ok-stopped.ensures (sym c.is_written.ensures ∙ unwritten) in
     record {
       system = s;
       answer = unread.answer;
       reads = c.in-Ok.ensures.read;
-      reached = subst (λ (k : ℕ). IsReached s c.args.bounds unread.answer stopped.end k stopped.places) (sym c.interactions.ensures) unread.reached;
+      reached = subst (λ (k : ℕ). IsReachedBy s c.args.bounds unread.answer stopped.end k stopped.places stopped.by_rule.items) (sym c.interactions.ensures) unread.reached;
       prints = c.new.ensures.items ∙ unread.prints;
       stuck = unread.stuck;
     }
