@@ -15,10 +15,11 @@ check: # the gate, ./gate: proves all from nothing, and tries edits, rows and th
 	./gate
 trials: # tries the program that ./icserve runs
 	ICSERVE=$$(ICSERVE_BUILD=found ./icserve) python3 trials
-install: # puts the program into PREFIX/bin (if not said ~/.local/bin), the proved one where it is there, and icserve-film
-	bin="$(DESTDIR)$(patsubst ~/%,$(HOME)/%,$(PREFIX))/bin"
-	install -vD "$$(ICSERVE_BUILD=found ./icserve)" "$$bin/icserve"
-	install -vD film "$$bin/icserve-film"
+install: # puts the program into PREFIX/bin (if not said ~/.local/bin), the proved one where it is there, icserve-film, its manual page and its completions
+	to="$(DESTDIR)$(patsubst ~/%,$(HOME)/%,$(PREFIX))"
+	install -vD "$$(ICSERVE_BUILD=found ./icserve)" "$$to/bin/icserve"
+	install -vD film "$$to/bin/icserve-film"
+	python3 share/pages.py "$$to/bin/icserve" "$$to"
 bench: # times the program on the systems of docs/speed.md; WITH=.. hands on words, of which WITH=--help tells
 	python3 bench "$$(ICSERVE_BUILD=found ./icserve)" $(WITH)
 clean: # removes what was built, and what is kept of proofs

@@ -61,7 +61,7 @@ class Rows(Trial):
             self.refuses("draw", given=" " * (262_145 - len(text)) + text, line="bad limit", status=1)
 
     def test_words_that_ask_for_nothing_have_status_2(self):
-        for words in (["draw", "F"], ["draw", "--rounds", "1"], ["draw", "--format", "svg"]):
+        for words in (["draw", "F", "G"], ["draw", "--rounds", "1"], ["draw", "--format", "svg"]):
             ran = run(*words, given="<|>")
             self.equals(ran.command, "how it ends", (2, b"", b"error:"), (ran.status, ran.out, ran.err[:6]))
 

@@ -97,6 +97,23 @@ class Faults(Stops):
 
         return self.in_turn("growth", ("once", "on"), attempt)
 
+    def test_each_growth_over_a_file_of_a_text_is_refused_in_turn(self):
+        """A text that is answered, one that is refused, and a file that is missing: lines behind the first may be wanting."""
+        answered, refused = self.room / "answered", self.room / "refused"
+        answered.write_text("<r|r=S(s),s=Z>")
+        refused.write_text("<x|x=A(x)>")
+        for path in (answered, refused, self.room / "missing"):
+            well = run("settle", path)
+
+            def attempt(env, call, path=path, well=well):
+                ran = run("settle", path, env=env)
+                if (ran.status, ran.out, ran.err.split(b"\n")[0]) != (well.status, well.out, well.err.split(b"\n")[0]):
+                    self.is_fault(ran, call, (4, "memory"))
+                    self.agrees(ran.command, f"standard output, where it went wrong: {call}", b"", ran.out)
+
+            self.in_turn("growth", ("once", "on"), attempt)
+        self.have_come((4, "memory"))
+
     def test_each_growth_of_dump_and_of_inspect_is_refused_in_turn(self):
         """Of a disk with two jobs, one of which has a name that may not stand in a text. Its newest slot alone is looked at."""
         disk = self.disk()

@@ -59,6 +59,8 @@ class Launcher(Trial):
         self.source.write_text("first\n")
         self.tools = self.room / "tools"
         self.tools.mkdir()
+        (self.room / "share").mkdir()
+        (self.room / "share/pages.py").write_text("")
         for path, text in ((self.tools / "rt", RT), (self.room / "build.py", BUILD)):
             path.write_text(text)
             path.chmod(0o755)

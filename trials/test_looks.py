@@ -226,7 +226,7 @@ class Endings(Trial):
             self.ended(ran, err=["icserve: bad limit"], status=1)
 
     def test_words_that_ask_for_nothing_have_status_2(self):
-        for words in (["reduce", "F"], ["reduce", "--format", "svg"], ["trace", "--rounds"], ["trace", "--rounds", "-1"]):
+        for words in (["reduce", "F", "G"], ["reduce", "--format", "svg"], ["trace", "--rounds"], ["trace", "--rounds", "-1"]):
             ran = run(*words, given=TWO)
             self.equals(ran.command, "how it ends", (2, b"", b"error:"), (ran.status, ran.out, ran.err[:6]))
         wanted = "error: invalid value 'png' for '--format <FORMAT>'\n  [possible values: tsv, svg]\n\n"

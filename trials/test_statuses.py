@@ -89,7 +89,9 @@ class Words(Trial):
         (),
         ("serve",),
         ("create",),
-        ("settle", "more"),
+        ("settle", "one", "more"),
+        ("help", "helps"),
+        ("help", "settle", "once"),
         ("once", "--disk", "F"),
         ("settles",),
         ("--disk", "F", "serve"),
@@ -132,7 +134,7 @@ class Words(Trial):
                 self.equals(ran.command, "the files that it made", [], os.listdir(self.room))
 
     def test_help_and_version_go_to_standard_output(self):
-        helps = [["--help"], ["-h"], *([word, "--help"] for word in ("settle", "once", "create", "serve", "attend"))]
+        helps = [["--help"], ["-h"], *([word, "--help"] for word in ("settle", "once", "create", "serve", "attend")), ["help"], ["help", "batch"]]
         for words in (*helps, ["--version"], ["-V"]):
             with self.subTest(words=words):
                 ran = run(*words)

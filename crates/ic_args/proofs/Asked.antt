@@ -1,77 +1,105 @@
 -- What is answered to the command that was met is what the words name.
-use Rattle.std.proofs.Common.{◌≡◌, ◌≢◌, ◌∙◌, List, [], ◌∷◌, true, codes, refl, sym, ap, ap₂, inl, inr, subst}
-use Rattle.std.specs.Prelude.{Result, Ok, Err, IfOk}
+use Rattle.std.proofs.Common.{◌≡◌, ◌≢◌, ◌∙◌, List, [], ◌∷◌, Bool, true, false, cond, ne_eqb, arith, length, Option, None, Some, codes, option_map, refl, sym, ap, ap₂, inl, inr, subst}
+use Rattle.std.specs.Prelude.{Result, Ok, Err, IfOk, string_bytes}
+use Rattle.std.specs.Str.{bytes_eq}
 use Rattle.clap.specs.Words.{IsAmong, Text, fault_of, subcommand_of}
+use Rattle.clap.specs.Walk.{is_empty}
 use Rattle.clap.specs.Kinds.{Kinds, or_else}
+use Rattle.clap.proofs.OnLiterals.{clap_on_literals}
 use Rattle.clap.specs.declared.error.ErrorKind.{ErrorKind}
-use Rattle.clap.specs.declared.error.ErrorKind.TheVariants.{DisplayHelp, DisplayVersion, InvalidValue, OutOfMemory}
-use Rattle.ic_args.specs.Help.{help_of}
-use Rattle.ic_args.specs.Words.{AnswersWords, GivesHelp, GivesTask, GivesVersion, Names, command_line, format_word, is_format, mistakes_of, most_rounds, most_steps, reduce_mistakes}
-use Rattle.ic_args.specs.inner.Asking.{AnswersRefused, Asks}
+use Rattle.clap.specs.declared.error.ErrorKind.TheVariants.{DisplayHelp, DisplayVersion, InvalidSubcommand, InvalidValue, OutOfMemory}
+use Rattle.ic_args.specs.Help.{help_by, help_of}
+use Rattle.ic_args.specs.Words.{AnswersWords, GivesHelp, GivesTask, GivesVersion, Names, command_line, file_met, format_word, help_mistakes, is_format, mistakes_of, most_rounds, most_steps, reduce_mistakes, value_if_met}
+use Rattle.ic_args.specs.inner.Asking.{AnswersRefused, Asks, IsMet}
 use Rattle.ic_args.specs.declared.words.Task.{Task}
 use Rattle.ic_args.specs.declared.words.Task.TheVariants.{Settle, Once, Create, Serve, Attend, Reduce, ReduceByRounds, Trace, Draw, Dump, Inspect, Check, Batch, Help, Version}
 use Rattle.ic_args.specs.declared.words.TraceFormat.{TraceFormat}
 use Rattle.ic_args.specs.declared.words.TraceFormat.TheVariants.{Tsv, Svg}
 use Rattle.ic_args.specs.declared.words.WordsFault.{WordsFault}
 use Rattle.ic_args.specs.declared.words.WordsFault.TheVariants.{Words, Memory}
-use Rattle.ic_args.proofs.BatchNumbers.{batch_numbers}
-use Rattle.ic_args.proofs.AttendNumbers.{attend_numbers}
-use Rattle.ic_args.proofs.ReduceNumbers.{reduce_numbers}
-use Rattle.ic_args.proofs.TraceNumbers.{trace_numbers}
-use Rattle.ic_args.proofs.ServeNumbers.{serve_numbers}
+use Rattle.ic_args.proofs.OptionNumbers.{attend_numbers, batch_numbers, reduce_numbers, serve_numbers, trace_numbers}
 use Rattle.ic_args.proofs.Spelt.{number_named}
 use Rattle.ic_args.proofs.WordsExact.{IsCalled}
-use Rattle.ic_args.proofs.WordsLaws.{a_format, among_all, another_format, asked_alone, called_as, help_asked, in_place_free, no_other_alone, no_own, no_reduce, of_reduce, once_met, once_taken, reduce_wrong, rounds_free, settle_met, settle_taken, taken_alone, version_asked}
+use Rattle.ic_args.proofs.WordsLaws.{a_format, among_all, another_format, asked_alone, called_as, help_asked, in_place_free, is_help, no_help, no_other_alone, no_own, no_reduce, of_reduce, once_met, once_taken, reduce_wrong, rounds_free, settle_met, settle_taken, taken_alone, version_asked}
 
 pub record IsAnswer (words : List Text) (r : Result Task WordsFault) : Type 0 where
   pub answers : AnswersWords (mistakes_of words) r
   pub named : IfOk r (Names words)
-  pub settle : words ≡ codes "settle" ∷ [] → GivesTask Settle r
-  pub once : words ≡ codes "once" ∷ [] → GivesTask Once r
+  pub settle : words ≡ codes "settle" ∷ [] → GivesTask (Settle None) r
+  pub once : words ≡ codes "once" ∷ [] → GivesTask (Once None) r
 
 format_is : (format : TraceFormat) → is_format (format_word format) ≡ true
 format_is Tsv = refl
 format_is Svg = refl
 
+-- words of which a command was met aren't another one alone
+not_settle : (words : List Text) (name : Text) → IsMet name (subcommand_of command_line words) → bytes_eq name (codes "settle") ≡ false → words ≡ codes "settle" ∷ [] → ⊥
+not_settle words name met other is = no_other_alone name (codes "settle") words met settle_met other is
+
+not_once : (words : List Text) (name : Text) → IsMet name (subcommand_of command_line words) → bytes_eq name (codes "once") ≡ false → words ≡ codes "once" ∷ [] → ⊥
+not_once words name met other is = no_other_alone name (codes "once") words met once_met other is
+
+-- one mistake, which asks for nothing
+wrong : (words : List Text) (kind : ErrorKind) → mistakes_of words ≡ kind ∷ [] → kind ≢ DisplayHelp → kind ≢ DisplayVersion
+    → (mistake : ErrorKind) × IsAmong mistake (mistakes_of words) × (mistake ≢ DisplayHelp) × (mistake ≢ DisplayVersion)
+wrong words kind is help version = (kind, subst (IsAmong kind) (sym is) (inl refl), help, version)
+
+-- a command alone names no file
+settle_alone : file_met (subcommand_of command_line (codes "settle" ∷ [])) ≡ None
+unfolding clap_on_literals
+settle_alone = refl
+
+once_alone : file_met (subcommand_of command_line (codes "once" ∷ [])) ≡ None
+unfolding clap_on_literals
+once_alone = refl
+
+none_named : {S : Type 0} (f : S → Text) (o : Option S) → option_map f o ≡ None → o ≡ None
+none_named f None is = refl
+none_named f (Some x) is = cc
+
+-- the help that is asked for, by whether the parser finds no mistake
+abbrev helped : List Text → Bool → Text
+helped words free = cond free (help_by (value_if_met (codes "word") (subcommand_of command_line words))) (help_of words)
+
 pub asked : (words : List Text) → fault_of command_line words ≡ [] → (name : Text) × IsCalled name words → (r : Result Task WordsFault)
     → Asks (subcommand_of command_line words) r → IsAnswer words r
-asked words none called (Ok Settle) asks = record {
-  answers = ap₂ or_else none (no_own (codes "settle") _ asks refl refl);
-  named = called_as called.0 (codes "settle") words called.1 asks;
-  settle = λ is. refl;
-  once = λ is. absurd (no_other_alone (codes "settle") (codes "once") words asks once_met refl is);
+asked words none called (Ok (Settle file)) asks = record {
+  answers = ap₂ or_else none (no_own (codes "settle") _ asks.0 refl refl refl);
+  named = (called_as called.0 (codes "settle") words called.1 asks.0, asks.1);
+  settle = λ is. ap Settle (none_named string_bytes file (asks.1 ∙ ap file_met (ap (subcommand_of command_line) is) ∙ settle_alone));
+  once = λ is. absurd (not_once words (codes "settle") asks.0 refl is);
 }
-asked words none called (Ok Once) asks = record {
-  answers = ap₂ or_else none (no_own (codes "once") _ asks refl refl);
-  named = called_as called.0 (codes "once") words called.1 asks;
-  settle = λ is. absurd (no_other_alone (codes "once") (codes "settle") words asks settle_met refl is);
-  once = λ is. refl;
+asked words none called (Ok (Once file)) asks = record {
+  answers = ap₂ or_else none (no_own (codes "once") _ asks.0 refl refl refl);
+  named = (called_as called.0 (codes "once") words called.1 asks.0, asks.1);
+  settle = λ is. absurd (not_settle words (codes "once") asks.0 refl is);
+  once = λ is. ap Once (none_named string_bytes file (asks.1 ∙ ap file_met (ap (subcommand_of command_line) is) ∙ once_alone));
 }
 asked words none called (Ok (Create disk overwrite)) asks = record {
-  answers = ap₂ or_else none (no_own (codes "create") _ asks.0 refl refl);
+  answers = ap₂ or_else none (no_own (codes "create") _ asks.0 refl refl refl);
   named = (called_as called.0 (codes "create") words called.1 asks.0, asks.1, asks.2);
-  settle = λ is. absurd (no_other_alone (codes "create") (codes "settle") words asks.0 settle_met refl is);
-  once = λ is. absurd (no_other_alone (codes "create") (codes "once") words asks.0 once_met refl is);
+  settle = λ is. absurd (not_settle words (codes "create") asks.0 refl is);
+  once = λ is. absurd (not_once words (codes "create") asks.0 refl is);
 }
 asked words none called (Ok (Serve disk workers every)) asks =
     let begins = called_as called.0 (codes "serve") words called.1 asks.0 in
     let spelt = serve_numbers words none begins in
     record {
-      answers = ap₂ or_else none (no_own (codes "serve") _ asks.0 refl refl);
+      answers = ap₂ or_else none (no_own (codes "serve") _ asks.0 refl refl refl);
       named = (
         begins,
         asks.1,
         number_named (codes "workers") 1 64 workers words _ spelt.0 refl asks.2,
         number_named (codes "every") 1 1000000 every words _ spelt.1 refl asks.3,
       );
-      settle = λ is. absurd (no_other_alone (codes "serve") (codes "settle") words asks.0 settle_met refl is);
-      once = λ is. absurd (no_other_alone (codes "serve") (codes "once") words asks.0 once_met refl is);
+      settle = λ is. absurd (not_settle words (codes "serve") asks.0 refl is);
+      once = λ is. absurd (not_once words (codes "serve") asks.0 refl is);
     }
 asked words none called (Ok (Attend disk runners turns workers scripts)) asks =
     let begins = called_as called.0 (codes "attend") words called.1 asks.0 in
     let spelt = attend_numbers words none begins in
     record {
-      answers = ap₂ or_else none (no_own (codes "attend") _ asks.0 refl refl);
+      answers = ap₂ or_else none (no_own (codes "attend") _ asks.0 refl refl refl);
       named = record {
         begins = begins;
         disk = asks.1;
@@ -80,14 +108,14 @@ asked words none called (Ok (Attend disk runners turns workers scripts)) asks =
         workers = number_named (codes "workers") 1 64 workers words _ spelt.2 refl asks.4;
         scripts = asks.5;
       };
-      settle = λ is. absurd (no_other_alone (codes "attend") (codes "settle") words asks.0 settle_met refl is);
-      once = λ is. absurd (no_other_alone (codes "attend") (codes "once") words asks.0 once_met refl is);
+      settle = λ is. absurd (not_settle words (codes "attend") asks.0 refl is);
+      once = λ is. absurd (not_once words (codes "attend") asks.0 refl is);
     }
-asked words none called (Ok (Reduce steps nodes partial stats)) asks =
-    let begins = called_as called.0 (codes "reduce") words called.1 asks.0 in
+asked words none called (Ok (Reduce steps nodes partial stats file)) asks =
+    let begins = called_as called.0 (codes "reduce") words called.1 asks.0.0 in
     let spelt = reduce_numbers words none begins in
     record {
-      answers = ap₂ or_else none (of_reduce (subcommand_of command_line words) asks.0 ∙ in_place_free (subcommand_of command_line words) asks.1);
+      answers = ap₂ or_else none (of_reduce (subcommand_of command_line words) asks.0.0 ∙ in_place_free (subcommand_of command_line words) asks.1);
       named = record {
         begins = begins;
         alone = asks.1;
@@ -95,62 +123,63 @@ asked words none called (Ok (Reduce steps nodes partial stats)) asks =
         nodes = ((λ given. number_named (codes "nodes") 0 most_steps nodes words _ (spelt.3 given) refl (asks.3.0 given)), asks.3.1);
         partial = asks.4;
         stats = asks.5;
+        file = asks.0.1;
       };
-      settle = λ is. absurd (no_other_alone (codes "reduce") (codes "settle") words asks.0 settle_met refl is);
-      once = λ is. absurd (no_other_alone (codes "reduce") (codes "once") words asks.0 once_met refl is);
+      settle = λ is. absurd (not_settle words (codes "reduce") asks.0.0 refl is);
+      once = λ is. absurd (not_once words (codes "reduce") asks.0.0 refl is);
     }
-asked words none called (Ok (ReduceByRounds rounds workers partial)) asks =
-    let begins = called_as called.0 (codes "reduce") words called.1 asks.0 in
+asked words none called (Ok (ReduceByRounds rounds workers partial file)) asks =
+    let begins = called_as called.0 (codes "reduce") words called.1 asks.0.0 in
     let spelt = reduce_numbers words none begins in
     record {
-      answers = ap₂ or_else none (of_reduce (subcommand_of command_line words) asks.0 ∙ rounds_free (subcommand_of command_line words) asks.1 asks.2);
+      answers = ap₂ or_else none (of_reduce (subcommand_of command_line words) asks.0.0 ∙ rounds_free (subcommand_of command_line words) asks.1 asks.2);
       named = (
-        begins,
+        (begins, asks.0.1),
         asks.2,
         number_named (codes "rounds") 0 most_rounds rounds words _ (spelt.0 asks.1) refl asks.3,
         ((λ given. number_named (codes "workers") 1 64 workers words _ (spelt.1 given) refl (asks.4.0 given)), asks.4.1),
         asks.5,
       );
-      settle = λ is. absurd (no_other_alone (codes "reduce") (codes "settle") words asks.0 settle_met refl is);
-      once = λ is. absurd (no_other_alone (codes "reduce") (codes "once") words asks.0 once_met refl is);
+      settle = λ is. absurd (not_settle words (codes "reduce") asks.0.0 refl is);
+      once = λ is. absurd (not_once words (codes "reduce") asks.0.0 refl is);
     }
-asked words none called (Ok (Trace rounds format)) asks =
-    let begins = called_as called.0 (codes "trace") words called.1 asks.0 in
+asked words none called (Ok (Trace rounds format file)) asks =
+    let begins = called_as called.0 (codes "trace") words called.1 asks.0.0 in
     record {
-      answers = ap₂ or_else none (ap₂ or_else (a_format (subcommand_of command_line words) (ap is_format asks.2 ∙ format_is format)) (no_reduce (codes "trace") _ asks.0 refl));
-      named = (begins, number_named (codes "rounds") 0 most_rounds rounds words _ (trace_numbers words none begins) refl asks.1, asks.2);
-      settle = λ is. absurd (no_other_alone (codes "trace") (codes "settle") words asks.0 settle_met refl is);
-      once = λ is. absurd (no_other_alone (codes "trace") (codes "once") words asks.0 once_met refl is);
+      answers = ap₂ or_else none (ap₂ or_else (a_format (subcommand_of command_line words) (ap is_format asks.2 ∙ format_is format)) (ap₂ or_else (no_reduce (codes "trace") _ asks.0.0 refl) (no_help (codes "trace") _ asks.0.0 refl)));
+      named = ((begins, asks.0.1), number_named (codes "rounds") 0 most_rounds rounds words _ (trace_numbers words none begins) refl asks.1, asks.2);
+      settle = λ is. absurd (not_settle words (codes "trace") asks.0.0 refl is);
+      once = λ is. absurd (not_once words (codes "trace") asks.0.0 refl is);
     }
-asked words none called (Ok Draw) asks = record {
-  answers = ap₂ or_else none (no_own (codes "draw") _ asks refl refl);
-  named = called_as called.0 (codes "draw") words called.1 asks;
-  settle = λ is. absurd (no_other_alone (codes "draw") (codes "settle") words asks settle_met refl is);
-  once = λ is. absurd (no_other_alone (codes "draw") (codes "once") words asks once_met refl is);
+asked words none called (Ok (Draw file)) asks = record {
+  answers = ap₂ or_else none (no_own (codes "draw") _ asks.0 refl refl refl);
+  named = (called_as called.0 (codes "draw") words called.1 asks.0, asks.1);
+  settle = λ is. absurd (not_settle words (codes "draw") asks.0 refl is);
+  once = λ is. absurd (not_once words (codes "draw") asks.0 refl is);
 }
 asked words none called (Ok (Dump disk names)) asks = record {
-  answers = ap₂ or_else none (no_own (codes "dump") _ asks.0 refl refl);
+  answers = ap₂ or_else none (no_own (codes "dump") _ asks.0 refl refl refl);
   named = (called_as called.0 (codes "dump") words called.1 asks.0, asks.1, asks.2);
-  settle = λ is. absurd (no_other_alone (codes "dump") (codes "settle") words asks.0 settle_met refl is);
-  once = λ is. absurd (no_other_alone (codes "dump") (codes "once") words asks.0 once_met refl is);
+  settle = λ is. absurd (not_settle words (codes "dump") asks.0 refl is);
+  once = λ is. absurd (not_once words (codes "dump") asks.0 refl is);
 }
 asked words none called (Ok (Inspect disk)) asks = record {
-  answers = ap₂ or_else none (no_own (codes "inspect") _ asks.0 refl refl);
+  answers = ap₂ or_else none (no_own (codes "inspect") _ asks.0 refl refl refl);
   named = (called_as called.0 (codes "inspect") words called.1 asks.0, asks.1);
-  settle = λ is. absurd (no_other_alone (codes "inspect") (codes "settle") words asks.0 settle_met refl is);
-  once = λ is. absurd (no_other_alone (codes "inspect") (codes "once") words asks.0 once_met refl is);
+  settle = λ is. absurd (not_settle words (codes "inspect") asks.0 refl is);
+  once = λ is. absurd (not_once words (codes "inspect") asks.0 refl is);
 }
 asked words none called (Ok (Check files)) asks = record {
-  answers = ap₂ or_else none (no_own (codes "check") _ asks.0 refl refl);
+  answers = ap₂ or_else none (no_own (codes "check") _ asks.0 refl refl refl);
   named = (called_as called.0 (codes "check") words called.1 asks.0, asks.1);
-  settle = λ is. absurd (no_other_alone (codes "check") (codes "settle") words asks.0 settle_met refl is);
-  once = λ is. absurd (no_other_alone (codes "check") (codes "once") words asks.0 once_met refl is);
+  settle = λ is. absurd (not_settle words (codes "check") asks.0 refl is);
+  once = λ is. absurd (not_once words (codes "check") asks.0 refl is);
 }
 asked words none called (Ok (Batch disk rounds every workers lines)) asks =
     let begins = called_as called.0 (codes "batch") words called.1 asks.0 in
     let spelt = batch_numbers words none begins in
     record {
-      answers = ap₂ or_else none (no_own (codes "batch") _ asks.0 refl refl);
+      answers = ap₂ or_else none (no_own (codes "batch") _ asks.0 refl refl refl);
       named = record {
         begins = begins;
         disk = asks.1;
@@ -159,25 +188,37 @@ asked words none called (Ok (Batch disk rounds every workers lines)) asks =
         workers = number_named (codes "workers") 1 64 workers words _ spelt.2 refl asks.4;
         lines = asks.5;
       };
-      settle = λ is. absurd (no_other_alone (codes "batch") (codes "settle") words asks.0 settle_met refl is);
-      once = λ is. absurd (no_other_alone (codes "batch") (codes "once") words asks.0 once_met refl is);
+      settle = λ is. absurd (not_settle words (codes "batch") asks.0 refl is);
+      once = λ is. absurd (not_once words (codes "batch") asks.0 refl is);
     }
-asked words none called (Ok (Help text)) asks = absurd asks
+asked words none called (Ok (Help text)) asks = record {
+  answers = subst (IsAmong DisplayHelp) (sym (ap₂ or_else none (is_help (subcommand_of command_line words) true asks.0 asks.1))) (inl refl);
+  named = asks.2 ∙ sym (ap (λ (kinds : Kinds). helped words (is_empty kinds)) none);
+  settle = λ is. absurd (not_settle words (codes "help") asks.0 refl is);
+  once = λ is. absurd (not_once words (codes "help") asks.0 refl is);
+}
 asked words none called (Ok (Version text)) asks = absurd asks
 asked words none called (Err (Words text)) (inl asks) = record {
-  answers = (InvalidValue, subst (IsAmong InvalidValue) (sym (ap₂ or_else none (ap (λ (ks : Kinds). or_else ks (reduce_mistakes (subcommand_of command_line words))) (another_format _ asks.0 asks.1)))) (inl refl), λ e. cc, λ e. cc);
+  answers = wrong words InvalidValue (ap₂ or_else none (ap (λ (ks : Kinds). or_else ks (or_else (reduce_mistakes (subcommand_of command_line words)) (help_mistakes (subcommand_of command_line words)))) (another_format _ asks.0 asks.1)))
+      (λ e. cc) (λ e. cc);
   named = tt;
-  settle = λ is. no_other_alone (codes "trace") (codes "settle") words asks.0 settle_met refl is;
-  once = λ is. no_other_alone (codes "trace") (codes "once") words asks.0 once_met refl is;
+  settle = λ is. not_settle words (codes "trace") asks.0 refl is;
+  once = λ is. not_once words (codes "trace") asks.0 refl is;
 }
-asked words none called (Err (Words text)) (inr asks) =
-    let wrong = reduce_wrong (subcommand_of command_line words) asks.1 in
+asked words none called (Err (Words text)) (inr (inl asks)) =
+    let is = reduce_wrong (subcommand_of command_line words) asks.1 in
     record {
-      answers = (wrong.0, subst (IsAmong wrong.0) (sym (ap₂ or_else none (of_reduce (subcommand_of command_line words) asks.0 ∙ wrong.1))) (inl refl), wrong.2.0, wrong.2.1);
+      answers = wrong words is.0 (ap₂ or_else none (of_reduce (subcommand_of command_line words) asks.0 ∙ is.1)) is.2.0 is.2.1;
       named = tt;
-      settle = λ is. no_other_alone (codes "reduce") (codes "settle") words asks.0 settle_met refl is;
-      once = λ is. no_other_alone (codes "reduce") (codes "once") words asks.0 once_met refl is;
+      settle = λ alone. not_settle words (codes "reduce") asks.0 refl alone;
+      once = λ alone. not_once words (codes "reduce") asks.0 refl alone;
     }
+asked words none called (Err (Words text)) (inr (inr asks)) = record {
+  answers = wrong words InvalidSubcommand (ap₂ or_else none (is_help (subcommand_of command_line words) false asks.0 asks.1)) (λ e. cc) (λ e. cc);
+  named = tt;
+  settle = λ is. not_settle words (codes "help") asks.0 refl is;
+  once = λ is. not_once words (codes "help") asks.0 refl is;
+}
 asked words none called (Err Memory) asks = record { answers = tt; named = tt; settle = λ is. tt; once = λ is. tt }
 
 -- ---- words that the parser refuses
@@ -185,18 +226,22 @@ asked words none called (Err Memory) asks = record { answers = tt; named = tt; s
 pub record IsNotTaken (words : List Text) (r : Result Task WordsFault) : Type 0 where
   pub answers : AnswersWords (mistakes_of words) r
   pub named : IfOk r (Names words)
-  pub settle : words ≡ codes "settle" ∷ [] → GivesTask Settle r
-  pub once : words ≡ codes "once" ∷ [] → GivesTask Once r
+  pub settle : words ≡ codes "settle" ∷ [] → GivesTask (Settle None) r
+  pub once : words ≡ codes "once" ∷ [] → GivesTask (Once None) r
   pub help : words ≡ codes "--help" ∷ [] → GivesHelp r
   pub version : words ≡ codes "--version" ∷ [] → GivesVersion r
 
-no_help : DisplayHelp ≡ DisplayVersion → ⊥
-no_help e = cc
+help_or_version : DisplayHelp ≡ DisplayVersion → ⊥
+help_or_version e = cc
 
 -- a mistake of this kind was made, where it isn't that memory ran out
 among_mistakes : (words : List Text) (kind one : ErrorKind) → (kind ≢ OutOfMemory → IsAmong kind (fault_of command_line words)) → kind ≡ one
     → one ≢ OutOfMemory → IsAmong one (fault_of command_line words)
 among_mistakes words kind one made is other = subst (λ (k : ErrorKind). IsAmong k (fault_of command_line words)) is (made (λ memory. other (sym is ∙ memory)))
+
+some_kind : (kind : ErrorKind) (kinds : Kinds) → IsAmong kind kinds → is_empty kinds ≡ false
+some_kind kind [] among = absurd among
+some_kind kind (k ∷ ks) among = ne_eqb (length (k ∷ ks)) 0 (λ is. omega (arith, is))
 
 pub not_taken : (words : List Text) (kind : ErrorKind) (r : Result Task WordsFault) → (kind ≢ OutOfMemory → IsAmong kind (fault_of command_line words))
     → AnswersRefused words kind r → IsNotTaken words r
@@ -204,11 +249,11 @@ not_taken words kind (Ok (Help text)) made is =
     let mistake = among_mistakes words kind DisplayHelp made is.0 (λ e. cc) in
     record {
       answers = among_all _ _ _ mistake;
-      named = is.1;
+      named = is.1 ∙ sym (ap (helped words) (some_kind _ _ mistake));
       settle = λ alone. absurd (taken_alone _ _ _ settle_taken alone mistake);
       once = λ alone. absurd (taken_alone _ _ _ once_taken alone mistake);
       help = λ alone. is.1 ∙ ap help_of alone;
-      version = λ alone. absurd (no_help (asked_alone _ _ _ _ version_asked alone mistake));
+      version = λ alone. absurd (help_or_version (asked_alone _ _ _ _ version_asked alone mistake));
     }
 not_taken words kind (Ok (Version text)) made is =
     let mistake = among_mistakes words kind DisplayVersion made is.0 (λ e. cc) in
@@ -217,18 +262,18 @@ not_taken words kind (Ok (Version text)) made is =
       named = is.1;
       settle = λ alone. absurd (taken_alone _ _ _ settle_taken alone mistake);
       once = λ alone. absurd (taken_alone _ _ _ once_taken alone mistake);
-      help = λ alone. absurd (no_help (sym (asked_alone _ _ _ _ help_asked alone mistake)));
+      help = λ alone. absurd (help_or_version (sym (asked_alone _ _ _ _ help_asked alone mistake)));
       version = λ alone. is.1;
     }
-not_taken words kind (Ok Settle) made is = absurd is
-not_taken words kind (Ok Once) made is = absurd is
+not_taken words kind (Ok (Settle file)) made is = absurd is
+not_taken words kind (Ok (Once file)) made is = absurd is
 not_taken words kind (Ok (Create disk overwrite)) made is = absurd is
 not_taken words kind (Ok (Serve disk workers every)) made is = absurd is
 not_taken words kind (Ok (Attend disk runners turns workers scripts)) made is = absurd is
-not_taken words kind (Ok (Reduce steps nodes partial stats)) made is = absurd is
-not_taken words kind (Ok (ReduceByRounds rounds workers partial)) made is = absurd is
-not_taken words kind (Ok (Trace rounds format)) made is = absurd is
-not_taken words kind (Ok Draw) made is = absurd is
+not_taken words kind (Ok (Reduce steps nodes partial stats file)) made is = absurd is
+not_taken words kind (Ok (ReduceByRounds rounds workers partial file)) made is = absurd is
+not_taken words kind (Ok (Trace rounds format file)) made is = absurd is
+not_taken words kind (Ok (Draw file)) made is = absurd is
 not_taken words kind (Ok (Dump disk names)) made is = absurd is
 not_taken words kind (Ok (Inspect disk)) made is = absurd is
 not_taken words kind (Ok (Check files)) made is = absurd is

@@ -1,51 +1,36 @@
--- The help that words ask for, by the first of them.
-use Rattle.std.proofs.Common.{◌≡◌, ◌≢◌, ◌∙◌, ap, List, ◌∷◌, [], Bool, true, false, None, Some, map, slice_get, refl, codes}
+-- The help of a word that names no command.
+use Rattle.std.proofs.Common.{◌≡◌, ◌≢◌, ◌∙◌, ap, cond, List, ◌∷◌, [], Bool, true, false, find, map, None, Option, Some, option_map, refl, slice_get, sym, unwrap_or}
+use Rattle.std.specs.Borrow.{Bor}
+use Rattle.std.specs.List.{AllByRecursion}
 use Rattle.std.specs.Str.{bytes_eq}
 use Rattle.std.proofs.lemmas.Slice.Eq.{bytes_eq-Decides}
 use Rattle.clap.specs.Words.{Text}
-use Rattle.ic_args.specs.Help.{help_of, program_help}
+use Rattle.ic_args.specs.Help.{help_of, helps, named_help, program_help}
 
-differs : (a b : Text) (same : Bool) → bytes_eq a b ≡ same → a ≢ b → same ≡ false
-differs a b true is other = absurd (other ((bytes_eq-Decides a b).0 is))
-differs a b false is other = refl
+none_found : (word : Text) (table : List (Text × Text)) → AllByRecursion (λ name. word ≢ name) (map (λ (p : Text × Text). p.0) table)
+    → find (λ (p : Text × Text). bytes_eq p.0 word) table ≡ None
+none_found word [] others = refl
+none_found word (p ∷ more) others = go (none_found word more others.1) (bytes_eq p.0 word) refl
+  where
+    go : find (λ (q : Text × Text). bytes_eq q.0 word) more ≡ None → (b : Bool) → bytes_eq p.0 word ≡ b → cond b (Some p) (find (λ (q : Text × Text). bytes_eq q.0 word) more) ≡ None
+    go rest true same = absurd (others.0 (sym ((bytes_eq-Decides p.0 word).0 same)))
+    go rest false other = rest
 
 -- a word that names no command
-pub other_help : (word : Text) (words : List Text) → word ≢ codes "settle" → word ≢ codes "once" → word ≢ codes "create" → word ≢ codes "serve"
-    → word ≢ codes "attend" → word ≢ codes "reduce" → word ≢ codes "trace" → word ≢ codes "draw" → word ≢ codes "dump" → word ≢ codes "inspect" → word ≢ codes "check" → word ≢ codes "batch" → help_of (word ∷ words) ≡ program_help
-other_help word words settle once create serve attend reduce trace draw dump inspect check batch =
-    rw (
-      differs word (codes "settle") (bytes_eq word (codes "settle")) refl settle,
-      differs word (codes "once") (bytes_eq word (codes "once")) refl once,
-      differs word (codes "create") (bytes_eq word (codes "create")) refl create,
-      differs word (codes "serve") (bytes_eq word (codes "serve")) refl serve,
-      differs word (codes "attend") (bytes_eq word (codes "attend")) refl attend,
-      differs word (codes "reduce") (bytes_eq word (codes "reduce")) refl reduce,
-      differs word (codes "trace") (bytes_eq word (codes "trace")) refl trace,
-      differs word (codes "draw") (bytes_eq word (codes "draw")) refl draw,
-      differs word (codes "dump") (bytes_eq word (codes "dump")) refl dump,
-      differs word (codes "inspect") (bytes_eq word (codes "inspect")) refl inspect,
-      differs word (codes "check") (bytes_eq word (codes "check")) refl check,
-      differs word (codes "batch") (bytes_eq word (codes "batch")) refl batch,
-    ) refl
+pub no_help_named : (word : Text) → AllByRecursion (λ name. word ≢ name) (map (λ (p : Text × Text). p.0) helps) → named_help word ≡ None
+no_help_named word others = ap (option_map (λ (p : Text × Text). p.1)) (none_found word helps others)
 
--- the same of the first of words
-pub other_first : {S : Type 0} (words : List S) (text : S → Text) (word : S) → Some word ≡ slice_get words 0 → text word ≢ codes "settle" → text word ≢ codes "once"
-    → text word ≢ codes "create" → text word ≢ codes "serve" → text word ≢ codes "attend"
-    → text word ≢ codes "reduce" → text word ≢ codes "trace" → text word ≢ codes "draw" → text word ≢ codes "dump" → text word ≢ codes "inspect" → text word ≢ codes "check" → text word ≢ codes "batch" → help_of (map text words) ≡ program_help
-other_first [] text word is settle once create serve attend reduce trace draw dump inspect check batch = cc
-other_first (x ∷ xs) text word is settle once create serve attend reduce trace draw dump inspect check batch =
-    let same : x ≡ word = cc in
-    rw same (other_help (text word) (map text xs) settle once create serve attend reduce trace draw dump inspect check batch)
+-- ---- the first of words
 
--- the first of words is a command of its own
-pub own_first : {S : Type 0} (words : List S) (text : S → Text) (word : S) (name help : Text) → Some word ≡ slice_get words 0 → text word ≡ name
-    → ((more : List Text) → help_of (name ∷ more) ≡ help) → help_of (map text words) ≡ help
-own_first [] text word name help is same own = cc
-own_first (x ∷ xs) text word name help is same own =
-    let first : x ≡ word = cc in
-    ap (λ (w : Text). help_of (w ∷ map text xs)) (ap text first ∙ same) ∙ own (map text xs)
-
--- there are no words
 pub no_first : {S : Type 0} (words : List S) (text : S → Text) → None ≡ slice_get words 0 → help_of (map text words) ≡ program_help
 no_first [] text is = refl
 no_first (x ∷ xs) text is = cc
+
+pub first_help : {S : Type 0} (words : List S) (text : S → Text) (word : S) → Some word ≡ slice_get words 0 → help_of (map text words) ≡ help_of (text word ∷ [])
+first_help [] text word is = cc
+first_help (x ∷ xs) text word is = let same : x ≡ word = cc in ap (λ (t : Text). unwrap_or (named_help t) program_help) (ap text same)
+
+-- a text, or another where there is none
+pub text_or : (read : Option (Bor Text)) (none : Bor Text) (text : Text) → none.now ≡ text → (unwrap_or read none).now ≡ unwrap_or (option_map (λ s. s.now) read) text
+text_or None none text is = is
+text_or (Some t) none text is = refl

@@ -5,23 +5,23 @@ pub mod OneValue
 pub mod Walks
 pub mod Options
 pub mod Spelt
-pub mod ServeNumbers
-pub mod AttendNumbers
 pub mod Asked
 pub mod OptionLines
-pub mod TraceNumbers
+pub mod OptionNumbers
+pub mod Accepted
+pub mod Arguments
+pub mod Commands
+pub mod LineEnds
+pub mod TextLines
 pub mod TraceLines
-pub mod ReduceNumbers
 pub mod ReduceLines
+pub mod ServeLines
+pub mod BatchLines
 pub mod Flags
 pub mod Steps
 pub mod LineRows
-pub mod TakenLines
 pub mod CreateLines
 pub mod DumpLines
-pub mod InspectLines
-pub mod CheckLines
 mod NoCommand
 mod HelpLemmas
 pub mod AttendLines
-pub mod BatchNumbers

@@ -21,6 +21,10 @@ other_texts a b other = go (bytes_eq a b) refl
     go true is = absurd (other ((bytes_eq-Decides a b).0 is))
     go false is = refl
 
+-- an option of a name that differs from another
+pub named_apart : (g : Given) (name other : Text) → g.name ≡ name → bytes_eq name other ≡ false → g.name ≢ other
+named_apart g name other is differs = λ same. true≢false (sym (same_texts name other (sym is ∙ same)) ∙ differs)
+
 -- the row of an option that is given
 abbrev pub IsRowOf : Given → Row → Type 0
 IsRowOf g r = (r.id ≡ g.name) × (r.values ≡ g.value ∷ []) × (r.source ≡ Some CommandLine)

@@ -1,43 +1,43 @@
 -- Each well-formed line of `reduce` is taken, with its values.
-use Rattle.std.proofs.Common.{◌≡◌, inl, inr, ℕ, List, [], ◌∷◌, ◌++◌, Bool, true, false, not, ◌||◌, cond, Option, None, Some, codes, fold, refl, sym, ◌∙◌, ap, ap₂, subst, arith, unwrap_or, option_map}
+use Rattle.std.proofs.Common.{◌≡◌, ◌≢◌, inl, inr, ℕ, List, [], ◌∷◌, ◌++◌, Bool, true, false, not, ◌||◌, cond, Option, None, Some, codes, fold, refl, sym, ◌∙◌, ap, ap₂, subst, arith}
 use Rattle.std.specs.List.{AllByRecursion}
 use Rattle.std.specs.Str.{bytes_eq}
-use Rattle.clap.specs.Words.{Kinds, Row, Rule, Text, built, fault_of, subcommand_of}
+use Rattle.clap.specs.Words.{Kinds, Row, Rule, Text, fault_of, first_of, subcommand_of}
 use Rattle.clap.specs.Kinds.{or_else}
-use Rattle.clap.specs.Simple.{entered}
-use Rattle.clap.specs.Walk.{Held, Walk, first_of, has_row, nothing_held, reacted, settled, walk_from, walked, with_default}
-use Rattle.clap.specs.Faults.{check_fault, defaults_fault, level_fault, settle_fault, turn_fault, walk_fault}
+use Rattle.clap.specs.Walk.{Held, has_row, nothing_held, reacted, settled, walked, with_default}
+use Rattle.clap.specs.Faults.{check_fault, settle_fault, turn_fault}
 use Rattle.clap.proofs.OnLiterals.{clap_on_literals}
 use Rattle.clap.specs.declared.builder.value_parser.ValueParser.{ValueParser}
-use Rattle.ic_args.specs.Words.{IsDecimal, IsNumberOf, IsNumberOr, NamesReduce, asks_in_place, asks_rounds, command_line, is_flag_met, is_given, mistakes_of, most_rounds, most_steps, value_met}
-use Rattle.ic_args.specs.Lines.{AreInPlace, AreOfRounds, AreOnce, Given, Gives, HasFlag, HasNone, HasNumber, IsReduceLine, IsReduceNumber, IsReduceOption, IsWritten}
+use Rattle.ic_args.specs.Words.{IsDecimal, IsNumberOf, IsNumberOr, NamesReduce, asks_in_place, asks_rounds, command_line, file_met, is_flag_met, is_given, mistakes_of, most_rounds, most_steps, value_met}
+use Rattle.ic_args.specs.Lines.{AreInPlace, AreOfRounds, AreOnce, Given, Gives, HasFlag, HasNone, HasNumber, IsReduceLine, IsReduceNumber, IsReduceOption, AreWrittenBy, IsWritten}
 use Rattle.ic_args.specs.inner.Asking.{IsMet}
-use Rattle.ic_args.proofs.AttendLines.{counted as is_counted}
+use Rattle.ic_args.proofs.Accepted.{accepted}
+use Rattle.ic_args.proofs.Arguments.{HaveNoDefault, ReadsFile, file_read, found_after, none_after, none_first, none_kept}
+use Rattle.ic_args.proofs.Commands.{bounded, chosen, counted, file, is_reduce, reduce_options, threads}
 use Rattle.ic_args.proofs.Flags.{built_flag, flag_free, flag_grown, flag_row, flag_unset, unset_row}
-use Rattle.ic_args.proofs.LineRows.{AreRowsOf, first_value, given_found, not_given}
-use Rattle.ic_args.proofs.OptionLines.{IsRead, ReadsGiven, found_all, given_as, line_read, none_all, nothing_wrong, rows_behind}
-use Rattle.ic_args.proofs.ReduceNumbers.{bounded, chosen, counted, none_first, reduce_options, threads}
+use Rattle.ic_args.proofs.LineEnds.{IsEntered, IsHarmless, either_none, entered_after, or_none, text}
+use Rattle.ic_args.proofs.LineRows.{AreRowsOf, first_value, fresh_first, given_found, not_given, named_apart}
+use Rattle.ic_args.proofs.OptionLines.{ReadsAll, ReadsGiven, all_read, found_all, given_as, none_all}
 use Rattle.ic_args.proofs.Steps.{Leads, at, one_turn}
-use Rattle.ic_args.proofs.TakenLines.{accepted, either_none, or_none, top_fault}
-use Rattle.ic_args.proofs.WordsExact.{below, help, names_below, no_fault_behind, reduce_stands, top}
+use Rattle.ic_args.proofs.WordsExact.{below, help}
 use Rattle.ic_args.proofs.WordsLaws.{in_place_free, of_reduce, rounds_free}
 
 -- ---- one option
 
 number_read : (g : Given) → IsReduceNumber g → (words : List Text) → IsWritten g words → (h : Held) → settle_fault reduce_options false h ≡ []
-    → has_row g.name (settled reduce_options h).rows ≡ false → ReadsGiven (below 5) reduce_options [] g words h
+    → has_row g.name (settled reduce_options h).rows ≡ false → ReadsGiven (below 5) reduce_options (codes "file") g words h
 number_read g (inl is) words written h settles none =
-    given_as (below 5) reduce_options [] (codes "rounds") None counted false refl refl refl (λ v. (refl, refl)) (refl, refl) refl
-    g is.0 words written h settles none (is_counted most_rounds g.value (omega arith) is.1)
+    given_as (below 5) reduce_options (codes "file") (codes "rounds") None counted false refl refl refl (λ v. (refl, refl)) (refl, refl) refl
+    g is.0 words written h settles none (accepted 0 most_rounds g.value (omega arith) is.1)
 number_read g (inr (inl is)) words written h settles none =
-    given_as (below 5) reduce_options [] (codes "workers") None threads false refl refl refl (λ v. (refl, refl)) (refl, refl) refl
-    g is.0 words written h settles none (accepted 64 g.value (omega arith) is.1)
+    given_as (below 5) reduce_options (codes "file") (codes "workers") None threads false refl refl refl (λ v. (refl, refl)) (refl, refl) refl
+    g is.0 words written h settles none (accepted 1 64 g.value (omega arith) is.1)
 number_read g (inr (inr (inl is))) words written h settles none =
-    given_as (below 5) reduce_options [] (codes "steps") None bounded false refl refl refl (λ v. (refl, refl)) (refl, refl) refl
-    g is.0 words written h settles none (is_counted most_steps g.value (omega arith) is.1)
+    given_as (below 5) reduce_options (codes "file") (codes "steps") None bounded false refl refl refl (λ v. (refl, refl)) (refl, refl) refl
+    g is.0 words written h settles none (accepted 0 most_steps g.value (omega arith) is.1)
 number_read g (inr (inr (inr is))) words written h settles none =
-    given_as (below 5) reduce_options [] (codes "nodes") None bounded false refl refl refl (λ v. (refl, refl)) (refl, refl) refl
-    g is.0 words written h settles none (is_counted most_steps g.value (omega arith) is.1)
+    given_as (below 5) reduce_options (codes "file") (codes "nodes") None bounded false refl refl refl (λ v. (refl, refl)) (refl, refl) refl
+    g is.0 words written h settles none (accepted 0 most_steps g.value (omega arith) is.1)
 
 -- a flag is used at once
 abbrev flagged : Text → Held → Held
@@ -48,7 +48,7 @@ module _ (name : Text)
     → turn_fault (below 5) [] (at (below 5) reduce_options h) (45 ∷ 45 ∷ name) ≡ [])
     (walks : (h : Held) → walked reduce_options [] (at (below 5) reduce_options h) (45 ∷ 45 ∷ name) ≡ at (below 5) reduce_options (flagged name h)) where
   flag_read : (g : Given) → g.name ≡ name → g.value ≡ codes "true" → (words : List Text) → words ≡ (45 ∷ 45 ∷ g.name) ∷ [] → (h : Held)
-      → settle_fault reduce_options false h ≡ [] → has_row g.name (settled reduce_options h).rows ≡ false → ReadsGiven (below 5) reduce_options [] g words h
+      → settle_fault reduce_options false h ≡ [] → has_row g.name (settled reduce_options h).rows ≡ false → ReadsGiven (below 5) reduce_options (codes "file") g words h
   flag_read g named valued words written h settles none =
       let free = ap (λ (n : Text). has_row n (settled reduce_options h).rows) (sym named) ∙ none in
       let word : words ≡ (45 ∷ 45 ∷ name) ∷ [] = written ∙ ap (λ (n : Text). (45 ∷ 45 ∷ n) ∷ []) named in
@@ -87,82 +87,68 @@ any [] = tt
 any (g ∷ gs) = (tt, any gs)
 
 reduce_read : (g : Given) → Any g → (words : List Text) → IsReduceOption g words → (h : Held) → settle_fault reduce_options false h ≡ []
-    → has_row g.name (settled reduce_options h).rows ≡ false → ReadsGiven (below 5) reduce_options [] g words h
+    → has_row g.name (settled reduce_options h).rows ≡ false → ReadsGiven (below 5) reduce_options (codes "file") g words h
 reduce_read g is words (inl number) h settles none = number_read g number.0 words number.1 h settles none
 reduce_read g is words (inr flag) h settles none = elim flag.0.0 [
   | inl named ↦ flag_read (codes "partial") partial_turns partial_walks g named flag.0.1 words flag.1 h settles none
   | inr named ↦ flag_read (codes "stats") stats_turns stats_walks g named flag.0.1 words flag.1 h settles none
 ]
 
--- ---- the line
+-- its FILE has no default
+plain : HaveNoDefault (codes "file") reduce_options
+plain = (inl refl, (inl refl, (inl refl, (inl refl, (inl refl, (inl refl, (inr refl, (inl refl, tt))))))))
 
-reduce_first : (rest : List Text) → walk_fault top (names_below false) (walk_from nothing_held) (codes "reduce" ∷ rest) ≡ []
-unfolding walk_fault walked
-reduce_first rest = no_fault_behind (codes "reduce") [] rest
+-- no option is named as the FILE is
+file_apart : (gs : List Given) → (words : List Text) → AreWrittenBy IsReduceOption gs words → AllByRecursion (λ g. g.name ≢ codes "file") gs
+file_apart [] words written = tt
+file_apart (g ∷ gs) words written = (apart written.3, file_apart gs written.1 written.4)
+  where
+    of_number : IsReduceNumber g → g.name ≢ codes "file"
+    of_number (inl is) = named_apart g (codes "rounds") (codes "file") is.0 refl
+    of_number (inr (inl is)) = named_apart g (codes "workers") (codes "file") is.0 refl
+    of_number (inr (inr (inl is))) = named_apart g (codes "steps") (codes "file") is.0 refl
+    of_number (inr (inr (inr is))) = named_apart g (codes "nodes") (codes "file") is.0 refl
 
-reduce_free : (rest : List Text) → level_fault (below 5) [] nothing_held rest false [] ≡ [] → fault_of command_line (codes "reduce" ∷ rest) ≡ []
-unfolding defaults_fault
-reduce_free rest free = ap (top_fault (codes "reduce" ∷ rest)) (reduce_stands rest)
-    ∙ ap₂ (λ (a b : Kinds). or_else a (or_else b [])) (reduce_first rest) free
+    apart : IsReduceOption g written.0 → g.name ≢ codes "file"
+    apart (inl is) = of_number is.0
+    apart (inr is) = elim is.0.0 [
+      | inl named ↦ named_apart g (codes "partial") (codes "file") named refl
+      | inr named ↦ named_apart g (codes "stats") (codes "file") named refl
+    ]
 
-reduce_defaults : (rows : List Row) → defaults_fault rows reduce_options ≡ []
-unfolding defaults_fault clap_on_literals
-reduce_defaults rows =
-    let first = with_default rows (chosen (codes "rounds") counted) in
-    let second = with_default first (chosen (codes "workers") threads) in
-    let third = with_default second (chosen (codes "steps") bounded) in
-    let fourth = with_default third (chosen (codes "nodes") bounded) in
-    let fifth = with_default fourth (built_flag (codes "partial")) in
-    ap₂ or_else (either_none (has_row (codes "rounds") rows) _)
-    (ap₂ or_else (either_none (has_row (codes "workers") first) _)
-    (ap₂ or_else (either_none (has_row (codes "steps") second) _)
-    (ap₂ or_else (either_none (has_row (codes "nodes") third) _)
-    (ap₂ or_else (or_none (has_row (codes "partial") fourth) _ refl)
-    (ap₂ or_else (or_none (has_row (codes "stats") fifth) _ refl)
-    (ap₂ or_else (either_none (has_row (codes "help") (with_default fifth (built_flag (codes "stats")))) _) refl))))))
+harmless : AllByRecursion IsHarmless reduce_options
+unfolding clap_on_literals
+harmless = (
+  (λ rows. either_none _ _),
+  (
+    (λ rows. either_none _ _),
+    (
+      (λ rows. either_none _ _),
+      ((λ rows. either_none _ _), ((λ rows. or_none _ _ refl), ((λ rows. or_none _ _ refl), ((λ rows. either_none _ _), ((λ rows. either_none _ _), tt))))),
+    ),
+  ),
+)
 
 reduce_checked : (rows : List Row) → check_fault (below 5) rows false ≡ []
 reduce_checked rows = refl
 
 -- ---- the values of its rows
 
-abbrev text : Option Text → Text
-text o = unwrap_or o []
-
 abbrev flags : List Rule
-flags = built_flag (codes "partial") ∷ built_flag (codes "stats") ∷ help ∷ []
+flags = built_flag (codes "partial") ∷ built_flag (codes "stats") ∷ file ∷ help ∷ []
 
 abbrev numbers : List Rule
 numbers = chosen (codes "rounds") counted ∷ chosen (codes "workers") threads ∷ chosen (codes "steps") bounded ∷ chosen (codes "nodes") bounded ∷ []
 
-abbrev behind : List Row → List Row
-behind rows = fold with_default rows reduce_options
-
--- the rows of these options, each once
-abbrev IsRows : List Given → List Row → Type 0
-IsRows gs rows = AreRowsOf gs rows × AreOnce gs
-
--- an option that is given has its value
-given_value : (gs : List Given) (rows : List Row) (name value : Text) → IsRows gs rows → Gives gs name value → first_of name (behind rows) ≡ Some value
-given_value gs rows name value is gives =
-    let found = given_found gs rows name value is.0 is.1 gives in
-    first_value name value (behind rows) found.row (found_all reduce_options name rows found.row found.found) found.values
+abbrev last : List Row → List Row
+last rows = fold with_default rows reduce_options
 
 abbrev AreOthers : Text → List Rule → Type 0
 AreOthers name c = AllByRecursion (λ a. bytes_eq a.id name ≡ false) c
 
 -- one that isn't given has none
-none_own : (name : Text) (read : ValueParser) (rows : List Row) → has_row name rows ≡ false → has_row name (with_default rows (chosen name read)) ≡ false
-none_own name read rows none = go (has_row name rows)
-  where
-    go : (b : Bool) → has_row name (cond b rows rows) ≡ false
-    go true = none
-    go false = none
-
-none_value : (name : Text) (read : ValueParser) (before after : List Rule) (rows : List Row) → AreOthers name before → AreOthers name after → has_row name rows ≡ false
-    → first_of name (fold with_default (with_default (fold with_default rows before) (chosen name read)) after) ≡ None
-none_value name read before after rows first last none =
-    none_first name _ (none_all after name _ last (none_own name read _ (none_all before name rows first none)))
+none_value : (name : Text) (rows : List Row) → HaveNoDefault name reduce_options → has_row name rows ≡ false → first_of name (last rows) ≡ None
+none_value name rows plain none = none_first name (last rows) (none_kept reduce_options name rows plain none)
 
 -- and a flag has its default
 unset_value : (name : Text) (before after : List Rule) (rows : List Row) → bytes_eq name name ≡ true → AreOthers name before → has_row name rows ≡ false
@@ -179,63 +165,58 @@ not_empty (x ∷ xs) n is = refl
 
 -- ---- what the words come to
 
-module _ (words : List Text) (gs : List Given) (line : IsReduceLine words gs) where
-  abbrev rest : List Text
-  rest = line.rest
-
+module _ (words : List Text) (gs : List Given) (path : Option Text) (line : IsReduceLine words gs path) where
   abbrev met : Option (Text × List Row)
   met = subcommand_of command_line words
 
-  read : IsRead (below 5) reduce_options [] gs rest
-  read = line_read (below 5) reduce_options [] Any IsReduceOption reduce_read gs (any gs) line.once rest line.written
+  abbrev read : ReadsAll (below 5) reduce_options (codes "file") Any IsReduceOption reduce_read gs line.front nothing_held
+  read = all_read (below 5) reduce_options (codes "file") Any IsReduceOption reduce_read gs (any gs) line.once line.front line.written nothing_held refl (fresh_first gs) refl
 
-  is : IsRows gs read.rows
-  is = (read.of, line.once)
+  abbrev named_by : ReadsFile (below 5) reduce_options refl refl plain path read.more read.behind line.rest
+  named_by = file_read (below 5) reduce_options refl refl plain path line.rest line.last read.more read.behind read.apart read.settles read.rows
+      (not_given gs read.more (codes "file") read.of (file_apart gs line.front line.written))
 
-  free : fault_of command_line words ≡ []
-  free = ap (fault_of command_line) line.begins
-      ∙ reduce_free rest (nothing_wrong (below 5) reduce_options [] gs rest read (reduce_defaults read.rows) (reduce_checked (behind read.rows)))
+  abbrev rows : List Row
+  rows = named_by.argument.rows
 
-  meets : met ≡ Some (codes "reduce", behind read.rows)
-  meets = ap (subcommand_of command_line) line.begins ∙ ap (λ (w : Walk). entered (built command_line) w.stopped) (reduce_stands rest)
-      ∙ ap (λ (rs : List Row). Some (codes "reduce", rs)) (rows_behind (below 5) reduce_options [] gs rest read)
+  entered : IsEntered (codes "reduce") (below 5) reduce_options is_reduce harmless words rows
+  entered = entered_after (codes "reduce") (below 5) reduce_options is_reduce harmless (codes "file") words line.front line.rest read.more read.behind line.begins read.leads named_by.argument
+      (reduce_checked (last rows))
 
-  named : IsMet (codes "reduce") met
-  named = ap (λ (o : Option (Text × List Row)). option_map (λ (p : Text × List Row). p.0) o) meets
+  file_is : file_met met ≡ path
+  file_is = ap file_met entered.met ∙ named_by.file_is
 
   given_met : (name value : Text) → Gives gs name value → value_met name met ≡ value
-  given_met name value gives = ap (value_met name) meets ∙ ap text (given_value gs read.rows name value is gives)
+  given_met name value gives =
+      let found = found_after (codes "file") read.more rows named_by.argument.grew name value (given_found gs read.more name value read.of line.once gives) in
+      ap (value_met name) entered.met ∙ ap text (first_value name value (last rows) found.row (found_all reduce_options name rows found.row found.found) found.values)
 
-  missing : (name : Text) → HasNone gs name → has_row name read.rows ≡ false
-  missing name none = not_given gs read.rows name read.of none
+  missing : (name : Text) → bytes_eq (codes "file") name ≡ false → HasNone gs name → has_row name rows ≡ false
+  missing name other none = none_after (codes "file") read.more rows named_by.argument.grew name other (not_given gs read.more name read.of none)
 
   no_rounds : HasNone gs (codes "rounds") → value_met (codes "rounds") met ≡ []
-  no_rounds none = ap (value_met (codes "rounds")) meets ∙ ap text (none_value (codes "rounds") counted []
-      (chosen (codes "workers") threads ∷ chosen (codes "steps") bounded ∷ chosen (codes "nodes") bounded ∷ flags)
-      read.rows tt (refl, (refl, (refl, (refl, (refl, (refl, tt)))))) (missing (codes "rounds") none))
+  no_rounds none = ap (value_met (codes "rounds")) entered.met ∙ ap text (none_value (codes "rounds") rows
+      (inr refl, (inl refl, (inl refl, (inl refl, (inl refl, (inl refl, (inl refl, (inl refl, tt)))))))) (missing (codes "rounds") refl none))
 
   no_workers : HasNone gs (codes "workers") → value_met (codes "workers") met ≡ []
-  no_workers none = ap (value_met (codes "workers")) meets ∙ ap text (none_value (codes "workers") threads (chosen (codes "rounds") counted ∷ [])
-      (chosen (codes "steps") bounded ∷ chosen (codes "nodes") bounded ∷ flags)
-      read.rows (refl, tt) (refl, (refl, (refl, (refl, (refl, tt))))) (missing (codes "workers") none))
+  no_workers none = ap (value_met (codes "workers")) entered.met ∙ ap text (none_value (codes "workers") rows
+      (inl refl, (inr refl, (inl refl, (inl refl, (inl refl, (inl refl, (inl refl, (inl refl, tt)))))))) (missing (codes "workers") refl none))
 
   no_steps : HasNone gs (codes "steps") → value_met (codes "steps") met ≡ []
-  no_steps none = ap (value_met (codes "steps")) meets ∙ ap text (none_value (codes "steps") bounded
-      (chosen (codes "rounds") counted ∷ chosen (codes "workers") threads ∷ []) (chosen (codes "nodes") bounded ∷ flags)
-      read.rows (refl, (refl, tt)) (refl, (refl, (refl, (refl, tt)))) (missing (codes "steps") none))
+  no_steps none = ap (value_met (codes "steps")) entered.met ∙ ap text (none_value (codes "steps") rows
+      (inl refl, (inl refl, (inr refl, (inl refl, (inl refl, (inl refl, (inl refl, (inl refl, tt)))))))) (missing (codes "steps") refl none))
 
   no_nodes : HasNone gs (codes "nodes") → value_met (codes "nodes") met ≡ []
-  no_nodes none = ap (value_met (codes "nodes")) meets ∙ ap text (none_value (codes "nodes") bounded
-      (chosen (codes "rounds") counted ∷ chosen (codes "workers") threads ∷ chosen (codes "steps") bounded ∷ []) flags
-      read.rows (refl, (refl, (refl, tt))) (refl, (refl, (refl, tt))) (missing (codes "nodes") none))
+  no_nodes none = ap (value_met (codes "nodes")) entered.met ∙ ap text (none_value (codes "nodes") rows
+      (inl refl, (inl refl, (inl refl, (inr refl, (inl refl, (inl refl, (inl refl, (inl refl, tt)))))))) (missing (codes "nodes") refl none))
 
   no_partial : HasNone gs (codes "partial") → value_met (codes "partial") met ≡ codes "false"
-  no_partial none = ap (value_met (codes "partial")) meets ∙ ap text (unset_value (codes "partial") numbers (built_flag (codes "stats") ∷ help ∷ [])
-      read.rows refl (refl, (refl, (refl, (refl, tt)))) (missing (codes "partial") none))
+  no_partial none = ap (value_met (codes "partial")) entered.met ∙ ap text (unset_value (codes "partial") numbers (built_flag (codes "stats") ∷ file ∷ help ∷ [])
+      rows refl (refl, (refl, (refl, (refl, tt)))) (missing (codes "partial") refl none))
 
   no_stats : HasNone gs (codes "stats") → value_met (codes "stats") met ≡ codes "false"
-  no_stats none = ap (value_met (codes "stats")) meets ∙ ap text (unset_value (codes "stats") (numbers ++ built_flag (codes "partial") ∷ []) (help ∷ [])
-      read.rows refl (refl, (refl, (refl, (refl, (refl, tt))))) (missing (codes "stats") none))
+  no_stats none = ap (value_met (codes "stats")) entered.met ∙ ap text (unset_value (codes "stats") (numbers ++ built_flag (codes "partial") ∷ []) (file ∷ help ∷ [])
+      rows refl (refl, (refl, (refl, (refl, (refl, tt))))) (missing (codes "stats") refl none))
 
   -- ---- what is given
 
@@ -268,25 +249,28 @@ module _ (words : List Text) (gs : List Given) (line : IsReduceLine words gs) wh
       (ap₂ (λ (a b : Bool). a || b) (none_is (codes "nodes") (no_nodes of.no_nodes)) (flag_is (codes "stats") false of.no_stats no_stats))
 
   pub in_place_taken : (s n : ℕ) (p t : Bool) → AreInPlace gs s n p t → mistakes_of words ≡ []
-  in_place_taken s n p t of = ap₂ or_else free (of_reduce met named ∙ in_place_free met (alone_in_place of.no_rounds of.no_workers))
+  in_place_taken s n p t of = ap₂ or_else entered.free (of_reduce met entered.named ∙ in_place_free met (alone_in_place of.no_rounds of.no_workers))
 
-  pub in_place_named : (s n steps nodes : ℕ) (p t partial stats : Bool) → AreInPlace gs s n p t → NamesReduce words steps nodes partial stats
-      → (steps ≡ s) × (nodes ≡ n) × (partial ≡ p) × (stats ≡ t)
-  in_place_named s n steps nodes p t partial stats of names = (
+  pub in_place_named : (s n steps nodes : ℕ) (p t partial stats : Bool) → AreInPlace gs s n p t → (f : Option Text) → NamesReduce words steps nodes partial stats f
+      → (steps ≡ s) × (nodes ≡ n) × (partial ≡ p) × (stats ≡ t) × (f ≡ path)
+  in_place_named s n steps nodes p t partial stats of f names = (
     number_is (codes "steps") 0 most_steps most_steps s steps of.steps no_steps names.steps,
     number_is (codes "nodes") 0 most_steps 134217728 n nodes of.nodes no_nodes names.nodes,
     names.partial ∙ flag_is (codes "partial") p of.partial no_partial,
     names.stats ∙ flag_is (codes "stats") t of.stats no_stats,
+    names.file ∙ file_is,
   )
 
   pub rounds_taken : (most many : ℕ) (p : Bool) → AreOfRounds gs most many p → mistakes_of words ≡ []
-  rounds_taken most many p of = ap₂ or_else free (of_reduce met named
+  rounds_taken most many p of = ap₂ or_else entered.free (of_reduce met entered.named
       ∙ rounds_free met (given_is (codes "rounds") of.rounds.0 most of.rounds.1 of.rounds.2) (alone_of_rounds most many p of))
 
   pub rounds_named : (most many rounds workers : ℕ) (p partial : Bool) → AreOfRounds gs most many p → IsNumberOf (codes "rounds") 0 most_rounds words rounds
-      → IsNumberOr (codes "workers") 1 64 2 words workers → partial ≡ is_flag_met (codes "partial") met → (rounds ≡ most) × (workers ≡ many) × (partial ≡ p)
-  rounds_named most many rounds workers p partial of named_rounds named_workers named_flag = (
+      → IsNumberOr (codes "workers") 1 64 2 words workers → partial ≡ is_flag_met (codes "partial") met → (f : Option Text) → f ≡ file_met met
+      → (rounds ≡ most) × (workers ≡ many) × (partial ≡ p) × (f ≡ path)
+  rounds_named most many rounds workers p partial of named_rounds named_workers named_flag f named_file = (
     (subst (λ (t : Text). IsDecimal t rounds) (given_met (codes "rounds") of.rounds.0 of.rounds.1) named_rounds.0).1 ∙ sym of.rounds.2.1,
     number_is (codes "workers") 1 64 2 many workers of.workers no_workers named_workers,
     named_flag ∙ flag_is (codes "partial") p of.partial no_partial,
+    named_file ∙ file_is,
   )

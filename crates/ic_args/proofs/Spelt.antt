@@ -1,10 +1,7 @@
 -- The number that an option's text spells, where its parser accepts it.
 use Rattle.std.proofs.Common.{◌≡◌, ◌≤◌, ℕ, List, [], ◌∷◌, Bool, true, false, cond, ◌==◌, Option, None, Some, drop, refl, sym, ◌∙◌, ap, subst, arith, unwrap_or}
-use Rattle.std.specs.Prelude.{pos}
-use Rattle.std.specs.Str.Parse.{IsNumeral, digits_value, starts_with_minus, without_leading_plus}
-use Rattle.std.proofs.lemmas.Int.{ints}
+use Rattle.std.specs.Str.Parse.{IsNumeral, digits_value, without_leading_plus}
 use Rattle.clap.specs.Words.{Row, Text, subcommand_of}
-use Rattle.clap.specs.Lexer.{without_minus}
 use Rattle.clap.specs.Values.{Accepts, read_as, reading_of, refused_kind}
 use Rattle.clap.specs.ValueTests.{accepts}
 use Rattle.clap.proofs.ValueTestLemmas.{accepts-Accepts}
@@ -21,14 +18,6 @@ accepted p v e = accepts-Accepts false p v (go (accepts false p v) e)
     go true e = refl
     go false e = absurd (fails _ _ e)
 
-minus_or_not : (t : Text) → without_minus t ≡ cond (starts_with_minus t) (drop 1 t) t
-minus_or_not [] = refl
-minus_or_not (x ∷ xs) = go (x == 45)
-  where
-    go : (b : Bool) → unwrap_or (cond b (Some xs) None) (x ∷ xs) ≡ cond b xs (x ∷ xs)
-    go true = refl
-    go false = refl
-
 abbrev value_of : Text → ℕ
 value_of v = digits_value 10 (without_leading_plus v)
 
@@ -37,28 +26,10 @@ abbrev pub Spells : ValueParser → ℕ → ℕ → Type 0
 Spells q least most = (v : Text) → value_kinds false q v ≡ []
     → (read_as (reading_of q) v ≡ v) × IsDecimal v (value_of v) × (least ≤ value_of v) × (value_of v ≤ most)
 
--- a number from 1
-pub from_one : (most : ℕ) → Spells (vp.Signed (pos 1) (pos most)) 1 most
-from_one most v e = go (starts_with_minus v) refl
-  where
-    passed : Accepts false (vp.Signed (pos 1) (pos most)) v
-    passed = accepted (vp.Signed (pos 1) (pos most)) v e
-
-    go : (b : Bool) → starts_with_minus v ≡ b → (without_minus v ≡ v) × IsDecimal v (value_of v) × (1 ≤ value_of v) × (value_of v ≤ most)
-    go true minus =
-        let least = rw minus at passed.2 in
-        absurd (omega (arith, ints))
-    go false minus =
-        let numeral : IsNumeral 10 (without_leading_plus v) = rw minus at passed.0 in
-        let least = rw minus at passed.2 in
-        let greatest = rw minus at passed.3 in
-        let same : without_minus v ≡ v = minus_or_not v ∙ ap (λ b. cond b (drop 1 v) v) minus in
-        (same, (numeral, refl), omega (arith, ints), omega (arith, ints))
-
--- a number from 0
-pub from_none : (most : ℕ) → Spells (vp.Unsigned 0 most) 0 most
-from_none most v e =
-    let passed : Accepts false (vp.Unsigned 0 most) v = accepted (vp.Unsigned 0 most) v e in
+-- a number in a range
+pub in_range : (least most : ℕ) → Spells (vp.Unsigned least most) least most
+in_range least most v e =
+    let passed : Accepts false (vp.Unsigned least most) v = accepted (vp.Unsigned least most) v e in
     (refl, (passed.0, refl), passed.2, passed.3)
 
 -- the option's text is a number in the range, and is the one that is read

@@ -1,58 +1,49 @@
 -- Each well-formed line of `trace` is taken, with its values.
-use Rattle.std.proofs.Common.{◌≡◌, inl, inr, List, [], ◌∷◌, true, false, Option, Some, codes, fold, refl, sym, ◌∙◌, ap, ap₂, arith, true≢false, unwrap_or, option_map}
+use Rattle.std.proofs.Common.{◌≡◌, ◌≢◌, inl, inr, List, [], ◌∷◌, Bool, true, false, Option, None, Some, codes, fold, refl, sym, ◌∙◌, ap, ap₂, arith, true≢false}
 use Rattle.std.specs.List.{AllByRecursion}
 use Rattle.std.specs.Str.{bytes_eq}
-use Rattle.clap.specs.Words.{Kinds, Row, Text, built, fault_of, subcommand_of}
+use Rattle.clap.specs.Words.{Row, Text, subcommand_of}
 use Rattle.clap.specs.Kinds.{or_else}
-use Rattle.clap.specs.Simple.{entered}
-use Rattle.clap.specs.Walk.{Held, Walk, has_row, nothing_held, settled, walk_from, walked, with_default}
-use Rattle.clap.specs.Faults.{check_fault, defaults_fault, level_fault, settle_fault, walk_fault}
+use Rattle.clap.specs.Walk.{Held, has_row, nothing_held, settled, with_default}
+use Rattle.clap.specs.Faults.{check_fault, settle_fault}
 use Rattle.clap.proofs.OnLiterals.{clap_on_literals}
 use Rattle.clap.specs.declared.builder.value_parser.ValueParser.TheVariants as vp
-use Rattle.ic_args.specs.Words.{command_line, is_format, mistakes_of, most_rounds, value_met}
+use Rattle.ic_args.specs.Words.{command_line, file_met, is_format, mistakes_of, most_rounds, value_met}
 use Rattle.ic_args.specs.Lines.{Given, Gives, HasValue, IsFormatText, IsTraceLine, IsTraceOption, IsWritten}
-use Rattle.ic_args.proofs.AttendLines.{counted}
-use Rattle.ic_args.proofs.TraceNumbers.{format, rounds, trace_options}
-use Rattle.ic_args.proofs.OptionLines.{ReadsGiven, given_as, line_read, nothing_wrong, option_value, rows_behind, stands_given}
-use Rattle.ic_args.proofs.TakenLines.{either_none, or_none, top_fault}
-use Rattle.ic_args.proofs.WordsExact.{below, help, names_below, no_fault_behind, top, trace_stands}
-use Rattle.ic_args.proofs.WordsLaws.{a_format, no_reduce}
-
-abbrev text : Option Text → Text
-text o = unwrap_or o []
-
-abbrev name_of : Option (Text × List Row) → Option Text
-name_of o = option_map (λ (p : Text × List Row). p.0) o
+use Rattle.ic_args.proofs.Accepted.{accepted}
+use Rattle.ic_args.proofs.Arguments.{file_read, stands_after}
+use Rattle.ic_args.proofs.Commands.{counted, file, format, is_trace, rounds, trace_options}
+use Rattle.ic_args.proofs.LineEnds.{IsHarmless, either_none, entered_after, or_none, text}
+use Rattle.ic_args.proofs.LineRows.{fresh_first, not_given, named_apart}
+use Rattle.ic_args.proofs.OptionLines.{ReadsGiven, all_read, given_as, option_value, stands_given}
+use Rattle.ic_args.proofs.WordsExact.{below, help}
+use Rattle.ic_args.proofs.WordsLaws.{a_format, no_help, no_reduce}
 
 is_format_text : (v : Text) → IsFormatText v → is_format v ≡ true
 is_format_text v (inl is) = ap is_format is
 is_format_text v (inr is) = ap is_format is
 
 trace_read : (g : Given) → IsTraceOption g → (words : List Text) → IsWritten g words → (h : Held) → settle_fault trace_options false h ≡ []
-    → has_row g.name (settled trace_options h).rows ≡ false → ReadsGiven (below 6) trace_options [] g words h
+    → has_row g.name (settled trace_options h).rows ≡ false → ReadsGiven (below 6) trace_options (codes "file") g words h
 trace_read g (inl is) words written h settles none =
-    given_as (below 6) trace_options [] (codes "rounds") (Some (codes "1000000")) (vp.Unsigned 0 most_rounds) false refl refl refl (λ v. (refl, refl)) (refl, refl) refl
-    g is.0 words written h settles none (counted most_rounds g.value (omega arith) is.1)
+    given_as (below 6) trace_options (codes "file") (codes "rounds") (Some (codes "1000000")) counted false refl refl refl (λ v. (refl, refl)) (refl, refl) refl
+    g is.0 words written h settles none (accepted 0 most_rounds g.value (omega arith) is.1)
 trace_read g (inr is) words written h settles none =
-    given_as (below 6) trace_options [] (codes "format") (Some (codes "tsv")) vp.String false refl refl refl (λ v. (refl, refl)) (refl, refl) refl
+    given_as (below 6) trace_options (codes "file") (codes "format") (Some (codes "tsv")) vp.String false refl refl refl (λ v. (refl, refl)) (refl, refl) refl
     g is.0 words written h settles none refl
 
-trace_first : (rest : List Text) → walk_fault top (names_below false) (walk_from nothing_held) (codes "trace" ∷ rest) ≡ []
-unfolding walk_fault walked
-trace_first rest = no_fault_behind (codes "trace") [] rest
+-- no option is named as the FILE is
+file_apart : (gs : List Given) → AllByRecursion IsTraceOption gs → AllByRecursion (λ g. g.name ≢ codes "file") gs
+file_apart [] sorts = tt
+file_apart (g ∷ gs) sorts = (apart sorts.0, file_apart gs sorts.1)
+  where
+    apart : IsTraceOption g → g.name ≢ codes "file"
+    apart (inl is) = named_apart g (codes "rounds") (codes "file") is.0 refl
+    apart (inr is) = named_apart g (codes "format") (codes "file") is.0 refl
 
-trace_free : (rest : List Text) → level_fault (below 6) [] nothing_held rest false [] ≡ [] → fault_of command_line (codes "trace" ∷ rest) ≡ []
-unfolding defaults_fault
-trace_free rest free = ap (top_fault (codes "trace" ∷ rest)) (trace_stands rest)
-    ∙ ap₂ (λ (a b : Kinds). or_else a (or_else b [])) (trace_first rest) free
-
-trace_defaults : (rows : List Row) → defaults_fault rows trace_options ≡ []
-unfolding defaults_fault clap_on_literals
-trace_defaults rows =
-    let first = with_default rows rounds in
-    ap₂ or_else (or_none (has_row (codes "rounds") rows) _ refl)
-    (ap₂ or_else (or_none (has_row (codes "format") first) _ refl)
-    (ap₂ or_else (either_none (has_row (codes "help") (with_default first format)) _) refl))
+harmless : AllByRecursion IsHarmless trace_options
+unfolding clap_on_literals
+harmless = ((λ rows. or_none _ _ refl), ((λ rows. or_none _ _ refl), ((λ rows. either_none _ _), ((λ rows. either_none _ _), tt))))
 
 trace_checked : (rows : List Row) → check_fault (below 6) rows false ≡ []
 trace_checked rows = refl
@@ -71,28 +62,32 @@ shown_format : (gs : List Given) (v : Text) → AllByRecursion IsTraceOption gs 
 shown_format gs v sorts (inl gives) = given_format gs v sorts gives
 shown_format gs v sorts (inr none) = ap is_format none.1
 
-pub record IsTraced (words : List Text) (most shown : Text) : Type 0 where
+-- a line of `trace` is taken, and its options and its FILE have these values
+pub record IsTraced (words : List Text) (most shown : Text) (path : Option Text) : Type 0 where
   pub free : mistakes_of words ≡ []
-  pub rounds : value_met (codes "rounds") (subcommand_of command_line words) ≡ most
-  pub format : value_met (codes "format") (subcommand_of command_line words) ≡ shown
+  pub rounds_is : value_met (codes "rounds") (subcommand_of command_line words) ≡ most
+  pub format_is : value_met (codes "format") (subcommand_of command_line words) ≡ shown
+  pub file_is : file_met (subcommand_of command_line words) ≡ path
 
-pub trace_taken : (words : List Text) (most shown : Text) → IsTraceLine words most shown → IsTraced words most shown
-trace_taken words most shown line =
-    let rest = line.rest in
-    let read = line_read (below 6) trace_options [] IsTraceOption IsWritten trace_read line.given line.options line.once rest line.written in
-    let free = nothing_wrong (below 6) trace_options [] line.given rest read (trace_defaults read.rows) (trace_checked (fold with_default read.rows trace_options)) in
-    let met : subcommand_of command_line words ≡ Some (codes "trace", fold with_default read.rows trace_options) =
-    ap (subcommand_of command_line) line.begins ∙ ap (λ (w : Walk). entered (built command_line) w.stopped) (trace_stands rest)
-    ∙ ap (λ (rs : List Row). Some (codes "trace", rs)) (rows_behind (below 6) trace_options [] line.given rest read) in
-    let of_rounds = stands_given line.given read.rows (codes "rounds") (codes "1000000") most read.of line.once line.rounds in
-    let of_format = stands_given line.given read.rows (codes "format") (codes "tsv") shown read.of line.once line.format in
-    let is_shown : value_met (codes "format") (subcommand_of command_line words) ≡ shown = ap (value_met (codes "format")) met
-    ∙ ap text (option_value (codes "format") (codes "tsv") shown vp.String (rounds ∷ []) (help ∷ []) read.rows (refl, tt) refl of_format) in
+pub trace_taken : (words : List Text) (most shown : Text) (path : Option Text) → IsTraceLine words most shown path → IsTraced words most shown path
+trace_taken words most shown path line =
+    let all = all_read (below 6) trace_options (codes "file") IsTraceOption IsWritten trace_read line.given line.options line.once line.front line.written nothing_held refl (fresh_first line.given) refl in
+    let apart = not_given line.given all.more (codes "file") all.of (file_apart line.given line.options) in
+    let read = file_read (below 6) trace_options refl refl (inl refl, (inl refl, (inr refl, (inl refl, tt)))) path line.rest line.last all.more all.behind all.apart all.settles all.rows apart in
+    let argument = read.argument in
+    let rows = argument.rows in
+    let entered = entered_after (codes "trace") (below 6) trace_options is_trace harmless (codes "file") words line.front line.rest all.more all.behind line.begins all.leads argument
+    (trace_checked (fold with_default rows trace_options)) in
+    let is_shown : value_met (codes "format") (subcommand_of command_line words) ≡ shown = ap (value_met (codes "format")) entered.met
+    ∙ ap text (option_value (codes "format") (codes "tsv") shown vp.String (rounds ∷ []) (file ∷ help ∷ []) rows (refl, tt) refl
+    (stands_after (codes "file") all.more rows argument.grew (codes "format") (codes "tsv") shown refl (stands_given line.given all.more (codes "format") (codes "tsv") shown all.of line.once line.format))) in
     record {
-      free = ap₂ or_else (ap (fault_of command_line) line.begins ∙ trace_free rest free)
+      free = ap₂ or_else entered.free
           (ap₂ or_else (a_format (subcommand_of command_line words) (ap is_format is_shown ∙ shown_format line.given shown line.options line.format))
-          (no_reduce (codes "trace") _ (ap name_of met) refl));
-      rounds = ap (value_met (codes "rounds")) met
-          ∙ ap text (option_value (codes "rounds") (codes "1000000") most (vp.Unsigned 0 most_rounds) [] (format ∷ help ∷ []) read.rows tt refl of_rounds);
-      format = is_shown;
+          (ap₂ or_else (no_reduce (codes "trace") _ entered.named refl) (no_help (codes "trace") _ entered.named refl)));
+      rounds_is = ap (value_met (codes "rounds")) entered.met
+          ∙ ap text (option_value (codes "rounds") (codes "1000000") most counted [] (format ∷ file ∷ help ∷ []) rows tt refl
+          (stands_after (codes "file") all.more rows argument.grew (codes "rounds") (codes "1000000") most refl (stands_given line.given all.more (codes "rounds") (codes "1000000") most all.of line.once line.rounds)));
+      format_is = is_shown;
+      file_is = ap file_met entered.met ∙ read.file_is;
     }

@@ -1,19 +1,21 @@
--- The words in which the parser finds no mistake.
-use Rattle.std.proofs.Common.{◌≡◌, ℕ, List, [], ◌∷◌, ◌++◌, Bool, true, false, cond, ◌||◌, subst, Option, None, Some, length, slice_get, drop, fold, unwrap_or, append-nil, append_assoc, codes, refl, sym, ◌∙◌, ap, ◌⊎◌, inl, inr}
+-- The words in which the parser finds no mistake: the first of them names a command.
+use Rattle.std.proofs.Common.{◌≡◌, ℕ, List, [], ◌∷◌, ◌++◌, Bool, true, false, not, cond, ◌&&◌, ◌||◌, subst, Option, None, Some, length, slice_get, drop, fold, map, find, is_some, option_map, unwrap_or, append-nil, append_assoc, codes, refl, sym, ◌∙◌, ap, ap₂, true≢false, ◌⊎◌, inl, inr}
 use Rattle.std.specs.Option.{option_map_or}
 use Rattle.std.specs.Str.{bytes_eq, chars}
 use Rattle.std.proofs.lemmas.Slice.Eq.{bytes_eq-Decides}
 use Rattle.std.specs.Prelude.{encode_utf8}
 use Rattle.clap.specs.Lexer.{long_of, short_of}
-use Rattle.clap.specs.Words.{Kinds, Rule, Shape, Text, built, fault_of}
-use Rattle.clap.specs.Walk.{Held, Names, Walk, idle, nothing_held, subcommand_met, walk, walk_from, walked, short_or_plain, long_or_other, value, trailing, Step, plain, after_flag, bundle_step, short_word, has_long, has_short, bundle_met}
-use Rattle.clap.specs.Simple.{filled, with_index, help_rule, version_rule}
+use Rattle.clap.specs.Words.{Kinds, Row, Rule, Shape, Text, built, fault_of, subcommand_of}
+use Rattle.clap.specs.Walk.{Held, Names, Walk, answers_to, finished, idle, nothing_held, rows_after, settled, subcommand_met, subcommand_or_other, walk, walk_from, walked, short_or_plain, long_or_other, value, trailing, Step, plain, after_flag, after_step, bundle_step, short_word, has_long, has_short, bundle_met}
+use Rattle.clap.specs.Simple.{entered, filled, label_of, with_index, help_rule, rows_at, version_rule}
 use Rattle.clap.specs.Kinds.{or_else}
-use Rattle.clap.specs.Faults.{bundle_fault, bundle_step_fault, entered_fault, flag_word_fault, flags_fault, level_fault, long_fault, short_fault, step_fault, turn_fault, walk_fault}
+use Rattle.clap.specs.Faults.{bundle_fault, bundle_step_fault, check_fault, defaults_fault, entered_fault, flag_word_fault, flags_fault, level_fault, long_fault, other_fault, settle_fault, short_fault, step_fault, turn_fault, walk_fault}
+use Rattle.clap.specs.declared.error.ErrorKind.TheVariants as kind
 use Rattle.clap.proofs.OnLiterals.{clap_on_literals}
 use Rattle.std.specs.List.{AllByRecursion}
-use Rattle.ic_args.specs.Words.{command_line, BeginsWith, NamesCommand}
-use Rattle.ic_args.specs.inner.Asking.{IsIn, commands}
+use Rattle.ic_args.specs.Words.{command_line, BeginsWith}
+use Rattle.ic_args.specs.inner.Asking.{IsIn, IsMet, commands}
+use Rattle.ic_args.proofs.Steps.{level}
 
 both_empty : (a b : Kinds) → or_else a b ≡ [] → (a ≡ []) × (b ≡ [])
 both_empty [] b e = (refl, e)
@@ -26,124 +28,9 @@ help = with_index 1 (filled help_rule)
 abbrev version : Rule
 version = with_index 1 (filled version_rule)
 
--- the arguments of a level: help, and at the top the version
-abbrev pub rules : Bool → List Rule
-rules true = help ∷ []
-rules false = help ∷ version ∷ []
-
-abbrev level : Shape → Bool → Shape
-level base leaf = record base { rules = rules leaf; is_leaf = leaf }
-
-stray_none : (leaf : Bool) (base : Shape) (h : Held) → step_fault (level base leaf) 1 h value ≡ [] → ⊥
-stray_none true base h e = cc
-stray_none false base h e = cc
-
--- the argument of a level that an option is, by two tests
-abbrev argument_of : Bool → Bool → Bool → Option Rule
-argument_of true is_help is_version = cond is_help (Some help) None
-argument_of false is_help is_version = cond is_help (Some help) (cond is_version (Some version) None)
-
--- a short option is one of these, or unknown
-short_refused : (leaf again is_help is_version : Bool) (rest : Text) (next : Held → Kinds)
-    → short_fault (rules leaf) again (argument_of leaf is_help is_version) rest nothing_held next ≡ [] → ⊥
-short_refused true again true v rest next e = cc
-short_refused true again false v rest next e = cc
-short_refused false again true v rest next e = cc
-short_refused false again false true rest next e = cc
-short_refused false again false false rest next e = cc
-
-long_refused : (leaf again is_help is_version : Bool) (text : Option Text)
-    → long_fault (rules leaf) again (argument_of leaf is_help is_version) text nothing_held ≡ [] → ⊥
-long_refused true again true v None e = cc
-long_refused true again true v (Some t) e = cc
-long_refused true again false v text e = cc
-long_refused false again true v None e = cc
-long_refused false again true v (Some t) e = cc
-long_refused false again false true None e = cc
-long_refused false again false true (Some t) e = cc
-long_refused false again false false text e = cc
-
--- what a word is held to be, behind the fault that it may have itself
-abbrev word_kinds : Shape → Kinds → Held × Step → Kinds
-word_kinds s fault met = or_else fault (step_fault s 1 met.0 met.1)
-
-flag_refused : (base : Shape) (leaf again : Bool) (v flags : Text) (k : ℕ) (first : Option ℕ)
-    → word_kinds (level base leaf) (bundle_step_fault (rules leaf) again first flags 0 nothing_held (flags_fault (rules leaf) again k))
-    (after_flag (rules leaf) idle v (bundle_step (rules leaf) first flags 0 plain nothing_held (bundle_met (rules leaf) k)).0 (bundle_step (rules leaf) first flags 0 plain nothing_held (bundle_met (rules leaf) k)).1) ≡ []
-    → ⊥
-flag_refused base leaf again v flags k None e = stray_none leaf base nothing_held e
-flag_refused base true again v flags k (Some x) e =
-    let rest = drop (length (encode_utf8 x)) flags in
-    short_refused true again (has_short help x) false rest (flags_fault (rules true) again k rest 0) (both_empty _ _ e).0
-flag_refused base false again v flags k (Some x) e =
-    let rest = drop (length (encode_utf8 x)) flags in
-    short_refused false again (has_short help x) (has_short version x) rest (flags_fault (rules false) again k rest 0) (both_empty _ _ e).0
-
-bundle_refused : (base : Shape) (leaf again : Bool) (v flags : Text)
-    → word_kinds (level base leaf) (bundle_fault (rules leaf) again flags nothing_held) (short_word (rules leaf) idle v flags nothing_held) ≡ [] → ⊥
-unfolding flags_fault bundle_met
-bundle_refused base leaf again v [] e = stray_none leaf base nothing_held e
-bundle_refused base leaf again v (f ∷ fs) e = flag_refused base leaf again v (f ∷ fs) (length fs) (slice_get (chars (f ∷ fs)) 0) e
-
-dash_refused : (base : Shape) (leaf again : Bool) (v : Text) (short : Option Text)
-    → word_kinds (level base leaf) (option_map_or (λ flags. bundle_fault (rules leaf) again flags nothing_held) short []) (short_or_plain (rules leaf) idle v short nothing_held) ≡ [] → ⊥
-dash_refused base leaf again v None e = stray_none leaf base nothing_held e
-dash_refused base leaf again v (Some flags) e = bundle_refused base leaf again v flags e
-
-plain_refused : (base : Shape) (leaf again : Bool) (v : Text) (long : Option (Text × Option Text))
-    → word_kinds (level base leaf) (flag_word_fault (rules leaf) again long v nothing_held) (long_or_other (rules leaf) idle v long nothing_held) ≡ [] → ⊥
-plain_refused base leaf again v None e = dash_refused base leaf again v (short_of v) e
-plain_refused base true again v (Some p) e = long_refused true again (has_long help p.0) false p.1 (both_empty _ _ e).0
-plain_refused base false again v (Some p) e =
-    long_refused false again (has_long help p.0) (has_long version p.0) p.1 (both_empty _ _ e).0
-
-only_dashes : (base : Shape) (leaf again : Bool) (v : Text) (dashes : Bool)
-    → word_kinds (level base leaf) (cond dashes [] (flag_word_fault (rules leaf) again (long_of v) v nothing_held))
-    (cond dashes (nothing_held, trailing 1) (long_or_other (rules leaf) idle v (long_of v) nothing_held)) ≡ []
-    → dashes ≡ true
-only_dashes base leaf again v true e = refl
-only_dashes base leaf again v false e = absurd (plain_refused base leaf again v (long_of v) e)
-
--- a first word without a mistake that names no command is `--`
-first_word : (base : Shape) (leaf : Bool) (names : Names) (v : Text) → subcommand_met names idle v ≡ None
-    → turn_fault (level base leaf) names (walk_from nothing_held) v ≡ [] → bytes_eq v (45 ∷ 45 ∷ []) ≡ true
-first_word base leaf names v none e = only_dashes base leaf base.args_override_self v (bytes_eq v (45 ∷ 45 ∷ [])) (rw none at e)
-
--- ---- all the words of a level
-
-abbrev dashes : Text
-dashes = 45 ∷ 45 ∷ []
-
--- the commands below a level
-abbrev pub names_below : Bool → Names
-names_below true = []
-names_below false = (codes "settle", []) ∷ (codes "once", []) ∷ (codes "create", []) ∷ (codes "serve", []) ∷ (codes "attend", [])
-    ∷ (codes "reduce", []) ∷ (codes "trace", []) ∷ (codes "draw", []) ∷ (codes "dump", []) ∷ (codes "inspect", []) ∷ (codes "check", []) ∷ (codes "batch", []) ∷ []
-
-behind_dashes : (base : Shape) (leaf : Bool) (u : Text)
-    → turn_fault (level base leaf) (names_below leaf) (walked (rules leaf) (names_below leaf) (walk_from nothing_held) dashes) u ≡ [] → ⊥
-unfolding walked
-behind_dashes base true u e = stray_none true base nothing_held e
-behind_dashes base false u e = stray_none false base nothing_held e
-
-nothing_behind : (base : Shape) (leaf : Bool) (vs : List Text)
-    → walk_fault (level base leaf) (names_below leaf) (walked (rules leaf) (names_below leaf) (walk_from nothing_held) dashes) vs ≡ [] → vs ≡ []
-unfolding walk_fault
-nothing_behind base leaf [] e = refl
-nothing_behind base leaf (u ∷ us) e = absurd (behind_dashes base leaf u (both_empty _ _ e).0)
-
--- words without a mistake, of which the first names no command, are none or `--` alone
-level_words : (base : Shape) (leaf : Bool) (words : List Text)
-    → ((v : Text) (vs : List Text) → words ≡ v ∷ vs → subcommand_met (names_below leaf) idle v ≡ None)
-    → walk_fault (level base leaf) (names_below leaf) (walk_from nothing_held) words ≡ [] → (words ≡ []) ⊎ (words ≡ dashes ∷ [])
-unfolding walk_fault
-level_words base leaf [] none e = inl refl
-level_words base leaf (v ∷ vs) none e =
-    let parts = both_empty _ _ e in
-    let is = (bytes_eq-Decides v dashes).0 (first_word base leaf (names_below leaf) v (none v vs refl) parts.0) in
-    inr (ap (λ w. w ∷ vs) is ∙ ap (λ l. dashes ∷ l) (nothing_behind base leaf vs (rw is at parts.1)))
-
--- ---- the whole command line
+-- the arguments of the program itself
+abbrev pub rules : List Rule
+rules = help ∷ version ∷ []
 
 abbrev pub top : Shape
 top = (built command_line).top
@@ -151,152 +38,29 @@ top = (built command_line).top
 abbrev pub below : ℕ → Shape
 below k = unwrap_or (slice_get (built command_line).subs k) top
 
--- behind the name of a command each word is one of its own
-abbrev pub stopped_at : Text → List Text → Walk
-stopped_at name words = record (walk_from nothing_held) { stopped = Some (name, words) }
+-- the commands below the program
+abbrev pub names_of_all : List Text → Names
+names_of_all names = map (λ (name : Text). (name, [])) names
 
-stopped_with : (name : Text) (words more : List Text) → fold (walked (rules false) (names_below false)) (stopped_at name words) more ≡ stopped_at name (words ++ more)
-unfolding walked
-stopped_with name words [] = ap (stopped_at name) (sym (append-nil words))
-stopped_with name words (v ∷ vs) = stopped_with name (words ++ v ∷ []) vs ∙ ap (stopped_at name) (append_assoc words (v ∷ []) vs)
+abbrev pub names_below : Names
+names_below = names_of_all commands
 
-pub no_fault_behind : (name : Text) (words more : List Text) → walk_fault top (names_below false) (stopped_at name words) more ≡ []
-unfolding walk_fault walked
-no_fault_behind name words [] = refl
-no_fault_behind name words (v ∷ vs) = no_fault_behind name (words ++ v ∷ []) vs
+-- ---- a name among names
 
--- where a command's name is the first word, the others are its own
-pub settle_stands : (words : List Text) → walk (rules false) (names_below false) nothing_held (codes "settle" ∷ words) ≡ stopped_at (codes "settle") words
-unfolding walked
-settle_stands words = stopped_with (codes "settle") [] words
+pub named_in : (name : Text) (names : List Text) → IsIn name names → find (answers_to name) (names_of_all names) ≡ Some (name, [])
+named_in name [] is = absurd is
+named_in name (one ∷ more) is = go (named_in name more) (bytes_eq one name) refl is
+  where
+    go : (IsIn name more → find (answers_to name) (names_of_all more) ≡ Some (name, [])) → (b : Bool) → bytes_eq one name ≡ b → (name ≡ one) ⊎ IsIn name more
+        → cond (b || false) (Some (one, [])) (find (answers_to name) (names_of_all more)) ≡ Some (name, [])
+    go rest true same is = ap (λ (n : Text). Some (n, [])) ((bytes_eq-Decides one name).0 same)
+    go rest false other (inl is) = absurd (true≢false (sym ((bytes_eq-Decides one name).1 (sym is)) ∙ other))
+    go rest false other (inr there) = rest there
 
-pub once_stands : (words : List Text) → walk (rules false) (names_below false) nothing_held (codes "once" ∷ words) ≡ stopped_at (codes "once") words
-unfolding walked
-once_stands words = stopped_with (codes "once") [] words
-
-pub create_stands : (words : List Text) → walk (rules false) (names_below false) nothing_held (codes "create" ∷ words) ≡ stopped_at (codes "create") words
-unfolding walked
-create_stands words = stopped_with (codes "create") [] words
-
-pub serve_stands : (words : List Text) → walk (rules false) (names_below false) nothing_held (codes "serve" ∷ words) ≡ stopped_at (codes "serve") words
-unfolding walked
-serve_stands words = stopped_with (codes "serve") [] words
-
-pub attend_stands : (words : List Text) → walk (rules false) (names_below false) nothing_held (codes "attend" ∷ words) ≡ stopped_at (codes "attend") words
-unfolding walked
-attend_stands words = stopped_with (codes "attend") [] words
-
-pub reduce_stands : (words : List Text) → walk (rules false) (names_below false) nothing_held (codes "reduce" ∷ words) ≡ stopped_at (codes "reduce") words
-unfolding walked
-reduce_stands words = stopped_with (codes "reduce") [] words
-
-pub trace_stands : (words : List Text) → walk (rules false) (names_below false) nothing_held (codes "trace" ∷ words) ≡ stopped_at (codes "trace") words
-unfolding walked
-trace_stands words = stopped_with (codes "trace") [] words
-
-pub draw_stands : (words : List Text) → walk (rules false) (names_below false) nothing_held (codes "draw" ∷ words) ≡ stopped_at (codes "draw") words
-unfolding walked
-draw_stands words = stopped_with (codes "draw") [] words
-
-pub dump_stands : (words : List Text) → walk (rules false) (names_below false) nothing_held (codes "dump" ∷ words) ≡ stopped_at (codes "dump") words
-unfolding walked
-dump_stands words = stopped_with (codes "dump") [] words
-
-pub inspect_stands : (words : List Text) → walk (rules false) (names_below false) nothing_held (codes "inspect" ∷ words) ≡ stopped_at (codes "inspect") words
-unfolding walked
-inspect_stands words = stopped_with (codes "inspect") [] words
-
-pub check_stands : (words : List Text) → walk (rules false) (names_below false) nothing_held (codes "check" ∷ words) ≡ stopped_at (codes "check") words
-unfolding walked
-check_stands words = stopped_with (codes "check") [] words
-
-pub batch_stands : (words : List Text) → walk (rules false) (names_below false) nothing_held (codes "batch" ∷ words) ≡ stopped_at (codes "batch") words
-unfolding walked
-batch_stands words = stopped_with (codes "batch") [] words
-
--- the walk over a command's words stops behind its name
-pub stops : (name : Text) (words : List Text) → walk (rules false) (names_below false) nothing_held (name ∷ words) ≡ stopped_at name words
-    → (walk (rules false) (names_below false) nothing_held (name ∷ words)).stopped ≡ Some (name, words)
-stops name words stands = ap (λ (w : Walk). w.stopped) stands
-
--- words without a mistake have none at the level of their command
-pub level_free : (words : List Text) → fault_of command_line words ≡ []
-    → entered_fault (built command_line) (walk (rules false) (names_below false) nothing_held words).stopped ≡ []
-level_free words e = (both_empty _ _ (both_empty _ _ e).1).0
-
-after_settle : (words : List Text) → fault_of command_line (codes "settle" ∷ words) ≡ [] → (words ≡ []) ⊎ (words ≡ dashes ∷ [])
-after_settle words e =
-    let free : level_fault (below 0) [] nothing_held words false [] ≡ [] = ap (entered_fault (built command_line)) (sym (stops (codes "settle") words (settle_stands words))) ∙ level_free _ e in
-    level_words (below 0) true words (λ v vs is. refl) (both_empty _ _ free).0
-
-after_once : (words : List Text) → fault_of command_line (codes "once" ∷ words) ≡ [] → (words ≡ []) ⊎ (words ≡ dashes ∷ [])
-after_once words e =
-    let free : level_fault (below 1) [] nothing_held words false [] ≡ [] = ap (entered_fault (built command_line)) (sym (stops (codes "once") words (once_stands words))) ∙ level_free _ e in
-    level_words (below 1) true words (λ v vs is. refl) (both_empty _ _ free).0
-
-after_draw : (words : List Text) → fault_of command_line (codes "draw" ∷ words) ≡ [] → (words ≡ []) ⊎ (words ≡ dashes ∷ [])
-after_draw words e =
-    let free : level_fault (below 7) [] nothing_held words false [] ≡ [] = ap (entered_fault (built command_line)) (sym (stops (codes "draw") words (draw_stands words))) ∙ level_free _ e in
-    level_words (below 7) true words (λ v vs is. refl) (both_empty _ _ free).0
-
-dashes_alone : fault_of command_line (dashes ∷ []) ≡ [] → ⊥
-unfolding clap_on_literals
-dashes_alone e = cc
-
-none_alone : fault_of command_line [] ≡ [] → ⊥
-unfolding clap_on_literals
-none_alone e = cc
-
-another_word : (v : Text) (vs : List Text) → AllByRecursion (λ name. bytes_eq name v ≡ false) commands → fault_of command_line (v ∷ vs) ≡ [] → ⊥
-another_word v vs others e =
-    let met : subcommand_met (names_below false) idle v ≡ None =
-    rw (others.0, others.1.0, others.1.1.0, others.1.1.1.0, others.1.1.1.1.0, others.1.1.1.1.1.0, others.1.1.1.1.1.1.0, others.1.1.1.1.1.1.1.0, others.1.1.1.1.1.1.1.1.0, others.1.1.1.1.1.1.1.1.1.0, others.1.1.1.1.1.1.1.1.1.1.0, others.1.1.1.1.1.1.1.1.1.1.1.0) refl in
-    let none : (w : Text) (ws : List Text) → v ∷ vs ≡ w ∷ ws → subcommand_met (names_below false) idle w ≡ None = λ w ws is. (let same : v ≡ w = cc in rw (← same) met) in
-    elim (level_words top false (v ∷ vs) none (both_empty _ _ e).0) [
-      | inl empty ↦ cc
-      | inr alone ↦ dashes_alone (ap (fault_of command_line) (sym alone) ∙ e)
-    ]
-
--- the first word is a command, and what is behind it is nothing or `--`
-named_first : (name : Text) (vs : List Text) → ((ws : List Text) → fault_of command_line (name ∷ ws) ≡ [] → (ws ≡ []) ⊎ (ws ≡ dashes ∷ []))
-    → fault_of command_line (name ∷ vs) ≡ [] → NamesCommand name (name ∷ vs)
-named_first name vs after e =
-    elim (after vs e) [
-      | inl alone ↦ inl (ap (λ ws. name ∷ ws) alone)
-      | inr dashed ↦ inr (ap (λ ws. name ∷ ws) dashed)
-    ]
-
--- a command that has no options is named alone, or with `--` behind it
-abbrev pub is_bare : Text → Bool
-is_bare name = bytes_eq name (codes "settle") || bytes_eq name (codes "once") || bytes_eq name (codes "draw")
-
-abbrev pub ByBareness : Bool → Text → List Text → Type 0
-ByBareness true name words = NamesCommand name words
-ByBareness false name words = BeginsWith name words
-
--- the words are one of the commands', and what may be behind it
-abbrev pub IsCalled : Text → List Text → Type 0
-IsCalled name words = IsIn name commands × ByBareness (is_bare name) name words
-
-is_called : (v name : Text) (vs : List Text) → v ≡ name → fault_of command_line (v ∷ vs) ≡ []
-    → (fault_of command_line (name ∷ vs) ≡ [] → ByBareness (is_bare name) name (name ∷ vs)) → ByBareness (is_bare v) v (v ∷ vs)
-is_called v name vs is e calls =
-    subst (λ (n : Text). ByBareness (is_bare n) n (n ∷ vs)) (sym is) (calls (ap (λ (n : Text). fault_of command_line (n ∷ vs)) (sym is) ∙ e))
-
-called_by : (v : Text) (vs : List Text) → IsIn v commands → fault_of command_line (v ∷ vs) ≡ [] → ByBareness (is_bare v) v (v ∷ vs)
-called_by v vs (inl is) e = is_called v (codes "settle") vs is e (named_first (codes "settle") vs after_settle)
-called_by v vs (inr (inl is)) e = is_called v (codes "once") vs is e (named_first (codes "once") vs after_once)
-called_by v vs (inr (inr (inl is))) e = is_called v (codes "create") vs is e (λ none. (vs, refl))
-called_by v vs (inr (inr (inr (inl is)))) e = is_called v (codes "serve") vs is e (λ none. (vs, refl))
-called_by v vs (inr (inr (inr (inr (inl is))))) e = is_called v (codes "attend") vs is e (λ none. (vs, refl))
-called_by v vs (inr (inr (inr (inr (inr (inl is)))))) e = is_called v (codes "reduce") vs is e (λ none. (vs, refl))
-called_by v vs (inr (inr (inr (inr (inr (inr (inl is))))))) e = is_called v (codes "trace") vs is e (λ none. (vs, refl))
-called_by v vs (inr (inr (inr (inr (inr (inr (inr (inl is)))))))) e = is_called v (codes "draw") vs is e (named_first (codes "draw") vs after_draw)
-called_by v vs (inr (inr (inr (inr (inr (inr (inr (inr (inl is))))))))) e = is_called v (codes "dump") vs is e (λ none. (vs, refl))
-called_by v vs (inr (inr (inr (inr (inr (inr (inr (inr (inr (inl is)))))))))) e = is_called v (codes "inspect") vs is e (λ none. (vs, refl))
-called_by v vs (inr (inr (inr (inr (inr (inr (inr (inr (inr (inr (inl is))))))))))) e = is_called v (codes "check") vs is e (λ none. (vs, refl))
-called_by v vs (inr (inr (inr (inr (inr (inr (inr (inr (inr (inr (inr (inl is)))))))))))) e = is_called v (codes "batch") vs is e (λ none. (vs, refl))
-called_by v vs (inr (inr (inr (inr (inr (inr (inr (inr (inr (inr (inr (inr none)))))))))))) e = absurd none
+none_in : (word : Text) (names : List Text) → AllByRecursion (λ name. bytes_eq name word ≡ false) names → find (answers_to word) (names_of_all names) ≡ None
+none_in word [] others = refl
+none_in word (one ∷ more) others =
+    ap (λ (b : Bool). cond (b || false) (Some (one, [])) (find (answers_to word) (names_of_all more))) others.0 ∙ none_in word more others.1
 
 -- a text is one of these, or none
 in_or_none : (v : Text) (names : List Text) → IsIn v names ⊎ AllByRecursion (λ name. bytes_eq name v ≡ false) names
@@ -309,10 +73,224 @@ in_or_none v (name ∷ names) = go (bytes_eq name v) refl (in_or_none v names)
     go false is (inl there) = inl (inr there)
     go false is (inr none) = inr (is, none)
 
+met_name : (name : Text) → IsIn name commands → subcommand_met names_below idle name ≡ Some name
+met_name name is = ap (option_map (λ (s : Text × List Text). s.0)) (named_in name commands is)
+
+-- ---- words of which the first is no command
+
+stray_none : (h : Held) → step_fault top 1 h value ≡ [] → ⊥
+stray_none h e = cc
+
+-- the argument that an option is, by two tests
+abbrev argument_of : Bool → Bool → Option Rule
+argument_of is_help is_version = cond is_help (Some help) (cond is_version (Some version) None)
+
+-- a short option is one of these, or unknown
+short_refused : (again is_help is_version : Bool) (rest : Text) (next : Held → Kinds)
+    → short_fault rules again (argument_of is_help is_version) rest nothing_held next ≡ [] → ⊥
+short_refused again true v rest next e = cc
+short_refused again false true rest next e = cc
+short_refused again false false rest next e = cc
+
+long_refused : (again is_help is_version : Bool) (text : Option Text)
+    → long_fault rules again (argument_of is_help is_version) text nothing_held ≡ [] → ⊥
+long_refused again true v None e = cc
+long_refused again true v (Some t) e = cc
+long_refused again false true None e = cc
+long_refused again false true (Some t) e = cc
+long_refused again false false text e = cc
+
+-- what a word is held to be, after the fault that it may have itself
+abbrev word_kinds : Kinds → Held × Step → Kinds
+word_kinds fault met = or_else fault (step_fault top 1 met.0 met.1)
+
+flag_refused : (again : Bool) (v flags : Text) (k : ℕ) (first : Option ℕ)
+    → word_kinds (bundle_step_fault rules again first flags 0 nothing_held (flags_fault rules again k))
+    (after_flag rules idle v (bundle_step rules first flags 0 plain nothing_held (bundle_met rules k)).0 (bundle_step rules first flags 0 plain nothing_held (bundle_met rules k)).1) ≡ []
+    → ⊥
+flag_refused again v flags k None e = stray_none nothing_held e
+flag_refused again v flags k (Some x) e =
+    let rest = drop (length (encode_utf8 x)) flags in
+    short_refused again (has_short help x) (has_short version x) rest (flags_fault rules again k rest 0) (both_empty _ _ e).0
+
+bundle_refused : (again : Bool) (v flags : Text)
+    → word_kinds (bundle_fault rules again flags nothing_held) (short_word rules idle v flags nothing_held) ≡ [] → ⊥
+unfolding flags_fault bundle_met
+bundle_refused again v [] e = stray_none nothing_held e
+bundle_refused again v (f ∷ fs) e = flag_refused again v (f ∷ fs) (length fs) (slice_get (chars (f ∷ fs)) 0) e
+
+dash_refused : (again : Bool) (v : Text) (short : Option Text)
+    → word_kinds (option_map_or (λ flags. bundle_fault rules again flags nothing_held) short []) (short_or_plain rules idle v short nothing_held) ≡ [] → ⊥
+dash_refused again v None e = stray_none nothing_held e
+dash_refused again v (Some flags) e = bundle_refused again v flags e
+
+plain_refused : (again : Bool) (v : Text) (long : Option (Text × Option Text))
+    → word_kinds (flag_word_fault rules again long v nothing_held) (long_or_other rules idle v long nothing_held) ≡ [] → ⊥
+plain_refused again v None e = dash_refused again v (short_of v) e
+plain_refused again v (Some p) e = long_refused again (has_long help p.0) (has_long version p.0) p.1 (both_empty _ _ e).0
+
+only_dashes : (again : Bool) (v : Text) (dashes : Bool)
+    → word_kinds (cond dashes [] (flag_word_fault rules again (long_of v) v nothing_held))
+    (cond dashes (nothing_held, trailing 1) (long_or_other rules idle v (long_of v) nothing_held)) ≡ []
+    → dashes ≡ true
+only_dashes again v true e = refl
+only_dashes again v false e = absurd (plain_refused again v (long_of v) e)
+
+-- a first word without a mistake that names no command is `--`
+first_word : (v : Text) → subcommand_met names_below idle v ≡ None
+    → turn_fault top names_below (walk_from nothing_held) v ≡ [] → bytes_eq v (45 ∷ 45 ∷ []) ≡ true
+first_word v none e = only_dashes top.args_override_self v (bytes_eq v (45 ∷ 45 ∷ [])) (rw none at e)
+
+abbrev dashes : Text
+dashes = 45 ∷ 45 ∷ []
+
+after_dashes : (u : Text) → turn_fault top names_below (walked rules names_below (walk_from nothing_held) dashes) u ≡ [] → ⊥
+unfolding walked
+after_dashes u e = stray_none nothing_held e
+
+nothing_after : (vs : List Text) → walk_fault top names_below (walked rules names_below (walk_from nothing_held) dashes) vs ≡ [] → vs ≡ []
+unfolding walk_fault
+nothing_after [] e = refl
+nothing_after (u ∷ us) e = absurd (after_dashes u (both_empty _ _ e).0)
+
+-- so are all the words
+top_words : (v : Text) (vs : List Text) → subcommand_met names_below idle v ≡ None
+    → walk_fault top names_below (walk_from nothing_held) (v ∷ vs) ≡ [] → v ∷ vs ≡ dashes ∷ []
+unfolding walk_fault
+top_words v vs none e =
+    let parts = both_empty _ _ e in
+    let is = (bytes_eq-Decides v dashes).0 (first_word v none parts.0) in
+    ap (λ w. w ∷ vs) is ∙ ap (λ l. dashes ∷ l) (nothing_after vs (rw is at parts.1))
+
+-- ---- words of which the first is a command
+
+-- after the name of a command each word is one of its own
+abbrev pub stopped_at : Text → List Text → Walk
+stopped_at name words = record (walk_from nothing_held) { stopped = Some (name, words) }
+
+stopped_with : (name : Text) (words more : List Text) → fold (walked rules names_below) (stopped_at name words) more ≡ stopped_at name (words ++ more)
+unfolding walked
+stopped_with name words [] = ap (stopped_at name) (sym (append-nil words))
+stopped_with name words (v ∷ vs) = stopped_with name (words ++ v ∷ []) vs ∙ ap (stopped_at name) (append_assoc words (v ∷ []) vs)
+
+no_fault_after : (name : Text) (words more : List Text) → walk_fault top names_below (stopped_at name words) more ≡ []
+unfolding walk_fault walked
+no_fault_after name words [] = refl
+no_fault_after name words (v ∷ vs) = no_fault_after name (words ++ v ∷ []) vs
+
+first_walked : (name : Text) → IsIn name commands → walked rules names_below (walk_from nothing_held) name ≡ stopped_at name []
+unfolding walked
+first_walked name is =
+    ap (λ (o : Option Text). after_step rules name (walk_from nothing_held) (subcommand_or_other rules o idle 1 name nothing_held).0 (subcommand_or_other rules o idle 1 name nothing_held).1) (met_name name is)
+
+-- where a command's name is the first word, the others are its own
+pub stands : (name : Text) → IsIn name commands → (words : List Text) → walk rules names_below nothing_held (name ∷ words) ≡ stopped_at name words
+stands name is words = ap (λ (w : Walk). fold (walked rules names_below) w words) (first_walked name is) ∙ stopped_with name [] words
+
+pub stops : (name : Text) → IsIn name commands → (words : List Text) → (walk rules names_below nothing_held (name ∷ words)).stopped ≡ Some (name, words)
+stops name is words = ap (λ (w : Walk). w.stopped) (stands name is words)
+
+help_or_not : (b : Bool) → cond (b && false) (kind.DisplayHelp ∷ kind.InvalidSubcommand ∷ []) [] ≡ []
+help_or_not true = refl
+help_or_not false = refl
+
+first_free : (name : Text) → IsIn name commands → turn_fault top names_below (walk_from nothing_held) name ≡ []
+first_free name is =
+    ap (λ (o : Option Text). or_else (other_fault top o name nothing_held) (step_fault top 1 (subcommand_or_other rules o idle 1 name nothing_held).0 (subcommand_or_other rules o idle 1 name nothing_held).1)) (met_name name is)
+    ∙ ap (λ (k : Kinds). or_else k []) (help_or_not (bytes_eq name (codes "help")))
+
+walk_free : (name : Text) → IsIn name commands → (words : List Text) → walk_fault top names_below (walk_from nothing_held) (name ∷ words) ≡ []
+unfolding walk_fault
+walk_free name is words =
+    ap₂ or_else (first_free name is) (ap (λ (w : Walk). walk_fault top names_below w words) (first_walked name is) ∙ no_fault_after name [] words)
+
+-- words without a mistake have none at the level of their command
+level_free : (words : List Text) → fault_of command_line words ≡ []
+    → entered_fault (built command_line) (walk rules names_below nothing_held words).stopped ≡ []
+level_free words e = (both_empty _ _ (both_empty _ _ e).1).0
+
+-- what the whole command line makes of a walk that was stopped by a command's name
+abbrev top_fault : List Text → Walk → Kinds
+top_fault words w =
+    or_else (walk_fault top names_below (walk_from nothing_held) words)
+    (or_else (entered_fault (built command_line) w.stopped)
+    (or_else (settle_fault rules false w.held)
+    (or_else (defaults_fault (settled rules w.held).rows rules)
+    (check_fault top (finished rules w.held) (is_some (entered (built command_line) w.stopped))))))
+
+-- a command of the program, with its arguments as they are built
+pub record IsCommand (name : Text) (base : Shape) (c : List Rule) : Type 0 where
+  pub is : IsIn name commands
+  pub enters : (rest : List Text) → entered_fault (built command_line) (Some (name, rest)) ≡ level_fault (level base c) [] nothing_held rest false []
+  pub meets : (rest : List Text) → entered (built command_line) (Some (name, rest)) ≡ Some (name, rows_after c [] rest)
+
+module _ (name : Text) (base : Shape) (c : List Rule) (command : IsCommand name base c) where
+  -- where nothing is wrong at its level, nothing is
+  pub free_by : (rest : List Text) → level_fault (level base c) [] nothing_held rest false [] ≡ [] → fault_of command_line (name ∷ rest) ≡ []
+  unfolding defaults_fault
+  free_by rest free =
+      ap (top_fault (name ∷ rest)) (stands name command.is rest)
+      ∙ ap₂ (λ (a b : Kinds). or_else a (or_else b (check_fault top [] (is_some (entered (built command_line) (Some (name, rest)))))))
+      (walk_free name command.is rest) (command.enters rest ∙ free)
+      ∙ ap (λ (o : Option (Text × List Row)). check_fault top [] (is_some o)) (command.meets rest)
+
+  -- and the other way round
+  pub level_by : (rest : List Text) → fault_of command_line (name ∷ rest) ≡ [] → level_fault (level base c) [] nothing_held rest false [] ≡ []
+  level_by rest none = sym (command.enters rest) ∙ ap (entered_fault (built command_line)) (sym (stops name command.is rest)) ∙ level_free (name ∷ rest) none
+
+  -- what the parser meets
+  pub met_by : (rest : List Text) → subcommand_of command_line (name ∷ rest) ≡ Some (name, rows_after c [] rest)
+  met_by rest = ap (entered (built command_line)) (stops name command.is rest) ∙ command.meets rest
+
+-- ---- words without a mistake
+
+dashes_alone : fault_of command_line (dashes ∷ []) ≡ [] → ⊥
+unfolding clap_on_literals
+dashes_alone e = cc
+
+none_alone : fault_of command_line [] ≡ [] → ⊥
+unfolding clap_on_literals
+none_alone e = cc
+
+another_word : (v : Text) (vs : List Text) → AllByRecursion (λ name. bytes_eq name v ≡ false) commands → fault_of command_line (v ∷ vs) ≡ [] → ⊥
+another_word v vs others e =
+    let none : subcommand_met names_below idle v ≡ None = ap (option_map (λ (s : Text × List Text). s.0)) (none_in v commands others) in
+    let alone = top_words v vs none (both_empty _ _ e).0 in
+    dashes_alone (ap (fault_of command_line) (sym alone) ∙ e)
+
+-- the words begin with one of the commands
+abbrev pub IsCalled : Text → List Text → Type 0
+IsCalled name words = IsIn name commands × BeginsWith name words
+
 -- words without a mistake name one of the commands
 pub one_command : (words : List Text) → fault_of command_line words ≡ [] → (name : Text) × IsCalled name words
 one_command [] e = absurd (none_alone e)
 one_command (v ∷ vs) e = elim (in_or_none v commands) [
-  | inl there ↦ (v, (there, called_by v vs there e))
+  | inl there ↦ (v, (there, (vs, refl)))
   | inr none ↦ absurd (another_word v vs none e)
 ]
+
+-- ---- the command that is met
+
+find_map : {X Y : Type 0} (f : X → Y) (p : Y → Bool) (xs : List X) → option_map f (find (λ x. p (f x)) xs) ≡ find p (map f xs)
+find_map f p [] = refl
+find_map f p (x ∷ xs) = go (p (f x)) (find_map f p xs)
+  where
+    go : (b : Bool) → option_map f (find (λ x. p (f x)) xs) ≡ find p (map f xs)
+        → option_map f (cond b (Some x) (find (λ x. p (f x)) xs)) ≡ cond b (Some (f x)) (find p (map f xs))
+    go true rest = refl
+    go false rest = rest
+
+abbrev pub name_met : Option (Text × List Row) → Option Text
+name_met met = option_map (λ (p : Text × List Row). p.0) met
+
+name_of_shape : (o : Option Shape) (words : List Text) → name_met (option_map (λ (s : Shape). rows_at s words) o) ≡ option_map (λ (l : Text × List Text). l.0) (option_map label_of o)
+name_of_shape None words = refl
+name_of_shape (Some s) words = refl
+
+-- a command is met where its name stands first
+pub first_met : (name : Text) (words : List Text) → IsIn name commands → IsMet name (subcommand_of command_line (name ∷ words))
+first_met name words is =
+    ap (λ (s : Option (Text × List Text)). name_met (entered (built command_line) s)) (stops name is words)
+    ∙ name_of_shape (find (λ (s : Shape). answers_to name (label_of s)) (built command_line).subs) words
+    ∙ ap (option_map (λ (l : Text × List Text). l.0)) (find_map label_of (answers_to name) (built command_line).subs ∙ named_in name commands is)

@@ -6,7 +6,7 @@ use Rattle.clap.specs.Words.{App, HasKind, HasMatchesOf, IsAmong, Kinds, all_of,
 use Rattle.clap.specs.Walk.{Row, Text}
 use Rattle.clap.specs.declared.error.Error.{Error}
 use Rattle.clap.specs.declared.error.ErrorKind.{ErrorKind}
-use Rattle.clap.specs.declared.error.ErrorKind.TheVariants.{ArgumentConflict, DisplayHelp, DisplayVersion, InvalidValue, MissingRequiredArgument, OutOfMemory}
+use Rattle.clap.specs.declared.error.ErrorKind.TheVariants.{ArgumentConflict, DisplayHelp, DisplayVersion, InvalidSubcommand, InvalidValue, MissingRequiredArgument, OutOfMemory}
 use Rattle.clap.specs.declared.parser.matches.ArgMatches.{ArgMatches}
 use Rattle.clap.proofs.OnLiterals.{clap_on_literals}
 use Rattle.clap.specs.Matches.{first_value}
@@ -16,9 +16,9 @@ use Rattle.clap.proofs.WalkLemmas.{first_value-rows, raw_values-rows}
 use Rattle.std.specs.Str.{bytes_eq}
 use Rattle.std.proofs.lemmas.Slice.Eq.{bytes_eq-Decides}
 use Rattle.clap.specs.Kinds.{or_else}
-use Rattle.ic_args.specs.Words.{BeginsWith, asks_in_place, asks_rounds, command_line, format_mistakes, is_format, is_given, is_met, own_mistakes, reduce_faults, reduce_mistakes, value_met, values_met}
+use Rattle.ic_args.specs.Words.{BeginsWith, asks_in_place, asks_rounds, command_line, format_mistakes, has_help, help_mistakes, is_format, is_given, is_met, own_mistakes, reduce_faults, reduce_mistakes, value_if_met, value_met, values_met}
 use Rattle.ic_args.specs.inner.Asking.{IsIn, IsMet, commands}
-use Rattle.ic_args.proofs.WordsExact.{ByBareness, IsCalled, is_bare, stops, settle_stands, once_stands, create_stands, serve_stands, attend_stands, reduce_stands, trace_stands, draw_stands, dump_stands, inspect_stands, check_stands, batch_stands}
+use Rattle.ic_args.proofs.WordsExact.{IsCalled, first_met}
 
 command_line_simple : is_simple_and_free command_line ≡ true
 unfolding clap_on_literals
@@ -86,53 +86,17 @@ simple : is_simple command_line ≡ true
 unfolding clap_on_literals
 simple = refl
 
-option_map_twice : {X Y Z : Type 0} (f : Y → Z) (g : X → Y) (o : Option X) → option_map f (option_map g o) ≡ option_map (λ x. f (g x)) o
-option_map_twice f g None = refl
-option_map_twice f g (Some x) = refl
-
-name_of_rows : (m : ArgMatches) → option_map (λ (p : Text × List Row). p.0) (subcommand_rows_of m) ≡ subcommand_name_of m
-name_of_rows m = option_map_twice _ _ _
-
--- a command is met where its name stands first
-met_first : (name one : Text) (words : List Text) → name ≡ one → (command_of (one ∷ words) ≡ Some one) → command_of (name ∷ words) ≡ Some name
-met_first name one words is met = subst (λ (n : Text). command_of (n ∷ words) ≡ Some n) (sym is) met
-
-abbrev entered_name : Option (Text × List Text) → Option Text
-entered_name s = option_map (λ (p : Text × List Row). p.0) (entered (built command_line) s)
-
-first_met : (name : Text) (words : List Text) → IsIn name commands → command_of (name ∷ words) ≡ Some name
-first_met name words (inl is) = met_first name (codes "settle") words is (ap entered_name (stops (codes "settle") words (settle_stands words)))
-first_met name words (inr (inl is)) = met_first name (codes "once") words is (ap entered_name (stops (codes "once") words (once_stands words)))
-first_met name words (inr (inr (inl is))) = met_first name (codes "create") words is (ap entered_name (stops (codes "create") words (create_stands words)))
-first_met name words (inr (inr (inr (inl is)))) = met_first name (codes "serve") words is (ap entered_name (stops (codes "serve") words (serve_stands words)))
-first_met name words (inr (inr (inr (inr (inl is))))) = met_first name (codes "attend") words is (ap entered_name (stops (codes "attend") words (attend_stands words)))
-first_met name words (inr (inr (inr (inr (inr (inl is)))))) = met_first name (codes "reduce") words is (ap entered_name (stops (codes "reduce") words (reduce_stands words)))
-first_met name words (inr (inr (inr (inr (inr (inr (inl is))))))) = met_first name (codes "trace") words is (ap entered_name (stops (codes "trace") words (trace_stands words)))
-first_met name words (inr (inr (inr (inr (inr (inr (inr (inl is)))))))) = met_first name (codes "draw") words is (ap entered_name (stops (codes "draw") words (draw_stands words)))
-first_met name words (inr (inr (inr (inr (inr (inr (inr (inr (inl is))))))))) = met_first name (codes "dump") words is (ap entered_name (stops (codes "dump") words (dump_stands words)))
-first_met name words (inr (inr (inr (inr (inr (inr (inr (inr (inr (inl is)))))))))) = met_first name (codes "inspect") words is (ap entered_name (stops (codes "inspect") words (inspect_stands words)))
-first_met name words (inr (inr (inr (inr (inr (inr (inr (inr (inr (inr (inl is))))))))))) = met_first name (codes "check") words is (ap entered_name (stops (codes "check") words (check_stands words)))
-first_met name words (inr (inr (inr (inr (inr (inr (inr (inr (inr (inr (inr (inl is)))))))))))) = met_first name (codes "batch") words is (ap entered_name (stops (codes "batch") words (batch_stands words)))
-first_met name words (inr (inr (inr (inr (inr (inr (inr (inr (inr (inr (inr (inr none)))))))))))) = absurd none
-
-begins_by : (bare : Bool) (name : Text) (words : List Text) → ByBareness bare name words → BeginsWith name words
-begins_by true name words (inl alone) = ([], alone)
-begins_by true name words (inr dashed) = (_, dashed)
-begins_by false name words begins = begins
-
 -- the command that the words name is the one that the parser met
 pub called_met : (name : Text) (words : List Text) → IsCalled name words → IsMet name (subcommand_of command_line words)
-called_met name words called =
-    let begins = begins_by (is_bare name) name words called.1 in
-    ap command_of begins.1 ∙ first_met name begins.0 called.0
+called_met name words called = ap command_of called.1.1 ∙ first_met name called.1.0 called.0
 
 -- and it is no other
 pub one_met : (name one : Text) (met : Option (Text × List Row)) → IsMet name met → IsMet one met → name ≡ one
 one_met name one met is other = ap (λ (o : Option Text). unwrap_or o []) (sym is ∙ other)
 
-pub called_as : (name one : Text) (words : List Text) → IsCalled name words → IsMet one (subcommand_of command_line words) → ByBareness (is_bare one) one words
+pub called_as : (name one : Text) (words : List Text) → IsCalled name words → IsMet one (subcommand_of command_line words) → BeginsWith one words
 called_as name one words called is =
-    subst (λ (n : Text). ByBareness (is_bare n) n words) (one_met name one _ (called_met name words called) is) called.1
+    subst (λ (n : Text). BeginsWith n words) (one_met name one _ (called_met name words called) is) called.1
 
 -- the rows of the command that the parser met
 pub rows_met : (app : App) (words : List Text) (m : ArgMatches) → app ≡ command_line → HasMatchesOf app words m
@@ -175,6 +139,10 @@ another_format (Some p) is other =
     let same : p.0 ≡ codes "trace" = ap (λ (o : Option Text). unwrap_or o []) is in
     ap₂ (λ (b c : Bool). cond (b && not c) (InvalidValue ∷ []) []) (ap (λ (n : Text). bytes_eq n (codes "trace")) same) other
 
+-- what `help` comes to, by two tests
+abbrev pub help_by_test : Bool → Bool → Kinds
+help_by_test is has = cond (not is) [] (cond has (DisplayHelp ∷ []) (InvalidSubcommand ∷ []))
+
 -- a command that isn't `reduce` has no mistake of it
 pub no_reduce : (one : Text) (met : Option (Text × List Row)) → IsMet one met → bytes_eq one (codes "reduce") ≡ false → reduce_mistakes met ≡ []
 no_reduce one None is other = refl
@@ -182,9 +150,25 @@ no_reduce one (Some p) is other =
     let same : p.0 ≡ one = ap (λ (o : Option Text). unwrap_or o []) is in
     ap (λ (b : Bool). cond b (reduce_faults (Some p)) []) (ap (λ (n : Text). bytes_eq n (codes "reduce")) same ∙ other)
 
+-- a command that isn't `help` asks for none by itself
+pub no_help : (one : Text) (met : Option (Text × List Row)) → IsMet one met → bytes_eq one (codes "help") ≡ false → help_mistakes met ≡ []
+no_help one None is other = refl
+no_help one (Some p) is other =
+    let same : p.0 ≡ one = ap (λ (o : Option Text). unwrap_or o []) is in
+    ap (λ (b : Bool). help_by_test b (has_help (value_if_met (codes "word") (Some p)))) (ap (λ (n : Text). bytes_eq n (codes "help")) same ∙ other)
+
+-- and what `help` comes to, by whether its word names a command
+pub is_help : (met : Option (Text × List Row)) (has : Bool) → IsMet (codes "help") met → has_help (value_if_met (codes "word") met) ≡ has
+    → own_mistakes met ≡ help_by_test true has
+is_help None has is named = cc
+is_help (Some p) has is named =
+    let same : p.0 ≡ codes "help" = ap (λ (o : Option Text). unwrap_or o []) is in
+    ap₂ or_else (no_format (codes "help") (Some p) is refl)
+    (ap₂ or_else (no_reduce (codes "help") (Some p) is refl) (ap₂ help_by_test (ap (λ (n : Text). bytes_eq n (codes "help")) same) named))
+
 pub no_own : (one : Text) (met : Option (Text × List Row)) → IsMet one met → bytes_eq one (codes "trace") ≡ false → bytes_eq one (codes "reduce") ≡ false
-    → own_mistakes met ≡ []
-no_own one met is trace reduce = ap₂ or_else (no_format one met is trace) (no_reduce one met is reduce)
+    → bytes_eq one (codes "help") ≡ false → own_mistakes met ≡ []
+no_own one met is trace reduce help = ap₂ or_else (no_format one met is trace) (ap₂ or_else (no_reduce one met is reduce) (no_help one met is help))
 
 -- ---- `reduce`
 
@@ -195,7 +179,12 @@ is_reduce (Some p) is =
     ap (λ (b : Bool). cond b (reduce_faults (Some p)) []) (ap (λ (n : Text). bytes_eq n (codes "reduce")) same)
 
 pub of_reduce : (met : Option (Text × List Row)) → IsMet (codes "reduce") met → own_mistakes met ≡ reduce_faults met
-of_reduce met is = ap₂ or_else (no_format (codes "reduce") met is refl) (is_reduce met is)
+of_reduce met is =
+    ap₂ or_else (no_format (codes "reduce") met is refl) (ap₂ or_else (is_reduce met is) (no_help (codes "reduce") met is refl) ∙ alone (reduce_faults met))
+  where
+    alone : (kinds : Kinds) → or_else kinds [] ≡ kinds
+    alone [] = refl
+    alone (k ∷ ks) = refl
 
 -- its faults, by what is asked
 abbrev faults_by : Bool → Bool → Bool → Kinds
@@ -229,22 +218,17 @@ among_all k (x ∷ xs) b among = among
 -- ---- the value of an option
 
 value_of_rows : (option : Text) (met : Option (Text × List Row)) (rows : List Row)
-    → Some rows ≡ option_map (λ (p : Text × List Row). p.1) met → value_met option met ≡ unwrap_or (first_of option rows) []
+    → Some rows ≡ option_map (λ (p : Text × List Row). p.1) met → value_if_met option met ≡ first_of option rows
 value_of_rows option None rows is = cc
-value_of_rows option (Some p) rows is = let e : rows ≡ p.1 = cc in ap (λ r. unwrap_or (first_of option r) []) (sym e)
-
-text_or_none : (read : Option (Bor Text)) (none : Bor Text) → none.now ≡ [] → (unwrap_or read none).now ≡ unwrap_or (option_map (λ s. s.now) read) []
-text_or_none None none is = is
-text_or_none (Some text) none is = refl
+value_of_rows option (Some p) rows is = let e : rows ≡ p.1 = cc in ap (first_of option) (sym e)
 
 -- the text of the option's value in the matches of a command, whose rows these are
-pub value_read : (option : Text) (met : Option (Text × List Row)) (found : Found) (read : Option (Bor Text)) (none : Bor Text)
-    → none.now ≡ [] → Some (rows_of found) ≡ option_map (λ (p : Text × List Row). p.1) met
-    → option_map (λ s. s.now) read ≡ first_value found option → (unwrap_or read none).now ≡ value_met option met
-value_read option met found read none empty rows is =
-    text_or_none read none empty ∙ ap (λ o. unwrap_or o []) (is ∙ first_value-rows found option) ∙ sym (value_of_rows option met (rows_of found) rows)
+pub value_read : (option : Text) (met : Option (Text × List Row)) (found : Found) (read : Option (Bor Text))
+    → Some (rows_of found) ≡ option_map (λ (p : Text × List Row). p.1) met
+    → option_map (λ s. s.now) read ≡ first_value found option → option_map (λ s. s.now) read ≡ value_if_met option met
+value_read option met found read rows is = is ∙ first_value-rows found option ∙ sym (value_of_rows option met (rows_of found) rows)
 
-pub value_missing : (option : Text) (met : Option (Text × List Row)) → None ≡ option_map (λ (p : Text × List Row). p.1) met → [] ≡ value_met option met
+pub value_missing : (option : Text) (met : Option (Text × List Row)) → None ≡ option_map (λ (p : Text × List Row). p.1) met → None ≡ value_if_met option met
 value_missing option None is = refl
 value_missing option (Some p) is = cc
 

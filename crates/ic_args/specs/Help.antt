@@ -1,6 +1,6 @@
 -- To be believed: the help of the program and of each of its commands, line by line (this project's
 -- choice).
-use Rattle.std.specs.Prelude.{◌≡◌, ℕ, List, [], ◌∷◌, ◌++◌, codes, bytes_eq, if◌then◌else◌, length, take, drop}
+use Rattle.std.specs.Prelude.{◌≡◌, ℕ, List, [], ◌∷◌, ◌++◌, codes, bytes_eq, find, Option, None, Some, option_map, unwrap_or, length, take, drop}
 use Rattle.std.specs.List.{flat_map}
 use Rattle.clap.specs.Words.{Text}
 
@@ -13,7 +13,7 @@ program_help = text_of (codes "A job server for the interaction calculus"
     ∷ []
     ∷ codes "Usage: icserve <COMMAND>"
     ∷ []
-    ∷ codes "To look at a system, which is read from standard input:"
+    ∷ codes "To look at a system, which is read from a file or from standard input:"
     ∷ codes "  reduce   Reduces it until no step is possible, and prints the configuration"
     ∷ codes "  trace    Tells what each round of it does, as a table or a picture"
     ∷ codes "  draw     Draws the net of a configuration as a graph, with its rules or without"
@@ -24,34 +24,56 @@ program_help = text_of (codes "A job server for the interaction calculus"
     ∷ codes "To run jobs, which outlive a crash:"
     ∷ codes "  create   Makes the file F an empty disk"
     ∷ codes "  serve    Serves the lines of standard input over the disk in the file F"
-    ∷ (codes "  attend   Gives the commands of scripts to the disk in the file F, one"
-    ++ codes " client to a script")
-    ∷ (codes "  batch    Brings the jobs that the lines submit to their ends,"
-    ++ codes " over the disk in the file F")
+    ∷ (codes "  attend   Gives the commands of scripts to the disk in the file F, one client"
+    ++ codes " to a script")
+    ∷ (codes "  batch    Brings the jobs that the lines submit to their ends, over the disk"
+    ++ codes " in the file F")
     ∷ codes "  dump     Prints jobs of the disk in the file F, as lines that submit them"
     ∷ codes "  inspect  Tells what the file F holds, which a server may have open"
+    ∷ []
+    ∷ codes "To read on:"
+    ∷ codes "  help     Shows this help, or that of a command: icserve help reduce tells the language"
     ∷ []
     ∷ codes "Options:"
     ∷ codes "  -h, --help     Print help"
     ∷ codes "  -V, --version  Print version"
+    ∷ []
+    ∷ codes "Example, two and two:"
+    ∷ codes "  $ echo '{Add(x,x)><Z; Add(S(x),y)><S(Add(x,y))} <r|Add(r,S(S(Z)))=S(S(Z))>' > sum.ic"
+    ∷ codes "  $ icserve reduce sum.ic"
+    ∷ codes "  <S(S(S(S(Z))))|>"
     ∷ [])
 
 abbrev pub settle_help : Text
-settle_help = text_of (codes "Settles the configuration on standard input and prints it"
+settle_help = text_of (codes "Settles a configuration and prints it: names that only join two terms are removed"
     ∷ []
-    ∷ codes "Usage: icserve settle"
+    ∷ codes "Usage: icserve settle [FILE]"
+    ∷ []
+    ∷ codes "Arguments:"
+    ∷ codes "  [FILE]  The path of the text; where there is none, or -, standard input is read"
     ∷ []
     ∷ codes "Options:"
     ∷ codes "  -h, --help  Print help"
+    ∷ []
+    ∷ codes "Example:"
+    ∷ codes "  $ echo '<r|r=S(s),s=Z>' | icserve settle"
+    ∷ codes "  <S(Z)|>"
     ∷ [])
 
 abbrev pub once_help : Text
-once_help = text_of (codes "Makes one round of the system on standard input and prints the configuration"
+once_help = text_of (codes "Makes one round of a system and prints the configuration"
     ∷ []
-    ∷ codes "Usage: icserve once"
+    ∷ codes "Usage: icserve once [FILE]"
+    ∷ []
+    ∷ codes "Arguments:"
+    ∷ codes "  [FILE]  The path of the text; where there is none, or -, standard input is read"
     ∷ []
     ∷ codes "Options:"
     ∷ codes "  -h, --help  Print help"
+    ∷ []
+    ∷ codes "Example:"
+    ∷ codes "  $ echo '{Add(x,x)><Z; Add(S(x),y)><S(Add(x,y))} <r|Add(r,S(Z))=S(Z)>' | icserve once"
+    ∷ codes "  <S(s)|Z=Add(s,S(Z))>"
     ∷ [])
 
 abbrev pub create_help : Text
@@ -63,6 +85,11 @@ create_help = text_of (codes "Makes the file F an empty disk"
     ∷ codes "      --disk <F>   The path of the file, which is made where it is missing"
     ∷ codes "      --overwrite  Whatever the file holds, jobs too"
     ∷ codes "  -h, --help       Print help"
+    ∷ []
+    ∷ codes "Example:"
+    ∷ codes "  $ icserve create --disk jobs.disk"
+    ∷ codes "  $ echo list | icserve serve --disk jobs.disk"
+    ∷ codes "  jobs"
     ∷ [])
 
 abbrev pub serve_help : Text
@@ -72,16 +99,38 @@ serve_help = text_of (codes "Serves the lines of standard input over the disk in
     ∷ []
     ∷ codes "Options:"
     ∷ codes "      --disk <F>     The path of the file, which has to be a disk"
-    ∷ (codes "      --workers <N>  Threads for a round of 4000 equations or more,"
-    ++ codes " from 1 to 64 [default: 2]")
-    ∷ (codes "      --every <K>    After how many rounds of a run they are kept,"
-    ++ codes " from 1 to 1000000 [default: 100]")
+    ∷ (codes "      --workers <N>  Threads for a round of 4000 equations or more, from 1 to"
+    ++ codes " 64 [default: 2]")
+    ∷ (codes "      --every <K>    After how many rounds of a run they are kept, from 1 to"
+    ++ codes " 1000000 [default: 100]")
     ∷ codes "  -h, --help         Print help"
+    ∷ []
+    ∷ codes "Lines, and what is answered where they aren't refused:"
+    ∷ codes "  submit NAME {RULES} <CONFIG>         accepted"
+    ∷ codes "  submit NAME BUDGET {RULES} <CONFIG>  accepted: it makes at most BUDGET rounds"
+    ∷ codes "  copy OLD NEW                         accepted: NEW goes on where OLD stands"
+    ∷ (codes "  run K                                ran N: the rounds that were made of"
+    ++ codes " running jobs, in turn")
+    ∷ codes "  fetch NAME                           NAME STATE ROUNDS CONFIG"
+    ∷ codes "  list                                 jobs NAME:STATE:ROUNDS .."
+    ∷ codes "  pause NAME, resume NAME              ok"
+    ∷ codes "  cancel NAME                          ok: the job is removed"
+    ∷ codes "A line with a fault is answered by bad, one that can't be done by refused."
+    ∷ []
+    ∷ codes "Example:"
+    ∷ codes "  $ icserve create --disk jobs.disk"
+    ∷ (codes "  $ echo 'submit two {Add(x,x)><Z; Add(S(x),y)><S(Add(x,y))}"
+    ++ codes " <r|Add(r,S(Z))=S(Z)>' > lines")
+    ∷ codes "  $ echo 'run 10' >> lines"
+    ∷ codes "  $ echo 'fetch two' >> lines"
+    ∷ codes "  $ icserve serve --disk jobs.disk < lines"
+    ∷ codes "  accepted"
+    ∷ codes "  ran 2"
+    ∷ codes "  two done 2 <S(S(Z))|>"
     ∷ [])
 
 abbrev pub attend_help : Text
-attend_help = text_of ((codes "Gives the commands of scripts to the disk in the file F,"
-    ++ codes " one client to a script")
+attend_help = text_of (codes "Gives the commands of scripts to the disk in the file F, one client to a script"
     ∷ []
     ∷ codes "Usage: icserve attend [OPTIONS] --disk <F> [SCRIPT]..."
     ∷ []
@@ -90,58 +139,104 @@ attend_help = text_of ((codes "Gives the commands of scripts to the disk in the 
     ∷ []
     ∷ codes "Options:"
     ∷ codes "      --disk <F>     The path of the file, which has to be a disk"
-    ∷ (codes "      --runners <R>  Threads that take rounds of running jobs,"
-    ++ codes " from 0 to 64 [default: 2]")
-    ∷ (codes "      --turns <T>    Rounds that each makes at most after the scripts,"
-    ++ codes " from 0 to 1000000 [default: 0]")
+    ∷ codes "      --runners <R>  Threads that take rounds of running jobs, from 0 to 64 [default: 2]"
+    ∷ (codes "      --turns <T>    Rounds that each makes at most after the scripts, from 0"
+    ++ codes " to 1000000 [default: 0]")
     ∷ codes "      --workers <N>  Threads for each round, from 1 to 64 [default: 2]"
     ∷ codes "  -h, --help         Print help"
+    ∷ []
+    ∷ codes "Example:"
+    ∷ codes "  $ icserve create --disk jobs.disk"
+    ∷ codes "  $ echo list > script"
+    ∷ codes "  $ icserve attend --disk jobs.disk script"
+    ∷ codes "  client 0"
+    ∷ codes "  jobs"
     ∷ [])
 
 abbrev pub reduce_help : Text
-reduce_help = text_of ((codes "Reduces the system on standard input until no step is possible,"
-    ++ codes " and prints the configuration")
+reduce_help = text_of (codes "Reduces a system until no step is possible, and prints the configuration"
     ∷ []
-    ∷ codes "Usage: icserve reduce [OPTIONS]"
+    ∷ codes "Usage: icserve reduce [OPTIONS] [FILE]"
+    ∷ []
+    ∷ codes "Arguments:"
+    ∷ codes "  [FILE]  The path of the text; where there is none, or -, standard input is read"
     ∷ []
     ∷ codes "Options:"
     ∷ (codes "      --steps <N>    How many interactions are made at most, from 0 to"
     ++ codes " 4611686018427387903 [default: 4611686018427387903]")
-    ∷ (codes "      --nodes <N>    How many names, and agents with arguments, the net has at most,"
-    ++ codes " from 0 to 4611686018427387903 [default: 134217728]")
-    ∷ codes "      --partial      Print the configuration too where the net, a round or memory ends it"
+    ∷ (codes "      --nodes <N>    How many names, and agents with arguments, the net has at"
+    ++ codes " most, from 0 to 4611686018427387903 [default: 134217728]")
+    ∷ (codes "      --partial      Print the configuration too where the net, a round or"
+    ++ codes " memory ends it")
     ∷ codes "      --stats        Tell how many interactions were made, and how fast"
-    ∷ (codes "      --rounds <N>   Make rounds, and at most so many, from 0 to"
-    ++ codes " 4611686018427387904")
-    ∷ (codes "      --workers <N>  Threads for a round of 4000 equations or more,"
-    ++ codes " from 1 to 64 [default: 2]")
+    ∷ codes "      --rounds <N>   Make rounds, and at most so many, from 0 to 4611686018427387904"
+    ∷ (codes "      --workers <N>  Threads for a round of 4000 equations or more, from 1 to"
+    ++ codes " 64 [default: 2]")
     ∷ codes "  -h, --help         Print help"
     ∷ []
-    ∷ (codes "The exit status is 5 where a step is still possible"
-    ++ codes " after the last interaction or round.")
+    ∷ codes "The exit status is 5 where a step is still possible after the last interaction or round."
+    ∷ []
+    ∷ codes "The language:"
+    ∷ codes "  {Add(x,x)><Z; Add(S(x),y)><S(Add(x,y))}  rules, separated by ;"
+    ∷ (codes "  <r|Add(r,S(Z))=S(Z)>      a configuration: its interface | its equations,"
+    ++ codes " separated by ,")
+    ∷ (codes "  x, y, r, a1               names: a small letter, maybe a number; in a rule"
+    ++ codes " each stands twice")
+    ∷ (codes "  Add, S, Z, 0              symbols: A to Z or 0 to 9 first; each has one"
+    ++ codes " number of arguments")
+    ∷ codes "  Add(x,x)><Z               where Add meets Z, the two arguments of Add are joined"
+    ∷ codes "  Add(S(x),y)><S(Add(x,y))  what stands at the argument of S is Add(x,y)"
+    ∷ (codes "  Add(r,n)=m                two agents fire where a rule has their symbols; r"
+    ++ codes " is the result")
+    ∷ (codes "  x=t                       t takes the place of the other x; a name that"
+    ++ codes " stands once is free")
+    ∷ codes "A text has at most 262144 bytes, 64 symbols, 256 rules and 8192 nodes, and no comments."
+    ∷ []
+    ∷ codes "Example:"
+    ∷ codes "  $ echo '{Add(x,x)><Z; Add(S(x),y)><S(Add(x,y))} <r|Add(r,S(Z))=S(Z)>' > sum.ic"
+    ∷ codes "  $ icserve reduce sum.ic"
+    ∷ codes "  <S(S(Z))|>"
     ∷ [])
 
 abbrev pub trace_help : Text
-trace_help = text_of (codes "Tells what the rounds of the system on standard input do, until no step is possible"
+trace_help = text_of (codes "Tells what the rounds of a system do, until no step is possible"
     ∷ []
-    ∷ codes "Usage: icserve trace [OPTIONS]"
+    ∷ codes "Usage: icserve trace [OPTIONS] [FILE]"
+    ∷ []
+    ∷ codes "Arguments:"
+    ∷ codes "  [FILE]  The path of the text; where there is none, or -, standard input is read"
     ∷ []
     ∷ codes "Options:"
     ∷ (codes "      --rounds <N>       How many rounds are made at most, from 0 to"
     ++ codes " 4611686018427387904 [default: 1000000]")
     ∷ codes "      --format <FORMAT>  A table with tabs (tsv) or a picture (svg) [default: tsv]"
     ∷ codes "  -h, --help             Print help"
+    ∷ []
+    ∷ codes "Example:"
+    ∷ (codes "  $ echo '{Add(x,x)><Z; Add(S(x),y)><S(Add(x,y))} <r|Add(r,S(Z))=S(Z)>' |"
+    ++ codes " icserve trace | expand")
+    ∷ codes "  round   pairs   nodes   equations       names"
+    ∷ codes "  1       1       7       1       2"
+    ∷ codes "  2       1       3       0       0"
     ∷ [])
 
 abbrev pub draw_help : Text
-draw_help = text_of (codes "Draws the net of the configuration on standard input as a graph in Graphviz's DOT"
+draw_help = text_of (codes "Draws the net of a configuration as a graph in Graphviz's DOT"
     ∷ []
-    ∷ codes "Usage: icserve draw"
+    ∷ codes "Usage: icserve draw [FILE]"
+    ∷ []
+    ∷ codes "Arguments:"
+    ∷ codes "  [FILE]  The path of the text; where there is none, or -, standard input is read"
     ∷ []
     ∷ codes "Options:"
     ∷ codes "  -h, --help  Print help"
     ∷ []
     ∷ codes "Rules may stand before the configuration: active pairs stand out then."
+    ∷ []
+    ∷ codes "Example:"
+    ∷ codes "  $ echo '<|A=B>' | icserve draw | tail -n 2"
+    ∷ codes "  A0:0 -- A1:0 [dir=both]"
+    ∷ codes "  }"
     ∷ [])
 
 abbrev pub dump_help : Text
@@ -155,6 +250,13 @@ dump_help = text_of (codes "Prints jobs of the disk in the file F, as lines that
     ∷ codes "Options:"
     ∷ codes "      --disk <F>  The path of the file, which has to be a disk"
     ∷ codes "  -h, --help      Print help"
+    ∷ []
+    ∷ codes "Example:"
+    ∷ codes "  $ icserve create --disk jobs.disk"
+    ∷ codes "  $ echo 'submit one {A(x)><B(x)} <r|A(r)=B(Z)>' | icserve serve --disk jobs.disk"
+    ∷ codes "  accepted"
+    ∷ codes "  $ icserve dump --disk jobs.disk one"
+    ∷ codes "  submit one {A(a)><B(a)} <r|A(r)=B(Z)>"
     ∷ [])
 
 abbrev pub inspect_help : Text
@@ -165,24 +267,37 @@ inspect_help = text_of (codes "Tells what the file F holds, which a server may h
     ∷ codes "Options:"
     ∷ codes "      --disk <F>  The path of the file, which stays as it is"
     ∷ codes "  -h, --help      Print help"
+    ∷ []
+    ∷ codes "Example:"
+    ∷ codes "  $ icserve create --disk jobs.disk"
+    ∷ codes "  $ icserve inspect --disk jobs.disk"
+    ∷ codes "  slot 1: open, number 1, body 5, a table"
+    ∷ codes "  slot 2: closed, number 0, body 0, no table"
+    ∷ codes "  held: slot 1"
     ∷ [])
 
 abbrev pub check_help : Text
-check_help = text_of ((codes "Prints the faults of texts with their places,"
-    ++ codes " and warns of what is mostly a mistake")
+check_help = text_of (codes "Prints the faults of texts with their places, and warns of what is mostly a mistake"
     ∷ []
     ∷ codes "Usage: icserve check <FILE>..."
     ∷ []
     ∷ codes "Arguments:"
-    ∷ codes "  <FILE>...  The paths of the texts, one at least"
+    ∷ codes "  <FILE>...  The paths of the texts, one at least; for - standard input is read"
     ∷ []
     ∷ codes "Options:"
     ∷ codes "  -h, --help  Print help"
+    ∷ []
+    ∷ codes "Example:"
+    ∷ codes "  $ echo '{A><B} <x|A=C>' > net.ic"
+    ∷ codes "  $ icserve check net.ic"
+    ∷ codes "  net.ic: warning: no rule for A><C"
+    ∷ codes "  net.ic: warning: B stands only once"
+    ∷ codes "  net.ic: warning: C stands only once"
+    ∷ codes "  net.ic: warning: rule 1, A><B, is never used"
     ∷ [])
 
 abbrev pub batch_help : Text
-batch_help = text_of ((codes "Brings the jobs that the lines submit to their ends,"
-    ++ codes " over the disk in the file F")
+batch_help = text_of (codes "Brings the jobs that the lines submit to their ends, over the disk in the file F"
     ∷ []
     ∷ codes "Usage: icserve batch [OPTIONS] --disk <F> <LINES>"
     ∷ []
@@ -193,30 +308,58 @@ batch_help = text_of ((codes "Brings the jobs that the lines submit to their end
     ∷ codes "      --disk <F>     The path of the file, which is made where it is missing"
     ∷ (codes "      --rounds <N>   How many rounds a job makes at most, from 0 to"
     ++ codes " 4611686018427387904 [default: 4611686018427387904]")
-    ∷ (codes "      --every <K>    After how many rounds they are kept,"
-    ++ codes " from 1 to 1000000 [default: 100]")
-    ∷ (codes "      --workers <N>  Threads for a round of 4000 equations or more,"
-    ++ codes " from 1 to 64 [default: 2]")
+    ∷ (codes "      --every <K>    After how many rounds they are kept, from 1 to 1000000"
+    ++ codes " [default: 100]")
+    ∷ (codes "      --workers <N>  Threads for a round of 4000 equations or more, from 1 to"
+    ++ codes " 64 [default: 2]")
     ∷ codes "  -h, --help         Print help"
     ∷ []
     ∷ codes "It may be stopped at any moment and called again with the same words."
+    ∷ []
+    ∷ codes "Example:"
+    ∷ (codes "  $ echo 'submit two {Add(x,x)><Z; Add(S(x),y)><S(Add(x,y))}"
+    ++ codes " <r|Add(r,S(Z))=S(Z)>' > lines")
+    ∷ codes "  $ icserve batch --disk jobs.disk lines"
+    ∷ codes "  two done 2 <S(S(Z))|>"
     ∷ [])
+
+abbrev pub help_help : Text
+help_help = text_of (codes "Shows the help of a command, or of the program"
+    ∷ []
+    ∷ codes "Usage: icserve help [WORD]"
+    ∷ []
+    ∷ codes "Arguments:"
+    ∷ codes "  [WORD]  The command; where there is none, the program's help is shown"
+    ∷ []
+    ∷ codes "Options:"
+    ∷ codes "  -h, --help  Print help"
+    ∷ []
+    ∷ codes "Example:"
+    ∷ codes "  $ icserve help settle"
+    ∷ codes "  (what icserve settle --help prints)"
+    ∷ [])
+
+-- the help of each command
+abbrev pub helps : List (Text × Text)
+helps = (codes "settle", settle_help) ∷ (codes "once", once_help) ∷ (codes "create", create_help)
+    ∷ (codes "serve", serve_help) ∷ (codes "attend", attend_help) ∷ (codes "reduce", reduce_help)
+    ∷ (codes "trace", trace_help) ∷ (codes "draw", draw_help) ∷ (codes "dump", dump_help)
+    ∷ (codes "inspect", inspect_help) ∷ (codes "check", check_help) ∷ (codes "batch", batch_help)
+    ∷ (codes "help", help_help) ∷ []
+
+-- the help of the command of this name, none where it names none
+abbrev pub named_help : Text → Option Text
+named_help word = option_map (λ p. p.1) (find (λ p. bytes_eq p.0 word) helps)
 
 -- the help that words ask for: that of the command that the first one names, or the program's
 abbrev pub help_of : List Text → Text
 help_of [] = program_help
-help_of (word ∷ words) = if bytes_eq word (codes "settle") then settle_help
-    else if bytes_eq word (codes "once") then once_help
-    else if bytes_eq word (codes "create") then create_help
-    else if bytes_eq word (codes "serve") then serve_help
-    else if bytes_eq word (codes "attend") then attend_help
-    else if bytes_eq word (codes "reduce") then reduce_help
-    else if bytes_eq word (codes "trace") then trace_help
-    else if bytes_eq word (codes "draw") then draw_help
-    else if bytes_eq word (codes "dump") then dump_help
-    else if bytes_eq word (codes "inspect") then inspect_help
-    else if bytes_eq word (codes "check") then check_help
-    else if bytes_eq word (codes "batch") then batch_help else program_help
+help_of (word ∷ words) = unwrap_or (named_help word) program_help
+
+-- the help of the command that a word names, or the program's where there is none
+abbrev pub help_by : Option Text → Text
+help_by None = program_help
+help_by (Some word) = help_of (word ∷ [])
 
 -- this part stands in a text
 abbrev pub Says : Text → Text → Type 0

@@ -1,5 +1,5 @@
 -- To be believed: the lines of words that are well formed, in words of their own.
-use Rattle.std.specs.Prelude.{◌≡◌, ◌≢◌, ◌⊎◌, ◌<◌, ◌≤◌, ◌^◌, ℕ, Bool, true, false, List, [], ◌∷◌, ◌++◌, codes, length}
+use Rattle.std.specs.Prelude.{◌≡◌, ◌≢◌, ◌⊎◌, ◌<◌, ◌≤◌, ◌^◌, ℕ, Bool, true, false, List, [], ◌∷◌, ◌++◌, codes, length, Option, None, Some}
 use Rattle.std.specs.List.{AllByRecursion}
 use Rattle.clap.specs.Words.{Text}
 use Rattle.ic_args.specs.Words.{IsDecimal, most_rounds, most_steps}
@@ -13,6 +13,16 @@ pub record Given : Type 0 where
 abbrev pub HasNoHyphen : Text → Type 0
 HasNoHyphen [] = Unit {0}
 HasNoHyphen (byte ∷ rest) = byte ≢ 45
+
+-- the word of a FILE, where a path may stand that begins with no hyphen, or a hyphen alone, or none
+abbrev pub IsFileWord : Option Text → List Text → Type 0
+IsFileWord None words = (words ≡ []) ⊎ (words ≡ codes "-" ∷ [])
+IsFileWord (Some path) words = (words ≡ path ∷ []) × HasNoHyphen path
+
+-- a command without options, and its FILE
+abbrev pub IsTextLine : (command : Text) → Option Text → List Text → Type 0
+IsTextLine command file words =
+    (rest : List Text) × (words ≡ command ∷ rest) × IsFileWord file rest
 
 -- an option is written `--name=value`, or as two words of which the second begins with no hyphen
 abbrev pub IsWritten : Given → List Text → Type 0
@@ -38,6 +48,13 @@ abbrev pub IsServeOption : Given → Type 0
 IsServeOption given = (given.name ≡ codes "disk")
     ⊎ (((given.name ≡ codes "workers") × IsWithin 1 64 given.value)
     ⊎ ((given.name ≡ codes "every") × IsWithin 1 1000000 given.value))
+
+-- an option of `batch`: a disk, or a number in its range
+abbrev pub IsBatchOption : Given → Type 0
+IsBatchOption given = (given.name ≡ codes "disk")
+    ⊎ (((given.name ≡ codes "rounds") × IsWithin 0 most_rounds given.value)
+    ⊎ (((given.name ≡ codes "every") × IsWithin 1 1000000 given.value)
+    ⊎ ((given.name ≡ codes "workers") × IsWithin 1 64 given.value)))
 
 -- an option of `attend`: a disk, or a number in its range
 abbrev pub IsAttendOption : Given → Type 0
@@ -152,6 +169,21 @@ pub record IsAttendLine (words : List Text) (path r t n : Text) (scripts : List 
   pub plain : AllByRecursion HasNoHyphen scripts
   pub few : length scripts < 2 ^ 64
 
+-- `batch --disk F`, with `--rounds N`, `--every K` and `--workers W` or without, in any order, each
+-- once, and behind them the path of lines, which begins with no hyphen
+pub record IsBatchLine (words : List Text) (path r k n lines : Text) : Type 0 where
+  pub given : List Given
+  pub front : List Text
+  pub begins : words ≡ codes "batch" ∷ (front ++ lines ∷ [])
+  pub written : AreWritten given front
+  pub options : AllByRecursion IsBatchOption given
+  pub once : AreOnce given
+  pub disk : Gives given (codes "disk") path
+  pub rounds : HasValue given (codes "rounds") (codes "4611686018427387904") r
+  pub every : HasValue given (codes "every") (codes "100") k
+  pub workers : HasValue given (codes "workers") (codes "2") n
+  pub plain : HasNoHyphen lines
+
 -- no option of this name is given
 abbrev pub HasNone : List Given → Text → Type 0
 HasNone given name = AllByRecursion (λ other. other.name ≢ name) given
@@ -167,12 +199,14 @@ abbrev pub HasFlag : List Given → Text → Bool → Type 0
 HasFlag given name true = Gives given name (codes "true")
 HasFlag given name false = HasNone given name
 
--- `reduce`, with these options in this order, each once
-pub record IsReduceLine (words : List Text) (given : List Given) : Type 0 where
+-- `reduce`, with these options in this order, each once, and its FILE
+pub record IsReduceLine (words : List Text) (given : List Given) (file : Option Text) : Type 0 where
+  pub front : List Text
   pub rest : List Text
-  pub begins : words ≡ codes "reduce" ∷ rest
-  pub written : AreWrittenBy IsReduceOption given rest
+  pub begins : words ≡ codes "reduce" ∷ (front ++ rest)
+  pub written : AreWrittenBy IsReduceOption given front
   pub once : AreOnce given
+  pub last : IsFileWord file rest
 
 -- options by which a net is reduced in place: bounds on interactions and on places, and two flags
 pub record AreInPlace (given : List Given) (s n : ℕ) (p t : Bool) : Type 0 where
@@ -192,12 +226,14 @@ pub record AreOfRounds (given : List Given) (most threads : ℕ) (p : Bool) : Ty
   pub partial : HasFlag given (codes "partial") p
   pub no_stats : HasNone given (codes "stats")
 
--- `trace`, with `--rounds N` and `--format tsv|svg` or without, in any order, each once
-pub record IsTraceLine (words : List Text) (most shown : Text) : Type 0 where
+-- `trace`, with `--rounds N` and `--format tsv|svg` or without, in any order, each once, and its FILE
+pub record IsTraceLine (words : List Text) (most shown : Text) (file : Option Text) : Type 0 where
   pub given : List Given
+  pub front : List Text
   pub rest : List Text
-  pub begins : words ≡ codes "trace" ∷ rest
-  pub written : AreWritten given rest
+  pub begins : words ≡ codes "trace" ∷ (front ++ rest)
+  pub written : AreWritten given front
+  pub last : IsFileWord file rest
   pub options : AllByRecursion IsTraceOption given
   pub once : AreOnce given
   pub rounds : HasValue given (codes "rounds") (codes "1000000") most

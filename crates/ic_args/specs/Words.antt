@@ -1,19 +1,19 @@
 -- What the words after the program's name ask for (this project's choice).
-use Rattle.std.specs.Prelude.{◌≡◌, ◌≢◌, ◌≤◌, ◌⊎◌, ℕ, Bool, pos, map, List, [], ◌∷◌, ◌++◌, Result, Ok, Err, true, false}
+use Rattle.std.specs.Prelude.{◌≡◌, ◌≢◌, ◌≤◌, ◌⊎◌, ℕ, Bool, map, List, fold, [], ◌∷◌, ◌++◌, Result, Ok, Err, true, false}
 use Rattle.std.specs.Prelude.{◌||◌, ◌&&◌, not, if◌then◌else◌, bytes_eq}
 use Rattle.std.specs.Option.{option_map_or}
-use Rattle.std.specs.Prelude.{codes, string_bytes, Option, Some, unwrap_or, option_and_then}
+use Rattle.std.specs.Prelude.{codes, string_bytes, Option, Some, None, is_some, option_map, unwrap_or, option_and_then}
 use Rattle.std.specs.Str.Parse.{IsNumeral, digits_value, without_leading_plus}
 use Rattle.clap.specs.Words.{App, IsAmong, Kinds, Row, Rule, Shape, Text, all_of, first_of, new_app}
 use Rattle.clap.specs.Words.{fault_of, new_rule, one_of, subcommand_of, with_rule, with_subcommand}
 use Rattle.clap.specs.Kinds.{or_else}
 use Rattle.clap.specs.Lexer.{usize_max}
+use Rattle.clap.specs.Walk.{is_empty}
 use Rattle.clap.specs.Simple.{on_top}
 use Rattle.clap.specs.declared.builder.action.ArgAction.TheVariants.{SetTrue}
-use Rattle.clap.specs.declared.builder.value_parser.ValueParser.{ValueParser}
 use Rattle.clap.specs.declared.builder.value_parser.ValueParser.TheVariants as parser
 use Rattle.clap.specs.declared.error.ErrorKind.{ErrorKind}
-use Rattle.clap.specs.declared.error.ErrorKind.TheVariants.{DisplayHelp, DisplayVersion, InvalidValue}
+use Rattle.clap.specs.declared.error.ErrorKind.TheVariants.{DisplayHelp, DisplayVersion, InvalidSubcommand, InvalidValue}
 use Rattle.clap.specs.declared.error.ErrorKind.TheVariants.{ArgumentConflict, MissingRequiredArgument}
 use Rattle.ic_args.specs.declared.words.Task.{Task}
 use Rattle.ic_args.specs.declared.words.Task.TheVariants.{Settle, Once, Create, Serve, Attend}
@@ -21,7 +21,7 @@ use Rattle.ic_args.specs.declared.words.Task.TheVariants.{Reduce, ReduceByRounds
 use Rattle.ic_args.specs.declared.words.Task.TheVariants.{Help, Version}
 use Rattle.ic_args.specs.declared.words.TraceFormat.{TraceFormat}
 use Rattle.ic_args.specs.declared.words.TraceFormat.TheVariants.{Tsv, Svg}
-use Rattle.ic_args.specs.Help.{help_of, program_help}
+use Rattle.ic_args.specs.Help.{help_by, help_of, named_help, program_help}
 use Rattle.ic_args.specs.declared.words.WordsFault.{WordsFault}
 use Rattle.ic_args.specs.declared.words.WordsFault.TheVariants.{Words, Memory}
 
@@ -39,6 +39,10 @@ with_settings s = record s {
 abbrev pub program : App
 program = on_top with_settings (new_app (codes "icserve"))
 
+-- a command with these options and arguments
+abbrev pub command_with : Text → List Rule → App
+command_with name rules = fold with_rule (new_app name) rules
+
 -- the option `--disk F`, which has to be given
 abbrev pub disk_option : Rule
 disk_option = record (new_rule (codes "disk")) {
@@ -54,48 +58,50 @@ flag name = record (new_rule name) {
   action = Some SetTrue;
 }
 
+-- an argument of this name, which may be given once
+abbrev pub optional_argument : Text → Rule
+optional_argument name = record (new_rule name) { value_names = 1 }
+
+-- the argument `FILE`, which may be given
+abbrev pub input_argument : Rule
+input_argument = optional_argument (codes "file")
+
+-- a command that reads a text, and has no option
+abbrev pub text_command : Text → App
+text_command name = command_with name (input_argument ∷ [])
+
 abbrev pub create_command : App
-create_command = with_rule (with_rule (new_app (codes "create")) disk_option) (flag (codes "overwrite"))
+create_command = command_with (codes "create") (disk_option ∷ flag (codes "overwrite") ∷ [])
 
--- the option `--workers N`, from 1 to 64, of which the default is 2
-abbrev pub workers_option : Rule
-workers_option = record (new_rule (codes "workers")) {
-  long = Some (codes "workers");
+-- the option `--name` with a text, and its default
+abbrev pub valued_option : (name default : Text) → Rule
+valued_option name default = record (new_rule name) {
+  long = Some name;
   value_names = 1;
-  defaults = codes "2" ∷ [];
-  parser = Some (parser.Signed (pos 1) (pos 64));
+  defaults = default ∷ [];
 }
 
--- the option `--every K`, from 1 to 1,000,000, of which the default is 100
-abbrev pub every_option : Rule
-every_option = record (new_rule (codes "every")) {
-  long = Some (codes "every");
+-- the option `--name` with a number from the least to the most, and its default, or none
+abbrev pub number_option : (name : Text) (least most : ℕ) (defaults : List Text) → Rule
+number_option name least most defaults = record (new_rule name) {
+  long = Some name;
   value_names = 1;
-  defaults = codes "100" ∷ [];
-  parser = Some (parser.Signed (pos 1) (pos 1000000));
+  defaults = defaults;
+  parser = Some (parser.Unsigned least most);
 }
+
+-- the most rounds: 2 ^ 62
+abbrev pub most_rounds : ℕ
+most_rounds = 4611686018427387904
+
+-- the most interactions and places of `reduce`: 2 ^ 62 - 1
+abbrev pub most_steps : ℕ
+most_steps = 4611686018427387903
 
 abbrev pub serve_command : App
-serve_command = with_rule (with_rule (with_rule (new_app (codes "serve")) disk_option) workers_option)
-    every_option
-
--- the option `--runners R`, from 0 to 64, of which the default is 2
-abbrev pub runners_option : Rule
-runners_option = record (new_rule (codes "runners")) {
-  long = Some (codes "runners");
-  value_names = 1;
-  defaults = codes "2" ∷ [];
-  parser = Some (parser.Unsigned 0 64);
-}
-
--- the option `--turns T`, from 0 to 1,000,000, of which the default is 0
-abbrev pub turns_option : Rule
-turns_option = record (new_rule (codes "turns")) {
-  long = Some (codes "turns");
-  value_names = 1;
-  defaults = codes "0" ∷ [];
-  parser = Some (parser.Unsigned 0 1000000);
-}
+serve_command = command_with (codes "serve") (disk_option
+    ∷ number_option (codes "workers") 1 64 (codes "2" ∷ [])
+    ∷ number_option (codes "every") 1 1000000 (codes "100" ∷ []) ∷ [])
 
 -- the arguments `SCRIPT..`, of which there may be any number
 abbrev pub script_argument : Rule
@@ -105,60 +111,22 @@ script_argument = record (new_rule (codes "script")) {
 }
 
 abbrev pub attend_command : App
-attend_command = with_rule (with_rule (with_rule (with_rule (with_rule (new_app (codes "attend"))
-    disk_option) runners_option) turns_option) workers_option) script_argument
-
--- the most rounds of `reduce` and `trace`: 2 ^ 62
-abbrev pub most_rounds : ℕ
-most_rounds = 4611686018427387904
-
--- the option `--rounds N`, from 0 to 2 ^ 62, of which the default is 1,000,000
-abbrev pub rounds_option : Rule
-rounds_option = record (new_rule (codes "rounds")) {
-  long = Some (codes "rounds");
-  value_names = 1;
-  defaults = codes "1000000" ∷ [];
-  parser = Some (parser.Unsigned 0 most_rounds);
-}
-
--- the option `--format FORMAT`, of which the default is tsv
-abbrev pub format_option : Rule
-format_option = record (new_rule (codes "format")) {
-  long = Some (codes "format");
-  value_names = 1;
-  defaults = codes "tsv" ∷ [];
-}
-
--- the option `--name N` of `reduce`, whose value is read so, without a default
-abbrev pub read_option : Text → ValueParser → Rule
-read_option name read = record (new_rule name) {
-  long = Some name;
-  value_names = 1;
-  parser = Some read;
-}
-
--- the options `--rounds N`, from 0 to 2 ^ 62, and `--workers N`, from 1 to 64, of `reduce`
-abbrev pub chosen_rounds : Rule
-chosen_rounds = read_option (codes "rounds") (parser.Unsigned 0 most_rounds)
-
-abbrev pub chosen_workers : Rule
-chosen_workers = read_option (codes "workers") (parser.Signed (pos 1) (pos 64))
-
--- the most interactions and places of `reduce`: 2 ^ 62 - 1
-abbrev pub most_steps : ℕ
-most_steps = 4611686018427387903
-
--- the options `--steps N` and `--nodes N` of `reduce`, from 0 to 2 ^ 62 - 1
-abbrev pub bound_option : Text → Rule
-bound_option name = read_option name (parser.Unsigned 0 most_steps)
+attend_command = command_with (codes "attend") (disk_option
+    ∷ number_option (codes "runners") 0 64 (codes "2" ∷ [])
+    ∷ number_option (codes "turns") 0 1000000 (codes "0" ∷ [])
+    ∷ number_option (codes "workers") 1 64 (codes "2" ∷ []) ∷ script_argument ∷ [])
 
 abbrev pub reduce_command : App
-reduce_command = with_rule (with_rule (with_rule (with_rule (with_rule (with_rule
-    (new_app (codes "reduce")) chosen_rounds) chosen_workers) (bound_option (codes "steps")))
-    (bound_option (codes "nodes"))) (flag (codes "partial"))) (flag (codes "stats"))
+reduce_command = command_with (codes "reduce") (number_option (codes "rounds") 0 most_rounds []
+    ∷ number_option (codes "workers") 1 64 []
+    ∷ number_option (codes "steps") 0 most_steps []
+    ∷ number_option (codes "nodes") 0 most_steps []
+    ∷ flag (codes "partial") ∷ flag (codes "stats") ∷ input_argument ∷ [])
 
 abbrev pub trace_command : App
-trace_command = with_rule (with_rule (new_app (codes "trace")) rounds_option) format_option
+trace_command = command_with (codes "trace")
+    (number_option (codes "rounds") 0 most_rounds (codes "1000000" ∷ [])
+    ∷ valued_option (codes "format") (codes "tsv") ∷ input_argument ∷ [])
 
 -- the argument of `dump` that names jobs, of which there may be any number
 abbrev pub name_argument : Rule
@@ -168,10 +136,10 @@ name_argument = record (new_rule (codes "name")) {
 }
 
 abbrev pub dump_command : App
-dump_command = with_rule (with_rule (new_app (codes "dump")) disk_option) name_argument
+dump_command = command_with (codes "dump") (disk_option ∷ name_argument ∷ [])
 
 abbrev pub inspect_command : App
-inspect_command = with_rule (new_app (codes "inspect")) disk_option
+inspect_command = command_with (codes "inspect") (disk_option ∷ [])
 
 -- the arguments `FILE..`, of which there is one at least
 abbrev pub file_argument : Rule
@@ -182,16 +150,7 @@ file_argument = record (new_rule (codes "file")) {
 }
 
 abbrev pub check_command : App
-check_command = with_rule (new_app (codes "check")) file_argument
-
--- the option `--rounds N` of `batch`, from 0 to 2 ^ 62, which is its default
-abbrev pub life_option : Rule
-life_option = record (new_rule (codes "rounds")) {
-  long = Some (codes "rounds");
-  value_names = 1;
-  defaults = codes "4611686018427387904" ∷ [];
-  parser = Some (parser.Unsigned 0 most_rounds);
-}
+check_command = command_with (codes "check") (file_argument ∷ [])
 
 -- the argument `LINES`, which has to be given
 abbrev pub lines_argument : Rule
@@ -201,13 +160,19 @@ lines_argument = record (new_rule (codes "lines")) {
 }
 
 abbrev pub batch_command : App
-batch_command = with_rule (with_rule (with_rule (with_rule (with_rule (new_app (codes "batch"))
-    disk_option) life_option) every_option) workers_option) lines_argument
+batch_command = command_with (codes "batch") (disk_option
+    ∷ number_option (codes "rounds") 0 most_rounds (codes "4611686018427387904" ∷ [])
+    ∷ number_option (codes "every") 1 1000000 (codes "100" ∷ [])
+    ∷ number_option (codes "workers") 1 64 (codes "2" ∷ []) ∷ lines_argument ∷ [])
+
+-- the command that shows the help of a command, or of the program
+abbrev pub help_command : App
+help_command = command_with (codes "help") (optional_argument (codes "word") ∷ [])
 
 -- the program with its commands `settle` and `once`
 abbrev pub with_streams : App
 with_streams = with_subcommand (with_subcommand program
-    (new_app (codes "settle")).top) (new_app (codes "once")).top
+    (text_command (codes "settle")).top) (text_command (codes "once")).top
 
 -- the same with `create`, `serve` and `attend`
 abbrev pub with_disks : App
@@ -217,12 +182,13 @@ with_disks = with_subcommand (with_subcommand (with_subcommand with_streams crea
 -- the same with `reduce`, `trace` and `draw`
 abbrev pub with_looks : App
 with_looks = with_subcommand (with_subcommand (with_subcommand with_disks reduce_command.top)
-    trace_command.top) (new_app (codes "draw")).top
+    trace_command.top) (text_command (codes "draw")).top
 
--- the command line of the program, which has `dump`, `inspect`, `check` and `batch`, too
+-- the command line of the program, which has `dump`, `inspect`, `check`, `batch` and `help`, too
 abbrev pub command_line : App
-command_line = with_subcommand (with_subcommand (with_subcommand (with_subcommand with_looks
-    dump_command.top) inspect_command.top) check_command.top) batch_command.top
+command_line = with_subcommand (with_subcommand (with_subcommand (with_subcommand (with_subcommand
+    with_looks dump_command.top) inspect_command.top) check_command.top) batch_command.top)
+    help_command.top
 
 -- the line that tells the version
 abbrev pub version_line : List ℕ
@@ -240,6 +206,18 @@ value_met option met = unwrap_or (option_and_then (λ p. first_of option p.1) me
 -- the flag of this name is met: the parser has given it the value `true`
 abbrev pub is_flag_met : Text → Option (Text × List Row) → Bool
 is_flag_met flag met = bytes_eq (value_met flag met) (codes "true")
+
+-- the value of an argument of a command that is met, none where it has none
+abbrev pub value_if_met : Text → Option (Text × List Row) → Option Text
+value_if_met argument met = option_and_then (λ p. first_of argument p.1) met
+
+-- the file that is named: `-` names none, but standard input
+abbrev pub file_named : Text → Option Text
+file_named path = if bytes_eq path (codes "-") then None else Some path
+
+-- the file that a command reads, none where it reads standard input
+abbrev pub file_met : Option (Text × List Row) → Option Text
+file_met met = option_and_then file_named (value_if_met (codes "file") met)
 
 -- the text of a format
 abbrev pub format_word : TraceFormat → Text
@@ -280,9 +258,19 @@ reduce_faults met = if not (asks_rounds met) then []
 abbrev pub reduce_mistakes : Option (Text × List Row) → Kinds
 reduce_mistakes met = if is_met (codes "reduce") met then reduce_faults met else []
 
--- the mistakes of values that are read one by one
+-- the word names a command; where there is none, the program is meant
+abbrev pub has_help : Option Text → Bool
+has_help None = true
+has_help (Some word) = is_some (named_help word)
+
+-- what `help` comes to: help is asked for, or the word names no command
+abbrev pub help_mistakes : Option (Text × List Row) → Kinds
+help_mistakes met = if not (is_met (codes "help") met) then []
+    else if has_help (value_if_met (codes "word") met) then DisplayHelp ∷ [] else InvalidSubcommand ∷ []
+
+-- the mistakes of values that are read one by one, and help that is asked for by a command
 abbrev pub own_mistakes : Option (Text × List Row) → Kinds
-own_mistakes met = or_else (format_mistakes met) (reduce_mistakes met)
+own_mistakes met = or_else (format_mistakes met) (or_else (reduce_mistakes met) (help_mistakes met))
 
 -- the mistakes that words may have: the parser's, and where it finds none those of their values
 abbrev pub mistakes_of : List Text → Kinds
@@ -291,15 +279,15 @@ mistakes_of words = or_else (fault_of command_line words) (own_mistakes (subcomm
 -- What is answered, by the mistakes that the words may have: none, or help or the version that is
 -- asked for, or another.
 abbrev pub AnswersWords : Kinds → Result Task WordsFault → Type 0
-AnswersWords mistakes (Ok Settle) = mistakes ≡ []
-AnswersWords mistakes (Ok Once) = mistakes ≡ []
+AnswersWords mistakes (Ok (Settle file)) = mistakes ≡ []
+AnswersWords mistakes (Ok (Once file)) = mistakes ≡ []
 AnswersWords mistakes (Ok (Create disk overwrite)) = mistakes ≡ []
 AnswersWords mistakes (Ok (Serve disk workers every)) = mistakes ≡ []
 AnswersWords mistakes (Ok (Attend disk runners turns workers scripts)) = mistakes ≡ []
-AnswersWords mistakes (Ok (Reduce steps nodes partial stats)) = mistakes ≡ []
-AnswersWords mistakes (Ok (ReduceByRounds rounds workers partial)) = mistakes ≡ []
-AnswersWords mistakes (Ok (Trace rounds format)) = mistakes ≡ []
-AnswersWords mistakes (Ok Draw) = mistakes ≡ []
+AnswersWords mistakes (Ok (Reduce steps nodes partial stats file)) = mistakes ≡ []
+AnswersWords mistakes (Ok (ReduceByRounds rounds workers partial file)) = mistakes ≡ []
+AnswersWords mistakes (Ok (Trace rounds format file)) = mistakes ≡ []
+AnswersWords mistakes (Ok (Draw file)) = mistakes ≡ []
 AnswersWords mistakes (Ok (Dump disk names)) = mistakes ≡ []
 AnswersWords mistakes (Ok (Inspect disk)) = mistakes ≡ []
 AnswersWords mistakes (Ok (Check files)) = mistakes ≡ []
@@ -321,15 +309,15 @@ GivesTask task (Err Memory) = Unit {0}
 abbrev pub GivesHelp : Result Task WordsFault → Type 0
 GivesHelp (Ok (Help text)) = string_bytes text ≡ program_help
 GivesHelp (Err Memory) = Unit {0}
-GivesHelp (Ok Settle) = ⊥
-GivesHelp (Ok Once) = ⊥
+GivesHelp (Ok (Settle file)) = ⊥
+GivesHelp (Ok (Once file)) = ⊥
 GivesHelp (Ok (Create disk overwrite)) = ⊥
 GivesHelp (Ok (Serve disk workers every)) = ⊥
 GivesHelp (Ok (Attend disk runners turns workers scripts)) = ⊥
-GivesHelp (Ok (Reduce steps nodes partial stats)) = ⊥
-GivesHelp (Ok (ReduceByRounds rounds workers partial)) = ⊥
-GivesHelp (Ok (Trace rounds format)) = ⊥
-GivesHelp (Ok Draw) = ⊥
+GivesHelp (Ok (Reduce steps nodes partial stats file)) = ⊥
+GivesHelp (Ok (ReduceByRounds rounds workers partial file)) = ⊥
+GivesHelp (Ok (Trace rounds format file)) = ⊥
+GivesHelp (Ok (Draw file)) = ⊥
 GivesHelp (Ok (Dump disk names)) = ⊥
 GivesHelp (Ok (Inspect disk)) = ⊥
 GivesHelp (Ok (Check files)) = ⊥
@@ -341,25 +329,21 @@ GivesHelp (Err (Words text)) = ⊥
 abbrev pub GivesVersion : Result Task WordsFault → Type 0
 GivesVersion (Ok (Version text)) = string_bytes text ≡ version_line
 GivesVersion (Err Memory) = Unit {0}
-GivesVersion (Ok Settle) = ⊥
-GivesVersion (Ok Once) = ⊥
+GivesVersion (Ok (Settle file)) = ⊥
+GivesVersion (Ok (Once file)) = ⊥
 GivesVersion (Ok (Create disk overwrite)) = ⊥
 GivesVersion (Ok (Serve disk workers every)) = ⊥
 GivesVersion (Ok (Attend disk runners turns workers scripts)) = ⊥
-GivesVersion (Ok (Reduce steps nodes partial stats)) = ⊥
-GivesVersion (Ok (ReduceByRounds rounds workers partial)) = ⊥
-GivesVersion (Ok (Trace rounds format)) = ⊥
-GivesVersion (Ok Draw) = ⊥
+GivesVersion (Ok (Reduce steps nodes partial stats file)) = ⊥
+GivesVersion (Ok (ReduceByRounds rounds workers partial file)) = ⊥
+GivesVersion (Ok (Trace rounds format file)) = ⊥
+GivesVersion (Ok (Draw file)) = ⊥
 GivesVersion (Ok (Dump disk names)) = ⊥
 GivesVersion (Ok (Inspect disk)) = ⊥
 GivesVersion (Ok (Check files)) = ⊥
 GivesVersion (Ok (Batch disk rounds every workers lines)) = ⊥
 GivesVersion (Ok (Help text)) = ⊥
 GivesVersion (Err (Words text)) = ⊥
-
--- the one word that is a command; a `--` behind it ends the options, of which there are none
-abbrev pub NamesCommand : List ℕ → List (List ℕ) → Type 0
-NamesCommand command words = (words ≡ command ∷ []) ⊎ (words ≡ command ∷ (45 ∷ 45 ∷ []) ∷ [])
 
 -- the values of an argument of a command that is met, none where it has none
 abbrev pub values_met : Text → Option (Text × List Row) → List Text
@@ -392,14 +376,25 @@ IsNumberOr option least most default words number =
     → IsNumberOf option least most words number)
     × (is_given option (subcommand_of command_line words) ≡ false → number ≡ default)
 
--- the words of `reduce` give two bounds and two flags, and no option of rounds
-pub record NamesReduce (words : List Text) (s n : ℕ) (p t : Bool) : Type 0 where
+-- the words of this command name a file to read, or none
+abbrev pub NamesText : (command : Text) (words : List Text) → Option Text → Type 0
+NamesText command words file =
+    BeginsWith command words × (file ≡ file_met (subcommand_of command_line words))
+
+-- the text of the help that words ask for: where the parser finds no mistake, `help` was met
+abbrev pub help_asked : List Text → Text
+help_asked words = if is_empty (fault_of command_line words)
+    then help_by (value_if_met (codes "word") (subcommand_of command_line words)) else help_of words
+
+-- the words of `reduce` give two bounds, two flags and a file, and no option of rounds
+pub record NamesReduce (words : List Text) (s n : ℕ) (p t : Bool) (f : Option Text) : Type 0 where
   pub begins : BeginsWith (codes "reduce") words
   pub alone : asks_rounds (subcommand_of command_line words) ≡ false
   pub steps : IsNumberOr (codes "steps") 0 most_steps most_steps words s
   pub nodes : IsNumberOr (codes "nodes") 0 most_steps 134217728 words n
   pub partial : p ≡ is_flag_met (codes "partial") (subcommand_of command_line words)
   pub stats : t ≡ is_flag_met (codes "stats") (subcommand_of command_line words)
+  pub file : f ≡ file_met (subcommand_of command_line words)
 
 -- the words of `attend` give a disk's path, three numbers and the paths of scripts
 pub record NamesAttend (words : List Text) (path : Text) (r t n : ℕ) (paths : List Text)
@@ -422,8 +417,8 @@ pub record NamesBatch (words : List Text) (path : Text) (r k n : ℕ) (text : Te
 
 -- the words name the task, and the text of help and of the version is this
 abbrev pub Names : List (List ℕ) → Task → Type 0
-Names words Settle = NamesCommand (codes "settle") words
-Names words Once = NamesCommand (codes "once") words
+Names words (Settle file) = NamesText (codes "settle") words (option_map string_bytes file)
+Names words (Once file) = NamesText (codes "once") words (option_map string_bytes file)
 Names words (Create disk overwrite) = BeginsWith (codes "create") words
     × (string_bytes disk ≡ value_met (codes "disk") (subcommand_of command_line words))
     × (overwrite ≡ is_flag_met (codes "overwrite") (subcommand_of command_line words))
@@ -433,16 +428,19 @@ Names words (Serve disk workers every) = BeginsWith (codes "serve") words
     × IsNumberOf (codes "every") 1 1000000 words every
 Names words (Attend disk runners turns workers scripts) =
     NamesAttend words (string_bytes disk) runners turns workers (map string_bytes scripts.items)
-Names words (Reduce steps nodes partial stats) = NamesReduce words steps nodes partial stats
-Names words (ReduceByRounds rounds workers partial) = BeginsWith (codes "reduce") words
+Names words (Reduce steps nodes partial stats file) =
+    NamesReduce words steps nodes partial stats (option_map string_bytes file)
+Names words (ReduceByRounds rounds workers partial file) =
+    NamesText (codes "reduce") words (option_map string_bytes file)
     × (asks_in_place (subcommand_of command_line words) ≡ false)
     × IsNumberOf (codes "rounds") 0 most_rounds words rounds
     × IsNumberOr (codes "workers") 1 64 2 words workers
     × (partial ≡ is_flag_met (codes "partial") (subcommand_of command_line words))
-Names words (Trace rounds format) = BeginsWith (codes "trace") words
+Names words (Trace rounds format file) =
+    NamesText (codes "trace") words (option_map string_bytes file)
     × IsNumberOf (codes "rounds") 0 most_rounds words rounds
     × (value_met (codes "format") (subcommand_of command_line words) ≡ format_word format)
-Names words Draw = NamesCommand (codes "draw") words
+Names words (Draw file) = NamesText (codes "draw") words (option_map string_bytes file)
 Names words (Dump disk names) = BeginsWith (codes "dump") words
     × (string_bytes disk ≡ value_met (codes "disk") (subcommand_of command_line words))
     × (map string_bytes names.items ≡ values_met (codes "name") (subcommand_of command_line words))
@@ -452,5 +450,5 @@ Names words (Check files) = BeginsWith (codes "check") words
     × (map string_bytes files.items ≡ values_met (codes "file") (subcommand_of command_line words))
 Names words (Batch disk rounds every workers lines) =
     NamesBatch words (string_bytes disk) rounds every workers (string_bytes lines)
-Names words (Help text) = string_bytes text ≡ help_of words
+Names words (Help text) = string_bytes text ≡ help_asked words
 Names words (Version text) = string_bytes text ≡ version_line

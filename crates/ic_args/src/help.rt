@@ -1,7 +1,8 @@
 //! The help of the program and of each of its commands.
 
-ghost use Rattle.std.specs.Prelude.{◌≡◌, map, string_bytes};
-ghost use Rattle.ic_args.specs.Help.{help_of};
+ghost use Rattle.std.specs.Prelude.{◌≡◌, ◌∷◌, [], map, option_map, string_bytes, true};
+ghost use Rattle.ic_args.specs.Help.{help_by, help_of, named_help};
+ghost use Rattle.ic_args.specs.Words.{has_help};
 
 /// The help of the program.
 const PROGRAM: &str = "\
@@ -9,7 +10,7 @@ A job server for the interaction calculus
 
 Usage: icserve <COMMAND>
 
-To look at a system, which is read from standard input:
+To look at a system, which is read from a file or from standard input:
   reduce   Reduces it until no step is possible, and prints the configuration
   trace    Tells what each round of it does, as a table or a picture
   draw     Draws the net of a configuration as a graph, with its rules or without
@@ -25,29 +26,51 @@ To run jobs, which outlive a crash:
   dump     Prints jobs of the disk in the file F, as lines that submit them
   inspect  Tells what the file F holds, which a server may have open
 
+To read on:
+  help     Shows this help, or that of a command: icserve help reduce tells the language
+
 Options:
   -h, --help     Print help
   -V, --version  Print version
+
+Example, two and two:
+  $ echo '{Add(x,x)><Z; Add(S(x),y)><S(Add(x,y))} <r|Add(r,S(S(Z)))=S(S(Z))>' > sum.ic
+  $ icserve reduce sum.ic
+  <S(S(S(S(Z))))|>
 ";
 
 /// The help of `settle`.
 const SETTLE: &str = "\
-Settles the configuration on standard input and prints it
+Settles a configuration and prints it: names that only join two terms are removed
 
-Usage: icserve settle
+Usage: icserve settle [FILE]
+
+Arguments:
+  [FILE]  The path of the text; where there is none, or -, standard input is read
 
 Options:
   -h, --help  Print help
+
+Example:
+  $ echo '<r|r=S(s),s=Z>' | icserve settle
+  <S(Z)|>
 ";
 
 /// The help of `once`.
 const ONCE: &str = "\
-Makes one round of the system on standard input and prints the configuration
+Makes one round of a system and prints the configuration
 
-Usage: icserve once
+Usage: icserve once [FILE]
+
+Arguments:
+  [FILE]  The path of the text; where there is none, or -, standard input is read
 
 Options:
   -h, --help  Print help
+
+Example:
+  $ echo '{Add(x,x)><Z; Add(S(x),y)><S(Add(x,y))} <r|Add(r,S(Z))=S(Z)>' | icserve once
+  <S(s)|Z=Add(s,S(Z))>
 ";
 
 /// The help of `create`.
@@ -60,6 +83,11 @@ Options:
       --disk <F>   The path of the file, which is made where it is missing
       --overwrite  Whatever the file holds, jobs too
   -h, --help       Print help
+
+Example:
+  $ icserve create --disk jobs.disk
+  $ echo list | icserve serve --disk jobs.disk
+  jobs
 ";
 
 /// The help of `serve`.
@@ -73,6 +101,27 @@ Options:
       --workers <N>  Threads for a round of 4000 equations or more, from 1 to 64 [default: 2]
       --every <K>    After how many rounds of a run they are kept, from 1 to 1000000 [default: 100]
   -h, --help         Print help
+
+Lines, and what is answered where they aren't refused:
+  submit NAME {RULES} <CONFIG>         accepted
+  submit NAME BUDGET {RULES} <CONFIG>  accepted: it makes at most BUDGET rounds
+  copy OLD NEW                         accepted: NEW goes on where OLD stands
+  run K                                ran N: the rounds that were made of running jobs, in turn
+  fetch NAME                           NAME STATE ROUNDS CONFIG
+  list                                 jobs NAME:STATE:ROUNDS ..
+  pause NAME, resume NAME              ok
+  cancel NAME                          ok: the job is removed
+A line with a fault is answered by bad, one that can't be done by refused.
+
+Example:
+  $ icserve create --disk jobs.disk
+  $ echo 'submit two {Add(x,x)><Z; Add(S(x),y)><S(Add(x,y))} <r|Add(r,S(Z))=S(Z)>' > lines
+  $ echo 'run 10' >> lines
+  $ echo 'fetch two' >> lines
+  $ icserve serve --disk jobs.disk < lines
+  accepted
+  ran 2
+  two done 2 <S(S(Z))|>
 ";
 
 /// The help of `attend`.
@@ -90,13 +139,23 @@ Options:
       --turns <T>    Rounds that each makes at most after the scripts, from 0 to 1000000 [default: 0]
       --workers <N>  Threads for each round, from 1 to 64 [default: 2]
   -h, --help         Print help
+
+Example:
+  $ icserve create --disk jobs.disk
+  $ echo list > script
+  $ icserve attend --disk jobs.disk script
+  client 0
+  jobs
 ";
 
 /// The help of `reduce`.
 const REDUCE: &str = "\
-Reduces the system on standard input until no step is possible, and prints the configuration
+Reduces a system until no step is possible, and prints the configuration
 
-Usage: icserve reduce [OPTIONS]
+Usage: icserve reduce [OPTIONS] [FILE]
+
+Arguments:
+  [FILE]  The path of the text; where there is none, or -, standard input is read
 
 Options:
       --steps <N>    How many interactions are made at most, from 0 to 4611686018427387903 [default: 4611686018427387903]
@@ -108,30 +167,63 @@ Options:
   -h, --help         Print help
 
 The exit status is 5 where a step is still possible after the last interaction or round.
+
+The language:
+  {Add(x,x)><Z; Add(S(x),y)><S(Add(x,y))}  rules, separated by ;
+  <r|Add(r,S(Z))=S(Z)>      a configuration: its interface | its equations, separated by ,
+  x, y, r, a1               names: a small letter, maybe a number; in a rule each stands twice
+  Add, S, Z, 0              symbols: A to Z or 0 to 9 first; each has one number of arguments
+  Add(x,x)><Z               where Add meets Z, the two arguments of Add are joined
+  Add(S(x),y)><S(Add(x,y))  what stands at the argument of S is Add(x,y)
+  Add(r,n)=m                two agents fire where a rule has their symbols; r is the result
+  x=t                       t takes the place of the other x; a name that stands once is free
+A text has at most 262144 bytes, 64 symbols, 256 rules and 8192 nodes, and no comments.
+
+Example:
+  $ echo '{Add(x,x)><Z; Add(S(x),y)><S(Add(x,y))} <r|Add(r,S(Z))=S(Z)>' > sum.ic
+  $ icserve reduce sum.ic
+  <S(S(Z))|>
 ";
 
 /// The help of `trace`.
 const TRACE: &str = "\
-Tells what the rounds of the system on standard input do, until no step is possible
+Tells what the rounds of a system do, until no step is possible
 
-Usage: icserve trace [OPTIONS]
+Usage: icserve trace [OPTIONS] [FILE]
+
+Arguments:
+  [FILE]  The path of the text; where there is none, or -, standard input is read
 
 Options:
       --rounds <N>       How many rounds are made at most, from 0 to 4611686018427387904 [default: 1000000]
       --format <FORMAT>  A table with tabs (tsv) or a picture (svg) [default: tsv]
   -h, --help             Print help
+
+Example:
+  $ echo '{Add(x,x)><Z; Add(S(x),y)><S(Add(x,y))} <r|Add(r,S(Z))=S(Z)>' | icserve trace | expand
+  round   pairs   nodes   equations       names
+  1       1       7       1       2
+  2       1       3       0       0
 ";
 
 /// The help of `draw`.
 const DRAW: &str = "\
-Draws the net of the configuration on standard input as a graph in Graphviz's DOT
+Draws the net of a configuration as a graph in Graphviz's DOT
 
-Usage: icserve draw
+Usage: icserve draw [FILE]
+
+Arguments:
+  [FILE]  The path of the text; where there is none, or -, standard input is read
 
 Options:
   -h, --help  Print help
 
 Rules may stand before the configuration: active pairs stand out then.
+
+Example:
+  $ echo '<|A=B>' | icserve draw | tail -n 2
+  A0:0 -- A1:0 [dir=both]
+  }
 ";
 
 /// The help of `dump`.
@@ -146,6 +238,13 @@ Arguments:
 Options:
       --disk <F>  The path of the file, which has to be a disk
   -h, --help      Print help
+
+Example:
+  $ icserve create --disk jobs.disk
+  $ echo 'submit one {A(x)><B(x)} <r|A(r)=B(Z)>' | icserve serve --disk jobs.disk
+  accepted
+  $ icserve dump --disk jobs.disk one
+  submit one {A(a)><B(a)} <r|A(r)=B(Z)>
 ";
 
 /// The help of `inspect`.
@@ -157,6 +256,13 @@ Usage: icserve inspect --disk <F>
 Options:
       --disk <F>  The path of the file, which stays as it is
   -h, --help      Print help
+
+Example:
+  $ icserve create --disk jobs.disk
+  $ icserve inspect --disk jobs.disk
+  slot 1: open, number 1, body 5, a table
+  slot 2: closed, number 0, body 0, no table
+  held: slot 1
 ";
 
 /// The help of `check`.
@@ -166,10 +272,18 @@ Prints the faults of texts with their places, and warns of what is mostly a mist
 Usage: icserve check <FILE>...
 
 Arguments:
-  <FILE>...  The paths of the texts, one at least
+  <FILE>...  The paths of the texts, one at least; for - standard input is read
 
 Options:
   -h, --help  Print help
+
+Example:
+  $ echo '{A><B} <x|A=C>' > net.ic
+  $ icserve check net.ic
+  net.ic: warning: no rule for A><C
+  net.ic: warning: B stands only once
+  net.ic: warning: C stands only once
+  net.ic: warning: rule 1, A><B, is never used
 ";
 
 /// The help of `batch`.
@@ -189,28 +303,85 @@ Options:
   -h, --help         Print help
 
 It may be stopped at any moment and called again with the same words.
+
+Example:
+  $ echo 'submit two {Add(x,x)><Z; Add(S(x),y)><S(Add(x,y))} <r|Add(r,S(Z))=S(Z)>' > lines
+  $ icserve batch --disk jobs.disk lines
+  two done 2 <S(S(Z))|>
+";
+
+/// The help of `help`.
+const HELP: &str = "\
+Shows the help of a command, or of the program
+
+Usage: icserve help [WORD]
+
+Arguments:
+  [WORD]  The command; where there is none, the program's help is shown
+
+Options:
+  -h, --help  Print help
+
+Example:
+  $ icserve help settle
+  (what icserve settle --help prints)
 ";
 
 /// The help that words ask for: that of the command that the first one names, or the program's.
 pub(crate) fn help_of(words: &[String]) -> &'static str
     ensures { result.now ≡ help_of (map string_bytes words.now) }
 {
-    let Some(word) = words.first() else {
-        return PROGRAM;
-    };
-    match word.as_str() {
-        "settle" => SETTLE,
-        "once" => ONCE,
-        "create" => CREATE,
-        "serve" => SERVE,
-        "attend" => ATTEND,
-        "reduce" => REDUCE,
-        "trace" => TRACE,
-        "draw" => DRAW,
-        "dump" => DUMP,
-        "inspect" => INSPECT,
-        "check" => CHECK,
-        "batch" => BATCH,
-        _ => PROGRAM,
+    match words.first() {
+        Some(word) => help_for(word.as_str()),
+        None => PROGRAM,
+    }
+}
+
+/// The help of the command that a word names, or the program's where there is none.
+pub(crate) fn help_by(word: Option<&str>) -> &'static str
+    ensures { result.now ≡ help_by (option_map (λ text. text.now) word.entry) }
+{
+    match word {
+        Some(word) => help_for(word),
+        None => PROGRAM,
+    }
+}
+
+/// The help of the command that a word names, or the program's where it names none.
+fn help_for(word: &str) -> &'static str
+    ensures { result.now ≡ help_of (word.now ∷ []) }
+{
+    named_help(word).unwrap_or(PROGRAM)
+}
+
+/// Whether a word names a command; where there is none, the program is meant.
+pub(crate) fn has_help(word: Option<&str>) -> bool
+    ensures { result ≡ has_help (option_map (λ text. text.now) word.entry) }
+{
+    match word {
+        Some(word) => named_help(word).is_some(),
+        None => true,
+    }
+}
+
+/// The help of the command of this name, none where it names none.
+fn named_help(word: &str) -> Option<&'static str>
+    ensures { option_map (λ text. text.now) result ≡ named_help word.now }
+{
+    match word {
+        "settle" => Some(SETTLE),
+        "once" => Some(ONCE),
+        "create" => Some(CREATE),
+        "serve" => Some(SERVE),
+        "attend" => Some(ATTEND),
+        "reduce" => Some(REDUCE),
+        "trace" => Some(TRACE),
+        "draw" => Some(DRAW),
+        "dump" => Some(DUMP),
+        "inspect" => Some(INSPECT),
+        "check" => Some(CHECK),
+        "batch" => Some(BATCH),
+        "help" => Some(HELP),
+        _ => None,
     }
 }

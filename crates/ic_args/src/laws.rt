@@ -1,20 +1,20 @@
 //! Laws of the words after the program's name, in words of their own.
 
-ghost use Rattle.std.specs.Prelude.{◌≡◌, ◌≢◌, ◌↔◌, ◌⊎◌, ◌<◌, ◌≤◌, ◌^◌, ℕ, Bool, true, false, List, [], ◌∷◌, ◌++◌, Ok, Err, codes, map, string_bytes};
+ghost use Rattle.std.specs.Prelude.{◌≡◌, ◌≢◌, ◌↔◌, ◌⊎◌, ◌<◌, ◌≤◌, ◌^◌, ℕ, Bool, true, false, List, [], ◌∷◌, ◌++◌, Ok, Err, Option, None, Some, codes, map, option_map, string_bytes};
 ghost use Rattle.std.specs.List.{AllByRecursion};
 ghost use Rattle.std.specs.Fmt.{decimal};
 ghost use Rattle.clap.specs.Words.{Text};
 ghost use Rattle.clap.specs.declared.error.ErrorKind.{ErrorKind};
-ghost use Rattle.clap.specs.declared.error.ErrorKind.TheVariants.{ArgumentConflict, DisplayHelp, DisplayVersion, InvalidValue, MissingRequiredArgument};
+ghost use Rattle.clap.specs.declared.error.ErrorKind.TheVariants.{ArgumentConflict, DisplayHelp, DisplayVersion, InvalidSubcommand, InvalidValue, MissingRequiredArgument};
 ghost use Rattle.ic_args.specs.declared.words.Task.TheVariants.{Settle, Once, Create, Serve, Attend, Reduce, ReduceByRounds};
 ghost use Rattle.ic_args.specs.declared.words.Task.TheVariants.{Trace, Draw, Dump, Inspect, Check, Batch, Help, Version};
 ghost use Rattle.ic_args.specs.declared.words.TraceFormat.{TraceFormat};
 ghost use Rattle.ic_args.specs.declared.words.WordsFault.TheVariants.{Words, Memory};
-ghost use Rattle.ic_args.specs.Words.{AnswersWords, format_word, mistakes_of, words_fault_number, IsDecimal, Names};
-ghost use Rattle.ic_args.specs.Help.{help_of, Says, program_help, settle_help, once_help, create_help, serve_help, attend_help};
+ghost use Rattle.ic_args.specs.Words.{AnswersWords, format_word, help_asked, mistakes_of, words_fault_number, IsDecimal, Names};
+ghost use Rattle.ic_args.specs.Help.{help_by, help_of, Says, program_help, help_help, settle_help, once_help, create_help, serve_help, attend_help};
 ghost use Rattle.ic_args.specs.Help.{batch_help, check_help, draw_help, dump_help, inspect_help, reduce_help, trace_help};
-ghost use Rattle.ic_args.specs.Lines.{AreInPlace, AreOfRounds, Given, HasNoHyphen, IsAttendLine, IsCheckLine, IsCreateLine, IsDumpLine};
-ghost use Rattle.ic_args.specs.Lines.{IsInspectLine, IsReduceLine, IsServeLine, IsTraceLine};
+ghost use Rattle.ic_args.specs.Lines.{AreInPlace, AreOfRounds, Given, HasNoHyphen, IsAttendLine, IsBatchLine, IsCheckLine, IsCreateLine, IsDumpLine};
+ghost use Rattle.ic_args.specs.Lines.{IsInspectLine, IsReduceLine, IsServeLine, IsTextLine, IsTraceLine};
 
 /// A number's text is the number in decimal digits, before which a plus may stand, and no other
 /// number's; the empty text is none's.
@@ -45,11 +45,10 @@ pub fn answers_go_by_mistakes(text: &String)
     ensures version_alone { ¬ AnswersWords (DisplayVersion ∷ []) (Ok (Help text.now)) }
     ensures line { AnswersWords (DisplayVersion ∷ []) (Ok (Version text.now))
         → string_bytes text.now ≡ codes "icserve 0.1.0" ++ 10 ∷ [] }
-    ensures task { (mistake : ErrorKind) → ¬ AnswersWords (mistake ∷ []) (Ok Settle) }
+    ensures task { (mistake : ErrorKind) → ¬ AnswersWords (mistake ∷ []) (Ok (Settle None)) }
 {}
 
-/// The words that are taken with no value: a command alone, and a `--` after it. No other words name
-/// `settle`, `once` and `draw`.
+/// The words that are taken with no value: a command alone, and a `--` after it.
 pub fn commands_are_taken()
     ensures settle { mistakes_of (codes "settle" ∷ []) ≡ [] }
     ensures settled { mistakes_of (codes "settle" ∷ codes "--" ∷ []) ≡ [] }
@@ -59,12 +58,6 @@ pub fn commands_are_taken()
     ensures trace { mistakes_of (codes "trace" ∷ []) ≡ [] }
     ensures draw { mistakes_of (codes "draw" ∷ []) ≡ [] }
     ensures drawn { mistakes_of (codes "draw" ∷ codes "--" ∷ []) ≡ [] }
-    ensures settle_named { (words : List Text) → Names words Settle
-        → (words ≡ codes "settle" ∷ []) ⊎ (words ≡ codes "settle" ∷ codes "--" ∷ []) }
-    ensures once_named { (words : List Text) → Names words Once
-        → (words ≡ codes "once" ∷ []) ⊎ (words ≡ codes "once" ∷ codes "--" ∷ []) }
-    ensures draw_named { (words : List Text) → Names words Draw
-        → (words ≡ codes "draw" ∷ []) ⊎ (words ≡ codes "draw" ∷ codes "--" ∷ []) }
 {}
 
 /// The words that ask for help, at each command too, and those that ask for the version.
@@ -91,6 +84,17 @@ pub fn help_and_version_are_asked()
         ≡ DisplayHelp ∷ [] }
     ensures check { mistakes_of (codes "check" ∷ codes "--help" ∷ []) ≡ DisplayHelp ∷ [] }
     ensures batch { mistakes_of (codes "batch" ∷ codes "--help" ∷ []) ≡ DisplayHelp ∷ [] }
+    ensures word { mistakes_of (codes "help" ∷ []) ≡ DisplayHelp ∷ [] }
+    ensures words { AllByRecursion (λ name. mistakes_of (codes "help" ∷ name ∷ []) ≡ DisplayHelp ∷ [])
+        (codes "settle" ∷ codes "once" ∷ codes "create" ∷ codes "serve" ∷ codes "attend"
+        ∷ codes "reduce" ∷ codes "trace" ∷ codes "draw" ∷ codes "dump"
+        ∷ codes "inspect" ∷ codes "check" ∷ codes "batch" ∷ codes "help" ∷ []) }
+    ensures asked { AllByRecursion (λ name. help_asked (codes "help" ∷ name ∷ []) ≡ help_of (name ∷ []))
+        (codes "settle" ∷ codes "once" ∷ codes "create" ∷ codes "serve" ∷ codes "attend"
+        ∷ codes "reduce" ∷ codes "trace" ∷ codes "draw" ∷ codes "dump"
+        ∷ codes "inspect" ∷ codes "check" ∷ codes "batch" ∷ codes "help" ∷ []) }
+    ensures whole { help_asked (codes "help" ∷ []) ≡ program_help }
+    ensures unknown { mistakes_of (codes "help" ∷ codes "helps" ∷ []) ≡ InvalidSubcommand ∷ [] }
     ensures version { mistakes_of (codes "--version" ∷ []) ≡ DisplayVersion ∷ [] }
     ensures short_version { mistakes_of (codes "-V" ∷ []) ≡ DisplayVersion ∷ [] }
 {}
@@ -111,17 +115,20 @@ pub fn each_command_has_its_help()
     ensures inspect { (words : List Text) → help_of (codes "inspect" ∷ words) ≡ inspect_help }
     ensures check { (words : List Text) → help_of (codes "check" ∷ words) ≡ check_help }
     ensures batch { (words : List Text) → help_of (codes "batch" ∷ words) ≡ batch_help }
+    ensures help { (words : List Text) → help_of (codes "help" ∷ words) ≡ help_help }
     ensures program { (word : Text) (words : List Text) → AllByRecursion (λ name. word ≢ name)
         (codes "settle" ∷ codes "once" ∷ codes "create" ∷ codes "serve" ∷ codes "attend"
         ∷ codes "reduce" ∷ codes "trace" ∷ codes "draw" ∷ codes "dump"
-        ∷ codes "inspect" ∷ codes "check" ∷ codes "batch" ∷ []) → help_of (word ∷ words) ≡ program_help }
+        ∷ codes "inspect" ∷ codes "check" ∷ codes "batch" ∷ codes "help" ∷ []) → help_of (word ∷ words) ≡ program_help }
     ensures commands { AllByRecursion (Says program_help) (codes "  settle  " ∷ codes "  once  "
         ∷ codes "  create  " ∷ codes "  serve  " ∷ codes "  attend  "
         ∷ codes "  reduce  " ∷ codes "  trace  " ∷ codes "  draw  " ∷ codes "  dump  "
-        ∷ codes "  inspect  " ∷ codes "  check  " ∷ codes "  batch  "
+        ∷ codes "  inspect  " ∷ codes "  check  " ∷ codes "  batch  " ∷ codes "  help  "
         ∷ codes "-h, --help" ∷ codes "-V, --version" ∷ []) }
-    ensures streams { Says settle_help (codes "icserve settle")
-        × Says once_help (codes "icserve once") × Says draw_help (codes "icserve draw") }
+    ensures streams { Says settle_help (codes "icserve settle [FILE]")
+        × Says once_help (codes "icserve once [FILE]") × Says draw_help (codes "icserve draw [FILE]")
+        × Says reduce_help (codes "[FILE]") × Says trace_help (codes "[FILE]")
+        × Says help_help (codes "icserve help [WORD]") }
     ensures rounds { AllByRecursion (Says reduce_help) (codes "icserve reduce" ∷ codes "--rounds <N>"
         ∷ codes "from 0 to 4611686018427387904"
         ∷ codes "--workers <N>" ∷ codes "from 1 to 64 [default: 2]" ∷ []) }
@@ -152,6 +159,20 @@ pub fn each_command_has_its_help()
     ensures texts { AllByRecursion (Says check_help)
         (codes "icserve check" ∷ codes "<FILE>..."
         ∷ codes "Prints the faults of texts with their places" ∷ []) }
+{}
+
+/// A well-formed line of `settle`, `once` or `draw` is taken, and names the FILE that it is given, or
+/// standard input.
+pub fn text_lines_are_taken(named: &Option<String>)
+    ensures taken { (words : List Text) (file : Option Text) → AllByRecursion (λ command.
+        IsTextLine command file words → mistakes_of words ≡ [])
+        (codes "settle" ∷ codes "once" ∷ codes "draw" ∷ []) }
+    ensures settle { (words : List Text) (file : Option Text) → IsTextLine (codes "settle") file words
+        → Names words (Settle named.now) → option_map string_bytes named.now ≡ file }
+    ensures once { (words : List Text) (file : Option Text) → IsTextLine (codes "once") file words
+        → Names words (Once named.now) → option_map string_bytes named.now ≡ file }
+    ensures draw { (words : List Text) (file : Option Text) → IsTextLine (codes "draw") file words
+        → Names words (Draw named.now) → option_map string_bytes named.now ≡ file }
 {}
 
 /// A well-formed line of `create` is taken, and names the file that it is given, and whether it has
@@ -192,21 +213,26 @@ pub fn attend_lines_are_taken(disk: &String, paths: &Vec<String>)
 /// A well-formed line of `reduce` without options of rounds is taken, in whatever order its options
 /// stand, and names the bounds that it is given, or their defaults, 2^62 - 1 interactions and 2^27
 /// places, and whether it has the flags. One with rounds, and without bounds and `--stats`, is taken
-/// too, and names its rounds, its workers, or 2, and whether it has `--partial`. Both in one line are a
-/// mistake, and so are workers without rounds.
-pub fn reduce_lines_are_taken()
-    ensures taken { (words : List Text) (given : List Given) (s n : ℕ) (p t : Bool)
-        → IsReduceLine words given → AreInPlace given s n p t → mistakes_of words ≡ [] }
-    ensures named { (words : List Text) (given : List Given) (s n steps nodes : ℕ)
-        (p t partial stats : Bool) → IsReduceLine words given → AreInPlace given s n p t
-        → Names words (Reduce steps nodes partial stats)
-        → (steps ≡ s) × (nodes ≡ n) × (partial ≡ p) × (stats ≡ t) }
-    ensures rounds { (words : List Text) (given : List Given) (most threads : ℕ) (p : Bool)
-        → IsReduceLine words given → AreOfRounds given most threads p → mistakes_of words ≡ [] }
-    ensures rounds_named { (words : List Text) (given : List Given) (most threads rounds workers : ℕ)
-        (p partial : Bool) → IsReduceLine words given → AreOfRounds given most threads p
-        → Names words (ReduceByRounds rounds workers partial)
-        → (rounds ≡ most) × (workers ≡ threads) × (partial ≡ p) }
+/// too, and names its rounds, its workers, or 2, and whether it has `--partial`. Both name the FILE that
+/// they are given, or standard input. Both kinds of options in one line are a mistake, and so are
+/// workers without rounds.
+pub fn reduce_lines_are_taken(path: &Option<String>)
+    ensures taken { (words : List Text) (given : List Given) (file : Option Text) (s n : ℕ) (p t : Bool)
+        → IsReduceLine words given file → AreInPlace given s n p t → mistakes_of words ≡ [] }
+    ensures named { (words : List Text) (given : List Given) (file : Option Text) (s n steps nodes : ℕ)
+        (p t partial stats : Bool) → IsReduceLine words given file → AreInPlace given s n p t
+        → Names words (Reduce steps nodes partial stats path.now)
+        → (steps ≡ s) × (nodes ≡ n) × (partial ≡ p) × (stats ≡ t)
+        × (option_map string_bytes path.now ≡ file) }
+    ensures rounds { (words : List Text) (given : List Given) (file : Option Text) (most threads : ℕ)
+        (p : Bool) → IsReduceLine words given file → AreOfRounds given most threads p
+        → mistakes_of words ≡ [] }
+    ensures rounds_named { (words : List Text) (given : List Given) (file : Option Text)
+        (most threads rounds workers : ℕ) (p partial : Bool)
+        → IsReduceLine words given file → AreOfRounds given most threads p
+        → Names words (ReduceByRounds rounds workers partial path.now)
+        → (rounds ≡ most) × (workers ≡ threads) × (partial ≡ p)
+        × (option_map string_bytes path.now ≡ file) }
     ensures both { map (λ option. mistakes_of (codes "reduce" ∷ codes "--rounds=1" ∷ option ∷ []))
         (codes "--steps=1" ∷ codes "--nodes=1" ∷ codes "--stats" ∷ [])
         ≡ (ArgumentConflict ∷ []) ∷ (ArgumentConflict ∷ []) ∷ (ArgumentConflict ∷ []) ∷ [] }
@@ -215,13 +241,16 @@ pub fn reduce_lines_are_taken()
 {}
 
 /// A well-formed line of `trace` is taken, in whatever order its options stand, and names the number
-/// and the format that it is given, or 1,000,000 and tsv. Another format is a mistake.
-pub fn trace_lines_are_taken()
-    ensures taken { (words : List Text) (most shown : Text) → IsTraceLine words most shown
-        → mistakes_of words ≡ [] }
-    ensures named { (words : List Text) (most shown : Text) (rounds : ℕ) (format : TraceFormat)
-        → IsTraceLine words most shown → Names words (Trace rounds format)
-        → IsDecimal most rounds × (rounds ≤ 2 ^ 62) × (format_word format ≡ shown) }
+/// and the format that it is given, or 1,000,000 and tsv, and the FILE that it is given, or standard
+/// input. Another format is a mistake.
+pub fn trace_lines_are_taken(path: &Option<String>)
+    ensures taken { (words : List Text) (most shown : Text) (file : Option Text)
+        → IsTraceLine words most shown file → mistakes_of words ≡ [] }
+    ensures named { (words : List Text) (most shown : Text) (file : Option Text) (rounds : ℕ)
+        (format : TraceFormat) → IsTraceLine words most shown file
+        → Names words (Trace rounds format path.now)
+        → IsDecimal most rounds × (rounds ≤ 2 ^ 62) × (format_word format ≡ shown)
+        × (option_map string_bytes path.now ≡ file) }
     ensures other { mistakes_of (codes "trace" ∷ codes "--format=png" ∷ []) ≡ InvalidValue ∷ [] }
 {}
 
@@ -252,6 +281,22 @@ pub fn check_lines_are_taken(files: &Vec<String>)
     ensures none { mistakes_of (codes "check" ∷ []) ≡ MissingRequiredArgument ∷ [] }
 {}
 
+/// A well-formed line of `batch` is taken, in whatever order its options stand, and names the disk's
+/// file, the numbers and the file of lines that it is given. Where an option isn't given it names the
+/// default: 2^62 rounds, 100 rounds between two keeps, 2 workers. With no file of lines it is refused.
+pub fn batch_lines_are_taken(disk: &String, lines: &String)
+    ensures taken { (words : List Text) (path r k n file : Text)
+        → IsBatchLine words path r k n file → mistakes_of words ≡ [] }
+    ensures named { (words : List Text) (path r k n file : Text) (rounds every workers : ℕ)
+        → IsBatchLine words path r k n file
+        → Names words (Batch disk.now rounds every workers lines.now)
+        → (string_bytes disk.now ≡ path) × IsDecimal r rounds × IsDecimal k every
+        × IsDecimal n workers × (rounds ≤ 2 ^ 62) × (1 ≤ every) × (every ≤ 1000000)
+        × (1 ≤ workers) × (workers ≤ 64) × (string_bytes lines.now ≡ file) }
+    ensures none { mistakes_of (codes "batch" ∷ codes "--disk=F" ∷ [])
+        ≡ MissingRequiredArgument ∷ [] }
+{}
+
 /// Words that are commonly written are well-formed lines, whatever path stands there: with the
 /// disk alone, and with each option of the command, in both ways of writing.
 pub fn common_lines_are_well_formed()
@@ -268,15 +313,23 @@ pub fn common_lines_are_well_formed()
     ensures attend { (path script : Text) → HasNoHyphen path → HasNoHyphen script
         → IsAttendLine (codes "attend" ∷ codes "--disk" ∷ path ∷ codes "--turns=9" ∷ script ∷ [])
         path (codes "2") (codes "9") (codes "2") (script ∷ []) }
-    ensures reduce { IsReduceLine (codes "reduce" ∷ []) []
+    ensures settle { (path : Text) → HasNoHyphen path
+        → IsTextLine (codes "settle") (Some path) (codes "settle" ∷ path ∷ []) }
+    ensures once { IsTextLine (codes "once") None (codes "once" ∷ codes "-" ∷ []) }
+    ensures batch { (path file : Text) → HasNoHyphen path → HasNoHyphen file
+        → IsBatchLine (codes "batch" ∷ codes "--disk" ∷ path ∷ codes "--rounds=10" ∷ file ∷ [])
+        path (codes "10") (codes "100") (codes "2") file }
+    ensures reduce { IsReduceLine (codes "reduce" ∷ []) [] None
         × AreInPlace [] 4611686018427387903 134217728 false false }
-    ensures reduced { (given : List Given) × IsReduceLine (codes "reduce" ∷ codes "--stats"
-        ∷ codes "--nodes=9" ∷ codes "--steps" ∷ codes "10" ∷ []) given
+    ensures reduced { (path : Text) → HasNoHyphen path → (given : List Given)
+        × IsReduceLine (codes "reduce" ∷ codes "--stats" ∷ codes "--nodes=9" ∷ codes "--steps"
+        ∷ codes "10" ∷ path ∷ []) given (Some path)
         × AreInPlace given 10 9 false true }
     ensures by_rounds { (given : List Given) × IsReduceLine (codes "reduce" ∷ codes "--workers=3"
-        ∷ codes "--rounds" ∷ codes "10" ∷ []) given × AreOfRounds given 10 3 false }
-    ensures trace { IsTraceLine (codes "trace" ∷ codes "--format" ∷ codes "svg" ∷ [])
-        (codes "1000000") (codes "svg") }
+        ∷ codes "--rounds" ∷ codes "10" ∷ []) given None × AreOfRounds given 10 3 false }
+    ensures trace { (path : Text) → HasNoHyphen path
+        → IsTraceLine (codes "trace" ∷ codes "--format" ∷ codes "svg" ∷ path ∷ [])
+        (codes "1000000") (codes "svg") (Some path) }
     ensures dump { (path name : Text) → HasNoHyphen path → HasNoHyphen name
         → IsDumpLine (codes "dump" ∷ codes "--disk" ∷ path ∷ name ∷ []) path (name ∷ []) }
     ensures inspect { (path : Text) → HasNoHyphen path

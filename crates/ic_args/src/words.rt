@@ -1,18 +1,21 @@
 //! The words after the program's name.
 
-ghost use Rattle.std.specs.Prelude.{◌≡◌, ◌≤◌, ℕ, true, false, map, Ok, IfOk, codes, [], ◌∷◌, string_bytes};
+ghost use Rattle.std.specs.Prelude.{◌≡◌, ◌≤◌, ℕ, true, false, map, option_map, None, Ok, IfOk, codes, [], ◌∷◌, string_bytes};
 ghost use Rattle.clap.specs.Words.{App, Rule, app_of, kind_of, rule_of, subcommand_rows_of, with_rule, with_subcommand};
-ghost use Rattle.ic_args.specs.Words.{AnswersWords, GivesHelp, GivesTask, GivesVersion, Names};
+ghost use Rattle.ic_args.specs.Words.{AnswersWords, GivesHelp, GivesTask, GivesVersion, Names, file_met, has_help, help_command, value_if_met};
 ghost use Rattle.ic_args.specs.Words.{attend_command, batch_command, check_command, command_line, create_command, dump_command, inspect_command};
 ghost use Rattle.ic_args.specs.Words.{program, reduce_command, serve_command, trace_command, with_disks, with_looks, with_streams};
-ghost use Rattle.ic_args.specs.Words.{disk_option, every_option, file_argument, flag, format_option, name_argument, rounds_option};
-ghost use Rattle.ic_args.specs.Words.{bound_option, chosen_rounds, chosen_workers, life_option, lines_argument, runners_option};
-ghost use Rattle.ic_args.specs.Words.{script_argument, turns_option, workers_option};
+ghost use Rattle.ic_args.specs.Words.{disk_option, file_argument, flag, name_argument, number_option, valued_option};
+ghost use Rattle.ic_args.specs.Words.{lines_argument, most_rounds, most_steps};
+ghost use Rattle.ic_args.specs.Words.{script_argument};
+ghost use Rattle.ic_args.specs.Words.{input_argument, optional_argument, text_command};
 ghost use Rattle.ic_args.specs.Words.{asks_in_place, asks_rounds, is_flag_met, is_given, mistakes_of, reduce_faults, value_met, values_met};
-ghost use Rattle.ic_args.specs.inner.Making.{IsMade, unread, valued_option};
+ghost use Rattle.clap.specs.declared.builder.value_parser.ValueParser.TheVariants.{Unsigned};
+ghost use Rattle.ic_args.specs.inner.Making.{IsMade};
 ghost use Rattle.ic_args.specs.inner.Asking.{AnswersRefused, Asks, IsCommandMet, IsIn, IsMet, IsReadFrom, IsReadOr, commands};
 
-use crate::help::help_of;
+use crate::help::{has_help, help_by, help_of};
+use clap::builder::ValueParser;
 use clap::error::{Error, ErrorKind};
 use clap::{Arg, ArgAction, ArgMatches, Command, value_parser};
 use std::alloc::{AllocError, AllocFailed, Global};
@@ -44,11 +47,14 @@ const NODES: u64 = 134_217_728;
 /// How many threads make a round of `reduce`, where nothing else is said.
 const WORKERS: u64 = 2;
 
+/// What names standard input where a file is named.
+const STANDARD: &str = "-";
+
 /// What is said where `reduce` is asked for rounds and for reducing in place.
 const BOTH_WAYS: &str = "\
 error: the arguments '--rounds <N>' and '--workers <N>' cannot be used with '--steps <N>', '--nodes <N>' or '--stats'
 
-Usage: icserve reduce [OPTIONS]
+Usage: icserve reduce [OPTIONS] [FILE]
 
 For more information, try '--help'.
 ";
@@ -58,18 +64,25 @@ const NO_ROUNDS: &str = "\
 error: the following required arguments were not provided:
   --rounds <N>
 
-Usage: icserve reduce --rounds <N> --workers <N>
+Usage: icserve reduce --rounds <N> --workers <N> [FILE]
 
 For more information, try '--help'.
 ";
 
-/// What the words after the program's name ask for.
+/// What the words after the program's name ask for. A text is read from the file that they name, or from standard input
+/// where they name none.
 #[derive(Debug, Drop)]
 pub enum Task {
-    /// Settle the configuration on standard input.
-    Settle,
-    /// Make one round of the system on standard input.
-    Once,
+    /// Settle a configuration.
+    Settle {
+        /// The path of the text.
+        file: Option<String>,
+    },
+    /// Make one round of a system.
+    Once {
+        /// The path of the text.
+        file: Option<String>,
+    },
     /// Make a file an empty disk.
     Create {
         /// The path of the file.
@@ -99,7 +112,7 @@ pub enum Task {
         /// The paths of the scripts, none or several.
         scripts: Vec<String>,
     },
-    /// Reduce the system on standard input in place until no step is possible.
+    /// Reduce a system in place until no step is possible.
     Reduce {
         /// How many interactions are made at most, from 0 to 2^62 - 1.
         steps: u64,
@@ -109,8 +122,10 @@ pub enum Task {
         partial: bool,
         /// Whether it is told how many interactions were made, and how fast.
         stats: bool,
+        /// The path of the text.
+        file: Option<String>,
     },
-    /// Make rounds of the system on standard input until no step is possible.
+    /// Make rounds of a system until no step is possible.
     ReduceByRounds {
         /// How many rounds are made at most, from 0 to 2^62.
         rounds: u64,
@@ -118,6 +133,8 @@ pub enum Task {
         workers: u32,
         /// Whether the configuration before a refused round is printed.
         partial: bool,
+        /// The path of the text.
+        file: Option<String>,
     },
     /// Tell what each of these rounds does.
     Trace {
@@ -125,9 +142,14 @@ pub enum Task {
         rounds: u64,
         /// How it is told.
         format: TraceFormat,
+        /// The path of the text.
+        file: Option<String>,
     },
-    /// Draw the net of the configuration on standard input.
-    Draw,
+    /// Draw the net of a configuration.
+    Draw {
+        /// The path of the text.
+        file: Option<String>,
+    },
     /// Print jobs of a disk as lines that submit them.
     Dump {
         /// The path of the disk's file.
@@ -206,14 +228,15 @@ impl From<AllocError> for WordsFault {
     }
 }
 
-/// Reads the words after the program's name. Help is asked for by `--help` or `-h`, after a command too, and the version
-/// by `--version` or `-V`. The text of a refusal is clap's, with the usage; that of help is the one of `help`.
+/// Reads the words after the program's name. Help is asked for by `--help` or `-h`, after a command too, or by `help`,
+/// and the version by `--version` or `-V`. The text of a refusal is clap's, with the usage; that of help is the one of `help`.
 pub fn read_words(alloc: Global, words: &[String]) -> Result<Task, WordsFault>
     ensures answers { AnswersWords (mistakes_of (map string_bytes words.now)) result }
     ensures named { IfOk result (Names (map string_bytes words.now)) }
     ensures settle { map string_bytes words.now ≡ codes "settle" ∷ []
-        → GivesTask Task.Settle result }
-    ensures once { map string_bytes words.now ≡ codes "once" ∷ [] → GivesTask Task.Once result }
+        → GivesTask (Task.Settle None) result }
+    ensures once { map string_bytes words.now ≡ codes "once" ∷ []
+        → GivesTask (Task.Once None) result }
     ensures help { map string_bytes words.now ≡ codes "--help" ∷ [] → GivesHelp result }
     ensures version { map string_bytes words.now ≡ codes "--version" ∷ [] → GivesVersion result }
 {
@@ -253,20 +276,64 @@ fn task_named(alloc: Global, name: &str, matches: &ArgMatches) -> Result<Task, W
     ensures { Asks (subcommand_rows_of matches.now) result }
 {
     match name {
-        "settle" => Ok(Task::Settle),
-        "once" => Ok(Task::Once),
+        "settle" => settle_task(alloc, matches),
+        "once" => once_task(alloc, matches),
         "create" => create_task(alloc, matches),
         "serve" => serve_task(alloc, matches),
         "attend" => attend_task(alloc, matches),
         "reduce" => reduce_task(alloc, matches),
         "trace" => trace_task(alloc, matches),
-        "draw" => Ok(Task::Draw),
+        "draw" => draw_task(alloc, matches),
         "dump" => dump_task(alloc, matches),
         "inspect" => inspect_task(alloc, matches),
         "check" => check_task(alloc, matches),
         "batch" => batch_task(alloc, matches),
+        "help" => help_task(alloc, matches),
         _ => unreachable!(),
     }
+}
+
+/// The task of `settle`.
+fn settle_task(alloc: Global, matches: &ArgMatches) -> Result<Task, WordsFault>
+    requires { IsMet (codes "settle") (subcommand_rows_of matches.now) }
+    ensures { Asks (subcommand_rows_of matches.now) result }
+{
+    let file = file_of(alloc, matches)?;
+    Ok(Task::Settle { file })
+}
+
+/// The task of `once`.
+fn once_task(alloc: Global, matches: &ArgMatches) -> Result<Task, WordsFault>
+    requires { IsMet (codes "once") (subcommand_rows_of matches.now) }
+    ensures { Asks (subcommand_rows_of matches.now) result }
+{
+    let file = file_of(alloc, matches)?;
+    Ok(Task::Once { file })
+}
+
+/// The task of `draw`.
+fn draw_task(alloc: Global, matches: &ArgMatches) -> Result<Task, WordsFault>
+    requires { IsMet (codes "draw") (subcommand_rows_of matches.now) }
+    ensures { Asks (subcommand_rows_of matches.now) result }
+{
+    let file = file_of(alloc, matches)?;
+    Ok(Task::Draw { file })
+}
+
+/// The task of `help`. A word that names no command is refused as the parser refuses such a command.
+fn help_task(alloc: Global, matches: &ArgMatches) -> Result<Task, WordsFault>
+    requires { IsMet (codes "help") (subcommand_rows_of matches.now) }
+    ensures { Asks (subcommand_rows_of matches.now) result }
+{
+    let word = value_if_met(matches, "word");
+    if has_help(word) {
+        return Ok(Task::Help(String::from_str(alloc, help_by(word))?));
+    }
+    let word = word.unwrap_or("");
+    Err(WordsFault::Words(format!(in alloc;
+        "error: unrecognized subcommand '{word}'\n\nUsage: icserve help [WORD]\n\n\
+         For more information, try '--help'.\n"
+    )?))
 }
 
 /// The task of `create`.
@@ -320,7 +387,7 @@ fn reduce_task(alloc: Global, matches: &ArgMatches) -> Result<Task, WordsFault>
     ensures { Asks (subcommand_rows_of matches.now) result }
 {
     if !asks_rounds(matches) {
-        return Ok(in_place_task(matches));
+        return in_place_task(alloc, matches);
     }
     if asks_in_place(matches) {
         return Err(WordsFault::Words(String::from_str(alloc, BOTH_WAYS)?));
@@ -328,42 +395,46 @@ fn reduce_task(alloc: Global, matches: &ArgMatches) -> Result<Task, WordsFault>
     if !is_given(matches, "rounds") {
         return Err(WordsFault::Words(String::from_str(alloc, NO_ROUNDS)?));
     }
-    Ok(rounds_task(matches))
+    rounds_task(alloc, matches)
 }
 
 /// The task of `reduce` in place.
-fn in_place_task(matches: &ArgMatches) -> Task
+fn in_place_task(alloc: Global, matches: &ArgMatches) -> Result<Task, WordsFault>
     requires met { IsMet (codes "reduce") (subcommand_rows_of matches.now) }
     requires alone { asks_rounds (subcommand_rows_of matches.now) ≡ false }
-    ensures { Asks (subcommand_rows_of matches.now) (Ok result) }
+    ensures { Asks (subcommand_rows_of matches.now) result }
 {
+    let file = file_of(alloc, matches)?;
     let steps = number_or(matches, "steps", 0, MAX_STEPS, MAX_STEPS);
     let nodes = number_or(matches, "nodes", 0, MAX_STEPS, NODES);
     let partial = is_flag_met(matches, "partial");
     let stats = is_flag_met(matches, "stats");
-    Task::Reduce {
+    Ok(Task::Reduce {
         steps,
         nodes,
         partial,
         stats,
-    }
+        file,
+    })
 }
 
 /// The task of `reduce` by rounds.
-fn rounds_task(matches: &ArgMatches) -> Task
+fn rounds_task(alloc: Global, matches: &ArgMatches) -> Result<Task, WordsFault>
     requires met { IsMet (codes "reduce") (subcommand_rows_of matches.now) }
     requires given { is_given (codes "rounds") (subcommand_rows_of matches.now) ≡ true }
     requires alone { asks_in_place (subcommand_rows_of matches.now) ≡ false }
-    ensures { Asks (subcommand_rows_of matches.now) (Ok result) }
+    ensures { Asks (subcommand_rows_of matches.now) result }
 {
+    let file = file_of(alloc, matches)?;
     let rounds = number_of(matches, "rounds", 0, MAX_ROUNDS);
     let workers = number_or(matches, "workers", 1, u64::from(MAX_WORKERS), WORKERS) as u32;
     let partial = is_flag_met(matches, "partial");
-    Task::ReduceByRounds {
+    Ok(Task::ReduceByRounds {
         rounds,
         workers,
         partial,
-    }
+        file,
+    })
 }
 
 /// Whether an option of rounds is given.
@@ -386,14 +457,17 @@ fn trace_task(alloc: Global, matches: &ArgMatches) -> Result<Task, WordsFault>
     ensures { Asks (subcommand_rows_of matches.now) result }
 {
     let rounds = number_of(matches, "rounds", 0, MAX_ROUNDS);
+    let file = file_of(alloc, matches)?;
     match value_of(matches, "format") {
         "tsv" => Ok(Task::Trace {
             rounds,
             format: TraceFormat::Tsv,
+            file,
         }),
         "svg" => Ok(Task::Trace {
             rounds,
             format: TraceFormat::Svg,
+            file,
         }),
         other => Err(WordsFault::Words(format!(in alloc;
             "error: invalid value '{other}' for '--format <FORMAT>'\n  [possible values: tsv, svg]\n\n\
@@ -475,14 +549,33 @@ fn values_of(alloc: Global, matches: &ArgMatches, argument: &str) -> Result<Vec<
     }
 }
 
+/// The file that the command that was met is to read, none where it is to read standard input.
+fn file_of(alloc: Global, matches: &ArgMatches) -> Result<Option<String>, AllocError>
+    ensures { IfOk result (λ file.
+        option_map string_bytes file ≡ file_met (subcommand_rows_of matches.now)) }
+{
+    match value_if_met(matches, "file") {
+        None | Some(STANDARD) => Ok(None),
+        Some(path) => Ok(Some(String::from_str(alloc, path)?)),
+    }
+}
+
+/// The value of an argument of the command that was met, none where it has none.
+fn value_if_met<'a>(matches: &ArgMatches<'a>, argument: &str) -> Option<&'a str>
+    ensures { option_map (λ text. text.now) result
+        ≡ value_if_met argument.now (subcommand_rows_of matches.now) }
+{
+    match matches.subcommand() {
+        Some((_, met)) => met.get_str(argument),
+        None => None,
+    }
+}
+
 /// The value of an option of the command that was met, or no text where it has none.
 fn value_of<'a>(matches: &ArgMatches<'a>, option: &str) -> &'a str
     ensures { result.now ≡ value_met option.now (subcommand_rows_of matches.now) }
 {
-    match matches.subcommand() {
-        Some((_, met)) => met.get_str(option).unwrap_or(""),
-        None => "",
-    }
+    value_if_met(matches, option).unwrap_or("")
 }
 
 /// Whether an option of the command that was met has a value.
@@ -557,38 +650,6 @@ fn flag<'a>(alloc: Global, name: &'a str) -> Arg<'a>
     Arg::new(alloc, name).long(name).action(ArgAction::SetTrue)
 }
 
-/// An option that has a value where it is given, and no default.
-fn unread<'a>(alloc: Global, name: &'a str) -> Arg<'a>
-    ensures rule { rule_of result ≡ unread name.now }
-    ensures local { result.global ≡ false }
-{
-    Arg::new(alloc, name).long(name).value_name("N")
-}
-
-/// The option that bounds how many of something there may be when a net is reduced in place.
-fn bound_option<'a>(alloc: Global, name: &'a str) -> Arg<'a>
-    ensures rule { rule_of result ≡ bound_option name.now }
-    ensures local { result.global ≡ false }
-{
-    unread(alloc, name).value_parser(value_parser!(u64).range(0..4_611_686_018_427_387_904))
-}
-
-/// The option of `reduce` that says how many rounds are made at most.
-fn chosen_rounds<'a>(alloc: Global) -> Arg<'a>
-    ensures rule { rule_of result ≡ chosen_rounds }
-    ensures local { result.global ≡ false }
-{
-    unread(alloc, "rounds").value_parser(value_parser!(u64).range(0..4_611_686_018_427_387_905))
-}
-
-/// The option of `reduce` that says how many threads make a round.
-fn chosen_workers<'a>(alloc: Global) -> Arg<'a>
-    ensures rule { rule_of result ≡ chosen_workers }
-    ensures local { result.global ≡ false }
-{
-    unread(alloc, "workers").value_parser(value_parser!(u32).range(1..65))
-}
-
 /// An option with a value, and its default.
 fn valued_option<'a>(alloc: Global, name: &'a str, value: &'a str, default: &'a str) -> Arg<'a>
     ensures rule { rule_of result ≡ valued_option name.now default.now }
@@ -600,36 +661,71 @@ fn valued_option<'a>(alloc: Global, name: &'a str, value: &'a str, default: &'a 
         .default_value(default)
 }
 
-/// The option that says how many threads make a round.
-fn workers_option<'a>(alloc: Global) -> Arg<'a>
-    ensures rule { rule_of result ≡ workers_option }
+/// An option with a number that is read so, and its default.
+fn number_option<'a>(
+    alloc: Global,
+    name: &'a str,
+    value: &'a str,
+    default: &'a str,
+    read: ValueParser<'a>,
+) -> Arg<'a>
+    ensures rule { (least most : ℕ) → read.entry ≡ Unsigned least most
+        → rule_of result ≡ number_option name.now least most (default.now ∷ []) }
     ensures local { result.global ≡ false }
 {
-    valued_option(alloc, "workers", "N", "2").value_parser(value_parser!(u32).range(1..65))
+    valued_option(alloc, name, value, default).value_parser(read)
 }
 
-/// The option that says after how many rounds they are kept.
-fn every_option<'a>(alloc: Global) -> Arg<'a>
-    ensures rule { rule_of result ≡ every_option }
+/// An option with a number that is read so, and no default.
+fn chosen_option<'a>(alloc: Global, name: &'a str, read: ValueParser<'a>) -> Arg<'a>
+    ensures rule { (least most : ℕ) → read.entry ≡ Unsigned least most
+        → rule_of result ≡ number_option name.now least most [] }
     ensures local { result.global ≡ false }
 {
-    valued_option(alloc, "every", "K", "100").value_parser(value_parser!(u32).range(1..1_000_001))
+    let option = Arg::new(alloc, name).long(name).value_name("N");
+    option.value_parser(read)
 }
 
-/// The option that says how many runners there are.
-fn runners_option<'a>(alloc: Global) -> Arg<'a>
-    ensures rule { rule_of result ≡ runners_option }
-    ensures local { result.global ≡ false }
+/// Reads how many threads make a round.
+fn threads<'a>() -> ValueParser<'a>
+    ensures { result ≡ Unsigned 1 64 }
 {
-    valued_option(alloc, "runners", "R", "2").value_parser(value_parser!(u64).range(0..65))
+    value_parser!(u64).range(1..65)
 }
 
-/// The option that says how many rounds each runner may take once all scripts have ended.
-fn turns_option<'a>(alloc: Global) -> Arg<'a>
-    ensures rule { rule_of result ≡ turns_option }
-    ensures local { result.global ≡ false }
+/// Reads after how many rounds they are kept.
+fn keeps<'a>() -> ValueParser<'a>
+    ensures { result ≡ Unsigned 1 1000000 }
 {
-    valued_option(alloc, "turns", "T", "0").value_parser(value_parser!(u64).range(0..1_000_001))
+    value_parser!(u64).range(1..1_000_001)
+}
+
+/// Reads how many runners there are.
+fn runners<'a>() -> ValueParser<'a>
+    ensures { result ≡ Unsigned 0 64 }
+{
+    value_parser!(u64).range(0..65)
+}
+
+/// Reads how many rounds each runner may take once all scripts have ended.
+fn turns<'a>() -> ValueParser<'a>
+    ensures { result ≡ Unsigned 0 1000000 }
+{
+    value_parser!(u64).range(0..1_000_001)
+}
+
+/// Reads how many rounds are made at most.
+fn rounds<'a>() -> ValueParser<'a>
+    ensures { result ≡ Unsigned 0 most_rounds }
+{
+    value_parser!(u64).range(0..4_611_686_018_427_387_905)
+}
+
+/// Reads how many interactions are made at most, or how many places there are.
+fn steps<'a>() -> ValueParser<'a>
+    ensures { result ≡ Unsigned 0 most_steps }
+{
+    value_parser!(u64).range(0..4_611_686_018_427_387_904)
 }
 
 /// The argument that names scripts.
@@ -659,26 +755,6 @@ fn file_argument<'a>(alloc: Global) -> Arg<'a>
         .required(true)
 }
 
-/// The option that says how many rounds are made at most.
-fn rounds_option<'a>(alloc: Global) -> Arg<'a>
-    ensures rule { rule_of result ≡ rounds_option }
-    ensures local { result.global ≡ false }
-{
-    valued_option(alloc, "rounds", "N", "1000000").value_parser(value_parser!(u64).range(
-        0..4_611_686_018_427_387_905,
-    ))
-}
-
-/// The option that says how many rounds a job makes at most over its whole life.
-fn life_option<'a>(alloc: Global) -> Arg<'a>
-    ensures rule { rule_of result ≡ life_option }
-    ensures local { result.global ≡ false }
-{
-    valued_option(alloc, "rounds", "N", "4611686018427387904").value_parser(value_parser!(
-        u64
-    ).range(0..4_611_686_018_427_387_905))
-}
-
 /// The argument that names a file of lines.
 fn lines_argument<'a>(alloc: Global) -> Arg<'a>
     ensures rule { rule_of result ≡ lines_argument }
@@ -687,12 +763,20 @@ fn lines_argument<'a>(alloc: Global) -> Arg<'a>
     Arg::new(alloc, "lines").value_name("LINES").required(true)
 }
 
-/// The option that says how a trace is told.
-fn format_option<'a>(alloc: Global) -> Arg<'a>
-    ensures rule { rule_of result ≡ format_option }
+/// The argument of this name, which may be given once.
+fn optional_argument<'a>(alloc: Global, name: &'a str, value: &'a str) -> Arg<'a>
+    ensures rule { rule_of result ≡ optional_argument name.now }
     ensures local { result.global ≡ false }
 {
-    valued_option(alloc, "format", "FORMAT", "tsv")
+    Arg::new(alloc, name).value_name(value)
+}
+
+/// The argument that names a file to read.
+fn input_argument<'a>(alloc: Global) -> Arg<'a>
+    ensures rule { rule_of result ≡ input_argument }
+    ensures local { result.global ≡ false }
+{
+    optional_argument(alloc, "file", "FILE")
 }
 
 /// A command with one more argument, where no growth was refused before.
@@ -722,6 +806,21 @@ fn with_command<'a>(
     program.subcommand(command)
 }
 
+/// A command that reads a text, and has no option.
+fn text_command<'a>(alloc: Global, name: &'a str) -> Result<Command<'a>, AllocError>
+    ensures { IfOk result (IsMade (text_command name.now)) }
+{
+    with_arg(Ok(Command::new(alloc, name)), input_argument(alloc))
+}
+
+/// The command that shows a help.
+fn help_command<'a>(alloc: Global) -> Result<Command<'a>, AllocError>
+    ensures { IfOk result (IsMade help_command) }
+{
+    let word = optional_argument(alloc, "word", "WORD");
+    with_arg(Ok(Command::new(alloc, "help")), word)
+}
+
 /// The command that makes a file an empty disk.
 fn create_command<'a>(alloc: Global) -> Result<Command<'a>, AllocError>
     ensures { IfOk result (IsMade create_command) }
@@ -735,8 +834,11 @@ fn serve_command<'a>(alloc: Global) -> Result<Command<'a>, AllocError>
     ensures { IfOk result (IsMade serve_command) }
 {
     let command = with_arg(Ok(Command::new(alloc, "serve")), disk_option(alloc));
-    let command = with_arg(command, workers_option(alloc));
-    with_arg(command, every_option(alloc))
+    let command = with_arg(
+        command,
+        number_option(alloc, "workers", "N", "2", threads()),
+    );
+    with_arg(command, number_option(alloc, "every", "K", "100", keeps()))
 }
 
 /// The command that gives the commands of scripts.
@@ -744,9 +846,15 @@ fn attend_command<'a>(alloc: Global) -> Result<Command<'a>, AllocError>
     ensures { IfOk result (IsMade attend_command) }
 {
     let command = with_arg(Ok(Command::new(alloc, "attend")), disk_option(alloc));
-    let command = with_arg(command, runners_option(alloc));
-    let command = with_arg(command, turns_option(alloc));
-    let command = with_arg(command, workers_option(alloc));
+    let command = with_arg(
+        command,
+        number_option(alloc, "runners", "R", "2", runners()),
+    );
+    let command = with_arg(command, number_option(alloc, "turns", "T", "0", turns()));
+    let command = with_arg(
+        command,
+        number_option(alloc, "workers", "N", "2", threads()),
+    );
     with_arg(command, script_argument(alloc))
 }
 
@@ -754,20 +862,26 @@ fn attend_command<'a>(alloc: Global) -> Result<Command<'a>, AllocError>
 fn reduce_command<'a>(alloc: Global) -> Result<Command<'a>, AllocError>
     ensures { IfOk result (IsMade reduce_command) }
 {
-    let command = with_arg(Ok(Command::new(alloc, "reduce")), chosen_rounds(alloc));
-    let command = with_arg(command, chosen_workers(alloc));
-    let command = with_arg(command, bound_option(alloc, "steps"));
-    let command = with_arg(command, bound_option(alloc, "nodes"));
+    let command = with_arg(
+        Ok(Command::new(alloc, "reduce")),
+        chosen_option(alloc, "rounds", rounds()),
+    );
+    let command = with_arg(command, chosen_option(alloc, "workers", threads()));
+    let command = with_arg(command, chosen_option(alloc, "steps", steps()));
+    let command = with_arg(command, chosen_option(alloc, "nodes", steps()));
     let command = with_arg(command, flag(alloc, "partial"));
-    with_arg(command, flag(alloc, "stats"))
+    let command = with_arg(command, flag(alloc, "stats"));
+    with_arg(command, input_argument(alloc))
 }
 
 /// The command that traces a system.
 fn trace_command<'a>(alloc: Global) -> Result<Command<'a>, AllocError>
     ensures { IfOk result (IsMade trace_command) }
 {
-    let command = with_arg(Ok(Command::new(alloc, "trace")), rounds_option(alloc));
-    with_arg(command, format_option(alloc))
+    let rounds = number_option(alloc, "rounds", "N", "1000000", rounds());
+    let command = with_arg(Ok(Command::new(alloc, "trace")), rounds);
+    let command = with_arg(command, valued_option(alloc, "format", "FORMAT", "tsv"));
+    with_arg(command, input_argument(alloc))
 }
 
 /// The command that prints jobs of a disk.
@@ -797,9 +911,13 @@ fn batch_command<'a>(alloc: Global) -> Result<Command<'a>, AllocError>
     ensures { IfOk result (IsMade batch_command) }
 {
     let command = with_arg(Ok(Command::new(alloc, "batch")), disk_option(alloc));
-    let command = with_arg(command, life_option(alloc));
-    let command = with_arg(command, every_option(alloc));
-    let command = with_arg(command, workers_option(alloc));
+    let rounds = number_option(alloc, "rounds", "N", "4611686018427387904", rounds());
+    let command = with_arg(command, rounds);
+    let command = with_arg(command, number_option(alloc, "every", "K", "100", keeps()));
+    let command = with_arg(
+        command,
+        number_option(alloc, "workers", "N", "2", threads()),
+    );
     with_arg(command, lines_argument(alloc))
 }
 
@@ -819,8 +937,8 @@ fn program<'a>(alloc: Global) -> Result<Command<'a>, AllocError>
 fn with_streams<'a>(alloc: Global) -> Result<Command<'a>, AllocError>
     ensures { IfOk result (λ command. app_of command ≡ with_streams) }
 {
-    let program = with_command(program(alloc), Ok(Command::new(alloc, "settle")));
-    with_command(program, Ok(Command::new(alloc, "once")))
+    let program = with_command(program(alloc), text_command(alloc, "settle"));
+    with_command(program, text_command(alloc, "once"))
 }
 
 /// The program with the commands over disks, too.
@@ -838,7 +956,7 @@ fn with_looks<'a>(alloc: Global) -> Result<Command<'a>, AllocError>
 {
     let program = with_command(with_disks(alloc), reduce_command(alloc));
     let program = with_command(program, trace_command(alloc));
-    with_command(program, Ok(Command::new(alloc, "draw")))
+    with_command(program, text_command(alloc, "draw"))
 }
 
 /// The program's command line.
@@ -848,5 +966,6 @@ fn command<'a>(alloc: Global) -> Result<Command<'a>, AllocError>
     let program = with_command(with_looks(alloc), dump_command(alloc));
     let program = with_command(program, inspect_command(alloc));
     let program = with_command(program, check_command(alloc));
-    with_command(program, batch_command(alloc))
+    let program = with_command(program, batch_command(alloc));
+    with_command(program, help_command(alloc))
 }

@@ -25,8 +25,8 @@ fn words_of(alloc: Global, line: &str) -> Result<Vec<String>, AllocError> {
 /// What a task asks for.
 fn asked(alloc: Global, task: &Task) -> Result<String, AllocError> {
     match task {
-        Task::Settle => String::from_str(alloc, "settle"),
-        Task::Once => String::from_str(alloc, "once"),
+        Task::Settle { file } => with_file(String::from_str(alloc, "settle")?, file),
+        Task::Once { file } => with_file(String::from_str(alloc, "once")?, file),
         Task::Create { disk, overwrite } => {
             let word = if *overwrite { "overwrite" } else { "create" };
             format!(in alloc; "{word} {disk}")
@@ -51,20 +51,26 @@ fn asked(alloc: Global, task: &Task) -> Result<String, AllocError> {
             nodes,
             partial,
             stats,
+            file,
         } => {
             let asked = format!(in alloc; "in place {steps} {nodes}")?;
-            with_flags(asked, *partial, *stats)
+            with_file(with_flags(asked, *partial, *stats)?, file)
         }
         Task::ReduceByRounds {
             rounds,
             workers,
             partial,
+            file,
         } => {
             let asked = format!(in alloc; "reduce {rounds} {workers}")?;
-            with_flags(asked, *partial, false)
+            with_file(with_flags(asked, *partial, false)?, file)
         }
-        Task::Trace { rounds, format } => traced(alloc, *rounds, *format),
-        Task::Draw => String::from_str(alloc, "draw"),
+        Task::Trace {
+            rounds,
+            format,
+            file,
+        } => with_file(traced(alloc, *rounds, *format)?, file),
+        Task::Draw { file } => with_file(String::from_str(alloc, "draw")?, file),
         Task::Dump { disk, names } => {
             let asked = format!(in alloc; "dump {disk}")?;
             with_texts(asked, names)
@@ -88,6 +94,15 @@ fn with_texts(mut asked: String, texts: &[String]) -> Result<String, AllocError>
     for text in texts {
         asked.push(' ')?;
         asked.push_str(text.as_str())?;
+    }
+    Ok(asked)
+}
+
+/// What is asked for, and the file to read after it.
+fn with_file(mut asked: String, file: &Option<String>) -> Result<String, AllocError> {
+    if let Some(path) = file {
+        asked.push_str(" of ")?;
+        asked.push_str(path.as_str())?;
     }
     Ok(asked)
 }

@@ -2,13 +2,14 @@
 
 use crate::inspecting::open_to_read;
 use crate::texts::{read_limited, too_long};
-use ic_causes::{Notes, cause_line};
+use ic_causes::{NotedInput, Notes, cause_line};
 use ic_check::{Given, Source, check_files};
 use ic_exits::{Failure, check_ending};
 use std::alloc::{AllocError, Global};
 use std::io;
 
-/// Prints the faults and warnings of the files of these paths, in their order. One that can't be read
+/// Prints the faults and warnings of the files of these paths, in their order; for `-` standard input is
+/// read. One that can't be read
 /// doesn't keep the others from being looked over; why it can't is appended to `told`.
 pub(crate) fn check(rt: &HostRuntime, paths: &[String], told: &mut Vec<u8>) -> Result<(), Failure> {
     let source = FileSource { rt };
@@ -37,9 +38,12 @@ impl Source for FileSource<'_> {
     }
 }
 
-/// The bytes of the file of this path, or none where it has too many. A call to it that fails is
-/// noted.
+/// The bytes of the file of this path, or of standard input for `-`, or none where it has too many. A
+/// call to it that fails is noted.
 fn noted_bytes(rt: &HostRuntime, path: &str, notes: &Notes) -> io::Result<Option<Vec<u8>>> {
+    if path == "-" {
+        return read_limited(rt.alloc(), NotedInput::new(rt.reader(), notes));
+    }
     let file = open_to_read(rt, path, notes)?;
     read_limited(rt.alloc(), file)
 }

@@ -4,6 +4,7 @@
 mod batching;
 mod checking;
 mod dumping;
+mod input;
 mod inspecting;
 mod looking;
 mod progress;
@@ -12,6 +13,7 @@ mod scripts;
 mod standing;
 mod texts;
 
+use crate::input::{Input, open_file, told_of};
 use crate::progress::{Progress, WipedFirst};
 use crate::standing::stand_ins;
 use ic_args::{Task, WordsFault, read_words};
@@ -49,7 +51,8 @@ fn main(rt: HostRuntime) -> ExitCode {
 }
 
 /// Does what the words after the program's name ask for. It hands out the path of the disk's file,
-/// notes the calls to it and to standard input that fail, and appends to `told` where a text is refused.
+/// notes the calls to it and to what is read that fail, and puts into `told` where a text is refused,
+/// or why its file can't be read.
 fn begin<T: Threads + Wait + Copy + Send + Sync + 'static>(
     rt: &HostRuntime,
     threads: &T,
@@ -61,7 +64,42 @@ fn begin<T: Threads + Wait + Copy + Send + Sync + 'static>(
     if path.push_str(path_of(&task)).is_err() {
         return Err(Failure::Words(WordsFault::Memory));
     }
-    run(rt, threads, task, notes, told)
+    let done = answer(rt, threads, &task, notes, told);
+    if let (Err(failure), Some(file)) = (&done, file_of(&task)) {
+        if let Ok(lines) = told_of(rt.alloc(), file, failure, notes, told) {
+            *told = lines;
+        }
+    }
+    done
+}
+
+/// Opens what a task reads, and does it.
+fn answer<T: Threads + Wait + Copy + Send + Sync + 'static>(
+    rt: &HostRuntime,
+    threads: &T,
+    task: &Task,
+    notes: &Notes,
+    told: &mut Vec<u8>,
+) -> Result<(), Failure> {
+    let mut input = match file_of(task) {
+        None => Input::Standard(NotedInput::new(rt.reader(), notes)),
+        Some(path) => Input::File(open_file(rt, path, notes).map_err(Failure::Stream)?),
+    };
+    run(rt, threads, task, &mut input, notes, told)
+}
+
+/// The path of the file that a task reads a text from, none where it reads standard input or no text.
+fn file_of(task: &Task) -> Option<&str> {
+    let file = match task {
+        Task::Settle { file } | Task::Once { file } | Task::Draw { file } => file,
+        Task::Reduce { file, .. } | Task::ReduceByRounds { file, .. } => file,
+        Task::Trace { file, .. } => file,
+        _ => return None,
+    };
+    match file {
+        Some(path) => Some(path.as_str()),
+        None => None,
+    }
 }
 
 /// The path of the disk's file that a task names, or no path.
@@ -77,33 +115,33 @@ fn path_of(task: &Task) -> &str {
     }
 }
 
-/// Does a task on standard input and output, but for `create`, and but for the input of `attend` and
+/// Does a task on this input and standard output, but for `create`, and but for the input of `attend` and
 /// of `check`. The lines that tell the place of a fault in a text, and those that tell why a text or a
 /// script can't be read, are appended to `told`.
-fn run<T: Threads + Wait + Copy + Send + Sync + 'static>(
+fn run<T: Threads + Wait + Copy + Send + Sync + 'static, R: Read>(
     rt: &HostRuntime,
     threads: &T,
-    task: Task,
+    task: &Task,
+    input: &mut R,
     notes: &Notes,
     told: &mut Vec<u8>,
 ) -> Result<(), Failure> {
-    let mut input = NotedInput::new(rt.reader(), notes);
     let mut output = io::writer(rt);
     match task {
-        Task::Settle => {
-            settle_telling(rt.alloc(), &mut input, &mut output, told).map_err(Failure::Stream)
+        Task::Settle { .. } => {
+            settle_telling(rt.alloc(), input, &mut output, told).map_err(Failure::Stream)
         }
-        Task::Once => {
-            once_telling(rt.alloc(), &mut input, &mut output, told).map_err(Failure::Stream)
+        Task::Once { .. } => {
+            once_telling(rt.alloc(), input, &mut output, told).map_err(Failure::Stream)
         }
-        Task::Create { disk, overwrite } => create(rt, disk.as_str(), overwrite, notes),
+        Task::Create { disk, overwrite } => create(rt, disk.as_str(), *overwrite, notes),
         Task::Serve {
             disk,
             workers,
             every,
         } => {
             let book = open(rt, disk.as_str(), notes)?;
-            serve(rt, threads, book, &mut input, workers, every).map_err(Failure::Serve)
+            serve(rt, threads, book, input, *workers, *every).map_err(Failure::Serve)
         }
         Task::Attend {
             disk,
@@ -112,9 +150,9 @@ fn run<T: Threads + Wait + Copy + Send + Sync + 'static>(
             workers,
             scripts,
         } => {
-            let scripts = scripts::read_scripts(rt, &scripts, told).map_err(Failure::Attend)?;
+            let scripts = scripts::read_scripts(rt, scripts, told).map_err(Failure::Attend)?;
             let disk = open_disk(rt, disk.as_str(), false, notes)?;
-            let numbers = [runners, turns, workers];
+            let numbers = [*runners, *turns, *workers];
             give(rt, threads, disk, scripts, numbers).map_err(Failure::Attend)
         }
         Task::Reduce {
@@ -122,20 +160,25 @@ fn run<T: Threads + Wait + Copy + Send + Sync + 'static>(
             nodes,
             partial,
             stats,
+            ..
         } => {
-            let bounds = Bounds { steps, nodes };
-            reducing::reduce(rt, bounds, partial, stats, &mut input, told)
+            let bounds = Bounds {
+                steps: *steps,
+                nodes: *nodes,
+            };
+            reducing::reduce(rt, bounds, *partial, *stats, input, told)
         }
         Task::ReduceByRounds {
             rounds,
             workers,
             partial,
-        } => looking::reduce(rt, threads, rounds, workers, partial, &mut input, told),
-        Task::Trace { rounds, format } => looking::trace(rt, rounds, format, &mut input, told),
-        Task::Draw => looking::draw(rt, &mut input, told),
-        Task::Dump { disk, names } => dumping::dump(rt, disk.as_str(), &names, notes),
+            ..
+        } => looking::reduce(rt, threads, *rounds, *workers, *partial, input, told),
+        Task::Trace { rounds, format, .. } => looking::trace(rt, *rounds, *format, input, told),
+        Task::Draw { .. } => looking::draw(rt, input, told),
+        Task::Dump { disk, names } => dumping::dump(rt, disk.as_str(), names, notes),
         Task::Inspect { disk } => inspecting::inspect(rt, disk.as_str(), notes),
-        Task::Check { files } => checking::check(rt, &files, told),
+        Task::Check { files } => checking::check(rt, files, told),
         Task::Batch {
             disk,
             rounds,
@@ -143,7 +186,7 @@ fn run<T: Threads + Wait + Copy + Send + Sync + 'static>(
             workers,
             lines,
         } => {
-            let numbers = [rounds, u64::from(workers), u64::from(every)];
+            let numbers = [*rounds, u64::from(*workers), u64::from(*every)];
             let (disk, lines) = (disk.as_str(), lines.as_str());
             batching::batch(rt, threads, disk, lines, numbers, notes, told)
         }

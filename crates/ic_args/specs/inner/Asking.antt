@@ -3,8 +3,9 @@ use Rattle.std.specs.Prelude.{◌≡◌, ◌≢◌, ◌≤◌, ◌⊎◌, ℕ, L
 use Rattle.clap.specs.Words.{Row, Text}
 use Rattle.clap.specs.declared.error.ErrorKind.{ErrorKind}
 use Rattle.clap.specs.declared.error.ErrorKind.TheVariants.{DisplayHelp, DisplayVersion, OutOfMemory}
-use Rattle.ic_args.specs.Help.{help_of}
+use Rattle.ic_args.specs.Help.{help_by, help_of}
 use Rattle.ic_args.specs.Words.{IsDecimal, asks_in_place, asks_rounds, format_word, is_flag_met, is_format, is_given, most_rounds, most_steps}
+use Rattle.ic_args.specs.Words.{file_met, has_help, value_if_met}
 use Rattle.ic_args.specs.Words.{number_met, reduce_faults, value_met, values_met, version_line}
 use Rattle.ic_args.specs.declared.words.Task.{Task}
 use Rattle.ic_args.specs.declared.words.Task.TheVariants.{Settle, Once, Create, Serve, Attend, Reduce, ReduceByRounds}
@@ -31,7 +32,7 @@ IsMet name met = option_map (λ p. p.0) met ≡ Some name
 abbrev pub commands : List Text
 commands = codes "settle" ∷ codes "once" ∷ codes "create" ∷ codes "serve" ∷ codes "attend"
     ∷ codes "reduce" ∷ codes "trace" ∷ codes "draw" ∷ codes "dump"
-    ∷ codes "inspect" ∷ codes "check" ∷ codes "batch" ∷ []
+    ∷ codes "inspect" ∷ codes "check" ∷ codes "batch" ∷ codes "help" ∷ []
 
 -- it is one of these
 abbrev pub IsIn : Text → List Text → Type 0
@@ -42,10 +43,14 @@ IsIn name (one ∷ more) = (name ≡ one) ⊎ IsIn name more
 abbrev pub IsCommandMet : Option (Text × List Row) → Type 0
 IsCommandMet met = (name : Text) × IsIn name commands × IsMet name met
 
+-- the command of this name was met, and these are its files
+abbrev pub AsksText : Text → Option (Text × List Row) → Option Text → Type 0
+AsksText name met file = IsMet name met × (file ≡ file_met met)
+
 -- what is answered to the command that was met
 abbrev pub Asks : Option (Text × List Row) → Result Task WordsFault → Type 0
-Asks met (Ok Settle) = IsMet (codes "settle") met
-Asks met (Ok Once) = IsMet (codes "once") met
+Asks met (Ok (Settle file)) = AsksText (codes "settle") met (option_map string_bytes file)
+Asks met (Ok (Once file)) = AsksText (codes "once") met (option_map string_bytes file)
 Asks met (Ok (Create disk overwrite)) = IsMet (codes "create") met
     × (string_bytes disk ≡ value_met (codes "disk") met)
     × (overwrite ≡ is_flag_met (codes "overwrite") met)
@@ -57,20 +62,22 @@ Asks met (Ok (Attend disk runners turns workers scripts)) = IsMet (codes "attend
     × IsReadFrom (codes "runners") 0 64 met runners × IsReadFrom (codes "turns") 0 1000000 met turns
     × IsReadFrom (codes "workers") 1 64 met workers
     × (map string_bytes scripts.items ≡ values_met (codes "script") met)
-Asks met (Ok (Reduce steps nodes partial stats)) = IsMet (codes "reduce") met
-    × (asks_rounds met ≡ false)
+Asks met (Ok (Reduce steps nodes partial stats file)) =
+    AsksText (codes "reduce") met (option_map string_bytes file) × (asks_rounds met ≡ false)
     × IsReadOr (codes "steps") 0 most_steps most_steps met steps
     × IsReadOr (codes "nodes") 0 most_steps 134217728 met nodes
     × (partial ≡ is_flag_met (codes "partial") met) × (stats ≡ is_flag_met (codes "stats") met)
-Asks met (Ok (ReduceByRounds rounds workers partial)) = IsMet (codes "reduce") met
+Asks met (Ok (ReduceByRounds rounds workers partial file)) =
+    AsksText (codes "reduce") met (option_map string_bytes file)
     × (is_given (codes "rounds") met ≡ true) × (asks_in_place met ≡ false)
     × IsReadFrom (codes "rounds") 0 most_rounds met rounds
     × IsReadOr (codes "workers") 1 64 2 met workers
     × (partial ≡ is_flag_met (codes "partial") met)
-Asks met (Ok (Trace rounds format)) = IsMet (codes "trace") met
+Asks met (Ok (Trace rounds format file)) =
+    AsksText (codes "trace") met (option_map string_bytes file)
     × IsReadFrom (codes "rounds") 0 most_rounds met rounds
     × (value_met (codes "format") met ≡ format_word format)
-Asks met (Ok Draw) = IsMet (codes "draw") met
+Asks met (Ok (Draw file)) = AsksText (codes "draw") met (option_map string_bytes file)
 Asks met (Ok (Dump disk names)) = IsMet (codes "dump") met
     × (string_bytes disk ≡ value_met (codes "disk") met)
     × (map string_bytes names.items ≡ values_met (codes "name") met)
@@ -84,11 +91,14 @@ Asks met (Ok (Batch disk rounds every workers lines)) = IsMet (codes "batch") me
     × IsReadFrom (codes "every") 1 1000000 met every
     × IsReadFrom (codes "workers") 1 64 met workers
     × (string_bytes lines ≡ value_met (codes "lines") met)
-Asks met (Ok (Help text)) = ⊥
+Asks met (Ok (Help text)) = IsMet (codes "help") met
+    × (has_help (value_if_met (codes "word") met) ≡ true)
+    × (string_bytes text ≡ help_by (value_if_met (codes "word") met))
 Asks met (Ok (Version text)) = ⊥
 Asks met (Err (Words text)) = (IsMet (codes "trace") met
     × (is_format (value_met (codes "format") met) ≡ false))
-    ⊎ (IsMet (codes "reduce") met × (reduce_faults met ≢ []))
+    ⊎ ((IsMet (codes "reduce") met × (reduce_faults met ≢ []))
+    ⊎ (IsMet (codes "help") met × (has_help (value_if_met (codes "word") met) ≡ false)))
 Asks met (Err Memory) = Unit {0}
 
 -- what is answered where the parser's error is of this kind

@@ -18,12 +18,6 @@ pub returns-clause-once_ended : goal.returns-clause-once_ended
 unfolding clap_on_literals
 returns-clause-once_ended c = refl
 
-pub returns-clause-settle_named : goal.returns-clause-settle_named
-returns-clause-settle_named c = λ words names. names
-
-pub returns-clause-once_named : goal.returns-clause-once_named
-returns-clause-once_named c = λ words names. names
-
 pub returns-clause-reduce : goal.returns-clause-reduce
 unfolding clap_on_literals
 returns-clause-reduce c = refl
@@ -39,6 +33,3 @@ returns-clause-draw c = refl
 pub returns-clause-drawn : goal.returns-clause-drawn
 unfolding clap_on_literals
 returns-clause-drawn c = refl
-
-pub returns-clause-draw_named : goal.returns-clause-draw_named
-returns-clause-draw_named c = λ words names. names

@@ -127,7 +127,7 @@ returns-clause-attend c = λ path script plain other. record {
 
 pub returns-clause-reduce : goal.returns-clause-reduce
 returns-clause-reduce c = (
-  record { rest = []; begins = refl; written = refl; once = tt },
+  record { front = []; rest = []; begins = refl; written = refl; once = tt; last = inl refl },
   record {
     no_rounds = tt;
     no_workers = tt;
@@ -139,10 +139,11 @@ returns-clause-reduce c = (
 )
 
 pub returns-clause-reduced : goal.returns-clause-reduced
-returns-clause-reduced c = (
+returns-clause-reduced c = λ path plain. (
   given_as (codes "stats") (codes "true") ∷ given_as (codes "nodes") (codes "9") ∷ given_as (codes "steps") (codes "10") ∷ [],
   record {
-    rest = codes "--stats" ∷ codes "--nodes=9" ∷ codes "--steps" ∷ codes "10" ∷ [];
+    front = codes "--stats" ∷ codes "--nodes=9" ∷ codes "--steps" ∷ codes "10" ∷ [];
+    rest = path ∷ [];
     begins = refl;
     written = (
       (codes "--stats" ∷ []),
@@ -158,6 +159,7 @@ returns-clause-reduced c = (
       ),
     );
     once = ((other (codes "stats") (codes "nodes") refl, (other (codes "stats") (codes "steps") refl, tt)), ((other (codes "nodes") (codes "steps") refl, tt), (tt, tt)));
+    last = (refl, plain);
   },
   record {
     no_rounds = (other (codes "stats") (codes "rounds") refl, (other (codes "nodes") (codes "rounds") refl, (other (codes "steps") (codes "rounds") refl, tt)));
@@ -173,7 +175,8 @@ pub returns-clause-by_rounds : goal.returns-clause-by_rounds
 returns-clause-by_rounds c = (
   given_as (codes "workers") (codes "3") ∷ given_as (codes "rounds") (codes "10") ∷ [],
   record {
-    rest = codes "--workers=3" ∷ codes "--rounds" ∷ codes "10" ∷ [];
+    front = codes "--workers=3" ∷ codes "--rounds" ∷ codes "10" ∷ [];
+    rest = [];
     begins = refl;
     written = (
       (codes "--workers=3" ∷ []),
@@ -183,6 +186,7 @@ returns-clause-by_rounds c = (
       ((codes "--rounds" ∷ codes "10" ∷ []), [], refl, inl (inl (refl, ten), inr (refl, λ same. cc)), refl),
     );
     once = (((λ same. cc), tt), (tt, tt));
+    last = inl refl;
   },
   record {
     rounds = (codes "10", inr (inl (refl, refl)), is_ten);
@@ -195,13 +199,42 @@ returns-clause-by_rounds c = (
 )
 
 pub returns-clause-trace : goal.returns-clause-trace
-returns-clause-trace c = record {
+returns-clause-trace c = λ path plain. record {
   given = given_as (codes "format") (codes "svg") ∷ [];
-  rest = codes "--format" ∷ codes "svg" ∷ [];
+  front = codes "--format" ∷ codes "svg" ∷ [];
+  rest = path ∷ [];
+  last = (refl, plain);
   begins = refl;
   written = ((codes "--format" ∷ codes "svg" ∷ []), [], refl, inr (refl, λ same. cc), refl);
   options = (inr (refl, inr refl), tt);
   once = (tt, tt);
   rounds = inr (((λ same. omega (arith, ap head same)), tt), refl);
   format = inl (inl (refl, refl));
+}
+
+pub returns-clause-settle : goal.returns-clause-settle
+returns-clause-settle c = λ path plain. ((path ∷ []), refl, (refl, plain))
+
+pub returns-clause-once : goal.returns-clause-once
+returns-clause-once c = ((codes "-" ∷ []), refl, inr refl)
+
+pub returns-clause-batch : goal.returns-clause-batch
+returns-clause-batch c = λ path file plain other. record {
+  given = given_as (codes "disk") path ∷ given_as (codes "rounds") (codes "10") ∷ [];
+  front = codes "--disk" ∷ path ∷ codes "--rounds=10" ∷ [];
+  begins = refl;
+  written = (
+    (codes "--disk" ∷ path ∷ []),
+    (codes "--rounds=10" ∷ []),
+    refl,
+    inr (refl, plain),
+    ((codes "--rounds=10" ∷ []), [], refl, inl refl, refl),
+  );
+  options = (inl refl, (inr (inl (refl, ten)), tt));
+  once = (((λ same. cc), tt), (tt, tt));
+  disk = inl (refl, refl);
+  rounds = inl (inr (inl (refl, refl)));
+  every = inr (((λ same. cc), ((λ same. cc), tt)), refl);
+  workers = inr (((λ same. cc), ((λ same. cc), tt)), refl);
+  plain = other;
 }

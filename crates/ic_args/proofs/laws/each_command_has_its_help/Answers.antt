@@ -1,5 +1,6 @@
-use Rattle.std.proofs.Common.{refl}
-use Rattle.ic_args.proofs.HelpLemmas.{other_help}
+use Rattle.std.proofs.Common.{ap, refl, unwrap_or}
+use Rattle.ic_args.specs.Help.{program_help}
+use Rattle.ic_args.proofs.HelpLemmas.{no_help_named}
 use Rattle.ic_args.proofs.laws.each_command_has_its_help.Goals as goal
 
 pub returns-clause-settle : goal.returns-clause-settle
@@ -17,12 +18,6 @@ returns-clause-serve c = λ words. refl
 pub returns-clause-attend : goal.returns-clause-attend
 returns-clause-attend c = λ words. refl
 
-pub returns-clause-program : goal.returns-clause-program
-returns-clause-program c = λ word words other. other_help word words other.0 other.1.0 other.1.1.0 other.1.1.1.0 other.1.1.1.1.0 other.1.1.1.1.1.0 other.1.1.1.1.1.1.0 other.1.1.1.1.1.1.1.0 other.1.1.1.1.1.1.1.1.0 other.1.1.1.1.1.1.1.1.1.0 other.1.1.1.1.1.1.1.1.1.1.0 other.1.1.1.1.1.1.1.1.1.1.1.0
-
-pub returns-clause-commands : goal.returns-clause-commands
-returns-clause-commands c = ((411, refl), ((354, refl), ((602, refl), ((644, refl), ((718, refl), ((125, refl), ((203, refl), ((272, refl), ((901, refl), ((977, refl), ((479, refl), ((809, refl), ((1058, refl), ((1086, refl), tt))))))))))))))
-
 pub returns-clause-reduce : goal.returns-clause-reduce
 returns-clause-reduce c = λ words. refl
 
@@ -32,17 +27,38 @@ returns-clause-trace c = λ words. refl
 pub returns-clause-draw : goal.returns-clause-draw
 returns-clause-draw c = λ words. refl
 
-pub returns-clause-rounds : goal.returns-clause-rounds
-returns-clause-rounds c = ((101, refl), ((562, refl), ((611, refl), ((647, refl), ((709, refl), tt)))))
+pub returns-clause-dump : goal.returns-clause-dump
+returns-clause-dump c = λ words. refl
 
-pub returns-clause-in_place : goal.returns-clause-in_place
-returns-clause-in_place c = ((142, refl), ((197, refl), ((264, refl), ((343, refl), ((400, refl), ((490, refl), tt))))))
+pub returns-clause-inspect : goal.returns-clause-inspect
+returns-clause-inspect c = λ words. refl
 
-pub returns-clause-formats : goal.returns-clause-formats
-returns-clause-formats c = ((92, refl), ((132, refl), ((185, refl), ((240, refl), ((277, refl), ((296, refl), ((302, refl), tt)))))))
+pub returns-clause-check : goal.returns-clause-check
+returns-clause-check c = λ words. refl
+
+pub returns-clause-batch : goal.returns-clause-batch
+returns-clause-batch c = λ words. refl
+
+pub returns-clause-help : goal.returns-clause-help
+returns-clause-help c = λ words. refl
+
+pub returns-clause-program : goal.returns-clause-program
+returns-clause-program c = λ word words others. ap (λ o. unwrap_or o program_help) (no_help_named word others)
+
+pub returns-clause-commands : goal.returns-clause-commands
+returns-clause-commands c = ((426, refl), ((369, refl), ((617, refl), ((659, refl), ((733, refl), ((140, refl), ((218, refl), ((287, refl), ((916, refl), ((992, refl), ((494, refl), ((824, refl), ((1074, refl), ((1175, refl), ((1203, refl), tt)))))))))))))))
 
 pub returns-clause-streams : goal.returns-clause-streams
-returns-clause-streams c = ((66, refl), (85, refl), (90, refl))
+returns-clause-streams c = ((90, refl), (65, refl), (70, refl), (106, refl), (96, refl), (55, refl))
+
+pub returns-clause-rounds : goal.returns-clause-rounds
+returns-clause-rounds c = ((81, refl), ((643, refl), ((692, refl), ((728, refl), ((790, refl), tt)))))
+
+pub returns-clause-in_place : goal.returns-clause-in_place
+returns-clause-in_place c = ((223, refl), ((278, refl), ((345, refl), ((424, refl), ((481, refl), ((571, refl), tt))))))
+
+pub returns-clause-formats : goal.returns-clause-formats
+returns-clause-formats c = ((72, refl), ((213, refl), ((266, refl), ((321, refl), ((358, refl), ((377, refl), ((383, refl), tt)))))))
 
 pub returns-clause-disk : goal.returns-clause-disk
 returns-clause-disk c = ((39, refl), ((64, refl), ((166, refl), tt)))
@@ -53,26 +69,14 @@ returns-clause-numbers c = ((71, refl), ((95, refl), ((188, refl), ((250, refl),
 pub returns-clause-scripts : goal.returns-clause-scripts
 returns-clause-scripts c = ((88, refl), ((113, refl), ((124, refl), ((291, refl), ((348, refl), ((380, refl), ((445, refl), ((482, refl), ((521, refl), tt)))))))))
 
-pub returns-clause-dump : goal.returns-clause-dump
-returns-clause-dump c = λ words. refl
-
 pub returns-clause-jobs : goal.returns-clause-jobs
 returns-clause-jobs c = ((73, refl), ((86, refl), ((97, refl), tt)))
-
-pub returns-clause-inspect : goal.returns-clause-inspect
-returns-clause-inspect c = λ words. refl
 
 pub returns-clause-file : goal.returns-clause-file
 returns-clause-file c = ((66, refl), ((82, refl), tt))
 
-pub returns-clause-check : goal.returns-clause-check
-returns-clause-check c = λ words. refl
+pub returns-clause-lines : goal.returns-clause-lines
+returns-clause-lines c = ((89, refl), ((113, refl), ((124, refl), ((299, refl), ((351, refl), ((418, refl), ((470, refl), ((509, refl), ((571, refl), tt)))))))))
 
 pub returns-clause-texts : goal.returns-clause-texts
 returns-clause-texts c = ((92, refl), ((106, refl), ((0, refl), tt)))
-
-pub returns-clause-batch : goal.returns-clause-batch
-returns-clause-batch c = λ words. refl
-
-pub returns-clause-lines : goal.returns-clause-lines
-returns-clause-lines c = ((89, refl), ((113, refl), ((124, refl), ((299, refl), ((351, refl), ((418, refl), ((470, refl), ((509, refl), ((571, refl), tt)))))))))

@@ -69,3 +69,23 @@ returns-clause-check c = refl
 pub returns-clause-batch : goal.returns-clause-batch
 unfolding clap_on_literals
 returns-clause-batch c = refl
+
+pub returns-clause-word : goal.returns-clause-word
+unfolding clap_on_literals
+returns-clause-word c = refl
+
+pub returns-clause-words : goal.returns-clause-words
+unfolding clap_on_literals
+returns-clause-words c = (refl, (refl, (refl, (refl, (refl, (refl, (refl, (refl, (refl, (refl, (refl, (refl, (refl, tt)))))))))))))
+
+pub returns-clause-asked : goal.returns-clause-asked
+unfolding clap_on_literals
+returns-clause-asked c = (refl, (refl, (refl, (refl, (refl, (refl, (refl, (refl, (refl, (refl, (refl, (refl, (refl, tt)))))))))))))
+
+pub returns-clause-whole : goal.returns-clause-whole
+unfolding clap_on_literals
+returns-clause-whole c = refl
+
+pub returns-clause-unknown : goal.returns-clause-unknown
+unfolding clap_on_literals
+returns-clause-unknown c = refl

@@ -4,18 +4,18 @@ use Rattle.ic_args.proofs.ReduceLines.{in_place_named, in_place_taken, rounds_na
 use Rattle.ic_args.proofs.laws.reduce_lines_are_taken.Goals as goal
 
 pub returns-clause-taken : goal.returns-clause-taken
-returns-clause-taken c = λ words given s n p t line of. in_place_taken words given line s n p t of
+returns-clause-taken c = λ words given file s n p t line of. in_place_taken words given file line s n p t of
 
 pub returns-clause-named : goal.returns-clause-named
-returns-clause-named c = λ words given s n steps nodes p t partial stats line of names.
-    in_place_named words given line s n steps nodes p t partial stats of names
+returns-clause-named c = λ words given file s n steps nodes p t partial stats line of names.
+    in_place_named words given file line s n steps nodes p t partial stats of _ names
 
 pub returns-clause-rounds : goal.returns-clause-rounds
-returns-clause-rounds c = λ words given most threads p line of. rounds_taken words given line most threads p of
+returns-clause-rounds c = λ words given file most threads p line of. rounds_taken words given file line most threads p of
 
 pub returns-clause-rounds_named : goal.returns-clause-rounds_named
-returns-clause-rounds_named c = λ words given most threads rounds workers p partial line of names.
-    rounds_named words given line most threads rounds workers p partial of names.2 names.3 names.4
+returns-clause-rounds_named c = λ words given file most threads rounds workers p partial line of names.
+    rounds_named words given file line most threads rounds workers p partial of names.2 names.3 names.4 _ names.0.1
 
 pub returns-clause-both : goal.returns-clause-both
 unfolding clap_on_literals

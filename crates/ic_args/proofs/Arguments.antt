@@ -1,0 +1,361 @@
+-- Arguments that stand at the one place after the options.
+use Rattle.std.proofs.Common.{◌≡◌, ◌≢◌, ◌⊎◌, ◌<◌, ◌≤◌, ◌^◌, ℕ, List, [], ◌∷◌, ◌++◌, Bool, true, false, not, ◌&&◌, ◌||◌, cond, find, fold, ne_eqb, option_map, slice_get, true≢false, unwrap_or, Option, None, Some, codes, length, refl, sym, ◌∙◌, ap, ap₂, inl, inr, subst, append-nil, append_assoc, arith}
+use Rattle.std.specs.List.{AllByRecursion}
+use Rattle.std.specs.Prelude.{option_and_then}
+use Rattle.std.specs.Option.{option_map_or}
+use Rattle.std.specs.Str.{bytes_eq}
+use Rattle.std.proofs.lemmas.Bool.{le-ltb}
+use Rattle.std.proofs.lemmas.Slice.Eq.{bytes_eq-Decides}
+use Rattle.clap.specs.Words.{Rule, Row, Text, all_of, first_of, new_rule}
+use Rattle.clap.specs.Simple.{Shape}
+use Rattle.clap.specs.Lexer.{long_of, short_of, usize_max}
+use Rattle.clap.specs.Kinds.{Kinds, or_else, range_kinds, values_kinds}
+use Rattle.clap.specs.Walk.{Held, Walk, arg_by_id, arg_by_index, default_rows, has_row, idle, is_multiple, more_values, next_position, positional, reading_by, settled, takes_several, used, used_by_id, walked, with_default, with_values, without}
+use Rattle.clap.specs.Faults.{settle_fault, turn_fault, use_fault}
+use Rattle.clap.specs.declared.builder.action.ArgAction.TheVariants.{Append, Set}
+use Rattle.clap.specs.declared.builder.value_parser.Reading.TheVariants as reading
+use Rattle.clap.specs.declared.builder.value_parser.ValueParser.{ValueParser}
+use Rattle.clap.specs.declared.builder.value_parser.ValueParser.TheVariants as vp
+use Rattle.clap.specs.declared.error.ErrorKind.TheVariants as kind
+use Rattle.clap.specs.declared.parser.matches.ValueSource.TheVariants.{CommandLine}
+use Rattle.ic_args.specs.Lines.{HasNoHyphen, IsFileWord}
+use Rattle.ic_args.specs.Words.{file_named}
+use Rattle.ic_args.proofs.LineRows.{IsFoundRow, found_in, found_last, found_more, row_behind}
+use Rattle.ic_args.proofs.OneValue.{Each, Good, Passes, at_end}
+use Rattle.ic_args.proofs.Options.{Fits, no_default, other_values}
+use Rattle.ic_args.proofs.OptionLines.{Stands, found_all, is_held, none_stays, stands_more}
+use Rattle.ic_args.proofs.Steps.{Leads, at, dashes, leads_more, leads_none, level, no_dashes, no_long, no_short, one_turn}
+
+-- an argument that may have one value, as it is built
+abbrev pub one_argument : Text → Bool → Rule
+one_argument id required = record (new_rule id) {
+  index = Some 1;
+  action = Some Set;
+  range = Some (record { start_inclusive = 1; end_inclusive = 1 });
+  value_names = 1;
+  parser = Some vp.String;
+  required = required;
+}
+
+-- one that may have several, at least so many
+abbrev pub several_argument : Text → ℕ → Bool → Rule
+several_argument id least required = record (new_rule id) {
+  index = Some 1;
+  action = Some Append;
+  range = Some (record { start_inclusive = least; end_inclusive = usize_max });
+  value_names = 1;
+  parser = Some vp.String;
+  required = required;
+}
+
+-- the row of its values
+abbrev pub argument_row : Text → List Text → Row
+argument_row id vs = record { id = id; values = vs; count = None; source = Some CommandLine; reading = reading.AsWritten }
+
+pub same_id : (id : Text) → bytes_eq id id ≡ true
+same_id id = (bytes_eq-Decides id id).1 refl
+
+-- ---- they leave good rows of an option
+
+module _ (target : Text) (q : ValueParser) (id : Text) (other : bytes_eq id target ≡ false) where
+  without_good : (rows : List Row) → Each (Good target q) rows → Each (Good target q) (without id rows)
+  without_good [] good = tt
+  without_good (r ∷ rs) good = go (bytes_eq r.id id) (without_good rs good.1)
+    where
+      go : (b : Bool) → Each (Good target q) (without id rs) → Each (Good target q) (cond b ([] ++ rs) (r ∷ without id rs))
+      go true rest = good.1
+      go false rest = (good.0, rest)
+
+  one_passes : (required : Bool) → Passes target q (one_argument id required)
+  one_passes required [] rows e good = other_values target q id reading.AsWritten CommandLine [] (without id rows) other (without_good rows good)
+  one_passes required (v ∷ vs) rows e good = other_values target q id reading.AsWritten CommandLine (v ∷ vs) (without id rows) other (without_good rows good)
+
+  pub one_fits : (required : Bool) → Fits target q (one_argument id required)
+  one_fits required = (one_passes required, λ rows e good. no_default id (Each (Good target q)) rows good)
+
+  several_passes : (least : ℕ) (required : Bool) → Passes target q (several_argument id least required)
+  several_passes least required [] rows e good = other_values target q id reading.AsWritten CommandLine [] rows other good
+  several_passes least required (v ∷ vs) rows e good = other_values target q id reading.AsWritten CommandLine (v ∷ vs) rows other good
+
+  pub several_fits : (least : ℕ) (required : Bool) → Fits target q (several_argument id least required)
+  several_fits least required = (several_passes least required, λ rows e good. no_default id (Each (Good target q)) rows good)
+
+-- ---- the words
+
+-- a word that is no option and no end of options
+abbrev pub IsPlainWord : Text → Type 0
+IsPlainWord v = (bytes_eq v dashes ≡ false) × (long_of v ≡ None) × (short_of v ≡ None)
+
+pub plain_word : (v : Text) → HasNoHyphen v → IsPlainWord v
+plain_word v bare = (no_dashes v bare, no_long v bare, no_short v bare)
+
+pub hyphen_alone : IsPlainWord (codes "-")
+hyphen_alone = (refl, refl, refl)
+
+-- the rows grew by the argument's, or stayed
+abbrev pub Grew : Text → List Row → List Row → Type 0
+Grew id before rows = (rows ≡ before) ⊎ ((r : Row) × (r.id ≡ id) × (rows ≡ before ++ r ∷ []))
+
+pub found_after : (id : Text) (before rows : List Row) → Grew id before rows → (name value : Text) → IsFoundRow name value before → IsFoundRow name value rows
+found_after id before rows (inl same) name value found = subst (IsFoundRow name value) (sym same) found
+found_after id before rows (inr grew) name value found =
+    subst (IsFoundRow name value) (sym grew.2)
+    (record { row = found.row; found = found_more name before (grew.0 ∷ []) found.row found.found; values = found.values; source = found.source })
+
+pub stands_after : (id : Text) (before rows : List Row) → Grew id before rows → (name default value : Text) → bytes_eq id name ≡ false → Stands name default value before
+    → Stands name default value rows
+stands_after id before rows (inl same) name default value other is = subst (Stands name default value) (sym same) is
+stands_after id before rows (inr grew) name default value other is =
+    subst (Stands name default value) (sym grew.2)
+    (stands_more name default value before grew.0 (ap (λ (t : Text). bytes_eq t name) grew.1 ∙ other) is)
+
+pub none_after : (id : Text) (before rows : List Row) → Grew id before rows → (name : Text) → bytes_eq id name ≡ false → has_row name before ≡ false → has_row name rows ≡ false
+none_after id before rows (inl same) name other none = ap (has_row name) same ∙ none
+none_after id before rows (inr grew) name other none =
+    ap (has_row name) grew.2 ∙ row_behind name before grew.0 none (ap (λ (t : Text). bytes_eq t name) grew.1 ∙ other)
+
+-- ---- what is found of it at the end
+
+-- where there is no row, none is found
+pub none_found : (id : Text) (rows : List Row) → has_row id rows ≡ false → found_in id rows ≡ None
+none_found id [] none = refl
+none_found id (r ∷ rs) none = go (bytes_eq r.id id) none (none_found id rs)
+  where
+    go : (b : Bool) → (b || has_row id rs) ≡ false → (has_row id rs ≡ false → found_in id rs ≡ None) → cond b (Some r) (found_in id rs) ≡ None
+    go true none rest = absurd (true≢false none)
+    go false none rest = rest none
+
+-- the arguments of this name have no default
+abbrev pub HaveNoDefault : Text → List Rule → Type 0
+HaveNoDefault id c = AllByRecursion (λ a. (bytes_eq a.id id ≡ false) ⊎ (a.defaults ≡ [])) c
+
+pub none_kept : (c : List Rule) (id : Text) (rows : List Row) → HaveNoDefault id c → has_row id rows ≡ false → has_row id (fold with_default rows c) ≡ false
+none_kept [] id rows plain none = none
+none_kept (a ∷ c) id rows plain none = none_kept c id (with_default rows a) plain.1 (one plain.0)
+  where
+    go : (b : Bool) → has_row id (cond b rows rows) ≡ false
+    go true = none
+    go false = none
+
+    one : (bytes_eq a.id id ≡ false) ⊎ (a.defaults ≡ []) → has_row id (with_default rows a) ≡ false
+    one (inl other) = none_stays a id rows other none
+    one (inr empty) = ap (λ (vs : List Text). has_row id (cond (has_row a.id rows) rows (default_rows a.id (reading_by a) vs rows))) empty ∙ go (has_row a.id rows)
+
+-- the values of an argument at the end
+abbrev pub shown_of : List Text → Option (List Text)
+shown_of [] = None
+shown_of (v ∷ vs) = Some (v ∷ vs)
+
+shows_none : (c : List Rule) (id : Text) (rows : List Row) → HaveNoDefault id c → has_row id rows ≡ false → all_of id (fold with_default rows c) ≡ None
+shows_none c id rows plain none = ap (option_map (λ (r : Row). r.values)) (none_found id (fold with_default rows c) (none_kept c id rows plain none))
+
+shows_values : (c : List Rule) (id : Text) (rows : List Row) (vs : List Text) → has_row id rows ≡ false → all_of id (fold with_default (rows ++ argument_row id vs ∷ []) c) ≡ Some vs
+shows_values c id rows vs none =
+    ap (option_map (λ (r : Row). r.values)) (found_all c id (rows ++ argument_row id vs ∷ []) (argument_row id vs) (found_last id rows (argument_row id vs) none (same_id id)))
+
+pub none_first : (id : Text) (rows : List Row) → has_row id rows ≡ false → first_of id rows ≡ None
+none_first id rows none = ap (option_and_then (λ (r : Row). slice_get r.values 0)) (none_found id rows none)
+
+first_of_all : (id : Text) (rows : List Row) → first_of id rows ≡ option_and_then (λ (vs : List Text). slice_get vs 0) (all_of id rows)
+first_of_all id rows = go (found_in id rows)
+  where
+    go : (o : Option Row) → option_and_then (λ (r : Row). slice_get r.values 0) o ≡ option_and_then (λ (vs : List Text). slice_get vs 0) (option_map (λ (r : Row). r.values) o)
+    go None = refl
+    go (Some r) = refl
+
+pub first_shown : (id : Text) (rows : List Row) (vs : List Text) → all_of id rows ≡ shown_of vs → first_of id rows ≡ option_and_then (λ (ws : List Text). slice_get ws 0) (shown_of vs)
+first_shown id rows vs is = first_of_all id rows ∙ ap (option_and_then (λ (ws : List Text). slice_get ws 0)) is
+
+pub shown_values : (id : Text) (rows : List Row) (vs : List Text) → all_of id rows ≡ shown_of vs → unwrap_or (all_of id rows) [] ≡ vs
+shown_values id rows vs is = ap (λ (o : Option (List Text)). unwrap_or o []) is ∙ same vs
+  where
+    same : (ws : List Text) → unwrap_or (shown_of ws) [] ≡ ws
+    same [] = refl
+    same (w ∷ ws) = refl
+
+-- the row of values that are given
+abbrev pub IsGivenBy : Text → List Text → List Row → Type 0
+IsGivenBy id [] rows = Unit {0}
+IsGivenBy id (v ∷ vs) rows = (r : Row) × (found_in id rows ≡ Some r) × (r.values ≡ v ∷ vs) × (r.source ≡ Some CommandLine)
+
+-- ---- how many values there may be
+
+pub range_none : (count : ℕ) → count < 2 ^ 64 → range_kinds 0 usize_max count ≡ []
+range_none count few = rw (le-ltb count 0 (omega arith), le-ltb usize_max count (omega (arith, few))) refl
+
+pub range_some : (count : ℕ) → 0 < count → count < 2 ^ 64 → range_kinds 1 usize_max count ≡ []
+range_some count some few =
+    rw (ne_eqb count 0 (λ is. omega (arith, is)), le-ltb count 1 (omega arith), le-ltb usize_max count (omega (arith, few))) refl
+
+strings_none : (vs : List Text) → values_kinds false vp.String vs ≡ []
+strings_none [] = refl
+strings_none (v ∷ vs) = strings_none vs
+
+module _ (base : Shape) (c : List Rule) where
+  -- an argument is read after the options, which left these rows, and nothing is wrong with it
+  pub record ReadsArgument (id : Text) (before : List Row) (h : Held) (words : List Text) : Type 0 where
+    pub end : Walk
+    pub leads : Leads base c words (at base c h) end
+    pub settles : settle_fault c false end.held ≡ []
+    pub rows : List Row
+    pub are : (settled c end.held).rows ≡ rows
+    pub grew : Grew id before rows
+    pub shows : all_of id (fold with_default rows c) ≡ shown_of words
+    pub given : IsGivenBy id words rows
+
+  abbrev valued : Text → List Text → Held → Held
+  valued id vs h = record (settled c h) { pending = Some (id, vs) }
+
+  -- ---- no value
+
+  pub none_read : (id : Text) → HaveNoDefault id c → (before : List Row) (h : Held) → settle_fault c false h ≡ [] → (settled c h).rows ≡ before
+      → has_row id before ≡ false → ReadsArgument id before h []
+  none_read id plain before h settles are none = record {
+    end = at base c h;
+    leads = leads_none base c (at base c h);
+    settles = settles;
+    rows = before;
+    are = are;
+    grew = inl refl;
+    shows = shows_none c id before plain none;
+    given = tt;
+  }
+
+  -- ---- one value
+
+  module _ (id : Text) (required : Bool) (by_index : arg_by_index c 1 ≡ Some (one_argument id required))
+      (by_id : arg_by_id c id ≡ Some (one_argument id required)) where
+    abbrev once : Held → List Text → Walk
+    once h vs = record { held = valued id vs h; waiting = idle; position = 2; is_trailing = false; stopped = None }
+
+    one_turns : (v : Text) (h : Held) → IsPlainWord v → is_held id h ≡ false → settle_fault c false h ≡ []
+        → turn_fault (level base c) [] (at base c h) v ≡ []
+    one_turns v h plain aside settles = rw (plain.0, plain.1, plain.2, by_index, aside) settles
+
+    one_walks : (v : Text) (h : Held) → IsPlainWord v → is_held id h ≡ false → walked c [] (at base c h) v ≡ once h (v ∷ [])
+    unfolding walked
+    one_walks v h plain aside = rw (plain.0, plain.1, plain.2, by_index, aside) refl
+
+    grown : (v : Text) (rows : List Row) → has_row id rows ≡ false → used (one_argument id required) (v ∷ []) rows ≡ rows ++ argument_row id (v ∷ []) ∷ []
+    grown v rows none =
+        ap (with_values id reading.AsWritten CommandLine (v ∷ [])) (at_end id (λ r. []) [] rows none ∙ append-nil rows)
+        ∙ at_end id (more_values CommandLine (v ∷ [])) (argument_row id (v ∷ []) ∷ []) rows none
+
+    one_free : (v : Text) (rows : List Row) → has_row id rows ≡ false → use_fault false (one_argument id required) (v ∷ []) rows ≡ []
+    one_free v rows none = ap (λ (b : Bool). or_else (cond (b && true) (kind.ArgumentConflict ∷ []) []) []) none
+
+    pub one_read : (v : Text) (before : List Row) (h : Held) → IsPlainWord v → is_held id h ≡ false → settle_fault c false h ≡ [] → (settled c h).rows ≡ before
+        → has_row id before ≡ false → ReadsArgument id before h (v ∷ [])
+    one_read v before h plain aside settles are none =
+        let fresh = ap (has_row id) are ∙ none in
+        record {
+          end = once h (v ∷ []);
+          leads = one_turn base c v (at base c h) (once h (v ∷ [])) (one_turns v h plain aside settles) (one_walks v h plain aside);
+          settles = ap (λ (o : Option Rule). option_map_or (λ (x : Rule). use_fault false x (v ∷ []) (settled c h).rows) o []) by_id ∙ one_free v (settled c h).rows fresh;
+          rows = before ++ argument_row id (v ∷ []) ∷ [];
+          are = ap (λ (o : Option Rule). used_by_id o (v ∷ []) (settled c h).rows) by_id ∙ grown v (settled c h).rows fresh ∙ ap (λ (rs : List Row). rs ++ argument_row id (v ∷ []) ∷ []) are;
+          grew = inr (argument_row id (v ∷ []), refl, refl);
+          shows = shows_values c id before (v ∷ []) none;
+          given = (argument_row id (v ∷ []), found_last id before (argument_row id (v ∷ [])) none (same_id id), refl, refl);
+        }
+
+  -- ---- several values
+
+  module _ (id : Text) (least : ℕ) (required : Bool) (by_index : arg_by_index c 1 ≡ Some (several_argument id least required))
+      (by_id : arg_by_id c id ≡ Some (several_argument id least required)) (takes : takes_several (several_argument id least required) ≡ true)
+      (ranges : (count : ℕ) → 0 < count → count < 2 ^ 64 → range_kinds least usize_max count ≡ []) where
+    abbrev among : Held → List Text → Walk
+    among h vs = record { held = valued id vs h; waiting = positional; position = 1; is_trailing = false; stopped = None }
+
+    first_turns : (v : Text) (h : Held) → IsPlainWord v → is_held id h ≡ false → settle_fault c false h ≡ []
+        → turn_fault (level base c) [] (at base c h) v ≡ []
+    first_turns v h plain aside settles = rw (plain.0, plain.1, plain.2, by_index, aside) settles
+
+    first_walks : (v : Text) (h : Held) → IsPlainWord v → is_held id h ≡ false → walked c [] (at base c h) v ≡ among h (v ∷ [])
+    unfolding walked
+    first_walks v h plain aside = rw (plain.0, plain.1, plain.2, by_index, aside, takes) refl
+
+    next_turns : (v : Text) (h : Held) (vs : List Text) → IsPlainWord v → turn_fault (level base c) [] (among h vs) v ≡ []
+    next_turns v h vs plain = rw (plain.0, plain.1, plain.2, by_index, same_id id, takes) refl
+
+    next_walks : (v : Text) (h : Held) (vs : List Text) → IsPlainWord v → walked c [] (among h vs) v ≡ among h (vs ++ v ∷ [])
+    unfolding walked
+    next_walks v h vs plain = rw (plain.0, plain.1, plain.2, by_index, same_id id, takes) refl
+
+    more_lead : (more : List Text) (h : Held) (vs : List Text) → AllByRecursion IsPlainWord more → Leads base c more (among h vs) (among h (vs ++ more))
+    more_lead [] h vs plain = subst (λ (l : List Text). Leads base c [] (among h vs) (among h l)) (sym (append-nil vs)) (leads_none base c (among h vs))
+    more_lead (v ∷ more) h vs plain =
+        let one = one_turn base c v (among h vs) (among h (vs ++ v ∷ [])) (next_turns v h vs plain.0) (next_walks v h vs plain.0) in
+        let rest = more_lead more h (vs ++ v ∷ []) plain.1 in
+        subst (λ (l : List Text). Leads base c (v ∷ more) (among h vs) (among h l)) (append_assoc vs (v ∷ []) more)
+        (leads_more base c (v ∷ []) more (among h vs) (among h (vs ++ v ∷ [])) (among h ((vs ++ v ∷ []) ++ more)) one rest)
+
+    pub several_read : (v : Text) (more : List Text) (before : List Row) (h : Held) → AllByRecursion IsPlainWord (v ∷ more) → length (v ∷ more) < 2 ^ 64
+        → is_held id h ≡ false → settle_fault c false h ≡ [] → (settled c h).rows ≡ before → has_row id before ≡ false → ReadsArgument id before h (v ∷ more)
+    several_read v more before h plain few aside settles are none =
+        let row = argument_row id (v ∷ more) in
+        let fresh = ap (has_row id) are ∙ none in
+        record {
+          end = among h (v ∷ more);
+          leads = leads_more base c (v ∷ []) more (at base c h) (among h (v ∷ [])) (among h (v ∷ more))
+              (one_turn base c v (at base c h) (among h (v ∷ [])) (first_turns v h plain.0 aside settles) (first_walks v h plain.0 aside))
+              (more_lead more h (v ∷ []) plain.1);
+          settles = ap (λ (o : Option Rule). option_map_or (λ (x : Rule). use_fault false x (v ∷ more) (settled c h).rows) o []) by_id
+              ∙ ap₂ or_else (ranges (length (v ∷ more)) (omega arith) few) (strings_none (v ∷ more));
+          rows = before ++ row ∷ [];
+          are = ap (λ (o : Option Rule). used_by_id o (v ∷ more) (settled c h).rows) by_id
+              ∙ at_end id (more_values CommandLine (v ∷ more)) (row ∷ []) (settled c h).rows fresh ∙ ap (λ (rs : List Row). rs ++ row ∷ []) are;
+          grew = inr (row, refl, refl);
+          shows = shows_values c id before (v ∷ more) none;
+          given = (row, found_last id before row none (same_id id), refl, refl);
+        }
+
+    all_plain : (vs : List Text) → AllByRecursion HasNoHyphen vs → AllByRecursion IsPlainWord vs
+    all_plain [] bare = tt
+    all_plain (v ∷ vs) bare = (plain_word v bare.0, all_plain vs bare.1)
+
+    -- any number of values
+    pub many_read : HaveNoDefault id c → (vs : List Text) (before : List Row) (h : Held) → AllByRecursion HasNoHyphen vs → length vs < 2 ^ 64 → is_held id h ≡ false
+        → settle_fault c false h ≡ [] → (settled c h).rows ≡ before → has_row id before ≡ false → ReadsArgument id before h vs
+    many_read plain [] before h bare few aside settles are none = none_read id plain before h settles are none
+    many_read plain (v ∷ more) before h bare few aside settles are none =
+        several_read v more before h (all_plain (v ∷ more) bare) few aside settles are none
+
+-- ---- a FILE
+
+abbrev one_file : Rule
+one_file = one_argument (codes "file") false
+
+abbrev pub file_of : Option Text → Option Text
+file_of o = option_and_then file_named o
+
+no_hyphen : (path : Text) → HasNoHyphen path → file_named path ≡ Some path
+no_hyphen path bare = go path bare
+  where
+    go : (t : Text) → HasNoHyphen t → file_named t ≡ Some t
+    go [] bare = refl
+    go (x ∷ xs) bare = ap (λ (b : Bool). cond (b && bytes_eq xs []) None (Some (x ∷ xs))) (ne_eqb x 45 bare)
+
+module _ (base : Shape) (c : List Rule) (by_index : arg_by_index c 1 ≡ Some one_file) (by_id : arg_by_id c (codes "file") ≡ Some one_file)
+    (plain : HaveNoDefault (codes "file") c) where
+  -- the FILE of a line was read
+  pub record ReadsFile (file : Option Text) (before : List Row) (h : Held) (words : List Text) : Type 0 where
+    pub argument : ReadsArgument base c (codes "file") before h words
+    pub file_is : file_of (first_of (codes "file") (fold with_default argument.rows c)) ≡ file
+
+  one_word : (file : Option Text) (v : Text) (before : List Row) (h : Held) → IsPlainWord v → file_named v ≡ file → is_held (codes "file") h ≡ false → settle_fault c false h ≡ []
+      → (settled c h).rows ≡ before → has_row (codes "file") before ≡ false → ReadsFile file before h (v ∷ [])
+  one_word file v before h word is aside settles are none =
+      let argument = one_read base c (codes "file") false by_index by_id v before h word aside settles are none in
+      record { argument = argument; file_is = ap file_of (first_shown (codes "file") (fold with_default argument.rows c) (v ∷ []) argument.shows) ∙ is }
+
+  pub file_read : (file : Option Text) (words : List Text) → IsFileWord file words → (before : List Row) (h : Held) → is_held (codes "file") h ≡ false → settle_fault c false h ≡ []
+      → (settled c h).rows ≡ before → has_row (codes "file") before ≡ false → ReadsFile file before h words
+  file_read None words (inl empty) before h aside settles are none =
+      let argument = none_read base c (codes "file") plain before h settles are none in
+      subst (ReadsFile None before h) (sym empty)
+      (record { argument = argument; file_is = ap file_of (first_shown (codes "file") (fold with_default argument.rows c) [] argument.shows) })
+  file_read None words (inr hyphen) before h aside settles are none =
+      subst (ReadsFile None before h) (sym hyphen) (one_word None (codes "-") before h hyphen_alone refl aside settles are none)
+  file_read (Some path) words is before h aside settles are none =
+      subst (ReadsFile (Some path) before h) (sym is.0) (one_word (Some path) path before h (plain_word path is.1) (no_hyphen path is.1) aside settles are none)

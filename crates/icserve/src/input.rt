@@ -1,0 +1,61 @@
+//! What the words over a text read: standard input, or a file.
+
+use ic_causes::{NotedFile, NotedFiles, NotedInput, Notes, cause_line, shown_path};
+use ic_exits::Failure;
+use ic_streams::StreamFault;
+use std::alloc::{AllocError, Global};
+use std::fs::OpenOptions;
+use std::io::{self, ErrorKind, Read};
+
+/// What a word reads, of which each read that fails is noted.
+#[derive(Drop)]
+pub(crate) enum Input<'n, R> {
+    Standard(NotedInput<'n, R>),
+    File(NotedFile<'n>),
+}
+
+impl<R: Read> Read for Input<'_, R> {
+    fn read(&mut self, buf: &mut [u8]) -> io::Result<usize> {
+        match self {
+            Input::Standard(input) => input.read(buf),
+            Input::File(file) => file.read(buf),
+        }
+    }
+}
+
+/// Opens the file of this path to read it. It may be a pipe, which is read to its end. A folder can be opened, and isn't
+/// read.
+pub(crate) fn open_file<'n>(
+    rt: &HostRuntime,
+    path: &str,
+    notes: &'n Notes,
+) -> Result<NotedFile<'n>, StreamFault> {
+    let files = NotedFiles { rt, path, notes };
+    let mut how = OpenOptions::new();
+    how.read(true);
+    how.open(&files, path).map_err(|error| match error.kind() {
+        ErrorKind::OutOfMemory => StreamFault::Memory,
+        _ => StreamFault::Read,
+    })
+}
+
+/// What is told where a word over the file of this path fails: why the file can't be read, or of a refused text the lines
+/// in `told`, which tell its place, after the name of the file.
+pub(crate) fn told_of(
+    alloc: Global,
+    path: &str,
+    failure: &Failure,
+    notes: &Notes,
+    told: &[u8],
+) -> Result<Vec<u8>, AllocError> {
+    match failure {
+        Failure::Stream(StreamFault::Read) => cause_line(alloc, path.as_bytes(), notes.last()),
+        Failure::Stream(StreamFault::Text(_)) => {
+            let mut lines = shown_path(alloc, path.as_bytes())?;
+            lines.extend_from_slice(b", ")?;
+            lines.extend_from_slice(told)?;
+            Ok(lines)
+        }
+        _ => told.to_vec(alloc),
+    }
+}

@@ -1,0 +1,128 @@
+"""What `make install` puts beside the program: its manual page, and completions for bash, zsh and fish, which `share/pages.py` makes
+of the helps; and the helps themselves: each example is run, and answers what stands there."""
+
+import os
+import re
+import shutil
+import subprocess
+import sys
+
+from program import IN_MEMORY, PROGRAM, TOP, Trial, run
+from test_pages import typed_in
+
+WORDS = "settle once create serve attend reduce trace draw dump inspect check batch help".split()
+
+
+def help_of(*words):
+    """What the program prints as its help, or as that of a word."""
+    return run(*words, "--help").out.decode()
+
+
+class Install(Trial):
+    seconds = 10
+    rooms = IN_MEMORY
+
+    def setUp(self):
+        super().setUp()
+        ran = run(TOP / "share/pages.py", PROGRAM, self.room, program=sys.executable)
+        self.equals(ran.command, f"status; it said {ran.err}", 0, ran.status)
+        share = self.room / "share"
+        self.page = share / "man/man1/icserve.1"
+        self.bash = share / "bash-completion/completions/icserve"
+        self.zsh = share / "zsh/site-functions/_icserve"
+        self.fish = share / "fish/vendor_completions.d/icserve.fish"
+
+    def options(self, text):
+        """The long options of a help."""
+        return re.findall(r"(?m)^ +(?:-\w, )?(--[\w-]+)", text[text.index("Options:") :].split("\n\n")[0])
+
+    def test_each_word_and_each_option_stands_in_the_page_and_in_the_completions(self):
+        for words in ((), *((word,) for word in WORDS)):
+            text = help_of(*words)
+            options = self.options(text)
+            self.equals(f"icserve {' '.join(words)} --help", "whether it has options", True, "--help" in options)
+            for option in options:
+                wanted = {
+                    self.page: option.replace("-", "\\-"),
+                    self.bash: option,
+                    self.zsh: option,
+                    self.fish: f"-l {option[2:]}",
+                }
+                for path, part in wanted.items():
+                    own = self.part_of(path, *words)
+                    self.equals(f"{path.name} of {words}", f"whether it has {part}", True, part in own)
+
+    def part_of(self, path, word=None):
+        """What a page says of a word, or all of it."""
+        text = path.read_text()
+        if word is None:
+            return text
+        heads = {self.page: f'.SH "ICSERVE {word.upper()}"', self.bash: f"    {word}) flags=", self.zsh: f"        {word})\n"}
+        if path in heads:
+            part = text[text.index(heads[path]) + 1 :]
+            return part[: {self.page: part.find("\n.SH"), self.bash: part.find("\n"), self.zsh: part.find(";;")}[path]]
+        return "".join(line for line in text.split("\n") if f"__fish_seen_subcommand_from {word}'" in line)
+
+    def test_the_completions_are_taken_by_their_shells(self):
+        for shell, path in (("bash", self.bash), ("zsh", self.zsh), ("fish", self.fish)):
+            if shutil.which(shell):
+                ran = run("-n", path, program=shutil.which(shell))
+                self.equals(ran.command, "how it ends", (0, b"", b""), ran[1:4])
+
+    def completed(self, *words):
+        """What bash offers for the last of these words."""
+        script = f"source {self.bash}; COMP_WORDS=(icserve {' '.join(words)}); COMP_CWORD={len(words)}; _icserve; printf '%s\\n' \"${{COMPREPLY[@]}}\""
+        ran = run("-c", script, program=shutil.which("bash"), cwd=self.room)
+        self.equals(ran.command, "how it ends", (0, b""), (ran.status, ran.err))
+        return sorted(ran.out.decode().split())
+
+    def test_bash_completes_words_options_choices_and_files(self):
+        (self.room / "sum.ic").write_text("")
+        self.equals("icserve s", "what is offered", ["serve", "settle"], self.completed("s"))
+        self.equals("icserve reduce --s", "what is offered", ["--stats", "--steps"], self.completed("reduce", "--s"))
+        self.equals("icserve trace --format s", "what is offered", ["svg"], self.completed("trace", "--format", "s"))
+        self.equals("icserve reduce su", "what is offered", ["sum.ic"], self.completed("reduce", "su"))
+        self.equals("icserve create --disk su", "what is offered", ["sum.ic"], self.completed("create", "--disk", "su"))
+        self.equals("icserve help re", "what is offered", ["reduce"], self.completed("help", "re"))
+
+    def test_the_page_is_rendered_without_a_warning(self):
+        for words in (["groff", "-man", "-Tutf8", "-ww", "-z"], ["mandoc", "-T", "lint", "-W", "warning"]):
+            if shutil.which(words[0]):
+                ran = run(*words[1:], self.page, program=shutil.which(words[0]))
+                self.equals(ran.command, "how it ends", (0, b"", b""), ran[1:4])
+        if shutil.which("man"):
+            ran = run("-l", self.page, program=shutil.which("man"), env={**os.environ, "MANWIDTH": "100", "LC_ALL": "C.UTF-8"})
+            self.equals(ran.command, "how it ends", (0, b""), (ran.status, ran.err))
+            if b"minimized" not in ran.out:
+                self.equals(ran.command, "whether it tells of two and two", True, b"<S(S(S(S(Z))))|>" in ran.out)
+
+
+class Helps(Trial):
+    seconds = 10
+    rooms = IN_MEMORY
+
+    def test_each_word_of_the_help_has_a_help_of_its_own_which_help_shows_too(self):
+        self.equals("--help", "the help of help alone", help_of(), run("help").out.decode())
+        for word in WORDS:
+            text = help_of(word)
+            self.equals(f"help {word}", "what is shown", text, run("help", word).out.decode())
+            self.equals(f"{word} --help", "its usage", True, f"Usage: icserve {word}" in text)
+
+    def test_lines_of_helps_fit_a_terminal_but_for_those_with_great_numbers(self):
+        for words in ((), *((word,) for word in WORDS)):
+            long = [line for line in help_of(*words).split("\n") if len(line) > 105 and "46116860184273879" not in line]
+            self.equals(f"icserve {' '.join(words)} --help", "lines of more than 105 columns", [], long)
+
+    def test_each_example_of_a_help_answers_what_stands_there(self):
+        (self.room / "bin").mkdir()
+        (self.room / "bin/icserve").symlink_to(PROGRAM)
+        path = {**os.environ, "PATH": f"{self.room}/bin:{os.environ['PATH']}"}
+        for number, words in enumerate(((), *((word,) for word in WORDS if word != "help"))):
+            text = help_of(*words)
+            block = text[text.index("Example") :].rstrip("\n").split("\n")[1:]
+            room = self.room / str(number)
+            room.mkdir()
+            for command, answer in typed_in([line[2:] for line in block]):
+                with self.subTest(words=words, command=command):
+                    ran = subprocess.run(["sh", "-c", command], cwd=room, env=path, capture_output=True, text=True, timeout=60)
+                    self.equals(command, "how it ends", (0, "".join(f"{it}\n" for it in answer), ""), (ran.returncode, ran.stdout, ran.stderr))
