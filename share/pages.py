@@ -88,10 +88,10 @@ def shown(text):
 
 def manual(version, top, words):
     page = [f'.TH ICSERVE 1 "" "{roff(version)}" "User Commands"', ".SH NAME", f"icserve \\- {roff(top.about[0].lower() + top.about[1:])}"]
-    page += [".SH SYNOPSIS", f".B {roff(top.usage)}", ".SH WORDS", *items(top.words().items()), ".SH OPTIONS", *options_of(top)]
+    page += [".SH SYNOPSIS", f".B {roff(top.usage)}", ".SH COMMANDS", *items(top.words().items()), ".SH OPTIONS", *options_of(top)]
     for word, one in words.items():
         page += [f'.SH "ICSERVE {word.upper()}"', f".B {roff(one.usage)}", ".PP", roff(one.about) + "."]
-        page += items((name.strip("[]<>"), says) for name, says in one.arguments)
+        page += items((re.sub(r"[\[\]<>]", "", name), says) for name, says in one.arguments)
         page += options_of(one) + shown(one.more)
     return "\n".join(page + [".SH EXAMPLE"] + shown(top.more)) + "\n"
 

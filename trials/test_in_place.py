@@ -18,7 +18,10 @@ from worked_rows import expanded, rows
 # The most interactions and places that may be asked for.
 MOST = 2**62 - 1
 
-STATS = re.compile(rb"icserve: interactions (\d+), places (\d+), seconds \d+\.\d{3}, interactions a second \d+\n")
+STATS = re.compile(
+    rb"icserve: interactions (\d+), places (\d+), seconds \d+\.\d{3}, interactions a second \d+\n"
+    rb"icserve: interactions by rule((?:,? \d+: \d+)*)\n"
+)
 REACHED = re.compile(rb"interactions (\d+), places (\d+)(?:, --nodes (\d+))?\n")
 
 # How many interactions a net makes between two looks at its size.
@@ -36,9 +39,12 @@ def numeral(number):
 
 
 def stats_of(err):
-    """How many interactions and places a run with `--stats` tells, and what else it says on standard error."""
+    """How many interactions and places a run with `--stats` tells, and what else it says on standard error. The interactions
+    of all rules are those in all, else none are told."""
     told = STATS.match(err)
-    return (int(told[1]), int(told[2]), err[told.end() :]) if told else (None, None, err)
+    if not told or sum(map(int, re.findall(rb": (\d+)", told[3]))) != int(told[1]):
+        return None, None, err
+    return int(told[1]), int(told[2]), err[told.end() :]
 
 
 class InPlace(Trial):
@@ -164,13 +170,13 @@ class Bounds(InPlace):
     def test_rounds_and_reducing_in_place_exclude_each_other(self):
         two = f"{ADD} <r|Add(r,S(Z))=S(Z)>"
         wanted = "error: the arguments '--rounds <N>' and '--workers <N>' cannot be used with '--steps <N>', '--nodes <N>' "
-        wanted += "or '--stats'\n\nUsage: icserve reduce [OPTIONS]\n\nFor more information, try '--help'.\n"
+        wanted += "or '--stats'\n\nUsage: icserve reduce [OPTIONS] [FILE]\n\nFor more information, try '--help'.\n"
         for option in (["--steps", 1], ["--nodes=1"], ["--stats"], ["--partial", "--stats"]):
             for rounds in (["--rounds", 1], ["--workers", 1], ["--rounds", 1, "--workers", 2]):
                 self.runs("reduce", *rounds, *option, given=two, err=wanted, status=2)
                 self.runs("reduce", *option, *rounds, given=two, err=wanted, status=2)
         wanted = "error: the following required arguments were not provided:\n  --rounds <N>\n\n"
-        wanted += "Usage: icserve reduce --rounds <N> --workers <N>\n\nFor more information, try '--help'.\n"
+        wanted += "Usage: icserve reduce --rounds <N> --workers <N> [FILE]\n\nFor more information, try '--help'.\n"
         self.runs("reduce", "--workers", 3, given=two, err=wanted, status=2)
         for wrong in (["--steps", -1], ["--steps"], ["--nodes", "many"], ["--partial=1"], ["--steps", 1, "--steps", 2], ["--stats", "--stats"]):
             ran = run("reduce", *wrong, given=two)

@@ -237,7 +237,7 @@ class FirstCommands(Trial):
             self.skipTest("the kit isn't here")
         copy = self.room / "copy"
         shutil.copytree(TOP, copy, ignore=shutil.ignore_patterns("out", ".git", ".rattle", "__pycache__"))
-        (self.room / "section.md").write_text((TOP / "README.md").read_text().split("## Try it")[1].split("\n## ")[0])
+        (self.room / "section.md").write_text((TOP / "README.md").read_text().split("## Six commands")[1].split("\n## ")[0])
         told = ISNT_PROVED
         for command, wanted in [it for block in blocks_of(self.room / "section.md") for it in typed_in(block)]:
             if ("dot " in command or "./film " in command) and not shutil.which("dot"):

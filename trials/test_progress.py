@@ -138,7 +138,7 @@ class Progress(Trial):
             status, out, _, shown, took = self.shows(["reduce", *words], LOOP.text, out=False)
             told = shown.rpartition(WIPED)[2]
             self.equals(self.command, "status, and how what is told ends", (5, True), (status, told.endswith(b"icserve: not done\n")))
-            self.equals(self.command, "how many lines are told", len(words) - 1, told.count(b"\n"))
+            self.equals(self.command, "how many lines are told", 3 if "--stats" in words else 1, told.count(b"\n"))
             self.equals(self.command, "standard output", (b"<|", b">\n", 1), (out[:2], out[-2:], out.count(b"\n")))
             lines = self.lines_of(shown.removesuffix(told), took, OF_A_NET)
             self.equals(self.command, f"a line came: {lines}", True, len(lines) > 0)

@@ -347,8 +347,8 @@ class Servings(Trial):
             server.process.stdin.close()
             ran = server.process.wait(60)
             said = server.process.stderr.read()
-        if (ran, said) != (4, b"icserve: write\n"):
-            self.told(server.command, "the end", "status 4, `icserve: write`", (ran, said))
+        if (ran, said) != (4, b""):
+            self.told(server.command, "the end", "status 4, and nothing told", (ran, said))
         self.serves(disk, "list", ["jobs two:running:0"])
 
     def test_long_line_and_what_stood_before_it_is_answered(self):

@@ -42,5 +42,6 @@ held c kind.UnexpectedEof number e = never _ refl e
 held c kind.InvalidInput number e = never _ refl e
 held c kind.NotSeekable number e = never _ refl e
 held c kind.Unsupported number e = never _ refl e
+held c kind.BrokenPipe number e = never _ refl e
 held c kind.OutOfMemory number e = never _ refl e
 held c _ number e = never (reason_of_number number) (numbered number) e

@@ -38,6 +38,7 @@ reason_words reason.NoShare = codes "no room left of the quota"
 reason_words reason.TooLong = codes "the file may grow no further"
 reason_words reason.TooShort = codes "the file ends before"
 reason_words reason.NotPossible = codes "not possible with such a file"
+reason_words reason.NoReader = codes "nobody reads it any more"
 reason_words reason.NoMemory = codes "no memory"
 reason_words reason.Device = codes "input/output error of the device"
 reason_words (reason.Other number) = codes "error " ++ decimal number ++ codes " of the system"
@@ -61,6 +62,7 @@ target_words path target.File = shown_path path
 target_words path target.Folder = shown_path path ++ codes ": its folder"
 target_words path target.StandIn = codes "/dev/null, in the place of a closed standard stream"
 target_words path target.Input = codes "standard input"
+target_words path target.Output = codes "standard output"
 
 -- what is told of the file of a path: the call that failed, what it was made on, and why
 abbrev pub cause_words : List ℕ → Option Cause → List ℕ

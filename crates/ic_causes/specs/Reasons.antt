@@ -42,6 +42,7 @@ reason_of call kind.UnexpectedEof number = reason.TooShort
 reason_of call kind.InvalidInput number = reason.NotPossible
 reason_of call kind.NotSeekable number = reason.NotPossible
 reason_of call kind.Unsupported number = reason.NotPossible
+reason_of call kind.BrokenPipe number = reason.NoReader
 reason_of call kind.OutOfMemory number = reason.NoMemory
 reason_of call _ number = reason_of_number number
 

@@ -20,6 +20,8 @@ pub enum Target {
     StandIn,
     /// Standard input.
     Input,
+    /// Standard output.
+    Output,
 }
 
 /// A call to a file.
@@ -73,6 +75,8 @@ pub enum Reason {
     TooShort,
     /// The file is none that this can be done with.
     NotPossible,
+    /// Whoever read it has gone.
+    NoReader,
     /// Memory is wanting.
     NoMemory,
     /// The device can't be read or written.
@@ -105,6 +109,7 @@ impl Reason {
             ErrorKind::InvalidInput | ErrorKind::NotSeekable | ErrorKind::Unsupported => {
                 Reason::NotPossible
             }
+            ErrorKind::BrokenPipe => Reason::NoReader,
             ErrorKind::OutOfMemory => Reason::NoMemory,
             _ => reason_of_number(error.raw_os_error()),
         }

@@ -57,6 +57,11 @@ pub fn a_cause_is_told()
       reason = reason.NoWait;
     })) ≡ (codes "standard input: read: nothing is there yet, "
         ++ codes "and it is set not to wait") ++ 10 ∷ [] }
+    ensures output { cause_line (codes "a.disk") (Some (record {
+      target = target.Output;
+      call = call.Write;
+      reason = reason.NoReader;
+    })) ≡ codes "standard output: write: nobody reads it any more" ++ 10 ∷ [] }
     ensures untold { cause_line (codes "a.disk") None
         ≡ codes "a.disk: a call to it has failed" ++ 10 ∷ [] }
     ensures safe { shown_path (97 ∷ 27 ∷ 10 ∷ 127 ∷ 194 ∷ 155 ∷ []) ≡ codes "a?????" }
@@ -101,6 +106,7 @@ pub fn reasons_are_told_in_words()
     ensures too_short { reason_words reason.TooShort ≡ codes "the file ends before" }
     ensures not_possible { reason_words reason.NotPossible
         ≡ codes "not possible with such a file" }
+    ensures no_reader { reason_words reason.NoReader ≡ codes "nobody reads it any more" }
     ensures no_memory { reason_words reason.NoMemory ≡ codes "no memory" }
     ensures device { reason_words reason.Device ≡ codes "input/output error of the device" }
     ensures other { (number : ℕ) → reason_words (reason.Other number)
@@ -144,6 +150,8 @@ pub fn reasons_are()
     ensures room { (c : FileCall) (number : Option ℤ) → map (λ is. reason_of c is number)
         (kind.QuotaExceeded ∷ kind.FileTooLarge ∷ kind.OutOfMemory ∷ [])
         ≡ reason.NoShare ∷ reason.TooLong ∷ reason.NoMemory ∷ [] }
+    ensures unread { (c : FileCall) (number : Option ℤ)
+        → reason_of c kind.BrokenPipe number ≡ reason.NoReader }
     ensures short { (c : FileCall) (number : Option ℤ)
         → reason_of c kind.UnexpectedEof number ≡ reason.TooShort }
     ensures not_possible { (c : FileCall) (number : Option ℤ) → map (λ is. reason_of c is number)

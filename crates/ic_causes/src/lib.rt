@@ -2,8 +2,8 @@
 //!
 //! A `Cause` is the call and the reason that the system gave, and `cause_line` tells it of a path.
 //! `NotedFiles` stands for the files of a runtime: a call to them that fails is noted in `Notes`, so
-//! that whoever learns that a disk has failed can ask why. So is a read of a `NotedInput`. A call
-//! that was interrupted isn't, for it is made again, and of two that fail at the same moment one is.
+//! that whoever learns that a disk has failed can ask why. So are a read of a `NotedInput` and a write
+//! of a `NotedOutput`. A call that was interrupted isn't, for it is made again, and of two that fail at the same moment one is.
 //! `laws` has lines word by word.
 #![tactic(auto)]
 
@@ -13,9 +13,11 @@ mod input;
 pub mod laws;
 mod line;
 mod notes;
+mod output;
 
 pub use cause::{Cause, FileCall, Reason, Target};
 pub use files::{NotedFile, NotedFiles};
 pub use input::NotedInput;
 pub use line::{cause_line, shown_path};
 pub use notes::{Notes, cause_of, cause_of_kind};
+pub use output::NotedOutput;

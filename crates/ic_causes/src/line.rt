@@ -60,6 +60,7 @@ fn target_words(alloc: Global, path: &[u8], target: Target) -> Result<Vec<u8>, A
         }
         Target::StandIn => b"/dev/null, in the place of a closed standard stream".to_vec(alloc),
         Target::Input => b"standard input".to_vec(alloc),
+        Target::Output => b"standard output".to_vec(alloc),
     }
 }
 
@@ -99,6 +100,7 @@ fn reason_words(alloc: Global, reason: Reason) -> Result<Vec<u8>, AllocError>
         Reason::TooLong => b"the file may grow no further".to_vec(alloc),
         Reason::TooShort => b"the file ends before".to_vec(alloc),
         Reason::NotPossible => b"not possible with such a file".to_vec(alloc),
+        Reason::NoReader => b"nobody reads it any more".to_vec(alloc),
         Reason::NoMemory => b"no memory".to_vec(alloc),
         Reason::Device => b"input/output error of the device".to_vec(alloc),
         Reason::Other(number) => number_words(alloc, number),

@@ -8,7 +8,7 @@ use std::fs::Metadata;
 use std::io::{self, ErrorKind};
 use std::sync::Mutex;
 
-/// Which call to the file of a disk has last failed, or to standard input, if one has. A special file that is looked at
+/// Which call to the file of a disk has last failed, or to standard input or output, if one has. A special file that is looked at
 /// counts as one that wasn't opened. The notes may be shared by threads, and
 /// none waits: of two calls that fail at the same moment one is noted.
 #[derive(Drop)]

@@ -1,7 +1,9 @@
 -- What is told behind the line of a failure, by cases over all of them (this project's choice).
-use Rattle.std.specs.Prelude.{ℕ, List, [], ◌∷◌, ◌++◌, codes, Option, None, Some}
+use Rattle.std.specs.Prelude.{ℕ, List, [], ◌∷◌, ◌++◌, codes, Option, None, Some, Bool, true, false, ◌&&◌}
 use Rattle.std.specs.Fmt.{decimal}
 use Rattle.ic_causes.specs.declared.cause.Cause.{Cause}
+use Rattle.ic_causes.specs.declared.cause.Reason.{Reason}
+use Rattle.ic_causes.specs.declared.cause.Reason.TheVariants as reason
 use Rattle.ic_causes.specs.declared.cause.Target.{Target}
 use Rattle.ic_causes.specs.declared.cause.Target.TheVariants as target
 use Rattle.ic_causes.specs.Causes.{cause_line, shown_path}
@@ -15,6 +17,7 @@ use Rattle.ic_streams.specs.declared.fault.StreamFault.{StreamFault}
 use Rattle.ic_streams.specs.declared.fault.StreamFault.TheVariants as stream
 use Rattle.ic_serving.specs.declared.fault.ServeFault.{ServeFault}
 use Rattle.ic_serving.specs.declared.fault.ServeFault.TheVariants as serve
+use Rattle.ic_dump.specs.declared.fault.DumpFault.TheVariants as dump
 use Rattle.ic_inspect.specs.declared.fault.InspectFault.{InspectFault}
 use Rattle.ic_inspect.specs.declared.fault.InspectFault.TheVariants as inspect
 use Rattle.ic_scripts.specs.declared.fault.ScriptsFault.{ScriptsFault}
@@ -74,6 +77,32 @@ lines_of_input target.Input lines = lines
 lines_of_input target.File lines = []
 lines_of_input target.Folder lines = []
 lines_of_input target.StandIn lines = []
+lines_of_input target.Output lines = []
+
+-- whether this is why standard output can't be written: whoever read it has gone
+abbrev pub has_no_reader : Target → Reason → Bool
+has_no_reader target.Output reason.NoReader = true
+has_no_reader _ _ = false
+
+-- whether it is that call which has failed last
+abbrev pub ends_without_reader : Option Cause → Bool
+ends_without_reader None = false
+ends_without_reader (Some cause) = has_no_reader cause.target cause.reason
+
+-- whether a failure is that answers can't be written
+abbrev pub is_of_writing : Failure → Bool
+is_of_writing (Stream stream.Write) = true
+is_of_writing (Serve serve.Write) = true
+is_of_writing (Attend scripts.Write) = true
+is_of_writing (Dump dump.Write) = true
+is_of_writing (Inspect inspect.Write) = true
+is_of_writing (Batch (batch.Serve serve.Write)) = true
+is_of_writing _ = false
+
+-- Whether nothing is told of a failure, where this call has failed last: nobody reads the answers any
+-- more.
+abbrev pub is_silent : Failure → Option Cause → Bool
+is_silent failure cause = is_of_writing failure && ends_without_reader cause
 
 -- where standard input can't be read
 abbrev pub input_lines : List ℕ → Option Cause → List ℕ

@@ -254,6 +254,7 @@ refused_opening fault reason.NoShare = Disk fault
 refused_opening fault reason.TooLong = Disk fault
 refused_opening fault reason.TooShort = Disk fault
 refused_opening fault reason.NotPossible = Disk fault
+refused_opening fault reason.NoReader = Disk fault
 refused_opening fault reason.NoMemory = Disk fault
 refused_opening fault reason.Device = Disk fault
 refused_opening fault (reason.Other number) = Disk fault

@@ -2,7 +2,7 @@
 //! be read, which round is refused, or how far a net has come that was reduced in place.
 
 ghost use Rattle.std.specs.Prelude.{◌≡◌, IfOk};
-ghost use Rattle.ic_exits.specs.Behind.{book_lines, create_lines, lines_behind, open_lines, scripts_lines};
+ghost use Rattle.ic_exits.specs.Behind.{book_lines, create_lines, ends_without_reader, is_of_writing, is_silent, lines_behind, open_lines, scripts_lines};
 ghost use Rattle.ic_exits.specs.Behind.{batch_lines, input_lines, inspect_lines, limit_text, overgrown_lines, reached_lines, reached_text, round_lines};
 ghost use Rattle.ic_exits.specs.Behind.{serve_lines, shown_of, stream_lines, taken_words};
 
@@ -10,7 +10,8 @@ use crate::{Failure, Reached};
 use ic_batch::{BatchFault, Difference};
 use ic_book::BookFault;
 use ic_by_rounds::Refusal;
-use ic_causes::{Cause, Target, cause_line, shown_path};
+use ic_causes::{Cause, Reason, Target, cause_line, shown_path};
+use ic_dump::DumpFault;
 use ic_inspect::InspectFault;
 use ic_round::RoundFault;
 use ic_scripts::ScriptsFault;
@@ -33,6 +34,27 @@ const NOT_AS_LEFT: &[u8] = b"something else has changed the file, or it was copi
 const NO_ROOM: &[u8] = b"it has jobs of other names, and no disk has more than 32";
 
 impl Failure {
+    /// Whether nothing is told of the failure, where this call has failed last: nobody reads the answers
+    /// any more.
+    pub fn is_silent(&self, cause: Option<Cause>) -> bool
+        ensures { result ≡ is_silent self.now cause }
+    {
+        self.is_of_writing() && ends_without_reader(cause)
+    }
+
+    /// Whether it is that answers can't be written.
+    fn is_of_writing(&self) -> bool
+        ensures { result ≡ is_of_writing self.now }
+    {
+        match self {
+            Failure::Stream(StreamFault::Write) | Failure::Serve(ServeFault::Write) => true,
+            Failure::Attend(ScriptsFault::Write) | Failure::Dump(DumpFault::Write) => true,
+            Failure::Inspect(InspectFault::Write) => true,
+            Failure::Batch(BatchFault::Serve(ServeFault::Write)) => true,
+            _ => false,
+        }
+    }
+
     /// What standard error is told behind the line of the failure, where the disk is in the file of
     /// this path and the cause is that of the last call to it, or to standard input, that has failed:
     /// a line, or nothing.
@@ -62,6 +84,16 @@ impl Failure {
             Failure::Batch(fault) => batch_lines(alloc, *fault, path, cause),
             Failure::Inspect(fault) => inspect_lines(alloc, *fault, path, cause),
         }
+    }
+}
+
+/// Whether this call, which has failed last, is a write to standard output whose reader has gone.
+fn ends_without_reader(cause: Option<Cause>) -> bool
+    ensures { result ≡ ends_without_reader cause }
+{
+    match cause {
+        Some(cause) => cause.target == Target::Output && cause.reason == Reason::NoReader,
+        None => false,
     }
 }
 
@@ -236,7 +268,7 @@ fn input_lines(alloc: Global, path: &[u8], cause: Option<Cause>) -> Result<Vec<u
     };
     match failed.target {
         Target::Input => cause_line(alloc, path, Some(failed)),
-        Target::File | Target::Folder | Target::StandIn => Ok(Vec::new(alloc)),
+        Target::File | Target::Folder | Target::StandIn | Target::Output => Ok(Vec::new(alloc)),
     }
 }
 

@@ -1,6 +1,6 @@
 //! Laws of what the program makes of its failures.
 
-ghost use Rattle.std.specs.Prelude.{◌≡◌, ◌≢◌, ℕ, List, [], ◌∷◌, ◌++◌, Option, None, Some, Ok, Err, map, codes, string_bytes};
+ghost use Rattle.std.specs.Prelude.{◌≡◌, ◌≢◌, ℕ, List, [], ◌∷◌, ◌++◌, Option, None, Some, Ok, Err, map, codes, string_bytes, true, false};
 ghost use Rattle.std.specs.Fmt.{decimal};
 ghost use Rattle.ic_disk.specs.declared.disk.DiskFault.{DiskFault};
 ghost use Rattle.ic_text.specs.Text.{fault_text};
@@ -25,6 +25,7 @@ ghost use Rattle.ic_check.specs.declared.files.Verdict.TheVariants as verdict;
 ghost use Rattle.ic_inspect.specs.declared.fault.InspectFault.TheVariants as inspect;
 ghost use Rattle.ic_lines.specs.declared.script.ScriptFault.{ScriptFault};
 ghost use Rattle.ic_scripts.specs.declared.fault.ScriptsFault.TheVariants as scripts;
+ghost use Rattle.ic_exits.specs.declared.failure.Failure.{Failure};
 ghost use Rattle.ic_exits.specs.declared.failure.Failure.TheVariants.{Words, Stream, Disk, Locked, Create, NotEmpty, Open, Serve, Attend, Dump, Inspect, Jobs, Batch, Faults, NotDone};
 ghost use Rattle.ic_exits.specs.declared.failure.Failure.TheVariants.{Round, Overgrown, TableFull, OutOfMemory};
 ghost use Rattle.ic_by_rounds.specs.declared.refusal.Refusal.{Refusal};
@@ -41,10 +42,11 @@ ghost use Rattle.ic_batch.specs.declared.fault.Difference.TheVariants as differe
 ghost use Rattle.ic_causes.specs.declared.cause.FileCall.{FileCall};
 ghost use Rattle.ic_causes.specs.declared.cause.Reason.TheVariants as reason;
 ghost use Rattle.ic_exits.specs.Endings.{status_of, check_ending, failure_line, failure_of_dump, opening_failure, reduce_ending, stuck_line};
-ghost use Rattle.ic_exits.specs.Behind.{lines_behind};
+ghost use Rattle.ic_exits.specs.Behind.{is_silent, lines_behind};
 ghost use Rattle.ic_causes.specs.declared.cause.Cause.{Cause};
 ghost use Rattle.ic_causes.specs.declared.cause.Target.{Target};
 ghost use Rattle.ic_causes.specs.declared.cause.Target.TheVariants.{Input};
+ghost use Rattle.ic_causes.specs.declared.cause.Target.TheVariants as target;
 ghost use Rattle.ic_causes.specs.Causes.{cause_line, shown_path};
 
 /// The exit status is 2 for refused words, 1 for a refused text, round, script or job and for a net
@@ -256,6 +258,26 @@ pub fn lines_of_looks_are()
         → failure_line (OutOfMemory reached) ≡ codes "icserve: memory" ++ 10 ∷ [] }
     ensures stuck { (pair : List ℕ) → stuck_line pair
         ≡ codes "icserve: stuck " ++ pair ++ 10 ∷ [] }
+{}
+
+/// Nothing is told where answers can't be written since nobody reads standard output any more. Of all else something is.
+pub fn nothing_is_told_where_nobody_reads()
+    ensures silent { (c : FileCall) → map (λ failure. is_silent failure (Some (record {
+      target = target.Output;
+      call = c;
+      reason = reason.NoReader;
+    }))) (Stream stream.Write ∷ Serve serve.Write ∷ Attend scripts.Write ∷ Dump dump.Write
+        ∷ Inspect inspect.Write ∷ Batch (batch.Serve serve.Write) ∷ [])
+        ≡ true ∷ true ∷ true ∷ true ∷ true ∷ true ∷ [] }
+    ensures told { (cause : Option Cause) → map (λ failure. is_silent failure cause)
+        (Stream stream.Read ∷ Serve serve.Read ∷ Locked ∷ NotEmpty ∷ Faults ∷ NotDone ∷ [])
+        ≡ false ∷ false ∷ false ∷ false ∷ false ∷ false ∷ [] }
+    ensures no_room { (failure : Failure) (c : FileCall) → is_silent failure (Some (record {
+      target = target.Output;
+      call = c;
+      reason = reason.NoRoom;
+    })) ≡ false }
+    ensures no_cause { (failure : Failure) → is_silent failure None ≡ false }
 {}
 
 /// What is told behind the line of a failure: of `device` why the last call to the file has failed,

@@ -1,5 +1,6 @@
 //! How the program ends where it doesn't do what it is asked: an exit status, and a line on standard
-//! error. There, too, are the line of a stuck pair, and what is told behind the line of a disk.
+//! error. There, too, are the line of a stuck pair, and what is told after the line of a disk. Nothing is told where nobody
+//! reads the answers any more.
 #![tactic(auto)]
 
 mod behind;

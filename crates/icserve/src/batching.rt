@@ -9,7 +9,7 @@ use crate::scripts::read_file;
 use crate::{NotedDisk, open_disk};
 use ic_batch::{BatchFault, JobsFault, NewJob, read_jobs};
 use ic_book::Book;
-use ic_causes::Notes;
+use ic_causes::{NotedOutput, Notes};
 use ic_exits::Failure;
 use ic_scripts::ScriptsFault;
 use ic_slots::is_unused;
@@ -36,7 +36,7 @@ pub(crate) fn batch<T: Threads + Wait + Copy + Send + 'static>(
     };
     let disk = made_disk(rt, disk, notes)?;
     match Book::open(rt.alloc(), disk) {
-        Ok(book) => bring(rt, threads, book, &jobs, numbers).map_err(Failure::Batch),
+        Ok(book) => bring(rt, threads, book, &jobs, numbers, notes).map_err(Failure::Batch),
         Err(fault) => Err(Failure::Open(fault.cause)),
     }
 }
@@ -68,12 +68,13 @@ fn bring<T: Threads + Wait + Copy + Send + 'static>(
     mut book: Book<NotedDisk<'_>>,
     jobs: &[NewJob],
     numbers: [u64; 3],
+    notes: &Notes,
 ) -> Result<(), BatchFault>
     requires { IsDistinct bytes_eq (names jobs.now) }
 {
     let [most, workers, every] = numbers;
     let progress = Progress::new(rt);
-    let mut output = WipedFirst::new(&progress, io::writer(rt));
+    let mut output = WipedFirst::new(&progress, NotedOutput::new(io::writer(rt), notes));
     let brought = ic_batch::batch(
         threads,
         rt.alloc(),

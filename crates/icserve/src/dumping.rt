@@ -2,7 +2,7 @@
 
 use crate::open_disk;
 use ic_args::WordsFault;
-use ic_causes::Notes;
+use ic_causes::{NotedOutput, Notes};
 use ic_dump::dump_disk;
 use ic_exits::Failure;
 use ic_rules::JobName;
@@ -19,7 +19,7 @@ pub(crate) fn dump(
 ) -> Result<(), Failure> {
     let names = names_of(rt.alloc(), words).map_err(Failure::Words)?;
     let disk = open_disk(rt, path, false, notes)?;
-    let mut output = io::writer(rt);
+    let mut output = NotedOutput::new(io::writer(rt), notes);
     let (_disk, dumped) = dump_disk(rt.alloc(), disk, &names, &mut output);
     dumped.map_err(Failure::from)
 }

@@ -1,7 +1,7 @@
 //! The program's word `inspect`: what a disk's file holds, on standard output.
 
 use crate::standing::stand_ins;
-use ic_causes::{NotedFile, NotedFiles, Notes};
+use ic_causes::{NotedFile, NotedFiles, NotedOutput, Notes};
 use ic_disk::{DiskFault, open_plain};
 use ic_exits::Failure;
 use ic_inspect::{InspectFault, read_front};
@@ -26,7 +26,7 @@ pub(crate) fn inspect(rt: &HostRuntime, path: &str, notes: &Notes) -> Result<(),
 fn look(rt: &HostRuntime, path: &str, notes: &Notes) -> Result<bool, Failure> {
     let first = read_once(rt, path, notes)?;
     let mut again = open_to_read(rt, path, notes).map_err(|_| Failure::Disk(DiskFault))?;
-    let mut output = io::writer(rt);
+    let mut output = NotedOutput::new(io::writer(rt), notes);
     match ic_inspect::inspect(rt.alloc(), &first, &mut again, &mut output) {
         Ok(()) => Ok(true),
         Err(InspectFault::Changed) => Ok(false),

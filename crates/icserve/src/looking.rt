@@ -3,6 +3,7 @@
 
 use ic_args::TraceFormat;
 use ic_by_rounds::{Ended, Format, Reduction, Workers, reduce_stream, trace_stream};
+use ic_causes::{NotedOutput, Notes};
 use ic_exits::{Failure, stuck_line};
 use ic_nets::draw_stream;
 use std::io::{self, Read, Write};
@@ -14,13 +15,14 @@ use std::thread::Threads;
 pub(crate) fn reduce<T: Threads + Wait, R: Read>(
     rt: &HostRuntime,
     threads: &T,
-    rounds: u64,
-    workers: u32,
+    numbers: [u64; 2],
     partial: bool,
     input: &mut R,
+    notes: &Notes,
     told: &mut Vec<u8>,
 ) -> Result<(), Failure> {
-    let mut output = io::writer(rt);
+    let [rounds, workers] = numbers;
+    let mut output = NotedOutput::new(io::writer(rt), notes);
     let maker = Workers {
         rt: threads,
         count: workers as usize,
@@ -59,9 +61,10 @@ pub(crate) fn trace<R: Read>(
     rounds: u64,
     format: TraceFormat,
     input: &mut R,
+    notes: &Notes,
     told: &mut Vec<u8>,
 ) -> Result<(), Failure> {
-    let mut output = io::writer(rt);
+    let mut output = NotedOutput::new(io::writer(rt), notes);
     let format = match format {
         TraceFormat::Tsv => Format::Table,
         TraceFormat::Svg => Format::Picture,
@@ -77,8 +80,9 @@ pub(crate) fn trace<R: Read>(
 pub(crate) fn draw<R: Read>(
     rt: &HostRuntime,
     input: &mut R,
+    notes: &Notes,
     told: &mut Vec<u8>,
 ) -> Result<(), Failure> {
-    let mut output = io::writer(rt);
+    let mut output = NotedOutput::new(io::writer(rt), notes);
     draw_stream(rt.alloc(), input, &mut output, told).map_err(Failure::Stream)
 }

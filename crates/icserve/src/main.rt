@@ -18,7 +18,7 @@ use crate::progress::{Progress, WipedFirst};
 use crate::standing::stand_ins;
 use ic_args::{Task, WordsFault, read_words};
 use ic_book::Book;
-use ic_causes::{NotedFile, NotedFiles, NotedInput, Notes};
+use ic_causes::{NotedFile, NotedFiles, NotedInput, NotedOutput, Notes};
 use ic_diagnostics::{once_telling, settle_telling};
 use ic_disk::{DiskFault, FileDisk};
 use ic_exits::{Failure, opening_failure};
@@ -126,7 +126,7 @@ fn run<T: Threads + Wait + Copy + Send + Sync + 'static, R: Read>(
     notes: &Notes,
     told: &mut Vec<u8>,
 ) -> Result<(), Failure> {
-    let mut output = io::writer(rt);
+    let mut output = NotedOutput::new(io::writer(rt), notes);
     match task {
         Task::Settle { .. } => {
             settle_telling(rt.alloc(), input, &mut output, told).map_err(Failure::Stream)
@@ -141,7 +141,7 @@ fn run<T: Threads + Wait + Copy + Send + Sync + 'static, R: Read>(
             every,
         } => {
             let book = open(rt, disk.as_str(), notes)?;
-            serve(rt, threads, book, input, *workers, *every).map_err(Failure::Serve)
+            serve(rt, threads, book, input, [*workers, *every], notes).map_err(Failure::Serve)
         }
         Task::Attend {
             disk,
@@ -153,7 +153,7 @@ fn run<T: Threads + Wait + Copy + Send + Sync + 'static, R: Read>(
             let scripts = scripts::read_scripts(rt, scripts, told).map_err(Failure::Attend)?;
             let disk = open_disk(rt, disk.as_str(), false, notes)?;
             let numbers = [*runners, *turns, *workers];
-            give(rt, threads, disk, scripts, numbers).map_err(Failure::Attend)
+            give(rt, threads, disk, scripts, numbers, notes).map_err(Failure::Attend)
         }
         Task::Reduce {
             steps,
@@ -166,19 +166,24 @@ fn run<T: Threads + Wait + Copy + Send + Sync + 'static, R: Read>(
                 steps: *steps,
                 nodes: *nodes,
             };
-            reducing::reduce(rt, bounds, *partial, *stats, input, told)
+            reducing::reduce(rt, bounds, [*partial, *stats], input, notes, told)
         }
         Task::ReduceByRounds {
             rounds,
             workers,
             partial,
             ..
-        } => looking::reduce(rt, threads, *rounds, *workers, *partial, input, told),
-        Task::Trace { rounds, format, .. } => looking::trace(rt, *rounds, *format, input, told),
-        Task::Draw { .. } => looking::draw(rt, input, told),
+        } => {
+            let numbers = [*rounds, u64::from(*workers)];
+            looking::reduce(rt, threads, numbers, *partial, input, notes, told)
+        }
+        Task::Trace { rounds, format, .. } => {
+            looking::trace(rt, *rounds, *format, input, notes, told)
+        }
+        Task::Draw { .. } => looking::draw(rt, input, notes, told),
         Task::Dump { disk, names } => dumping::dump(rt, disk.as_str(), names, notes),
         Task::Inspect { disk } => inspecting::inspect(rt, disk.as_str(), notes),
-        Task::Check { files } => checking::check(rt, files, told),
+        Task::Check { files } => checking::check(rt, files, notes, told),
         Task::Batch {
             disk,
             rounds,
@@ -270,13 +275,14 @@ fn serve<T: Threads + Wait + Copy + Send + 'static, R: Read>(
     threads: &T,
     mut book: Book<NotedDisk<'_>>,
     input: &mut R,
-    workers: u32,
-    every: u32,
+    numbers: [u32; 2],
+    notes: &Notes,
 ) -> Result<(), ServeFault> {
+    let [workers, every] = numbers;
     let workers = workers.max(1) as usize;
     let every = u64::from(every.max(1));
     let progress = Progress::new(rt);
-    let output = WipedFirst::new(&progress, io::writer(rt));
+    let output = WipedFirst::new(&progress, NotedOutput::new(io::writer(rt), notes));
     let Ok(mut output) = BufWriter::with_capacity(rt.alloc(), ANSWERS, output) else {
         book.close();
         return Err(ServeFault::Memory);
@@ -305,10 +311,11 @@ fn give<T: Threads + Wait + Sync>(
     disk: NotedDisk<'_>,
     scripts: Vec<Vec<Command>>,
     numbers: [u32; 3],
+    notes: &Notes,
 ) -> Result<(), ScriptsFault> {
     let [runners, turns, workers] = numbers;
     let progress = Progress::new(rt);
-    let output = WipedFirst::new(&progress, io::writer(rt));
+    let output = WipedFirst::new(&progress, NotedOutput::new(io::writer(rt), notes));
     let Ok(mut output) = BufWriter::with_capacity(rt.alloc(), ANSWERS, output) else {
         return Err(ScriptsFault::Memory);
     };
@@ -341,9 +348,12 @@ fn show<W: Write>(output: &mut W, text: &str) -> Result<(), StreamFault> {
 }
 
 /// Writes the line of a failure to standard error, or that there is no memory for it, and behind it
-/// what is to be told of the disk's file of this path, and what is told of a text. The exit status
-/// says which failure it was.
+/// what is to be told of the disk's file of this path, and what is told of a text. Nothing is written where nobody reads the
+/// answers any more. The exit status says which failure it was.
 fn refuse(rt: &HostRuntime, failure: &Failure, path: &str, notes: &Notes, told: &[u8]) -> ExitCode {
+    if failure.is_silent(notes.last()) {
+        return ExitCode::from(failure.status());
+    }
     match failure.line(rt.alloc()) {
         Ok(line) => {
             let _ = rt.stderr().write_all(&line);

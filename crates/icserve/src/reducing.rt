@@ -2,6 +2,7 @@
 
 use crate::looking::tell_stuck;
 use crate::progress::{Watching, WipedFirst, a_second};
+use ic_causes::{NotedOutput, Notes};
 use ic_exits::{Failure, Reached, reduce_ending};
 use ic_in_place::{Bounds, Outcome, reduce_in_place_stream};
 use std::alloc::{AllocError, Global};
@@ -9,19 +10,20 @@ use std::io::{self, Read, Write};
 use std::time::{Duration, Instant};
 
 /// Reduces the system on standard input in place, within these bounds, and prints what is reached. Where the net grew too
-/// large or memory ran out, that is printed only if `partial` is asked for. With `stats` it is told how many interactions
-/// were made. A stuck pair is told on standard error, and how far a long reduction has come.
+/// large or memory ran out, that is printed only if the first flag asks for a part. With the second it is told how many
+/// interactions were made, in all and by each rule. A stuck pair is told on standard error, and how far a long reduction has come.
 pub(crate) fn reduce<R: Read>(
     rt: &HostRuntime,
     bounds: Bounds,
-    partial: bool,
-    stats: bool,
+    flags: [bool; 2],
     input: &mut R,
+    notes: &Notes,
     told: &mut Vec<u8>,
 ) -> Result<(), Failure> {
+    let [partial, stats] = flags;
     let begun = Instant::now(rt);
     let watching = Watching::new(rt);
-    let mut output = WipedFirst::watching(&watching, io::writer(rt));
+    let mut output = WipedFirst::watching(&watching, NotedOutput::new(io::writer(rt), notes));
     let reduced = reduce_in_place_stream(
         rt.alloc(),
         bounds,
@@ -54,11 +56,27 @@ fn time_since(rt: &HostRuntime, begun: io::Result<Instant>) -> Duration {
     }
 }
 
-/// Tells on standard error how many interactions were made, and how fast.
+/// Tells on standard error how many interactions were made, how fast, and how many by each rule.
 fn tell_stats(rt: &HostRuntime, outcome: &Outcome, time: Duration) {
     if let Ok(line) = stats_line(rt.alloc(), outcome, time) {
         let _ = rt.stderr().write_all(&line);
     }
+    if let Ok(line) = rules_line(rt.alloc(), &outcome.by_rule) {
+        let _ = rt.stderr().write_all(&line);
+    }
+}
+
+/// The line of how many interactions each rule made, which is named by its number from 1. Rules that made none are left out.
+fn rules_line(alloc: Global, by_rule: &[u64]) -> Result<Vec<u8>, AllocError> {
+    let mut line = b"icserve: interactions by rule".to_vec(alloc)?;
+    let fired = by_rule.iter().enumerate().filter(|(_, count)| **count > 0);
+    for (place, (rule, count)) in fired.enumerate() {
+        let comma = if place > 0 { "," } else { "" };
+        let rule = rule.saturating_add(1);
+        line.extend_from_slice(format!(in alloc; "{comma} {rule}: {count}")?.as_bytes())?;
+    }
+    line.push(b'\n')?;
+    Ok(line)
 }
 
 /// The line of so many interactions in this time.
